@@ -1,4 +1,4 @@
-"""What the pages name is there: functions, clauses, words, files, crates and suites.
+"""What the pages name is there: functions, clauses, words, files, crates and suites. Their tables are in order.
 
     python3 -B tests/documents.py
 """
@@ -10,9 +10,11 @@ from harness import Failed
 from run import SUITES
 
 CHECKS = {
-    "the rows of CLAIMS have functions, clauses and definitions that are there": named.check_rows,
+    "the tables of CLAIMS have functions, clauses and definitions that are there": named.check_claims,
+    "the tables of CLAIMS have the groups and the order of crates.txt": named.check_groups,
     "the examples of CLAIMS are all of them": named.check_examples,
-    "a function without a row says the definition of its name": named.check_rest,
+    "a function that CLAIMS doesn't name has the definition of its name": named.check_rest,
+    "the tables of ARCHITECTURE are those of tools/rooms.py": named.check_rooms,
     "the files that pages name are there": named.check_files,
     "the crates that pages name are there": named.check_crates,
     "the words of sources that pages name are there": named.check_words,

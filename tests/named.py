@@ -1,17 +1,19 @@
 """What the documents name, and whether it is there: the functions, clauses and definitions in the tables of
-docs/CLAIMS.md, and the files, crates and suites that any page names."""
+docs/CLAIMS.md, the tables of docs/ARCHITECTURE.md, and the files, crates and suites that any page names."""
 
 import functools
 import os
 import re
 
-from harness import HERE, true
+from harness import HERE, Failed, true
+
+import rooms  # in tools/, which harness puts into the path
 
 TOP = os.path.dirname(HERE)
 CRATES = os.path.join(TOP, "crates")
 
-CRATE_ROWS = "| Crate | Function | Clauses |"
-PREMISE_ROWS = "| Premise | Examples without it |"
+CLAIMED = "| Crate | Function | Clauses |"
+PREMISES = "| Premise | Examples without it |"
 SPAN = re.compile(r"`([^`\n]+)`")
 OWNER = re.compile(r"(?:impl(?:<.*?>)?|pub trait) (?:.* for )?(?:&'a )?(\w+)")
 FUNCTION = re.compile(r"\s*(pub )?fn (\w+)")
@@ -20,14 +22,15 @@ CLAUSE = re.compile(r"\bensures(?: (\w+))? \{(.*?)(?=\bensures\b|\brequires\b|\Z
 # Every fault has these two, which CLAIMS says once of all.
 OF_FAULTS = {"number", "message"}
 
-# What is public for the crates above alone, which CLAIMS leaves out.
-HELPERS = {"environment": ("escapes", "fields")}
+# What is public for the crates above alone, which CLAIMS omits.
+HELPERS = {"envvars": ("escapes", "fields")}
 
-# What begins like a path of the repository: a folder that stands at its top, or one of a crate.
+# What begins like a path of the repository: a folder at its top, or one of a crate.
 FOLDERS = "bench|completion|crates|demo|docs|etc|init|libexec|man|tests|tools"
 PATH = re.compile(rf"(?:{FOLDERS})/|\w+/(?:src|specs|proofs|must-fail)/")
 FILE = re.compile(r"[\w.-][\w./-]*\.(?:antt|c|edit|fish|md|py|rt|sh)")
 WORD = re.compile(r"[A-Za-z]+(?:_\w+|[a-z][A-Z]\w*)")
+CRATE = re.compile(r"tcl(?!sh$)[a-z]+|env(?!iron)[a-z]+|cases_\w+")
 LINK = re.compile(r"\]\(([^)#]+)\)")
 BLOCK = re.compile(r"^ *```.*?^ *```$", re.DOTALL | re.MULTILINE)
 
@@ -45,7 +48,7 @@ class Function:
         self.name = name
         self.clauses = {clause or "": text for clause, text in CLAUSE.findall(header)}
 
-    def says_its_name(self):
+    def has_own_name(self):
         relation = "".join(part.capitalize() for part in self.name.split("_"))
         return list(self.clauses) == [""] and re.search(rf"\b({self.name}|{relation})\b", self.clauses[""])
 
@@ -54,7 +57,7 @@ class Function:
 
 
 def ends_header(line, is_first):
-    """The body begins with a brace of its own, or behind what is returned where there is no clause; a trait has `;`."""
+    """The body begins with a brace of its own, or after the return type where there is no clause; a trait has `;`."""
     if line in ("{", "{}"):
         return True
     if is_first or line.startswith(")"):
@@ -99,7 +102,7 @@ def functions_of(crate):
 
 
 def exported(crate):
-    """What users of a crate can name: what its lib.rt hands on, and what stands there or in a public module."""
+    """What users of a crate can name: what its lib.rt hands on, and what it or a public module defines."""
     texts = sources(crate)
     if "lib" not in texts:
         return set()
@@ -111,7 +114,7 @@ def exported(crate):
 
 
 def cells(text, header):
-    """The cells of each row below a header, wherever it stands."""
+    """The cells of each line of the tables with this header."""
     inside = False
     for line in text.split("\n"):
         if line == header or not line.startswith("|"):
@@ -121,34 +124,34 @@ def cells(text, header):
 
 
 @functools.cache
-def rows():
-    """The rows of CLAIMS: a crate, the functions and types of it, and the words of its clauses. An empty cell is the
-    crate of the row above."""
+def claims():
+    """The lines of CLAIMS' tables: a crate, the functions and types of it, and the words of its clauses. An empty cell
+    is the crate of the line above."""
     found, crate = [], ""
     text = content("docs", "CLAIMS.md")
-    for first, functions, clauses in cells(text, CRATE_ROWS):
+    for first, functions, clauses in cells(text, CLAIMED):
         crate = first.strip("`") or crate
         found.append((crate, SPAN.findall(functions), SPAN.findall(clauses)))
-    true(found, "CLAIMS has rows")
+    true(found, "CLAIMS has tables")
     return found
 
 
-def check_rows():
-    """Each function of a row is one of its crate, and each other word is a clause of these functions or stands in
-    one."""
-    for crate, names, words in rows():
+def check_claims():
+    """Each function that a line names is one of its crate, and each other word is the name of a clause of these
+    functions or a word of one."""
+    for crate, names, words in claims():
         true(os.path.isdir(os.path.join(CRATES, crate)), f"{crate} is a crate")
         functions = functions_of(crate)
         for name in names:
             true(any(name in (it.name, it.owner) for it in functions), f"{crate} has the function {name}")
-        of_row = [it for it in functions if it.name in names or it.owner in names]
+        named = [it for it in functions if it.name in names or it.owner in names]
         for word in words:
-            true(any(it.has(word) for it in of_row), f"{crate}: {' '.join(names)} have {word} in a clause")
+            true(any(it.has(word) for it in named), f"{crate}: {' '.join(names)} have {word} in a clause")
 
 
 def check_examples():
-    """The examples that show what a premise is for are clauses of their functions, and each of these has its place."""
-    shown = [word for _, where in cells(content("docs", "CLAIMS.md"), PREMISE_ROWS) for word in SPAN.findall(where)]
+    """The examples that show what a premise is for are clauses of their functions, and CLAIMS names each of these."""
+    shown = [word for _, where in cells(content("docs", "CLAIMS.md"), PREMISES) for word in SPAN.findall(where)]
     functions = [*functions_in(sources("reversal")["examples"]), *functions_in(sources("reversal")["laws"])]
     examples = {clause for it in functions_in(sources("reversal")["examples"]) for clause in it.clauses if clause}
     known = examples | {it.name for it in functions}
@@ -157,9 +160,9 @@ def check_examples():
 
 
 def check_rest():
-    """A function that no row names has one clause, which says the definition of its own name."""
+    """A function that CLAIMS doesn't name has one clause, with the definition of its own name."""
     named = {}
-    for crate, names, _ in rows():
+    for crate, names, _ in claims():
         named.setdefault(crate, set()).update(names)
     for crate in sorted(os.listdir(CRATES)):
         if crate.startswith("cases_") or "lib.rt" not in os.listdir(os.path.join(CRATES, crate, "src")):
@@ -168,8 +171,8 @@ def check_rest():
         for function in functions_of(crate):
             if (function.owner or function.name) not in users or not function.clauses:
                 continue
-            has_row = function.name in rest or function.owner in rest or function.name in OF_FAULTS
-            true(has_row or function.says_its_name(), f"a row names {crate} {function.owner} {function.name}")
+            is_named = function.name in rest or function.owner in rest or function.name in OF_FAULTS
+            true(is_named or function.has_own_name(), f"CLAIMS names {crate} {function.owner} {function.name}")
 
 
 def pages():
@@ -179,7 +182,7 @@ def pages():
 
 
 def files():
-    """The files and folders of the repository, without what a build leaves."""
+    """The files and folders of the repository, without what a build makes."""
     found = []
     for folder, folders, names in os.walk(TOP):
         folders[:] = [name for name in folders if name not in (".git", "build", "out", "__pycache__")]
@@ -188,13 +191,13 @@ def files():
 
 
 def names_in(text):
-    """What stands as code or as a link in a page, outside of its blocks."""
+    """What a page writes as code or as a link, outside of its blocks."""
     text = BLOCK.sub("", text)
     return [*" ".join(SPAN.findall(text)).split(), *LINK.findall(text)]
 
 
 def is_file_of_ours(name, blocks):
-    """It is spelled as a file or folder, stands for no other name, and is none that the page's own commands make."""
+    """It is spelled as a file or folder, with no NAME to be replaced, and is none that the page's own commands make."""
     return (FILE.fullmatch(name) or PATH.match(name)) and "NAME" not in name and name not in blocks.split()
 
 
@@ -211,19 +214,41 @@ def check_files():
                 true(name.rstrip("/").removeprefix("../") in ends, f"{page} names a file that is there: {name}")
 
 
-def check_crates():
-    """The crates that pages name are those of crates.txt, and each of them is a room of ARCHITECTURE or a program of
-    rows; of a function with its crate in front the crate has the function."""
-    crates = set(re.findall(r"^(\w+):", content("crates.txt"), re.MULTILINE))
+def check_rooms():
+    """The tables of ARCHITECTURE are those that tools/rooms.py makes: one for each group of crates.txt, no other, and
+    none changed."""
     architecture = content("docs", "ARCHITECTURE.md")
-    listed = re.findall(r"^\| ((?:`\w+`(?:, )?)+) \|", architecture.partition("## In each crate")[0], re.MULTILINE)
-    rooms = {name for cell in listed for name in SPAN.findall(cell)}
-    programs = {name for name in crates if name.startswith("cases_")}
-    true(rooms == crates - programs, f"ARCHITECTURE has a row for each crate: {rooms ^ (crates - programs)}")
+    try:
+        tables = {group: rooms.table(crates) for group, crates in rooms.groups()}
+    except ValueError as fault:
+        raise Failed(str(fault)) from fault
+    for group, table in tables.items():
+        true(f"### {group}\n\n{table}\n" in architecture, f"`python3 tools/rooms.py --write` made the table of {group}")
+    true(architecture.count(rooms.HEAD) == len(tables), f"ARCHITECTURE has {len(tables)} tables of crates")
+
+
+def check_groups():
+    """The tables of CLAIMS name their crates in the groups and the order of crates.txt; a crate without a claim of its
+    own, or a group of such, is omitted."""
+    text = content("docs", "CLAIMS.md")
+    parts = re.split(r"^### ([^\n]+)\n", text, flags=re.MULTILINE)
+    found = {}
+    for group, part in zip(parts[1::2], parts[2::2]):
+        found[group] = [first.strip("`") for first, *_ in cells(part.partition("\n## ")[0], CLAIMED) if first]
+    order = {group: [name for name in crates if name in found.get(group, ())] for group, crates in rooms.groups()}
+    true(list(found) == [group for group in order if order[group]], f"the groups of CLAIMS are in order: {list(found)}")
+    for group, crates in found.items():
+        true(crates == order[group], f"{group} of CLAIMS has its crates in order: {crates}")
+
+
+def check_crates():
+    """The crates that pages name are those of crates.txt; of a function with its crate before it the crate has the
+    function."""
+    crates = set(re.findall(r"^(\w+):", content("crates.txt"), re.MULTILINE))
     for page, text in pages().items():
         for name in names_in(text):
             crate, *rest = name.split("::")
-            if re.fullmatch(r"tcl[a-z]+|cases_\w+", crate) and crate != "tclsh":
+            if CRATE.fullmatch(crate):
                 true(crate in crates, f"{page} names a crate that is there: {crate}")
             if crate in crates and rest:
                 known = {it.name for it in functions_of(crate)} | exported(crate) | set(sources(crate))
@@ -239,8 +264,8 @@ def check_suites(suites):
 
 
 def check_words():
-    """What pages name as code with an underscore or a capital within, as `call_of` and `LeadsBack`, stands somewhere in
-    the repository."""
+    """What pages name as code with an underscore or a capital within, as `call_of` and `ReturnsToStart`, is a word of
+    some source of the repository."""
     words = set()
     for path in files():
         if path.endswith((".rt", ".antt", ".py", ".sh", "stdin", "Makefile")):

@@ -1,4 +1,4 @@
-//! Questions about the files and folders of a disk, real or scripted.
+//! Questions about the files and directories of a disk, real or scripted.
 
 use crate::system::{Scripted, System};
 use crate::texts::{bytes_of, parted, push_all};

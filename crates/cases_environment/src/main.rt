@@ -1,5 +1,5 @@
 //! Worked examples of the environment: answers questions about variables, processes, disks and texts for shells.
-//! Touches standard input and output, its own arguments and environment, and files and folders of the disk.
+//! Touches standard input and output, its own arguments and environment, and files and directories of the disk.
 //! Nothing stands above it; the files `stdin` and `stdout` of this crate are the questions and the answers.
 //!
 //! The questions stand in paragraphs of standard input. The first line of a paragraph says what it is about.

@@ -1,7 +1,7 @@
 //! The texts that shells read changes from.
 
 use crate::texts::{meant, parted};
-use environment::Change;
+use envvars::Change;
 use shelltext::{PrintFault, Shell, print_changes};
 use std::alloc::{AllocError, Global};
 use std::io;

@@ -2,7 +2,7 @@
 
 use crate::system::{Scripted, System};
 use crate::texts::{bytes_of, parted};
-use environment::Env;
+use envvars::Env;
 use processinput::{arguments, environment_block, environment_of};
 use std::alloc::{AllocError, Global};
 use std::env;

@@ -2,8 +2,8 @@
 
 use crate::texts::push_all;
 use envstate::{
-    EnvFault, Vars, conflicts_of, is_plain_value, is_protected, is_variable_name, loaded,
-    prereqs_of, share_name,
+    EnvFault, Vars, conflicts_of, is_nul_free, is_protected, is_variable_name, loaded, prereqs_of,
+    share_name,
 };
 use std::alloc::{AllocError, Global};
 
@@ -68,7 +68,7 @@ fn question_of<'a>(query: &str, word: &'a str) -> Option<Question<'a>> {
         "share_name" => Some(Question::ShareName(word)),
         "is_name" => Some(Question::Holds(is_variable_name(word))),
         "is_protected" => Some(Question::Holds(is_protected(word))),
-        "is_plain" => Some(Question::Holds(is_plain_value(word))),
+        "is_plain" => Some(Question::Holds(is_nul_free(word))),
         _ => None,
     }
 }

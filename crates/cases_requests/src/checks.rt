@@ -64,7 +64,7 @@ fn exit_name(exit: CheckExit) -> &'static str {
     match exit {
         CheckExit::AllAccepted => "all accepted",
         CheckExit::SomeRefused => "some refused",
-        CheckExit::Told => "told",
+        CheckExit::Reported => "told",
         CheckExit::CutShort => "cut short",
     }
 }

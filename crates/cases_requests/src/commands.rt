@@ -9,7 +9,7 @@ use crate::shown::{
 use crate::texts::{STANDARD, limits_of, meant, number, parted, words};
 use crate::writers::{Limited, kind};
 use anyhow::Result;
-use environment::{Vars, changes};
+use envvars::{Vars, changes};
 use filetree::{MemoryTree, Tree};
 use modulecmd::{
     CommandFault, Exit, environment_of, modulecmd, print_changes, run_command, write_refusal,

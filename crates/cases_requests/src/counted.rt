@@ -64,7 +64,7 @@ impl<T: Tree> Tree for Counted<'_, T> {
 
     ghost agrees = { λ t files folders. T.agrees t.tree.now files folders };
 
-    ghost agreeable = { λ t. T.agreeable t.tree.now };
+    ghost satisfiable = { λ t. T.satisfiable t.tree.now };
 
     fn read(&mut self, path: &str) -> Result<Option<Vec<u8>>, TreeFault> {
         self.counts.ask(self.alloc, path)?;

@@ -18,7 +18,7 @@ impl<T: Tree> Tree for Failing<'_, T> {
 
     ghost agrees = { λ t files folders. T.agrees t.tree.now files folders };
 
-    ghost agreeable = { λ t. T.agreeable t.tree.now };
+    ghost satisfiable = { λ t. T.satisfiable t.tree.now };
 
     fn read(&mut self, path: &str) -> Result<Option<Vec<u8>>, TreeFault> {
         if self.remaining == 0 && self.failed == 0 {
@@ -51,7 +51,7 @@ impl<T: Tree> Tree for Poor<'_, T> {
 
     ghost agrees = { λ t files folders. T.agrees t.tree.now files folders };
 
-    ghost agreeable = { λ t. T.agreeable t.tree.now };
+    ghost satisfiable = { λ t. T.satisfiable t.tree.now };
 
     fn read(&mut self, path: &str) -> Result<Option<Vec<u8>>, TreeFault> {
         if path == self.path {

@@ -1,5 +1,5 @@
 //! Worked examples of requests: answers questions about searches, modulefiles, whole commands and checks.
-//! Touches standard input and output, and reads files and folders of the disk; else it works over trees in memory.
+//! Touches standard input and output, and reads files and directories of the disk; else it works over trees in memory.
 //! Nothing stands above it; the files `stdin` and `stdout` of this crate are the questions and the answers.
 //!
 //! The questions stand in paragraphs of standard input. The first line of a paragraph says what it is about.
@@ -22,7 +22,7 @@
 //! its messages, what `display` and `whatis` report, and the variables that changed. `records` shows the records of the
 //! run before it. A newline in a message or a value is shown as `␤`.
 //!
-//! `commands` are calls of `modulecmd`, `modules` and `rehearsal`, each shown after `> `. They share files and folders
+//! `commands` are calls of `modulecmd`, `modules` and `rehearsal`, each shown after `> `. They share files and directories
 //! in memory and an environment. In a text `\n`, `\t`, `\s`, `\z` and `\\` stand for a newline, a tab, a space, NUL and
 //! a backslash; words are parted by blanks, and the word `''` is empty.
 //!

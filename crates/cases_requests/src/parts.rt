@@ -5,8 +5,7 @@ use crate::trees::file_text;
 use defaultfiles::Evaluated;
 use filetree::{MemoryTree, Modulefile, read_modulefile};
 use lookup::{Limits, version_order};
-use modulefind::{directories, locate, path_of};
-use modulesearch::{DefaultFiles, Ended};
+use search::{DefaultFiles, Ended, directories, locate, path_of};
 use std::alloc::{AllocError, Global};
 use std::cmp::Ordering;
 

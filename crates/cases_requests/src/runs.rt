@@ -1,8 +1,9 @@
 //! Questions about modulefiles, each with the variables and the context that it is run over.
 use crate::texts::{STANDARD, parted, push_all};
-use environment::{Change, Env, Vars, changes};
+use envvars::{Change, Env, Vars, changes};
 use modulefile::{Mode, Record, Shell};
-use modulerun::{Context, Ran, run_file, show_report, whatis_report};
+use modulerun::{FileContext, Ran, run_file};
+use reports::{show_report, whatis_report};
 use std::alloc::{AllocError, Global};
 use std::io;
 use tclrules::Limits;
@@ -153,7 +154,7 @@ impl Row {
 
     /// Runs the file, and answers how that went.
     fn ran(&mut self, mode: Mode, in_switch: bool, path: &str) -> Result<String, AllocError> {
-        let context = Context {
+        let context = FileContext {
             mode,
             in_switch,
             name: &self.module,

@@ -14,7 +14,7 @@ pub(crate) fn held(alloc: Global, bytes: &[u8]) -> Result<String, AllocError> {
 pub(crate) fn exit_name(exit: Exit) -> &'static str {
     match exit {
         Exit::Success => "success",
-        Exit::Told => "told",
+        Exit::Reported => "told",
         Exit::CutShort => "cut short",
     }
 }

@@ -4,12 +4,12 @@
 use crate::escapes::text_of;
 use crate::scripts::{LIMITS, recorder};
 use std::alloc::Global;
+use tclcache::Cache;
 use tcleval::evaluate_with;
-use tclkept::Kept;
 
 /// The cache after the evaluation of a script; None where it is refused.
-fn cache_after(alloc: Global, script: &str) -> Option<Kept> {
-    let mut cache = Kept::new(alloc);
+fn cache_after(alloc: Global, script: &str) -> Option<Cache> {
+    let mut cache = Cache::new(alloc);
     let mut host = recorder(alloc).ok()?;
     let variables = Vec::new(alloc);
     match evaluate_with(alloc, &mut cache, script, variables, &mut host, LIMITS) {
@@ -19,7 +19,7 @@ fn cache_after(alloc: Global, script: &str) -> Option<Kept> {
 }
 
 /// The index of a text in the cache; None where it can't be parsed.
-fn index(cache: &mut Kept, kind: &str, text: &str) -> Option<Option<usize>> {
+fn index(cache: &mut Cache, kind: &str, text: &str) -> Option<Option<usize>> {
     match kind {
         "s" => cache.script(text).ok(),
         "e" => cache.expr(text).ok(),
@@ -28,7 +28,7 @@ fn index(cache: &mut Kept, kind: &str, text: &str) -> Option<Option<usize>> {
 }
 
 /// Adds the index of the text of a word, or `-`.
-fn push_index(alloc: Global, line: &mut String, cache: &mut Kept, word: &str) -> Option<()> {
+fn push_index(alloc: Global, line: &mut String, cache: &mut Cache, word: &str) -> Option<()> {
     let (kind, written) = word.split_once('=')?;
     let text = text_of(alloc, written).ok()?;
     match index(cache, kind, &text)? {

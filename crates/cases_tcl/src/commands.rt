@@ -11,7 +11,7 @@ use tclcommands::{
 use tclexpr::{OwnedExpr, own_expr};
 use tclforms::{Form, Simple, core_form};
 use tclrules::{Limits, Recorder};
-use tclsteps::{Context, Control, Halt, Step, Stop, advance};
+use tclsubstitution::{Control, Halt, Step, Stop, SubstitutionContext, advance};
 use tclvalue::elements;
 use tclvariables::{Local, Variables};
 
@@ -91,7 +91,7 @@ fn done(step: Result<Step<'_>, Stop>) -> Result<String, Stop> {
 
 /// The value of a parsed expression.
 fn expression_value(alloc: Global, state: &mut State, owned: &OwnedExpr) -> Result<String, Stop> {
-    let context = Context {
+    let context = SubstitutionContext {
         alloc,
         limits: LIMITS,
         source: owned.text.as_str(),
@@ -106,7 +106,7 @@ fn expression_value(alloc: Global, state: &mut State, owned: &OwnedExpr) -> Resu
 fn value(alloc: Global, state: &mut State, text: &str) -> Result<String, Stop> {
     match own_expr(alloc, String::from_str(alloc, text)?) {
         Ok(owned) => expression_value(alloc, state, &owned),
-        Err(fault) => Err(Stop::of_text(fault)),
+        Err(fault) => Err(Stop::from_text_fault(fault)),
     }
 }
 

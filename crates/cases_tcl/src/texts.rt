@@ -68,7 +68,7 @@ fn word_text(alloc: Global, word: &Word<&str>) -> Result<Option<String>, AllocEr
 
 /// Adds a command: its byte offset and its words.
 fn push_command(alloc: Global, line: &mut String, command: &Command<&str>) -> Option<()> {
-    let offset = command.place;
+    let offset = command.offset;
     line.push_str(&format!(in alloc; "{offset}:").ok()?).ok()?;
     for (i, word) in command.words.iter().enumerate() {
         if i > 0 {

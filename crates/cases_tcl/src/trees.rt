@@ -16,7 +16,7 @@ fn push_word<P: Debug>(alloc: Global, line: &mut String, word: &Word<P>) -> Opti
 
 /// Adds the words of a command, after its byte offset.
 fn push_words<P: Debug>(alloc: Global, line: &mut String, command: &Command<P>) -> Option<()> {
-    let offset = command.place;
+    let offset = command.offset;
     line.push_str(&format!(in alloc; " {offset}:").ok()?).ok()?;
     for word in &command.words {
         push_word(alloc, line, word)?;

@@ -1,18 +1,18 @@
 -- The result of a default file (modulefile(5), module-version), by its evaluation as Tcl (Tcl(n)).
 use Rattle.std.specs.Prelude.{◌≡◌, false, List, [], ◌∷◌, codes, bytes_eq, if◌then◌else◌, Option, Some, None}
 use Rattle.modulename.specs.ModuleName.{Text}
-use Rattle.tclrules.specs.Oracle.{Oracle, Told, OracleAnswer, Nothing, Kept, Done, Unknown, LeftOut, Refused}
+use Rattle.tclrules.specs.Oracle.{Oracle, Trace, OracleAnswer, Nothing, NewRecord, Done, Unknown, LeftOut, Refused}
 use Rattle.tclrules.specs.Derivation.{Outcome, Ended, Halted, World}
 use Rattle.tclrules.specs.Variables.{lookup}
-use Rattle.tclrules.specs.Plans.{Ending, Normal, Raised, Returned, Broken, Continued}
-use Rattle.tclrules.specs.Names.{is_among, left_out_module_commands}
-use Rattle.tclrules.specs.Meaning.{Setting, ComesTo}
+use Rattle.tclrules.specs.Plans.{Completion, Normal, Raised, Returned, Broken, Continued}
+use Rattle.tclrules.specs.Names.{is_among, unsupported_module_commands}
+use Rattle.tclrules.specs.Meaning.{Setting, EvaluatesTo}
 use Rattle.tclrules.specs.declared.limits.Limits.{Limits}
-use Rattle.modulesearch.specs.DefaultFiles.{Left}
+use Rattle.search.specs.DefaultFiles.{DefaultFileResult}
 
 -- `module-version NAME WORD...` has a name and at least one word, and is recorded
 abbrev pub version_answer : List Text → OracleAnswer
-version_answer (command ∷ name ∷ word ∷ words) = Done [] (Kept (command ∷ name ∷ word ∷ words)) false
+version_answer (command ∷ name ∷ word ∷ words) = Done [] (NewRecord (command ∷ name ∷ word ∷ words)) false
 version_answer words = Refused 56 None false
 
 -- These are refused: to pass over them could load another module than the one that is meant.
@@ -27,7 +27,7 @@ named_answer name words =
     if bytes_eq name (codes "module-version") then version_answer words
     else if bytes_eq name (codes "puts") then Done [] Nothing false
     else if is_among renaming_commands name then Refused 45 None false
-    else if is_among left_out_module_commands name then LeftOut name false
+    else if is_among unsupported_module_commands name then LeftOut name false
     else Unknown false
 
 -- the answer to a command, by its words
@@ -47,20 +47,21 @@ default_setting limits path text =
       script = text;
       globals = (codes "ModulesCurrentModulefile", path) ∷ [];
       oracle = default_oracle;
-      told = record { records = []; messages = []; asked = false; refused = None };
+      trace = record { records = []; messages = []; asked = false; refused = None };
     }
 
 -- At its end its result is its commands and its global variable ModulesVersion. With any fault it has none.
-abbrev pub left_of : Outcome Ending → Told → Option Left
-left_of (Ended (Normal result s)) told =
-    Some (record { commands = told.records; version = lookup s.globals (codes "ModulesVersion") })
-left_of (Ended (Raised message s)) told = None
-left_of (Ended (Returned result s)) told = None
-left_of (Ended (Broken s)) told = None
-left_of (Ended (Continued s)) told = None
-left_of (Halted halt) told = None
+abbrev pub result_of : Outcome Completion → Trace → Option DefaultFileResult
+result_of (Ended (Normal result s)) trace =
+    Some (record { commands = trace.records; version = lookup s.globals (codes "ModulesVersion") })
+result_of (Ended (Raised message s)) trace = None
+result_of (Ended (Returned result s)) trace = None
+result_of (Ended (Broken s)) trace = None
+result_of (Ended (Continued s)) trace = None
+result_of (Halted halt) trace = None
 
 -- The text of a default file at a path has this result under these limits.
-abbrev pub Leaves : Limits → Text → Text → Option Left → Type 0
-Leaves limits path text left =
-    (o : Outcome Ending) × (w : World) × ComesTo (default_setting limits path text) o w × (left ≡ left_of o w.told)
+abbrev pub Leaves : Limits → Text → Text → Option DefaultFileResult → Type 0
+Leaves limits path text file_result =
+    (o : Outcome Completion) × (w : World) × EvaluatesTo (default_setting limits path text) o w ×
+    (file_result ≡ result_of o w.trace)

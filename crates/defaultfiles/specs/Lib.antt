@@ -1,4 +1,4 @@
 pub mod DefaultFileResults
-pub mod OneLeft
+pub mod OneResult
 -- for this crate's own contracts alone
-pub mod Replies
+pub mod CommandAnswers

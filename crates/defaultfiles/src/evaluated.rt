@@ -1,10 +1,10 @@
 //! What default files name as their versions, by their evaluation as Tcl.
 ghost use Rattle.std.specs.Prelude.{◌≡◌, ◌∷◌, [], codes, IfOk, option_map, string_bytes};
-ghost use Rattle.tclrules.specs.Promise.{texts_of, is_want_of_memory};
+ghost use Rattle.tclrules.specs.Promise.{texts_of, is_out_of_memory};
 ghost use Rattle.tclrules.specs.Variables.{lookup};
 
 use crate::host::DefaultHost;
-use modulesearch::{DefaultFiles, Ended};
+use search::{DefaultFiles, Ended};
 use std::alloc::{AllocError, Global};
 use tcleval::evaluate;
 use tclrules::{EvalFault, Limits};
@@ -45,8 +45,8 @@ fn value_of(
 }
 
 /// Whether memory ran out. Any other fault is the file's own, and it names nothing then.
-fn is_want_of_memory(fault: &EvalFault) -> bool
-    ensures { result ≡ is_want_of_memory fault.now }
+fn is_out_of_memory(fault: &EvalFault) -> bool
+    ensures { result ≡ is_out_of_memory fault.now }
 {
     match fault {
         EvalFault::OutOfMemory => true,
@@ -56,11 +56,11 @@ fn is_want_of_memory(fault: &EvalFault) -> bool
 
 impl DefaultFiles for Evaluated {
     ghost use Rattle.defaultfiles.specs.DefaultFileResults.{Leaves};
-    ghost use Rattle.defaultfiles.specs.OneLeft.{one_left};
+    ghost use Rattle.defaultfiles.specs.OneResult.{one_result};
 
-    ghost leaves = { λ e. Leaves e.limits };
+    ghost results = { λ e. Leaves e.limits };
 
-    ghost one = { λ e. one_left e.limits };
+    ghost one = { λ e. one_result e.limits };
 
     fn evaluate(&self, alloc: Global, path: &str, text: &str) -> Result<Option<Ended>, AllocError> {
         let mut host = DefaultHost {
@@ -71,15 +71,15 @@ impl DefaultFiles for Evaluated {
         };
         let globals = globals_at(alloc, path)?;
         match evaluate(alloc, text, globals, &mut host, self.limits) {
-            Ok(ending) => {
-                let version = value_of(alloc, &ending.globals, "ModulesVersion")?;
+            Ok(evaluation) => {
+                let version = value_of(alloc, &evaluation.globals, "ModulesVersion")?;
                 Ok(Some(Ended {
                     commands: host.commands,
                     version,
                 }))
             }
             Err(fault) => {
-                if is_want_of_memory(&fault) {
+                if is_out_of_memory(&fault) {
                     return Err(AllocError);
                 }
                 Ok(None)

@@ -1,8 +1,8 @@
 //! The host of a default file: it does the commands that Tcl hasn't (modulefile(5)).
 ghost use Rattle.std.specs.Prelude.{◌≡◌, ◌++◌, ◌∷◌, [], map, string_bytes, IfOk, OnOk, OnErr};
-ghost use Rattle.defaultfiles.specs.Replies.{texts_of_words};
+ghost use Rattle.defaultfiles.specs.CommandAnswers.{texts_of_words};
 
-use crate::replies::{Reply, reply_to};
+use crate::command_answers::{CommandAnswer, command_answer};
 use std::alloc::{AllocError, Global};
 use tclrules::{Host, HostAnswer};
 
@@ -32,7 +32,7 @@ fn copy_words(alloc: Global, words: &[String]) -> Result<Vec<String>, AllocError
 
 impl DefaultHost {
     /// Adds a `module-version` command by its words.
-    fn keep(&mut self, words: &[String]) -> Result<(), AllocError>
+    fn add_command(&mut self, words: &[String]) -> Result<(), AllocError>
         ensures added { OnOk result (map texts_of_words self.new.commands.items
             ≡ map texts_of_words self.old.commands.items ++ map string_bytes words.now ∷ []) }
         ensures same { OnErr result (self.new.commands.items ≡ self.old.commands.items) }
@@ -49,9 +49,9 @@ impl Host for DefaultHost {
     ghost use Rattle.std.specs.Prelude.{[], map, option_map};
     ghost use Rattle.tclrules.specs.Oracle.{unnamed};
     ghost use Rattle.defaultfiles.specs.DefaultFileResults.{default_oracle};
-    ghost use Rattle.defaultfiles.specs.Replies.{texts_of_words};
+    ghost use Rattle.defaultfiles.specs.CommandAnswers.{texts_of_words};
 
-    ghost told = { λ h. record {
+    ghost trace = { λ h. record {
       records = map texts_of_words h.commands.items;
       messages = [];
       asked = h.asked;
@@ -61,21 +61,21 @@ impl Host for DefaultHost {
     ghost oracle = { λ h. default_oracle };
 
     fn command(&mut self, words: &[String]) -> HostAnswer {
-        match reply_to(words) {
-            Reply::Kept => match self.keep(words) {
+        match command_answer(words) {
+            CommandAnswer::NewRecord => match self.add_command(words) {
                 Ok(()) => HostAnswer::Done(String::new(self.alloc)),
                 Err(_) => HostAnswer::OutOfMemory,
             },
-            Reply::Dropped => HostAnswer::Done(String::new(self.alloc)),
-            Reply::Refused(number) => {
+            CommandAnswer::Dropped => HostAnswer::Done(String::new(self.alloc)),
+            CommandAnswer::Refused(number) => {
                 self.refused = Some(number);
                 HostAnswer::Refused(number)
             }
-            Reply::LeftOut(name) => match String::from_str(self.alloc, name) {
+            CommandAnswer::LeftOut(name) => match String::from_str(self.alloc, name) {
                 Ok(name) => HostAnswer::LeftOut(name),
                 Err(_) => HostAnswer::OutOfMemory,
             },
-            Reply::Unknown => HostAnswer::Unknown,
+            CommandAnswer::Unknown => HostAnswer::Unknown,
         }
     }
 

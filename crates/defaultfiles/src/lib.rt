@@ -3,10 +3,10 @@
 //! Used by requests, requeststep and lookup, which search with it.
 #![tactic(auto)]
 
+mod command_answers;
 mod evaluated;
 mod host;
 mod laws;
-mod replies;
 
 pub use evaluated::Evaluated;
-pub use laws::{one_left, some_left};
+pub use laws::{one_result, some_result};

@@ -3,28 +3,28 @@ use Rattle.std.proofs.Common.{◌≡◌, ℕ, Bool, true, false, cond, ◌||◌,
 use Rattle.std.specs.Prelude.{bytes_eq, if◌then◌else◌}
 use Rattle.std.specs.Option.{option_or}
 use Rattle.std.proofs.lemmas.Bool.{false≢true}
-use Rattle.environment.specs.Texts.{Text, has}
-use Rattle.environment.specs.Names.{share_name, stack_name, name_reason}
-use Rattle.environment.specs.Environment.{Environment, lookup, with_value}
-use Rattle.environment.specs.Reasons.{EnvReason, unless}
-use Rattle.environment.proofs.TextLemmas.{same_text, bytes_eq-same, or_left, or_right}
-use Rattle.environment.proofs.EnvLemmas.{same_environment, lookup-with_value}
-use Rattle.pathstate.specs.PathTexts.{state_of, elements_text, pairs_text}
-use Rattle.pathstate.specs.PathVariables.{path_in, value_reason, added_path, dropped_path, with_path, written_path}
-use Rattle.pathstate.specs.PathOrder.{IsPathInOrder}
-use Rattle.pathstate.specs.Paths.{add_all, drop_all}
-use Rattle.pathstate.specs.declared.paths.End.{End}
-use Rattle.pathstate.proofs.PathOrderLemmas.{LeavesPath-added, LeavesPath-dropped}
-use Rattle.stackstate.specs.StackTexts.{items_in}
-use Rattle.stackstate.specs.StackVariables.{stack_in, stack_from, pushed_on, popped_from, pushed_value, popped_value, IsStackInOrder}
-use Rattle.stackstate.proofs.StackAfter.{others_after_push, others_after_pop}
-use Rattle.loadedlist.specs.LoadedTexts.{names_variable, files_variable, conflicts_variable, prereqs_variable}
-use Rattle.loadedlist.specs.Loaded.{Entry, names_of, entries_in, names_text, files_text, conflicts_text, prereqs_text, loaded_in, with_loaded, AreLoadedInOrder, can_be_added, kept_once, without_entry, added_to, dropped_from, added_loaded, dropped_loaded}
-use Rattle.loadedlist.proofs.LoadedEdits.{others_stay}
-use Rattle.envstate.specs.Places.{StatePlace, place_of, is_editable}
-use Rattle.envstate.specs.Places.StatePlace.{Variable, Counters, Stack, LoadedNames, LoadedFiles, LoadedConflicts, LoadedPrereqs, Other}
-use Rattle.envstate.specs.Frames.{OnlyAmong, path_names, stack_names, loaded_names, EditsPath, EditsStack, EditsVariable, KeepsVariable, KeepsLoaded}
-use Rattle.envstate.proofs.PlaceLemmas.{apart, variable_place, counters_place, stack_place, no_reason_against}
+use Rattle.envvars.specs.Texts.{Text, has}
+use Rattle.envvars.specs.Names.{share_name, stack_name, name_reason}
+use Rattle.envvars.specs.Environment.{Environment, lookup, with_value}
+use Rattle.envvars.specs.Reasons.{EnvReason, unless}
+use Rattle.envvars.proofs.TextLemmas.{same_text, bytes_eq-same, or_left, or_right}
+use Rattle.envvars.proofs.EnvLemmas.{same_environment, lookup-with_value}
+use Rattle.envpaths.specs.PathTexts.{state_of, elements_text, pairs_text}
+use Rattle.envpaths.specs.PathVariables.{path_in, value_reason, added_path, dropped_path, with_path, written_path}
+use Rattle.envpaths.specs.PathOrder.{IsPathInOrder}
+use Rattle.envpaths.specs.Paths.{add_all, drop_all}
+use Rattle.envpaths.specs.declared.edits.End.{End}
+use Rattle.envpaths.proofs.PathOrderLemmas.{LeavesPath-added, LeavesPath-dropped}
+use Rattle.envstacks.specs.StackTexts.{items_in}
+use Rattle.envstacks.specs.StackVariables.{stack_in, stack_from, pushed_on, popped_from, pushed_value, popped_value, IsStackInOrder}
+use Rattle.envstacks.proofs.StackAfter.{others_after_push, others_after_pop}
+use Rattle.envloaded.specs.LoadedTexts.{names_variable, files_variable, conflicts_variable, prereqs_variable}
+use Rattle.envloaded.specs.Loaded.{Entry, names_of, entries_in, names_text, files_text, conflicts_text, prereqs_text, loaded_in, with_loaded, AreLoadedInOrder, can_be_added, with_conflicts_once, without_entry, added_to, dropped_from, added_loaded, dropped_loaded}
+use Rattle.envloaded.proofs.LoadedEdits.{others_stay}
+use Rattle.envstate.specs.Roles.{VariableRole, role_of, is_editable}
+use Rattle.envstate.specs.Roles.VariableRole.{Variable, Counters, Stack, LoadedNames, LoadedFiles, LoadedConflicts, LoadedPrereqs, Other}
+use Rattle.envstate.specs.Frames.{OnlyAmong, path_names, stack_names, loaded_names, EditsPath, EditsStack, EditsVariable, IsVariableUnchanged, AreLoadedUnchanged}
+use Rattle.envstate.proofs.RoleLemmas.{different, variable_place, counters_place, stack_place, no_reason_against}
 
 -- no name of the list
 
@@ -102,8 +102,8 @@ accepted e = Ok e
 only_new : (e d new : Environment) → OnlyAmong e d loaded_names → accepted d ≡ Ok new → OnlyAmong e new loaded_names
 only_new e d new h k = let same : d ≡ new = cc in subst (λ (f : Environment). OnlyAmong e f loaded_names) same h
 
-add_at : (old new : Environment) (x : Entry) (xs : List Entry) (b : Bool) (r : EnvReason) → (if b then Ok (with_loaded old (xs ++ kept_once x ∷ [])) else Err r) ≡ Ok new → OnlyAmong old new loaded_names
-add_at old new x xs true r h = only_new old _ new (loaded_only old (xs ++ kept_once x ∷ [])) h
+add_at : (old new : Environment) (x : Entry) (xs : List Entry) (b : Bool) (r : EnvReason) → (if b then Ok (with_loaded old (xs ++ with_conflicts_once x ∷ [])) else Err r) ≡ Ok new → OnlyAmong old new loaded_names
+add_at old new x xs true r h = only_new old _ new (loaded_only old (xs ++ with_conflicts_once x ∷ [])) h
 add_at old new x xs false r h = cc
 
 add_from : (old new : Environment) (x : Entry) (o : Option (List Entry)) → added_to old x o ≡ Ok new → OnlyAmong old new loaded_names
@@ -140,16 +140,16 @@ pub path_edits_variable : (old new : Environment) (name : Text) → EditsPath ol
 path_edits_variable old new name h = (
   record { editable = h.editable; only = λ q e. h.only q (three_two (bytes_eq q name) (bytes_eq q (share_name name)) (bytes_eq q (stack_name name)) e) },
   h.only (stack_name name) (none_two (bytes_eq (stack_name name) name) (bytes_eq (stack_name name) (share_name name))
-      (apart (stack_name name) name (Stack name) (Variable name) (stack_place name h.editable) (variable_place name h.editable) (λ e. cc))
-      (apart (stack_name name) (share_name name) (Stack name) (Counters name) (stack_place name h.editable) (counters_place name h.editable) (λ e. cc))),
+      (different (stack_name name) name (Stack name) (Variable name) (stack_place name h.editable) (variable_place name h.editable) (λ e. cc))
+      (different (stack_name name) (share_name name) (Stack name) (Counters name) (stack_place name h.editable) (counters_place name h.editable) (λ e. cc))),
 )
 
 pub stack_edits_variable : (old new : Environment) (name : Text) → EditsStack old new name → EditsVariable old new name × (lookup new (share_name name) ≡ lookup old (share_name name))
 stack_edits_variable old new name h = (
   record { editable = h.editable; only = λ q e. h.only q (three_last (bytes_eq q name) (bytes_eq q (share_name name)) (bytes_eq q (stack_name name)) e) },
   h.only (share_name name) (none_two (bytes_eq (share_name name) name) (bytes_eq (share_name name) (stack_name name))
-      (apart (share_name name) name (Counters name) (Variable name) (counters_place name h.editable) (variable_place name h.editable) (λ e. cc))
-      (apart (share_name name) (stack_name name) (Counters name) (Stack name) (counters_place name h.editable) (stack_place name h.editable) (λ e. cc))),
+      (different (share_name name) name (Counters name) (Variable name) (counters_place name h.editable) (variable_place name h.editable) (λ e. cc))
+      (different (share_name name) (stack_name name) (Counters name) (Stack name) (counters_place name h.editable) (stack_place name h.editable) (λ e. cc))),
 )
 
 -- what the same texts keep
@@ -165,7 +165,7 @@ stack_kept : (loaded : List Text) (old new : Environment) (name : Text) → look
 stack_kept loaded old new name a b (inl h) = inl (b ∙ h)
 stack_kept loaded old new name a b (inr h) = inr (record { items = h.items; valid = h.valid; owned = h.owned; owners = h.owners; text = b ∙ h.text; value = a ∙ h.value })
 
-keeps : (old new : Environment) (name : Text) → lookup new name ≡ lookup old name → lookup new (share_name name) ≡ lookup old (share_name name) → lookup new (stack_name name) ≡ lookup old (stack_name name) → KeepsVariable old new name
+keeps : (old new : Environment) (name : Text) → lookup new name ≡ lookup old name → lookup new (share_name name) ≡ lookup old (share_name name) → lookup new (stack_name name) ≡ lookup old (stack_name name) → IsVariableUnchanged old new name
 keeps old new name a b c = record {
   value = a;
   counters = b;
@@ -178,33 +178,33 @@ keeps old new name a b c = record {
 
 -- every other variable
 
-pub keeps_other : (old new : Environment) (name other : Text) → EditsVariable old new name → is_editable other ≡ true → bytes_eq other name ≡ false → KeepsVariable old new other
+pub keeps_other : (old new : Environment) (name other : Text) → EditsVariable old new name → is_editable other ≡ true → bytes_eq other name ≡ false → IsVariableUnchanged old new other
 keeps_other old new name other h o d =
     let two : Variable other ≡ Variable name → ⊥ = λ e. false≢true (sym d ∙ (let s : other ≡ name = cc in ap (λ (t : Text). bytes_eq t name) s ∙ bytes_eq-same name)) in
     let counters : Counters other ≡ Counters name → ⊥ = λ e. false≢true (sym d ∙ (let s : other ≡ name = cc in ap (λ (t : Text). bytes_eq t name) s ∙ bytes_eq-same name)) in
     let stacks : Stack other ≡ Stack name → ⊥ = λ e. false≢true (sym d ∙ (let s : other ≡ name = cc in ap (λ (t : Text). bytes_eq t name) s ∙ bytes_eq-same name)) in
     keeps old new other
     (h.only other (none_three (bytes_eq other name) (bytes_eq other (share_name name)) (bytes_eq other (stack_name name)) d
-    (apart other (share_name name) _ _ (variable_place other o) (counters_place name h.editable) (λ e. cc))
-    (apart other (stack_name name) _ _ (variable_place other o) (stack_place name h.editable) (λ e. cc))))
+    (different other (share_name name) _ _ (variable_place other o) (counters_place name h.editable) (λ e. cc))
+    (different other (stack_name name) _ _ (variable_place other o) (stack_place name h.editable) (λ e. cc))))
     (h.only (share_name other) (none_three (bytes_eq (share_name other) name) (bytes_eq (share_name other) (share_name name)) (bytes_eq (share_name other) (stack_name name))
-    (apart (share_name other) name _ _ (counters_place other o) (variable_place name h.editable) (λ e. cc))
-    (apart (share_name other) (share_name name) _ _ (counters_place other o) (counters_place name h.editable) counters)
-    (apart (share_name other) (stack_name name) _ _ (counters_place other o) (stack_place name h.editable) (λ e. cc))))
+    (different (share_name other) name _ _ (counters_place other o) (variable_place name h.editable) (λ e. cc))
+    (different (share_name other) (share_name name) _ _ (counters_place other o) (counters_place name h.editable) counters)
+    (different (share_name other) (stack_name name) _ _ (counters_place other o) (stack_place name h.editable) (λ e. cc))))
     (h.only (stack_name other) (none_three (bytes_eq (stack_name other) name) (bytes_eq (stack_name other) (share_name name)) (bytes_eq (stack_name other) (stack_name name))
-    (apart (stack_name other) name _ _ (stack_place other o) (variable_place name h.editable) (λ e. cc))
-    (apart (stack_name other) (share_name name) _ _ (stack_place other o) (counters_place name h.editable) (λ e. cc))
-    (apart (stack_name other) (stack_name name) _ _ (stack_place other o) (stack_place name h.editable) stacks)))
+    (different (stack_name other) name _ _ (stack_place other o) (variable_place name h.editable) (λ e. cc))
+    (different (stack_name other) (share_name name) _ _ (stack_place other o) (counters_place name h.editable) (λ e. cc))
+    (different (stack_name other) (stack_name name) _ _ (stack_place other o) (stack_place name h.editable) stacks)))
 
 -- a name of another kind than those of a variable
-foreign : (old new : Environment) (name q : Text) (p : StatePlace) → EditsVariable old new name → place_of q ≡ p → (p ≡ Variable name → ⊥) → (p ≡ Counters name → ⊥) → (p ≡ Stack name → ⊥) → lookup new q ≡ lookup old q
+foreign : (old new : Environment) (name q : Text) (p : VariableRole) → EditsVariable old new name → role_of q ≡ p → (p ≡ Variable name → ⊥) → (p ≡ Counters name → ⊥) → (p ≡ Stack name → ⊥) → lookup new q ≡ lookup old q
 foreign old new name q p h e a b c =
     h.only q (none_three (bytes_eq q name) (bytes_eq q (share_name name)) (bytes_eq q (stack_name name))
-    (apart q name p _ e (variable_place name h.editable) a)
-    (apart q (share_name name) p _ e (counters_place name h.editable) b)
-    (apart q (stack_name name) p _ e (stack_place name h.editable) c))
+    (different q name p _ e (variable_place name h.editable) a)
+    (different q (share_name name) p _ e (counters_place name h.editable) b)
+    (different q (stack_name name) p _ e (stack_place name h.editable) c))
 
-pub rest_stays : (old new : Environment) (name other : Text) → EditsVariable old new name → place_of other ≡ Other → lookup new other ≡ lookup old other
+pub rest_stays : (old new : Environment) (name other : Text) → EditsVariable old new name → role_of other ≡ Other → lookup new other ≡ lookup old other
 rest_stays old new name other h e = foreign old new name other Other h e (λ k. cc) (λ k. cc) (λ k. cc)
 
 -- the four texts
@@ -264,7 +264,7 @@ list_order old new a b c d o =
     record { entries = o.entries; list = o.list; written = texts_written new o.entries (record { names = a ∙ t.names; files = b ∙ t.files; conflicts = c ∙ t.conflicts; prereqs = d ∙ t.prereqs }) }
 
 keeps_list : (old new : Environment) → lookup new names_variable ≡ lookup old names_variable → lookup new files_variable ≡ lookup old files_variable → lookup new conflicts_variable ≡ lookup old conflicts_variable → lookup new prereqs_variable ≡ lookup old prereqs_variable
-    → KeepsLoaded old new
+    → AreLoadedUnchanged old new
 keeps_list old new a b c d = record {
   list = ap (λ t. entries_in t (lookup new files_variable) (lookup new conflicts_variable) (lookup new prereqs_variable)) a
       ∙ ap (λ t. entries_in (lookup old names_variable) t (lookup new conflicts_variable) (lookup new prereqs_variable)) b
@@ -273,7 +273,7 @@ keeps_list old new a b c d = record {
   order = list_order old new a b c d;
 }
 
-pub keeps_loaded : (old new : Environment) (name : Text) → EditsVariable old new name → KeepsLoaded old new
+pub keeps_loaded : (old new : Environment) (name : Text) → EditsVariable old new name → AreLoadedUnchanged old new
 keeps_loaded old new name h =
     keeps_list old new
     (foreign old new name names_variable LoadedNames h refl (λ k. cc) (λ k. cc) (λ k. cc))
@@ -282,17 +282,17 @@ keeps_loaded old new name h =
     (foreign old new name prereqs_variable LoadedPrereqs h refl (λ k. cc) (λ k. cc) (λ k. cc))
 
 -- a name that is none of the four
-unlisted : (old new : Environment) (q : Text) (p : StatePlace) → OnlyAmong old new loaded_names → place_of q ≡ p → (p ≡ LoadedNames → ⊥) → (p ≡ LoadedFiles → ⊥) → (p ≡ LoadedConflicts → ⊥) → (p ≡ LoadedPrereqs → ⊥) → lookup new q ≡ lookup old q
+unlisted : (old new : Environment) (q : Text) (p : VariableRole) → OnlyAmong old new loaded_names → role_of q ≡ p → (p ≡ LoadedNames → ⊥) → (p ≡ LoadedFiles → ⊥) → (p ≡ LoadedConflicts → ⊥) → (p ≡ LoadedPrereqs → ⊥) → lookup new q ≡ lookup old q
 unlisted old new q p h e a b c d =
     h q (none_four (bytes_eq q names_variable) (bytes_eq q files_variable) (bytes_eq q conflicts_variable) (bytes_eq q prereqs_variable)
-    (apart q names_variable p _ e refl a) (apart q files_variable p _ e refl b) (apart q conflicts_variable p _ e refl c) (apart q prereqs_variable p _ e refl d))
+    (different q names_variable p _ e refl a) (different q files_variable p _ e refl b) (different q conflicts_variable p _ e refl c) (different q prereqs_variable p _ e refl d))
 
-pub loaded_keeps : (old new : Environment) (name : Text) → OnlyAmong old new loaded_names → is_editable name ≡ true → KeepsVariable old new name
+pub loaded_keeps : (old new : Environment) (name : Text) → OnlyAmong old new loaded_names → is_editable name ≡ true → IsVariableUnchanged old new name
 loaded_keeps old new name h e =
     keeps old new name
     (unlisted old new name _ h (variable_place name e) (λ k. cc) (λ k. cc) (λ k. cc) (λ k. cc))
     (unlisted old new (share_name name) _ h (counters_place name e) (λ k. cc) (λ k. cc) (λ k. cc) (λ k. cc))
     (unlisted old new (stack_name name) _ h (stack_place name e) (λ k. cc) (λ k. cc) (λ k. cc) (λ k. cc))
 
-pub loaded_rest_stays : (old new : Environment) (other : Text) → OnlyAmong old new loaded_names → place_of other ≡ Other → lookup new other ≡ lookup old other
+pub loaded_rest_stays : (old new : Environment) (other : Text) → OnlyAmong old new loaded_names → role_of other ≡ Other → lookup new other ≡ lookup old other
 loaded_rest_stays old new other h e = unlisted old new other Other h e (λ k. cc) (λ k. cc) (λ k. cc) (λ k. cc)

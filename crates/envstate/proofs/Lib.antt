@@ -1,3 +1,3 @@
-pub mod PlaceLemmas
+pub mod RoleLemmas
 pub mod FrameLemmas
 pub mod StateLemmas

@@ -5,38 +5,38 @@ use Rattle.std.specs.List.{list_all}
 use Rattle.std.proofs.lemmas.Bool.{false≢true}
 use Rattle.std.proofs.lemmas.List.Folds.{list_any-append}
 use Rattle.modulename.specs.ModuleName.{is_module_name}
-use Rattle.environment.specs.Texts.{Text, has}
-use Rattle.environment.specs.Fields.{without}
-use Rattle.environment.specs.Names.{stack_name}
-use Rattle.environment.specs.Environment.{Environment, lookup}
-use Rattle.environment.proofs.TextLemmas.{bytes_eq-symmetric, or_left, or_right}
-use Rattle.environment.proofs.EditLemmas.{both_true, passes_each}
-use Rattle.pathstate.specs.PathTexts.{elements_text, pairs_text}
-use Rattle.pathstate.specs.PathVariables.{path_in}
-use Rattle.pathstate.specs.PathOrder.{IsPathInOrder}
-use Rattle.stackstate.specs.Stacks.{OwnedValue, StackState, is_owner, holds, base}
-use Rattle.stackstate.specs.StackTexts.{items_in, can_own, is_writable_stack, stack_text}
-use Rattle.stackstate.specs.StackRuns.{items_of, standing}
-use Rattle.stackstate.specs.StackVariables.{stack_in, stack_from, is_loaded_owner, IsWrittenStack, IsStackInOrder}
-use Rattle.stackstate.proofs.StackAgain.{stack_again}
-use Rattle.stackstate.proofs.StackAfter.{name_owns}
-use Rattle.loadedlist.specs.Loaded.{Entry, names_of, is_entry, is_path, is_group, names_text, files_text, conflicts_text, prereqs_text, loaded_in, with_loaded, AreLoadedInOrder, kept_once, without_entry, dropped_from, dropped_loaded}
-use Rattle.loadedlist.proofs.LoadedAgain.{loaded_again}
-use Rattle.loadedlist.proofs.LoadedEdits.{loaded_after_drop}
+use Rattle.envvars.specs.Texts.{Text, has}
+use Rattle.envvars.specs.Fields.{without}
+use Rattle.envvars.specs.Names.{stack_name}
+use Rattle.envvars.specs.Environment.{Environment, lookup}
+use Rattle.envvars.proofs.TextLemmas.{bytes_eq-symmetric, or_left, or_right}
+use Rattle.envvars.proofs.EditLemmas.{both_true, passes_each}
+use Rattle.envpaths.specs.PathTexts.{elements_text, pairs_text}
+use Rattle.envpaths.specs.PathVariables.{path_in}
+use Rattle.envpaths.specs.PathOrder.{IsPathInOrder}
+use Rattle.envstacks.specs.Stacks.{OwnedValue, StackState, is_owner, holds, items_or_bottom}
+use Rattle.envstacks.specs.StackTexts.{items_in, is_writable_owner, is_writable_stack, stack_text}
+use Rattle.envstacks.specs.StackRuns.{items_of, start_with_pushes}
+use Rattle.envstacks.specs.StackVariables.{stack_in, stack_from, is_loaded_owner, IsWrittenStack, IsStackInOrder}
+use Rattle.envstacks.proofs.StackAgain.{stack_again}
+use Rattle.envstacks.proofs.StackAfter.{name_owns}
+use Rattle.envloaded.specs.Loaded.{Entry, names_of, is_entry, is_path, is_group, names_text, files_text, conflicts_text, prereqs_text, loaded_in, with_loaded, AreLoadedInOrder, with_conflicts_once, without_entry, dropped_from, dropped_loaded}
+use Rattle.envloaded.proofs.LoadedAgain.{loaded_again}
+use Rattle.envloaded.proofs.LoadedEdits.{loaded_after_drop}
 use Rattle.envstate.specs.EnvLaws.{IsStartOf, SamePath, SameStack, SameLoaded, AreSound}
 use Rattle.envstate.proofs.FrameLemmas.{accepted, texts_of}
 
 -- stacks
 
-loaded_owns : (loaded : List Text) (o : Option Text) → list_all is_module_name loaded ≡ true → is_loaded_owner loaded o ≡ true → can_own o ≡ true
+loaded_owns : (loaded : List Text) (o : Option Text) → list_all is_module_name loaded ≡ true → is_loaded_owner loaded o ≡ true → is_writable_owner o ≡ true
 loaded_owns loaded None n h = refl
 loaded_owns loaded (Some owner) n h = name_owns owner (passes_each is_module_name owner loaded n h)
 
-all_own : (loaded : List Text) (items : List OwnedValue) → list_all is_module_name loaded ≡ true → list_all (λ item. is_loaded_owner loaded item.0) items ≡ true → list_all (λ item. can_own item.0) items ≡ true
+all_own : (loaded : List Text) (items : List OwnedValue) → list_all is_module_name loaded ≡ true → list_all (λ item. is_loaded_owner loaded item.0) items ≡ true → list_all (λ item. is_writable_owner item.0) items ≡ true
 all_own loaded [] n h = refl
 all_own loaded (item ∷ items) n h =
     let g = both_true (is_loaded_owner loaded item.0) (list_all (λ i. is_loaded_owner loaded i.0) items) h in
-    ap (λ (b : Bool). b && list_all (λ i. can_own i.0) items) (loaded_owns loaded item.0 n g.0) ∙ all_own loaded items n g.1
+    ap (λ (b : Bool). b && list_all (λ i. is_writable_owner i.0) items) (loaded_owns loaded item.0 n g.0) ∙ all_own loaded items n g.1
 
 writable : (loaded : List Text) (e : Environment) (name : Text) → list_all is_module_name loaded ≡ true → (w : IsWrittenStack loaded e name) → is_writable_stack w.items ≡ true
 writable loaded e name n w = rw (w.valid, all_own loaded w.items n w.owners) refl
@@ -57,7 +57,7 @@ start_of loaded e name n (inr w) = (
 or_both : (a b : Bool) → a ≡ false → b ≡ false → (a || b) ≡ false
 or_both a b h k = rw (h, k) refl
 
-base_absent : (m : Text) (items : List OwnedValue) (value : Option Text) → holds m items ≡ false → holds m (base items value) ≡ false
+base_absent : (m : Text) (items : List OwnedValue) (value : Option Text) → holds m items ≡ false → holds m (items_or_bottom items value) ≡ false
 base_absent m [] None h = refl
 base_absent m [] (Some v) h = refl
 base_absent m (item ∷ items) value h = h
@@ -66,11 +66,11 @@ pushes_absent : (m : Text) (pushes : List (Text × Text)) → has m (map (λ p. 
 pushes_absent m [] h = refl
 pushes_absent m (p ∷ ps) h = or_both (bytes_eq m p.0) (holds m (items_of ps)) (or_left (bytes_eq m p.0) _ h) (pushes_absent m ps (or_right (bytes_eq m p.0) _ h))
 
-pub standing_absent : (start : StackState) (pushes : List (Text × Text)) (m : Text) → holds m start.items ≡ false → has m (map (λ p. p.0) pushes) ≡ false → holds m (standing start pushes).items ≡ false
+pub standing_absent : (start : StackState) (pushes : List (Text × Text)) (m : Text) → holds m start.items ≡ false → has m (map (λ p. p.0) pushes) ≡ false → holds m (start_with_pushes start pushes).items ≡ false
 standing_absent start [] m h k = h
 standing_absent start (p ∷ ps) m h k =
-    list_any-append (λ item. is_owner m item.0) (items_of (p ∷ ps)) (base start.items start.value)
-    ∙ or_both (holds m (items_of (p ∷ ps))) (holds m (base start.items start.value)) (pushes_absent m (p ∷ ps) k) (base_absent m start.items start.value h)
+    list_any-append (λ item. is_owner m item.0) (items_of (p ∷ ps)) (items_or_bottom start.items start.value)
+    ∙ or_both (holds m (items_of (p ∷ ps))) (holds m (items_or_bottom start.items start.value)) (pushes_absent m (p ∷ ps) k) (base_absent m start.items start.value h)
 
 -- one writing
 
@@ -126,7 +126,7 @@ one_list d e a b s =
 
 -- lists
 
-pub names_added : (xs : List Entry) (x : Entry) → names_of (xs ++ kept_once x ∷ []) ≡ names_of xs ++ x.name ∷ []
+pub names_added : (xs : List Entry) (x : Entry) → names_of (xs ++ with_conflicts_once x ∷ []) ≡ names_of xs ++ x.name ∷ []
 names_added [] x = refl
 names_added (y ∷ ys) x = ap (λ (l : List Text). y.name ∷ l) (names_added ys x)
 

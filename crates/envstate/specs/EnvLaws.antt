@@ -3,48 +3,48 @@
 use Rattle.std.specs.Prelude.{◌≡◌, ◌≢◌, ℕ, true, false, List, [], ◌∷◌, ◌++◌, map, bytes_eq, Option, Some, None, Ok}
 use Rattle.std.specs.List.{list_all}
 use Rattle.modulename.specs.ModuleName.{is_module_name}
-use Rattle.environment.specs.Texts.{Text, has}
-use Rattle.environment.specs.Fields.{without, are_distinct}
-use Rattle.environment.specs.Names.{share_name, stack_name, name_reason}
-use Rattle.environment.specs.Environment.{Environment, lookup, with_value}
-use Rattle.pathstate.specs.PathVariables.{path_in, added_path, dropped_path}
-use Rattle.pathstate.specs.PathOrder.{IsPathInOrder}
-use Rattle.pathstate.specs.declared.paths.End.{End}
-use Rattle.stackstate.specs.Stacks.{StackState, holds}
-use Rattle.stackstate.specs.StackRuns.{IsOwnedStart, standing}
-use Rattle.stackstate.specs.StackVariables.{stack_in, pushed_value, popped_value, is_loaded_owner, IsStackInOrder}
-use Rattle.loadedlist.specs.LoadedTexts.{names_variable, files_variable, conflicts_variable, prereqs_variable}
-use Rattle.loadedlist.specs.Loaded.{Entry, names_of, is_path, loaded_in, AreLoadedInOrder, kept_once, without_entry, added_loaded, dropped_loaded}
-use Rattle.envstate.specs.Places.{place_of, is_editable, IsNameOf}
-use Rattle.envstate.specs.Places.StatePlace.{Variable, Counters, Stack, LoadedNames, LoadedFiles, LoadedConflicts, LoadedPrereqs, Other}
-use Rattle.envstate.specs.Frames.{OnlyAmong, loaded_names, EditsPath, EditsStack, EditsVariable, KeepsVariable, KeepsLoaded}
+use Rattle.envvars.specs.Texts.{Text, has}
+use Rattle.envvars.specs.Fields.{without, are_distinct}
+use Rattle.envvars.specs.Names.{share_name, stack_name, name_reason}
+use Rattle.envvars.specs.Environment.{Environment, lookup, with_value}
+use Rattle.envpaths.specs.PathVariables.{path_in, added_path, dropped_path}
+use Rattle.envpaths.specs.PathOrder.{IsPathInOrder}
+use Rattle.envpaths.specs.declared.edits.End.{End}
+use Rattle.envstacks.specs.Stacks.{StackState, holds}
+use Rattle.envstacks.specs.StackRuns.{IsOwnedStart, start_with_pushes}
+use Rattle.envstacks.specs.StackVariables.{stack_in, pushed_value, popped_value, is_loaded_owner, IsStackInOrder}
+use Rattle.envloaded.specs.LoadedTexts.{names_variable, files_variable, conflicts_variable, prereqs_variable}
+use Rattle.envloaded.specs.Loaded.{Entry, names_of, is_path, loaded_in, AreLoadedInOrder, with_conflicts_once, without_entry, added_loaded, dropped_loaded}
+use Rattle.envstate.specs.Roles.{role_of, is_editable, IsNameOf}
+use Rattle.envstate.specs.Roles.VariableRole.{Variable, Counters, Stack, LoadedNames, LoadedFiles, LoadedConflicts, LoadedPrereqs, Other}
+use Rattle.envstate.specs.Frames.{OnlyAmong, loaded_names, EditsPath, EditsStack, EditsVariable, IsVariableUnchanged, AreLoadedUnchanged}
 
 -- names
 
 -- Each name is the one with its role.
-abbrev pub PlacesName : Type 0
-PlacesName = (n : Text) → IsNameOf n (place_of n)
+abbrev pub NamesHaveRoles : Type 0
+NamesHaveRoles = (n : Text) → IsNameOf n (role_of n)
 
 -- The name of a variable that modulefiles may edit, and those of its counters and of its stack, have these roles.
-pub record HasPlaces (v : Text) : Type 0 where
-  pub variable : place_of v ≡ Variable v
-  pub counters : place_of (share_name v) ≡ Counters v
-  pub stack : place_of (stack_name v) ≡ Stack v
+pub record HasRoles (v : Text) : Type 0 where
+  pub variable : role_of v ≡ Variable v
+  pub counters : role_of (share_name v) ≡ Counters v
+  pub stack : role_of (stack_name v) ≡ Stack v
 
 -- So it is for every variable that modulefiles may edit.
-abbrev pub VariablesHavePlaces : Type 0
-VariablesHavePlaces = (v : Text) → is_editable v ≡ true → HasPlaces v
+abbrev pub VariablesHaveRoles : Type 0
+VariablesHaveRoles = (v : Text) → is_editable v ≡ true → HasRoles v
 
 -- The four variables of the loaded modules have their roles.
-pub record LoadedHavePlaces : Type 0 where
-  pub names : place_of names_variable ≡ LoadedNames
-  pub files : place_of files_variable ≡ LoadedFiles
-  pub conflicts : place_of conflicts_variable ≡ LoadedConflicts
-  pub prereqs : place_of prereqs_variable ≡ LoadedPrereqs
+pub record LoadedHaveRoles : Type 0 where
+  pub names : role_of names_variable ≡ LoadedNames
+  pub files : role_of files_variable ≡ LoadedFiles
+  pub conflicts : role_of conflicts_variable ≡ LoadedConflicts
+  pub prereqs : role_of prereqs_variable ≡ LoadedPrereqs
 
 -- Names with different roles are different.
-abbrev pub PlacesPartNames : Type 0
-PlacesPartNames = (m n : Text) → place_of m ≢ place_of n → bytes_eq m n ≡ false
+abbrev pub RolesSeparateNames : Type 0
+RolesSeparateNames = (m n : Text) → role_of m ≢ role_of n → bytes_eq m n ≡ false
 
 -- Modulefiles may edit a variable exactly where there is no error for its name.
 abbrev pub EditableHasNoReason : Type 0
@@ -102,31 +102,31 @@ StackLeavesCounters =
     → EditsVariable old new name × (lookup new (share_name name) ≡ lookup old (share_name name))
 
 -- An edit of a variable leaves every other one unchanged.
-abbrev pub EditKeepsOthers : Type 0
-EditKeepsOthers =
+abbrev pub EditPreservesOthers : Type 0
+EditPreservesOthers =
     (old new : Environment) (name other : Text) → EditsVariable old new name
-    → is_editable other ≡ true → bytes_eq other name ≡ false → KeepsVariable old new other
+    → is_editable other ≡ true → bytes_eq other name ≡ false → IsVariableUnchanged old new other
 
 -- An edit of a variable leaves the loaded modules unchanged.
-abbrev pub EditKeepsLoaded : Type 0
-EditKeepsLoaded = (old new : Environment) (name : Text) → EditsVariable old new name → KeepsLoaded old new
+abbrev pub EditPreservesLoaded : Type 0
+EditPreservesLoaded = (old new : Environment) (name : Text) → EditsVariable old new name → AreLoadedUnchanged old new
 
 -- An edit of the loaded modules leaves every variable unchanged that modulefiles may edit.
-abbrev pub LoadedKeepsVariables : Type 0
-LoadedKeepsVariables =
+abbrev pub LoadedEditPreservesVariables : Type 0
+LoadedEditPreservesVariables =
     (old new : Environment) (name : Text) → OnlyAmong old new loaded_names → is_editable name ≡ true
-    → KeepsVariable old new name
+    → IsVariableUnchanged old new name
 
 -- No edit of a variable touches a name whose role is Other.
 abbrev pub EditsLeaveRest : Type 0
 EditsLeaveRest =
-    (old new : Environment) (name other : Text) → EditsVariable old new name → place_of other ≡ Other
+    (old new : Environment) (name other : Text) → EditsVariable old new name → role_of other ≡ Other
     → lookup new other ≡ lookup old other
 
 -- Nor does an edit of the loaded modules.
 abbrev pub LoadedLeavesRest : Type 0
 LoadedLeavesRest =
-    (old new : Environment) (other : Text) → OnlyAmong old new loaded_names → place_of other ≡ Other
+    (old new : Environment) (other : Text) → OnlyAmong old new loaded_names → role_of other ≡ Other
     → lookup new other ≡ lookup old other
 
 -- Stacks in order.
@@ -144,10 +144,10 @@ OrderGivesStart =
     → IsStackInOrder loaded e name → (s : StackState) × IsStartOf loaded e name s
 
 -- An owner without an item in the start and without a live push has no item in the start with the live pushes on top.
-abbrev pub StrangerIsAbsent : Type 0
-StrangerIsAbsent =
+abbrev pub OtherOwnerIsAbsent : Type 0
+OtherOwnerIsAbsent =
     (start : StackState) (pushes : List (Text × Text)) (owner : Text) → holds owner start.items ≡ false
-    → has owner (map (λ p. p.0) pushes) ≡ false → holds owner (standing start pushes).items ≡ false
+    → has owner (map (λ p. p.0) pushes) ≡ false → holds owner (start_with_pushes start pushes).items ≡ false
 
 -- One state is written in one way.
 
@@ -157,8 +157,8 @@ pub record SamePath (d e : Environment) (name : Text) : Type 0 where
   pub counters : lookup d (share_name name) ≡ lookup e (share_name name)
 
 -- A path variable in order with the same state in both is the same.
-abbrev pub PathsHaveOneWriting : Type 0
-PathsHaveOneWriting =
+abbrev pub PathTextsAreUnique : Type 0
+PathTextsAreUnique =
     (d e : Environment) (name : Text) (delim : ℕ) → IsPathInOrder d name delim → IsPathInOrder e name delim
     → path_in d name delim ≡ path_in e name delim → SamePath d e name
 
@@ -168,8 +168,8 @@ pub record SameStack (d e : Environment) (name : Text) : Type 0 where
   pub stack : lookup d (stack_name name) ≡ lookup e (stack_name name)
 
 -- A stack in order with the same state in both is the same.
-abbrev pub StacksHaveOneWriting : Type 0
-StacksHaveOneWriting =
+abbrev pub StackTextsAreUnique : Type 0
+StackTextsAreUnique =
     (loaded others : List Text) (d e : Environment) (name : Text)
     → list_all is_module_name loaded ≡ true → list_all is_module_name others ≡ true
     → IsStackInOrder loaded d name → IsStackInOrder others e name
@@ -183,8 +183,8 @@ pub record SameLoaded (d e : Environment) : Type 0 where
   pub prereqs : lookup d prereqs_variable ≡ lookup e prereqs_variable
 
 -- A list in order with the same entries in both is the same.
-abbrev pub ListsHaveOneWriting : Type 0
-ListsHaveOneWriting =
+abbrev pub ListTextsAreUnique : Type 0
+ListTextsAreUnique =
     (d e : Environment) → AreLoadedInOrder d → AreLoadedInOrder e → loaded_in d ≡ loaded_in e → SameLoaded d e
 
 -- The list of loaded modules.
@@ -192,7 +192,7 @@ ListsHaveOneWriting =
 -- An add puts the name of its entry at the end of the names.
 abbrev pub AddNames : Type 0
 AddNames =
-    (entries : List Entry) (entry : Entry) → names_of (entries ++ kept_once entry ∷ [])
+    (entries : List Entry) (entry : Entry) → names_of (entries ++ with_conflicts_once entry ∷ [])
     ≡ names_of entries ++ entry.name ∷ []
 
 -- A drop removes the name of its module from the names.

@@ -1,14 +1,14 @@
 -- What an edit leaves unchanged (own).
 use Rattle.std.specs.Prelude.{◌≡◌, ℕ, true, false, List, [], ◌∷◌}
-use Rattle.environment.specs.Texts.{Text, has}
-use Rattle.environment.specs.Names.{share_name, stack_name}
-use Rattle.environment.specs.Environment.{Environment, lookup}
-use Rattle.pathstate.specs.PathVariables.{path_in}
-use Rattle.pathstate.specs.PathOrder.{IsPathInOrder}
-use Rattle.stackstate.specs.StackVariables.{stack_in, IsStackInOrder}
-use Rattle.loadedlist.specs.LoadedTexts.{names_variable, files_variable, conflicts_variable, prereqs_variable}
-use Rattle.loadedlist.specs.Loaded.{loaded_in, AreLoadedInOrder}
-use Rattle.envstate.specs.Places.{is_editable}
+use Rattle.envvars.specs.Texts.{Text, has}
+use Rattle.envvars.specs.Names.{share_name, stack_name}
+use Rattle.envvars.specs.Environment.{Environment, lookup}
+use Rattle.envpaths.specs.PathVariables.{path_in}
+use Rattle.envpaths.specs.PathOrder.{IsPathInOrder}
+use Rattle.envstacks.specs.StackVariables.{stack_in, IsStackInOrder}
+use Rattle.envloaded.specs.LoadedTexts.{names_variable, files_variable, conflicts_variable, prereqs_variable}
+use Rattle.envloaded.specs.Loaded.{loaded_in, AreLoadedInOrder}
+use Rattle.envstate.specs.Roles.{is_editable}
 
 -- every variable but these is unchanged
 abbrev pub OnlyAmong : Environment → Environment → List Text → Type 0
@@ -46,7 +46,7 @@ pub record EditsVariable (old new : Environment) (name : Text) : Type 0 where
   pub only : OnlyAmong old new (variable_names name)
 
 -- a variable is unchanged, as a path variable and as a stack, and is in order where it was
-pub record KeepsVariable (old new : Environment) (name : Text) : Type 0 where
+pub record IsVariableUnchanged (old new : Environment) (name : Text) : Type 0 where
   pub value : lookup new name ≡ lookup old name
   pub counters : lookup new (share_name name) ≡ lookup old (share_name name)
   pub stack_text : lookup new (stack_name name) ≡ lookup old (stack_name name)
@@ -56,6 +56,6 @@ pub record KeepsVariable (old new : Environment) (name : Text) : Type 0 where
   pub stack_order : (loaded : List Text) → IsStackInOrder loaded old name → IsStackInOrder loaded new name
 
 -- the loaded modules are unchanged, and are in order where they were
-pub record KeepsLoaded (old new : Environment) : Type 0 where
+pub record AreLoadedUnchanged (old new : Environment) : Type 0 where
   pub list : loaded_in new ≡ loaded_in old
   pub order : AreLoadedInOrder old → AreLoadedInOrder new

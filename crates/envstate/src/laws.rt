@@ -1,25 +1,25 @@
 //! The laws of the four crates below, handed on, and laws of whole environments: which variables an edit may touch, and
 //! what it leaves unchanged. Each is a function that does nothing: its contract is the law, about the definitions
 //! alone.
-ghost use Rattle.envstate.specs.EnvLaws.{PlacesName, VariablesHavePlaces, LoadedHavePlaces, PlacesPartNames, EditableHasNoReason};
+ghost use Rattle.envstate.specs.EnvLaws.{NamesHaveRoles, VariablesHaveRoles, LoadedHaveRoles, RolesSeparateNames, EditableHasNoReason};
 ghost use Rattle.envstate.specs.EnvLaws.{AddEditsPath, DropEditsPath, PushEditsStack, PopEditsStack, SetEditsVariable, AddEditsLoaded, DropEditsLoaded};
-ghost use Rattle.envstate.specs.EnvLaws.{PathLeavesStack, StackLeavesCounters, EditKeepsOthers, EditKeepsLoaded, LoadedKeepsVariables, EditsLeaveRest, LoadedLeavesRest};
-ghost use Rattle.envstate.specs.EnvLaws.{OrderGivesStart, StrangerIsAbsent, PathsHaveOneWriting, StacksHaveOneWriting, ListsHaveOneWriting};
+ghost use Rattle.envstate.specs.EnvLaws.{PathLeavesStack, StackLeavesCounters, EditPreservesOthers, EditPreservesLoaded, LoadedEditPreservesVariables, EditsLeaveRest, LoadedLeavesRest};
+ghost use Rattle.envstate.specs.EnvLaws.{OrderGivesStart, OtherOwnerIsAbsent, PathTextsAreUnique, StackTextsAreUnique, ListTextsAreUnique};
 ghost use Rattle.envstate.specs.EnvLaws.{AddNames, DropNames, OrderGivesList, DropLeavesList};
 
-pub use environment::laws::{changes, variables};
-pub use loadedlist::laws::{loaded_edits, loaded_orders, loaded_texts};
-pub use pathstate::laws::{counters, path_edits, path_steps, path_texts, paths};
-pub use stackstate::laws::{stack_edits, stack_orders, stack_steps, stack_texts, stacks};
+pub use envloaded::laws::{loaded_edits, loaded_orders, loaded_texts};
+pub use envpaths::laws::{counters, path_edits, path_steps, path_texts, paths};
+pub use envstacks::laws::{stack_edits, stack_orders, stack_steps, stack_texts, stacks};
+pub use envvars::laws::{changes, variables};
 
 /// The name of a variable has one role: modulefiles may edit the variable, it holds the counters or the stack of such a
 /// one, it is one of the four variables of the loaded modules, or it is something else. Names with different roles are
 /// different. A variable may be edited exactly where `judge_name` has no error for its name.
 pub fn names()
-    ensures places { PlacesName }
-    ensures variables { VariablesHavePlaces }
-    ensures loaded { LoadedHavePlaces }
-    ensures apart { PlacesPartNames }
+    ensures roles { NamesHaveRoles }
+    ensures variables { VariablesHaveRoles }
+    ensures loaded { LoadedHaveRoles }
+    ensures different { RolesSeparateNames }
     ensures editable { EditableHasNoReason }
 {}
 
@@ -42,9 +42,9 @@ pub fn edits()
 pub fn frames()
     ensures path { PathLeavesStack }
     ensures stack { StackLeavesCounters }
-    ensures others { EditKeepsOthers }
-    ensures loaded { EditKeepsLoaded }
-    ensures variables { LoadedKeepsVariables }
+    ensures others { EditPreservesOthers }
+    ensures loaded { EditPreservesLoaded }
+    ensures variables { LoadedEditPreservesVariables }
     ensures rest { EditsLeaveRest }
     ensures loaded_rest { LoadedLeavesRest }
 {}
@@ -53,14 +53,14 @@ pub fn frames()
 /// on top has no item of an owner that has none in the start and no live push.
 pub fn starts()
     ensures start { OrderGivesStart }
-    ensures absent { StrangerIsAbsent }
+    ensures absent { OtherOwnerIsAbsent }
 {}
 
 /// Where two environments are in order and have the same state, the variables that hold this state have the same texts.
-pub fn writings()
-    ensures paths { PathsHaveOneWriting }
-    ensures stacks { StacksHaveOneWriting }
-    ensures loaded { ListsHaveOneWriting }
+pub fn unique_texts()
+    ensures paths { PathTextsAreUnique }
+    ensures stacks { StackTextsAreUnique }
+    ensures loaded { ListTextsAreUnique }
 {}
 
 /// The names of the loaded modules after an edit, what a list in order is read as, and the list after any accepted

@@ -5,10 +5,10 @@
 
 pub mod laws;
 
-pub use environment::{
-    Change, Env, EnvFault, Vars, Working, changes, is_plain_value, is_protected, is_variable_name,
+pub use envloaded::{Loaded, add_loaded, conflicts_of, drop_loaded, loaded, prereqs_of};
+pub use envpaths::{End, add_path, drop_path};
+pub use envstacks::{pop_value, push_value};
+pub use envvars::{
+    Change, Env, EnvFault, Vars, Working, changes, is_nul_free, is_protected, is_variable_name,
     share_name,
 };
-pub use loadedlist::{Loaded, add_loaded, conflicts_of, drop_loaded, loaded, prereqs_of};
-pub use pathstate::{End, add_path, drop_path};
-pub use stackstate::{pop_value, push_value};

@@ -29,12 +29,13 @@ listing_answer answer = option_map (λ names. map string_bytes (vec_items names)
 
 -- a file is there that begins with these bytes
 abbrev pub begins_with : List ℕ → Option (List ℕ) → Bool
-begins_with front None = false
-begins_with front (Some bytes) = starts_with nat_eq bytes front
+begins_with prefix None = false
+begins_with prefix (Some bytes) = starts_with nat_eq bytes prefix
 
 -- two files have the same first bytes, up to this size
-abbrev pub BeginAlike : ℕ → Option (List ℕ) → Option (List ℕ) → Type 0
-BeginAlike size file other = (front : List ℕ) → length front ≤ size → begins_with front file ≡ begins_with front other
+abbrev pub HaveSamePrefix : ℕ → Option (List ℕ) → Option (List ℕ) → Type 0
+HaveSamePrefix size file other = (prefix : List ℕ) → length prefix ≤ size
+    → begins_with prefix file ≡ begins_with prefix other
 
 -- P holds of each pair of maps that agrees
 abbrev pub InEachPair : (Files → Listings → Type 0) → (Files → Listings → Type 0) → Type 0
@@ -45,8 +46,8 @@ abbrev pub Narrows : (Files → Listings → Type 0) → (Files → Listings →
 Narrows before now = InEachPair now (λ files listings. before files listings)
 
 -- some pair of maps agrees
-abbrev pub IsAgreeable : (Files → Listings → Type 0) → Type 0
-IsAgreeable agrees = (files : Files) × (listings : Listings) × agrees files listings
+abbrev pub IsSatisfiable : (Files → Listings → Type 0) → Type 0
+IsSatisfiable agrees = (files : Files) × (listings : Listings) × agrees files listings
 
 -- By the counts of failures before and after a call: it answers `Device` only where the device failed in it.
 pub record HasCause {T : Type 0} (before now : ℕ) (result : Result T TreeFault) : Type 0 where
@@ -71,7 +72,8 @@ FailsIf true before now Where = (path : List ℕ) × FailedAt before now path ×
 
 -- A call that answers a failure of the device failed at one path, which has the property; after any other answer the
 -- paths with failures are those from before.
-abbrev pub FailsAt : {T E : Type 0} → (E → Bool) → (List ℕ → Bool) → (List ℕ → Bool) → Result T E → (List ℕ → Type 0) → Type 0
+abbrev pub FailsAt : {T E : Type 0} → (E → Bool) → (List ℕ → Bool) → (List ℕ → Bool) → Result T E →
+    (List ℕ → Type 0) → Type 0
 FailsAt is_failure before now (Ok x) Where = now ≡ before
 FailsAt is_failure before now (Err e) Where = FailsIf (is_failure e) before now Where
 
@@ -90,11 +92,11 @@ abbrev pub with_at : {X : Type 0} → (List ℕ → Option X) → List ℕ → X
 with_at there path x p = if bytes_eq path p then Some x else there p
 
 -- the map's value where an answer may be cached: that answer, or else none
-abbrev pub kept : {V W : Type 0} → (V → Option W) → Option V → Option W
-kept view None = None
-kept view (Some answer) = view answer
+abbrev pub cached : {V W : Type 0} → (V → Option W) → Option V → Option W
+cached view None = None
+cached view (Some answer) = view answer
 
 -- where an answer is cached, the value is that answer
-pub kept-answer : {V W : Type 0} (view : V → Option W) (had : Option V) (answer : V) → had ≡ Some answer
-    → kept view had ≡ view answer
-kept-answer view had answer e = ap (kept view) e
+pub cached-answer : {V W : Type 0} (view : V → Option W) (had : Option V) (answer : V) → had ≡ Some answer
+    → cached view had ≡ view answer
+cached-answer view had answer e = ap (cached view) e

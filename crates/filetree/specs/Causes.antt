@@ -17,8 +17,10 @@ Applies (because r) failed Is = Is r
 -- The answer of a call over a tree, whose faults have these causes. A value, seen by view, is an outcome in each pair
 -- of maps that agrees with the tree after the call. A fault has its cause: where that is a reason, it is an outcome in
 -- each such pair.
-abbrev pub Tells : {X Y E R : Type 0} → (E → Cause R) → (Files → Listings → Type 0) → Type 0 → (X → Y) → Result X E
+abbrev pub AnswersOverTree : {X Y E R : Type 0} → (E → Cause R) → (Files → Listings → Type 0) → Type 0 → (X → Y)
+    → Result X E
     → (Files → Listings → Result Y R → Type 0) → Type 0
-Tells cause agrees failed view (Ok x) Comes = InEachPair agrees (λ files listings. Comes files listings (Ok (view x)))
-Tells cause agrees failed view (Err e) Comes =
-    Applies (cause e) failed (λ r. InEachPair agrees (λ files listings. Comes files listings (Err r)))
+AnswersOverTree cause agrees failed view (Ok x) Outcomes = InEachPair agrees
+    (λ files listings. Outcomes files listings (Ok (view x)))
+AnswersOverTree cause agrees failed view (Err e) Outcomes =
+    Applies (cause e) failed (λ r. InEachPair agrees (λ files listings. Outcomes files listings (Err r)))

@@ -5,8 +5,8 @@ use Rattle.std.specs.declared.io.Error.{Error}
 use Rattle.std.specs.declared.io.ErrorKind.{ErrorKind}
 use Rattle.std.specs.declared.io.ErrorKind.TheVariants as kind
 use Rattle.std.specs.IoError.{error_kind}
-use Rattle.filetree.specs.declared.look.Thing.{Thing}
-use Rattle.filetree.specs.declared.look.Thing.TheVariants as things
+use Rattle.filetree.specs.declared.look.PathKind.{PathKind}
+use Rattle.filetree.specs.declared.look.PathKind.TheVariants as path_kinds
 use Rattle.filetree.specs.declared.tree.TreeFault.{TreeFault}
 use Rattle.filetree.specs.declared.tree.TreeFault.TheVariants as fault
 
@@ -27,21 +27,21 @@ fault_of_kind _ = fault.Device
 
 -- What is at a path by the system's answer: something where the answer shows something, nothing where the path names
 -- nothing, else a fault.
-abbrev pub Finds : {X : Type 0} → Result X Error → Result Thing TreeFault → Type 0
-Finds (Ok found) looked = IsOkAnd looked (λ thing. thing ≢ things.Nothing)
+abbrev pub Finds : {X : Type 0} → Result X Error → Result PathKind TreeFault → Type 0
+Finds (Ok found) looked = IsOkAnd looked (λ path_kind. path_kind ≢ path_kinds.Nothing)
 Finds (Err e) looked =
-    looked ≡ (if is_absence (error_kind e) then Ok things.Nothing else Err (fault_of_kind (error_kind e)))
+    looked ≡ (if is_absence (error_kind e) then Ok path_kinds.Nothing else Err (fault_of_kind (error_kind e)))
 
 -- a regular file
-abbrev pub is_file : Thing → Bool
-is_file things.Nothing = false
-is_file things.File = true
-is_file things.Directory = false
-is_file things.Other = false
+abbrev pub is_file : PathKind → Bool
+is_file path_kinds.Nothing = false
+is_file path_kinds.File = true
+is_file path_kinds.Directory = false
+is_file path_kinds.Other = false
 
 -- a directory
-abbrev pub is_directory : Thing → Bool
-is_directory things.Nothing = false
-is_directory things.File = false
-is_directory things.Directory = true
-is_directory things.Other = false
+abbrev pub is_directory : PathKind → Bool
+is_directory path_kinds.Nothing = false
+is_directory path_kinds.File = false
+is_directory path_kinds.Directory = true
+is_directory path_kinds.Other = false

@@ -32,4 +32,4 @@ Where Fact Yes No o = (Fact × Yes o) ⊎ ((Fact → ⊥) × No o)
 
 -- there is one outcome at most
 abbrev pub IsOne : {A R : Type 0} → (Result A R → Type 0) → Type 0
-IsOne {A} {R} Comes = (o p : Result A R) → Comes o → Comes p → o ≡ p
+IsOne {A} {R} Outcomes = (o p : Result A R) → Outcomes o → Outcomes p → o ≡ p

@@ -1,13 +1,13 @@
 //! The tree over a real disk, which caches each answer and gives it again.
 ghost use Rattle.std.specs.Prelude.{◌≡◌, ◌+◌, if◌then◌else◌, ℕ, List, map, None, Some, Option, IfOk, IfSome, is_some, string_bytes, vec_len};
 ghost use Rattle.std.specs.BTreeMap.{get_by_text};
-ghost use Rattle.filetree.specs.Agreement.{BeginAlike, FailsAt, FailsIf, Files, HasCause, InEachPair, Listings, Narrows, begins_with, file_answer, is_device, listing_answer};
-ghost use Rattle.filetree.specs.Disk.{file_at, has_failed, kept-file, kept-front, kept-listing, listing_at};
+ghost use Rattle.filetree.specs.Agreement.{HaveSamePrefix, FailsAt, FailsIf, Files, HasCause, InEachPair, Listings, Narrows, begins_with, file_answer, is_device, listing_answer};
+ghost use Rattle.filetree.specs.Disk.{file_at, has_failed, cached-file, cached-prefix, cached-listing, listing_at};
 ghost use Rattle.filetree.specs.Devices.{is_directory, is_file};
 
-use crate::front::{Front, begins, is_alike, load_front};
-use crate::look::{Thing, look};
+use crate::look::{PathKind, look};
 use crate::memory::copy_names;
+use crate::prefix::{Prefix, begins, has_same_prefix, load_prefix};
 use crate::tree::{Tree, TreeFault};
 use std::alloc::{AllocError, Global};
 use std::collections::BTreeMap;
@@ -26,11 +26,11 @@ use std::{fs, io};
 pub struct DiskTree<R: Files + AllocGlobal + Clone + Drop> {
     rt: R,
     /// What is at each path that was looked at.
-    things: BTreeMap<String, Thing>,
+    path_kinds: BTreeMap<String, PathKind>,
     /// The whole files that were read.
     files: BTreeMap<String, Option<Vec<u8>>>,
     /// The first bytes of files of which no more was read.
-    fronts: BTreeMap<String, Front>,
+    prefixes: BTreeMap<String, Prefix>,
     /// The directories that were listed.
     listings: BTreeMap<String, Option<Vec<String>>>,
     /// The paths at which the device failed, in the order of the failures.
@@ -44,19 +44,19 @@ pub struct DiskTree<R: Files + AllocGlobal + Clone + Drop> {
 fn load_file<R: Files + AllocGlobal>(
     rt: &R,
     path: &str,
-    thing: Thing,
-    front: Option<&Front>,
+    path_kind: PathKind,
+    prefix: Option<&Prefix>,
 ) -> Result<Option<Vec<u8>>, TreeFault>
-    ensures there { IfOk result (λ answer. is_some answer ≡ is_file thing) }
-    ensures alike { IfOk result (λ answer. IfSome front.entry (λ front.
-        BeginAlike front.now.size (file_answer answer) (file_answer front.now.bytes))) }
+    ensures there { IfOk result (λ answer. is_some answer ≡ is_file path_kind) }
+    ensures same_prefix { IfOk result (λ answer. IfSome prefix.entry (λ prefix.
+        HaveSamePrefix prefix.now.size (file_answer answer) (file_answer prefix.now.bytes))) }
 {
-    let answer = match thing {
-        Thing::File => Some(fs::read(rt, path)?),
-        Thing::Nothing | Thing::Directory | Thing::Other => None,
+    let answer = match path_kind {
+        PathKind::File => Some(fs::read(rt, path)?),
+        PathKind::Nothing | PathKind::Directory | PathKind::Other => None,
     };
-    match front {
-        Some(front) if !is_alike(&answer, front) => Err(TreeFault::Device),
+    match prefix {
+        Some(prefix) if !has_same_prefix(&answer, prefix) => Err(TreeFault::Device),
         _ => Ok(answer),
     }
 }
@@ -75,13 +75,13 @@ fn names_in<R: Files + AllocGlobal + Clone + Drop>(rt: &R, dir: &str) -> io::Res
 fn load_listing<R: Files + AllocGlobal + Clone + Drop>(
     rt: &R,
     dir: &str,
-    thing: Thing,
+    path_kind: PathKind,
 ) -> Result<Option<Vec<String>>, TreeFault>
-    ensures { IfOk result (λ answer. is_some answer ≡ is_directory thing) }
+    ensures { IfOk result (λ answer. is_some answer ≡ is_directory path_kind) }
 {
-    match thing {
-        Thing::Directory => Ok(Some(names_in(rt, dir)?)),
-        Thing::Nothing | Thing::File | Thing::Other => Ok(None),
+    match path_kind {
+        PathKind::Directory => Ok(Some(names_in(rt, dir)?)),
+        PathKind::Nothing | PathKind::File | PathKind::Other => Ok(None),
     }
 }
 
@@ -116,18 +116,18 @@ impl<R: Files + AllocGlobal + Clone + Drop> DiskTree<R> {
         let alloc = rt.alloc();
         DiskTree {
             rt,
-            things: BTreeMap::new(alloc),
+            path_kinds: BTreeMap::new(alloc),
             files: BTreeMap::new(alloc),
-            fronts: BTreeMap::new(alloc),
+            prefixes: BTreeMap::new(alloc),
             listings: BTreeMap::new(alloc),
             failed: Vec::new(alloc),
         }
     }
 
     /// The fault; where it is the device's, the path is added to those at which the device failed.
-    fn noted(&mut self, path: String, fault: TreeFault) -> TreeFault
+    fn record_failure(&mut self, path: String, fault: TreeFault) -> TreeFault
         ensures files { self.new.files ≡ self.old.files }
-        ensures fronts { self.new.fronts ≡ self.old.fronts }
+        ensures prefixes { self.new.prefixes ≡ self.old.prefixes }
         ensures listings { self.new.listings ≡ self.old.listings }
         ensures failed { FailsIf (is_device result) (has_failed self.old.failed)
             (has_failed self.new.failed) (λ at. at ≡ string_bytes path) }
@@ -147,80 +147,80 @@ impl<R: Files + AllocGlobal + Clone + Drop> DiskTree<R> {
     }
 
     /// What is at the path: the cached answer, or else the system's, which is then cached.
-    fn thing_at(&mut self, path: &str) -> Result<Thing, TreeFault>
+    fn path_kind_at(&mut self, path: &str) -> Result<PathKind, TreeFault>
         ensures files { self.new.files ≡ self.old.files }
-        ensures fronts { self.new.fronts ≡ self.old.fronts }
+        ensures prefixes { self.new.prefixes ≡ self.old.prefixes }
         ensures listings { self.new.listings ≡ self.old.listings }
-        ensures kept { IfOk result (λ thing. get_by_text self.new.things path.now ≡ Some thing) }
+        ensures cached { IfOk result (λ path_kind. get_by_text self.new.path_kinds path.now ≡ Some path_kind) }
         ensures failed { FailsAt is_device (has_failed self.old.failed)
             (has_failed self.new.failed) result (λ at. at ≡ path.now) }
         ensures cause { HasCause (vec_len self.old.failed) (vec_len self.new.failed) result }
     {
-        if let Some(thing) = self.things.get(path) {
-            return Ok(*thing);
+        if let Some(path_kind) = self.path_kinds.get(path) {
+            return Ok(*path_kind);
         }
         let key = String::from_str(self.rt.alloc(), path)?;
         match look(&self.rt, path) {
-            Ok(thing) => {
-                self.things.insert(key, thing)?;
-                Ok(thing)
+            Ok(path_kind) => {
+                self.path_kinds.insert(key, path_kind)?;
+                Ok(path_kind)
             }
-            Err(fault) => Err(self.noted(key, fault)),
+            Err(fault) => Err(self.record_failure(key, fault)),
         }
     }
 
     /// Whether the file at the path begins with these bytes, or `None` where too little of it was read to say.
-    fn known(&self, path: &str, front: &[u8]) -> Option<bool>
+    fn known(&self, path: &str, prefix: &[u8]) -> Option<bool>
         ensures known { IfSome result (λ answer. (files : Files) (listings : Listings)
             → ⟦<DiskTree<R> as Tree>⟧.agrees self.now files listings
-            → begins_with front.now (files path.now) ≡ answer) }
-        ensures fronts { result ≡ None → get_by_text self.now.files path.now ≡ None }
+            → begins_with prefix.now (files path.now) ≡ answer) }
+        ensures prefixes { result ≡ None → get_by_text self.now.files path.now ≡ None }
     {
         if let Some(answer) = self.files.get(path) {
-            return Some(begins(answer, front));
+            return Some(begins(answer, prefix));
         }
-        match self.fronts.get(path) {
-            Some(read) if front.len() <= read.size => Some(begins(&read.bytes, front)),
+        match self.prefixes.get(path) {
+            Some(read) if prefix.len() <= read.size => Some(begins(&read.bytes, prefix)),
             _ => None,
         }
     }
 
     /// Whether the file at the path, of which nothing was read yet, begins with these bytes. So many bytes are read.
-    fn read_front(&mut self, path: &str, front: &[u8]) -> Result<bool, TreeFault>
+    fn read_prefix(&mut self, path: &str, prefix: &[u8]) -> Result<bool, TreeFault>
         requires file { get_by_text self.old.files path.now ≡ None }
-        requires front { get_by_text self.old.fronts path.now ≡ None }
+        requires prefix { get_by_text self.old.prefixes path.now ≡ None }
         ensures before { Narrows (⟦<DiskTree<R> as Tree>⟧.agrees self.old)
             (⟦<DiskTree<R> as Tree>⟧.agrees self.new) }
         ensures answer { IfOk result (λ answer. InEachPair (⟦<DiskTree<R> as Tree>⟧.agrees self.new)
-            (λ files listings. begins_with front.now (files path.now) ≡ answer)) }
+            (λ files listings. begins_with prefix.now (files path.now) ≡ answer)) }
         ensures failed { FailsAt is_device (has_failed self.old.failed)
             (has_failed self.new.failed) result (λ at. at ≡ path.now) }
         ensures cause { HasCause (vec_len self.old.failed) (vec_len self.new.failed) result }
     {
-        let thing = self.thing_at(path)?;
+        let path_kind = self.path_kind_at(path)?;
         let key = String::from_str(self.rt.alloc(), path)?;
-        match load_front(&self.rt, path, thing, front.len()) {
+        match load_prefix(&self.rt, path, path_kind, prefix.len()) {
             Ok(read) => {
-                let answer = begins(&read.bytes, front);
-                self.fronts.insert(key, read)?;
+                let answer = begins(&read.bytes, prefix);
+                self.prefixes.insert(key, read)?;
                 Ok(answer)
             }
-            Err(fault) => Err(self.noted(key, fault)),
+            Err(fault) => Err(self.record_failure(key, fault)),
         }
     }
 
     /// Whether the file at the path begins with these bytes. The whole file is read.
-    fn begins_whole(&mut self, path: &str, front: &[u8]) -> Result<bool, TreeFault>
+    fn begins_with_whole_file(&mut self, path: &str, prefix: &[u8]) -> Result<bool, TreeFault>
         ensures before { Narrows (⟦<DiskTree<R> as Tree>⟧.agrees self.old)
             (⟦<DiskTree<R> as Tree>⟧.agrees self.new) }
         ensures answer { IfOk result (λ answer. InEachPair (⟦<DiskTree<R> as Tree>⟧.agrees self.new)
-            (λ files listings. begins_with front.now (files path.now) ≡ answer)) }
+            (λ files listings. begins_with prefix.now (files path.now) ≡ answer)) }
         ensures failed { FailsAt is_device (has_failed self.old.failed)
             (has_failed self.new.failed) result (λ at. at ≡ path.now) }
         ensures cause { HasCause (vec_len self.old.failed) (vec_len self.new.failed) result }
     {
         let answer = self.read(path)?;
-        Ok(begins(&answer, front))
+        Ok(begins(&answer, prefix))
     }
 }
 
@@ -233,16 +233,16 @@ impl<R: Files + AllocGlobal + Clone + Drop> Tree for DiskTree<R> {
         ((path : List ℕ) (answer : _) → get_by_text t.files path ≡ Some answer → files path ≡ file_answer answer)
         × ((path : List ℕ) (answer : _) → get_by_text t.listings path ≡ Some answer
         → listings path ≡ listing_answer answer)
-        × ((path : List ℕ) (front : _) → get_by_text t.files path ≡ None → get_by_text t.fronts path ≡ Some front
-        → BeginAlike front.size (files path) (file_answer front.bytes)) };
+        × ((path : List ℕ) (prefix : _) → get_by_text t.files path ≡ None → get_by_text t.prefixes path ≡ Some prefix
+        → HaveSamePrefix prefix.size (files path) (file_answer prefix.bytes)) };
 
-    ghost agreeable = { λ t. (
-      λ path. file_at (get_by_text t.files path) (get_by_text t.fronts path),
+    ghost satisfiable = { λ t. (
+      λ path. file_at (get_by_text t.files path) (get_by_text t.prefixes path),
       λ path. listing_at (get_by_text t.listings path),
       (
-        λ path answer had. kept-file (get_by_text t.files path) (get_by_text t.fronts path) answer had,
-        λ path answer had. kept-listing (get_by_text t.listings path) answer had,
-        λ path front none had. kept-front (get_by_text t.files path) (get_by_text t.fronts path) front none had,
+        λ path answer had. cached-file (get_by_text t.files path) (get_by_text t.prefixes path) answer had,
+        λ path answer had. cached-listing (get_by_text t.listings path) answer had,
+        λ path prefix none had. cached-prefix (get_by_text t.files path) (get_by_text t.prefixes path) prefix none had,
       ),
     ) };
 
@@ -250,26 +250,26 @@ impl<R: Files + AllocGlobal + Clone + Drop> Tree for DiskTree<R> {
         if let Some(answer) = self.files.get(path) {
             return Ok(copy_file(answer)?);
         }
-        let thing = self.thing_at(path)?;
+        let path_kind = self.path_kind_at(path)?;
         let key = String::from_str(self.rt.alloc(), path)?;
-        match load_file(&self.rt, path, thing, self.fronts.get(path)) {
+        match load_file(&self.rt, path, path_kind, self.prefixes.get(path)) {
             Ok(answer) => {
                 let copy = copy_file(&answer)?;
                 self.files.insert(key, answer)?;
                 Ok(copy)
             }
-            Err(fault) => Err(self.noted(key, fault)),
+            Err(fault) => Err(self.record_failure(key, fault)),
         }
     }
 
-    fn begins_with(&mut self, path: &str, front: &[u8]) -> Result<bool, TreeFault> {
-        if let Some(answer) = self.known(path, front) {
+    fn begins_with(&mut self, path: &str, prefix: &[u8]) -> Result<bool, TreeFault> {
+        if let Some(answer) = self.known(path, prefix) {
             return Ok(answer);
         }
-        if self.fronts.contains_key(path) {
-            self.begins_whole(path, front)
+        if self.prefixes.contains_key(path) {
+            self.begins_with_whole_file(path, prefix)
         } else {
-            self.read_front(path, front)
+            self.read_prefix(path, prefix)
         }
     }
 
@@ -277,15 +277,15 @@ impl<R: Files + AllocGlobal + Clone + Drop> Tree for DiskTree<R> {
         if let Some(answer) = self.listings.get(dir) {
             return Ok(copy_listing(self.rt.alloc(), answer)?);
         }
-        let thing = self.thing_at(dir)?;
+        let path_kind = self.path_kind_at(dir)?;
         let key = String::from_str(self.rt.alloc(), dir)?;
-        match load_listing(&self.rt, dir, thing) {
+        match load_listing(&self.rt, dir, path_kind) {
             Ok(answer) => {
                 let copy = copy_listing(self.rt.alloc(), &answer)?;
                 self.listings.insert(key, answer)?;
                 Ok(copy)
             }
-            Err(fault) => Err(self.noted(key, fault)),
+            Err(fault) => Err(self.record_failure(key, fault)),
         }
     }
 }

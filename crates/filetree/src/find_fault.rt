@@ -48,11 +48,11 @@ impl FindFault {
         ensures { text_of result ≡ find_message self.now }
     {
         match self {
-            FindFault::OutOfMemory => Message::plain("Out of memory"),
+            FindFault::OutOfMemory => Message::of_text("Out of memory"),
             FindFault::NotFound(name) => {
                 Message::quoting("Unable to locate a modulefile for '", name.as_str())
             }
-            FindFault::Device => Message::plain("Reading failed"),
+            FindFault::Device => Message::of_text("Reading failed"),
             FindFault::BadName(name) => Message::quoting("Bad module name '", name.as_str()),
             FindFault::BadDefaultFile(path) => Message::quoting(
                 "Bad default file '",

@@ -1,14 +1,14 @@
 //! Laws of every tree, and of a tree in memory. The functions do nothing; their contracts are the theorems.
 ghost use Rattle.std.specs.Prelude.{◌≡◌, ℕ, List};
 ghost use Rattle.filetree.specs.Contents.{files_of, listings_of};
-ghost use Rattle.filetree.specs.Agreement.{InEachPair, IsAgreeable};
+ghost use Rattle.filetree.specs.Agreement.{InEachPair, IsSatisfiable};
 
 use crate::memory::MemoryTree;
 use crate::tree::Tree;
 
 /// With each tree some pair of maps agrees, so that no clause about all such pairs is empty.
 pub fn some_pair_agrees<T: Tree>(tree: &T)
-    ensures { IsAgreeable (T.agrees tree.now) }
+    ensures { IsSatisfiable (T.agrees tree.now) }
 {
     let _ = tree;
 }

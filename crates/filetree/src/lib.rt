@@ -1,16 +1,15 @@
-//! Files and directories by their paths, in memory or on a disk; what a path holds as a modulefile, and why a search
-//! finds none (modulefile(5)); the answers of calls over a tree, as relations.
+//! Files and directories by their paths, in memory or on a disk; what a path holds as a modulefile (modulefile(5)).
 //! `MemoryTree` takes memory; `DiskTree` reads files and directories by the runtime that it is given, and writes none.
-//! Used by `search`, `requests` and all crates above them.
+//! Used by search, requests and all crates above them.
 #![tactic(auto)]
 
 mod disk;
 mod find_fault;
-mod front;
 mod laws;
 mod look;
 mod memory;
 mod modulefile;
+mod prefix;
 mod tree;
 
 pub use disk::DiskTree;

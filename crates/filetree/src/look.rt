@@ -11,7 +11,7 @@ use std::{fs, io};
 
 /// What is at a path, after symbolic links are followed.
 #[derive(Clone, Copy)]
-pub(crate) enum Thing {
+pub(crate) enum PathKind {
     /// The path names nothing.
     Nothing,
     /// A regular file.
@@ -52,29 +52,29 @@ fn is_absence(e: &io::Error) -> bool
 }
 
 /// What the system's metadata say is at a path.
-fn thing_of(found: &fs::Metadata) -> Thing
-    ensures something { result ≢ Thing.Nothing }
-    ensures file { (result ≡ Thing.File) ↔ IsFile (file_type found.now) }
-    ensures directory { result ≡ Thing.Directory → IsDir (file_type found.now) }
+fn path_kind_of(found: &fs::Metadata) -> PathKind
+    ensures something { result ≢ PathKind.Nothing }
+    ensures file { (result ≡ PathKind.File) ↔ IsFile (file_type found.now) }
+    ensures directory { result ≡ PathKind.Directory → IsDir (file_type found.now) }
 {
     if found.is_file() {
-        Thing::File
+        PathKind::File
     } else if found.is_dir() {
-        Thing::Directory
+        PathKind::Directory
     } else {
-        Thing::Other
+        PathKind::Other
     }
 }
 
 /// What the system's answer says is at a path, or the fault that it is.
-fn found(answer: io::Result<fs::Metadata>) -> Result<Thing, TreeFault>
+fn found(answer: io::Result<fs::Metadata>) -> Result<PathKind, TreeFault>
     ensures { Finds answer result }
 {
     match answer {
-        Ok(found) => Ok(thing_of(&found)),
+        Ok(found) => Ok(path_kind_of(&found)),
         Err(e) => {
             if is_absence(&e) {
-                Ok(Thing::Nothing)
+                Ok(PathKind::Nothing)
             } else {
                 Err(fault_of(&e))
             }
@@ -84,11 +84,11 @@ fn found(answer: io::Result<fs::Metadata>) -> Result<Thing, TreeFault>
 
 /// Asks the system what is at a path, following symbolic links. A text with a NUL is no path, so the system isn't
 /// asked.
-pub(crate) fn look<R: Files>(rt: &R, path: &str) -> Result<Thing, TreeFault>
-    ensures { has_nul path.now ≡ true → result ≡ Ok Thing.Nothing }
+pub(crate) fn look<R: Files>(rt: &R, path: &str) -> Result<PathKind, TreeFault>
+    ensures { has_nul path.now ≡ true → result ≡ Ok PathKind.Nothing }
 {
     if path.as_bytes().contains(&0) {
-        return Ok(Thing::Nothing);
+        return Ok(PathKind::Nothing);
     }
     found(fs::metadata(rt, path))
 }

@@ -90,7 +90,7 @@ impl Tree for MemoryTree {
     ghost agrees = { λ t files listings. ((path : List ℕ) → files path ≡ files_of t path)
         × ((path : List ℕ) → listings path ≡ listings_of t path) };
 
-    ghost agreeable = { λ t. (files_of t, listings_of t, (λ path. refl, λ path. refl)) };
+    ghost satisfiable = { λ t. (files_of t, listings_of t, (λ path. refl, λ path. refl)) };
 
     fn read(&mut self, path: &str) -> Result<Option<Vec<u8>>, TreeFault> {
         match self.files.get(path) {
@@ -99,10 +99,10 @@ impl Tree for MemoryTree {
         }
     }
 
-    fn begins_with(&mut self, path: &str, front: &[u8]) -> Result<bool, TreeFault> {
+    fn begins_with(&mut self, path: &str, prefix: &[u8]) -> Result<bool, TreeFault> {
         match self.files.get(path) {
             None => Ok(false),
-            Some(bytes) => Ok(bytes.as_slice().starts_with(front)),
+            Some(bytes) => Ok(bytes.as_slice().starts_with(prefix)),
         }
     }
 

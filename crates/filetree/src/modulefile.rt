@@ -50,7 +50,7 @@ fn modulefile_of(bytes: Vec<u8>) -> Modulefile
 }
 
 /// What a path holds whose file, if there is one, does not begin with `#%Module`: no file, or one without the cookie.
-fn no_module<T: Tree>(tree: &mut T, path: &str) -> Result<Modulefile, TreeFault>
+fn absent_or_no_cookie<T: Tree>(tree: &mut T, path: &str) -> Result<Modulefile, TreeFault>
     requires { InEachPair (T.agrees tree.old) (λ files listings. begins_with cookie (files path.now) ≡ false) }
     ensures before { Narrows (T.agrees tree.old) (T.agrees tree.new) }
     ensures answer { IfOk result (λ m. InEachPair (T.agrees tree.new)
@@ -76,7 +76,7 @@ pub fn read_modulefile<T: Tree>(tree: &mut T, path: &str) -> Result<Modulefile, 
     ensures failed { FailsAt is_device (T.failed tree.old) (T.failed tree.new) result (λ at. at ≡ path.now) }
 {
     if !tree.begins_with(path, COOKIE)? {
-        return no_module(tree, path);
+        return absent_or_no_cookie(tree, path);
     }
     match tree.read(path)? {
         None => Ok(Modulefile::Absent),

@@ -2,7 +2,7 @@
 ghost use Rattle.std.specs.Prelude.{◌≡◌, ℕ, Bool, true, List, Some, IfOk};
 ghost use Rattle.filetree.specs.declared.tree.TreeFault.TheVariants.{OutOfMemory};
 ghost use Rattle.message.specs.Messages.{text_of};
-ghost use Rattle.filetree.specs.Agreement.{FailsAt, Files, Listings, InEachPair, HasCause, IsAgreeable, begins_with, file_answer, is_device, listing_answer, tree_message, tree_number, Narrows};
+ghost use Rattle.filetree.specs.Agreement.{FailsAt, Files, Listings, InEachPair, HasCause, IsSatisfiable, begins_with, file_answer, is_device, listing_answer, tree_message, tree_number, Narrows};
 
 use message::Message;
 use std::alloc::{AllocError, AllocFailed};
@@ -35,8 +35,8 @@ impl TreeFault {
         ensures { text_of result ≡ tree_message self.now }
     {
         match self {
-            TreeFault::OutOfMemory => Message::plain("Out of memory"),
-            TreeFault::Device => Message::plain("Reading failed"),
+            TreeFault::OutOfMemory => Message::of_text("Out of memory"),
+            TreeFault::Device => Message::of_text("Reading failed"),
         }
     }
 }
@@ -95,16 +95,16 @@ pub trait Tree {
     /// Whether a file is at the path that begins with these bytes. A tree may read no more of the file than that.
     ///
     /// It fails as `read` does.
-    fn begins_with(&mut self, path: &str, front: &[u8]) -> Result<bool, TreeFault>
+    fn begins_with(&mut self, path: &str, prefix: &[u8]) -> Result<bool, TreeFault>
         ensures before { Narrows (agrees self.old) (agrees self.new) }
         ensures answer { IfOk result (λ answer.
-            InEachPair (agrees self.new) (λ files listings. begins_with front.now (files path.now) ≡ answer)) }
+            InEachPair (agrees self.new) (λ files listings. begins_with prefix.now (files path.now) ≡ answer)) }
         ensures cause { HasCause (failures self.old) (failures self.new) result }
         ensures failed { FailsAt is_device (failed self.old) (failed self.new) result (λ at. at ≡ path.now) }
     {
         match self.read(path)? {
             None => Ok(false),
-            Some(bytes) => Ok(bytes.as_slice().starts_with(front)),
+            Some(bytes) => Ok(bytes.as_slice().starts_with(prefix)),
         }
     }
 
@@ -119,5 +119,5 @@ pub trait Tree {
         ensures failed { FailsAt is_device (failed self.old) (failed self.new) result (λ at. at ≡ dir.now) };
 
     /// With each tree some pair of maps agrees.
-    ghost agreeable: { (tree : Self) → IsAgreeable (agrees tree) };
+    ghost satisfiable: { (tree : Self) → IsSatisfiable (agrees tree) };
 }

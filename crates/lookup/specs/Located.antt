@@ -4,20 +4,21 @@ use Rattle.modulename.specs.ModuleName.{Text}
 use Rattle.filetree.specs.Agreement.{Files, Listings}
 use Rattle.filetree.specs.Relations.{Is, Then}
 use Rattle.search.specs.Reasons.{Reason}
-use Rattle.search.specs.DefaultFiles.{Left}
+use Rattle.search.specs.DefaultFiles.{DefaultFileResult}
 use Rattle.search.specs.Found.{FoundModule, Found}
 
 -- a module's full name, and the path of its file
-pub record ModulePlace : Type 0 where
+pub record LocatedModule : Type 0 where
   pub name : Text
   pub path : Text
 
 -- a module that was found, without its text
-abbrev pub place_of : FoundModule → ModulePlace
-place_of found = record { name = found.name; path = found.path }
+abbrev pub located_module_of : FoundModule → LocatedModule
+located_module_of found = record { name = found.name; path = found.path }
 
 -- The module that a name means along a MODULEPATH, or the reason why it means none.
-abbrev pub Located : (Text → Text → Option Left → Type 0) → Files → Listings → Text → Text → Result ModulePlace Reason
+abbrev pub Located : (Text → Text → Option DefaultFileResult → Type 0) → Files → Listings → Text → Text
+    → Result LocatedModule Reason
     → Type 0
-Located leaves files folders modulepath name =
-    Then (Found leaves files folders modulepath name) (λ found. Is (Ok (place_of found)))
+Located results files folders modulepath name =
+    Then (Found results files folders modulepath name) (λ found. Is (Ok (located_module_of found)))

@@ -1,7 +1,6 @@
-//! The search for callers of their own: which module a name means and all modules along MODULEPATH, with default files
-//! evaluated within limits.
+//! The search for callers of their own: `locate` and `available`, with default files evaluated within limits.
 //! Takes memory, and reads files and directories through the `Tree` that it is given.
-//! Used by `modulecmd`, which hands it on, and `cases_requests`; requests search by `search` itself.
+//! Used by modulecmd, which hands it on, and by cases_requests; requests search by search itself.
 #![tactic(auto)]
 
 mod listings;
@@ -10,5 +9,5 @@ mod located;
 pub use filetree::{DiskTree, FindFault, MemoryTree, Tree, TreeFault};
 pub use listings::{Listing, available};
 pub use located::{Found, locate};
-pub use moduleversion::version_order;
+pub use modulename::version_order;
 pub use tclrules::Limits;

@@ -5,14 +5,14 @@ ghost use Rattle.filetree.specs.Causes.{Applies};
 ghost use Rattle.search.specs.Looked.{ListingLooksAt};
 ghost use Rattle.search.specs.Answers.{cause_of, is_failure};
 ghost use Rattle.search.specs.Listings.{listing_view};
-ghost use Rattle.search.specs.Rows.{row_view};
-ghost use Rattle.defaultfiles.specs.Leaves.{Leaves};
+ghost use Rattle.search.specs.ListingEntries.{listing_entry_view};
+ghost use Rattle.defaultfiles.specs.DefaultFileResults.{Leaves};
 ghost use Rattle.lookup.specs.Lines.{line_of, lines_of, Available};
 ghost use Rattle.lookup.specs.LineViews.{line_view};
 
 use defaultfiles::Evaluated;
 use filetree::{FindFault, Tree};
-use search::Row;
+use search::ListingEntry;
 use std::alloc::{AllocError, Global};
 use tclrules::Limits;
 
@@ -32,10 +32,10 @@ fn push_modules(
     alloc: Global,
     listings: &mut Vec<Listing>,
     dir: &str,
-    modules: &[Row],
+    modules: &[ListingEntry],
 ) -> Result<(), AllocError>
     ensures { OnOk result (map line_view listings.new.items
-        ≡ map line_view listings.old.items ++ map (line_of dir.now) (map row_view modules.now)) }
+        ≡ map line_view listings.old.items ++ map (line_of dir.now) (map listing_entry_view modules.now)) }
 {
     let mut rest = modules;
     while let [module, after @ ..] = rest {

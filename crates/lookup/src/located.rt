@@ -3,10 +3,10 @@ ghost use Rattle.std.specs.Prelude.{◌≡◌, ◌<◌, ◌≤◌, false};
 ghost use Rattle.modulename.specs.ModuleName.{is_module_name};
 ghost use Rattle.filetree.specs.Agreement.{FailsAt, Narrows, InEachPair};
 ghost use Rattle.search.specs.Looked.{LooksAt};
-ghost use Rattle.search.specs.Answers.{Tells, is_failure};
-ghost use Rattle.defaultfiles.specs.Leaves.{Leaves};
+ghost use Rattle.search.specs.Answers.{AnswersOverTree, is_failure};
+ghost use Rattle.defaultfiles.specs.DefaultFileResults.{Leaves};
 ghost use Rattle.lookup.specs.Located.{Located};
-ghost use Rattle.lookup.specs.LocatedViews.{place_view};
+ghost use Rattle.lookup.specs.LocatedViews.{located_module_view};
 
 use defaultfiles::Evaluated;
 use filetree::{FindFault, Tree};
@@ -40,7 +40,8 @@ pub fn locate<T: Tree>(
 ) -> Result<Found, FindFault>
     ensures before { Narrows (T.agrees tree.old) (T.agrees tree.new) }
     ensures later { T.failures tree.old ≤ T.failures tree.new }
-    ensures told { Tells (T.agrees tree.new) (T.failures tree.old < T.failures tree.new) place_view result
+    ensures over_tree { AnswersOverTree (T.agrees tree.new)
+        (T.failures tree.old < T.failures tree.new) located_module_view result
         (λ files folders. Located (Leaves limits) files folders modulepath.now name.now) }
     ensures failed { FailsAt is_failure (T.failed tree.old) (T.failed tree.new) result (λ at.
         InEachPair (T.agrees tree.new) (λ files folders.

@@ -1,7 +1,7 @@
 -- The text of a message (own): an inserted text between two others.
 use Rattle.std.specs.Prelude.{ℕ, List, [], ◌++◌, codes, decimal}
-use Rattle.message.specs.declared.Word.{Word}
-use Rattle.message.specs.declared.Word.TheVariants.{Nothing, Name, Number, Line}
+use Rattle.message.specs.declared.Subject.{Subject}
+use Rattle.message.specs.declared.Subject.TheVariants.{Nothing, Name, Number, Line}
 use Rattle.message.specs.declared.Message.{Message}
 
 -- a text is its bytes
@@ -10,7 +10,7 @@ Text = List ℕ
 
 -- a text between two others
 abbrev pub around : Text → Text → Text → Text
-around before word after = before ++ (word ++ after)
+around before subject after = before ++ (subject ++ after)
 
 -- a message and a byte offset after it
 abbrev pub at_byte : Text → ℕ → Text
@@ -26,15 +26,15 @@ at_line text line = text ++ line_text line
 
 -- a message that ends with a quoted name
 abbrev pub quoting : Text → Text → Text
-quoting before word = around before word (codes "'")
+quoting before subject = around before subject (codes "'")
 
 -- the text that is inserted
-abbrev pub word_text : Word → Text
-word_text Nothing = []
-word_text (Name name) = name.now
-word_text (Number n) = decimal n
-word_text (Line n) = line_text n
+abbrev pub subject_text : Subject → Text
+subject_text Nothing = []
+subject_text (Name name) = name.now
+subject_text (Number n) = decimal n
+subject_text (Line n) = line_text n
 
 -- the whole text
 abbrev pub text_of : Message → Text
-text_of message = around message.before.now (word_text message.word) message.after.now
+text_of message = around message.before.now (subject_text message.subject) message.after.now

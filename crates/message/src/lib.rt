@@ -1,20 +1,19 @@
 //! The texts of faults and reports: a message has parts, so that it is shown and written without taking memory.
 //! Touches nothing but the text or writer that it is shown on, and takes no memory.
-//! Used by every crate whose faults have a text: a fault has one function `message`, whose clause states the text, and
-//! its `Display` and the error line of a command are both made from it.
+//! Used by every crate whose faults have a text: a fault's `message` makes its `Display` and its error line.
 #![tactic(auto)]
 
 ghost use Rattle.std.specs.Prelude.{◌≡◌, Some};
 ghost use Rattle.std.specs.List.{flat_map};
 ghost use Rattle.message.specs.Messages as messages;
-ghost use Rattle.message.specs.Messages.{around, text_of, word_text};
+ghost use Rattle.message.specs.Messages.{around, text_of, subject_text};
 
 use itoa::Buffer;
 use std::fmt;
 
 /// What a message is about: what is inserted between its two texts.
 #[derive(Clone, Copy, Debug, PartialEq, Eq)]
-pub enum Word<'a> {
+pub enum Subject<'a> {
     /// Nothing is inserted.
     Nothing,
     /// A name, a path or a word of a command line.
@@ -25,19 +24,19 @@ pub enum Word<'a> {
     Line(usize),
 }
 
-impl<'a> Word<'a> {
+impl<'a> Subject<'a> {
     /// The inserted text, in three parts. The digits of a number are written to the buffer.
     pub fn parts<'b>(&'b self, digits: &'b mut Buffer) -> [&'b str; 3]
-        ensures { flat_map (λ part. part.now) result ≡ word_text self.now }
+        ensures { flat_map (λ part. part.now) result ≡ subject_text self.now }
     {
         match self {
-            Word::Nothing => ["", "", ""],
-            Word::Name(name) => {
+            Subject::Nothing => ["", "", ""],
+            Subject::Name(name) => {
                 let name: &'b str = name;
                 ["", name, ""]
             }
-            Word::Number(n) => ["", digits.format(*n), ""],
-            Word::Line(n) => [" (line ", digits.format(*n), ")"],
+            Subject::Number(n) => ["", digits.format(*n), ""],
+            Subject::Line(n) => [" (line ", digits.format(*n), ")"],
         }
     }
 }
@@ -48,19 +47,19 @@ pub struct Message<'a> {
     /// The text before the inserted one.
     pub before: &'a str,
     /// What is inserted.
-    pub word: Word<'a>,
+    pub subject: Subject<'a>,
     /// The text after the inserted one.
     pub after: &'a str,
 }
 
 impl<'a> Message<'a> {
     /// A message of one text, with nothing inserted.
-    pub fn plain(text: &'a str) -> Message<'a>
+    pub fn of_text(text: &'a str) -> Message<'a>
         ensures { text_of result ≡ text.now }
     {
         Message {
             before: text,
-            word: Word::Nothing,
+            subject: Subject::Nothing,
             after: "",
         }
     }
@@ -71,7 +70,7 @@ impl<'a> Message<'a> {
     {
         Message {
             before,
-            word: Word::Name(name),
+            subject: Subject::Name(name),
             after,
         }
     }
@@ -89,7 +88,7 @@ impl<'a> Message<'a> {
     {
         Message {
             before,
-            word: Word::Number(at),
+            subject: Subject::Number(at),
             after: "",
         }
     }
@@ -100,7 +99,7 @@ impl<'a> Message<'a> {
     {
         Message {
             before: text,
-            word: Word::Line(line),
+            subject: Subject::Line(line),
             after: "",
         }
     }
@@ -111,8 +110,8 @@ impl<'a> Message<'a> {
     {
         let before: &'b str = self.before;
         let after: &'b str = self.after;
-        let [left, word, right] = self.word.parts(digits);
-        [before, left, word, right, after]
+        let [left, subject, right] = self.subject.parts(digits);
+        [before, left, subject, right, after]
     }
 }
 
@@ -121,11 +120,11 @@ impl<'a> fmt::Display for Message<'a> {
 
     fn fmt<W: fmt::Write>(&self, f: &mut fmt::Formatter<W>) -> fmt::Result {
         f.write_str(self.before)?;
-        match self.word {
-            Word::Nothing => {}
-            Word::Name(name) => f.write_str(name)?,
-            Word::Number(n) => write!(f, "{n}")?,
-            Word::Line(n) => write!(f, " (line {n})")?,
+        match self.subject {
+            Subject::Nothing => {}
+            Subject::Name(name) => f.write_str(name)?,
+            Subject::Number(n) => write!(f, "{n}")?,
+            Subject::Line(n) => write!(f, " (line {n})")?,
         }
         f.write_str(self.after)
     }

@@ -1,5 +1,5 @@
 //! The program `modcheck SHELL`: reports what the requests of standard input would do, and which modules are plain.
-//! Touches its arguments, its environment and the standard streams, and reads files and folders of the disk.
+//! Touches its arguments, its environment and the standard streams, and reads files and directories of the disk.
 //! Nothing stands above it; it has no clause, so it has little code.
 #![tactic(auto)]
 

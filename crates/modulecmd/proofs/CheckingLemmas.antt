@@ -4,15 +4,15 @@ use Rattle.std.proofs.Common.{inl, inr}
 use Rattle.std.proofs.lemmas.Str.{IsUtf8-string_bytes, is_utf8-from_IsUtf8}
 use Rattle.std.specs.declared.alloc.Global.{Global}
 use Rattle.std.specs.Str.{is_utf8}
-use Rattle.environment.specs.Texts.{Text}
-use Rattle.environment.specs.Environment.{Environment}
+use Rattle.envvars.specs.Texts.{Text}
+use Rattle.envvars.specs.Environment.{Environment}
 use Rattle.filetree.specs.Agreement.{Files, Listings}
 use Rattle.sessioncheck.specs.Reports.{report_of}
 use Rattle.modulecmd.specs.declared.checking.CheckAnswer.{CheckAnswer}
-use Rattle.modulecmd.specs.declared.ends.Exit.{Exit}
-use Rattle.modulecmd.specs.declared.ends.Exit.TheVariants.{Success, Told, CutShort}
-use Rattle.modulecmd.specs.declared.refuse.CommandFault.{CommandFault}
-use Rattle.modulecmd.specs.Checking.{EndsCheck, IsCheckFault, TellsWhether, writing_of}
+use Rattle.modulecmd.specs.declared.command_exit.Exit.{Exit}
+use Rattle.modulecmd.specs.declared.command_exit.Exit.TheVariants.{Success, Reported, CutShort}
+use Rattle.modulecmd.specs.declared.command_fault.CommandFault.{CommandFault}
+use Rattle.modulecmd.specs.Checking.{EndsCheck, IsCheckFault, ShowsWhetherAccepted, writing_of}
 use Rattle.modulecmd.specs.CheckWords.{IsCheckAnswer, exit_of}
 use Rattle.modulecmd.specs.Output.{FinishesWriting, WritesFault}
 use Rattle.modulecmd.proofs.WriterLemmas.{keeps_same}
@@ -24,14 +24,14 @@ readable s = is_utf8-from_IsUtf8 (string_bytes s) (IsUtf8-string_bytes s)
 writes_so : (exit : Exit) (accepted : Bool) → writing_of (exit_of exit accepted) ≡ exit
 writes_so Success true = refl
 writes_so Success false = refl
-writes_so Told accepted = refl
+writes_so Reported accepted = refl
 writes_so CutShort accepted = refl
 
-tells_so : (exit : Exit) (accepted : Bool) → TellsWhether (exit_of exit accepted) accepted
-tells_so Success true = refl
-tells_so Success false = refl
-tells_so Told accepted = tt
-tells_so CutShort accepted = tt
+exit_shows : (exit : Exit) (accepted : Bool) → ShowsWhetherAccepted (exit_of exit accepted) accepted
+exit_shows Success true = refl
+exit_shows Success false = refl
+exit_shows Reported accepted = tt
+exit_shows CutShort accepted = tt
 
 -- an answer that was written, or the first part of it before a failed write
 pub checked : (exit : Exit) (agrees : Files → Listings → Type 0) (before now : ℕ) (e : Environment) (arguments : List Text) (input input' out out' err err' : Option Text) (a : CheckAnswer)
@@ -40,7 +40,7 @@ pub checked : (exit : Exit) (agrees : Files → Listings → Type 0) (before now
 checked exit agrees before now e arguments input input' out out' err err' a is h =
     let end = exit_of exit a.is_accepted in
     let Writes : Exit → Text → Type 0 = λ x report. FinishesWriting x report (string_bytes a.text) out out' err err' in
-    let Whether : Bool → Type 0 = λ b. TellsWhether end b in
+    let Whether : Bool → Type 0 = λ b. ShowsWhetherAccepted end b in
     inl (
       is.shell,
       is.found,
@@ -48,7 +48,7 @@ checked exit agrees before now e arguments input input' out out' err err' a is h
       (
         string_bytes a.text,
         is.says,
-        subst Whether is.accepted (tells_so exit a.is_accepted),
+        subst Whether is.accepted (exit_shows exit a.is_accepted),
         subst (λ x. Writes x (report_of is.found)) (sym (writes_so exit a.is_accepted)) (subst (λ report. Writes exit report) is.report h),
       ),
     )

@@ -1,39 +1,39 @@
 -- The effect of a command, from its request and the step of that.
 use Rattle.std.proofs.Common.{◌≡◌, ◌∙◌, ℕ, List, Result, Ok, Err, string_bytes, ap, subst, sym, refl}
-use Rattle.environment.specs.Texts.{Text}
-use Rattle.environment.specs.Environment.{Environment}
-use Rattle.environment.specs.Changes.{NewValue, AreChanges, new_values_in}
+use Rattle.envvars.specs.Texts.{Text}
+use Rattle.envvars.specs.Environment.{Environment}
+use Rattle.envvars.specs.Changes.{NewValue, AreChanges, new_values_in}
 use Rattle.filetree.specs.Agreement.{Files, Listings, InEachPair}
 use Rattle.shells.specs.declared.shell.Shell.{Shell}
 use Rattle.shelltext.specs.Printing.{IsPrintFault, IsUnsayable}
-use Rattle.shelltext.specs.Reading.{OneEffect, DifferenceMakes, IsText, SaysDifference}
+use Rattle.shelltext.specs.Reading.{OneEffect, DifferenceMakes, TextSays, SaysDifference}
 use Rattle.shelltext.specs.declared.print.PrintFault.{PrintFault}
 use Rattle.shelltext.specs.declared.print.PrintFault.TheVariants as prints
 use Rattle.reversal.specs.Laws.{Holds}
-use Rattle.reversal.specs.Runs.{live_after, AreFit}
-use Rattle.relations.specs.Relations.{After}
+use Rattle.reversal.specs.Runs.{live_after, AreReversibleTogether}
+use Rattle.filetree.specs.Relations.{After}
 use Rattle.requests.specs.Laws.{CommandsReturn, OneOutcome}
 use Rattle.requests.specs.Reasons.{RequestReason}
 use Rattle.requests.specs.Requests.{RequestedAction, Request}
 use Rattle.requests.specs.Steps.{Site, Done, RequestStep}
 use Rattle.filetree.specs.Causes.{Cause, memory, device, because, Applies}
-use Rattle.modulesteps.specs.Answers.{cause_of}
-use Rattle.modulesteps.specs.Messages.{memory_number, number_by}
+use Rattle.requeststep.specs.Answers.{cause_of}
+use Rattle.requeststep.specs.Messages.{memory_number, number_by}
 use Rattle.modules.specs.Replies.{site_in, changed_env, changed_view}
-use Rattle.modulecmd.specs.declared.refuse.CommandFault.{CommandFault}
-use Rattle.modulecmd.specs.declared.refuse.CommandFault.TheVariants.{Refused, Unprinted, UnknownShell, WriteFailed}
+use Rattle.modulecmd.specs.declared.command_fault.CommandFault.{CommandFault}
+use Rattle.modulecmd.specs.declared.command_fault.CommandFault.TheVariants.{Refused, Unprinted, UnknownShell, WriteFailed}
 use Rattle.modulecmd.specs.Command as command
-use Rattle.modulecmd.specs.Command.{CommandReason, Effect, CommandDoes, HasReason, IsNumbered, command_of, standard, with_shell}
+use Rattle.modulecmd.specs.Command.{CommandReason, CommandResult, CommandHasResult, HasReason, IsNumbered, command_of, standard, with_shell}
 use Rattle.modulecmd.specs.declared.command.Answer.{Answer}
-use Rattle.modulecmd.specs.Output.{IsAnswer, LeadsBack}
+use Rattle.modulecmd.specs.Output.{IsAnswer, ReturnsToStart}
 use Rattle.modulecmd.specs.Words.{effect_in}
 
 pub does : (arguments : List Text) (e : Environment) (files : Files) (listings : Listings) (r : Request) (o : Result Done RequestReason)
-    → command_of arguments ≡ Ok r → RequestStep (site_in standard r.0 files listings) e r.1 o → CommandDoes arguments e files listings (with_shell r.0 o)
+    → command_of arguments ≡ Ok r → RequestStep (site_in standard r.0 files listings) e r.1 o → CommandHasResult arguments e files listings (with_shell r.0 o)
 does arguments e files listings r o made step = (Ok r, sym made, (o, step, refl))
 
 pub makes_none : (arguments : List Text) (e : Environment) (files : Files) (listings : Listings) (reason : CommandReason)
-    → command_of arguments ≡ Err reason → CommandDoes arguments e files listings (Err reason)
+    → command_of arguments ≡ Err reason → CommandHasResult arguments e files listings (Err reason)
 makes_none arguments e files listings reason made = (Err reason, sym made, refl)
 
 pub stands_so : (c : Cause RequestReason) (Is Is' : RequestReason → Type 0) (failed failed' : Type 0) → ((r : RequestReason) → Is r → Is' r) → (failed → failed') → Applies c failed Is → Applies c failed' Is'
@@ -52,10 +52,10 @@ has_reason (Unprinted prints.OutOfMemory) Is Is' Lacks Lacks' failed failed' mor
 has_reason (Unprinted (prints.NotSayable name)) Is Is' Lacks Lacks' failed failed' more lacks fails h = lacks _ h
 has_reason WriteFailed Is Is' Lacks Lacks' failed failed' more lacks fails h = absurd h
 
-cause_numbered : (wanting : ℕ) (c : Cause RequestReason) → Applies c (number_by wanting c ≡ 43) (λ r. number_by wanting c ≡ command.reason_number (command.because r))
-cause_numbered wanting memory = tt
-cause_numbered wanting device = refl
-cause_numbered wanting (because r) = refl
+cause_numbered : (out_of_memory : ℕ) (c : Cause RequestReason) → Applies c (number_by out_of_memory c ≡ 43) (λ r. number_by out_of_memory c ≡ command.reason_number (command.because r))
+cause_numbered out_of_memory memory = tt
+cause_numbered out_of_memory device = refl
+cause_numbered out_of_memory (because r) = refl
 
 -- a fault with a cause has the number of that
 pub numbered : (fault : CommandFault) (Is : CommandReason → Type 0) (Lacks : Text → Type 0) (failed : Type 0) → HasReason fault Is Lacks failed → IsNumbered fault
@@ -66,27 +66,27 @@ numbered (Unprinted (prints.NotSayable name)) Is Lacks failed h = refl
 numbered WriteFailed Is Lacks failed h = absurd h
 
 -- one outcome of the request is one of the command
-taken_once : (r : Request) (x y : Result Done RequestReason) (o p : Result Effect CommandReason) → x ≡ y → o ≡ with_shell r.0 x → p ≡ with_shell r.0 y → o ≡ p
+taken_once : (r : Request) (x y : Result Done RequestReason) (o p : Result CommandResult CommandReason) → x ≡ y → o ≡ with_shell r.0 x → p ≡ with_shell r.0 y → o ≡ p
 taken_once r x y o p same a b = a ∙ (ap (with_shell r.0) same ∙ sym b)
 
-made_once : (e : Environment) (files : Files) (listings : Listings) (made : Result Request CommandReason) (o p : Result Effect CommandReason) → OneOutcome
-    → After (λ r. command.Takes r e files listings) made o → After (λ r. command.Takes r e files listings) made p → o ≡ p
+made_once : (e : Environment) (files : Files) (listings : Listings) (made : Result Request CommandReason) (o p : Result CommandResult CommandReason) → OneOutcome
+    → After (λ r. command.RequestHasEffect r e files listings) made o → After (λ r. command.RequestHasEffect r e files listings) made p → o ≡ p
 made_once e files listings (Ok r) o p one (x, h, a) (y, k, b) = taken_once r x y o p (one (site_in standard r.0 files listings) e r.1 x y h k) a b
 made_once e files listings (Err reason) o p one a b = a ∙ sym b
 
 pub does_once : OneOutcome → command.OneCommand
 does_once one arguments e files listings o p (x, made, a) (y, made', b) =
-    let After-of : Result Request CommandReason → Result Effect CommandReason → Type 0 = λ z q. After (λ r. command.Takes r e files listings) z q in
+    let After-of : Result Request CommandReason → Result CommandResult CommandReason → Type 0 = λ z q. After (λ r. command.RequestHasEffect r e files listings) z q in
     made_once e files listings (command_of arguments) o p one (subst (λ z. After-of z o) made a) (subst (λ z. After-of z p) made' b)
 
 -- the text of a step returns to the start as the step does
-pub leads_back : CommandsReturn → OneEffect → DifferenceMakes → (s : Site) (e : Environment) (asked : RequestedAction) (f : Effect) (text : Text)
-    → RequestStep s e asked (Ok f.1) → SaysDifference f.0 text e f.1.env → LeadsBack e f text
-leads_back returns one makes s e asked f text step says =
-    λ ways start new live is_start in_order stands fit is_new fitting made.
-    let P : Environment → Type 0 = λ x. Holds ways start (live_after live f.1.moves) x × AreFit ways (live_after live f.1.moves) in
+pub returns_to_start : CommandsReturn → OneEffect → DifferenceMakes → (s : Site) (e : Environment) (asked : RequestedAction) (f : CommandResult) (text : Text)
+    → RequestStep s e asked (Ok f.1) → SaysDifference f.0 text e f.1.env → ReturnsToStart e f text
+returns_to_start returns one makes s e asked f text step says =
+    λ uses start new live is_start in_order start_with_live fit is_new fitting made.
+    let P : Environment → Type 0 = λ x. Holds uses start (live_after live f.1.moves) x × AreReversibleTogether uses (live_after live f.1.moves) in
     subst P (one f.0 text e f.1.env new (makes f.0 text e f.1.env says) made)
-    (returns ways s start e live asked f.1 is_start in_order stands fit step is_new fitting)
+    (returns uses s start e live asked f.1 is_start in_order start_with_live fit step is_new fitting)
 
 -- the cause of a text that isn't there
 pub unprinted : (shell : Shell) (ss : List NewValue) (fault : PrintFault) (Is : CommandReason → Type 0) (Lacks : Text → Type 0) (failed : Type 0)
@@ -98,13 +98,13 @@ unprinted shell ss (prints.NotSayable name) Is Lacks failed lacks h = lacks (str
 pub answers : CommandsReturn → OneEffect → DifferenceMakes → (agrees : Files → Listings → Type 0) (arguments : List Text) (e : Environment) (r : Request) (a : Answer)
     → command_of arguments ≡ Ok r → a.shell ≡ r.0
     → InEachPair agrees (λ files listings. RequestStep (site_in standard r.0 files listings) e r.1 (Ok (changed_view e a.changed)))
-    → AreChanges e (changed_env e a.changed) (new_values_in a.changed.changes) → IsText r.0 (string_bytes a.text) (new_values_in a.changed.changes)
-    → IsAnswer agrees e (CommandDoes arguments e) (effect_in e a) (string_bytes a.text)
+    → AreChanges e (changed_env e a.changed) (new_values_in a.changed.changes) → TextSays r.0 (string_bytes a.text) (new_values_in a.changed.changes)
+    → IsAnswer agrees e (CommandHasResult arguments e) (effect_in e a) (string_bytes a.text)
 answers returns one makes agrees arguments e r a made shell step exact says =
-    let Read : Shell → Type 0 = λ s. IsText s (string_bytes a.text) (new_values_in a.changed.changes) in
+    let Read : Shell → Type 0 = λ s. TextSays s (string_bytes a.text) (new_values_in a.changed.changes) in
     let difference : SaysDifference a.shell (string_bytes a.text) e (changed_env e a.changed) = record { changes = new_values_in a.changed.changes; exact = exact; says = subst Read (sym shell) says } in
-    let Came : Shell → Files → Listings → Type 0 = λ s files listings. CommandDoes arguments e files listings (Ok (s, changed_view e a.changed)) in (
-      λ files listings agreed. subst (λ s. Came s files listings) (sym shell) (does arguments e files listings r (Ok (changed_view e a.changed)) made (step files listings agreed)),
+    let PrintsFor : Shell → Files → Listings → Type 0 = λ s files listings. CommandHasResult arguments e files listings (Ok (s, changed_view e a.changed)) in (
+      λ files listings agreed. subst (λ s. PrintsFor s files listings) (sym shell) (does arguments e files listings r (Ok (changed_view e a.changed)) made (step files listings agreed)),
       difference,
-      λ files listings agreed. leads_back returns one makes (site_in standard r.0 files listings) e r.1 (effect_in e a) (string_bytes a.text) (step files listings agreed) difference,
+      λ files listings agreed. returns_to_start returns one makes (site_in standard r.0 files listings) e r.1 (effect_in e a) (string_bytes a.text) (step files listings agreed) difference,
     )

@@ -3,13 +3,13 @@ use Rattle.std.proofs.Common.{◌≡◌, ◌⊎◌, ◌++◌, List, [], ◌∷�
 use Rattle.std.specs.List.{flat_map}
 use Rattle.std.specs.Io.KnownBytes.{Keeps}
 use Rattle.filetree.specs.Agreement.{Files, Listings}
-use Rattle.environment.specs.Texts.{Text}
-use Rattle.environment.specs.Environment.{Environment}
-use Rattle.modulecmd.specs.declared.ends.Exit.{Exit}
-use Rattle.modulecmd.specs.declared.ends.Exit.TheVariants.{Success, Told, CutShort}
-use Rattle.modulecmd.specs.declared.refuse.CommandFault.TheVariants.{WriteFailed}
+use Rattle.envvars.specs.Texts.{Text}
+use Rattle.envvars.specs.Environment.{Environment}
+use Rattle.modulecmd.specs.declared.command_exit.Exit.{Exit}
+use Rattle.modulecmd.specs.declared.command_exit.Exit.TheVariants.{Success, Reported, CutShort}
+use Rattle.modulecmd.specs.declared.command_fault.CommandFault.TheVariants.{WriteFailed}
 use Rattle.modulecmd.specs.declared.command.Answer.{Answer}
-use Rattle.modulecmd.specs.Output.{BreaksOff, EndsCommand, FinishesWriting, IsAnswer, Outcomes, WritesFault, said}
+use Rattle.modulecmd.specs.Output.{BreaksOff, EndsCommand, FinishesWriting, IsAnswer, ResultRelation, WritesFault, standard_error_text}
 use Rattle.modulecmd.specs.Words.{effect_in, words_of}
 use Rattle.modulecmd.specs.Writing.{AppendsPart}
 
@@ -25,7 +25,7 @@ no_success words text out out' err err' (inr h) = h.1
 
 pub finishes : (exit : Exit) (words text : Text) (out out' err err' : Option Text) → Half exit words text out out' err err' → FinishesWriting exit words text out out' err err'
 finishes Success words text out out' err err' h = absurd (no_success words text out out' err err' h)
-finishes Told words text out out' err err' h = h
+finishes Reported words text out out' err err' h = h
 finishes CutShort words text out out' err err' h = h
 
 pub flat_map_map : {X Y Z : Type 0} (f : Y → List Z) (g : X → Y) (xs : List X) → flat_map (λ x. f (g x)) xs ≡ flat_map f (map g xs)
@@ -33,12 +33,12 @@ flat_map_map f g [] = refl
 flat_map_map f g (x ∷ xs) = ap (λ zs. f (g x) ++ zs) (flat_map_map f g xs)
 
 -- what the program writes is the text for standard error
-pub words_said : (e : Environment) (a : Answer) → words_of a ≡ said (effect_in e a).1
-words_said e a = ap (λ zs. zs ++ string_bytes a.changed.report) (flat_map_map (λ message. message) string_bytes a.changed.messages.items)
+pub words_are_standard_error : (e : Environment) (a : Answer) → words_of a ≡ standard_error_text (effect_in e a).1
+words_are_standard_error e a = ap (λ zs. zs ++ string_bytes a.changed.report) (flat_map_map (λ message. message) string_bytes a.changed.messages.items)
 
 -- the end of a command whose answer was written
-pub answered : (exit : Exit) (agrees : Files → Listings → Type 0) (failed : Type 0) (e : Environment) (Does : Outcomes) (a : Answer) (out out' err err' : Option Text)
+pub answered : (exit : Exit) (agrees : Files → Listings → Type 0) (failed : Type 0) (e : Environment) (Does : ResultRelation) (a : Answer) (out out' err err' : Option Text)
     → IsAnswer agrees e Does (effect_in e a) (string_bytes a.text) → FinishesWriting exit (words_of a) (string_bytes a.text) out out' err err' → EndsCommand exit agrees failed e Does out out' err err'
 answered exit agrees failed e Does a out out' err err' is h =
     let P : Text → Type 0 = λ words. FinishesWriting exit words (string_bytes a.text) out out' err err' in
-    inl (effect_in e a, string_bytes a.text, is, subst P (words_said e a) h)
+    inl (effect_in e a, string_bytes a.text, is, subst P (words_are_standard_error e a) h)

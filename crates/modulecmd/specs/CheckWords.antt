@@ -1,7 +1,7 @@
 -- What a check is to write, for the contracts of this crate's private functions.
 use Rattle.std.specs.Prelude.{◌≡◌, ℕ, Bool, true, false, List, Option, string_bytes}
-use Rattle.environment.specs.Texts.{Text}
-use Rattle.environment.specs.Environment.{Environment}
+use Rattle.envvars.specs.Texts.{Text}
+use Rattle.envvars.specs.Environment.{Environment}
 use Rattle.filetree.specs.Agreement.{Files, Listings}
 use Rattle.shells.specs.declared.shell.Shell.{Shell}
 use Rattle.shelltext.specs.Reading.{SaysDifference}
@@ -9,8 +9,8 @@ use Rattle.sessioncheck.specs.Checks.{all_accepted}
 use Rattle.sessioncheck.specs.Reports.{report_of}
 use Rattle.sessioncheck.specs.declared.checking.Findings.{Findings}
 use Rattle.modulecmd.specs.Checking.{ChecksInput}
-use Rattle.modulecmd.specs.declared.ends.Exit.{Exit}
-use Rattle.modulecmd.specs.declared.ends.Exit.TheVariants.{Success, Told, CutShort}
+use Rattle.modulecmd.specs.declared.command_exit.Exit.{Exit}
+use Rattle.modulecmd.specs.declared.command_exit.Exit.TheVariants.{Success, Reported, CutShort}
 use Rattle.modulecmd.specs.declared.checking.CheckExit.{CheckExit}
 use Rattle.modulecmd.specs.declared.checking.CheckExit.TheVariants as exits
 use Rattle.modulecmd.specs.declared.checking.CheckAnswer.{CheckAnswer}
@@ -33,5 +33,5 @@ written false = exits.SomeRefused
 -- how a check ended, by how its writing ended
 abbrev pub exit_of : Exit → Bool → CheckExit
 exit_of Success accepted = written accepted
-exit_of Told accepted = exits.Told
+exit_of Reported accepted = exits.Reported
 exit_of CutShort accepted = exits.CutShort

@@ -3,11 +3,11 @@ use Rattle.std.specs.Prelude.{◌≡◌, ◌⊎◌, ◌≤◌, ℕ, Bool, true, 
 use Rattle.std.specs.Prelude.{Ok, Err}
 use Rattle.std.specs.Io.KnownBytes.{Keeps}
 use Rattle.std.specs.Str.{is_utf8}
-use Rattle.environment.specs.Texts.{Text}
-use Rattle.environment.specs.Environment.{Environment}
+use Rattle.envvars.specs.Texts.{Text}
+use Rattle.envvars.specs.Environment.{Environment}
 use Rattle.filetree.specs.Agreement.{Files, Listings}
 use Rattle.processinput.specs.declared.input.InputFault.{InputFault}
-use Rattle.processinput.specs.Inputs.{GivesAll, Spoils, most_bytes}
+use Rattle.processinput.specs.Inputs.{ReadsAll, FailsAfterReading, input_limit}
 use Rattle.requests.specs.Reasons.{bad_arguments}
 use Rattle.shells.specs.declared.shell.Shell.{Shell}
 use Rattle.shells.specs.Shells.{shell_named}
@@ -17,9 +17,9 @@ use Rattle.sessioncheck.specs.Reports.{report_of}
 use Rattle.sessioncheck.specs.declared.checking.Findings.{Findings}
 use Rattle.modulecmd.specs.declared.checking.CheckExit.{CheckExit}
 use Rattle.modulecmd.specs.declared.checking.CheckExit.TheVariants as exits
-use Rattle.modulecmd.specs.declared.ends.Exit.{Exit}
-use Rattle.modulecmd.specs.declared.ends.Exit.TheVariants.{Success, Told, CutShort}
-use Rattle.modulecmd.specs.declared.refuse.CommandFault.{CommandFault}
+use Rattle.modulecmd.specs.declared.command_exit.Exit.{Exit}
+use Rattle.modulecmd.specs.declared.command_exit.Exit.TheVariants.{Success, Reported, CutShort}
+use Rattle.modulecmd.specs.declared.command_fault.CommandFault.{CommandFault}
 use Rattle.modulecmd.specs.Command.{CommandReason, HasReason, LacksText, because, of_input, standard, unknown_shell}
 use Rattle.modulecmd.specs.Output.{FinishesWriting, Refuses}
 
@@ -40,8 +40,8 @@ pub record ChecksInput (agrees : Files → Listings → Type 0) (before now : �
     (input input' : Option Text) (shell : Shell) (found : Findings) : Type 0 where
   pub named : shell_of arguments ≡ Ok shell
   pub text : Text
-  pub given : GivesAll input input' text
-  pub within : length text ≤ most_bytes
+  pub given : ReadsAll input input' text
+  pub within : length text ≤ input_limit
   pub readable : is_utf8 text ≡ true
   pub check : IsCheck agrees before now standard shell e text found
 
@@ -49,22 +49,22 @@ pub record ChecksInput (agrees : Files → Listings → Type 0) (before now : �
 abbrev pub writing_of : CheckExit → Exit
 writing_of exits.AllAccepted = Success
 writing_of exits.SomeRefused = Success
-writing_of exits.Told = Told
+writing_of exits.Reported = Reported
 writing_of exits.CutShort = CutShort
 
 -- where all was written, the exit says whether each line was accepted
-abbrev pub TellsWhether : CheckExit → Bool → Type 0
-TellsWhether exits.AllAccepted accepted = accepted ≡ true
-TellsWhether exits.SomeRefused accepted = accepted ≡ false
-TellsWhether exits.Told accepted = Unit {0}
-TellsWhether exits.CutShort accepted = Unit {0}
+abbrev pub ShowsWhetherAccepted : CheckExit → Bool → Type 0
+ShowsWhetherAccepted exits.AllAccepted accepted = accepted ≡ true
+ShowsWhetherAccepted exits.SomeRefused accepted = accepted ≡ false
+ShowsWhetherAccepted exits.Reported accepted = Unit {0}
+ShowsWhetherAccepted exits.CutShort accepted = Unit {0}
 
 -- What a check writes: its report on standard error, and on standard output a text that says for the shell exactly what
 -- its lines change from first to last; or the first part of these before a failed write.
-abbrev pub LeavesCheck : CheckExit → Environment → Shell → Findings → Option Text → Option Text → Option Text
+abbrev pub WritesCheck : CheckExit → Environment → Shell → Findings → Option Text → Option Text → Option Text
     → Option Text → Type 0
-LeavesCheck exit e shell found out out' err err' =
-    (text : Text) × SaysDifference shell text e found.env × TellsWhether exit (all_accepted found)
+WritesCheck exit e shell found out out' err err' =
+    (text : Text) × SaysDifference shell text e found.env × ShowsWhetherAccepted exit (all_accepted found)
     × FinishesWriting (writing_of exit) (report_of found) text out out' err err'
 
 -- The arguments name no shell, and nothing is read.
@@ -74,13 +74,13 @@ IsUnnamed arguments input input' reason = (shell_of arguments ≡ Err reason) ×
 -- The arguments name a shell, and the input is spoilt.
 abbrev pub IsUnread : List Text → Option Text → Option Text → CommandFault → Type 0
 IsUnread arguments input input' fault =
-    (shell : Shell) × (spoilt : InputFault) × (shell_of arguments ≡ Ok shell) × Spoils spoilt input input'
+    (shell : Shell) × (spoilt : InputFault) × (shell_of arguments ≡ Ok shell) × FailsAfterReading spoilt input input'
     × (fault ≡ of_input spoilt)
 
 -- The check has changes for which the shell has no text.
-abbrev pub IsUnsaidCheck : (Files → Listings → Type 0) → ℕ → ℕ → Environment → List Text → Option Text → Option Text
+abbrev pub CheckLacksText : (Files → Listings → Type 0) → ℕ → ℕ → Environment → List Text → Option Text → Option Text
     → Text → Type 0
-IsUnsaidCheck agrees before now e arguments input input' name =
+CheckLacksText agrees before now e arguments input input' name =
     (shell : Shell) × (found : Findings) × ChecksInput agrees before now e arguments input input' shell found
     × LacksText shell e found.env name
 
@@ -89,7 +89,7 @@ IsUnsaidCheck agrees before now e arguments input input' name =
 abbrev pub IsCheckFault : (Files → Listings → Type 0) → ℕ → ℕ → Environment → List Text → Option Text → Option Text
     → CommandFault → Type 0
 IsCheckFault agrees before now e arguments input input' fault =
-    HasReason fault (IsUnnamed arguments input input') (IsUnsaidCheck agrees before now e arguments input input') ⊥
+    HasReason fault (IsUnnamed arguments input input') (CheckLacksText agrees before now e arguments input input') ⊥
     ⊎ IsUnread arguments input input' fault
 
 -- What a check writes, by how it ended: what it found, or a fault and nothing else.
@@ -97,7 +97,7 @@ abbrev pub EndsCheck : CheckExit → (Files → Listings → Type 0) → ℕ →
     → Option Text → Option Text → Option Text → Option Text → Option Text → Type 0
 EndsCheck exit agrees before now e arguments input input' out out' err err' =
     ((shell : Shell) × (found : Findings) × ChecksInput agrees before now e arguments input input' shell found
-    × LeavesCheck exit e shell found out out' err err')
+    × WritesCheck exit e shell found out out' err err')
     ⊎ ((fault : CommandFault) × IsCheckFault agrees before now e arguments input input' fault
     × Refuses (writing_of exit) fault out out' err err')
 
@@ -105,5 +105,5 @@ EndsCheck exit agrees before now e arguments input input' out out' err err' =
 abbrev pub check_status : CheckExit → ℕ
 check_status exits.AllAccepted = 0
 check_status exits.SomeRefused = 1
-check_status exits.Told = 1
+check_status exits.Reported = 1
 check_status exits.CutShort = 1

@@ -1,10 +1,10 @@
--- What a command line asks for and what that makes of an environment, over the files and folders of a tree (module(1)).
+-- What a command line asks for and what that makes of an environment, over the files and directories of a tree (module(1)).
 use Rattle.std.specs.Prelude.{◌≡◌, ℕ, List, [], ◌∷◌, Option, Some, None, Result, Ok, Err, string_bytes}
-use Rattle.environment.specs.Texts.{Text}
-use Rattle.environment.specs.Environment.{Environment}
-use Rattle.environment.specs.Changes.{NewValue, AreChanges}
+use Rattle.envvars.specs.Texts.{Text}
+use Rattle.envvars.specs.Environment.{Environment}
+use Rattle.envvars.specs.Changes.{NewValue, AreChanges}
 use Rattle.filetree.specs.Agreement.{Files, Listings}
-use Rattle.relations.specs.Relations.{Is, ◌>>◌}
+use Rattle.filetree.specs.Relations.{Is, ◌>>◌}
 use Rattle.shells.specs.declared.shell.Shell.{Shell}
 use Rattle.shells.specs.Shells.{shell_named}
 use Rattle.shelltext.specs.declared.print.PrintFault.TheVariants as prints
@@ -15,17 +15,17 @@ use Rattle.requests.specs.Reasons.{RequestReason, bad_arguments}
 use Rattle.requests.specs.Requests.{RequestedAction, Request, request_of}
 use Rattle.requests.specs.Steps.{Done, RequestStep}
 use Rattle.filetree.specs.Causes.{Applies}
-use Rattle.modulesteps.specs.Answers.{cause_of}
-use Rattle.modulesteps.specs.Messages as texts
-use Rattle.modulesteps.specs.declared.refusal.Refusal.TheVariants as refusals
+use Rattle.requeststep.specs.Answers.{cause_of}
+use Rattle.requeststep.specs.Messages as texts
+use Rattle.requeststep.specs.declared.refusal.Refusal.TheVariants as refusals
 use Rattle.modules.specs.Replies.{site_in}
-use Rattle.filetree.specs.declared.search.FindFault.TheVariants as finds
+use Rattle.filetree.specs.declared.find_fault.FindFault.TheVariants as finds
 use Rattle.processinput.specs.declared.input.InputFault.{InputFault}
 use Rattle.processinput.specs.declared.input.InputFault.TheVariants as inputs
 use Rattle.processinput.specs.declared.process.ArgumentsFault.{ArgumentsFault}
 use Rattle.processinput.specs.declared.process.ArgumentsFault.TheVariants as given
-use Rattle.modulecmd.specs.declared.refuse.CommandFault.{CommandFault}
-use Rattle.modulecmd.specs.declared.refuse.CommandFault.TheVariants.{Refused, Unprinted, UnknownShell, WriteFailed}
+use Rattle.modulecmd.specs.declared.command_fault.CommandFault.{CommandFault}
+use Rattle.modulecmd.specs.declared.command_fault.CommandFault.TheVariants.{Refused, Unprinted, UnknownShell, WriteFailed}
 
 -- Why a command is refused, apart from want of memory, a failed device, a failed write and changes without a text.
 pub data CommandReason : Type 0 where
@@ -53,23 +53,23 @@ abbrev pub standard : Limits
 standard = record { commands = 100000; depth = 200; value_bytes = 1048576 }
 
 -- what an accepted command does: the shell that reads its text, and what its request has done
-abbrev pub Effect : Type 0
-Effect = Shell × Done
+abbrev pub CommandResult : Type 0
+CommandResult = Shell × Done
 
 -- what the step has done, with the shell that reads the text
-abbrev pub with_shell : Shell → Result Done RequestReason → Result Effect CommandReason
+abbrev pub with_shell : Shell → Result Done RequestReason → Result CommandResult CommandReason
 with_shell shell (Ok done) = Ok (shell, done)
 with_shell shell (Err reason) = Err (because reason)
 
 -- the effect of a request, or its reason: by its step under the standard limits
-abbrev pub Takes : Request → Environment → Files → Listings → Result Effect CommandReason → Type 0
-Takes r e files listings o =
+abbrev pub RequestHasEffect : Request → Environment → Files → Listings → Result CommandResult CommandReason → Type 0
+RequestHasEffect r e files listings o =
     (step : Result Done RequestReason) × RequestStep (site_in standard r.0 files listings) e r.1 step
     × (o ≡ with_shell r.0 step)
 
--- The effect of a command with these arguments, or its reason, in this environment and over these files and folders.
-abbrev pub CommandDoes : List Text → Environment → Files → Listings → Result Effect CommandReason → Type 0
-CommandDoes arguments e files listings = Is (command_of arguments) >> (λ r. Takes r e files listings)
+-- The effect of a command with these arguments, or its reason, in this environment and over these files and directories.
+abbrev pub CommandHasResult : List Text → Environment → Files → Listings → Result CommandResult CommandReason → Type 0
+CommandHasResult arguments e files listings = Is (command_of arguments) >> (λ r. RequestHasEffect r e files listings)
 
 -- The changes from one environment to the other have no text in the shell: the first variable that no line can set or
 -- unset is this one.
@@ -117,5 +117,6 @@ of_input inputs.BadInput = Refused refusals.BadArguments
 -- A command has one effect at most, or one reason.
 abbrev pub OneCommand : Type 0
 OneCommand =
-    (arguments : List Text) (e : Environment) (files : Files) (listings : Listings) (o p : Result Effect CommandReason)
-    → CommandDoes arguments e files listings o → CommandDoes arguments e files listings p → o ≡ p
+    (arguments : List Text) (e : Environment) (files : Files) (listings : Listings)
+    (o p : Result CommandResult CommandReason)
+    → CommandHasResult arguments e files listings o → CommandHasResult arguments e files listings p → o ≡ p

@@ -1,10 +1,10 @@
 -- The texts of faults, and the line on standard error that says why a command is refused (own).
 use Rattle.std.specs.Prelude.{[], ◌∷◌, ◌++◌, codes, string_bytes}
 use Rattle.message.specs.Messages.{Text, quoting}
-use Rattle.modulesteps.specs.Messages as texts
+use Rattle.requeststep.specs.Messages as texts
 use Rattle.shelltext.specs.Printing.{print_message}
-use Rattle.modulecmd.specs.declared.refuse.CommandFault.{CommandFault}
-use Rattle.modulecmd.specs.declared.refuse.CommandFault.TheVariants.{Refused, Unprinted, UnknownShell, WriteFailed}
+use Rattle.modulecmd.specs.declared.command_fault.CommandFault.{CommandFault}
+use Rattle.modulecmd.specs.declared.command_fault.CommandFault.TheVariants.{Refused, Unprinted, UnknownShell, WriteFailed}
 
 -- the text of its layer's fault, or its own
 abbrev pub message_of : CommandFault → Text

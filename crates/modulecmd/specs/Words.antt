@@ -1,14 +1,14 @@
 -- The effect and the standard error of an answer, for the contracts of this crate's private functions.
 use Rattle.std.specs.Prelude.{◌++◌, string_bytes}
 use Rattle.std.specs.List.{flat_map}
-use Rattle.environment.specs.Environment.{Environment}
-use Rattle.environment.specs.Texts.{Text}
+use Rattle.envvars.specs.Environment.{Environment}
+use Rattle.envvars.specs.Texts.{Text}
 use Rattle.modules.specs.Replies.{changed_view}
 use Rattle.modulecmd.specs.declared.command.Answer.{Answer}
-use Rattle.modulecmd.specs.Command.{Effect}
+use Rattle.modulecmd.specs.Command.{CommandResult}
 
 -- the effect that the answer has in the environment
-abbrev pub effect_in : Environment → Answer → Effect
+abbrev pub effect_in : Environment → Answer → CommandResult
 effect_in e answer = (answer.shell, changed_view e answer.changed)
 
 -- what is to go to standard error: the messages of modulefiles, and then the report

@@ -8,10 +8,10 @@ ghost use Rattle.modulecmd.specs.Command.{HasReason};
 ghost use Rattle.modulecmd.specs.declared.checking.CheckExit.{CheckExit};
 
 use crate::command::STANDARD;
-use crate::ends::Exit;
-use crate::finishing::{finish, tell};
-use crate::refuse::CommandFault;
-use environment::{Env, changes};
+use crate::command_exit::Exit;
+use crate::command_fault::CommandFault;
+use crate::finishing::{finish, report_fault};
+use envvars::{Env, changes};
 use filetree::Tree;
 use modules::Refusal;
 use processinput::read_input;
@@ -29,7 +29,7 @@ pub enum CheckExit {
     /// A line was refused, and all is written.
     SomeRefused,
     /// Nothing was checked, or a write failed, and the line that says why is written.
-    Told,
+    Reported,
     /// The same, but the first part of that line is written, not all: writing it failed.
     CutShort,
 }
@@ -41,7 +41,7 @@ impl CheckExit {
     {
         match self {
             CheckExit::AllAccepted => 0,
-            CheckExit::SomeRefused | CheckExit::Told | CheckExit::CutShort => 1,
+            CheckExit::SomeRefused | CheckExit::Reported | CheckExit::CutShort => 1,
         }
     }
 }
@@ -107,7 +107,7 @@ fn exit_of(exit: Exit, is_accepted: bool) -> CheckExit
     match exit {
         Exit::Success if is_accepted => CheckExit::AllAccepted,
         Exit::Success => CheckExit::SomeRefused,
-        Exit::Told => CheckExit::Told,
+        Exit::Reported => CheckExit::Reported,
         Exit::CutShort => CheckExit::CutShort,
     }
 }
@@ -141,7 +141,7 @@ pub fn run_check<T: Tree, R: Read, W: Write, E: Write>(
             let exit = finish(&[], answer.report.as_str(), answer.text.as_str(), out, err);
             exit_of(exit, answer.is_accepted)
         }
-        Err(fault) => exit_of(tell(&fault, err), false),
+        Err(fault) => exit_of(report_fault(&fault, err), false),
     }
 }
 

@@ -2,16 +2,16 @@
 ghost use Rattle.std.specs.Prelude.{◌≡◌, ◌<◌, ◌≤◌, map, Ok, Err, IfOk, IfErr, string_bytes};
 ghost use Rattle.filetree.specs.Agreement.{Narrows};
 ghost use Rattle.requests.specs.RequestViews.{request_view};
-ghost use Rattle.modulecmd.specs.declared.ends.Exit.{Exit};
+ghost use Rattle.modulecmd.specs.declared.command_exit.Exit.{Exit};
 ghost use Rattle.modulecmd.specs.Command as spec;
-ghost use Rattle.modulecmd.specs.Command.{CommandDoes, HasReason};
+ghost use Rattle.modulecmd.specs.Command.{CommandHasResult, HasReason};
 ghost use Rattle.modulecmd.specs.Output.{EndsCommand, IsAnswer, IsCaused, status_of};
 ghost use Rattle.modulecmd.specs.Words.{effect_in};
 
-use crate::ends::Exit;
-use crate::finishing::{finish, tell};
-use crate::refuse::CommandFault;
-use environment::Env;
+use crate::command_exit::Exit;
+use crate::command_fault::CommandFault;
+use crate::finishing::{finish, report_fault};
+use envvars::Env;
 use filetree::Tree;
 use modules::{Changed, Limits, Refusal, Request, request, run_changes};
 use shells::Shell;
@@ -62,10 +62,11 @@ fn answer_of<T: Tree>(
     ensures before { Narrows (T.agrees tree.old) (T.agrees tree.new) }
     ensures later { T.failures tree.old ≤ T.failures tree.new }
     ensures answered { IfOk result (λ a.
-        IsAnswer (T.agrees tree.new) env.now (CommandDoes (map string_bytes args.now) env.now) (effect_in env.now a)
+        IsAnswer (T.agrees tree.new) env.now (CommandHasResult (map string_bytes args.now) env.now)
+        (effect_in env.now a)
         (string_bytes a.text)) }
     ensures refused { IfErr result (IsCaused (T.agrees tree.new) (T.failures tree.old < T.failures tree.new)
-        env.now (CommandDoes (map string_bytes args.now) env.now)) }
+        env.now (CommandHasResult (map string_bytes args.now) env.now)) }
 {
     requests::command_returns();
     shelltext::laws::one_effect();
@@ -107,7 +108,7 @@ pub fn run_command<T: Tree, W: Write, E: Write>(
     ensures before { Narrows (T.agrees tree.old) (T.agrees tree.new) }
     ensures later { T.failures tree.old ≤ T.failures tree.new }
     ensures ended { EndsCommand result (T.agrees tree.new) (T.failures tree.old < T.failures tree.new)
-        env (CommandDoes (map string_bytes args.now) env)
+        env (CommandHasResult (map string_bytes args.now) env)
         (W.contents out.old) (W.contents out.new) (E.contents err.old) (E.contents err.new) }
 {
     match answer_of(alloc, args, &env, tree) {
@@ -118,7 +119,7 @@ pub fn run_command<T: Tree, W: Write, E: Write>(
             out,
             err,
         ),
-        Err(fault) => tell(&fault, err),
+        Err(fault) => report_fault(&fault, err),
     }
 }
 
@@ -135,7 +136,7 @@ pub fn modulecmd<T: Tree, W: Write, E: Write>(
     ensures later { T.failures tree.old ≤ T.failures tree.new }
     ensures ended { (exit : Exit) × (result ≡ status_of exit)
         × EndsCommand exit (T.agrees tree.new) (T.failures tree.old < T.failures tree.new)
-        env (CommandDoes (map string_bytes args.now) env)
+        env (CommandHasResult (map string_bytes args.now) env)
         (W.contents out.old) (W.contents out.new) (E.contents err.old) (E.contents err.new) }
 {
     run_command(alloc, args, env, tree, out, err).status()

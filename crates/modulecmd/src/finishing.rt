@@ -5,17 +5,17 @@ ghost use Rattle.std.specs.Io.KnownBytes.{Keeps, Appends};
 ghost use Rattle.modulecmd.specs.Output.{FinishesWriting, WritesFault};
 ghost use Rattle.modulecmd.specs.Writing.{AppendsPart};
 
-use crate::ends::Exit;
-use crate::refuse::{CommandFault, write_refusal};
+use crate::command_exit::Exit;
+use crate::command_fault::{CommandFault, write_refusal};
 use crate::writers::{WriteFault, write_bytes, write_texts};
 use std::io::Write;
 
 /// Writes the line that says why a command is refused.
-pub(crate) fn tell<E: Write>(fault: &CommandFault, err: &mut E) -> Exit
+pub(crate) fn report_fault<E: Write>(fault: &CommandFault, err: &mut E) -> Exit
     ensures { WritesFault result (E.contents err.old) (E.contents err.new) [] fault.now }
 {
     match write_refusal(fault, err) {
-        Ok(()) => Exit::Told,
+        Ok(()) => Exit::Reported,
         Err(WriteFault) => Exit::CutShort,
     }
 }
@@ -57,5 +57,5 @@ pub(crate) fn finish<W: Write, E: Write>(
     if write_answer(messages, report, text, out, err).is_ok() {
         return Exit::Success;
     }
-    tell(&CommandFault::WriteFailed, err)
+    report_fault(&CommandFault::WriteFailed, err)
 }

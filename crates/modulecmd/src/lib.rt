@@ -1,35 +1,35 @@
 //! A whole command: the words of a command line in, the text for a shell and the messages out (module(1)).
-//! Takes memory; reads the files and folders (`Tree`) and the input, and writes to the writers, that it is given.
+//! Takes memory; reads the files and directories (`Tree`) and the input, and writes to the writers, that it is given.
 //! Used by the programs modulecmd_main and modcheck, and by every caller of the library.
 #![tactic(auto)]
 
 mod checking;
 mod command;
-mod ends;
+mod command_exit;
+mod command_fault;
 mod finishing;
 mod laws;
-mod refuse;
 mod writers;
 
 pub use checking::{CheckExit, modcheck, run_check};
 pub use command::{modulecmd, run_command};
-pub use ends::Exit;
-pub use environment::{Change, Env, EnvFault, changes};
+pub use command_exit::Exit;
+pub use command_fault::{CommandFault, write_refusal};
+pub use envloaded::{Loaded, add_loaded, conflicts_of, drop_loaded, loaded, prereqs_of};
+pub use envpaths::{End, add_path, drop_path};
+pub use envstacks::{pop_value, push_value};
+pub use envvars::{Change, Env, EnvFault, changes};
 pub use filetree::{DiskTree, MemoryTree, Tree, TreeFault};
 pub use laws::{commands_return, one_command};
-pub use loadedlist::{Loaded, add_loaded, conflicts_of, drop_loaded, loaded, prereqs_of};
 pub use lookup::{FindFault, Found, Listing, available, locate, version_order};
 pub use modules::{
     Action, Changed, Done, Limits, MissingNames, Module, Move, Outcome, Refusal, Reply, Request,
     Verdict, request, run, run_changes, session, verdict,
 };
-pub use pathstate::{End, add_path, drop_path};
 pub use processinput::{
     ArgumentsFault, InputFault, arguments, environment_block, environment_of, read_input,
 };
-pub use refuse::{CommandFault, write_refusal};
 pub use rehearsal::rehearse;
 pub use shells::Shell;
 pub use shelltext::{PrintFault, print_changes};
-pub use stackstate::{pop_value, push_value};
 pub use writers::WriteFault;

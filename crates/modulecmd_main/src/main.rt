@@ -1,5 +1,5 @@
 //! The program `modulecmd SHELL SUBCOMMAND [ARG...]`: prints the text by which the shell loads or unloads modules.
-//! Touches its arguments, its environment and the standard streams, and reads files and folders of the disk.
+//! Touches its arguments, its environment and the standard streams, and reads files and directories of the disk.
 //! Nothing stands above it; it has no clause, so it has little code.
 #![tactic(auto)]
 

@@ -6,38 +6,38 @@ use Rattle.std.specs.Fmt.{digits}
 use lib.Utf8.{encode}
 use Rattle.tclchars.specs.Runs.{Text}
 use Rattle.tclchars.specs.Braces.{braced_at}
-use Rattle.tclscript.specs.Passing.{pass}
-use Rattle.tclscript.specs.Reading.{whole_script, script_with, command_at, word_at, plain_word_at, braced_word_at, quoted_word_at, quotes_at, parts_with, part_at, dollar_at, backslash_at, bracket_at, index_at, braced_name_at, after_expansion, inner_at}
+use Rattle.tclscript.specs.ScanState.{scan}
+use Rattle.tclscript.specs.Reading.{whole_script, script_with, command_at, word_at, unexpanded_word_at, braced_word_at, quoted_word_at, quotes_at, parts_with, part_at, dollar_at, backslash_at, bracket_at, index_at, braced_name_at, after_expansion, inner_at}
 use Rattle.tclexpr.specs.Marks.{mark_at, after_white}
 use Rattle.tclexpr.specs.Operands.{operand_at, after_number, after_digits, is_truth, quoted_at, braced_text_at}
 use Rattle.tclexpr.specs.Operands as operands
 use Rattle.tclexpr.specs.Reading.{expr_at, whole_at, chain_at, climb_at, prefix_at, below_at}
-use Rattle.tcltext.specs.Numerals.{numeral}
+use Rattle.tclnumber.specs.Numerals.{numeral}
 use Rattle.tcllist.specs.ListReading.{list_of, list_at, element_at, piece_of, piece_at}
 use Rattle.tclvalue.specs.Messages as value_messages
 use Rattle.tclvalue.specs.Characters.{white_space, split_space}
-use Rattle.tclrules.specs.Messages.{no_variable, no_command, outside_loop, not_to_unset, is_array, bad_option, no_body, no_loop_variable, is_taken}
-use Rattle.tclrules.specs.Names.{left_out_commands, core_commands, module_commands, left_out_module_commands}
+use Rattle.tclrules.specs.Messages.{no_variable, no_command, outside_loop, cannot_unset, is_array, bad_option, no_body, no_loop_variable, cannot_redefine}
+use Rattle.tclrules.specs.Names.{unsupported_commands, core_commands, module_commands, unsupported_module_commands}
 use Rattle.tclrules.specs.Forms.{core_form}
 use Rattle.tclrules.specs.Derivation.{LeftOut}
-use Rattle.environment.specs.Environment.{Environment, with_value}
+use Rattle.envvars.specs.Environment.{Environment, with_value}
 use Rattle.modulerecords.specs.Records.{Set, Unset, Front, Back, Conflict}
 use Rattle.modulefile.specs.Calls.{call_of}
-use Rattle.modulefile.specs.Answers.{Context}
-use Rattle.modulefile.specs.Files.{Ran, Stop, halted, refused, failed, RunsFile, play}
+use Rattle.modulefile.specs.Answers.{FileContext}
+use Rattle.modulefile.specs.Files.{Ran, FileReason, halted, refused, failed, RunsFile, play}
 use Rattle.modulefile.specs.Rows.{standard, file, loading, unloading, showing}
 use Rattle.modulefile.proofs.PlayedFiles.{played_runs}
 
-pub computed : Context → Text → ℕ → Option (Result Ran Stop)
-unfolding chars digits encode braced_at pass whole_script script_with command_at word_at plain_word_at braced_word_at quoted_word_at quotes_at parts_with part_at dollar_at backslash_at bracket_at index_at braced_name_at after_expansion inner_at mark_at after_white operand_at after_number after_digits is_truth quoted_at braced_text_at operands.word_at expr_at whole_at chain_at climb_at prefix_at below_at numeral list_of list_at element_at piece_of piece_at value_messages.divide_by_zero value_messages.negative_shift value_messages.not_a_list value_messages.not_numeric value_messages.no_boolean value_messages.no_whole_number value_messages.bad_index value_messages.wrong_words white_space split_space no_variable no_command outside_loop not_to_unset is_array bad_option no_body no_loop_variable is_taken left_out_commands core_commands module_commands left_out_module_commands core_form call_of
+pub computed : FileContext → Text → ℕ → Option (Result Ran FileReason)
+unfolding chars digits encode braced_at scan whole_script script_with command_at word_at unexpanded_word_at braced_word_at quoted_word_at quotes_at parts_with part_at dollar_at backslash_at bracket_at index_at braced_name_at after_expansion inner_at mark_at after_white operand_at after_number after_digits is_truth quoted_at braced_text_at operands.word_at expr_at whole_at chain_at climb_at prefix_at below_at numeral list_of list_at element_at piece_of piece_at value_messages.divide_by_zero value_messages.negative_shift value_messages.not_a_list value_messages.not_numeric value_messages.not_a_boolean value_messages.not_a_whole_number value_messages.bad_index value_messages.wrong_words white_space split_space no_variable no_command outside_loop cannot_unset is_array bad_option no_body no_loop_variable cannot_redefine unsupported_commands core_commands module_commands unsupported_module_commands core_form call_of
 computed c text steps = play standard c text steps
 
-is_played : (c : Context) (text : Text) (steps : ℕ) → play standard c text steps ≡ computed c text steps
+is_played : (c : FileContext) (text : Text) (steps : ℕ) → play standard c text steps ≡ computed c text steps
 unfolding computed
 is_played c text steps = refl
 
 -- the outcome of a file that was played in so many steps
-pub comes : (c : Context) (text : Text) (steps : ℕ) (o : Result Ran Stop) → computed c text steps ≡ Some o → RunsFile standard c text o
+pub comes : (c : FileContext) (text : Text) (steps : ℕ) (o : Result Ran FileReason) → computed c text steps ≡ Some o → RunsFile standard c text o
 comes c text steps o e = played_runs standard c text steps o (is_played c text steps ∙ e)
 
 pub file_load : (e : Environment) → computed (loading e) (file (codes "setenv K 1\nconflict k\n")) 400 ≡ Some (Ok (record { records = (Set (codes "K") (codes "1") ∷ Conflict (codes "k" ∷ []) ∷ []); messages = []; asked = false; env = (with_value e (codes "K") (Some (codes "1"))) }))
@@ -92,6 +92,6 @@ pub refused_protected : (e : Environment) → computed (loading e) (file (codes 
 unfolding computed
 refused_protected e = refl
 
-pub refused_topic : (e : Environment) → computed (loading e) (file (codes "module-info nope x y")) 400 ≡ Some (Err (halted (LeftOut (codes "module-info nope"))))
+pub refused_field : (e : Environment) → computed (loading e) (file (codes "module-info nope x y")) 400 ≡ Some (Err (halted (LeftOut (codes "module-info nope"))))
 unfolding computed
-refused_topic e = refl
+refused_field e = refl

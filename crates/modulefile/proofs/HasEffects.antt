@@ -1,8 +1,8 @@
 -- The records of an evaluation have their effects: each was added only after its effect on what the ones before it made.
 use Rattle.std.proofs.Common.{◌≡◌, Bool, true, false, List, [], ◌∷◌, ◌++◌, Result, Ok, Err, is_ok, refl, ap, sym, subst}
-use Rattle.environment.specs.Texts.{Text}
-use Rattle.environment.specs.Names.{is_variable_name}
-use Rattle.environment.specs.Environment.{Environment}
+use Rattle.envvars.specs.Texts.{Text}
+use Rattle.envvars.specs.Names.{is_variable_name}
+use Rattle.envvars.specs.Environment.{Environment}
 use Rattle.tclrules.specs.Oracle as oracle
 use Rattle.tclrules.specs.Oracle.{Nothing, addition, records_with}
 use Rattle.modulerecords.specs.Records.{Record}
@@ -11,15 +11,15 @@ use Rattle.modulerecords.specs.Effects.{Mode, effect, effects}
 use Rattle.modulerecords.proofs.Effected.{whole, effects_go_on}
 use Rattle.modulefile.specs.Results.{◌>>=◌}
 use Rattle.modulefile.specs.Calls as calls
-use Rattle.modulefile.specs.Calls.{keeps, says, getenv, is_loaded, own_name, typed_name, tells, tests, CallReason, unknown, left_out, bad_record, CallForm, call_of}
-use Rattle.modulefile.specs.Answers.{Context, not_done, record_answer, read, answered, record_of, records_in, by_record, effects_so_far, or_start, found_after, value_shown}
+use Rattle.modulefile.specs.Calls.{adds_record, adds_message, getenv, is_loaded, own_name, typed_name, info, info_test, CallReason, unknown, unsupported, bad_record, CallForm, call_of}
+use Rattle.modulefile.specs.Answers.{FileContext, not_done, record_answer, read, answered, record_of, records_in, record_outcome, effects_so_far, or_start, environment_after, value_shown}
 use Rattle.modulefile.proofs.Bound.{bound, bind_ok}
 
 ok_value : {A R : Type 0} (r : Result A R) → is_ok r ≡ true → (a : A) × (r ≡ Ok a)
 ok_value (Ok a) h = (a, refl)
 ok_value (Err e) h = absurd (cc)
 
-pub by_record_ok : (r : Result Environment RecordReason) (e : Environment) → by_record r ≡ Ok e → r ≡ Ok e
+pub by_record_ok : (r : Result Environment RecordReason) (e : Environment) → record_outcome r ≡ Ok e → r ≡ Ok e
 by_record_ok (Ok d) e h = cc
 by_record_ok (Err x) e h = absurd (cc)
 
@@ -37,60 +37,60 @@ records_more (v ∷ rs) words ys r h k =
 effects_more : (mode : Mode) (owner : Text) (ys : List Record) (r : Record) (e d t : Environment) → effects mode owner ys e ≡ Ok d → effect mode owner r d ≡ Ok t → effects mode owner (ys ++ r ∷ []) e ≡ Ok t
 effects_more mode owner ys r e d t h k = effects_go_on mode owner ys (r ∷ []) e d t h (whole (effect mode owner r d) (effects mode owner []) t t k refl)
 
-abbrev HasEffects : Context → List oracle.CommandWords → Type 0
+abbrev HasEffects : FileContext → List oracle.CommandWords → Type 0
 HasEffects c rs = is_ok (effects_so_far c rs) ≡ true
 
 adds_nothing : (o : CallReason) → addition (not_done o) ≡ Nothing
 adds_nothing unknown = refl
-adds_nothing (left_out name) = refl
+adds_nothing (unsupported name) = refl
 adds_nothing calls.bad_arguments = refl
 adds_nothing (bad_record reason) = refl
 
-keep_nothing : (c : Context) (rs : List oracle.CommandWords) (o : CallReason) → HasEffects c rs → HasEffects c (records_with rs (addition (not_done o)))
-keep_nothing c rs o h = subst (λ a. HasEffects c (records_with rs a)) (sym (adds_nothing o)) h
+nothing_has_effects : (c : FileContext) (rs : List oracle.CommandWords) (o : CallReason) → HasEffects c rs → HasEffects c (records_with rs (addition (not_done o)))
+nothing_has_effects c rs o h = subst (λ a. HasEffects c (records_with rs a)) (sym (adds_nothing o)) h
 
 -- what holds again after a command where the records so far have their effects
-pub record IsSoFar (c : Context) (rs : List oracle.CommandWords) : Type 0 where
+pub record IsSoFar (c : FileContext) (rs : List oracle.CommandWords) : Type 0 where
   pub records : List Record
   pub env : Environment
   pub read : records_in rs ≡ Ok records
   pub made : effects c.mode c.name records c.start ≡ Ok env
 
-pub so_far : (c : Context) (rs : List oracle.CommandWords) → HasEffects c rs → IsSoFar c rs
+pub so_far : (c : FileContext) (rs : List oracle.CommandWords) → HasEffects c rs → IsSoFar c rs
 so_far c rs h =
     let v = ok_value (effects_so_far c rs) h in
-    let b = bound (records_in rs) (λ ys. by_record (effects c.mode c.name ys c.start)) v.0 v.1 in
+    let b = bound (records_in rs) (λ ys. record_outcome (effects c.mode c.name ys c.start)) v.0 v.1 in
     record { records = b.0; env = v.0; read = b.1; made = by_record_ok (effects c.mode c.name b.0 c.start) v.0 b.2 }
 
-go_on : (c : Context) (rs : List oracle.CommandWords) (ys : List Record) (e : Environment) → records_in rs ≡ Ok ys → effects c.mode c.name ys c.start ≡ Ok e → effects_so_far c rs ≡ Ok e
-go_on c rs ys e r m = bind_ok (records_in rs) (λ zs. by_record (effects c.mode c.name zs c.start)) ys e r (ap by_record m)
+go_on : (c : FileContext) (rs : List oracle.CommandWords) (ys : List Record) (e : Environment) → records_in rs ≡ Ok ys → effects c.mode c.name ys c.start ≡ Ok e → effects_so_far c rs ≡ Ok e
+go_on c rs ys e r m = bind_ok (records_in rs) (λ zs. record_outcome (effects c.mode c.name zs c.start)) ys e r (ap record_outcome m)
 
-keep_kept : (c : Context) (rs : List oracle.CommandWords) (words : List Text) (r : Record) → call_of words ≡ Ok (keeps r) → HasEffects c rs → (result : Result Environment RecordReason) → effect c.mode c.name r (found_after c rs) ≡ result → HasEffects c (records_with rs (addition (kept words result)))
-keep_kept c rs words r k h (Err o) e = keep_nothing c rs (bad_record o) h
-keep_kept c rs words r k h (Ok t) e =
+record_has_effects : (c : FileContext) (rs : List oracle.CommandWords) (words : List Text) (r : Record) → call_of words ≡ Ok (adds_record r) → HasEffects c rs → (result : Result Environment RecordReason) → effect c.mode c.name r (environment_after c rs) ≡ result → HasEffects c (records_with rs (addition (record_answer words result)))
+record_has_effects c rs words r k h (Err o) e = nothing_has_effects c rs (bad_record o) h
+record_has_effects c rs words r k h (Ok t) e =
     let s = so_far c rs h in
-    let f : found_after c rs ≡ s.env = ap (or_start c.start) (go_on c rs s.records s.env s.read s.made) in
+    let f : environment_after c rs ≡ s.env = ap (or_start c.start) (go_on c rs s.records s.env s.read s.made) in
     let g : effect c.mode c.name r s.env ≡ Ok t = subst (λ x. effect c.mode c.name r x ≡ Ok t) f e in
-    let m : records_in (rs ++ words ∷ []) ≡ Ok (s.records ++ r ∷ []) = records_more rs words s.records r s.read (bind_ok (call_of words) record_of (keeps r) r k refl) in
+    let m : records_in (rs ++ words ∷ []) ≡ Ok (s.records ++ r ∷ []) = records_more rs words s.records r s.read (bind_ok (call_of words) record_of (adds_record r) r k refl) in
     ap (λ x. is_ok x) (go_on c (rs ++ words ∷ []) (s.records ++ r ∷ []) t m (effects_more c.mode c.name s.records r c.start s.env t s.made g))
 
-keep_read : (c : Context) (rs : List oracle.CommandWords) (var value : Text) → HasEffects c rs → HasEffects c (records_with rs (addition (read var value)))
-keep_read c rs var value h = go (is_variable_name var) refl
+read_has_effects : (c : FileContext) (rs : List oracle.CommandWords) (var value : Text) → HasEffects c rs → HasEffects c (records_with rs (addition (read var value)))
+read_has_effects c rs var value h = go (is_variable_name var) refl
   where
     go : (b : Bool) → is_variable_name var ≡ b → HasEffects c (records_with rs (addition (read var value)))
     go true q = rw q h
     go false q = rw q h
 
-keep_call : (c : Context) (rs : List oracle.CommandWords) (words : List Text) → HasEffects c rs → (call : CallForm) → call_of words ≡ call → HasEffects c (records_with rs (addition (answered c (found_after c rs) words call)))
-keep_call c rs words h (Err o) e = keep_nothing c rs o h
-keep_call c rs words h (Ok (keeps r)) e = keep_kept c rs words r e h (effect c.mode c.name r (found_after c rs)) refl
-keep_call c rs words h (Ok (says message)) e = h
-keep_call c rs words h (Ok (getenv var default)) e = keep_read c rs var (value_shown c.mode (found_after c rs) var default) h
-keep_call c rs words h (Ok (is_loaded names)) e = h
-keep_call c rs words h (Ok own_name) e = h
-keep_call c rs words h (Ok typed_name) e = h
-keep_call c rs words h (Ok (tells topic)) e = h
-keep_call c rs words h (Ok (tests topic word)) e = h
+call_has_effects : (c : FileContext) (rs : List oracle.CommandWords) (words : List Text) → HasEffects c rs → (call : CallForm) → call_of words ≡ call → HasEffects c (records_with rs (addition (answered c (environment_after c rs) words call)))
+call_has_effects c rs words h (Err o) e = nothing_has_effects c rs o h
+call_has_effects c rs words h (Ok (adds_record r)) e = record_has_effects c rs words r e h (effect c.mode c.name r (environment_after c rs)) refl
+call_has_effects c rs words h (Ok (adds_message message)) e = h
+call_has_effects c rs words h (Ok (getenv var default)) e = read_has_effects c rs var (value_shown c.mode (environment_after c rs) var default) h
+call_has_effects c rs words h (Ok (is_loaded names)) e = h
+call_has_effects c rs words h (Ok own_name) e = h
+call_has_effects c rs words h (Ok typed_name) e = h
+call_has_effects c rs words h (Ok (info field)) e = h
+call_has_effects c rs words h (Ok (info_test field word)) e = h
 
-pub keep_answer : (c : Context) (rs : List oracle.CommandWords) (words : List Text) → HasEffects c rs → HasEffects c (records_with rs (addition (answered c (found_after c rs) words (call_of words))))
-keep_answer c rs words h = keep_call c rs words h (call_of words) refl
+pub answer_has_effects : (c : FileContext) (rs : List oracle.CommandWords) (words : List Text) → HasEffects c rs → HasEffects c (records_with rs (addition (answered c (environment_after c rs) words (call_of words))))
+answer_has_effects c rs words h = call_has_effects c rs words h (call_of words) refl

@@ -1,21 +1,21 @@
 -- A file that asked nothing leaves the same records in every context of the same name and path, or is refused.
 use Rattle.std.proofs.Common.{◌≡◌, ◌⊎◌, ℕ, Bool, true, false, List, Option, Some, None, Result, Ok, Err, inl, inr, ⊎_elim, refl, ap, sym, ◌∙◌, subst}
-use Rattle.environment.specs.Texts.{Text}
-use Rattle.environment.specs.Names.{is_variable_name}
-use Rattle.environment.specs.Environment.{Environment}
+use Rattle.envvars.specs.Texts.{Text}
+use Rattle.envvars.specs.Names.{is_variable_name}
+use Rattle.envvars.specs.Environment.{Environment}
 use Rattle.tclrules.specs.Oracle as oracle
-use Rattle.tclrules.specs.Oracle.{Oracle, OracleAnswer, Nothing, Done, Told, is_question, is_refusal}
+use Rattle.tclrules.specs.Oracle.{Oracle, OracleAnswer, Nothing, Done, Trace, is_question, is_refusal}
 use Rattle.tclrules.specs.Derivation.{ByHost, Outcome, Ended, Halted, World, AgreesUnasked}
 use Rattle.tclrules.specs.Variables.{State}
-use Rattle.tclrules.specs.Plans.{Ending, Normal, Raised, Returned, Broken, Continued}
+use Rattle.tclrules.specs.Plans.{Completion, Normal, Raised, Returned, Broken, Continued}
 use Rattle.tclrules.specs.Meaning as meaning
-use Rattle.tclrules.specs.Meaning.{Setting, ComesTo, with_oracle}
+use Rattle.tclrules.specs.Meaning.{Setting, EvaluatesTo, with_oracle}
 use Rattle.tclrules.specs.declared.limits.Limits.{Limits}
 use Rattle.modulerecords.specs.Judgments.{RecordReason, record_reason}
-use Rattle.modulerecords.specs.Effects.{edited, by_edit, permitted, effect}
-use Rattle.modulefile.specs.Calls.{keeps, says, getenv, is_loaded, own_name, typed_name, tells, tests, CallForm, call_of}
-use Rattle.modulefile.specs.Answers.{Context, record_number, record_name, record_answer, read, answered, records_in, found_after, oracle_of, value_shown}
-use Rattle.modulefile.specs.Files.{Ran, Stop, ran_of, setting_of, FinishesFile, RunsFile, IsSameOrRefused}
+use Rattle.modulerecords.specs.Effects.{edited, edit_outcome, permitted, effect}
+use Rattle.modulefile.specs.Calls.{adds_record, adds_message, getenv, is_loaded, own_name, typed_name, info, info_test, CallForm, call_of}
+use Rattle.modulefile.specs.Answers.{FileContext, record_number, record_name, record_answer, read, answered, records_in, environment_after, oracle_of, value_shown}
+use Rattle.modulefile.specs.Files.{Ran, FileReason, ran_of, setting_of, FinishesFile, RunsFile, IsSameOrRefused}
 use Rattle.modulefile.specs.Laws.{PlainFilesAgree}
 use Rattle.modulefile.proofs.Bound.{same_value}
 use Rattle.modulefile.proofs.WholeFiles.{ran_parts}
@@ -38,48 +38,48 @@ at_read var u v h = go (is_variable_name var) refl
     go true q = let k : is_question (read var u) ≡ true = rw q refl in absurd (cc)
     go false q = rw q refl
 
-at_call : (c d : Context) → d.name ≡ c.name → (x y : Environment) (words : List Text) (call : CallForm) → is_question (answered c x words call) ≡ false → is_refusal (answered c x words call) ≡ false → Alike (answered c x words call) (answered d y words call)
+at_call : (c d : FileContext) → d.name ≡ c.name → (x y : Environment) (words : List Text) (call : CallForm) → is_question (answered c x words call) ≡ false → is_refusal (answered c x words call) ≡ false → Alike (answered c x words call) (answered d y words call)
 at_call c d e x y words (Err o) q h = inl refl
-at_call c d e x y words (Ok (keeps r)) q h =
+at_call c d e x y words (Ok (adds_record r)) q h =
     subst (λ n. Alike (record_answer words (effect c.mode c.name r x)) (record_answer words (effect d.mode n r y))) (sym e)
-    (at_kept words (record_reason r) (by_edit (edited c.mode c.name r x)) (by_edit (edited d.mode c.name r y)) h)
-at_call c d e x y words (Ok (says message)) q h = inl refl
+    (at_kept words (record_reason r) (edit_outcome (edited c.mode c.name r x)) (edit_outcome (edited d.mode c.name r y)) h)
+at_call c d e x y words (Ok (adds_message message)) q h = inl refl
 at_call c d e x y words (Ok (getenv var default)) q h = inl (at_read var (value_shown c.mode x var default) (value_shown d.mode y var default) q)
 at_call c d e x y words (Ok (is_loaded names)) q h = absurd (cc)
 at_call c d e x y words (Ok own_name) q h = inl (ap (λ n. Done n Nothing false) e)
 at_call c d e x y words (Ok typed_name) q h = absurd (cc)
-at_call c d e x y words (Ok (tells topic)) q h = absurd (cc)
-at_call c d e x y words (Ok (tests topic word)) q h = absurd (cc)
+at_call c d e x y words (Ok (info field)) q h = absurd (cc)
+at_call c d e x y words (Ok (info_test field word)) q h = absurd (cc)
 
-agree : (c d : Context) → d.name ≡ c.name → AgreesUnasked (oracle_of c) (oracle_of d)
-agree c d e rs words q h = at_call c d e (found_after c rs) (found_after d rs) words (call_of words) q h
+agree : (c d : FileContext) → d.name ≡ c.name → AgreesUnasked (oracle_of c) (oracle_of d)
+agree c d e rs words q h = at_call c d e (environment_after c rs) (environment_after d rs) words (call_of words) q h
 
 -- and so for the file
 
 abbrev pub UnaskedLaw : Type 0
 UnaskedLaw =
-    (s : Setting) (second : Oracle) (o o2 : Outcome Ending) (w w2 : World) → ComesTo s o w → w.told.asked ≡ false → ((n : ℕ) → (o ≡ Halted (ByHost n)) → ⊥)
-    → AgreesUnasked s.oracle second → ComesTo (with_oracle second s) o2 w2 → meaning.IsSameOrRefused o w o2 w2
+    (s : Setting) (second : Oracle) (o o2 : Outcome Completion) (w w2 : World) → EvaluatesTo s o w → w.trace.asked ≡ false → ((n : ℕ) → (o ≡ Halted (ByHost n)) → ⊥)
+    → AgreesUnasked s.oracle second → EvaluatesTo (with_oracle second s) o2 w2 → meaning.IsSameOrRefused o w o2 w2
 
-moved_setting : (limits : Limits) (c d : Context) (text : Text) → d.path ≡ c.path → setting_of limits d text ≡ with_oracle (oracle_of d) (setting_of limits c text)
+moved_setting : (limits : Limits) (c d : FileContext) (text : Text) → d.path ≡ c.path → setting_of limits d text ≡ with_oracle (oracle_of d) (setting_of limits c text)
 moved_setting limits c d text p = ap (λ (path : Text). with_oracle (oracle_of d) (setting_of limits (record c { path = path }) text)) p
 
-same_finish : (c d : Context) (text result : Text) (s : State) (told : Told) (ran : Ran) (o : Result Ran Stop) → ran_of c told ≡ Ok ran → FinishesFile d text (Ended (Normal result s)) told o → IsSameOrRefused ran o
-same_finish c d text result s told ran o h f =
-    inl (f.0, f.2, same_value (records_in told.records) f.0.records ran.records (ran_parts d told f.0 f.1).read (ran_parts c told ran h).read)
+same_finish : (c d : FileContext) (text result : Text) (s : State) (trace : Trace) (ran : Ran) (o : Result Ran FileReason) → ran_of c trace ≡ Ok ran → FinishesFile d text (Ended (Normal result s)) trace o → IsSameOrRefused ran o
+same_finish c d text result s trace ran o h f =
+    inl (f.0, f.2, same_value (records_in trace.records) f.0.records ran.records (ran_parts d trace f.0 f.1).read (ran_parts c trace ran h).read)
 
-plain_normal : UnaskedLaw → (limits : Limits) (c d : Context) (text : Text) (ran : Ran) (o : Result Ran Stop) (result : Text) (s : State) (w : World) → ComesTo (setting_of limits c text) (Ended (Normal result s)) w → ran_of c w.told ≡ Ok ran
+plain_normal : UnaskedLaw → (limits : Limits) (c d : FileContext) (text : Text) (ran : Ran) (o : Result Ran FileReason) (result : Text) (s : State) (w : World) → EvaluatesTo (setting_of limits c text) (Ended (Normal result s)) w → ran_of c w.trace ≡ Ok ran
     → ran.asked ≡ false → d.name ≡ c.name → d.path ≡ c.path → RunsFile limits d text o → IsSameOrRefused ran o
 plain_normal law limits c d text ran o result s w e h a n p (out2, w2, e2, f) =
-    let e3 : ComesTo (with_oracle (oracle_of d) (setting_of limits c text)) out2 w2 = subst (λ (z : Setting). ComesTo z out2 w2) (moved_setting limits c d text p) e2 in
+    let e3 : EvaluatesTo (with_oracle (oracle_of d) (setting_of limits c text)) out2 w2 = subst (λ (z : Setting). EvaluatesTo z out2 w2) (moved_setting limits c d text p) e2 in
     ⊎_elim
-    (λ i. same_finish c d text result s w.told ran o h (subst (λ (x : Outcome Ending). FinishesFile d text x w.told o) i.0 (subst (λ (v : World). FinishesFile d text out2 v.told o) i.1 f)))
-    (λ i. inr (i.0, w2.told.refused, subst (λ (x : Outcome Ending). FinishesFile d text x w2.told o) i.1 f))
-    (law (setting_of limits c text) (oracle_of d) (Ended (Normal result s)) out2 w w2 e ((ran_parts c w.told ran h).asked ∙ a) (λ m z. cc) (agree c d n) e3)
+    (λ i. same_finish c d text result s w.trace ran o h (subst (λ (x : Outcome Completion). FinishesFile d text x w.trace o) i.0 (subst (λ (v : World). FinishesFile d text out2 v.trace o) i.1 f)))
+    (λ i. inr (i.0, w2.trace.refused, subst (λ (x : Outcome Completion). FinishesFile d text x w2.trace o) i.1 f))
+    (law (setting_of limits c text) (oracle_of d) (Ended (Normal result s)) out2 w w2 e ((ran_parts c w.trace ran h).asked ∙ a) (λ m z. cc) (agree c d n) e3)
 
 pub plain_file : UnaskedLaw → PlainFilesAgree
 plain_file law limits c d text ran o (Ended (Normal result s), w, e, f) a n p r =
-    let q : ran_of c w.told ≡ Ok ran = subst (λ x. ran_of c w.told ≡ Ok x) (same_value (Ok ran) f.0 ran f.2 refl) f.1 in
+    let q : ran_of c w.trace ≡ Ok ran = subst (λ x. ran_of c w.trace ≡ Ok x) (same_value (Ok ran) f.0 ran f.2 refl) f.1 in
     plain_normal law limits c d text ran o result s w e q a n p r
 plain_file law limits c d text ran o (Ended (Raised m s), w, e, f) a n p r = absurd (cc)
 plain_file law limits c d text ran o (Ended (Returned t s), w, e, f) a n p r = absurd f

@@ -2,24 +2,24 @@
 use Rattle.std.specs.Prelude.{ℕ, Bool, true, false, ◌||◌, ◌&&◌, List, [], ◌∷◌, ◌++◌, codes, bytes_eq, if◌then◌else◌, unwrap_or, Option, Some, None, Result, Ok, Err}
 use Rattle.std.specs.List.{list_any}
 use Rattle.modulename.specs.ModuleName.{means}
-use Rattle.environment.specs.Texts.{Text}
-use Rattle.environment.specs.Names.{is_variable_name}
-use Rattle.environment.specs.Environment.{Environment, lookup}
-use Rattle.environment.specs.Reasons.{EnvReason, bad_variable, protected, counter_full, inconsistent, bad_stack, bad_value}
+use Rattle.envvars.specs.Texts.{Text}
+use Rattle.envvars.specs.Names.{is_variable_name}
+use Rattle.envvars.specs.Environment.{Environment, lookup}
+use Rattle.envvars.specs.Reasons.{EnvReason, bad_variable, protected, counter_full, inconsistent, bad_stack, bad_value}
 use Rattle.tclrules.specs.Oracle as oracle
-use Rattle.tclrules.specs.Oracle.{Oracle, OracleAnswer, Refusal, Addition, Nothing, Kept, Message, Done, Unknown, LeftOut, Refused}
+use Rattle.tclrules.specs.Oracle.{Oracle, OracleAnswer, Refusal, Addition, Nothing, NewRecord, Message, Done, Unknown, LeftOut, Refused}
 use Rattle.modulerecords.specs.Records.{Record}
 use Rattle.modulerecords.specs.Judgments.{RecordReason, bad_edit, bad_module_name}
 use Rattle.modulerecords.specs.Effects.{Mode, load, unload, display, whatis, effect, effects}
 use Rattle.shells.specs.declared.shell.Shell.{Shell}
 use Rattle.modulefile.specs.Results.{◌>>=◌}
-use Rattle.shells.specs.Shells.{shell_name, shell_family}
-use Rattle.modulefile.specs.Calls.{Topic, mode, shell, shell_type, Call, keeps, says, getenv, is_loaded, own_name, typed_name, tells, tests, CallReason, unknown, left_out, bad_arguments, bad_record, CallForm, call_of}
+use Rattle.shells.specs.Shells.{shell_name, shell_family_name}
+use Rattle.modulefile.specs.Calls.{InfoField, mode, shell, shell_type, Call, adds_record, adds_message, getenv, is_loaded, own_name, typed_name, info, info_test, CallReason, unknown, unsupported, bad_arguments, bad_record, CallForm, call_of}
 
 -- What a file is evaluated in: the mode, and whether it is half of a switch; the module's full name and the path of its
 -- file; the shell; the name as it was typed; the names of the modules that are loaded before the file, and the
 -- environment before it.
-pub record Context : Type 0 where
+pub record FileContext : Type 0 where
   pub mode : Mode
   pub in_switch : Bool
   pub name : Text
@@ -44,7 +44,7 @@ is_second_word display word = false
 is_second_word whatis word = false
 
 -- both halves of a switch are of the mode `switch`, too
-abbrev pub is_mode : Context → Text → Bool
+abbrev pub is_mode : FileContext → Text → Bool
 is_mode c word =
     bytes_eq word (mode_word c.mode) || is_second_word c.mode word || (c.in_switch && bytes_eq word (codes "switch"))
 
@@ -53,15 +53,15 @@ abbrev pub truth : Bool → Text
 truth b = if b then codes "1" else codes "0"
 
 -- what `module-info` answers without a further word, and whether it is the further word
-abbrev pub topic_text : Context → Topic → Text
-topic_text c mode = mode_word c.mode
-topic_text c shell = shell_name c.shell
-topic_text c shell_type = shell_family c.shell
+abbrev pub field_text : FileContext → InfoField → Text
+field_text c mode = mode_word c.mode
+field_text c shell = shell_name c.shell
+field_text c shell_type = shell_family_name c.shell
 
-abbrev pub topic_test : Context → Topic → Text → Bool
-topic_test c mode word = is_mode c word
-topic_test c shell word = bytes_eq word (shell_name c.shell)
-topic_test c shell_type word = bytes_eq word (shell_family c.shell)
+abbrev pub field_test : FileContext → InfoField → Text → Bool
+field_test c mode word = is_mode c word
+field_test c shell word = bytes_eq word (shell_name c.shell)
+field_test c shell_type word = bytes_eq word (shell_family_name c.shell)
 
 -- Whether one of the names means a loaded module; without a name, whether any module is loaded.
 abbrev pub any_loaded : List Text → List Text → Bool
@@ -108,13 +108,13 @@ refusal_of reason = record { number = record_number reason; name = record_name r
 -- a command that isn't done
 abbrev pub not_done : CallReason → OracleAnswer
 not_done unknown = Unknown false
-not_done (left_out name) = LeftOut name false
+not_done (unsupported name) = LeftOut name false
 not_done bad_arguments = Refused 56 None false
 not_done (bad_record reason) = Refused (record_number reason) (record_name reason) false
 
 -- A command that leaves a record answers the empty text, and its words are recorded, where the record has its effect.
 abbrev pub record_answer : List Text → Result Environment RecordReason → OracleAnswer
-record_answer words (Ok e) = Done [] (Kept words) false
+record_answer words (Ok e) = Done [] (NewRecord words) false
 record_answer words (Err reason) = not_done (bad_record reason)
 
 -- the answer to a question
@@ -126,27 +126,27 @@ abbrev pub read : Text → Text → OracleAnswer
 read var value = if is_variable_name var then asked value else not_done (bad_record (bad_edit (bad_variable var)))
 
 -- Questions are those about the environment, the mode, the shell, the typed name or the loaded modules, and no others.
-abbrev pub answered : Context → Environment → List Text → CallForm → OracleAnswer
+abbrev pub answered : FileContext → Environment → List Text → CallForm → OracleAnswer
 answered c e words (Err reason) = not_done reason
-answered c e words (Ok (keeps r)) = record_answer words (effect c.mode c.name r e)
-answered c e words (Ok (says message)) = Done [] (Message message) false
+answered c e words (Ok (adds_record r)) = record_answer words (effect c.mode c.name r e)
+answered c e words (Ok (adds_message message)) = Done [] (Message message) false
 answered c e words (Ok (getenv var default)) = read var (value_shown c.mode e var default)
 answered c e words (Ok (is_loaded names)) = asked (truth (any_loaded names c.loaded))
 answered c e words (Ok own_name) = Done c.name Nothing false
 answered c e words (Ok typed_name) = asked c.typed
-answered c e words (Ok (tells topic)) = asked (topic_text c topic)
-answered c e words (Ok (tests topic word)) = asked (truth (topic_test c topic word))
+answered c e words (Ok (info field)) = asked (field_text c field)
+answered c e words (Ok (info_test field word)) = asked (truth (field_test c field word))
 
 -- the record of a command
 abbrev pub record_of : Call → Result Record CallReason
-record_of (keeps r) = Ok r
-record_of (says message) = Err unknown
+record_of (adds_record r) = Ok r
+record_of (adds_message message) = Err unknown
 record_of (getenv var default) = Err unknown
 record_of (is_loaded names) = Err unknown
 record_of own_name = Err unknown
 record_of typed_name = Err unknown
-record_of (tells topic) = Err unknown
-record_of (tests topic word) = Err unknown
+record_of (info field) = Err unknown
+record_of (info_test field word) = Err unknown
 
 -- the records of accepted commands, which the evaluation has by their words
 abbrev pub records_in : List oracle.CommandWords → Result (List Record) CallReason
@@ -154,13 +154,13 @@ records_in [] = Ok []
 records_in (words ∷ more) = call_of words >>= record_of >>= (λ r. records_in more >>= (λ rs. Ok (r ∷ rs)))
 
 -- the effects of records, where the reasons are those of commands
-abbrev pub by_record : Result Environment RecordReason → Result Environment CallReason
-by_record (Ok e) = Ok e
-by_record (Err reason) = Err (bad_record reason)
+abbrev pub record_outcome : Result Environment RecordReason → Result Environment CallReason
+record_outcome (Ok e) = Ok e
+record_outcome (Err reason) = Err (bad_record reason)
 
 -- what the records so far make of the environment before the file, in the mode at hand
-abbrev pub effects_so_far : Context → List oracle.CommandWords → Result Environment CallReason
-effects_so_far c told = records_in told >>= (λ rs. by_record (effects c.mode c.name rs c.start))
+abbrev pub effects_so_far : FileContext → List oracle.CommandWords → Result Environment CallReason
+effects_so_far c records = records_in records >>= (λ rs. record_outcome (effects c.mode c.name rs c.start))
 
 -- the environment of an outcome, or else the one before the file
 abbrev pub or_start : Environment → Result Environment CallReason → Environment
@@ -169,36 +169,36 @@ or_start start (Err reason) = start
 
 -- The environment after these commands. The records of accepted commands always have their effects, so this is never
 -- the start in their stead.
-abbrev pub found_after : Context → List oracle.CommandWords → Environment
-found_after c told = or_start c.start (effects_so_far c told)
+abbrev pub environment_after : FileContext → List oracle.CommandWords → Environment
+environment_after c records = or_start c.start (effects_so_far c records)
 
 -- the oracle that a modulefile is evaluated over
-abbrev pub oracle_of : Context → Oracle
+abbrev pub oracle_of : FileContext → Oracle
 oracle_of c =
     record {
-      command = λ told words. answered c (found_after c told) words (call_of words);
-      variable = λ told name. lookup (found_after c told) name;
+      command = λ records words. answered c (environment_after c records) words (call_of words);
+      variable = λ records name. lookup (environment_after c records) name;
     }
 
 -- what a command adds where it is done, and whether it is a question
 abbrev pub call_adds : List Text → CallForm → Addition
 call_adds words (Err reason) = Nothing
-call_adds words (Ok (keeps r)) = Kept words
-call_adds words (Ok (says message)) = Message message
+call_adds words (Ok (adds_record r)) = NewRecord words
+call_adds words (Ok (adds_message message)) = Message message
 call_adds words (Ok (getenv var default)) = Nothing
 call_adds words (Ok (is_loaded names)) = Nothing
 call_adds words (Ok own_name) = Nothing
 call_adds words (Ok typed_name) = Nothing
-call_adds words (Ok (tells topic)) = Nothing
-call_adds words (Ok (tests topic word)) = Nothing
+call_adds words (Ok (info field)) = Nothing
+call_adds words (Ok (info_test field word)) = Nothing
 
 abbrev pub call_asks : CallForm → Bool
 call_asks (Err reason) = false
-call_asks (Ok (keeps r)) = false
-call_asks (Ok (says message)) = false
+call_asks (Ok (adds_record r)) = false
+call_asks (Ok (adds_message message)) = false
 call_asks (Ok (getenv var default)) = true
 call_asks (Ok (is_loaded names)) = true
 call_asks (Ok own_name) = false
 call_asks (Ok typed_name) = true
-call_asks (Ok (tells topic)) = true
-call_asks (Ok (tests topic word)) = true
+call_asks (Ok (info field)) = true
+call_asks (Ok (info_test field word)) = true

@@ -3,27 +3,27 @@
 use Rattle.std.specs.Prelude.{ℕ, ◌||◌, List, [], ◌∷◌, ◌++◌, codes, flat_map, bytes_eq, if◌then◌else◌, Option, Some, None, Result, Ok, Err}
 use Rattle.std.specs.List.{join_with_byte}
 use Rattle.tclchars.specs.Runs.{begins}
-use Rattle.tclvalue.specs.Indexes.{after_front}
-use Rattle.tclrules.specs.Names.{is_among, left_out_module_commands}
-use Rattle.environment.specs.Texts.{Text}
-use Rattle.environment.specs.Fields.{colon}
-use Rattle.pathstate.specs.PathTexts.{is_delimiter, parted}
+use Rattle.tclvalue.specs.Indexes.{after_prefix}
+use Rattle.tclrules.specs.Names.{is_among, unsupported_module_commands}
+use Rattle.envvars.specs.Texts.{Text}
+use Rattle.envvars.specs.Fields.{colon}
+use Rattle.envpaths.specs.PathTexts.{is_delimiter, split_elements}
 use Rattle.modulerecords.specs.Records.{Record, Set, Unset, Push, Front, Back, Remove, Conflict, Prereq, Whatis}
 use Rattle.modulerecords.specs.Judgments.{RecordReason}
 use Rattle.modulefile.specs.Results.{◌>>=◌}
 
 -- what `module-info` answers, or tests by a further word
-pub data Topic : Type 0 where
-  mode : Topic
-  shell : Topic
-  shell_type : Topic
+pub data InfoField : Type 0 where
+  mode : InfoField
+  shell : InfoField
+  shell_type : InfoField
 
 -- a command of a modulefile
 pub data Call : Type 0 where
   -- a command that leaves a record
-  keeps : Record → Call
+  adds_record : Record → Call
   -- `puts stderr`, with the newline unless `-nonewline` is there
-  says : (message : Text) → Call
+  adds_message : (message : Text) → Call
   -- `getenv VAR ?default?`
   getenv : (var : Text) (default : Text) → Call
   -- `is-loaded ?NAME...?`
@@ -31,15 +31,15 @@ pub data Call : Type 0 where
   -- `module-info name`, `module-info specified`
   own_name : Call
   typed_name : Call
-  -- `module-info TOPIC`, and `module-info TOPIC WORD`
-  tells : Topic → Call
-  tests : Topic → (word : Text) → Call
+  -- `module-info FIELD`, and `module-info TOPIC WORD`
+  info : InfoField → Call
+  info_test : InfoField → (word : Text) → Call
 
 -- Why a command isn't done: no such command is known; it, or this part of it, is unsupported on purpose; its words
 -- don't fit it; or its record has no effect.
 pub data CallReason : Type 0 where
   unknown : CallReason
-  left_out : (name : Text) → CallReason
+  unsupported : (name : Text) → CallReason
   bad_arguments : CallReason
   bad_record : RecordReason → CallReason
 
@@ -58,14 +58,14 @@ without_option form words = no_option words >>= form
 
 -- `VAR value`
 abbrev pub var_and_value : (Text → Text → Record) → List Text → CallForm
-var_and_value make (var ∷ value ∷ []) = Ok (keeps (make var value))
+var_and_value make (var ∷ value ∷ []) = Ok (adds_record (make var value))
 var_and_value make words = Err bad_arguments
 
 -- `VAR ?value?`
-abbrev pub var_and_perhaps : List Text → CallForm
-var_and_perhaps (var ∷ []) = Ok (keeps (Unset var None))
-var_and_perhaps (var ∷ value ∷ []) = Ok (keeps (Unset var (Some value)))
-var_and_perhaps words = Err bad_arguments
+abbrev pub var_and_optional : List Text → CallForm
+var_and_optional (var ∷ []) = Ok (adds_record (Unset var None))
+var_and_optional (var ∷ value ∷ []) = Ok (adds_record (Unset var (Some value)))
+var_and_optional words = Err bad_arguments
 
 -- the delimiter that a text is, one character from the space to the tilde, and the words after it
 abbrev pub with_delimiter : Text → List Text → Result (ℕ × List Text) CallReason
@@ -85,7 +85,7 @@ by_same_word (Some text) words = with_delimiter text words
 abbrev pub by_option : Text → List Text → Result (ℕ × List Text) CallReason
 by_option option words =
     if bytes_eq option (codes "-d") || bytes_eq option (codes "--delim") then by_next_word words
-    else by_same_word (after_front (codes "--delim=") option) words
+    else by_same_word (after_prefix (codes "--delim=") option) words
 
 -- The delimiter, and the words from VAR on, which are no options. Without an option it is the colon.
 abbrev pub delimited : List Text → Result (ℕ × List Text) CallReason
@@ -94,11 +94,12 @@ delimited (word ∷ words) = if begins 45 word then by_option word words else Ok
 
 -- the elements of values, which are cut at the delimiter: an empty value is one empty element
 abbrev pub elements_of : ℕ → List Text → List Text
-elements_of delim values = flat_map (parted delim) values
+elements_of delim values = flat_map (split_elements delim) values
 
 -- `VAR value...`
 abbrev pub var_and_values : (ℕ → Text → List Text → Record) → ℕ × List Text → CallForm
-var_and_values make (delim, var ∷ value ∷ values) = Ok (keeps (make delim var (elements_of delim (value ∷ values))))
+var_and_values make (delim, var ∷ value ∷ values) = Ok (adds_record
+    (make delim var (elements_of delim (value ∷ values))))
 var_and_values make (delim, words) = Err bad_arguments
 
 -- the words of a path command
@@ -108,7 +109,7 @@ path_form make words = delimited words >>= var_and_values make
 -- at least one word
 abbrev pub some_words : (List Text → Record) → List Text → CallForm
 some_words make [] = Err bad_arguments
-some_words make (word ∷ words) = Ok (keeps (make (word ∷ words)))
+some_words make (word ∷ words) = Ok (adds_record (make (word ∷ words)))
 
 -- `getenv VAR ?default?`: without a default an unset variable has the empty text
 abbrev pub getenv_form : List Text → CallForm
@@ -117,13 +118,13 @@ getenv_form (var ∷ default ∷ []) = Ok (getenv var default)
 getenv_form words = Err bad_arguments
 
 -- `is-loaded ?NAME...?`
-abbrev pub asked_of_loaded : List Text → CallForm
-asked_of_loaded names = Ok (is_loaded names)
+abbrev pub is_loaded_form : List Text → CallForm
+is_loaded_form names = Ok (is_loaded names)
 
 -- `puts`: the evaluator hands on a channel and a text, or `-nonewline` before these
 abbrev pub puts_form : List Text → CallForm
-puts_form (channel ∷ text ∷ []) = Ok (says (text ++ 10 ∷ []))
-puts_form (option ∷ channel ∷ text ∷ []) = Ok (says text)
+puts_form (channel ∷ text ∷ []) = Ok (adds_message (text ++ 10 ∷ []))
+puts_form (option ∷ channel ∷ text ∷ []) = Ok (adds_message text)
 puts_form words = Err bad_arguments
 
 -- no further word
@@ -132,21 +133,21 @@ alone call [] = Ok call
 alone call (word ∷ words) = Err bad_arguments
 
 -- at most one further word
-abbrev pub told_or_tested : Topic → List Text → CallForm
-told_or_tested topic [] = Ok (tells topic)
-told_or_tested topic (word ∷ []) = Ok (tests topic word)
-told_or_tested topic (word ∷ other ∷ others) = Err bad_arguments
+abbrev pub field_form : InfoField → List Text → CallForm
+field_form field [] = Ok (info field)
+field_form field (word ∷ []) = Ok (info_test field word)
+field_form field (word ∷ other ∷ others) = Err bad_arguments
 
 -- `module-info`: with any other first word it is unsupported
 abbrev pub info_form : List Text → CallForm
 info_form [] = Err bad_arguments
-info_form (topic ∷ words) =
-    if bytes_eq topic (codes "mode") then told_or_tested mode words
-    else if bytes_eq topic (codes "name") then alone own_name words
-    else if bytes_eq topic (codes "specified") then alone typed_name words
-    else if bytes_eq topic (codes "shell") then told_or_tested shell words
-    else if bytes_eq topic (codes "shelltype") then told_or_tested shell_type words
-    else Err (left_out (codes "module-info " ++ topic))
+info_form (field ∷ words) =
+    if bytes_eq field (codes "mode") then field_form mode words
+    else if bytes_eq field (codes "name") then alone own_name words
+    else if bytes_eq field (codes "specified") then alone typed_name words
+    else if bytes_eq field (codes "shell") then field_form shell words
+    else if bytes_eq field (codes "shelltype") then field_form shell_type words
+    else Err (unsupported (codes "module-info " ++ field))
 
 -- the words of a description, joined by spaces
 abbrev pub description : List Text → Record
@@ -154,14 +155,14 @@ description words = Whatis (join_with_byte 32 words)
 
 -- why a name is no command of this tool
 abbrev pub not_a_command : Text → CallReason
-not_a_command name = if is_among left_out_module_commands name then left_out name else unknown
+not_a_command name = if is_among unsupported_module_commands name then unsupported name else unknown
 
 -- The command that these words call.
 unfoldable pub call_of : List Text → CallForm
 call_of [] = Err unknown
 call_of (name ∷ words) =
     if bytes_eq name (codes "setenv") then without_option (var_and_value Set) words
-    else if bytes_eq name (codes "unsetenv") then without_option var_and_perhaps words
+    else if bytes_eq name (codes "unsetenv") then without_option var_and_optional words
     else if bytes_eq name (codes "pushenv") then without_option (var_and_value Push) words
     else if bytes_eq name (codes "prepend-path") then path_form Front words
     else if bytes_eq name (codes "append-path") then path_form Back words
@@ -170,7 +171,7 @@ call_of (name ∷ words) =
     else if bytes_eq name (codes "prereq") then without_option (some_words Prereq) words
     else if bytes_eq name (codes "module-whatis") then some_words description words
     else if bytes_eq name (codes "getenv") then without_option getenv_form words
-    else if bytes_eq name (codes "is-loaded") then without_option asked_of_loaded words
+    else if bytes_eq name (codes "is-loaded") then without_option is_loaded_form words
     else if bytes_eq name (codes "module-info") then info_form words
     else if bytes_eq name (codes "puts") then puts_form words
     else Err (not_a_command name)

@@ -1,25 +1,25 @@
 -- The laws of modulefiles (own).
 use Rattle.std.specs.Prelude.{◌≡◌, ℕ, true, false, List, Some, Result, Ok}
 use Rattle.std.specs.List.{list_all}
-use Rattle.environment.specs.Texts.{Text}
+use Rattle.envvars.specs.Texts.{Text}
 use Rattle.tclrules.specs.Oracle as oracle
 use Rattle.tclrules.specs.Oracle.{OracleAnswer, Nothing, Done, Unknown, LeftOut, Refused, addition, is_question}
 use Rattle.tclrules.specs.declared.limits.Limits.{Limits}
 use Rattle.modulerecords.specs.Judgments.{is_proper}
 use Rattle.modulerecords.specs.Effects.{Mode, load, unload, display, whatis, effects}
 use Rattle.modulefile.specs.Calls.{call_of}
-use Rattle.modulefile.specs.Answers.{Context, oracle_of, call_adds, call_asks}
-use Rattle.modulefile.specs.Files.{Ran, Stop, RunsFile, IsSameOrRefused, play}
+use Rattle.modulefile.specs.Answers.{FileContext, oracle_of, call_adds, call_asks}
+use Rattle.modulefile.specs.Files.{Ran, FileReason, RunsFile, IsSameOrRefused, play}
 
 -- A modulefile has one outcome at most, and has one.
 abbrev pub OneOutcome : Type 0
 OneOutcome =
-    (limits : Limits) (c : Context) (text : Text) (o p : Result Ran Stop) → RunsFile limits c text o
+    (limits : Limits) (c : FileContext) (text : Text) (o p : Result Ran FileReason) → RunsFile limits c text o
     → RunsFile limits c text p
     → o ≡ p
 
 abbrev pub SomeOutcome : Type 0
-SomeOutcome = (limits : Limits) (c : Context) (text : Text) → (o : Result Ran Stop) × RunsFile limits c text o
+SomeOutcome = (limits : Limits) (c : FileContext) (text : Text) → (o : Result Ran FileReason) × RunsFile limits c text o
 
 -- the answer to a command that was done
 abbrev pub IsDone : OracleAnswer → Type 0
@@ -30,29 +30,31 @@ IsDone (Refused n name asks) = ⊥
 
 -- What a command adds that is done, and whether it is a question, depends on its words alone: not on the mode, the
 -- environment or the commands before it.
-abbrev pub WordsSay : Type 0
-WordsSay =
-    (c : Context) (told : List oracle.CommandWords) (words : List Text) → IsDone ((oracle_of c).command told words)
-    → (addition ((oracle_of c).command told words) ≡ call_adds words (call_of words))
-    × (is_question ((oracle_of c).command told words) ≡ call_asks (call_of words))
+abbrev pub WordsDecide : Type 0
+WordsDecide =
+    (c : FileContext) (records : List oracle.CommandWords) (words : List Text) → IsDone
+    ((oracle_of c).command records words)
+    → (addition ((oracle_of c).command records words) ≡ call_adds words (call_of words))
+    × (is_question ((oracle_of c).command records words) ≡ call_asks (call_of words))
 
 -- A command that isn't done adds nothing and is no question.
 abbrev pub NothingElseAdds : Type 0
 NothingElseAdds =
-    (c : Context) (told : List oracle.CommandWords) (words : List Text)
-    → (IsDone ((oracle_of c).command told words) → ⊥)
-    → (addition ((oracle_of c).command told words) ≡ Nothing) × (is_question ((oracle_of c).command told words) ≡ false)
+    (c : FileContext) (records : List oracle.CommandWords) (words : List Text)
+    → (IsDone ((oracle_of c).command records words) → ⊥)
+    → (addition ((oracle_of c).command records words) ≡ Nothing) ×
+    (is_question ((oracle_of c).command records words) ≡ false)
 
 -- The environment that a file leaves is the effects of its records, in the mode at hand, on the environment before it.
-abbrev pub RecordsMake : Type 0
-RecordsMake =
-    (limits : Limits) (c : Context) (text : Text) (ran : Ran) → RunsFile limits c text (Ok ran)
+abbrev pub RecordsHaveEffects : Type 0
+RecordsHaveEffects =
+    (limits : Limits) (c : FileContext) (text : Text) (ran : Ran) → RunsFile limits c text (Ok ran)
     → effects c.mode c.name ran.records c.start ≡ Ok ran.env
 
 -- Each of them is proper.
 abbrev pub RecordsAreProper : Type 0
 RecordsAreProper =
-    (limits : Limits) (c : Context) (text : Text) (ran : Ran) → RunsFile limits c text (Ok ran)
+    (limits : Limits) (c : FileContext) (text : Text) (ran : Ran) → RunsFile limits c text (Ok ran)
     → list_all is_proper ran.records ≡ true
 
 -- a mode that changes nothing
@@ -63,20 +65,23 @@ ChangesNothing display = Unit {0}
 ChangesNothing whatis = Unit {0}
 
 -- In such a mode the environment is unchanged.
-abbrev pub ShowingLeaves : Type 0
-ShowingLeaves =
-    (limits : Limits) (c : Context) (text : Text) (ran : Ran) → ChangesNothing c.mode → RunsFile limits c text (Ok ran)
+abbrev pub ShowingChangesNothing : Type 0
+ShowingChangesNothing =
+    (limits : Limits) (c : FileContext) (text : Text) (ran : Ran) → ChangesNothing c.mode → RunsFile limits c text
+    (Ok ran)
     → ran.env ≡ c.start
 
 -- A file that asked nothing leaves the same records in every context of the same name and path, whatever the mode, the
 -- environment, the shell, the typed name and the loaded modules; or it is refused there.
 abbrev pub PlainFilesAgree : Type 0
 PlainFilesAgree =
-    (limits : Limits) (c d : Context) (text : Text) (ran : Ran) (o : Result Ran Stop) → RunsFile limits c text (Ok ran)
+    (limits : Limits) (c d : FileContext) (text : Text) (ran : Ran) (o : Result Ran FileReason) → RunsFile limits c text
+    (Ok ran)
     → ran.asked ≡ false → d.name ≡ c.name → d.path ≡ c.path → RunsFile limits d text o → IsSameOrRefused ran o
 
 -- What playing a file gives is its outcome.
 abbrev pub PlayedRuns : Type 0
 PlayedRuns =
-    (limits : Limits) (c : Context) (text : Text) (steps : ℕ) (o : Result Ran Stop) → play limits c text steps ≡ Some o
+    (limits : Limits) (c : FileContext) (text : Text) (steps : ℕ) (o : Result Ran FileReason)
+    → play limits c text steps ≡ Some o
     → RunsFile limits c text o

@@ -1,7 +1,7 @@
 -- The numbers and texts of the faults of records (own): those of the variable's fault, or 44.
 use Rattle.std.specs.Prelude.{ℕ, codes, string_bytes}
 use Rattle.message.specs.Messages.{Text, quoting}
-use Rattle.environment.specs.Reasons as edits
+use Rattle.envvars.specs.Reasons as edits
 use Rattle.modulefile.specs.declared.record_fault.RecordFault.{RecordFault}
 use Rattle.modulefile.specs.declared.record_fault.RecordFault.TheVariants.{Env, BadModuleName}
 

@@ -1,9 +1,9 @@
 -- What the records of the code stand for in the definitions, and what its answers to their edits mean (own).
 use Rattle.std.specs.Prelude.{◌≡◌, string_bytes, Option, Some, None, IfSome, Result, Ok, Err}
 use Rattle.std.specs.Option.{option_map}
-use Rattle.environment.specs.Texts.{texts_in}
-use Rattle.environment.specs.Environment.{Environment}
-use Rattle.environment.specs.Reasons.{reason_of}
+use Rattle.envvars.specs.Texts.{texts_in}
+use Rattle.envvars.specs.Environment.{Environment}
+use Rattle.envvars.specs.Reasons.{reason_of}
 use Rattle.modulerecords.specs.Records as records
 use Rattle.modulerecords.specs.Judgments.{RecordReason, bad_edit, bad_module_name}
 use Rattle.modulerecords.specs.Effects as effects
@@ -27,7 +27,8 @@ abbrev pub record_view : Record → records.Record
 record_view (code.Set var value) = records.Set (string_bytes var) (string_bytes value)
 record_view (code.Unset var value) = records.Unset (string_bytes var) (option_map string_bytes value)
 record_view (code.Push var value) = records.Push (string_bytes var) (string_bytes value)
-record_view (code.Path edit delim var elements) = edit_record edit delim.character (string_bytes var) (texts_in elements)
+record_view (code.Path edit delim var elements) = edit_record edit delim.character (string_bytes var)
+    (texts_in elements)
 record_view (code.Conflict names) = records.Conflict (texts_in names)
 record_view (code.Prereq names) = records.Prereq (texts_in names)
 record_view (code.Whatis text) = records.Whatis (string_bytes text)

@@ -1,13 +1,13 @@
 -- The words in which rows state the outcomes of worked files, in every environment (own).
 use Rattle.std.specs.Prelude.{ℕ, true, false, List, [], ◌∷◌, ◌++◌, codes, Some, None, Ok, Err}
-use Rattle.environment.specs.Texts.{Text}
-use Rattle.environment.specs.Environment.{Environment, with_value}
+use Rattle.envvars.specs.Texts.{Text}
+use Rattle.envvars.specs.Environment.{Environment, with_value}
 use Rattle.tclrules.specs.Derivation.{Halt}
 use Rattle.tclrules.specs.declared.limits.Limits.{Limits}
 use Rattle.modulerecords.specs.Records.{Record}
 use Rattle.modulerecords.specs.Effects.{Mode, load, unload, display}
 use Rattle.shells.specs.declared.shell.Shell.TheVariants.{Sh}
-use Rattle.modulefile.specs.Answers.{Context}
+use Rattle.modulefile.specs.Answers.{FileContext}
 use Rattle.modulefile.specs.Files.{halted, refused, failed, RunsFile}
 
 -- the limits of every command
@@ -15,7 +15,7 @@ abbrev pub standard : Limits
 standard = record { commands = 100000; depth = 200; value_bytes = 1048576 }
 
 -- the module m/1, typed as m for sh, beside gcc/9
-abbrev pub context : Mode → Environment → Context
+abbrev pub context : Mode → Environment → FileContext
 context mode e =
     record {
       mode = mode;
@@ -29,16 +29,16 @@ context mode e =
     }
 
 -- the contexts of rows, by the environment before the file
-abbrev pub Seat : Type 0
-Seat = Environment → Context
+abbrev pub ContextAt : Type 0
+ContextAt = Environment → FileContext
 
-abbrev pub loading : Seat
+abbrev pub loading : ContextAt
 loading = context load
 
-abbrev pub unloading : Seat
+abbrev pub unloading : ContextAt
 unloading = context unload
 
-abbrev pub showing : Seat
+abbrev pub showing : ContextAt
 showing = context display
 
 -- the file of these lines, after the one that marks a modulefile
@@ -46,8 +46,8 @@ abbrev pub file : Text → Text
 file lines = codes "#%Module\n" ++ lines
 
 -- what the file makes of the environment: nothing, a variable set, or one unset
-abbrev pub stays : Environment → Environment
-stays e = e
+abbrev pub unchanged : Environment → Environment
+unchanged e = e
 
 abbrev pub sets : Text → Text → Environment → Environment
 sets var value e = with_value e var (Some value)
@@ -56,37 +56,37 @@ abbrev pub unsets : Text → Environment → Environment
 unsets var e = with_value e var None
 
 -- the file leaves these records, and makes this of the environment, and nothing is asked
-abbrev pub LeavesRecords : Seat → Text → List Record → (Environment → Environment) → Type 0
-LeavesRecords seat lines records makes =
+abbrev pub LeavesRecords : ContextAt → Text → List Record → (Environment → Environment) → Type 0
+LeavesRecords context_at lines records makes =
     (e : Environment)
-    → RunsFile standard (seat e) (file lines)
+    → RunsFile standard (context_at e) (file lines)
     (Ok (record { records = records; messages = []; asked = false; env = makes e }))
 
 -- the same, where something is asked
-abbrev pub LeavesAsking : Seat → Text → List Record → (Environment → Environment) → Type 0
-LeavesAsking seat lines records makes =
+abbrev pub LeavesAsking : ContextAt → Text → List Record → (Environment → Environment) → Type 0
+LeavesAsking context_at lines records makes =
     (e : Environment)
-    → RunsFile standard (seat e) (file lines)
+    → RunsFile standard (context_at e) (file lines)
     (Ok (record { records = records; messages = []; asked = true; env = makes e }))
 
 -- it leaves messages, and nothing else
-abbrev pub LeavesMessages : Seat → Text → List Text → Type 0
-LeavesMessages seat lines messages =
+abbrev pub LeavesMessages : ContextAt → Text → List Text → Type 0
+LeavesMessages context_at lines messages =
     (e : Environment)
-    → RunsFile standard (seat e) (file lines)
+    → RunsFile standard (context_at e) (file lines)
     (Ok (record { records = []; messages = messages; asked = false; env = e }))
 
 -- it is halted
-abbrev pub IsHalted : Seat → Text → Halt → Type 0
-IsHalted seat lines halt = (e : Environment) → RunsFile standard (seat e) (file lines) (Err (halted halt))
+abbrev pub IsHalted : ContextAt → Text → Halt → Type 0
+IsHalted context_at lines halt = (e : Environment) → RunsFile standard (context_at e) (file lines) (Err (halted halt))
 
 -- one of its commands is refused, by this number and for this name
-abbrev pub IsRefusedFor : Seat → Text → ℕ → Text → Type 0
-IsRefusedFor seat lines number name =
+abbrev pub IsRefusedFor : ContextAt → Text → ℕ → Text → Type 0
+IsRefusedFor context_at lines number name =
     (e : Environment)
-    → RunsFile standard (seat e) (file lines) (Err (refused (record { number = number; name = Some name })))
+    → RunsFile standard (context_at e) (file lines) (Err (refused (record { number = number; name = Some name })))
 
 -- it ends with an error that nothing caught, on this line
-abbrev pub FailsOnLine : Seat → Text → Text → ℕ → Type 0
-FailsOnLine seat lines message line =
-    (e : Environment) → RunsFile standard (seat e) (file lines) (Err (failed message line))
+abbrev pub FailsOnLine : ContextAt → Text → Text → ℕ → Type 0
+FailsOnLine context_at lines message line =
+    (e : Environment) → RunsFile standard (context_at e) (file lines) (Err (failed message line))

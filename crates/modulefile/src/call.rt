@@ -2,22 +2,22 @@
 ghost use Rattle.std.specs.Prelude.{◌≡◌, map, string_bytes};
 ghost use Rattle.std.specs.Option.{option_map};
 ghost use Rattle.tclchars.specs.Runs.{begins};
-ghost use Rattle.tclvalue.specs.Indexes.{after_front};
+ghost use Rattle.tclvalue.specs.Indexes.{after_prefix};
 ghost use Rattle.modulerecords.specs.Records.{Set, Push, Conflict, Prereq};
-ghost use Rattle.modulefile.specs.Calls.{no_option, without_option, var_and_value, var_and_perhaps, with_delimiter, by_next_word, by_same_word};
-ghost use Rattle.modulefile.specs.Calls.{by_option, delimited, path_form, some_words, getenv_form, puts_form, told_or_tested};
-ghost use Rattle.modulefile.specs.Calls.{alone, info_form, description, asked_of_loaded, not_a_command, call_of};
+ghost use Rattle.modulefile.specs.Calls.{no_option, without_option, var_and_value, var_and_optional, with_delimiter, by_next_word, by_same_word};
+ghost use Rattle.modulefile.specs.Calls.{by_option, delimited, path_form, some_words, getenv_form, puts_form, field_form};
+ghost use Rattle.modulefile.specs.Calls.{alone, info_form, description, is_loaded_form, not_a_command, call_of};
 ghost use Rattle.tclchars.specs.Answers.{Gives};
-ghost use Rattle.modulefile.specs.CallViews.{reason_of, HasReason, texts_of, call_view, edit_record, topic_view, path_words_view};
+ghost use Rattle.modulefile.specs.CallViews.{reason_of, HasReason, texts_of, call_view, edit_record, field_view, path_words_view};
 
 use crate::call_fault::CallFault;
 use crate::delimiter::Delimiter;
 use std::alloc::Global;
-use tclarguments::is_left_out_of_modules;
+use tclforms::is_unsupported_in_modulefiles;
 
 /// What `module-info` answers with its first word alone, and tests where a second word follows.
 #[derive(Clone, Copy, Debug, PartialEq, Eq)]
-pub enum Topic {
+pub enum InfoField {
     /// What the file is evaluated for, `load` or `unload` or another mode.
     Mode,
     /// The shell that gets the text, by its name.
@@ -69,7 +69,7 @@ pub enum Call<'a> {
     /// `module-whatis WORD...`
     Whatis(&'a [String]),
     /// `puts ?-nonewline? stderr TEXT`
-    Say {
+    Puts {
         text: &'a str,
         newline: bool,
     },
@@ -84,10 +84,10 @@ pub enum Call<'a> {
     OwnName,
     /// `module-info specified`
     TypedName,
-    /// `module-info TOPIC`
-    Tell(Topic),
-    /// `module-info TOPIC WORD`
-    Test(Topic, &'a str),
+    /// `module-info FIELD`
+    Info(InfoField),
+    /// `module-info FIELD WORD`
+    InfoTest(InfoField, &'a str),
 }
 
 /// The delimiter of a path command, and its words from VAR on.
@@ -137,7 +137,7 @@ fn push_form(words: &[String]) -> Result<Call<'_>, CallFault>
 
 /// Reads the words of `unsetenv`.
 fn unset_form(words: &[String]) -> Result<Call<'_>, CallFault>
-    ensures { Gives reason_of call_view result (without_option var_and_perhaps (map string_bytes words.entry.now)) }
+    ensures { Gives reason_of call_view result (without_option var_and_optional (map string_bytes words.entry.now)) }
 {
     match no_option(words)? {
         [var] => Ok(Call::Unset { var, value: None }),
@@ -259,7 +259,7 @@ fn getenv_form(words: &[String]) -> Result<Call<'_>, CallFault>
 
 /// Reads the words of `is-loaded`.
 fn loaded_form(words: &[String]) -> Result<Call<'_>, CallFault>
-    ensures { Gives reason_of call_view result (without_option asked_of_loaded (map string_bytes words.entry.now)) }
+    ensures { Gives reason_of call_view result (without_option is_loaded_form (map string_bytes words.entry.now)) }
 {
     Ok(Call::IsLoaded(no_option(words)?))
 }
@@ -269,11 +269,11 @@ fn puts_form(words: &[String]) -> Result<Call<'_>, CallFault>
     ensures { Gives reason_of call_view result (puts_form (map string_bytes words.entry.now)) }
 {
     match words {
-        [_, text] => Ok(Call::Say {
+        [_, text] => Ok(Call::Puts {
             text,
             newline: true,
         }),
-        [_, _, text] => Ok(Call::Say {
+        [_, _, text] => Ok(Call::Puts {
             text,
             newline: false,
         }),
@@ -282,12 +282,12 @@ fn puts_form(words: &[String]) -> Result<Call<'_>, CallFault>
 }
 
 /// Reads the words of `module-info` after its first: none, or one that is tested.
-fn told_or_tested(topic: Topic, words: &[String]) -> Result<Call<'_>, CallFault>
-    ensures { Gives reason_of call_view result (told_or_tested (topic_view topic) (map string_bytes words.entry.now)) }
+fn field_form(field: InfoField, words: &[String]) -> Result<Call<'_>, CallFault>
+    ensures { Gives reason_of call_view result (field_form (field_view field) (map string_bytes words.entry.now)) }
 {
     match words {
-        [] => Ok(Call::Tell(topic)),
-        [word] => Ok(Call::Test(topic, word)),
+        [] => Ok(Call::Info(field)),
+        [word] => Ok(Call::InfoTest(field, word)),
         _ => Err(CallFault::BadArguments),
     }
 }
@@ -306,31 +306,32 @@ fn alone<'a>(call: Call<'a>, words: &[String]) -> Result<Call<'a>, CallFault>
 fn info_form<'a>(alloc: Global, words: &'a [String]) -> Result<Call<'a>, CallFault>
     ensures { Gives reason_of call_view result (info_form (map string_bytes words.entry.now)) }
 {
-    let [topic, others @ ..] = words else {
+    let [field, others @ ..] = words else {
         return Err(CallFault::BadArguments);
     };
-    match topic.as_str() {
-        "mode" => told_or_tested(Topic::Mode, others),
+    match field.as_str() {
+        "mode" => field_form(InfoField::Mode, others),
         "name" => alone(Call::OwnName, others),
         "specified" => alone(Call::TypedName, others),
-        "shell" => told_or_tested(Topic::Shell, others),
-        "shelltype" => told_or_tested(Topic::ShellType, others),
-        other => Err(CallFault::left_out_info(alloc, other)),
+        "shell" => field_form(InfoField::Shell, others),
+        "shelltype" => field_form(InfoField::ShellType, others),
+        other => Err(CallFault::unsupported_info(alloc, other)),
     }
 }
 
 /// The fault of a name that is no command of this tool: unsupported on purpose, or unknown.
-fn unknown_or_left_out(alloc: Global, name: &str) -> CallFault
+fn unknown_or_unsupported(alloc: Global, name: &str) -> CallFault
     ensures { HasReason (not_a_command name.now) result }
 {
-    if is_left_out_of_modules(name) {
-        CallFault::left_out(alloc, name)
+    if is_unsupported_in_modulefiles(name) {
+        CallFault::unsupported(alloc, name)
     } else {
         CallFault::Unknown
     }
 }
 
-/// The command that these words call, the first of which is its name. Nothing of the environment is looked at.
+/// The command that these words call, the first of which is its name. Nothing of the environment is looked at. The
+/// name of each such command is reserved too (`tclforms/src/names.rt`), so that no procedure takes it.
 ///
 /// Errors: `Unknown`, no such command is known; `LeftOut` (19), the command, or this part of it, is unsupported;
 /// `BadArguments` (56), the words don't fit the command, as a wrong number of them, an option, or a delimiter that
@@ -356,6 +357,6 @@ pub fn call_of<'a>(alloc: Global, words: &'a [String]) -> Result<Call<'a>, CallF
         "is-loaded" => loaded_form(others),
         "module-info" => info_form(alloc, others),
         "puts" => puts_form(others),
-        other => Err(unknown_or_left_out(alloc, other)),
+        other => Err(unknown_or_unsupported(alloc, other)),
     }
 }

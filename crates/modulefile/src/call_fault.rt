@@ -1,6 +1,6 @@
 //! Why the words of a command of a modulefile call none.
 ghost use Rattle.std.specs.Prelude.{◌++◌, codes};
-ghost use Rattle.modulefile.specs.Calls.{left_out};
+ghost use Rattle.modulefile.specs.Calls.{unsupported};
 ghost use Rattle.modulefile.specs.CallViews.{HasReason};
 
 use std::alloc::{AllocError, Global};
@@ -20,8 +20,8 @@ pub enum CallFault {
 
 impl CallFault {
     /// The fault that the command of this name is unsupported.
-    pub(crate) fn left_out(alloc: Global, name: &str) -> CallFault
-        ensures { HasReason (left_out name.now) result }
+    pub(crate) fn unsupported(alloc: Global, name: &str) -> CallFault
+        ensures { HasReason (unsupported name.now) result }
     {
         match String::from_str(alloc, name) {
             Ok(name) => CallFault::LeftOut(name),
@@ -30,10 +30,10 @@ impl CallFault {
     }
 
     /// The fault that `module-info` is unsupported with this first word.
-    pub(crate) fn left_out_info(alloc: Global, topic: &str) -> CallFault
-        ensures { HasReason (left_out (codes "module-info " ++ topic.now)) result }
+    pub(crate) fn unsupported_info(alloc: Global, field: &str) -> CallFault
+        ensures { HasReason (unsupported (codes "module-info " ++ field.now)) result }
     {
-        match format!(in alloc; "module-info {topic}") {
+        match format!(in alloc; "module-info {field}") {
             Ok(name) => CallFault::LeftOut(name),
             Err(_) => CallFault::OutOfMemory,
         }

@@ -2,9 +2,9 @@
 ghost use Rattle.std.specs.Prelude.{◌≡◌, ◌<◌, map, string_bytes};
 ghost use Rattle.std.specs.List.{list_all};
 ghost use Rattle.std.specs.Option.{option_map};
-ghost use Rattle.environment.specs.Reasons.{Edits, bad_value};
-ghost use Rattle.pathstate.specs.PathVariables.{is_element, path_reason, added_path, dropped_path};
-ghost use Rattle.modulerecords.specs.Judgments.{bad_edit, plain_reason, values_of, names_reason, record_reason};
+ghost use Rattle.envvars.specs.Reasons.{Edits, bad_value};
+ghost use Rattle.envpaths.specs.PathVariables.{is_element, path_reason, added_path, dropped_path};
+ghost use Rattle.modulerecords.specs.Judgments.{bad_edit, value_reason, values_of, names_reason, record_reason};
 ghost use Rattle.modulerecords.specs.Effects.{loaded_by, unloaded_by, edited, effect};
 ghost use Rattle.modulefile.specs.RecordViews.{record_view, mode_view, IsJudged, IsEdited, HasFault};
 
@@ -12,11 +12,11 @@ use crate::call::PathEdit;
 use crate::delimiter::Delimiter;
 use crate::record_fault::RecordFault;
 use crate::records::{Mode, Record};
-use environment::fields::slices;
-use environment::{EnvFault, Vars, is_plain_value, judge_name};
+use envpaths::{End, add_path, drop_path};
+use envstacks::{pop_value, push_value};
+use envvars::fields::slices;
+use envvars::{EnvFault, Vars, is_nul_free, judge_name};
 use modulename::is_module_name;
-use pathstate::{End, add_path, drop_path};
-use stackstate::{pop_value, push_value};
 use std::alloc::Global;
 
 /// The fault of a variable that can't take a value (37).
@@ -30,15 +30,15 @@ fn bad_value(alloc: Global, var: &str) -> RecordFault
 }
 
 /// Refuses a variable that can't be edited, and then a value with NUL.
-fn judge_plain(alloc: Global, var: &str, value: Option<&str>) -> Result<(), RecordFault>
+fn judge_value(alloc: Global, var: &str, value: Option<&str>) -> Result<(), RecordFault>
     ensures { IsJudged result
-        (option_map bad_edit (plain_reason var.now (values_of (option_map (λ v. v.now) value.entry)))) }
+        (option_map bad_edit (value_reason var.now (values_of (option_map (λ v. v.now) value.entry)))) }
 {
     if let Err(fault) = judge_name(alloc, var) {
         return Err(RecordFault::Env(fault));
     }
     match value {
-        Some(value) if !is_plain_value(value) => Err(bad_value(alloc, var)),
+        Some(value) if !is_nul_free(value) => Err(bad_value(alloc, var)),
         _ => Ok(()),
     }
 }
@@ -106,9 +106,9 @@ fn judge(alloc: Global, recorded: &Record) -> Result<(), RecordFault>
     ensures { IsJudged result (record_reason (record_view recorded.now)) }
 {
     match recorded {
-        Record::Set { var, value } => judge_plain(alloc, var, Some(value.as_str())),
-        Record::Unset { var, value } => judge_plain(alloc, var, value.as_deref()),
-        Record::Push { var, value } => judge_plain(alloc, var, Some(value.as_str())),
+        Record::Set { var, value } => judge_value(alloc, var, Some(value.as_str())),
+        Record::Unset { var, value } => judge_value(alloc, var, value.as_deref()),
+        Record::Push { var, value } => judge_value(alloc, var, Some(value.as_str())),
         Record::Path {
             delim,
             var,
@@ -132,7 +132,7 @@ fn add<V: Vars>(
 ) -> Result<(), EnvFault>
     ensures edits { Edits result (V.vars env.old) (V.vars env.new)
         (added_path (V.vars env.old) var.now delim.character (map string_bytes elements.entry.now) end) }
-    ensures under { V.under env.new ≡ V.under env.old }
+    ensures base { V.base env.new ≡ V.base env.old }
 {
     let slices = slices(alloc, elements)?;
     add_path(alloc, env, var, delim.character, slices.as_slice(), end)
@@ -148,7 +148,7 @@ fn drop<V: Vars>(
 ) -> Result<(), EnvFault>
     ensures edits { Edits result (V.vars env.old) (V.vars env.new)
         (dropped_path (V.vars env.old) var.now delim.character (map string_bytes elements.entry.now)) }
-    ensures under { V.under env.new ≡ V.under env.old }
+    ensures base { V.base env.new ≡ V.base env.old }
 {
     let slices = slices(alloc, elements)?;
     drop_path(alloc, env, var, delim.character, slices.as_slice())
@@ -158,7 +158,7 @@ fn drop<V: Vars>(
 fn load<V: Vars>(alloc: Global, owner: &str, recorded: &Record, env: &mut V) -> Result<(), EnvFault>
     ensures edits { Edits result (V.vars env.old) (V.vars env.new)
         (loaded_by owner.now (record_view recorded.now) (V.vars env.old)) }
-    ensures under { V.under env.new ≡ V.under env.old }
+    ensures base { V.base env.new ≡ V.base env.old }
 {
     match recorded {
         Record::Set { var, value } => env.set(var, value),
@@ -189,7 +189,7 @@ fn unload<V: Vars>(
 ) -> Result<(), EnvFault>
     ensures edits { Edits result (V.vars env.old) (V.vars env.new)
         (unloaded_by owner.now (record_view recorded.now) (V.vars env.old)) }
-    ensures under { V.under env.new ≡ V.under env.old }
+    ensures base { V.base env.new ≡ V.base env.old }
 {
     match recorded {
         Record::Set { var, .. } => env.unset(var),
@@ -224,7 +224,7 @@ fn edit<V: Vars>(
 ) -> Result<(), EnvFault>
     ensures edits { Edits result (V.vars env.old) (V.vars env.new)
         (edited (mode_view mode) owner.now (record_view recorded.now) (V.vars env.old)) }
-    ensures under { V.under env.new ≡ V.under env.old }
+    ensures base { V.base env.new ≡ V.base env.old }
 {
     match mode {
         Mode::Load => load(alloc, owner, recorded, env),
@@ -249,7 +249,7 @@ pub fn effect<V: Vars>(
 ) -> Result<(), RecordFault>
     ensures edits { IsEdited result (V.vars env.old) (V.vars env.new)
         (effect (mode_view mode) owner.now (record_view recorded.now) (V.vars env.old)) }
-    ensures under { V.under env.new ≡ V.under env.old }
+    ensures base { V.base env.new ≡ V.base env.old }
 {
     judge(alloc, recorded)?;
     match edit(alloc, mode, owner, recorded, env) {

@@ -1,11 +1,11 @@
 //! Laws of modulefiles. Each function does nothing: its contract is the law.
-ghost use Rattle.modulefile.specs.Laws.{OneOutcome, SomeOutcome, RecordsMake, RecordsAreProper, ShowingLeaves};
-ghost use Rattle.modulefile.specs.Laws.{WordsSay, NothingElseAdds, PlainFilesAgree, PlayedRuns};
+ghost use Rattle.modulefile.specs.Laws.{OneOutcome, SomeOutcome, RecordsHaveEffects, RecordsAreProper, ShowingChangesNothing};
+ghost use Rattle.modulefile.specs.Laws.{WordsDecide, NothingElseAdds, PlainFilesAgree, PlayedRuns};
 
 /// Which record or message a command adds, and whether it is a question, depends on its words alone. A command that
 /// isn't done adds nothing and is no question.
 pub fn words()
-    ensures say { WordsSay }
+    ensures decide { WordsDecide }
     ensures nothing { NothingElseAdds }
 {}
 
@@ -14,9 +14,9 @@ pub fn words()
 pub fn files()
     ensures one { OneOutcome }
     ensures some { SomeOutcome }
-    ensures have_effects { RecordsMake }
+    ensures have_effects { RecordsHaveEffects }
     ensures proper { RecordsAreProper }
-    ensures showing { ShowingLeaves }
+    ensures showing { ShowingChangesNothing }
 {
     tclrules::some_outcome();
 }

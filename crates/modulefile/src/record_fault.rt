@@ -5,7 +5,7 @@ ghost use Rattle.modulefile.specs.Answers.{record_number};
 ghost use Rattle.modulefile.specs.RecordFaults.{number_of, message_of};
 ghost use Rattle.modulefile.specs.RecordViews.{fault_reason};
 
-use environment::EnvFault;
+use envvars::EnvFault;
 use message::Message;
 use std::error::Error;
 use std::fmt;

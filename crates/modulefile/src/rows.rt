@@ -5,7 +5,7 @@ ghost use Rattle.tclrules.specs.Derivation.{LeftOut};
 ghost use Rattle.modulerecords.specs.Records.{Set, Unset, Front, Back, Conflict, Prereq, Whatis};
 ghost use Rattle.modulefile.specs.Reports.{show_text, whatis_text};
 ghost use Rattle.modulefile.specs.Rows.{loading, unloading, showing};
-ghost use Rattle.modulefile.specs.Rows.{stays, sets, unsets, LeavesRecords, LeavesAsking, LeavesMessages, IsHalted, IsRefusedFor, FailsOnLine};
+ghost use Rattle.modulefile.specs.Rows.{unchanged, sets, unsets, LeavesRecords, LeavesAsking, LeavesMessages, IsHalted, IsRefusedFor, FailsOnLine};
 
 /// Records and effects, by mode.
 pub fn file_rows()
@@ -14,7 +14,7 @@ pub fn file_rows()
     ensures unload { LeavesRecords unloading (codes "setenv K 1\nconflict k\n")
         (Set (codes "K") (codes "1") ∷ Conflict (codes "k" ∷ []) ∷ []) (unsets (codes "K")) }
     ensures display { LeavesRecords showing (codes "setenv K 1\nconflict k\n")
-        (Set (codes "K") (codes "1") ∷ Conflict (codes "k" ∷ []) ∷ []) stays }
+        (Set (codes "K") (codes "1") ∷ Conflict (codes "k" ∷ []) ∷ []) unchanged }
     ensures unset_back { LeavesRecords unloading (codes "unsetenv LANG C")
         (Unset (codes "LANG") (Some (codes "C")) ∷ []) (sets (codes "LANG") (codes "C")) }
 {}
@@ -23,23 +23,23 @@ pub fn file_rows()
 pub fn path_rows()
     ensures delimiters { LeavesRecords showing (codes "prepend-path -d {;} Q {a:b;c}\nappend-path --delim=: Q a:b")
         (Front 59 (codes "Q") (codes "a:b" ∷ codes "c" ∷ []) ∷ Back 58 (codes "Q") (codes "a" ∷ codes "b" ∷ [])
-        ∷ []) stays }
-    ensures value_behind { LeavesRecords showing (codes "prepend-path P -d a")
-        (Front 58 (codes "P") (codes "-d" ∷ codes "a" ∷ []) ∷ []) stays }
+        ∷ []) unchanged }
+    ensures value_after { LeavesRecords showing (codes "prepend-path P -d a")
+        (Front 58 (codes "P") (codes "-d" ∷ codes "a" ∷ []) ∷ []) unchanged }
 {}
 
 /// Questions, which leave the mark that the file asked.
 pub fn question_rows()
-    ensures mode_unload { LeavesAsking unloading (codes "if {[module-info mode load]} {setenv X 1}") [] stays }
+    ensures mode_unload { LeavesAsking unloading (codes "if {[module-info mode load]} {setenv X 1}") [] unchanged }
     ensures loaded { LeavesAsking loading
         (codes "setenv A [is-loaded gcc][is-loaded gc][is-loaded x gcc/9][is-loaded]")
         (Set (codes "A") (codes "1011") ∷ []) (sets (codes "A") (codes "1011")) }
     ensures getenv_shown { LeavesAsking showing (codes "setenv H [getenv HOME]")
-        (Set (codes "H") (codes "$HOME") ∷ []) stays }
+        (Set (codes "H") (codes "$HOME") ∷ []) unchanged }
 {}
 
 /// How files end, and their messages.
-pub fn ending_rows()
+pub fn completion_rows()
     ensures messages { LeavesMessages loading (codes "puts stderr hi\nputs -nonewline stderr ho")
         (codes "hi\n" ∷ codes "ho" ∷ []) }
     ensures returns { LeavesRecords loading (codes "setenv A 1; return; setenv B 2")
@@ -50,7 +50,7 @@ pub fn ending_rows()
 /// Files that are refused, by which number and for which name.
 pub fn refused_rows()
     ensures protected { IsRefusedFor loading (codes "catch {setenv LOADEDMODULES x}") 33 (codes "LOADEDMODULES") }
-    ensures topic { IsHalted loading (codes "module-info nope x y") (LeftOut (codes "module-info nope")) }
+    ensures field { IsHalted loading (codes "module-info nope x y") (LeftOut (codes "module-info nope")) }
 {}
 
 /// The reports of `show` and `whatis`, whose words are written as a list of Tcl.

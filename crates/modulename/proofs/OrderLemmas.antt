@@ -6,10 +6,10 @@ use Rattle.std.specs.Cmp.Lexicographic.{slice_cmp}
 use Rattle.std.proofs.lemmas.Cmp.{then_total, on_total, lists_total, nat_cmp_total, nat_list_cmp_total}
 use Rattle.std.proofs.lemmas.Map.Lookups.{exact_bytes}
 use Rattle.modulename.specs.ModuleName.{Text}
-use Rattle.modulename.specs.Versions.{pieces, place, number, piece_order, version_order, IsGreatest, HasOneGreatest}
+use Rattle.modulename.specs.Versions.{pieces, rank, number, piece_order, version_order, IsGreatest, HasOneGreatest}
 
 pub total : IsTotalOrder version_order
-total = then_total (on_total pieces (lists_total (then_total (on_total place nat_cmp_total) (on_total number nat_cmp_total)))) nat_list_cmp_total
+total = then_total (on_total pieces (lists_total (then_total (on_total rank nat_cmp_total) (on_total number nat_cmp_total)))) nat_list_cmp_total
 
 second : (o p : Ordering) → ordering_then o p ≡ Equal → p ≡ Equal
 second Less p e = absurd (cc)

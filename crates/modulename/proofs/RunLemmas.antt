@@ -9,11 +9,11 @@ use Rattle.std.specs.Cmp.Lexicographic.{slice_cmp}
 use Rattle.std.proofs.Math.Nat.{pow-succ', pow-le-pow_right, mul-le-mul_right}
 use Rattle.std.proofs.lemmas.Bool.{and_parts, cases_lt}
 use Rattle.std.proofs.lemmas.Bool.Decides.{nat_tests}
-use Rattle.modulename.specs.Versions.{is_digit, with_digit, pieces, pieces_behind, run}
-use Rattle.modulename.specs.DigitRuns.{number_behind, number_of, are_digits, begins_digit, begins_zero, FollowsDigits}
+use Rattle.modulename.specs.Versions.{is_digit, with_digit, pieces, pieces_after, run}
+use Rattle.modulename.specs.DigitRuns.{number_after, number_of, are_digits, begins_digit, begins_zero, IsAfterDigits}
 
 pieces_behind_run : (n : ℕ) (ds rest : List ℕ) → are_digits ds ≡ true → begins_digit rest ≡ false
-    → pieces_behind (Some n) (ds ++ rest) ≡ run (number_behind n ds) ∷ pieces rest
+    → pieces_after (Some n) (ds ++ rest) ≡ run (number_after n ds) ∷ pieces rest
 pieces_behind_run n [] [] h k = refl
 pieces_behind_run n [] (b ∷ bs) h k = rw k refl
 pieces_behind_run n (d ∷ ds) rest h k =
@@ -40,16 +40,16 @@ below_step : (n x p v : ℕ) → x ≤ 9 → v < (10 * n + x + 1) * p → v < (n
 below_step n x p v small h = omega (arith, mul-le-mul_right {m = x} {n = 9} p small)
 
 -- between which powers of ten a number lies
-at_least : (n : ℕ) (ds : List ℕ) → n * 10 ^ length ds ≤ number_behind n ds
+at_least : (n : ℕ) (ds : List ℕ) → n * 10 ^ length ds ≤ number_after n ds
 at_least n [] = omega arith
-at_least n (d ∷ ds) = rw pow-succ' (at_least_step n (d - 48) (10 ^ length ds) (number_behind (with_digit n d) ds) (at_least (with_digit n d) ds))
+at_least n (d ∷ ds) = rw pow-succ' (at_least_step n (d - 48) (10 ^ length ds) (number_after (with_digit n d) ds) (at_least (with_digit n d) ds))
 
-below : (n : ℕ) (ds : List ℕ) → are_digits ds ≡ true → number_behind n ds < (n + 1) * 10 ^ length ds
+below : (n : ℕ) (ds : List ℕ) → are_digits ds ≡ true → number_after n ds < (n + 1) * 10 ^ length ds
 below n [] h = omega arith
 below n (d ∷ ds) h =
     let p = and_parts (is_digit d) (are_digits ds) h in
     let small : d - 48 ≤ 9 = omega (arith, digit_bounds d p.0) in
-    rw pow-succ' (below_step n (d - 48) (10 ^ length ds) (number_behind (with_digit n d) ds) small (below (with_digit n d) ds p.1))
+    rw pow-succ' (below_step n (d - 48) (10 ^ length ds) (number_after (with_digit n d) ds) small (below (with_digit n d) ds p.1))
 
 less : (x y : ℕ) → x < y → nat_cmp x y ≡ Less
 less x y h = grind (arith, nat_tests)
@@ -62,14 +62,14 @@ equal x = grind (arith, nat_tests)
 
 -- two numbers with as many digits
 same_length : (m : ℕ) (a b : List ℕ) → length a ≡ length b → are_digits a ≡ true → are_digits b ≡ true
-    → slice_cmp nat_cmp a b ≡ nat_cmp (number_behind m a) (number_behind m b)
+    → slice_cmp nat_cmp a b ≡ nat_cmp (number_after m a) (number_after m b)
 same_length m [] [] e h k = sym (equal m)
 same_length m [] (y ∷ ys) e h k = absurd (omega arith)
 same_length m (x ∷ xs) [] e h k = absurd (omega arith)
 same_length m (x ∷ xs) (y ∷ ys) e h k = elim (cases_lt x y) [
-  | inl lt ↦ rw (less x y lt) (sym (less (number_behind (with_digit m x) xs) (number_behind (with_digit m y) ys) (first_below x y xs ys lt he hx hxs hy)))
+  | inl lt ↦ rw (less x y lt) (sym (less (number_after (with_digit m x) xs) (number_after (with_digit m y) ys) (first_below x y xs ys lt he hx hxs hy)))
   | inr ge ↦ elim (cases_lt y x) [
-    | inl gt ↦ rw (greater x y gt) (sym (greater (number_behind (with_digit m x) xs) (number_behind (with_digit m y) ys) (first_below y x ys xs gt (sym he) hy hys hx)))
+    | inl gt ↦ rw (greater x y gt) (sym (greater (number_after (with_digit m x) xs) (number_after (with_digit m y) ys) (first_below y x ys xs gt (sym he) hy hys hx)))
     | inr le ↦ same (same_length (with_digit m x) xs ys he hxs hys) (let q : x ≡ y = omega arith in q)
   ]
 ]
@@ -90,7 +90,7 @@ same_length m (x ∷ xs) (y ∷ ys) e h k = elim (cases_lt x y) [
     he = omega arith
 
     first_below : (a b : ℕ) (cs bs : List ℕ) → a < b → length cs ≡ length bs → is_digit a ≡ true → are_digits cs ≡ true → is_digit b ≡ true
-        → number_behind (with_digit m a) cs < number_behind (with_digit m b) bs
+        → number_after (with_digit m a) cs < number_after (with_digit m b) bs
     first_below a b cs bs lt same_len ha hcs hb =
         let low : 48 ≤ a = (digit_bounds a ha).0 in
         let more : with_digit m a + 1 ≤ with_digit m b = omega arith in
@@ -98,12 +98,12 @@ same_length m (x ∷ xs) (y ∷ ys) e h k = elim (cases_lt x y) [
         let power : with_digit m b * 10 ^ length cs ≡ with_digit m b * 10 ^ length bs = ap (λ n. with_digit m b * 10 ^ n) same_len in
         omega (arith, below (with_digit m a) cs hcs, at_least (with_digit m b) bs, product, power)
 
-    same : slice_cmp nat_cmp xs ys ≡ nat_cmp (number_behind (with_digit m x) xs) (number_behind (with_digit m x) ys)
-        → x ≡ y → ordering_then (nat_cmp x y) (slice_cmp nat_cmp xs ys) ≡ nat_cmp (number_behind (with_digit m x) xs) (number_behind (with_digit m y) ys)
+    same : slice_cmp nat_cmp xs ys ≡ nat_cmp (number_after (with_digit m x) xs) (number_after (with_digit m x) ys)
+        → x ≡ y → ordering_then (nat_cmp x y) (slice_cmp nat_cmp xs ys) ≡ nat_cmp (number_after (with_digit m x) xs) (number_after (with_digit m y) ys)
     same rest q =
         ap (λ o. ordering_then o (slice_cmp nat_cmp xs ys)) (ap (nat_cmp x) (sym q) ∙ equal x)
         ∙ rest
-        ∙ ap (λ d. nat_cmp (number_behind (with_digit m x) xs) (number_behind (with_digit m d) ys)) q
+        ∙ ap (λ d. nat_cmp (number_after (with_digit m x) xs) (number_after (with_digit m d) ys)) q
 
 -- a number with fewer digits is less
 shorter : (a b : List ℕ) → are_digits a ≡ true → are_digits b ≡ true → begins_zero b ≡ false → length a < length b → number_of a < number_of b
@@ -141,14 +141,14 @@ one_more_digit (d ∷ ds) b h k =
 
 -- a step over one more digit
 pub behind_one : (text rest after : List ℕ) → after ≡ take (length rest - 1) (drop 1 rest) → 1 ≤ length rest
-    → is_digit (get_or rest 0 0) ≡ true → FollowsDigits text rest → FollowsDigits text after
+    → is_digit (get_or rest 0 0) ≡ true → IsAfterDigits text rest → IsAfterDigits text after
 behind_one text [] after e some digit follows = absurd (omega arith)
 behind_one text (b ∷ bs) after e some digit (front, whole, digits) =
     let is : after ≡ bs = e ∙ take_all (length (b ∷ bs) - 1) bs (omega arith) in
     (front ++ b ∷ [], whole ∙ sym (append_assoc front (b ∷ []) bs) ∙ ap (λ x. (front ++ b ∷ []) ++ x) (sym is), one_more_digit front b digits digit)
 
 -- the digits in front, and what follows them, cut at their place
-pub cut : (text rest : List ℕ) (n : ℕ) → FollowsDigits text rest → n ≡ length text - length rest
+pub cut : (text rest : List ℕ) (n : ℕ) → IsAfterDigits text rest → n ≡ length text - length rest
     → (are_digits (take n text) ≡ true) × (drop n text ≡ rest)
 cut text rest n (front, whole, digits) e =
     let q : n ≡ length front = omega (arith, ap length whole, length-append front rest) in (

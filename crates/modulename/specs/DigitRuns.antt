@@ -6,13 +6,13 @@ use Rattle.modulename.specs.declared.piece.Piece as rust_piece
 use Rattle.modulename.specs.declared.piece.Piece.TheVariants.{Run, Other}
 
 -- the number whose digits are those of n and then these
-abbrev pub number_behind : ℕ → List ℕ → ℕ
-number_behind n [] = n
-number_behind n (d ∷ ds) = number_behind (with_digit n d) ds
+abbrev pub number_after : ℕ → List ℕ → ℕ
+number_after n [] = n
+number_after n (d ∷ ds) = number_after (with_digit n d) ds
 
 -- the number of a run of digits
 abbrev pub number_of : List ℕ → ℕ
-number_of ds = number_behind 0 ds
+number_of ds = number_after 0 ds
 
 abbrev pub are_digits : List ℕ → Bool
 are_digits ds = list_all is_digit ds
@@ -22,8 +22,8 @@ begins_digit [] = false
 begins_digit (b ∷ bs) = is_digit b
 
 -- the text is digits, and then the rest
-abbrev pub FollowsDigits : List ℕ → List ℕ → Type 0
-FollowsDigits text rest = (prefix : List ℕ) × (text ≡ prefix ++ rest) × (are_digits prefix ≡ true)
+abbrev pub IsAfterDigits : List ℕ → List ℕ → Type 0
+IsAfterDigits text rest = (prefix : List ℕ) × (text ≡ prefix ++ rest) × (are_digits prefix ≡ true)
 
 abbrev pub begins_zero : List ℕ → Bool
 begins_zero [] = false

@@ -7,12 +7,12 @@ abbrev pub Text : Type 0
 Text = List ℕ
 
 -- space, tab, newline, vertical tab, form feed, carriage return
-abbrev pub is_white : ℕ → Bool
-is_white b = b == 32 || (nat_le 9 b && nat_le b 13)
+abbrev pub is_white_space : ℕ → Bool
+is_white_space b = b == 32 || (nat_le 9 b && nat_le b 13)
 
 -- a byte that no name holds: NUL, white space, or one of `: & | \ @`
 abbrev pub is_forbidden : ℕ → Bool
-is_forbidden b = b == 0 || is_white b || b == 58 || b == 38 || b == 124 || b == 92 || b == 64
+is_forbidden b = b == 0 || is_white_space b || b == 58 || b == 38 || b == 124 || b == 92 || b == 64
 
 -- the byte between the parts of a name
 abbrev pub slash : ℕ

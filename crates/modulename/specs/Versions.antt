@@ -27,22 +27,22 @@ abbrev pub with_digit : ℕ → ℕ → ℕ
 with_digit n b = 10 * n + (b - zero_digit)
 
 -- the pieces of a text that comes after the digits of a run, or after none
-abbrev pub pieces_behind : Option ℕ → Text → List Piece
-pieces_behind None [] = []
-pieces_behind (Some n) [] = run n ∷ []
-pieces_behind None (b ∷ bs) =
-    if is_digit b then pieces_behind (Some (with_digit 0 b)) bs else other b ∷ pieces_behind None bs
-pieces_behind (Some n) (b ∷ bs) =
-    if is_digit b then pieces_behind (Some (with_digit n b)) bs else run n ∷ other b ∷ pieces_behind None bs
+abbrev pub pieces_after : Option ℕ → Text → List Piece
+pieces_after None [] = []
+pieces_after (Some n) [] = run n ∷ []
+pieces_after None (b ∷ bs) =
+    if is_digit b then pieces_after (Some (with_digit 0 b)) bs else other b ∷ pieces_after None bs
+pieces_after (Some n) (b ∷ bs) =
+    if is_digit b then pieces_after (Some (with_digit n b)) bs else run n ∷ other b ∷ pieces_after None bs
 
 -- the pieces of a version
 abbrev pub pieces : Text → List Piece
-pieces version = pieces_behind None version
+pieces version = pieces_after None version
 
 -- Among the other bytes a run is ranked as its first digit: all digits are next to each other there.
-abbrev pub place : Piece → ℕ
-place (run n) = zero_digit
-place (other b) = b
+abbrev pub rank : Piece → ℕ
+rank (run n) = zero_digit
+rank (other b) = b
 
 -- the number of a run
 abbrev pub number : Piece → ℕ
@@ -51,7 +51,7 @@ number (other b) = 0
 
 -- two pieces by their ranks, and two runs by their numbers
 abbrev pub piece_order : Piece → Piece → Ordering
-piece_order = then_cmp (on place nat_cmp) (on number nat_cmp)
+piece_order = then_cmp (on rank nat_cmp) (on number nat_cmp)
 
 -- Piece by piece, where a proper prefix comes first; and where all pieces are equal, by the bytes. A text is in UTF-8,
 -- whose bytes are in the order of its characters.
@@ -72,8 +72,8 @@ abbrev pub greater : Text → Text → Text
 greater v w = if is_lt (version_order v w) then w else v
 
 -- equal only for equal bytes
-abbrev pub TellsApart : Type 0
-TellsApart = (v w : Text) → version_order v w ≡ Equal → v ≡ w
+abbrev pub EqualOnlyIfSame : Type 0
+EqualOnlyIfSame = (v w : Text) → version_order v w ≡ Equal → v ≡ w
 
 -- a set has one greatest member at most
 abbrev pub HasOneGreatest : Type 0

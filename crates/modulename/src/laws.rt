@@ -1,13 +1,13 @@
 //! Laws of the order of versions: functions that do nothing, whose contracts are theorems about the definitions.
 ghost use Rattle.std.specs.Prelude.{◌≡◌, true, [], ◌∷◌, codes};
 ghost use Rattle.std.specs.Cmp.{IsTotalOrder};
-ghost use Rattle.modulename.specs.Versions.{version_order, TellsApart, HasOneGreatest, ComparesByFirstDigit, ascend};
+ghost use Rattle.modulename.specs.Versions.{version_order, EqualOnlyIfSame, HasOneGreatest, ComparesByFirstDigit, ascend};
 
 /// The order of versions is total, antisymmetric and transitive, and only equal texts are equal in it. A set has one
 /// greatest member at most. A run compares with another byte as its first digit does.
 pub fn order_of_versions()
     ensures total { IsTotalOrder version_order }
-    ensures same { TellsApart }
+    ensures same { EqualOnlyIfSame }
     ensures greatest { HasOneGreatest }
     ensures first_digit { ComparesByFirstDigit }
 {}

@@ -10,5 +10,5 @@ mod piece;
 mod version;
 
 pub use laws::{order_of_versions, rows_of_versions};
-pub use name::{MOST_PARTS, is_module_name, means};
+pub use name::{MAX_PARTS, is_module_name, means};
 pub use version::version_order;

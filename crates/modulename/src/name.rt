@@ -1,14 +1,14 @@
 //! How the name of a module is spelled, and which modules a name means (modulefile(5), module(1)).
 ghost use Rattle.std.specs.Prelude.{◌≡◌, length, not};
 ghost use Rattle.std.specs.List.{list_all};
-ghost use Rattle.modulename.specs.ModuleName.{is_white, is_forbidden, is_part, parts, is_module_name, means};
+ghost use Rattle.modulename.specs.ModuleName.{is_white_space, is_forbidden, is_part, parts, is_module_name, means};
 
 /// The most parts that a name has.
-pub const MOST_PARTS: usize = 4;
+pub const MAX_PARTS: usize = 4;
 
 /// Whether the byte is white space of ASCII.
-fn is_white(b: u8) -> bool
-    ensures { result ≡ is_white b }
+fn is_white_space(b: u8) -> bool
+    ensures { result ≡ is_white_space b }
 {
     b == b' ' || (9 <= b && b <= 13)
 }
@@ -17,11 +17,11 @@ fn is_white(b: u8) -> bool
 fn is_forbidden(b: u8) -> bool
     ensures { result ≡ is_forbidden b }
 {
-    b == 0 || is_white(b) || b == b':' || b == b'&' || b == b'|' || b == b'\\' || b == b'@'
+    b == 0 || is_white_space(b) || b == b':' || b == b'&' || b == b'|' || b == b'\\' || b == b'@'
 }
 
 /// Whether a name may hold each byte of the part.
-fn holds_no_forbidden(part: &[u8]) -> bool
+fn has_no_forbidden_byte(part: &[u8]) -> bool
     ensures { result ≡ list_all (λ c. not (is_forbidden c)) part.now }
 {
     part.iter().all(|b| !is_forbidden(*b))
@@ -34,12 +34,12 @@ fn is_part(part: &str) -> bool
     let bytes = part.as_bytes();
     match bytes {
         [] => false,
-        [first, ..] => *first != b'.' && holds_no_forbidden(bytes),
+        [first, ..] => *first != b'.' && has_no_forbidden_byte(bytes),
     }
 }
 
 /// Whether each part of the name, between its slashes, is well formed.
-fn are_parts(name: &str) -> bool
+fn has_well_formed_parts(name: &str) -> bool
     ensures { result ≡ list_all is_part (parts name.now) }
 {
     name.split('/').all(|part| is_part(part))
@@ -57,7 +57,7 @@ fn part_count(name: &str) -> usize
 pub fn is_module_name(name: &str) -> bool
     ensures { result ≡ is_module_name name.now }
 {
-    are_parts(name) && part_count(name) <= MOST_PARTS
+    has_well_formed_parts(name) && part_count(name) <= MAX_PARTS
 }
 
 /// Whether the name means this module: it is the whole name of the module, or its first parts.

@@ -1,11 +1,11 @@
 -- What it is that an effect was had.
 use Rattle.std.proofs.Common.{◌≡◌, true, List, [], ◌∷◌, ◌++◌, Option, Some, None, Result, Ok, Err, refl, ap, ◌∙◌, is_none}
 use Rattle.std.specs.List.{list_all}
-use Rattle.environment.specs.Texts.{Text}
-use Rattle.environment.specs.Environment.{Environment}
+use Rattle.envvars.specs.Texts.{Text}
+use Rattle.envvars.specs.Environment.{Environment}
 use Rattle.modulerecords.specs.Records.{Record}
 use Rattle.modulerecords.specs.Judgments.{RecordReason, record_reason, is_proper}
-use Rattle.modulerecords.specs.Effects.{Mode, edited, by_edit, permitted, effect, and_then, effects}
+use Rattle.modulerecords.specs.Effects.{Mode, edited, edit_outcome, permitted, effect, and_then, effects}
 
 abbrev Outcome : Type 0
 Outcome = Result Environment RecordReason
@@ -23,7 +23,7 @@ unforbidden None o e h = refl
 unforbidden (Some r) o e h = absurd (cc)
 
 one_proper : (mode : Mode) (owner : Text) (r : Record) (old new : Environment) → effect mode owner r old ≡ Ok new → is_proper r ≡ true
-one_proper mode owner r old new h = ap (λ o. is_none o) (unforbidden (record_reason r) (by_edit (edited mode owner r old)) new h)
+one_proper mode owner r old new h = ap (λ o. is_none o) (unforbidden (record_reason r) (edit_outcome (edited mode owner r old)) new h)
 
 pub all_proper : (mode : Mode) (owner : Text) (rs : List Record) (old new : Environment) → effects mode owner rs old ≡ Ok new → list_all is_proper rs ≡ true
 all_proper mode owner [] old new h = refl

@@ -1,11 +1,11 @@
 -- What the record of a module makes of an environment, by the mode of the evaluation (modulefile(5)).
 use Rattle.std.specs.Prelude.{List, [], ◌∷◌, Option, Some, None, Result, Ok, Err}
-use Rattle.environment.specs.Texts.{Text}
-use Rattle.environment.specs.Environment.{Environment, with_value}
-use Rattle.environment.specs.Reasons.{EnvReason}
-use Rattle.pathstate.specs.PathVariables.{added_path, dropped_path}
-use Rattle.pathstate.specs.declared.paths.End.TheVariants as ends
-use Rattle.stackstate.specs.StackVariables.{pushed_value, popped_value}
+use Rattle.envvars.specs.Texts.{Text}
+use Rattle.envvars.specs.Environment.{Environment, with_value}
+use Rattle.envvars.specs.Reasons.{EnvReason}
+use Rattle.envpaths.specs.PathVariables.{added_path, dropped_path}
+use Rattle.envpaths.specs.declared.edits.End.TheVariants as ends
+use Rattle.envstacks.specs.StackVariables.{pushed_value, popped_value}
 use Rattle.modulerecords.specs.Records.{Record, Set, Unset, Push, Front, Back, Remove, Conflict, Prereq, Whatis}
 use Rattle.modulerecords.specs.Judgments.{RecordReason, bad_edit, record_reason}
 
@@ -49,9 +49,9 @@ edited display owner r e = Ok e
 edited whatis owner r e = Ok e
 
 -- the outcome of an edit, whose reason is then one of records
-abbrev pub by_edit : Result Environment EnvReason → Result Environment RecordReason
-by_edit (Ok e) = Ok e
-by_edit (Err r) = Err (bad_edit r)
+abbrev pub edit_outcome : Result Environment EnvReason → Result Environment RecordReason
+edit_outcome (Ok e) = Ok e
+edit_outcome (Err r) = Err (bad_edit r)
 
 -- the outcome where nothing forbids the record
 abbrev pub permitted : Option RecordReason → Result Environment RecordReason → Result Environment RecordReason
@@ -60,7 +60,7 @@ permitted (Some r) outcome = Err r
 
 -- The record is judged in every mode, and then has its effect.
 abbrev pub effect : Mode → Text → Record → Environment → Result Environment RecordReason
-effect mode owner r e = permitted (record_reason r) (by_edit (edited mode owner r e))
+effect mode owner r e = permitted (record_reason r) (edit_outcome (edited mode owner r e))
 
 -- what follows an effect that was had
 abbrev pub and_then : Result Environment RecordReason → (Environment → Result Environment RecordReason)

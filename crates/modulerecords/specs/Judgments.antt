@@ -4,10 +4,10 @@ use Rattle.std.specs.Prelude.{Bool, List, [], ◌∷◌, if◌then◌else◌, is
 use Rattle.std.specs.List.{list_all}
 use Rattle.std.specs.Option.{option_map, option_or}
 use Rattle.modulename.specs.ModuleName.{is_module_name}
-use Rattle.environment.specs.Texts.{Text}
-use Rattle.environment.specs.Names.{is_plain_value, name_reason}
-use Rattle.environment.specs.Reasons.{EnvReason, bad_value}
-use Rattle.pathstate.specs.PathVariables.{path_reason}
+use Rattle.envvars.specs.Texts.{Text}
+use Rattle.envvars.specs.Names.{is_nul_free, name_reason}
+use Rattle.envvars.specs.Reasons.{EnvReason, bad_value}
+use Rattle.envpaths.specs.PathVariables.{path_reason}
 use Rattle.modulerecords.specs.Records.{Record, Set, Unset, Push, Front, Back, Remove, Conflict, Prereq, Whatis}
 
 -- why a record has no effect
@@ -16,8 +16,8 @@ pub data RecordReason : Type 0 where
   bad_module_name : (name : Text) → RecordReason
 
 -- the refusal of the variable's name, and then of values with NUL
-abbrev pub plain_reason : Text → List Text → Option EnvReason
-plain_reason var values = option_or (name_reason var) (if list_all is_plain_value values then None
+abbrev pub value_reason : Text → List Text → Option EnvReason
+value_reason var values = option_or (name_reason var) (if list_all is_nul_free values then None
     else Some (bad_value var))
 
 -- a value or none
@@ -32,9 +32,9 @@ names_reason (name ∷ names) = if is_module_name name then names_reason names e
 
 -- why the record is forbidden, if it is
 abbrev pub record_reason : Record → Option RecordReason
-record_reason (Set var value) = option_map bad_edit (plain_reason var (value ∷ []))
-record_reason (Unset var value) = option_map bad_edit (plain_reason var (values_of value))
-record_reason (Push var value) = option_map bad_edit (plain_reason var (value ∷ []))
+record_reason (Set var value) = option_map bad_edit (value_reason var (value ∷ []))
+record_reason (Unset var value) = option_map bad_edit (value_reason var (values_of value))
+record_reason (Push var value) = option_map bad_edit (value_reason var (value ∷ []))
 record_reason (Front delim var xs) = option_map bad_edit (path_reason var delim xs)
 record_reason (Back delim var xs) = option_map bad_edit (path_reason var delim xs)
 record_reason (Remove delim var xs) = option_map bad_edit (path_reason var delim xs)

@@ -1,12 +1,12 @@
 -- The laws of records and moves (own).
 use Rattle.std.specs.Prelude.{◌≡◌, true, List, ◌++◌, Ok}
 use Rattle.std.specs.List.{list_all}
-use Rattle.environment.specs.Texts.{Text}
-use Rattle.environment.specs.Environment.{Environment}
+use Rattle.envvars.specs.Texts.{Text}
+use Rattle.envvars.specs.Environment.{Environment}
 use Rattle.modulerecords.specs.Records.{Record}
 use Rattle.modulerecords.specs.Judgments.{is_proper}
 use Rattle.modulerecords.specs.Effects.{Mode, effects}
-use Rattle.modulerecords.specs.Moves.{Move, moved, made, Lead, IsProper, AreProper}
+use Rattle.modulerecords.specs.Moves.{Move, moved, made, MovesReach, IsProper, AreProper}
 
 -- Records that all have their effects are proper, in every mode.
 abbrev pub EffectsAreProper : Type 0
@@ -15,8 +15,8 @@ EffectsAreProper =
     → effects mode owner rs old ≡ Ok new → list_all is_proper rs ≡ true
 
 -- The effects of two lists, one after the other, are those of the longer list.
-abbrev pub EffectsGoOn : Type 0
-EffectsGoOn =
+abbrev pub EffectsCompose : Type 0
+EffectsCompose =
     (mode : Mode) (owner : Text) (rs more : List Record) (old mid new : Environment)
     → effects mode owner rs old ≡ Ok mid → effects mode owner more mid ≡ Ok new
     → effects mode owner (rs ++ more) old ≡ Ok new
@@ -26,14 +26,14 @@ abbrev pub MovedIsProper : Type 0
 MovedIsProper = (m : Move) (old new : Environment) → moved m old ≡ Ok new → IsProper m
 
 -- Moves that reach an environment are proper, and it is their outcome.
-abbrev pub LeadIsProper : Type 0
-LeadIsProper = (ms : List Move) (old new : Environment) → Lead ms old new → AreProper ms
+abbrev pub ReachIsProper : Type 0
+ReachIsProper = (ms : List Move) (old new : Environment) → MovesReach ms old new → AreProper ms
 
-abbrev pub LeadIsMade : Type 0
-LeadIsMade = (ms : List Move) (old new : Environment) → Lead ms old new → made ms old ≡ Ok new
+abbrev pub ReachIsMade : Type 0
+ReachIsMade = (ms : List Move) (old new : Environment) → MovesReach ms old new → made ms old ≡ Ok new
 
 -- Where moves reach an environment, and more moves another one from there, both lists in a row reach that one.
-abbrev pub LeadsGoOn : Type 0
-LeadsGoOn =
+abbrev pub ReachComposes : Type 0
+ReachComposes =
     (ms more : List Move) (old mid new : Environment)
-    → Lead ms old mid → Lead more mid new → Lead (ms ++ more) old new
+    → MovesReach ms old mid → MovesReach more mid new → MovesReach (ms ++ more) old new

@@ -1,13 +1,13 @@
 -- Moves: a module is loaded with its records, or unloaded with its records (module(1)).
 use Rattle.std.specs.Prelude.{◌≡◌, true, false, ◌&&◌, List, [], ◌∷◌, bytes_eq, Some, Result, Ok}
 use Rattle.std.specs.List.{list_all, list_any}
-use Rattle.environment.specs.Texts.{Text, has}
-use Rattle.environment.specs.Environment.{Environment}
-use Rattle.environment.specs.Fields.{firsts}
-use Rattle.loadedlist.specs.Loaded.{Entry, names_of, loaded_in, added_loaded, dropped_loaded}
+use Rattle.envvars.specs.Texts.{Text, has}
+use Rattle.envvars.specs.Environment.{Environment}
+use Rattle.envvars.specs.Fields.{without_repeats}
+use Rattle.envloaded.specs.Loaded.{Entry, names_of, loaded_in, added_loaded, dropped_loaded}
 use Rattle.modulerecords.specs.Records.{Record, conflict_names, prereq_groups}
 use Rattle.modulerecords.specs.Judgments.{RecordReason, is_proper}
-use Rattle.modulerecords.specs.Effects.{Mode, load, unload, effects, by_edit, and_then}
+use Rattle.modulerecords.specs.Effects.{Mode, load, unload, effects, edit_outcome, and_then}
 
 -- a module with the records of its file
 pub record Module : Type 0 where
@@ -21,7 +21,7 @@ entry_of m =
     record {
       name = m.name;
       path = m.path;
-      conflicts = firsts (conflict_names m.records);
+      conflicts = without_repeats (conflict_names m.records);
       prereqs = prereq_groups m.records;
     }
 
@@ -41,8 +41,8 @@ mode_of (Unloads m) = unload
 
 -- the entry joins the loaded list or leaves it
 abbrev pub listed : Move → Environment → Result Environment RecordReason
-listed (Loads m) e = by_edit (added_loaded e (entry_of m))
-listed (Unloads m) e = by_edit (dropped_loaded e m.name)
+listed (Loads m) e = edit_outcome (added_loaded e (entry_of m))
+listed (Unloads m) e = edit_outcome (dropped_loaded e m.name)
 
 -- what a move makes of an environment: the effects of the records, and then the entry
 abbrev pub moved : Move → Environment → Result Environment RecordReason
@@ -75,6 +75,6 @@ Fits (Unloads m) e = (xs : List Entry) × (loaded_in e ≡ Some xs)
     × (list_any (λ x. bytes_eq m.name x.name && bytes_eq m.path x.path) xs ≡ true)
 
 -- The moves reach the second environment from the first, and each fits the environment that it finds.
-abbrev pub Lead : List Move → Environment → Environment → Type 0
-Lead [] old new = new ≡ old
-Lead (m ∷ ms) old new = Fits m old × ((mid : Environment) × (moved m old ≡ Ok mid) × Lead ms mid new)
+abbrev pub MovesReach : List Move → Environment → Environment → Type 0
+MovesReach [] old new = new ≡ old
+MovesReach (m ∷ ms) old new = Fits m old × ((mid : Environment) × (moved m old ≡ Ok mid) × MovesReach ms mid new)

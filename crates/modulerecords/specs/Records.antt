@@ -1,7 +1,7 @@
 -- What an accepted command of a modulefile leaves on record, one for each command of the table of modulefile(5), in
 -- every mode.
 use Rattle.std.specs.Prelude.{ℕ, List, [], ◌∷◌, ◌++◌, Option, Some, None}
-use Rattle.environment.specs.Texts.{Text}
+use Rattle.envvars.specs.Texts.{Text}
 
 -- the delimiter of a path is a character
 pub data Record : Type 0 where

@@ -2,10 +2,10 @@
 use Rattle.std.proofs.Common.{◌≡◌, Bool, false, List, [], map, string_bytes, String, Option, Some, None, IfSome, Result, Ok, Err, IfOk, IfErr, ap, sym, subst, ◌∙◌}
 use Rattle.std.specs.declared.vec.Vec.{Vec}
 use Rattle.std.specs.declared.alloc.Global.{Global}
-use Rattle.environment.specs.Texts.{Text, texts_in}
-use Rattle.environment.specs.Environment.{Environment}
-use Rattle.environment.specs.Changes.{applied, new_values_in}
-use Rattle.tclrules.specs.Oracle.{Refusal, Told}
+use Rattle.envvars.specs.Texts.{Text, texts_in}
+use Rattle.envvars.specs.Environment.{Environment}
+use Rattle.envvars.specs.Changes.{applied, new_values_in}
+use Rattle.tclrules.specs.Oracle.{Refusal, Trace}
 use Rattle.tclrules.specs.Variables.{Variables}
 use Rattle.tclrules.specs.Promise.{Evaluates}
 use Rattle.tclrules.specs.declared.limits.Limits.{Limits}
@@ -13,27 +13,27 @@ use Rattle.tclrules.specs.declared.outcome.Ending.{Ending}
 use Rattle.tclrules.specs.declared.outcome.EvalFault.{EvalFault}
 use Rattle.modulefile.specs.Answers as answers
 use Rattle.modulefile.specs.Answers.{oracle_of}
-use Rattle.modulefile.specs.Files.{RunsFile, ran_of, untold, globals_of}
+use Rattle.modulefile.specs.Files.{RunsFile, ran_of, empty_trace, globals_of}
 use Rattle.modulerun.specs.declared.command_refusal.CommandRefusal.{CommandRefusal}
-use Rattle.modulerun.specs.declared.context.Context.{Context}
+use Rattle.modulerun.specs.declared.context.FileContext.{FileContext}
 use Rattle.modulerun.specs.declared.run.Draft.{Draft}
 use Rattle.modulerun.specs.declared.run_fault.RunFault.{RunFault}
 use Rattle.modulerun.specs.declared.run_fault.RunFault.TheVariants.{OutOfMemory}
-use Rattle.modulerun.specs.Journals.{SoFar, so_far_of}
-use Rattle.modulerun.specs.Hosting.{context_with, refusal_view, told_with}
-use Rattle.modulerun.specs.Running.{context_view, ran_view, eval_stop, stop_of, Drafts}
+use Rattle.modulerun.specs.Journals.{JournalState, journal_state}
+use Rattle.modulerun.specs.Hosting.{context_with, refusal_view, trace_with}
+use Rattle.modulerun.specs.Running.{context_view, ran_view, eval_reason, file_reason_of, Drafts}
 use Rattle.modulerun.proofs.RunLemmas.{runs_ok, runs_err, of_stop, same_start, same_ran}
 
 -- the context that the host begins with
-pub begun : (cx ctx : Context) (start : Environment) (j : SoFar) → j ≡ so_far_of cx.mode cx.name.now start [] → ctx ≡ cx → context_with j ctx ≡ context_view cx start
+pub begun : (cx ctx : FileContext) (start : Environment) (j : JournalState) → j ≡ journal_state cx.mode cx.name.now start [] → ctx ≡ cx → context_with j ctx ≡ context_view cx start
 begun cx ctx start j e d =
-    ap (λ (s : SoFar). context_with s ctx) e ∙ ap (λ (x : Context). context_with (so_far_of cx.mode cx.name.now start []) x) d
+    ap (λ (s : JournalState). context_with s ctx) e ∙ ap (λ (x : FileContext). context_with (journal_state cx.mode cx.name.now start []) x) d
 
-abbrev told_of : List (List Text) → List Text → Bool → Option Refusal → Told
+abbrev told_of : List (List Text) → List Text → Bool → Option Refusal → Trace
 told_of words messages mark refusal = record { records = words; messages = messages; asked = mark; refused = refusal }
 
 -- before the file nothing was done
-untold_at : (j : SoFar) (messages : Vec (String Global) Global) (mark : Bool) (refusal : Option CommandRefusal) → j.words ≡ [] → messages.items ≡ [] → mark ≡ false → refusal ≡ None → told_with j messages mark refusal ≡ untold
+untold_at : (j : JournalState) (messages : Vec (String Global) Global) (mark : Bool) (refusal : Option CommandRefusal) → j.words ≡ [] → messages.items ≡ [] → mark ≡ false → refusal ≡ None → trace_with j messages mark refusal ≡ empty_trace
 untold_at j messages mark refusal e d b n =
     ap (λ (ws : List (List Text)). told_of ws (texts_in messages) mark (refusal_view refusal)) e
     ∙ ap (λ (ms : List (String Global)). told_of [] (map string_bytes ms) mark (refusal_view refusal)) d
@@ -41,25 +41,25 @@ untold_at j messages mark refusal e d b n =
     ∙ ap (λ (k : Option CommandRefusal). told_of [] [] false (refusal_view k)) n
 
 -- the evaluation is that of the file
-pub started : (limits : Limits) (text : Text) (cx ctx : Context) (start : Environment) (j : SoFar) (messages : Vec (String Global) Global) (mark : Bool) (refusal : Option CommandRefusal) (gs : Variables) (r : Result Ending EvalFault) (new : Told)
-    → j ≡ so_far_of cx.mode cx.name.now start [] → ctx ≡ cx → messages.items ≡ [] → mark ≡ false → refusal ≡ None → gs ≡ globals_of cx.path.now
-    → Evaluates limits text gs (oracle_of (context_with j ctx)) (told_with j messages mark refusal) r new
-    → Evaluates limits text (globals_of cx.path.now) (oracle_of (context_view cx start)) untold r new
+pub started : (limits : Limits) (text : Text) (cx ctx : FileContext) (start : Environment) (j : JournalState) (messages : Vec (String Global) Global) (mark : Bool) (refusal : Option CommandRefusal) (gs : Variables) (r : Result Ending EvalFault) (new : Trace)
+    → j ≡ journal_state cx.mode cx.name.now start [] → ctx ≡ cx → messages.items ≡ [] → mark ≡ false → refusal ≡ None → gs ≡ globals_of cx.path.now
+    → Evaluates limits text gs (oracle_of (context_with j ctx)) (trace_with j messages mark refusal) r new
+    → Evaluates limits text (globals_of cx.path.now) (oracle_of (context_view cx start)) empty_trace r new
 started limits text cx ctx start j messages mark refusal gs r new e d m b n k h =
-    subst (λ (t : Told). Evaluates limits text (globals_of cx.path.now) (oracle_of (context_view cx start)) t r new) (untold_at j messages mark refusal (ap (λ (s : SoFar). s.words) e) m b n)
-    (subst (λ (c : answers.Context). Evaluates limits text (globals_of cx.path.now) (oracle_of c) (told_with j messages mark refusal) r new) (begun cx ctx start j e d)
-    (subst (λ (vs : Variables). Evaluates limits text vs (oracle_of (context_with j ctx)) (told_with j messages mark refusal) r new) k h))
+    subst (λ (t : Trace). Evaluates limits text (globals_of cx.path.now) (oracle_of (context_view cx start)) t r new) (untold_at j messages mark refusal (ap (λ (s : JournalState). s.words) e) m b n)
+    (subst (λ (c : answers.FileContext). Evaluates limits text (globals_of cx.path.now) (oracle_of c) (trace_with j messages mark refusal) r new) (begun cx ctx start j e d)
+    (subst (λ (vs : Variables). Evaluates limits text vs (oracle_of (context_with j ctx)) (trace_with j messages mark refusal) r new) k h))
 
-pub drafts_ok : (limits : Limits) (c d : answers.Context) (text : Text) (told : Told) (end : Ending) (r : Result Draft RunFault)
-    → Evaluates limits text (globals_of c.path) (oracle_of c) untold (Ok end) told → oracle_of d ≡ oracle_of c
-    → IfOk r (λ draft. ran_of d told ≡ Ok (ran_view draft.ran (applied (new_values_in draft.changes) d.start))) → IfErr r (λ fault. fault ≡ OutOfMemory)
+pub drafts_ok : (limits : Limits) (c d : answers.FileContext) (text : Text) (trace : Trace) (end : Ending) (r : Result Draft RunFault)
+    → Evaluates limits text (globals_of c.path) (oracle_of c) empty_trace (Ok end) trace → oracle_of d ≡ oracle_of c
+    → IfOk r (λ draft. ran_of d trace ≡ Ok (ran_view draft.ran (applied (new_values_in draft.changes) d.start))) → IfErr r (λ fault. fault ≡ OutOfMemory)
     → Drafts limits c text r
-drafts_ok limits c d text told end (Ok draft) h same k only =
-    runs_ok limits c text told end _ h
-    (sym (same_ran d c told same) ∙ k ∙ ap (λ (s : Environment). Ok (ran_view draft.ran (applied (new_values_in draft.changes) s))) (same_start d c same))
-drafts_ok limits c d text told end (Err fault) h same k only = subst (λ (f : RunFault). IfSome (stop_of f) (λ stop. RunsFile limits c text (Err stop))) (sym only) tt
+drafts_ok limits c d text trace end (Ok draft) h same k only =
+    runs_ok limits c text trace end _ h
+    (sym (same_ran d c trace same) ∙ k ∙ ap (λ (s : Environment). Ok (ran_view draft.ran (applied (new_values_in draft.changes) s))) (same_start d c same))
+drafts_ok limits c d text trace end (Err fault) h same k only = subst (λ (f : RunFault). IfSome (file_reason_of f) (λ stop. RunsFile limits c text (Err stop))) (sym only) tt
 
-pub drafts_err : (limits : Limits) (c : answers.Context) (text : Text) (told : Told) (fault : EvalFault) (refusal : RunFault)
-    → Evaluates limits text (globals_of c.path) (oracle_of c) untold (Err fault) told → IfSome (stop_of refusal) (λ stop. eval_stop fault told.refused ≡ Some stop)
+pub drafts_err : (limits : Limits) (c : answers.FileContext) (text : Text) (trace : Trace) (fault : EvalFault) (refusal : RunFault)
+    → Evaluates limits text (globals_of c.path) (oracle_of c) empty_trace (Err fault) trace → IfSome (file_reason_of refusal) (λ stop. eval_reason fault trace.refused ≡ Some stop)
     → Drafts limits c text (Err refusal)
-drafts_err limits c text told fault refusal h k = of_stop (eval_stop fault told.refused) (stop_of refusal) (λ stop. RunsFile limits c text (Err stop)) k (runs_err limits c text told fault h)
+drafts_err limits c text trace fault refusal h k = of_stop (eval_reason fault trace.refused) (file_reason_of refusal) (λ stop. RunsFile limits c text (Err stop)) k (runs_err limits c text trace fault h)

@@ -1,4 +1,4 @@
-pub mod KeptLemmas
+pub mod JournalLemmas
 pub mod ListLemmas
 pub mod ReplyLemmas
 pub mod RunLemmas

@@ -3,8 +3,8 @@ use Rattle.std.proofs.Common.{◌≡◌, ◌≤◌, ◌-◌, ℕ, true, List, []
 use Rattle.std.specs.declared.alloc.Global.{Global}
 use Rattle.std.specs.List.{list_any}
 use Rattle.std.proofs.lemmas.List.{append_assoc, map-append, take_all}
-use Rattle.environment.specs.Texts.{Text, shown}
-use Rattle.pathstate.specs.PathTexts.{parted}
+use Rattle.envvars.specs.Texts.{Text, slice_texts}
+use Rattle.envpaths.specs.PathTexts.{split_elements}
 use Rattle.modulefile.specs.Calls.{elements_of}
 
 -- there is a text, so some text is any
@@ -20,14 +20,14 @@ split_first (y ∷ ys) rest x some is e =
 
 -- one value more is cut
 pub cut_more : (delim : ℕ) (old new parts : List (Bor Text)) (value : Text) (rest : List Text) (all : List Text)
-    → new ≡ old ++ parts → shown parts ≡ parted delim value → shown old ++ elements_of delim (value ∷ rest) ≡ all → shown new ++ elements_of delim rest ≡ all
+    → new ≡ old ++ parts → slice_texts parts ≡ split_elements delim value → slice_texts old ++ elements_of delim (value ∷ rest) ≡ all → slice_texts new ++ elements_of delim rest ≡ all
 cut_more delim old new parts value rest all e p h =
-    ap (λ xs. shown xs ++ elements_of delim rest) e
+    ap (λ xs. slice_texts xs ++ elements_of delim rest) e
     ∙ ap (λ xs. xs ++ elements_of delim rest) (map-append (λ (x : Bor Text). x.now) old parts)
-    ∙ append_assoc (shown old) (shown parts) (elements_of delim rest)
-    ∙ ap (λ ps. shown old ++ (ps ++ elements_of delim rest)) p ∙ h
+    ∙ append_assoc (slice_texts old) (slice_texts parts) (elements_of delim rest)
+    ∙ ap (λ ps. slice_texts old ++ (ps ++ elements_of delim rest)) p ∙ h
 
 pub cut_on : (delim : ℕ) (old new parts : List (Bor Text)) (value : Text) (left right : List (String Global)) (all : List Text)
-    → map string_bytes left ≡ value ∷ map string_bytes right → new ≡ old ++ parts → shown parts ≡ parted delim value → shown old ++ elements_of delim (map string_bytes left) ≡ all → shown new ++ elements_of delim (map string_bytes right) ≡ all
+    → map string_bytes left ≡ value ∷ map string_bytes right → new ≡ old ++ parts → slice_texts parts ≡ split_elements delim value → slice_texts old ++ elements_of delim (map string_bytes left) ≡ all → slice_texts new ++ elements_of delim (map string_bytes right) ≡ all
 cut_on delim old new parts value left right all s e p h =
-    cut_more delim old new parts value (map string_bytes right) all e p (ap (λ vs. shown old ++ elements_of delim vs) (sym s) ∙ h)
+    cut_more delim old new parts value (map string_bytes right) all e p (ap (λ vs. slice_texts old ++ elements_of delim vs) (sym s) ∙ h)

@@ -4,12 +4,12 @@ use Rattle.std.specs.Option.{option_map}
 use Rattle.std.specs.declared.vec.Vec.{Vec}
 use Rattle.std.specs.declared.alloc.Global.{Global}
 use Rattle.std.specs.declared.alloc.AllocError.{AllocError}
-use Rattle.environment.specs.Texts.{Text, texts_in}
-use Rattle.environment.specs.Names.{is_variable_name}
-use Rattle.environment.specs.Environment.{Environment}
-use Rattle.environment.specs.Reasons.{bad_variable, inconsistent}
+use Rattle.envvars.specs.Texts.{Text, texts_in}
+use Rattle.envvars.specs.Names.{is_variable_name}
+use Rattle.envvars.specs.Environment.{Environment}
+use Rattle.envvars.specs.Reasons.{bad_variable, inconsistent}
 use Rattle.tclrules.specs.Oracle as oracle
-use Rattle.tclrules.specs.Oracle.{Oracle, OracleAnswer, Told, Kept, tell}
+use Rattle.tclrules.specs.Oracle.{Oracle, OracleAnswer, Trace, NewRecord, trace_after}
 use Rattle.tclrules.specs.Hosts.{Answers}
 use Rattle.tclrules.specs.declared.host.HostAnswer.{HostAnswer}
 use Rattle.tclrules.specs.declared.host.HostAnswer.TheVariants.{Done, Unknown, LeftOut, Refused, OutOfMemory}
@@ -20,22 +20,22 @@ use Rattle.modulefile.specs.declared.call_fault.CallFault.{CallFault}
 use Rattle.modulefile.specs.declared.records.Record.{Record}
 use Rattle.modulefile.specs.declared.record_fault.RecordFault.{RecordFault}
 use Rattle.modulefile.specs.Calls as calls
-use Rattle.modulefile.specs.Calls.{CallReason, bad_record, bad_arguments, unknown, keeps, call_of}
+use Rattle.modulefile.specs.Calls.{CallReason, bad_record, bad_arguments, unknown, adds_record, call_of}
 use Rattle.modulefile.specs.CallViews.{reason_of, call_view, HasReason}
 use Rattle.modulefile.specs.RecordViews.{record_view, fault_reason, HasFault}
 use Rattle.modulefile.specs.Answers as answers
 use Rattle.modulefile.specs.Answers.{answered, asked, record_answer, not_done, read, record_name, record_number, refusal_of}
 use Rattle.modulerun.specs.declared.command_refusal.CommandRefusal.{CommandRefusal}
 use Rattle.modulerun.specs.declared.command_refusal.CommandRefusal.TheVariants.{BadRecord}
-use Rattle.modulerun.specs.declared.context.Context.{Context}
-use Rattle.modulerun.specs.Journals.{SoFar, found, noted, effect_on}
-use Rattle.modulerun.specs.Hosting.{context_with, told_with, Replies}
+use Rattle.modulerun.specs.declared.context.FileContext.{FileContext}
+use Rattle.modulerun.specs.Journals.{JournalState, environment_so_far, with_command, effect_on}
+use Rattle.modulerun.specs.Hosting.{context_with, trace_with, Replies}
 
-pub by_answer : (a b : OracleAnswer) (h : HostAnswer) (old new : Told) → a ≡ b → Replies b h old new → Replies a h old new
+pub by_answer : (a b : OracleAnswer) (h : HostAnswer) (old new : Trace) → a ≡ b → Replies b h old new → Replies a h old new
 by_answer a b h old new e r = subst (λ x. Replies x h old new) (sym e) r
 
 -- the replies of a host are the answers of its oracle
-pub answers_by : (o : Oracle) (words : List Text) (h : HostAnswer) (old new : Told) → Replies (o.command old.records words) h old new → Answers o words h old new
+pub answers_by : (o : Oracle) (words : List Text) (h : HostAnswer) (old new : Trace) → Replies (o.command old.records words) h old new → Answers o words h old new
 answers_by o words (Done t) old new r = r
 answers_by o words Unknown old new r = r
 answers_by o words (LeftOut name) old new r = r
@@ -47,17 +47,17 @@ or_false true = refl
 or_false false = refl
 
 -- a record that has its effect is added
-pub noted_reply : (s t : SoFar) (cx : Context) (messages : Vec (String Global) Global) (mark : Bool) (held : Option CommandRefusal) (words : List Text) (r : records.Record) (text : String Global) (e : Environment)
-    → call_of words ≡ Ok (keeps r) → string_bytes text ≡ [] → t ≡ noted s words → effect_on s r ≡ Ok e
-    → Replies (answered (context_with s cx) (found s) words (call_of words)) (Done text) (told_with s messages mark held) (told_with t messages mark held)
-noted_reply s t cx messages mark held words r text e call empty note effect =
-    by_answer _ (oracle.Done [] (Kept words) false) (Done text) (told_with s messages mark held) (told_with t messages mark held)
-    (ap (answered (context_with s cx) (found s) words) call ∙ ap (record_answer words) effect) (
-      Kept words,
+pub noted_reply : (s t : JournalState) (cx : FileContext) (messages : Vec (String Global) Global) (mark : Bool) (held : Option CommandRefusal) (words : List Text) (r : records.Record) (text : String Global) (e : Environment)
+    → call_of words ≡ Ok (adds_record r) → string_bytes text ≡ [] → t ≡ with_command s words → effect_on s r ≡ Ok e
+    → Replies (answered (context_with s cx) (environment_so_far s) words (call_of words)) (Done text) (trace_with s messages mark held) (trace_with t messages mark held)
+noted_reply s t cx messages mark held words r text e call empty add_command effect =
+    by_answer _ (oracle.Done [] (NewRecord words) false) (Done text) (trace_with s messages mark held) (trace_with t messages mark held)
+    (ap (answered (context_with s cx) (environment_so_far s) words) call ∙ ap (record_answer words) effect) (
+      NewRecord words,
       false,
       (
-        ap (λ (x : Text). oracle.Done x (Kept words) false) (sym empty),
-        ap (λ (j : SoFar). told_with j messages mark held) note ∙ ap (λ b. told_with (noted s words) messages b held) (or_false mark),
+        ap (λ (x : Text). oracle.Done x (NewRecord words) false) (sym empty),
+        ap (λ (j : JournalState). trace_with j messages mark held) add_command ∙ ap (λ b. trace_with (with_command s words) messages b held) (or_false mark),
       ),
     )
 
@@ -71,7 +71,7 @@ true_not_false : true ≡ false → ⊥
 true_not_false e = absurd (cc)
 
 -- what replies to every reason of a record alike is want of memory
-from_reasons : (h : HostAnswer) (old new : Told) (a : OracleAnswer) → ((reason : RecordReason) → Replies (not_done (bad_record reason)) h old new) → Replies a h old new
+from_reasons : (h : HostAnswer) (old new : Trace) (a : OracleAnswer) → ((reason : RecordReason) → Replies (not_done (bad_record reason)) h old new) → Replies a h old new
 from_reasons (Done t) old new a f = let r = f (bad_module_name []) in let e : oracle.Refused 44 (Some []) false ≡ oracle.Done (string_bytes t) r.0 r.1 = r.2.0 in absurd (cc)
 from_reasons Unknown old new a f = let r = f (bad_module_name []) in let e : oracle.Refused 44 (Some []) false ≡ oracle.Unknown r.0 = r.1.0 in absurd (cc)
 from_reasons (LeftOut name) old new a f = let r = f (bad_module_name []) in let e : oracle.Refused 44 (Some []) false ≡ oracle.LeftOut (string_bytes name) r.0 = r.1.0 in absurd (cc)
@@ -90,11 +90,11 @@ some_reason None h reason e = absurd (cc)
 some_reason (Some r) h reason e = ap (λ x. Some x) e
 
 -- a refusal that the host remembers is in what it has done, with its name
-pub refusal_told : (s : SoFar) (messages : Vec (String Global) Global) (mark : Bool) (held : Option CommandRefusal) (fault : RecordFault) (n : ℕ)
+pub refusal_traced : (s : JournalState) (messages : Vec (String Global) Global) (mark : Bool) (held : Option CommandRefusal) (fault : RecordFault) (n : ℕ)
     → is_none (fault_reason fault) ≡ false → IfSome (fault_reason fault) (λ reason. n ≡ record_number reason)
     → (reason : RecordReason) → HasFault reason fault
-    → Replies (not_done (bad_record reason)) (Refused n) (told_with s messages mark held) (told_with s messages mark (Some (BadRecord fault)))
-refusal_told s messages mark held fault n some number reason h =
+    → Replies (not_done (bad_record reason)) (Refused n) (trace_with s messages mark held) (trace_with s messages mark (Some (BadRecord fault)))
+refusal_traced s messages mark held fault n some number reason h =
     let is : fault_reason fault ≡ Some reason = some_reason (fault_reason fault) some reason h in
     let k : n ≡ record_number reason = subst (λ o. IfSome o (λ r. n ≡ record_number r)) is number in (
       record_name reason,
@@ -107,38 +107,38 @@ refusal_told s messages mark held fault n some number reason h =
     )
 
 -- a record that has no effect is refused
-pub refused_reply : (s t : SoFar) (cx : Context) (messages : Vec (String Global) Global) (mark : Bool) (held : Option CommandRefusal) (words : List Text) (r : records.Record) (fault : RecordFault) (h : HostAnswer) (new : Told)
-    → call_of words ≡ Ok (keeps r) → t ≡ s → IfSome (fault_reason fault) (λ reason. effect_on s r ≡ Err reason)
-    → ((reason : RecordReason) → HasFault reason fault → Replies (not_done (bad_record reason)) h (told_with t messages mark held) new)
-    → Replies (answered (context_with s cx) (found s) words (call_of words)) h (told_with s messages mark held) new
+pub refused_reply : (s t : JournalState) (cx : FileContext) (messages : Vec (String Global) Global) (mark : Bool) (held : Option CommandRefusal) (words : List Text) (r : records.Record) (fault : RecordFault) (h : HostAnswer) (new : Trace)
+    → call_of words ≡ Ok (adds_record r) → t ≡ s → IfSome (fault_reason fault) (λ reason. effect_on s r ≡ Err reason)
+    → ((reason : RecordReason) → HasFault reason fault → Replies (not_done (bad_record reason)) h (trace_with t messages mark held) new)
+    → Replies (answered (context_with s cx) (environment_so_far s) words (call_of words)) h (trace_with s messages mark held) new
 refused_reply s t cx messages mark held words r fault h new call same e f = go (fault_reason fault) refl
   where
-    at : (reason : RecordReason) → HasFault reason fault → Replies (not_done (bad_record reason)) h (told_with s messages mark held) new
-    at reason k = subst (λ (j : SoFar). Replies (not_done (bad_record reason)) h (told_with j messages mark held) new) same (f reason k)
+    at : (reason : RecordReason) → HasFault reason fault → Replies (not_done (bad_record reason)) h (trace_with s messages mark held) new
+    at reason k = subst (λ (j : JournalState). Replies (not_done (bad_record reason)) h (trace_with j messages mark held) new) same (f reason k)
 
-    go : (o : Option RecordReason) → fault_reason fault ≡ o → Replies (answered (context_with s cx) (found s) words (call_of words)) h (told_with s messages mark held) new
-    go None q = from_reasons h (told_with s messages mark held) new _ (λ reason. at reason (subst (λ o. IfSome o (λ x. x ≡ reason)) (sym q) tt))
+    go : (o : Option RecordReason) → fault_reason fault ≡ o → Replies (answered (context_with s cx) (environment_so_far s) words (call_of words)) h (trace_with s messages mark held) new
+    go None q = from_reasons h (trace_with s messages mark held) new _ (λ reason. at reason (subst (λ o. IfSome o (λ x. x ≡ reason)) (sym q) tt))
     go (Some reason) q =
         let d : effect_on s r ≡ Err reason = subst (λ o. IfSome o (λ x. effect_on s r ≡ Err x)) q e in
-        by_answer _ (not_done (bad_record reason)) h (told_with s messages mark held) new
-        (ap (answered (context_with s cx) (found s) words) call ∙ ap (record_answer words) d)
+        by_answer _ (not_done (bad_record reason)) h (trace_with s messages mark held) new
+        (ap (answered (context_with s cx) (environment_so_far s) words) call ∙ ap (record_answer words) d)
         (at reason (subst (λ o. IfSome o (λ x. x ≡ reason)) (sym q) refl))
 
-pub call_made : (made : Result Record AllocError) (accepted : Record) (words : List Text) → made ≡ Ok accepted → IfOk made (λ r. call_of words ≡ Ok (keeps (record_view r))) → call_of words ≡ Ok (keeps (record_view accepted))
-call_made made accepted words e h = subst (λ (m : Result Record AllocError). IfOk m (λ r. call_of words ≡ Ok (keeps (record_view r)))) e h
+pub call_made : (made : Result Record AllocError) (accepted : Record) (words : List Text) → made ≡ Ok accepted → IfOk made (λ r. call_of words ≡ Ok (adds_record (record_view r))) → call_of words ≡ Ok (adds_record (record_view accepted))
+call_made made accepted words e h = subst (λ (m : Result Record AllocError). IfOk m (λ r. call_of words ≡ Ok (adds_record (record_view r)))) e h
 
 pub read_named : (var value : Text) → is_variable_name var ≡ true → read var value ≡ asked value
 read_named var value e = ap (λ b. if b then asked value else not_done (bad_record (bad_edit (bad_variable var)))) e
 
 -- a question is answered
-pub asked_reply : (c : answers.Context) (e : Environment) (words : List Text) (call : Call) (made : calls.Call) (text : Text) (h : HostAnswer) (old new : Told)
+pub asked_reply : (c : answers.FileContext) (e : Environment) (words : List Text) (call : Call) (made : calls.Call) (text : Text) (h : HostAnswer) (old new : Trace)
     → call_of words ≡ Ok (call_view call) → call_view call ≡ made → answered c e words (Ok made) ≡ asked text
     → Replies (asked text) h old new → Replies (answered c e words (call_of words)) h old new
 asked_reply c e words call made text h old new k is a r =
     by_answer _ (asked text) h old new (ap (answered c e words) (k ∙ ap (λ x. Ok x) is) ∙ a) r
 
 -- what replies to every reason of a call alike is want of memory
-from_call_reasons : (h : HostAnswer) (old new : Told) (a : OracleAnswer) → ((reason : CallReason) → Replies (not_done reason) h old new) → Replies a h old new
+from_call_reasons : (h : HostAnswer) (old new : Trace) (a : OracleAnswer) → ((reason : CallReason) → Replies (not_done reason) h old new) → Replies a h old new
 from_call_reasons (Done t) old new a f = let r = f unknown in let e : oracle.Unknown false ≡ oracle.Done (string_bytes t) r.0 r.1 = r.2.0 in absurd (cc)
 from_call_reasons Unknown old new a f = let r = f bad_arguments in let e : oracle.Refused 56 None false ≡ oracle.Unknown r.0 = r.1.0 in absurd (cc)
 from_call_reasons (LeftOut name) old new a f = let r = f unknown in let e : oracle.Unknown false ≡ oracle.LeftOut (string_bytes name) r.0 = r.1.0 in absurd (cc)
@@ -146,7 +146,7 @@ from_call_reasons (Refused n) old new a f = let r = f unknown in let e : oracle.
 from_call_reasons OutOfMemory old new a f = f unknown
 
 -- words that call no command are answered by the reason
-pub fault_reply : (c : answers.Context) (e : Environment) (words : List Text) (fault : CallFault) (h : HostAnswer) (old new : Told)
+pub fault_reply : (c : answers.FileContext) (e : Environment) (words : List Text) (fault : CallFault) (h : HostAnswer) (old new : Trace)
     → IfSome (reason_of fault) (λ r. call_of words ≡ Err r)
     → ((reason : CallReason) → HasReason reason fault → Replies (not_done reason) h old new)
     → Replies (answered c e words (call_of words)) h old new

@@ -3,11 +3,11 @@ use Rattle.std.specs.Prelude.{◌≡◌, Bool, [], ◌∷◌, ◌++◌, map, str
 use Rattle.std.specs.Option.{option_map}
 use Rattle.std.specs.declared.vec.Vec.{Vec}
 use Rattle.std.specs.declared.alloc.Global.{Global}
-use Rattle.environment.specs.Texts.{Text, texts_in}
+use Rattle.envvars.specs.Texts.{Text, texts_in}
 use Rattle.tclrules.specs.Oracle as oracle
-use Rattle.tclrules.specs.Oracle.{OracleAnswer, Refusal, Told, unnamed}
+use Rattle.tclrules.specs.Oracle.{OracleAnswer, Refusal, Trace, unnamed}
 use Rattle.tclrules.specs.Derivation.{perhaps_asked}
-use Rattle.tclrules.specs.Hosts.{IsTold}
+use Rattle.tclrules.specs.Hosts.{TracesAnswer}
 use Rattle.tclrules.specs.declared.host.HostAnswer.{HostAnswer}
 use Rattle.tclrules.specs.declared.host.HostAnswer.TheVariants.{Done, Unknown, LeftOut, Refused, OutOfMemory}
 use Rattle.modulefile.specs.RecordViews.{mode_view, fault_reason}
@@ -15,12 +15,12 @@ use Rattle.modulefile.specs.Answers as answers
 use Rattle.modulefile.specs.Answers.{refusal_of}
 use Rattle.modulerun.specs.declared.command_refusal.CommandRefusal.{CommandRefusal}
 use Rattle.modulerun.specs.declared.command_refusal.CommandRefusal.TheVariants.{BadArguments, BadRecord}
-use Rattle.modulerun.specs.declared.context.Context.{Context}
+use Rattle.modulerun.specs.declared.context.FileContext.{FileContext}
 use Rattle.modulerun.specs.declared.runner.Runner.{Runner}
-use Rattle.modulerun.specs.Journals.{SoFar}
+use Rattle.modulerun.specs.Journals.{JournalState}
 
 -- the context of a file that has done so much
-abbrev pub context_with : SoFar → Context → answers.Context
+abbrev pub context_with : JournalState → FileContext → answers.FileContext
 context_with s c =
     record {
       mode = mode_view s.mode;
@@ -40,15 +40,15 @@ refusal_view (Some BadArguments) = Some (unnamed 56)
 refusal_view (Some (BadRecord fault)) = option_map refusal_of (fault_reason fault)
 
 -- the records, messages and mark of a file, by the fields of its host
-abbrev pub told_with : SoFar → Vec (String Global) Global → Bool → Option CommandRefusal → Told
-told_with s messages asked refusal =
+abbrev pub trace_with : JournalState → Vec (String Global) Global → Bool → Option CommandRefusal → Trace
+trace_with s messages asked refusal =
     record { records = s.words; messages = texts_in messages; asked = asked; refused = refusal_view refusal }
 
 -- the same of a host, and the context of its file with what it has done
-abbrev pub told_by : {V : Type 0} → Runner V → Told
-told_by runner = told_with runner.journal runner.messages runner.asked runner.refusal
+abbrev pub trace_of : {V : Type 0} → Runner V → Trace
+trace_of runner = trace_with runner.journal runner.messages runner.asked runner.refusal
 
-abbrev pub context_of : {V : Type 0} → Runner V → answers.Context
+abbrev pub context_of : {V : Type 0} → Runner V → answers.FileContext
 context_of runner = context_with runner.journal runner.context
 
 -- a message, with a newline or without
@@ -56,11 +56,12 @@ abbrev pub message_of : Text → Bool → Text
 message_of text newline = if newline then text ++ 10 ∷ [] else text
 
 -- The host replies by this answer, and what it has done grows by it; or memory runs out.
-abbrev pub Replies : OracleAnswer → HostAnswer → Told → Told → Type 0
+abbrev pub Replies : OracleAnswer → HostAnswer → Trace → Trace → Type 0
 Replies answer (Done t) old new =
-    (adds : oracle.Addition) × (asks : Bool) × IsTold answer (oracle.Done (string_bytes t) adds asks) old new
-Replies answer Unknown old new = (asks : Bool) × IsTold answer (oracle.Unknown asks) old new
-Replies answer (LeftOut name) old new = (asks : Bool) × IsTold answer (oracle.LeftOut (string_bytes name) asks) old new
+    (adds : oracle.Addition) × (asks : Bool) × TracesAnswer answer (oracle.Done (string_bytes t) adds asks) old new
+Replies answer Unknown old new = (asks : Bool) × TracesAnswer answer (oracle.Unknown asks) old new
+Replies answer (LeftOut name) old new = (asks : Bool) × TracesAnswer answer
+    (oracle.LeftOut (string_bytes name) asks) old new
 Replies answer (Refused n) old new =
-    (name : Option Text) × (asks : Bool) × IsTold answer (oracle.Refused n name asks) old new
+    (name : Option Text) × (asks : Bool) × TracesAnswer answer (oracle.Refused n name asks) old new
 Replies answer OutOfMemory old new = (asked : Bool) × (new ≡ perhaps_asked asked old)

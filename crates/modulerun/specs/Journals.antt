@@ -1,8 +1,8 @@
 -- What a file has done so far (own).
 use Rattle.std.specs.Prelude.{◌≡◌, ℕ, ◌==◌, List, ◌∷◌, [], ◌++◌, map, IfSome, if◌then◌else◌, Result, Ok, Err, refl}
 use Rattle.std.specs.Coded.{Coded, code_by, coded×, coded_ℕ, coded_list}
-use Rattle.environment.specs.Texts.{Text, texts_in}
-use Rattle.environment.specs.Environment.{Environment, environment_code}
+use Rattle.envvars.specs.Texts.{Text, texts_in}
+use Rattle.envvars.specs.Environment.{Environment, environment_code}
 use Rattle.modulerecords.specs.Records as records
 use Rattle.modulerecords.specs.Judgments.{RecordReason}
 use Rattle.modulerecords.specs.Effects as effects
@@ -12,11 +12,11 @@ use Rattle.modulefile.specs.declared.records.Mode.TheVariants.{Load, Unload, Dis
 use Rattle.modulefile.specs.declared.record_fault.RecordFault.{RecordFault}
 use Rattle.modulefile.specs.Results.{◌>>=◌}
 use Rattle.modulefile.specs.RecordViews.{mode_view, record_view, fault_reason}
-use Rattle.modulefile.specs.Answers.{records_in, by_record, or_start}
+use Rattle.modulefile.specs.Answers.{records_in, record_outcome, or_start}
 use Rattle.modulerun.specs.declared.entry.Entry.{Entry}
 
 -- the mode, the module's name, the environment before the file, and the words of the commands that were accepted
-pub record SoFar : Type 0 where
+pub record JournalState : Type 0 where
   pub mode : Mode
   pub owner : Text
   pub start : Environment
@@ -33,33 +33,34 @@ abbrev pub numbered_mode : ℕ → Mode
 numbered_mode n = if n == 0 then Load else if n == 1 then Unload else if n == 2 then Display else Whatis
 
 -- what was done, by its parts
-abbrev pub so_far_of : Mode → Text → Environment → List (List Text) → SoFar
-so_far_of mode owner start words = record { mode = mode; owner = owner; start = start; words = words }
+abbrev pub journal_state : Mode → Text → Environment → List (List Text) → JournalState
+journal_state mode owner start words = record { mode = mode; owner = owner; start = start; words = words }
 
 -- coding a mode by its number and back gives the same
-abbrev pub same_again : (m : Mode) (owner : Text) (start : Environment) (words : List (List Text))
-    → so_far_of (numbered_mode (mode_number m)) owner start words
-    ≡ so_far_of m owner start words
-same_again Load owner start words = refl
-same_again Unload owner start words = refl
-same_again Display owner start words = refl
-same_again Whatis owner start words = refl
+abbrev pub mode_round_trip : (m : Mode) (owner : Text) (start : Environment) (words : List (List Text))
+    → journal_state (numbered_mode (mode_number m)) owner start words
+    ≡ journal_state m owner start words
+mode_round_trip Load owner start words = refl
+mode_round_trip Unload owner start words = refl
+mode_round_trip Display owner start words = refl
+mode_round_trip Whatis owner start words = refl
 
 -- the codings of texts and of the whole
 abbrev pub text_code : Coded Text
 text_code = coded_list coded_ℕ
 
-abbrev pub so_far_code : Coded SoFar
-so_far_code =
+abbrev pub journal_code : Coded JournalState
+journal_code =
     code_by (ℕ × (Text × (Environment × List (List Text))))
     (coded× coded_ℕ (coded× text_code (coded× environment_code (coded_list (coded_list text_code)))))
     (λ s. (mode_number s.mode, (s.owner, (s.start, s.words))))
     (λ p. record { mode = numbered_mode p.0; owner = p.1.0; start = p.1.1.0; words = p.1.1.1 })
-    (λ s. same_again s.mode s.owner s.start s.words)
+    (λ s. mode_round_trip s.mode s.owner s.start s.words)
 
 -- the environment that the file finds
-abbrev pub found : SoFar → Environment
-found s = or_start s.start (records_in s.words >>= (λ rs. by_record (effects (mode_view s.mode) s.owner rs s.start)))
+abbrev pub environment_so_far : JournalState → Environment
+environment_so_far s = or_start s.start (records_in s.words >>=
+    (λ rs. record_outcome (effects (mode_view s.mode) s.owner rs s.start)))
 
 -- the words and the records of entries
 abbrev pub words_of : List Entry → List (List Text)
@@ -69,19 +70,21 @@ abbrev pub records_of : List Entry → List records.Record
 records_of entries = map (λ entry. record_view entry.recorded) entries
 
 -- The records of the entries are those of their words, and the environment is their effects on the one before.
-abbrev pub IsKept : effects.Mode → Text → Environment → Environment → List Entry → Type 0
-IsKept mode owner start now entries =
+abbrev pub IsJournal : effects.Mode → Text → Environment → Environment → List Entry → Type 0
+IsJournal mode owner start now entries =
     (records_in (words_of entries) ≡ Ok (records_of entries)) × (effects mode owner (records_of entries) start ≡ Ok now)
 
 -- the same with one command more
-abbrev pub noted : SoFar → List Text → SoFar
-noted s words = record { mode = s.mode; owner = s.owner; start = s.start; words = s.words ++ words ∷ [] }
+abbrev pub with_command : JournalState → List Text → JournalState
+with_command s words = record { mode = s.mode; owner = s.owner; start = s.start; words = s.words ++ words ∷ [] }
 
 -- the effect of a record on the environment that the file finds
-abbrev pub effect_on : SoFar → records.Record → Result Environment RecordReason
-effect_on s r = effect (mode_view s.mode) s.owner r (found s)
+abbrev pub effect_on : JournalState → records.Record → Result Environment RecordReason
+effect_on s r = effect (mode_view s.mode) s.owner r (environment_so_far s)
 
 -- A command is added where its record has its effect, and else nothing changes.
-abbrev pub IsNoted : Result (Unit {0}) RecordFault → List Text → records.Record → SoFar → SoFar → Type 0
-IsNoted (Ok u) words r old new = (new ≡ noted old words) × ((e : Environment) × (effect_on old r ≡ Ok e))
-IsNoted (Err fault) words r old new = (new ≡ old) × IfSome (fault_reason fault) (λ reason. effect_on old r ≡ Err reason)
+abbrev pub AddsCommand : Result (Unit {0}) RecordFault → List Text → records.Record → JournalState → JournalState
+    → Type 0
+AddsCommand (Ok u) words r old new = (new ≡ with_command old words) × ((e : Environment) × (effect_on old r ≡ Ok e))
+AddsCommand (Err fault) words r old new = (new ≡ old) × IfSome (fault_reason fault)
+    (λ reason. effect_on old r ≡ Err reason)

@@ -1,9 +1,9 @@
 -- What the result of a run means by the definitions of modulefiles (own).
 use Rattle.std.specs.Prelude.{◌≡◌, map, string_bytes, Option, Some, None, IfSome, Result, Ok, Err}
 use Rattle.std.specs.Option.{option_map}
-use Rattle.environment.specs.Texts.{Text}
-use Rattle.environment.specs.Environment.{Environment}
-use Rattle.environment.specs.Changes.{applied, new_values_in}
+use Rattle.envvars.specs.Texts.{Text}
+use Rattle.envvars.specs.Environment.{Environment}
+use Rattle.envvars.specs.Changes.{applied, new_values_in}
 use Rattle.tclrules.specs.Oracle.{Refusal, unnamed}
 use Rattle.tclrules.specs.Derivation as halts
 use Rattle.tclrules.specs.Derivation.{Halt}
@@ -14,15 +14,15 @@ use Rattle.modulefile.specs.RecordViews.{mode_view, record_view, fault_reason}
 use Rattle.modulefile.specs.Answers as answers
 use Rattle.modulefile.specs.Answers.{refusal_of}
 use Rattle.modulefile.specs.Files as files
-use Rattle.modulefile.specs.Files.{Stop, halted, refused, failed, refused_by, RunsFile}
-use Rattle.modulerun.specs.declared.context.Context.{Context}
+use Rattle.modulefile.specs.Files.{FileReason, halted, refused, failed, refused_by, RunsFile}
+use Rattle.modulerun.specs.declared.context.FileContext.{FileContext}
 use Rattle.modulerun.specs.declared.run.Ran.{Ran}
 use Rattle.modulerun.specs.declared.run.Draft.{Draft}
 use Rattle.modulerun.specs.declared.run_fault.RunFault.{RunFault}
 use Rattle.modulerun.specs.declared.run_fault.RunFault.TheVariants.{OutOfMemory, Eval, BadArguments, BadRecord}
 
 -- the context, with the environment from before the file
-abbrev pub context_view : Context → Environment → answers.Context
+abbrev pub context_view : FileContext → Environment → answers.FileContext
 context_view c start =
     record {
       mode = mode_view c.mode;
@@ -46,35 +46,35 @@ ran_view ran env =
     }
 
 -- the reason of a fault of the evaluation, with the refusal that the host remembers; OutOfMemory has none
-abbrev pub eval_stop : EvalFault → Option Refusal → Option Stop
-eval_stop faults.OutOfMemory refusal = None
-eval_stop (faults.Text fault) refusal = Some (halted (halts.BadText fault))
-eval_stop (faults.TclError message line) refusal = Some (failed (string_bytes message) line)
-eval_stop faults.TooManyCommands refusal = Some (halted halts.TooManyCommands)
-eval_stop faults.TooDeep refusal = Some (halted halts.TooDeep)
-eval_stop faults.ValueTooLong refusal = Some (halted halts.ValueTooLong)
-eval_stop faults.NumberTooLarge refusal = Some (halted halts.NumberTooLarge)
-eval_stop faults.FractionOperand refusal = Some (halted halts.FractionOperand)
-eval_stop (faults.LeftOut name) refusal = Some (halted (halts.LeftOut (string_bytes name)))
-eval_stop faults.Stopped refusal = Some (halted halts.Stopped)
-eval_stop (faults.Host n) refusal = Some (refused_by n refusal)
+abbrev pub eval_reason : EvalFault → Option Refusal → Option FileReason
+eval_reason faults.OutOfMemory refusal = None
+eval_reason (faults.Text fault) refusal = Some (halted (halts.BadText fault))
+eval_reason (faults.TclError message line) refusal = Some (failed (string_bytes message) line)
+eval_reason faults.TooManyCommands refusal = Some (halted halts.TooManyCommands)
+eval_reason faults.TooDeep refusal = Some (halted halts.TooDeep)
+eval_reason faults.ValueTooLong refusal = Some (halted halts.ValueTooLong)
+eval_reason faults.NumberTooLarge refusal = Some (halted halts.NumberTooLarge)
+eval_reason faults.FractionOperand refusal = Some (halted halts.FractionOperand)
+eval_reason (faults.LeftOut name) refusal = Some (halted (halts.LeftOut (string_bytes name)))
+eval_reason faults.Stopped refusal = Some (halted halts.Stopped)
+eval_reason (faults.Host n) refusal = Some (refused_by n refusal)
 
 -- the reason of a fault. That of a refused command has its number, and the name that it is refused for
-abbrev pub stop_of : RunFault → Option Stop
-stop_of OutOfMemory = None
-stop_of (Eval fault) = eval_stop fault None
-stop_of BadArguments = Some (refused (unnamed 56))
-stop_of (BadRecord fault) = option_map (λ reason. refused (refusal_of reason)) (fault_reason fault)
+abbrev pub file_reason_of : RunFault → Option FileReason
+file_reason_of OutOfMemory = None
+file_reason_of (Eval fault) = eval_reason fault None
+file_reason_of BadArguments = Some (refused (unnamed 56))
+file_reason_of (BadRecord fault) = option_map (λ reason. refused (refusal_of reason)) (fault_reason fault)
 
 -- The result of a call is the outcome of the text in the context, or OutOfMemory. The environment after an accepted
 -- file is the one that it leaves, and after a refused one the old one.
-abbrev pub RunsTo : Limits → answers.Context → Text → Result Ran RunFault → Environment → Type 0
+abbrev pub RunsTo : Limits → answers.FileContext → Text → Result Ran RunFault → Environment → Type 0
 RunsTo limits c text (Ok ran) new = RunsFile limits c text (Ok (ran_view ran new))
-RunsTo limits c text (Err fault) new = (new ≡ c.start) × IfSome (stop_of fault)
+RunsTo limits c text (Err fault) new = (new ≡ c.start) × IfSome (file_reason_of fault)
     (λ stop. RunsFile limits c text (Err stop))
 
 -- The same of a file whose changes aren't applied yet.
-abbrev pub Drafts : Limits → answers.Context → Text → Result Draft RunFault → Type 0
+abbrev pub Drafts : Limits → answers.FileContext → Text → Result Draft RunFault → Type 0
 Drafts limits c text (Ok draft) =
     RunsFile limits c text (Ok (ran_view draft.ran (applied (new_values_in draft.changes) c.start)))
-Drafts limits c text (Err fault) = IfSome (stop_of fault) (λ stop. RunsFile limits c text (Err stop))
+Drafts limits c text (Err fault) = IfSome (file_reason_of fault) (λ stop. RunsFile limits c text (Err stop))

@@ -4,7 +4,7 @@ use shells::Shell;
 
 /// The context that a modulefile is evaluated in, but for the environment before it.
 #[derive(Clone, Copy)]
-pub struct Context<'a> {
+pub struct FileContext<'a> {
     /// What it is evaluated for.
     pub mode: Mode,
     /// Whether it is half of a switch.

@@ -1,19 +1,19 @@
 //! What a modulefile has done so far: its accepted commands, and the environment that they make.
 ghost use Rattle.std.specs.Prelude.{◌≡◌, ◌++◌, ◌∷◌, [], Ok, map, string_bytes, OnOk, OnErr, IfOk, IfErr};
 ghost use Rattle.std.specs.Option.{option_map};
-ghost use Rattle.environment.specs.Texts.{texts_in};
-ghost use Rattle.environment.specs.Environment.{lookup};
-ghost use Rattle.environment.specs.Changes.{applied, new_values_in};
-ghost use Rattle.environment.specs.declared.fault.EnvFault.TheVariants.{OutOfMemory};
+ghost use Rattle.envvars.specs.Texts.{texts_in};
+ghost use Rattle.envvars.specs.Environment.{lookup};
+ghost use Rattle.envvars.specs.Changes.{applied, new_values_in};
+ghost use Rattle.envvars.specs.declared.fault.EnvFault.TheVariants.{OutOfMemory};
 ghost use Rattle.modulerecords.specs.Effects.{effect, effects};
-ghost use Rattle.modulefile.specs.Calls.{keeps, call_of};
+ghost use Rattle.modulefile.specs.Calls.{adds_record, call_of};
 ghost use Rattle.modulefile.specs.Answers.{records_in};
 ghost use Rattle.modulefile.specs.RecordViews.{mode_view, record_view, IsEdited};
-ghost use Rattle.modulerun.specs.Journals.{found, so_far_of, IsNoted};
+ghost use Rattle.modulerun.specs.Journals.{environment_so_far, journal_state, AddsCommand};
 
 use crate::entry::Entry;
 use crate::recording::copied;
-use environment::{Change, EnvFault, Vars, Working};
+use envvars::{Change, EnvFault, Vars, Working};
 use modulefile::{Mode, Record, RecordFault, effect};
 use std::alloc::{AllocError, Global};
 use std::marker::Model;
@@ -43,15 +43,15 @@ impl<'a, V: Vars> Drop for Journal<'a, V> {
 
 impl<'a, V: Vars> Model for Journal<'a, V> {
     ghost use Rattle.modulefile.specs.RecordViews.{mode_view};
-    ghost use Rattle.modulerun.specs.Journals.{SoFar, so_far_of, so_far_code, IsKept, words_of};
+    ghost use Rattle.modulerun.specs.Journals.{JournalState, journal_state, journal_code, IsJournal, words_of};
 
-    ghost Value = { SoFar };
+    ghost Value = { JournalState };
 
-    ghost coded = { so_far_code };
+    ghost coded = { journal_code };
 
-    ghost view = { λ a. so_far_of a.mode a.owner.now a.working.old (words_of a.entries.items) };
+    ghost view = { λ a. journal_state a.mode a.owner.now a.working.old (words_of a.entries.items) };
 
-    ghost invariant = { λ a. IsKept (mode_view a.mode) a.owner.now a.working.old a.working.new a.entries.items };
+    ghost invariant = { λ a. IsJournal (mode_view a.mode) a.owner.now a.working.old a.working.new a.entries.items };
 }
 
 /// The records of an accepted file, and the changes that they make of the environment.
@@ -74,7 +74,7 @@ fn enter<V: Vars>(
     ensures err { OnErr result (entries.new.items ≡ entries.old.items) }
     ensures edits { IsEdited result (V.vars env.old) (V.vars env.new)
         (effect (mode_view mode) owner.now (record_view entry.recorded) (V.vars env.old)) }
-    ensures under { V.under env.new ≡ V.under env.old }
+    ensures base { V.base env.new ≡ V.base env.old }
 {
     if entries.reserve(1).is_err() {
         return Err(RecordFault::Env(EnvFault::OutOfMemory));
@@ -106,14 +106,14 @@ fn records_of(alloc: Global, entries: Vec<Entry>) -> Result<Vec<Record>, AllocEr
 impl<'a, V: Vars> Journal<'a, V> {
     /// A journal without entries over the environment before the file.
     pub(crate) fn over(alloc: Global, mode: Mode, owner: &'a str, start: &'a V) -> Self
-        ensures { result ≡ so_far_of mode owner.entry.now (V.vars start.entry.now) [] }
+        ensures { result ≡ journal_state mode owner.entry.now (V.vars start.entry.now) [] }
     {
         Journal {
             alloc,
             mode,
             owner,
             entries: Vec::new(alloc),
-            working: Working::upon(alloc, start),
+            working: Working::over_vars(alloc, start),
         }
     }
 
@@ -133,15 +133,19 @@ impl<'a, V: Vars> Journal<'a, V> {
 
     /// The value of a variable, as the file finds it.
     pub(crate) fn get(&self, name: &str) -> Option<&str>
-        ensures { option_map (λ x. x.now) result ≡ lookup (found self.now) name.now }
+        ensures { option_map (λ x. x.now) result ≡ lookup (environment_so_far self.now) name.now }
     {
         self.working.get(name)
     }
 
     /// Adds an accepted command by its words and its record, where the record has its effect. Else nothing changes.
-    pub(crate) fn note(&mut self, words: &[String], recorded: Record) -> Result<(), RecordFault>
-        requires { call_of (map string_bytes words.now) ≡ Ok (keeps (record_view recorded)) }
-        ensures { IsNoted result (map string_bytes words.now) (record_view recorded) self.old self.new }
+    pub(crate) fn add_command(
+        &mut self,
+        words: &[String],
+        recorded: Record,
+    ) -> Result<(), RecordFault>
+        requires { call_of (map string_bytes words.now) ≡ Ok (adds_record (record_view recorded)) }
+        ensures { AddsCommand result (map string_bytes words.now) (record_view recorded) self.old self.new }
     {
         match copied(self.alloc, words) {
             Ok(words) => self.enter(Entry { words, recorded }),
@@ -151,8 +155,8 @@ impl<'a, V: Vars> Journal<'a, V> {
 
     /// Adds an entry, where its record has its effect.
     fn enter(&mut self, entry: Entry) -> Result<(), RecordFault>
-        requires { call_of (texts_in entry.words) ≡ Ok (keeps (record_view entry.recorded)) }
-        ensures { IsNoted result (texts_in entry.words) (record_view entry.recorded) self.old self.new }
+        requires { call_of (texts_in entry.words) ≡ Ok (adds_record (record_view entry.recorded)) }
+        ensures { AddsCommand result (texts_in entry.words) (record_view entry.recorded) self.old self.new }
     {
         enter(
             self.alloc,

@@ -13,6 +13,6 @@ mod run;
 mod run_fault;
 mod runner;
 
-pub use context::Context;
+pub use context::FileContext;
 pub use run::{Ran, run_file};
 pub use run_fault::RunFault;

@@ -1,7 +1,7 @@
 //! The answers to `module-info` and `is-loaded` (modulefile(5)).
 ghost use Rattle.std.specs.Prelude.{◌≡◌, ◌||◌, ◌&&◌, true, bytes_eq, codes, map, string_bytes};
 ghost use Rattle.std.specs.List.{list_any};
-ghost use Rattle.environment.specs.Texts.{Text};
+ghost use Rattle.envvars.specs.Texts.{Text};
 ghost use Rattle.modulename.specs.ModuleName.{means};
 ghost use Rattle.modulefile.specs.Answers.{any_loaded, is_second_word, mode_word, truth};
 ghost use Rattle.modulefile.specs.RecordViews.{mode_view};
@@ -10,10 +10,10 @@ use modulefile::Mode;
 use modulename::means;
 
 /// The text that answers a question: `1` for yes and `0` for no.
-pub(crate) fn truth(so: bool) -> &'static str
-    ensures { result.now ≡ truth so }
+pub(crate) fn truth(is_true: bool) -> &'static str
+    ensures { result.now ≡ truth is_true }
 {
-    if so { "1" } else { "0" }
+    if is_true { "1" } else { "0" }
 }
 
 /// The word of a mode, as `module-info mode` has it.

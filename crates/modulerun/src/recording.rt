@@ -1,13 +1,13 @@
 //! The records of commands (modulefile(5)), copied from their words.
 ghost use Rattle.std.specs.Prelude.{◌≡◌, map, string_bytes, IfOk};
 ghost use Rattle.std.specs.Option.{option_map};
-ghost use Rattle.environment.specs.Texts.{texts_in};
+ghost use Rattle.envvars.specs.Texts.{texts_in};
 ghost use Rattle.modulerecords.specs.Records.{Set, Unset, Push, Conflict, Prereq};
 ghost use Rattle.modulefile.specs.Calls.{elements_of, description};
 ghost use Rattle.modulefile.specs.CallViews.{edit_record};
 ghost use Rattle.modulefile.specs.RecordViews.{record_view};
 
-use environment::fields::{copies, copy, join, parts, slices};
+use envvars::fields::{copies, copy, join, parts, slices};
 use modulefile::{Delimiter, PathEdit, Record};
 use std::alloc::{AllocError, Global};
 

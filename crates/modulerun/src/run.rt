@@ -3,13 +3,13 @@ ghost use Rattle.std.specs.Prelude.{◌≡◌, Some, IfOk, IfSome};
 ghost use Rattle.tclrules.specs.Promise.{texts_of};
 ghost use Rattle.modulefile.specs.Files.{globals_of, refused_by};
 ghost use Rattle.modulerun.specs.Hosting.{refusal_view};
-ghost use Rattle.modulerun.specs.Running.{context_view, eval_stop, stop_of, RunsTo, Drafts};
+ghost use Rattle.modulerun.specs.Running.{context_view, eval_reason, file_reason_of, RunsTo, Drafts};
 
 use crate::command_refusal::CommandRefusal;
-use crate::context::Context;
+use crate::context::FileContext;
 use crate::run_fault::RunFault;
 use crate::runner::Runner;
-use environment::{Change, Vars};
+use envvars::{Change, Vars};
 use modulefile::Record;
 use std::alloc::{AllocError, Global};
 use tcleval::evaluate;
@@ -44,7 +44,7 @@ fn globals(alloc: Global, path: &str) -> Result<Vec<(String, String)>, AllocErro
 
 /// The fault of a file by that of its evaluation. Where a command was refused, `command` is the command's own fault.
 pub(crate) fn refusal(fault: EvalFault, command: Option<CommandRefusal>) -> RunFault
-    ensures { IfSome (stop_of result) (λ stop. eval_stop fault (refusal_view command) ≡ Some stop) }
+    ensures { IfSome (file_reason_of result) (λ stop. eval_reason fault (refusal_view command) ≡ Some stop) }
 {
     match fault {
         EvalFault::Host(number) => refused(number, command),
@@ -63,7 +63,7 @@ pub(crate) fn refusal(fault: EvalFault, command: Option<CommandRefusal>) -> RunF
 
 /// The fault of a file for a refused command: the command's own, or its number where that is missing.
 fn refused(number: u16, command: Option<CommandRefusal>) -> RunFault
-    ensures { IfSome (stop_of result) (λ stop. stop ≡ refused_by number (refusal_view command)) }
+    ensures { IfSome (file_reason_of result) (λ stop. stop ≡ refused_by number (refusal_view command)) }
 {
     match command {
         Some(refusal) => refusal.into_fault(),
@@ -72,9 +72,9 @@ fn refused(number: u16, command: Option<CommandRefusal>) -> RunFault
 }
 
 /// Evaluates a file over an environment, which is unchanged.
-fn drafted<V: Vars>(
+fn draft_file<V: Vars>(
     alloc: Global,
-    context: &Context<'_>,
+    context: &FileContext<'_>,
     text: &str,
     env: &V,
     limits: Limits,
@@ -97,15 +97,15 @@ fn drafted<V: Vars>(
 /// 36, 37, 44). The environment is then as it was.
 pub fn run_file<V: Vars>(
     alloc: Global,
-    context: &Context<'_>,
+    context: &FileContext<'_>,
     text: &str,
     env: &mut V,
     limits: Limits,
 ) -> Result<Ran, RunFault>
     ensures runs { RunsTo limits (context_view context.now (V.vars env.old)) text.now result (V.vars env.new) }
-    ensures under { V.under env.new ≡ V.under env.old }
+    ensures base { V.base env.new ≡ V.base env.old }
 {
-    let Draft { ran, changes } = drafted(alloc, context, text, &*env, limits)?;
+    let Draft { ran, changes } = draft_file(alloc, context, text, &*env, limits)?;
     env.apply(changes)?;
     Ok(ran)
 }

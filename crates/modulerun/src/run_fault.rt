@@ -3,7 +3,7 @@ ghost use Rattle.std.specs.Prelude.{◌≡◌, IfSome, Some};
 ghost use Rattle.message.specs.Messages.{text_of};
 ghost use Rattle.modulerun.specs.Messages as texts;
 
-use environment::EnvFault;
+use envvars::EnvFault;
 use message::Message;
 use modulefile::RecordFault;
 use std::alloc::AllocError;
@@ -45,13 +45,13 @@ fn eval_number(fault: &EvalFault) -> u16
 }
 
 impl RunFault {
-    ghost use Rattle.modulefile.specs.Files.{stop_number};
-    ghost use Rattle.modulerun.specs.Running.{stop_of};
+    ghost use Rattle.modulefile.specs.Files.{file_reason_number};
+    ghost use Rattle.modulerun.specs.Running.{file_reason_of};
 
     /// The number of the fault: that of the reason, or 11 or 31 where memory ran out.
     pub fn number(&self) -> u16
         ensures exact { result ≡ texts.number_of self.now }
-        ensures by_stop { IfSome (stop_of self.now) (λ stop. result ≡ stop_number stop) }
+        ensures by_file_reason { IfSome (file_reason_of self.now) (λ stop. result ≡ file_reason_number stop) }
     {
         match self {
             RunFault::OutOfMemory => 31,
@@ -66,9 +66,9 @@ impl RunFault {
         ensures { text_of result ≡ texts.message_of self.now }
     {
         match self {
-            RunFault::OutOfMemory => Message::plain("Out of memory"),
+            RunFault::OutOfMemory => Message::of_text("Out of memory"),
             RunFault::Eval(fault) => fault.message(),
-            RunFault::BadArguments => Message::plain("Bad arguments"),
+            RunFault::BadArguments => Message::of_text("Bad arguments"),
             RunFault::BadRecord(fault) => fault.message(),
         }
     }

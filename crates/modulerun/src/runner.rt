@@ -1,37 +1,37 @@
 //! The host of a modulefile: it does the commands that Tcl hasn't (modulefile(5)).
 ghost use Rattle.std.specs.Prelude.{◌≡◌, ◌++◌, ◌∷◌, [], None, Some, Ok, map, string_bytes, is_none, IfOk, IfErr, IfSome, OnOk, OnErr, false};
-ghost use Rattle.environment.specs.Texts.{Text, texts_in};
-ghost use Rattle.environment.specs.Reasons.{bad_variable};
-ghost use Rattle.environment.specs.Changes.{applied, new_values_in};
+ghost use Rattle.envvars.specs.Texts.{Text, texts_in};
+ghost use Rattle.envvars.specs.Reasons.{bad_variable};
+ghost use Rattle.envvars.specs.Changes.{applied, new_values_in};
 ghost use Rattle.tclrules.specs.Oracle.{Nothing, Message, Done};
 ghost use Rattle.modulerecords.specs.Judgments.{RecordReason, bad_edit};
-ghost use Rattle.modulefile.specs.Calls.{CallReason, bad_record, keeps, call_of};
-ghost use Rattle.modulefile.specs.CallViews.{HasReason, call_view, topic_view};
+ghost use Rattle.modulefile.specs.Calls.{CallReason, bad_record, adds_record, call_of};
+ghost use Rattle.modulefile.specs.CallViews.{HasReason, call_view, field_view};
 ghost use Rattle.modulefile.specs.RecordViews.{mode_view, record_view, fault_reason, HasFault};
 ghost use Rattle.modulefile.specs.Answers.{answered, any_loaded, asked, not_done, read, truth};
-ghost use Rattle.modulefile.specs.Answers.{topic_text, topic_test, value_shown};
+ghost use Rattle.modulefile.specs.Answers.{field_text, field_test, value_shown};
 ghost use Rattle.modulefile.specs.Files.{ran_of};
 ghost use Rattle.modulerun.specs.declared.run_fault.RunFault.TheVariants.{OutOfMemory};
-ghost use Rattle.modulerun.specs.Running.{ran_view, eval_stop, stop_of};
-ghost use Rattle.modulerun.specs.Journals.{found, so_far_of};
-ghost use Rattle.modulerun.specs.Hosting.{context_of, told_by, refusal_view, message_of, Replies};
+ghost use Rattle.modulerun.specs.Running.{ran_view, eval_reason, file_reason_of};
+ghost use Rattle.modulerun.specs.Journals.{environment_so_far, journal_state};
+ghost use Rattle.modulerun.specs.Hosting.{context_of, trace_of, refusal_view, message_of, Replies};
 
 use crate::command_refusal::CommandRefusal;
-use crate::context::Context;
+use crate::context::FileContext;
 use crate::journal::{FinishedFile, Journal};
 use crate::questions::{any_loaded, is_mode, mode_word, truth};
 use crate::recording;
 use crate::run::{Draft, Ran, refusal};
 use crate::run_fault::RunFault;
-use environment::{EnvFault, Vars, is_variable_name};
-use modulefile::{Call, CallFault, Mode, Record, RecordFault, Topic, call_of};
+use envvars::{EnvFault, Vars, is_variable_name};
+use modulefile::{Call, CallFault, InfoField, Mode, Record, RecordFault, call_of};
 use std::alloc::{AllocError, Global};
 use tclrules::{EvalFault, Host, HostAnswer};
 
 /// Does the commands of a file, over the environment from before it.
 pub(crate) struct Runner<'a, V: Vars> {
     pub alloc: Global,
-    pub context: Context<'a>,
+    pub context: FileContext<'a>,
     pub journal: Journal<'a, V>,
     pub messages: Vec<String>,
     pub asked: bool,
@@ -54,7 +54,7 @@ impl<'a, V: Vars> Drop for Runner<'a, V> {
 }
 
 /// Whether memory ran out, which refuses no command.
-fn is_want_of_memory(fault: &RecordFault) -> bool
+fn is_out_of_memory(fault: &RecordFault) -> bool
     ensures { result ≡ is_none (fault_reason fault.now) }
 {
     match fault {
@@ -75,9 +75,9 @@ fn bad_variable(alloc: Global, var: &str) -> RecordFault
 
 impl<'a, V: Vars> Runner<'a, V> {
     /// The host of a file before its first command.
-    pub(crate) fn over(alloc: Global, context: Context<'a>, start: &'a V) -> Self
+    pub(crate) fn over(alloc: Global, context: FileContext<'a>, start: &'a V) -> Self
         ensures journal { result.journal
-            ≡ so_far_of context.entry.mode context.entry.name.now (V.vars start.entry.now) [] }
+            ≡ journal_state context.entry.mode context.entry.name.now (V.vars start.entry.now) [] }
         ensures context { result.context ≡ context.entry }
         ensures messages { result.messages.items ≡ [] }
         ensures asked { result.asked ≡ false }
@@ -96,7 +96,7 @@ impl<'a, V: Vars> Runner<'a, V> {
     /// The answer to words that call no command.
     fn not_done(&mut self, fault: CallFault) -> HostAnswer
         ensures replies { (reason : CallReason) → HasReason reason fault → Replies (not_done reason) result
-            (told_by self.old) (told_by self.new) }
+            (trace_of self.old) (trace_of self.new) }
         ensures same { context_of self.new ≡ context_of self.old }
     {
         match fault {
@@ -113,10 +113,10 @@ impl<'a, V: Vars> Runner<'a, V> {
     /// Refuses a command by the number of the fault, and remembers the fault for the refusal of the file.
     fn refuse(&mut self, fault: RecordFault) -> HostAnswer
         ensures replies { (reason : RecordReason) → HasFault reason fault
-            → Replies (not_done (bad_record reason)) result (told_by self.old) (told_by self.new) }
+            → Replies (not_done (bad_record reason)) result (trace_of self.old) (trace_of self.new) }
         ensures same { context_of self.new ≡ context_of self.old }
     {
-        if is_want_of_memory(&fault) {
+        if is_out_of_memory(&fault) {
             return HostAnswer::OutOfMemory;
         }
         let number = fault.number();
@@ -125,16 +125,16 @@ impl<'a, V: Vars> Runner<'a, V> {
     }
 
     /// Adds the record of a command to the journal, where it has its effect.
-    fn keep(&mut self, words: &[String], recorded: Result<Record, AllocError>) -> HostAnswer
-        requires { IfOk recorded (λ r. call_of (map string_bytes words.now) ≡ Ok (keeps (record_view r))) }
-        ensures replies { Replies (answered (context_of self.old) (found self.old.journal)
+    fn add_record(&mut self, words: &[String], recorded: Result<Record, AllocError>) -> HostAnswer
+        requires { IfOk recorded (λ r. call_of (map string_bytes words.now) ≡ Ok (adds_record (record_view r))) }
+        ensures replies { Replies (answered (context_of self.old) (environment_so_far self.old.journal)
             (map string_bytes words.now) (call_of (map string_bytes words.now))) result
-            (told_by self.old) (told_by self.new) }
+            (trace_of self.old) (trace_of self.new) }
         ensures same { context_of self.new ≡ context_of self.old }
     {
         match recorded {
             Err(_) => HostAnswer::OutOfMemory,
-            Ok(record) => match self.journal.note(words, record) {
+            Ok(record) => match self.journal.add_command(words, record) {
                 Ok(()) => HostAnswer::Done(String::new(self.alloc)),
                 Err(fault) => self.refuse(fault),
             },
@@ -142,9 +142,9 @@ impl<'a, V: Vars> Runner<'a, V> {
     }
 
     /// Adds a message, with a newline or without.
-    fn say(&mut self, text: &str, newline: bool) -> HostAnswer
+    fn add_message(&mut self, text: &str, newline: bool) -> HostAnswer
         ensures replies { Replies (Done [] (Message (message_of text.now newline)) false) result
-            (told_by self.old) (told_by self.new) }
+            (trace_of self.old) (trace_of self.new) }
         ensures same { context_of self.new ≡ context_of self.old }
     {
         match push_message(self.alloc, &mut self.messages, text, newline) {
@@ -154,9 +154,9 @@ impl<'a, V: Vars> Runner<'a, V> {
     }
 
     /// Answers a question, and marks that the file asked.
-    fn ask(&mut self, text: Result<String, AllocError>) -> HostAnswer
+    fn answer_question(&mut self, text: Result<String, AllocError>) -> HostAnswer
         ensures replies { (t : Text) → IfOk text (λ s. string_bytes s ≡ t) → Replies (asked t) result
-            (told_by self.old) (told_by self.new) }
+            (trace_of self.old) (trace_of self.new) }
         ensures same { context_of self.new ≡ context_of self.old }
     {
         self.asked = true;
@@ -169,7 +169,7 @@ impl<'a, V: Vars> Runner<'a, V> {
     /// Answers `module-info name`, which is no question: a name is the same in every context of the file.
     fn own_name(&self) -> HostAnswer
         ensures replies { Replies (Done self.now.journal.owner Nothing false) result
-            (told_by self.now) (told_by self.now) }
+            (trace_of self.now) (trace_of self.now) }
     {
         match String::from_str(self.alloc, self.journal.owner()) {
             Ok(name) => HostAnswer::Done(name),
@@ -180,7 +180,7 @@ impl<'a, V: Vars> Runner<'a, V> {
     /// The value of a variable, or else the default; in the mode `display` the variable itself, as `$VAR`.
     fn value_shown(&self, var: &str, default: &str) -> Result<String, AllocError>
         ensures { IfOk result (λ t. string_bytes t
-            ≡ value_shown (mode_view self.now.journal.mode) (found self.now.journal) var.now default.now) }
+            ≡ value_shown (mode_view self.now.journal.mode) (environment_so_far self.now.journal) var.now default.now) }
     {
         match self.journal.mode() {
             Mode::Display => format!(in self.alloc; "${var}"),
@@ -194,13 +194,14 @@ impl<'a, V: Vars> Runner<'a, V> {
     /// Answers `getenv`.
     fn getenv(&mut self, var: &str, default: &str) -> HostAnswer
         ensures replies { Replies (read var.now
-            (value_shown (mode_view self.old.journal.mode) (found self.old.journal) var.now default.now)) result
-            (told_by self.old) (told_by self.new) }
+            (value_shown (mode_view self.old.journal.mode)
+            (environment_so_far self.old.journal) var.now default.now)) result
+            (trace_of self.old) (trace_of self.new) }
         ensures same { context_of self.new ≡ context_of self.old }
     {
         if is_variable_name(var) {
             let value = self.value_shown(var, default);
-            self.ask(value)
+            self.answer_question(value)
         } else {
             let fault = bad_variable(self.alloc, var);
             self.refuse(fault)
@@ -208,24 +209,24 @@ impl<'a, V: Vars> Runner<'a, V> {
     }
 
     /// What `module-info` answers with its first word alone.
-    fn topic_text(&self, topic: Topic) -> &'static str
-        ensures { result.now ≡ topic_text (context_of self.now) (topic_view topic) }
+    fn field_text(&self, field: InfoField) -> &'static str
+        ensures { result.now ≡ field_text (context_of self.now) (field_view field) }
     {
-        match topic {
-            Topic::Mode => mode_word(self.journal.mode()),
-            Topic::Shell => self.context.shell.name(),
-            Topic::ShellType => self.context.shell.family().name(),
+        match field {
+            InfoField::Mode => mode_word(self.journal.mode()),
+            InfoField::Shell => self.context.shell.name(),
+            InfoField::ShellType => self.context.shell.family().name(),
         }
     }
 
     /// Whether what `module-info` is about has this word.
-    fn topic_test(&self, topic: Topic, word: &str) -> bool
-        ensures { result ≡ topic_test (context_of self.now) (topic_view topic) word.now }
+    fn field_test(&self, field: InfoField, word: &str) -> bool
+        ensures { result ≡ field_test (context_of self.now) (field_view field) word.now }
     {
-        match topic {
-            Topic::Mode => is_mode(self.journal.mode(), self.context.in_switch, word),
-            Topic::Shell => word == self.context.shell.name(),
-            Topic::ShellType => word == self.context.shell.family().name(),
+        match field {
+            InfoField::Mode => is_mode(self.journal.mode(), self.context.in_switch, word),
+            InfoField::Shell => word == self.context.shell.name(),
+            InfoField::ShellType => word == self.context.shell.family().name(),
         }
     }
 
@@ -233,16 +234,16 @@ impl<'a, V: Vars> Runner<'a, V> {
     fn is_loaded(&mut self, names: &[String]) -> HostAnswer
         ensures replies { Replies (asked (truth (any_loaded (map string_bytes names.now)
             (map string_bytes self.old.context.loaded.now)))) result
-            (told_by self.old) (told_by self.new) }
+            (trace_of self.old) (trace_of self.new) }
         ensures same { context_of self.new ≡ context_of self.old }
     {
-        let so = any_loaded(names, self.context.loaded);
-        self.ask(String::from_str(self.alloc, truth(so)))
+        let is_true = any_loaded(names, self.context.loaded);
+        self.answer_question(String::from_str(self.alloc, truth(is_true)))
     }
 
     /// What the file leaves, where its evaluation ended without a fault. It fails for `OutOfMemory` alone.
     pub(crate) fn finish(self) -> Result<Draft, RunFault>
-        ensures ok { IfOk result (λ draft. ran_of (context_of self.entry) (told_by self.entry)
+        ensures ok { IfOk result (λ draft. ran_of (context_of self.entry) (trace_of self.entry)
             ≡ Ok (ran_view draft.ran (applied (new_values_in draft.changes) self.entry.journal.start))) }
         ensures only { IfErr result (λ fault. fault ≡ OutOfMemory) }
     {
@@ -265,7 +266,8 @@ impl<'a, V: Vars> Runner<'a, V> {
 
     /// Why the file is refused whose evaluation ended with this fault.
     pub(crate) fn into_fault(self, fault: EvalFault) -> RunFault
-        ensures { IfSome (stop_of result) (λ stop. eval_stop fault (refusal_view self.entry.refusal) ≡ Some stop) }
+        ensures { IfSome (file_reason_of result) (λ stop. eval_reason fault
+            (refusal_view self.entry.refusal) ≡ Some stop) }
     {
         let Runner {
             alloc: _alloc,
@@ -281,40 +283,43 @@ impl<'a, V: Vars> Runner<'a, V> {
     /// Does a command, and answers it.
     fn answer(&mut self, words: &[String], call: Call<'_>) -> HostAnswer
         requires { call_of (map string_bytes words.now) ≡ Ok (call_view call) }
-        ensures replies { Replies (answered (context_of self.old) (found self.old.journal)
+        ensures replies { Replies (answered (context_of self.old) (environment_so_far self.old.journal)
             (map string_bytes words.now) (call_of (map string_bytes words.now))) result
-            (told_by self.old) (told_by self.new) }
+            (trace_of self.old) (trace_of self.new) }
         ensures same { context_of self.new ≡ context_of self.old }
     {
         let alloc = self.alloc;
         match call {
-            Call::Set { var, value } => self.keep(words, recording::set(alloc, var, value)),
-            Call::Unset { var, value } => self.keep(words, recording::unset(alloc, var, value)),
-            Call::Push { var, value } => self.keep(words, recording::push(alloc, var, value)),
+            Call::Set { var, value } => self.add_record(words, recording::set(alloc, var, value)),
+            Call::Unset { var, value } => self.add_record(
+                words,
+                recording::unset(alloc, var, value),
+            ),
+            Call::Push { var, value } => self.add_record(words, recording::push(alloc, var, value)),
             Call::Path {
                 edit,
                 delim,
                 var,
                 values,
-            } => self.keep(words, recording::path(alloc, edit, delim, var, values)),
-            Call::Conflict(names) => self.keep(words, recording::conflict(alloc, names)),
-            Call::Prereq(names) => self.keep(words, recording::prereq(alloc, names)),
-            Call::Whatis(texts) => self.keep(words, recording::whatis(alloc, texts)),
-            Call::Say { text, newline } => self.say(text, newline),
+            } => self.add_record(words, recording::path(alloc, edit, delim, var, values)),
+            Call::Conflict(names) => self.add_record(words, recording::conflict(alloc, names)),
+            Call::Prereq(names) => self.add_record(words, recording::prereq(alloc, names)),
+            Call::Whatis(texts) => self.add_record(words, recording::whatis(alloc, texts)),
+            Call::Puts { text, newline } => self.add_message(text, newline),
             Call::Getenv { var, default } => self.getenv(var, default),
             Call::OwnName => self.own_name(),
             Call::IsLoaded(names) => self.is_loaded(names),
             Call::TypedName => {
                 let typed = self.context.typed;
-                self.ask(String::from_str(alloc, typed))
+                self.answer_question(String::from_str(alloc, typed))
             }
-            Call::Tell(topic) => {
-                let text = self.topic_text(topic);
-                self.ask(String::from_str(alloc, text))
+            Call::Info(field) => {
+                let text = self.field_text(field);
+                self.answer_question(String::from_str(alloc, text))
             }
-            Call::Test(topic, word) => {
-                let so = self.topic_test(topic, word);
-                self.ask(String::from_str(alloc, truth(so)))
+            Call::InfoTest(field, word) => {
+                let is_true = self.field_test(field, word);
+                self.answer_question(String::from_str(alloc, truth(is_true)))
             }
         }
     }
@@ -351,16 +356,16 @@ impl<'a, V: Vars> Host for Runner<'a, V> {
     ghost use Rattle.tclrules.specs.Hosts.{Answers};
     ghost use Rattle.modulefile.specs.Calls.{call_of};
     ghost use Rattle.modulefile.specs.Answers.{oracle_of};
-    ghost use Rattle.modulerun.specs.Journals.{found};
-    ghost use Rattle.modulerun.specs.Hosting.{context_of, told_by};
+    ghost use Rattle.modulerun.specs.Journals.{environment_so_far};
+    ghost use Rattle.modulerun.specs.Hosting.{context_of, trace_of};
 
-    ghost told = { λ r. told_by r };
+    ghost trace = { λ r. trace_of r };
 
     ghost oracle = { λ r. oracle_of (context_of r) };
 
     fn command(&mut self, words: &[String]) -> HostAnswer
         ensures answer { Answers (oracle_of (context_of self.old)) (map string_bytes words.now) result
-            (told_by self.old) (told_by self.new) }
+            (trace_of self.old) (trace_of self.new) }
         ensures same { oracle_of (context_of self.new) ≡ oracle_of (context_of self.old) }
     {
         match call_of(self.alloc, words) {

@@ -1,7 +1,7 @@
 -- Changes, and what they make.
 use Rattle.std.proofs.Common.{◌≡◌, List, sym, subst, ap, ◌∙◌}
-use Rattle.environment.specs.Environment.{Environment}
-use Rattle.environment.specs.Changes.{NewValue, AreChanges, applied}
+use Rattle.envvars.specs.Environment.{Environment}
+use Rattle.envvars.specs.Changes.{NewValue, AreChanges, applied}
 
 -- what differs, written over the old environment, gives the new one
 abbrev pub DifferenceApplies : Type 0

@@ -1,7 +1,7 @@
 -- Sessions grow by one request at their end.
 use Rattle.std.proofs.Common.{◌≡◌, ℕ, true, ◌+◌, ◌-◌, ◌≤◌, ◌<◌, List, [], ◌∷◌, ◌++◌, map, length, take, drop, get_or, refl, sym, subst, ap, ◌∙◌, Ok, Err, append_assoc, append-nil, arith}
 use Rattle.std.proofs.lemmas.List.{take_all}
-use Rattle.environment.specs.Environment.{Environment}
+use Rattle.envvars.specs.Environment.{Environment}
 use Rattle.requests.specs.Laws.{SessionsReturn, StepsAreMade}
 use Rattle.requests.specs.Reasons.{RequestReason}
 use Rattle.requests.specs.RequestViews.{request_view}
@@ -9,33 +9,33 @@ use Rattle.requests.specs.Requests.{RequestedAction, Request}
 use Rattle.requests.specs.declared.action.Request as code
 use Rattle.requests.specs.Returning.{AreNew, AreFitting}
 use Rattle.requests.specs.Sessions as sessions
-use Rattle.requests.specs.Sessions.{Response, Session, IsResponse, env_after, in_shell, is_cause, session_moves}
+use Rattle.requests.specs.Sessions.{Response, Session, IsResponse, env_after, in_shell, is_given_up_by, session_moves}
 use Rattle.requests.specs.Steps.{Site, RequestStep}
 use Rattle.filetree.specs.Agreement.{Files, Listings, InEachPair}
 use Rattle.filetree.specs.Causes.{Cause, Applies, memory, device, because}
-use Rattle.modulesteps.specs.Answers.{cause_of}
-use Rattle.modulesteps.specs.Messages.{memory_number, number_by, number_of}
-use Rattle.modulesteps.specs.declared.refusal.Refusal.{Refusal}
-use Rattle.modulesteps.specs.Views.{done_view}
-use Rattle.modulesteps.specs.declared.done.Done.{Done}
-use Rattle.modulesteps.proofs.WantLemmas.{of_three}
+use Rattle.requeststep.specs.Answers.{cause_of}
+use Rattle.requeststep.specs.Messages.{memory_number, number_by, number_of}
+use Rattle.requeststep.specs.declared.refusal.Refusal.{Refusal}
+use Rattle.requeststep.specs.Views.{done_view}
+use Rattle.requeststep.specs.declared.done.Done.{Done}
+use Rattle.requeststep.proofs.MemoryNumberLemmas.{of_three}
 use Rattle.modules.specs.declared.sessions.Outcome.{Outcome}
 use Rattle.modules.specs.declared.sessions.Outcome.TheVariants.{Accepted, Refused}
-use Rattle.modules.specs.Responses.{accepted_in, by_cause, count_cause, count_failed, count_one, led_to, response_of, responses, Returns}
+use Rattle.modules.specs.Responses.{accepted_in, by_cause, count_cause, count_failed, count_one, env_after_moves, response_of, responses, Returns}
 
 -- the environment after one response more
-pub left_push : (e : Environment) (os : List Response) (o : Response) → sessions.left_by e (os ++ o ∷ []) ≡ env_after (sessions.left_by e os) o
-left_push e [] o = refl
-left_push e (p ∷ os) o = left_push (env_after e p) os o
+pub end_push : (e : Environment) (os : List Response) (o : Response) → sessions.end_environment e (os ++ o ∷ []) ≡ env_after (sessions.end_environment e os) o
+end_push e [] o = refl
+end_push e (p ∷ os) o = end_push (env_after e p) os o
 
 pub responses_push : (e : Environment) (os : List Outcome) (o : Outcome)
-    → responses e (os ++ o ∷ []) ≡ responses e os ++ response_of (sessions.left_by e (responses e os)) o ∷ []
+    → responses e (os ++ o ∷ []) ≡ responses e os ++ response_of (sessions.end_environment e (responses e os)) o ∷ []
 responses_push e [] o = refl
 responses_push e (p ∷ os) o = ap (λ rs. response_of e p ∷ rs) (responses_push (env_after e (response_of e p)) os o)
 
 -- the moves of an accepted step make the environment that results
-pub made_led : StepsAreMade → (s : Site) (e new : Environment) (asked : RequestedAction) (done : Done) → RequestStep s e asked (Ok (done_view done new)) → new ≡ led_to e done
-made_led law s e new asked done step = sym (ap (accepted_in e) (law s e asked (done_view done new) step))
+pub made_by_moves : StepsAreMade → (s : Site) (e new : Environment) (asked : RequestedAction) (done : Done) → RequestStep s e asked (Ok (done_view done new)) → new ≡ env_after_moves e done
+made_by_moves law s e new asked done step = sym (ap (accepted_in e) (law s e asked (done_view done new) step))
 
 plus_assoc : (a b c : ℕ) → a + (b + c) ≡ (a + b) + c
 plus_assoc a b c = omega arith
@@ -79,18 +79,18 @@ refused_counts before after refusal Is later h = cause_counts (cause_of refusal)
 pub responds : StepsAreMade → (s : Site) (e new : Environment) (asked : RequestedAction) (done : Done) → RequestStep s e asked (Ok (done_view done new)) → IsResponse s e asked (response_of e (Accepted done))
 responds law s e new asked done step =
     let P : Environment → Type 0 = λ x. RequestStep s e asked (Ok (done_view done x)) in
-    subst P (made_led law s e new asked done step) step
+    subst P (made_by_moves law s e new asked done step) step
 
 -- the number of want of memory is that of a cause
-pub memory_is_cause : (refusal : Refusal) → is_cause (memory_number refusal) ≡ true
-memory_is_cause refusal = of_three refusal (λ n. is_cause n ≡ true) refl refl refl
+pub memory_is_cause : (refusal : Refusal) → is_given_up_by (memory_number refusal) ≡ true
+memory_is_cause refusal = of_three refusal (λ n. is_given_up_by n ≡ true) refl refl refl
 
-cause_responds : (wanting : ℕ) → is_cause wanting ≡ true → (c : Cause RequestReason) (agrees : Files → Listings → Type 0) (failed : Type 0) (site : Files → Listings → Site) (e : Environment) (asked : RequestedAction)
+cause_responds : (out_of_memory : ℕ) → is_given_up_by out_of_memory ≡ true → (c : Cause RequestReason) (agrees : Files → Listings → Type 0) (failed : Type 0) (site : Files → Listings → Site) (e : Environment) (asked : RequestedAction)
     → Applies c failed (λ r. InEachPair agrees (λ files listings. RequestStep (site files listings) e asked (Err r)))
-    → InEachPair agrees (λ files listings. IsResponse (site files listings) e asked (by_cause (number_by wanting c) c))
-cause_responds wanting is memory agrees failed site e asked h = λ files listings agreed. is
-cause_responds wanting is device agrees failed site e asked h = λ files listings agreed. refl
-cause_responds wanting is (because r) agrees failed site e asked h = h
+    → InEachPair agrees (λ files listings. IsResponse (site files listings) e asked (by_cause (number_by out_of_memory c) c))
+cause_responds out_of_memory is memory agrees failed site e asked h = λ files listings agreed. is
+cause_responds out_of_memory is device agrees failed site e asked h = λ files listings agreed. refl
+cause_responds out_of_memory is (because r) agrees failed site e asked h = h
 
 pub refused_responds : (refusal : Refusal) (agrees : Files → Listings → Type 0) (failed : Type 0) (site : Files → Listings → Site) (e : Environment) (asked : RequestedAction)
     → Applies (cause_of refusal) failed (λ r. InEachPair agrees (λ files listings. RequestStep (site files listings) e asked (Err r)))
@@ -109,20 +109,20 @@ refused_leaves refusal e new same = same ∙ cause_leaves (number_of refusal) (c
 
 -- the law of sessions, of all the ways to cut one in two
 pub session_returning : SessionsReturn → (s : Site) (start : Environment) (rs : List Request) (os : List Response) → Session s start rs os → Returns start os
-session_returning law s start rs os session ways is_start are_new fitting before after cut =
+session_returning law s start rs os session uses is_start are_new fitting before after cut =
     let Runs : List Response → Type 0 = λ x. Session s start rs x in
     let New : List Response → Type 0 = λ x. AreNew start (session_moves x) in
-    let Fits : List Response → Type 0 = λ x. AreFitting ways [] (session_moves x) in
-    law ways s start rs before after is_start (subst Runs cut session) (subst New cut are_new) (subst Fits cut fitting)
+    let Fits : List Response → Type 0 = λ x. AreFitting uses [] (session_moves x) in
+    law uses s start rs before after is_start (subst Runs cut session) (subst New cut are_new) (subst Fits cut fitting)
 
 -- a request more, after those with an answer
 pub session_grows : (start e new : Environment) (outcomes : List Outcome) (o : Outcome)
-    → e ≡ sessions.left_by start (responses start outcomes) → new ≡ env_after e (response_of e o)
-    → (new ≡ sessions.left_by start (responses start (outcomes ++ o ∷ []))) × (responses start (outcomes ++ o ∷ []) ≡ responses start outcomes ++ response_of e o ∷ [])
-session_grows start e new outcomes o left after =
+    → e ≡ sessions.end_environment start (responses start outcomes) → new ≡ env_after e (response_of e o)
+    → (new ≡ sessions.end_environment start (responses start (outcomes ++ o ∷ []))) × (responses start (outcomes ++ o ∷ []) ≡ responses start outcomes ++ response_of e o ∷ [])
+session_grows start e new outcomes o end after =
     let grown : responses start (outcomes ++ o ∷ []) ≡ responses start outcomes ++ response_of e o ∷ [] =
-    responses_push start outcomes o ∙ ap (λ x. responses start outcomes ++ response_of x o ∷ []) (sym left) in (
-      after ∙ (ap (λ x. env_after x (response_of e o)) left ∙ (sym (left_push start (responses start outcomes) (response_of e o)) ∙ ap (sessions.left_by start) (sym grown))),
+    responses_push start outcomes o ∙ ap (λ x. responses start outcomes ++ response_of x o ∷ []) (sym end) in (
+      after ∙ (ap (λ x. env_after x (response_of e o)) end ∙ (sym (end_push start (responses start outcomes) (response_of e o)) ∙ ap (sessions.end_environment start) (sym grown))),
       grown,
     )
 
@@ -131,10 +131,10 @@ pub session_taken : (s : Site) (start e new : Environment) (asked : Request) (rs
     → (os : List Response) → (Session s e (asked ∷ rs) (o ∷ os) → Session s start all (sofar ++ o ∷ os))
     → IsResponse (in_shell s asked.0) e asked.1 o → new ≡ env_after e o → grown ≡ sofar ++ o ∷ []
     → Session s new rs os → Session s start all (grown ++ os)
-session_taken s start e new asked rs all sofar grown o os run is_response left more rest =
+session_taken s start e new asked rs all sofar grown o os run is_response end more rest =
     let P : Environment → Type 0 = λ x. Session s x rs os in
     let Q : List Response → Type 0 = λ x. Session s start all x in
-    subst Q (sym (append_assoc sofar (o ∷ []) os) ∙ ap (λ x. x ++ os) (sym more)) (run (is_response, subst P left rest))
+    subst Q (sym (append_assoc sofar (o ∷ []) os) ∙ ap (λ x. x ++ os) (sym more)) (run (is_response, subst P end rest))
 
 -- the first of the remaining requests
 pub split_first : {X Y : Type 0} (view : X → Y) (x : X) (rest : List X) → 1 ≤ length rest → x ≡ get_or rest 0 x → map view rest ≡ view x ∷ map view (take (length rest - 1) (drop 1 rest))

@@ -1,12 +1,12 @@
 -- What an accepted request answers, as the definitions see it.
 use Rattle.std.specs.Prelude.{string_bytes}
-use Rattle.environment.specs.Environment.{Environment}
-use Rattle.environment.specs.Texts.{texts_in}
-use Rattle.environment.specs.Changes.{applied, new_values_in}
+use Rattle.envvars.specs.Environment.{Environment}
+use Rattle.envvars.specs.Texts.{texts_in}
+use Rattle.envvars.specs.Changes.{applied, new_values_in}
 use Rattle.filetree.specs.Agreement.{Files, Listings}
 use Rattle.shells.specs.declared.shell.Shell.{Shell}
 use Rattle.tclrules.specs.declared.limits.Limits.{Limits}
-use Rattle.modulesteps.specs.MoveViews.{moves_of}
+use Rattle.requeststep.specs.MoveViews.{moves_of}
 use Rattle.modules.specs.declared.reply.Changed.{Changed}
 use Rattle.modules.specs.declared.reply.Reply.{Reply}
 use Rattle.requests.specs.Steps.{Site, Done}

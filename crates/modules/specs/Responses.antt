@@ -1,10 +1,10 @@
 -- The outcomes of a session, as the responses of the definitions.
 use Rattle.std.specs.Prelude.{◌≡◌, ℕ, Bool, false, ◌+◌, List, [], ◌∷◌, ◌++◌, Result, Ok, Err}
-use Rattle.environment.specs.Texts.{Text}
-use Rattle.environment.specs.Environment.{Environment}
+use Rattle.envvars.specs.Texts.{Text}
+use Rattle.envvars.specs.Environment.{Environment}
 use Rattle.modulerecords.specs.Moves.{made}
-use Rattle.reversal.specs.Ways.{Way}
-use Rattle.reversal.specs.Standing.{IsStart}
+use Rattle.reversal.specs.VariableUses.{VariableUse}
+use Rattle.reversal.specs.Starts.{IsStart}
 use Rattle.reversal.specs.Runs.{live_after}
 use Rattle.reversal.specs.Laws.{Holds}
 use Rattle.requests.specs.Sessions as sessions
@@ -12,11 +12,11 @@ use Rattle.requests.specs.Sessions.{Response, accepted, refused, given_up, env_a
 use Rattle.requests.specs.Returning.{AreNew, AreFitting}
 use Rattle.requests.specs.Reasons.{RequestReason}
 use Rattle.filetree.specs.Causes.{Cause, memory, device, because}
-use Rattle.modulesteps.specs.Answers.{cause_of, is_failure}
-use Rattle.modulesteps.specs.Messages.{number_of}
-use Rattle.modulesteps.specs.MoveViews.{moves_of}
-use Rattle.modulesteps.specs.Views.{done_view}
-use Rattle.modulesteps.specs.declared.done.Done.{Done}
+use Rattle.requeststep.specs.Answers.{cause_of, is_failure}
+use Rattle.requeststep.specs.Messages.{number_of}
+use Rattle.requeststep.specs.MoveViews.{moves_of}
+use Rattle.requeststep.specs.Views.{done_view}
+use Rattle.requeststep.specs.declared.done.Done.{Done}
 use Rattle.modules.specs.declared.sessions.Outcome.{Outcome}
 use Rattle.modules.specs.declared.sessions.Outcome.TheVariants.{Accepted, Refused}
 
@@ -26,8 +26,8 @@ accepted_in e (Ok new) = new
 accepted_in e (Err reason) = e
 
 -- the environment that the moves of a request make
-abbrev pub led_to : Environment → Done → Environment
-led_to e done = accepted_in e (made (moves_of done.moves) e)
+abbrev pub env_after_moves : Environment → Done → Environment
+env_after_moves e done = accepted_in e (made (moves_of done.moves) e)
 
 -- a refusal as a response: given up by its number where its cause is no reason of the step
 abbrev pub by_cause : ℕ → Cause RequestReason → Response
@@ -37,7 +37,7 @@ by_cause number (because reason) = refused reason
 
 -- an outcome as a response, in the environment in which its request was run
 abbrev pub response_of : Environment → Outcome → Response
-response_of e (Accepted done) = accepted (done_view done (led_to e done))
+response_of e (Accepted done) = accepted (done_view done (env_after_moves e done))
 response_of e (Refused refusal) = by_cause (number_of refusal) (cause_of refusal)
 
 -- outcomes as responses, one after another
@@ -71,6 +71,6 @@ count_failed (o ∷ os) = count_one o + count_failed os
 -- start.
 abbrev pub Returns : Environment → List Response → Type 0
 Returns start os =
-    (ways : Text → Way) → IsStart ways start → AreNew start (session_moves os)
-    → AreFitting ways [] (session_moves os) → (before after : List Response) → os ≡ before ++ after
-    → Holds ways start (live_after [] (session_moves before)) (sessions.left_by start before)
+    (uses : Text → VariableUse) → IsStart uses start → AreNew start (session_moves os)
+    → AreFitting uses [] (session_moves os) → (before after : List Response) → os ≡ before ++ after
+    → Holds uses start (live_after [] (session_moves before)) (sessions.end_environment start before)

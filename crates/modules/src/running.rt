@@ -1,19 +1,19 @@
 //! Runs one request over an environment that doesn't change.
 ghost use Rattle.std.specs.Prelude.{◌<◌, ◌≤◌, IfOk, IfErr};
-ghost use Rattle.environment.specs.Changes.{AreChanges, new_values_in};
+ghost use Rattle.envvars.specs.Changes.{AreChanges, new_values_in};
 ghost use Rattle.filetree.specs.Agreement.{FailsAt, InEachPair, Narrows};
-ghost use Rattle.requests.specs.RequestViews.{asked_view};
+ghost use Rattle.requests.specs.RequestViews.{action_view};
 ghost use Rattle.requests.specs.Steps.{RequestStep};
 ghost use Rattle.requests.specs.Looked.{RequestLooksAt};
-ghost use Rattle.modulesteps.specs.Answers.{Tells, is_failure};
-ghost use Rattle.modulesteps.specs.Messages.{WantsAmong, memory_numbers};
+ghost use Rattle.requeststep.specs.Answers.{AnswersOverTree, is_failure};
+ghost use Rattle.requeststep.specs.Messages.{MemoryNumberAmong, memory_numbers};
 ghost use Rattle.modules.specs.Replies.{changed_env, changed_view, reply_view, site_in};
 
 use crate::reply::{Changed, Reply};
-use environment::{Env, Vars, Working};
+use envvars::{Env, Vars, Working};
 use filetree::Tree;
-use modulesteps::{Refusal, step};
 use requests::Request;
+use requeststep::{Refusal, step};
 use std::alloc::Global;
 use tclrules::Limits;
 
@@ -32,18 +32,19 @@ pub fn run_changes<T: Tree>(
 ) -> Result<Changed, Refusal>
     ensures before { Narrows (T.agrees tree.old) (T.agrees tree.new) }
     ensures later { T.failures tree.old ≤ T.failures tree.new }
-    ensures answer { Tells (T.agrees tree.new) (T.failures tree.old < T.failures tree.new) (changed_view env.now) result
+    ensures answer { AnswersOverTree (T.agrees tree.new) (T.failures tree.old < T.failures tree.new)
+        (changed_view env.now) result
         (λ files listings. RequestStep (site_in limits request.now.shell files listings) env.now
-        (asked_view request.now.action)) }
-    ensures wanting { IfErr result (WantsAmong (memory_numbers (asked_view request.now.action))) }
+        (action_view request.now.action)) }
+    ensures out_of_memory { IfErr result (MemoryNumberAmong (memory_numbers (action_view request.now.action))) }
     ensures exact { IfOk result (λ changed.
         AreChanges env.now (changed_env env.now changed) (new_values_in changed.changes)) }
     ensures failed { FailsAt is_failure (T.failed tree.old) (T.failed tree.new) result (λ at.
         InEachPair (T.agrees tree.new) (λ files listings.
         RequestLooksAt (site_in limits request.now.shell files listings) env.now
-        (asked_view request.now.action) at)) }
+        (action_view request.now.action) at)) }
 {
-    environment::laws::changes();
+    envvars::laws::changes();
     let mut working = Working::over(env);
     let done = step(alloc, request, &mut working, tree, limits)?;
     let changes = working.into_changes()?;
@@ -67,14 +68,14 @@ pub fn run<T: Tree>(
 ) -> Result<Reply, Refusal>
     ensures before { Narrows (T.agrees tree.old) (T.agrees tree.new) }
     ensures later { T.failures tree.old ≤ T.failures tree.new }
-    ensures answer { Tells (T.agrees tree.new) (T.failures tree.old < T.failures tree.new) reply_view result
+    ensures answer { AnswersOverTree (T.agrees tree.new) (T.failures tree.old < T.failures tree.new) reply_view result
         (λ files listings. RequestStep (site_in limits request.now.shell files listings) env.now
-        (asked_view request.now.action)) }
-    ensures wanting { IfErr result (WantsAmong (memory_numbers (asked_view request.now.action))) }
+        (action_view request.now.action)) }
+    ensures out_of_memory { IfErr result (MemoryNumberAmong (memory_numbers (action_view request.now.action))) }
     ensures failed { FailsAt is_failure (T.failed tree.old) (T.failed tree.new) result (λ at.
         InEachPair (T.agrees tree.new) (λ files listings.
         RequestLooksAt (site_in limits request.now.shell files listings) env.now
-        (asked_view request.now.action) at)) }
+        (action_view request.now.action) at)) }
 {
     let changed = run_changes(alloc, request, env, tree, limits)?;
     let mut after = env.copy()?;

@@ -2,21 +2,21 @@
 ghost use Rattle.std.specs.Prelude.{◌≡◌, ◌<◌, ◌≤◌, ◌+◌, [], ◌∷◌, map, IfOk, IfErr, OnErr};
 ghost use Rattle.filetree.specs.Agreement.{FailsAt, FailsIf, InEachPair, Narrows};
 ghost use Rattle.shells.specs.declared.shell.Shell.{Shell};
-ghost use Rattle.requests.specs.RequestViews.{asked_view, request_view};
-ghost use Rattle.requests.specs.Sessions.{Session, IsResponse, env_after, left_by};
+ghost use Rattle.requests.specs.RequestViews.{action_view, request_view};
+ghost use Rattle.requests.specs.Sessions.{Session, IsResponse, env_after, end_environment};
 ghost use Rattle.requests.specs.Steps.{RequestStep};
 ghost use Rattle.requests.specs.Looked.{RequestLooksAt};
-ghost use Rattle.modulesteps.specs.Answers.{Tells, is_failure};
-ghost use Rattle.modulesteps.specs.Views.{done_view};
-ghost use Rattle.modulesteps.specs.declared.refusal.Refusal.TheVariants as refusals;
+ghost use Rattle.requeststep.specs.Answers.{AnswersOverTree, is_failure};
+ghost use Rattle.requeststep.specs.Views.{done_view};
+ghost use Rattle.requeststep.specs.declared.refusal.Refusal.TheVariants as refusals;
 ghost use Rattle.modules.specs.Replies.{site_in};
 ghost use Rattle.modules.specs.Responses.{response_of, responses, has_failed, count_failed, Returns};
 
 use crate::running::run_changes;
-use environment::{Env, Vars};
+use envvars::{Env, Vars};
 use filetree::Tree;
-use modulesteps::{Done, Refusal};
 use requests::Request;
+use requeststep::{Done, Refusal};
 use std::alloc::Global;
 use tclrules::Limits;
 
@@ -39,15 +39,15 @@ fn change<T: Tree>(
 ) -> Result<Done, Refusal>
     ensures before { Narrows (T.agrees tree.old) (T.agrees tree.new) }
     ensures later { T.failures tree.old ≤ T.failures tree.new }
-    ensures answer { Tells (T.agrees tree.new) (T.failures tree.old < T.failures tree.new)
+    ensures answer { AnswersOverTree (T.agrees tree.new) (T.failures tree.old < T.failures tree.new)
         (λ done. done_view done env.new) result
         (λ files listings. RequestStep (site_in limits request.now.shell files listings) env.old
-        (asked_view request.now.action)) }
-    ensures kept { OnErr result (env.new ≡ env.old) }
+        (action_view request.now.action)) }
+    ensures unchanged { OnErr result (env.new ≡ env.old) }
     ensures failed { FailsAt is_failure (T.failed tree.old) (T.failed tree.new) result (λ at.
         InEachPair (T.agrees tree.new) (λ files listings.
         RequestLooksAt (site_in limits request.now.shell files listings) env.old
-        (asked_view request.now.action) at)) }
+        (action_view request.now.action) at)) }
 {
     let changed = run_changes(alloc, request, env, tree, limits)?;
     env.apply(changed.changes)?;
@@ -74,14 +74,14 @@ pub fn respond<T: Tree>(
     ensures before { Narrows (T.agrees tree.old) (T.agrees tree.new) }
     ensures failures { T.failures tree.old + count_failed (result ∷ []) ≤ T.failures tree.new }
     ensures answer { InEachPair (T.agrees tree.new) (λ files listings.
-        IsResponse (site_in limits request.now.shell files listings) env.old (asked_view request.now.action)
+        IsResponse (site_in limits request.now.shell files listings) env.old (action_view request.now.action)
         (response_of env.old result)) }
-    ensures left { InEachPair (T.agrees tree.new) (λ files listings.
+    ensures end { InEachPair (T.agrees tree.new) (λ files listings.
         env.new ≡ env_after env.old (response_of env.old result)) }
     ensures failed { FailsIf (has_failed result) (T.failed tree.old) (T.failed tree.new) (λ at.
         InEachPair (T.agrees tree.new) (λ files listings.
         RequestLooksAt (site_in limits request.now.shell files listings) env.old
-        (asked_view request.now.action) at)) }
+        (action_view request.now.action) at)) }
 {
     requests::outcomes();
     match change(alloc, request, env, tree, limits) {
@@ -114,8 +114,8 @@ pub fn session<T: Tree>(
     ensures ran { IfOk result (λ p. InEachPair (T.agrees tree.new) (λ files listings. (shell : Shell)
         → Session (site_in limits shell files listings) env (map request_view requests.now)
         (responses env p.1.items))) }
-    ensures left { IfOk result (λ p. InEachPair (T.agrees tree.new) (λ files listings.
-        p.0 ≡ left_by env (responses env p.1.items))) }
+    ensures end { IfOk result (λ p. InEachPair (T.agrees tree.new) (λ files listings.
+        p.0 ≡ end_environment env (responses env p.1.items))) }
     ensures returns { IfOk result (λ p. InEachPair (T.agrees tree.new) (λ files listings.
         Returns env (responses env p.1.items))) }
     ensures only { IfErr result (λ refusal. refusal ≡ refusals.OutOfMemory) }

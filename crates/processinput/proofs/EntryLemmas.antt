@@ -7,17 +7,17 @@ use Rattle.std.proofs.lemmas.Str.{IsUtf8-from_is_utf8, is_utf8-from_IsUtf8}
 use Rattle.std.specs.Prelude.{nat_lt, if◌then◌else◌, Result, Ok, Err, OnOk, ◌==◌}
 use Rattle.std.specs.List.{position_or_len, after_first}
 use Rattle.std.specs.Str.{IsUtf8, is_utf8}
-use Rattle.environment.specs.Texts.{Text}
-use Rattle.environment.specs.Environment.{Environment, with_value}
-use Rattle.processinput.specs.EnvironmentBlock.{is_equals, name_of, readable, with_entry, with_entries}
+use Rattle.envvars.specs.Texts.{Text}
+use Rattle.envvars.specs.Environment.{Environment, with_value}
+use Rattle.processinput.specs.EnvironmentBlock.{is_equals, name_of, utf8_value, with_entry, with_entries}
 
-pub unreadable : (value : Text) → (IsUtf8 value → ⊥) → readable value ≡ None
+pub unreadable : (value : Text) → (IsUtf8 value → ⊥) → utf8_value value ≡ None
 unreadable value h = elim (cases_Bool (is_utf8 value)) [
   | inl t ↦ absurd (h (IsUtf8-from_is_utf8 value t))
   | inr f ↦ rw f refl
 ]
 
-pub readable_text : (value : Text) → IsUtf8 value → readable value ≡ Some value
+pub readable_text : (value : Text) → IsUtf8 value → utf8_value value ≡ Some value
 readable_text value u = rw (is_utf8-from_IsUtf8 value u) refl
 
 -- the place that is found
@@ -58,12 +58,12 @@ placed false p end h = absurd (none h) where
 
 -- the variable that it gives
 pub named : (entry : Text) (e : Environment) → nat_lt (position_or_len is_equals entry) (length entry) ≡ true → nat_lt 0 (length (name_of entry)) ≡ true → IsUtf8 (name_of entry)
-    → with_value e (name_of entry) (readable (after_first is_equals entry)) ≡ with_entry entry e
+    → with_value e (name_of entry) (utf8_value (after_first is_equals entry)) ≡ with_entry entry e
 named entry e inside some u = rw (inside, some, is_utf8-from_IsUtf8 (name_of entry) u) refl
 
 -- the same, as the tests tell it
 pub given : (entry name value : Text) (end : ℕ) (e : Environment) → place entry ≡ Some end → (name ≡ take end entry) × IsUtf8 (take end entry)
-    → (length name == 0) ≡ false → value ≡ take (length entry - (end + 1)) (drop (end + 1) entry) → with_value e name (readable value) ≡ with_entry entry e
+    → (length name == 0) ≡ false → value ≡ take (length entry - (end + 1)) (drop (end + 1) entry) → with_value e name (utf8_value value) ≡ with_entry entry e
 given entry name value end e at text some behind =
     let p = placed (nat_lt (position_or_len is_equals entry) (length entry)) (position_or_len is_equals entry) end at in
     let front : name ≡ name_of entry = rw p.1 text.0 in

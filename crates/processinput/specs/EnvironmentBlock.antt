@@ -3,8 +3,8 @@ use Rattle.std.specs.Prelude.{ℕ, Bool, List, [], ◌∷◌, ◌&&◌, ◌==◌
 use Rattle.std.specs.List.{position_or_len, before_first, after_first, slice_split}
 use Rattle.std.specs.Str.{is_utf8}
 use Rattle.std.specs.FinMap as finite
-use Rattle.environment.specs.Texts.{Text}
-use Rattle.environment.specs.Environment.{Environment, with_value}
+use Rattle.envvars.specs.Texts.{Text}
+use Rattle.envvars.specs.Environment.{Environment, with_value}
 
 -- the equals sign
 abbrev pub is_equals : ℕ → Bool
@@ -21,13 +21,13 @@ is_variable entry =
     && (nat_lt 0 (length (name_of entry)) && is_utf8 (name_of entry))
 
 -- the value as a text; none, so that the variable is unset, where it isn't UTF-8
-abbrev pub readable : Text → Option Text
-readable value = if is_utf8 value then Some value else None
+abbrev pub utf8_value : Text → Option Text
+utf8_value value = if is_utf8 value then Some value else None
 
 -- the environment with the variable of an entry set or unset; unchanged where the entry has no such name
 abbrev pub with_entry : Text → Environment → Environment
 with_entry entry e =
-    if is_variable entry then with_value e (name_of entry) (readable (after_first is_equals entry)) else e
+    if is_variable entry then with_value e (name_of entry) (utf8_value (after_first is_equals entry)) else e
 
 -- the environment with the variables of all entries; of several for one name the first counts
 abbrev pub with_entries : List Text → Environment → Environment

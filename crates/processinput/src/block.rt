@@ -1,12 +1,12 @@
 //! An environment from a block of entries, as the system gives it to a process (environ(7)).
 ghost use Rattle.std.specs.Prelude.{◌≡◌, map, length, Some, None, IfOk, IfErr, OnOk, OnErr, nat_lt, if◌then◌else◌};
 ghost use Rattle.std.specs.List.{position_or_len};
-ghost use Rattle.environment.specs.Environment.{with_value};
-ghost use Rattle.environment.specs.declared.fault.EnvFault.TheVariants.{OutOfMemory};
+ghost use Rattle.envvars.specs.Environment.{with_value};
+ghost use Rattle.envvars.specs.declared.fault.EnvFault.TheVariants.{OutOfMemory};
 ghost use Rattle.processinput.specs.EnvironmentBlock as block_specs;
-ghost use Rattle.processinput.specs.EnvironmentBlock.{with_entry, entries_of, is_equals, readable};
+ghost use Rattle.processinput.specs.EnvironmentBlock.{with_entry, entries_of, is_equals, utf8_value};
 
-use environment::{Env, EnvFault};
+use envvars::{Env, EnvFault};
 use std::alloc::{AllocError, Global};
 use std::str;
 
@@ -22,7 +22,7 @@ pub fn environment_of(alloc: Global, block: &[u8]) -> Result<Env, EnvFault>
     let mut entries = entries_of(alloc, block)?;
     let mut env = Env::new(alloc);
     while let Some(entry) = entries.pop() {
-        keep(&mut env, entry)?;
+        set_entry(&mut env, entry)?;
     }
     Ok(env)
 }
@@ -35,7 +35,7 @@ fn entries_of(alloc: Global, block: &[u8]) -> Result<Vec<&[u8]>, AllocError>
 }
 
 /// The index of the first `=`; none where there is no `=`.
-fn place_of_equals(entry: &[u8]) -> Option<usize>
+fn index_of_equals(entry: &[u8]) -> Option<usize>
     ensures { result ≡ if nat_lt (position_or_len is_equals entry.now) (length entry.now)
         then Some (position_or_len is_equals entry.now) else None }
 {
@@ -44,7 +44,7 @@ fn place_of_equals(entry: &[u8]) -> Option<usize>
 
 /// Sets the variable to the value, or unsets it where the value isn't UTF-8.
 fn set_or_unset(env: &mut Env, name: &str, value: &[u8]) -> Result<(), EnvFault>
-    ensures ok { OnOk result (env.new ≡ with_value env.old name.now (readable value.now)) }
+    ensures ok { OnOk result (env.new ≡ with_value env.old name.now (utf8_value value.now)) }
     ensures err { OnErr result (env.new ≡ env.old) }
     ensures only { IfErr result (λ e. e ≡ OutOfMemory) }
 {
@@ -59,12 +59,12 @@ fn set_or_unset(env: &mut Env, name: &str, value: &[u8]) -> Result<(), EnvFault>
 
 /// Sets or unsets the variable of an entry; nothing where the entry has no name in UTF-8.
 #[tactic(auto, using(crate::proofs::EntryLemmas::no_equals, crate::proofs::EntryLemmas::no_text, crate::proofs::EntryLemmas::no_name))]
-fn keep(env: &mut Env, entry: &[u8]) -> Result<(), EnvFault>
+fn set_entry(env: &mut Env, entry: &[u8]) -> Result<(), EnvFault>
     ensures ok { OnOk result (env.new ≡ with_entry entry.now env.old) }
     ensures err { OnErr result (env.new ≡ env.old) }
     ensures only { IfErr result (λ e. e ≡ OutOfMemory) }
 {
-    let Some(end) = place_of_equals(entry) else {
+    let Some(end) = index_of_equals(entry) else {
         return Ok(());
     };
     let Ok(name) = str::from_utf8(&entry[..end]) else {

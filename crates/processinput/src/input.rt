@@ -3,7 +3,7 @@ ghost use Rattle.std.specs.Prelude.{◌≡◌, ◌≤◌, ◌+◌, length, Some,
 ghost use Rattle.std.specs.Io.KnownBytes.{Consumes, IsAtEnd};
 ghost use Rattle.message.specs.Messages.{text_of};
 ghost use Rattle.processinput.specs.Faults.{input_number, input_message};
-ghost use Rattle.processinput.specs.Inputs.{most_bytes, GivesAll, Spoils};
+ghost use Rattle.processinput.specs.Inputs.{input_limit, ReadsAll, FailsAfterReading};
 ghost use Rattle.processinput.specs.declared.input.InputFault.TheVariants.{OutOfMemory};
 
 use message::Message;
@@ -14,10 +14,10 @@ use std::fmt::Display;
 use std::io::Read;
 
 /// The most bytes that an input may have.
-const MOST_BYTES: usize = 1_048_576;
+const INPUT_LIMIT: usize = 1_048_576;
 
 /// How many bytes one read asks for.
-const PIECE: usize = 4096;
+const READ_LENGTH: usize = 4096;
 
 /// Why an input has no text.
 #[derive(Clone, Copy, Debug, PartialEq, Eq)]
@@ -47,9 +47,9 @@ impl InputFault {
         ensures { text_of result ≡ input_message self.now }
     {
         match self {
-            InputFault::OutOfMemory => Message::plain("Out of memory"),
-            InputFault::ReadFailed => Message::plain("Reading failed"),
-            InputFault::BadInput => Message::plain("Bad arguments"),
+            InputFault::OutOfMemory => Message::of_text("Out of memory"),
+            InputFault::ReadFailed => Message::of_text("Reading failed"),
+            InputFault::BadInput => Message::of_text("Bad arguments"),
         }
     }
 }
@@ -75,14 +75,14 @@ impl From<AllocError> for InputFault {
 /// The bytes of a reader, up to its end or to one byte more than an input may have.
 fn read_bytes<R: Read>(alloc: Global, input: &mut R) -> Result<Vec<u8>, InputFault>
     ensures taken { IfOk result (λ bytes. Consumes (R.remaining input.old) (R.remaining input.new) bytes.items) }
-    ensures within { IfOk result (λ bytes. length bytes.items ≤ most_bytes + 1) }
-    ensures all { IfOk result (λ bytes. length bytes.items ≤ most_bytes → IsAtEnd (R.remaining input.new)) }
-    ensures spoilt { IfErr result (λ fault. Spoils fault (R.remaining input.old) (R.remaining input.new)) }
+    ensures within { IfOk result (λ bytes. length bytes.items ≤ input_limit + 1) }
+    ensures all { IfOk result (λ bytes. length bytes.items ≤ input_limit → IsAtEnd (R.remaining input.new)) }
+    ensures failed { IfErr result (λ fault. FailsAfterReading fault (R.remaining input.old) (R.remaining input.new)) }
 {
     let mut bytes = Vec::new(alloc);
-    let mut piece = [0; PIECE];
-    while bytes.len() <= MOST_BYTES {
-        let room = (MOST_BYTES + 1 - bytes.len()).min(PIECE);
+    let mut piece = [0; READ_LENGTH];
+    while bytes.len() <= INPUT_LIMIT {
+        let room = (INPUT_LIMIT + 1 - bytes.len()).min(READ_LENGTH);
         match input.read(&mut piece[..room]) {
             Ok(0) => return Ok(bytes),
             Ok(n) => bytes.extend_from_slice(&piece[..n])?,
@@ -98,12 +98,12 @@ fn read_bytes<R: Read>(alloc: Global, input: &mut R) -> Result<Vec<u8>, InputFau
 /// than 1,048,576 bytes or isn't UTF-8.
 pub fn read_input<R: Read>(alloc: Global, input: &mut R) -> Result<String, InputFault>
     ensures given { IfOk result (λ text.
-        GivesAll (R.remaining input.old) (R.remaining input.new) (string_bytes text)) }
-    ensures within { IfOk result (λ text. length (string_bytes text) ≤ most_bytes) }
-    ensures spoilt { IfErr result (λ fault. Spoils fault (R.remaining input.old) (R.remaining input.new)) }
+        ReadsAll (R.remaining input.old) (R.remaining input.new) (string_bytes text)) }
+    ensures within { IfOk result (λ text. length (string_bytes text) ≤ input_limit) }
+    ensures failed { IfErr result (λ fault. FailsAfterReading fault (R.remaining input.old) (R.remaining input.new)) }
 {
     let bytes = read_bytes(alloc, input)?;
-    if bytes.len() > MOST_BYTES {
+    if bytes.len() > INPUT_LIMIT {
         return Err(InputFault::BadInput);
     }
     match String::from_utf8(bytes) {

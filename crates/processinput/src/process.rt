@@ -37,8 +37,8 @@ impl ArgumentsFault {
         ensures { text_of result ≡ message_of self.now }
     {
         match self {
-            ArgumentsFault::OutOfMemory => Message::plain("Out of memory"),
-            ArgumentsFault::NotUtf8 => Message::plain("Bad arguments"),
+            ArgumentsFault::OutOfMemory => Message::of_text("Out of memory"),
+            ArgumentsFault::NotUtf8 => Message::of_text("Bad arguments"),
         }
     }
 }
@@ -57,7 +57,7 @@ impl Error for ArgumentsFault {}
 const OWN_ENVIRONMENT: &str = "/proc/self/environ";
 
 /// The length in bytes of the first buffer for one entry.
-const FIRST_ROOM: usize = 4096;
+const FIRST_LENGTH: usize = 4096;
 
 /// The arguments after the program's name.
 ///
@@ -85,7 +85,7 @@ pub fn arguments<R: Env + AllocGlobal>(rt: &R) -> Result<Vec<String>, ArgumentsF
 /// asked for one by one, in time that grows with the square of their number, so that none is lost.
 pub fn environment_block<R: Env + Files + AllocGlobal>(rt: &R) -> Result<Vec<u8>, AllocError> {
     if let Ok(block) = fs::read(rt, OWN_ENVIRONMENT) {
-        if is_whole(rt, block.as_slice())? {
+        if is_complete(rt, block.as_slice())? {
             return Ok(block);
         }
     }
@@ -93,19 +93,19 @@ pub fn environment_block<R: Env + Files + AllocGlobal>(rt: &R) -> Result<Vec<u8>
 }
 
 /// Whether the block has as many entries as the process, the same first one, and NUL at its end.
-fn is_whole<R: Env + AllocGlobal>(rt: &R, block: &[u8]) -> Result<bool, AllocError> {
+fn is_complete<R: Env + AllocGlobal>(rt: &R, block: &[u8]) -> Result<bool, AllocError> {
     let mut room = Vec::new(rt.alloc());
     let count = block.iter().filter(|b| **b == 0).count();
-    if entry_into(rt, count, &mut room)?.is_some() {
+    if copy_entry(rt, count, &mut room)?.is_some() {
         return Ok(false);
     }
     let Some(last) = count.checked_sub(1) else {
         return Ok(block.is_empty());
     };
-    if entry_into(rt, last, &mut room)?.is_none() {
+    if copy_entry(rt, last, &mut room)?.is_none() {
         return Ok(false);
     }
-    let Some(length) = entry_into(rt, 0, &mut room)? else {
+    let Some(length) = copy_entry(rt, 0, &mut room)? else {
         return Ok(false);
     };
     let first = block.split(|b| *b == 0).next();
@@ -117,7 +117,7 @@ fn block_by_entries<R: Env + AllocGlobal>(rt: &R) -> Result<Vec<u8>, AllocError>
     let mut block = Vec::new(rt.alloc());
     let mut room = Vec::new(rt.alloc());
     for i in 0..usize::MAX {
-        match entry_into(rt, i, &mut room)? {
+        match copy_entry(rt, i, &mut room)? {
             None => break,
             Some(length) => {
                 block.extend_from_slice(&room.as_slice()[..length])?;
@@ -130,7 +130,7 @@ fn block_by_entries<R: Env + AllocGlobal>(rt: &R) -> Result<Vec<u8>, AllocError>
 
 /// Copies entry `i` to the start of `room`, which grows until the entry fits. The result is the length of the entry in
 /// bytes; none where there are no more than `i` entries.
-fn entry_into<R: Env>(rt: &R, i: usize, room: &mut Vec<u8>) -> Result<Option<usize>, AllocError>
+fn copy_entry<R: Env>(rt: &R, i: usize, room: &mut Vec<u8>) -> Result<Option<usize>, AllocError>
     ensures { IfOk result (λ found. IfSome found (λ n. n ≤ vec_len room.new)) }
 {
     loop {
@@ -146,5 +146,5 @@ fn entry_into<R: Env>(rt: &R, i: usize, room: &mut Vec<u8>) -> Result<Option<usi
 fn grow(room: &mut Vec<u8>) -> Result<(), AllocError>
     ensures { OnOk result (vec_len room.old < vec_len room.new) }
 {
-    room.resize(room.len() + room.len().max(FIRST_ROOM), 0)
+    room.resize(room.len() + room.len().max(FIRST_LENGTH), 0)
 }

@@ -1,16 +1,16 @@
 -- Shells that run the texts of a rehearsal.
 use Rattle.std.proofs.Common.{◌≡◌, ℕ, zero, suc, List, [], ◌∷◌, Option, Some, None, take, refl}
-use Rattle.environment.specs.Texts.{Text}
-use Rattle.environment.specs.Environment.{Environment}
+use Rattle.envvars.specs.Texts.{Text}
+use Rattle.envvars.specs.Environment.{Environment}
 use Rattle.shelltext.specs.Reading.{DifferenceMakes}
-use Rattle.shelltext.specs.Sequences.{MakeOf}
+use Rattle.shelltext.specs.Sequences.{TextsMake}
 use Rattle.requests.specs.Requests.{Request}
 use Rattle.requests.specs.Steps.{Site}
-use Rattle.requests.specs.Sessions.{Response, accepted, refused, given_up, left_by}
+use Rattle.requests.specs.Sessions.{Response, accepted, refused, given_up, end_environment}
 use Rattle.rehearsal.specs.Rehearsals.{ArePrints, runs_of}
 
 pub chain : DifferenceMakes → (s : Site) (e : Environment) (rs : List Request) (os : List Response) (ps : List (Option Text))
-    → ArePrints s e rs os ps → (n : ℕ) → MakeOf (runs_of (take n rs) (take n ps)) e (left_by e (take n os))
+    → ArePrints s e rs os ps → (n : ℕ) → TextsMake (runs_of (take n rs) (take n ps)) e (end_environment e (take n os))
 chain makes s e rs os ps h zero = refl
 chain makes s e [] [] [] h (suc n) = refl
 chain makes s e [] [] (p ∷ ps) h (suc n) = absurd h
@@ -31,7 +31,7 @@ chain makes s e (r ∷ rs) (given_up number ∷ os) (Some text ∷ ps) h (suc n)
 
 -- all of them
 pub whole : DifferenceMakes → (s : Site) (e : Environment) (rs : List Request) (os : List Response) (ps : List (Option Text))
-    → ArePrints s e rs os ps → MakeOf (runs_of rs ps) e (left_by e os)
+    → ArePrints s e rs os ps → TextsMake (runs_of rs ps) e (end_environment e os)
 whole makes s e [] [] [] h = refl
 whole makes s e [] [] (p ∷ ps) h = absurd h
 whole makes s e [] (o ∷ os) ps h = absurd h

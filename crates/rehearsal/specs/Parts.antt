@@ -3,8 +3,8 @@ use Rattle.std.specs.Prelude.{ℕ, ◌≡◌, ◌≤◌, ◌+◌, List, map, Opt
 use Rattle.std.specs.Option.{option_map}
 use Rattle.std.specs.declared.alloc.Global.{Global}
 use Rattle.std.specs.declared.string.String.{String}
-use Rattle.environment.specs.Texts.{Text}
-use Rattle.environment.specs.Environment.{Environment}
+use Rattle.envvars.specs.Texts.{Text}
+use Rattle.envvars.specs.Environment.{Environment}
 use Rattle.filetree.specs.Agreement.{Files, Listings, InEachPair}
 use Rattle.shells.specs.declared.shell.Shell.{Shell}
 use Rattle.tclrules.specs.declared.limits.Limits.{Limits}
@@ -15,13 +15,13 @@ use Rattle.rehearsal.specs.Rehearsals.{IsPrint, one_failed}
 
 -- Over each pair of maps that agrees, a request has this response, this is printed for it, and the environment after it
 -- is the new one.
-pub record Came (agrees : Files → Listings → Type 0) (limits : Limits) (r : Request) (old new : Environment)
+pub record PrintsFor (agrees : Files → Listings → Type 0) (limits : Limits) (r : Request) (old new : Environment)
     (print : Option Text) (before after : ℕ) : Type 0 where
   pub response : Response
   pub answers : InEachPair agrees (λ files listings. IsResponse (site_in limits r.0 files listings) old r.1 response)
   pub printed : InEachPair agrees (λ files listings. (shell : Shell)
       → IsPrint (site_in limits shell files listings) old r response print)
-  pub left : new ≡ env_after old response
+  pub end : new ≡ env_after old response
   pub failures : before + one_failed response ≤ after
 
 -- a text, if any, as its bytes

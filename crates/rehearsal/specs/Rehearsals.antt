@@ -1,17 +1,17 @@
 -- Rehearsals (own): a session with the text that each accepted request prints.
 use Rattle.std.specs.Prelude.{ℕ, ◌≡◌, ◌≤◌, ◌+◌, ◌==◌, List, [], ◌∷◌, Option, Some, None, take, if◌then◌else◌, Ok}
-use Rattle.environment.specs.Texts.{Text}
-use Rattle.environment.specs.Environment.{Environment}
-use Rattle.environment.specs.Changes.{NewValue, AreChanges}
+use Rattle.envvars.specs.Texts.{Text}
+use Rattle.envvars.specs.Environment.{Environment}
+use Rattle.envvars.specs.Changes.{NewValue, AreChanges}
 use Rattle.shelltext.specs.Reading.{SaysDifference}
 use Rattle.shelltext.specs.Printing.{IsUnsayable}
-use Rattle.shelltext.specs.Sequences.{ShellRun, MakeOf}
+use Rattle.shelltext.specs.Sequences.{ShellRun, TextsMake}
 use Rattle.requests.specs.Requests.{Request}
 use Rattle.requests.specs.Steps.{Site, Done, RequestStep}
-use Rattle.requests.specs.Sessions.{Response, accepted, refused, given_up, Session, env_after, left_by, in_shell, session_moves}
+use Rattle.requests.specs.Sessions.{Response, accepted, refused, given_up, Session, env_after, end_environment, in_shell, session_moves}
 use Rattle.requests.specs.Returning.{AreNew, AreFitting}
-use Rattle.reversal.specs.Ways.{Way}
-use Rattle.reversal.specs.Standing.{IsStart}
+use Rattle.reversal.specs.VariableUses.{VariableUse}
+use Rattle.reversal.specs.Starts.{IsStart}
 use Rattle.reversal.specs.Runs.{live_after}
 
 -- the step has changes for which the shell has no text
@@ -39,12 +39,12 @@ ArePrints s e (r ∷ rs) (o ∷ os) (p ∷ ps) = IsPrint s e r o p × ArePrints 
 
 -- The requests were rehearsed: they are a session in which exactly those with a text are accepted, and this environment
 -- results.
-pub record Rehearsed (s : Site) (e : Environment) (rs : List Request) (ps : List (Option Text)) (left : Environment)
+pub record Rehearsed (s : Site) (e : Environment) (rs : List Request) (ps : List (Option Text)) (end : Environment)
     : Type 0 where
   pub responses : List Response
   pub session : Session s e rs responses
   pub prints : ArePrints s e rs responses ps
-  pub leaves : left ≡ left_by e responses
+  pub leaves : end ≡ end_environment e responses
 
 -- one for a request that was given up because a device failed
 abbrev pub one_failed : Response → ℕ
@@ -59,9 +59,9 @@ count_failed (o ∷ os) = one_failed o + count_failed os
 
 -- So many device failures were counted before the requests and after them, and at least one for each request that was
 -- given up for one.
-pub record Rehearsal (s : Site) (e : Environment) (rs : List Request) (ps : List (Option Text)) (left : Environment)
+pub record Rehearsal (s : Site) (e : Environment) (rs : List Request) (ps : List (Option Text)) (end : Environment)
     (before after : ℕ) : Type 0 where
-  pub rehearsed : Rehearsed s e rs ps left
+  pub rehearsed : Rehearsed s e rs ps end
   pub failures : before + count_failed rehearsed.responses ≤ after
 
 -- the texts that were printed, each with the shell of its request
@@ -73,16 +73,16 @@ runs_of (r ∷ rs) (Some text ∷ ps) = (r.0, text) ∷ runs_of rs ps
 
 -- After each number of requests, shells that ran the texts so far, one after the other, hold the environment that the
 -- session has there.
-abbrev pub Makes : Site → Environment → List Request → List (Option Text) → Environment → Type 0
-Makes s e rs ps left =
-    (h : Rehearsed s e rs ps left) → (n : ℕ)
-    → MakeOf (runs_of (take n rs) (take n ps)) e (left_by e (take n h.responses))
+abbrev pub MakesSession : Site → Environment → List Request → List (Option Text) → Environment → Type 0
+MakesSession s e rs ps end =
+    (h : Rehearsed s e rs ps end) → (n : ℕ)
+    → TextsMake (runs_of (take n rs) (take n ps)) e (end_environment e (take n h.responses))
 
 -- Of a session of new modules that are reversible and apart, from a start in order, that ends with no live module:
 -- shells that ran all texts hold the start.
-abbrev pub ComesBack : Site → Environment → List Request → List (Option Text) → Environment → Type 0
-ComesBack s start rs ps left =
-    (ways : Text → Way) → (h : Rehearsed s start rs ps left)
-    → IsStart ways start → AreNew start (session_moves h.responses) → AreFitting ways [] (session_moves h.responses)
+abbrev pub TextsReturnToStart : Site → Environment → List Request → List (Option Text) → Environment → Type 0
+TextsReturnToStart s start rs ps end =
+    (uses : Text → VariableUse) → (h : Rehearsed s start rs ps end)
+    → IsStart uses start → AreNew start (session_moves h.responses) → AreFitting uses [] (session_moves h.responses)
     → live_after [] (session_moves h.responses) ≡ []
-    → MakeOf (runs_of rs ps) start start
+    → TextsMake (runs_of rs ps) start start

@@ -3,12 +3,12 @@ ghost use Rattle.std.specs.Prelude.{◌≡◌, map, IfOk, IfErr};
 ghost use Rattle.filetree.specs.Agreement.{Narrows, InEachPair};
 ghost use Rattle.shells.specs.declared.shell.Shell.{Shell};
 ghost use Rattle.requests.specs.RequestViews.{request_view};
-ghost use Rattle.modulesteps.specs.declared.refusal.Refusal.TheVariants as refusals;
+ghost use Rattle.requeststep.specs.declared.refusal.Refusal.TheVariants as refusals;
 ghost use Rattle.modules.specs.Replies.{site_in};
-ghost use Rattle.rehearsal.specs.Rehearsals.{Rehearsal, Makes, ComesBack};
-ghost use Rattle.rehearsal.specs.Parts.{Came, print_view, prints};
+ghost use Rattle.rehearsal.specs.Rehearsals.{Rehearsal, MakesSession, TextsReturnToStart};
+ghost use Rattle.rehearsal.specs.Parts.{PrintsFor, print_view, prints};
 
-use environment::{Env, Vars};
+use envvars::{Env, Vars};
 use filetree::Tree;
 use modules::{Refusal, Request, run_changes};
 use shelltext::print_changes;
@@ -25,7 +25,8 @@ fn print_request<T: Tree>(
     limits: Limits,
 ) -> Option<String>
     ensures before { Narrows (T.agrees tree.old) (T.agrees tree.new) }
-    ensures came { Came (T.agrees tree.new) limits (request_view request.now) env.old env.new (print_view result)
+    ensures prints_for { PrintsFor (T.agrees tree.new) limits (request_view request.now) env.old env.new
+        (print_view result)
         (T.failures tree.old) (T.failures tree.new) }
 {
     let Ok(changed) = run_changes(alloc, request, env, tree, limits) else {
@@ -64,13 +65,15 @@ pub fn rehearse<T: Tree>(
         → Rehearsal (site_in limits shell files listings) env (map request_view requests.now) (prints p.1.items) p.0
         (T.failures tree.old) (T.failures tree.new))) }
     ensures makes { IfOk result (λ p. InEachPair (T.agrees tree.new) (λ files listings. (shell : Shell)
-        → Makes (site_in limits shell files listings) env (map request_view requests.now) (prints p.1.items) p.0)) }
-    ensures comes_back { IfOk result (λ p. InEachPair (T.agrees tree.new) (λ files listings. (shell : Shell)
-        → ComesBack (site_in limits shell files listings) env (map request_view requests.now) (prints p.1.items) p.0)) }
+        → MakesSession (site_in limits shell files listings) env (map request_view requests.now)
+        (prints p.1.items) p.0)) }
+    ensures returns_to_start { IfOk result (λ p. InEachPair (T.agrees tree.new) (λ files listings. (shell : Shell)
+        → TextsReturnToStart (site_in limits shell files listings) env (map request_view requests.now)
+        (prints p.1.items) p.0)) }
     ensures only { IfErr result (λ refusal. refusal ≡ refusals.OutOfMemory) }
 {
-    crate::make();
-    crate::come_back();
+    crate::texts_make_session();
+    crate::texts_return_to_start();
     let mut after = env;
     let mut texts = Vec::new(alloc);
     let mut rest = requests;

@@ -1,12 +1,12 @@
 //! The report of `avail` (module(1)): the modules of each directory.
 ghost use Rattle.std.specs.Prelude.{◌≡◌, ◌++◌, map, codes, nat_eq, IfOk, OnOk, string_bytes};
 ghost use Rattle.std.specs.List.{list_any, starts_with};
-ghost use Rattle.modulelist.specs.Listings.{listing_view};
-ghost use Rattle.modulelist.specs.Rows.{row_view};
+ghost use Rattle.search.specs.Listings.{listing_view};
+ghost use Rattle.search.specs.ListingEntries.{listing_entry_view};
 ghost use Rattle.modulefile.specs.Reports.{line_of};
-ghost use Rattle.requests.specs.Reports.{is_wanted, row_line, wanted_text, avail_text};
+ghost use Rattle.requests.specs.Reports.{is_selected, module_line, selected_text, avail_text};
 
-use modulelist::{Listing, Row};
+use search::{Listing, ListingEntry};
 use std::alloc::{AllocError, Global};
 
 /// Whether a name begins with a text.
@@ -31,9 +31,9 @@ fn begins_with_one(name: &str, texts: &[String]) -> bool
 }
 
 /// Whether a name is reported: it begins with one of the texts, or there are none.
-#[tactic(auto, using(crate::proofs::Wanted::wanted))]
-fn is_wanted(texts: &[String], name: &str) -> bool
-    ensures { result ≡ is_wanted (map string_bytes texts.now) name.now }
+#[tactic(auto, using(crate::proofs::Selected::selected))]
+fn is_selected(texts: &[String], name: &str) -> bool
+    ensures { result ≡ is_selected (map string_bytes texts.now) name.now }
 {
     texts.is_empty() || begins_with_one(name, texts)
 }
@@ -47,11 +47,12 @@ fn push_directory(report: &mut String, dir: &str) -> Result<(), AllocError>
 }
 
 /// Adds the line of a module.
-fn push_row(report: &mut String, row: &Row) -> Result<(), AllocError>
-    ensures { OnOk result (string_bytes report.new ≡ string_bytes report.old ++ row_line (row_view row.now)) }
+fn push_module(report: &mut String, listing_entry: &ListingEntry) -> Result<(), AllocError>
+    ensures { OnOk result (string_bytes report.new ≡ string_bytes report.old ++ module_line
+        (listing_entry_view listing_entry.now)) }
 {
-    report.push_str(&row.name)?;
-    if row.is_default {
+    report.push_str(&listing_entry.name)?;
+    if listing_entry.is_default {
         report.push_str("(default)")?;
     }
     report.push('\n')
@@ -60,17 +61,17 @@ fn push_row(report: &mut String, row: &Row) -> Result<(), AllocError>
 /// Adds the lines of a directory, where a name of it is reported.
 fn push_listing(report: &mut String, texts: &[String], listing: &Listing) -> Result<(), AllocError>
     ensures { OnOk result (string_bytes report.new
-        ≡ string_bytes report.old ++ wanted_text (map string_bytes texts.now) (listing_view listing.now)) }
+        ≡ string_bytes report.old ++ selected_text (map string_bytes texts.now) (listing_view listing.now)) }
 {
-    let mut is_said = false;
+    let mut is_directory_written = false;
     let mut rest = listing.modules.as_slice();
-    while let [row, after @ ..] = rest {
-        if is_wanted(texts, &row.name) {
-            if !is_said {
+    while let [listing_entry, after @ ..] = rest {
+        if is_selected(texts, &listing_entry.name) {
+            if !is_directory_written {
                 push_directory(report, &listing.dir)?;
-                is_said = true;
+                is_directory_written = true;
             }
-            push_row(report, row)?;
+            push_module(report, listing_entry)?;
         }
         rest = after;
     }

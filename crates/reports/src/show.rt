@@ -5,13 +5,13 @@ ghost use Rattle.modulefile.specs.RecordViews.{record_view};
 ghost use Rattle.modulefile.specs.Reports.{path_words, shown_words, show_text};
 
 use crate::lines::push_line;
-use environment::fields::{join, slices};
+use envvars::fields::{join, slices};
 use modulefile::{Delimiter, PathEdit, Record};
 use std::alloc::{AllocError, Global};
 use tcllist::write_list;
 
 /// Three words, written as a list of Tcl.
-fn listed<'a>(
+fn colon_path<'a>(
     alloc: Global,
     command: &'a str,
     var: &'a str,
@@ -23,7 +23,7 @@ fn listed<'a>(
 }
 
 /// A path command with its option `--delim`, written as a list of Tcl.
-fn listed_with<'a>(
+fn delimited_path<'a>(
     alloc: Global,
     command: &'a str,
     delim: &'a str,
@@ -38,7 +38,7 @@ fn listed_with<'a>(
 
 /// A path command, written as a list of Tcl: its elements are joined to one value, and `--delim` has the delimiter
 /// where it isn't the colon.
-fn shown_path(
+fn path_text(
     alloc: Global,
     command: &str,
     delim: Delimiter,
@@ -51,15 +51,15 @@ fn shown_path(
     let elements = slices(alloc, elements)?;
     let value = join(alloc, elements.as_slice(), delim.character)?;
     if delim.character == ':' {
-        return listed(alloc, command, var, &value);
+        return colon_path(alloc, command, var, &value);
     }
-    let mut said = String::new(alloc);
-    said.push(delim.character)?;
-    listed_with(alloc, command, &said, var, &value)
+    let mut delimiter = String::new(alloc);
+    delimiter.push(delim.character)?;
+    delimited_path(alloc, command, &delimiter, var, &value)
 }
 
 /// A command and its names, written as a list of Tcl.
-fn shown_names(alloc: Global, command: &str, names: &[String]) -> Result<String, AllocError>
+fn names_text(alloc: Global, command: &str, names: &[String]) -> Result<String, AllocError>
     ensures { IfOk result (λ t. string_bytes t ≡ list_text (command.now ∷ map string_bytes names.now)) }
 {
     let mut words = Vec::new(alloc);
@@ -70,7 +70,7 @@ fn shown_names(alloc: Global, command: &str, names: &[String]) -> Result<String,
 }
 
 /// A record as the command that makes it, written as a list of Tcl.
-fn shown(alloc: Global, recorded: &Record) -> Result<String, AllocError>
+fn record_text(alloc: Global, recorded: &Record) -> Result<String, AllocError>
     ensures { IfOk result (λ t. string_bytes t ≡ list_text (shown_words (record_view recorded.now))) }
 {
     match recorded {
@@ -86,12 +86,12 @@ fn shown(alloc: Global, recorded: &Record) -> Result<String, AllocError>
             var,
             elements,
         } => match edit {
-            PathEdit::Front => shown_path(alloc, "prepend-path", *delim, var, elements.as_slice()),
-            PathEdit::Back => shown_path(alloc, "append-path", *delim, var, elements.as_slice()),
-            PathEdit::Remove => shown_path(alloc, "remove-path", *delim, var, elements.as_slice()),
+            PathEdit::Front => path_text(alloc, "prepend-path", *delim, var, elements.as_slice()),
+            PathEdit::Back => path_text(alloc, "append-path", *delim, var, elements.as_slice()),
+            PathEdit::Remove => path_text(alloc, "remove-path", *delim, var, elements.as_slice()),
         },
-        Record::Conflict(names) => shown_names(alloc, "conflict", names.as_slice()),
-        Record::Prereq(names) => shown_names(alloc, "prereq", names.as_slice()),
+        Record::Conflict(names) => names_text(alloc, "conflict", names.as_slice()),
+        Record::Prereq(names) => names_text(alloc, "prereq", names.as_slice()),
         Record::Whatis(text) => write_list(alloc, &["module-whatis", text]),
     }
 }
@@ -105,7 +105,7 @@ pub fn show_report(alloc: Global, path: &str, records: &[Record]) -> Result<Stri
     report.push_str(":\n")?;
     let mut rest = records;
     while let [recorded, after @ ..] = rest {
-        let line = shown(alloc, recorded)?;
+        let line = record_text(alloc, recorded)?;
         push_line(&mut report, &line)?;
         rest = after;
     }

@@ -1,6 +1,6 @@
 -- A step that went on: what its parts were.
 use Rattle.std.proofs.Common.{◌≡◌, Result, Ok, Err, Option, Some, None, refl, ap, sym, ◌∙◌}
-use Rattle.relations.specs.Relations.{After, Then, IsOne}
+use Rattle.filetree.specs.Relations.{After, Then, IsOne}
 use Rattle.modulefile.specs.Results.{◌>>=◌}
 use Rattle.requests.specs.Refusals.{refused_as, unless, RefusedAs}
 

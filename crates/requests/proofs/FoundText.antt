@@ -2,11 +2,11 @@
 use Rattle.std.proofs.Common.{◌≡◌, inl, inr, true, false, Bool, List, [], ◌∷◌, Option, Ok, Err, refl, subst}
 use Rattle.modulename.specs.ModuleName.{Text, is_module_name}
 use Rattle.filetree.specs.Agreement.{Files, Listings}
-use Rattle.filetree.specs.Search.{Held, absent, no_cookie, not_utf8, script, modulefile, directories, path_of}
-use Rattle.relations.specs.Relations.{Is, If}
-use Rattle.modulesearch.specs.Reasons.{bad_name, not_found}
-use Rattle.modulesearch.specs.DefaultFiles.{Left}
-use Rattle.modulesearch.specs.Found.{Default, FoundModule, read, At, FoundAlong, Found}
+use Rattle.filetree.specs.Modulefiles.{Held, absent, no_cookie, not_utf8, script, modulefile, directories, path_of}
+use Rattle.filetree.specs.Relations.{Is, If}
+use Rattle.search.specs.Reasons.{bad_name, not_found}
+use Rattle.search.specs.DefaultFiles.{DefaultFileResult}
+use Rattle.search.specs.Found.{Default, FoundModule, read, ModuleAt, FoundAlong, Found}
 use Rattle.requests.proofs.Bound.{went_on}
 
 abbrev pub IsScript : Files → FoundModule → Type 0
@@ -21,20 +21,20 @@ at_held files name path (script text) m e h =
     let same : made ≡ m = (let q : Ok m ≡ Ok made = h in cc) in
     subst (IsScript files) same e
 
-at_text : (files : Files) (dir name : Text) (m : FoundModule) → At files dir name (Ok m) → IsScript files m
+at_text : (files : Files) (dir name : Text) (m : FoundModule) → ModuleAt files dir name (Ok m) → IsScript files m
 at_text files dir name m h = at_held files name (path_of dir name) (modulefile (files (path_of dir name))) m refl h
 
-along_text : (leaves : Text → Text → Option Left → Type 0) (files : Files) (listings : Listings) (name : Text) (dirs : List Text) (m : FoundModule) → FoundAlong leaves files listings name dirs (Ok m) → IsScript files m
-along_text leaves files listings name [] m h = absurd (let q : Ok m ≡ Err (not_found name) = h in cc)
-along_text leaves files listings name (dir ∷ dirs) m (inl (fact, h)) = at_text files dir name m h
-along_text leaves files listings name (dir ∷ dirs) m (inr (none, inl (some, h))) =
-    let g = went_on (Default leaves files listings dir name) (λ v. At files dir (path_of name v)) m h in
+along_text : (results : Text → Text → Option DefaultFileResult → Type 0) (files : Files) (listings : Listings) (name : Text) (dirs : List Text) (m : FoundModule) → FoundAlong results files listings name dirs (Ok m) → IsScript files m
+along_text results files listings name [] m h = absurd (let q : Ok m ≡ Err (not_found name) = h in cc)
+along_text results files listings name (dir ∷ dirs) m (inl (fact, h)) = at_text files dir name m h
+along_text results files listings name (dir ∷ dirs) m (inr (none, inl (some, h))) =
+    let g = went_on (Default results files listings dir name) (λ v. ModuleAt files dir (path_of name v)) m h in
     at_text files dir (path_of name g.0) m g.2
-along_text leaves files listings name (dir ∷ dirs) m (inr (none, inr (no_candidate, h))) = along_text leaves files listings name dirs m h
+along_text results files listings name (dir ∷ dirs) m (inr (none, inr (no_candidate, h))) = along_text results files listings name dirs m h
 
-found_if : (leaves : Text → Text → Option Left → Type 0) (files : Files) (listings : Listings) (name : Text) (dirs : List Text) (m : FoundModule) (spelled : Bool) → If spelled (FoundAlong leaves files listings name dirs) (Is (Err (bad_name name))) (Ok m) → IsScript files m
-found_if leaves files listings name dirs m true h = along_text leaves files listings name dirs m h
-found_if leaves files listings name dirs m false h = absurd (let q : Ok m ≡ Err (bad_name name) = h in cc)
+found_if : (results : Text → Text → Option DefaultFileResult → Type 0) (files : Files) (listings : Listings) (name : Text) (dirs : List Text) (m : FoundModule) (spelled : Bool) → If spelled (FoundAlong results files listings name dirs) (Is (Err (bad_name name))) (Ok m) → IsScript files m
+found_if results files listings name dirs m true h = along_text results files listings name dirs m h
+found_if results files listings name dirs m false h = absurd (let q : Ok m ≡ Err (bad_name name) = h in cc)
 
-pub found_text : (leaves : Text → Text → Option Left → Type 0) (files : Files) (listings : Listings) (modulepath name : Text) (m : FoundModule) → Found leaves files listings modulepath name (Ok m) → IsScript files m
-found_text leaves files listings modulepath name m h = found_if leaves files listings name (directories modulepath) m (is_module_name name) h
+pub found_text : (results : Text → Text → Option DefaultFileResult → Type 0) (files : Files) (listings : Listings) (modulepath name : Text) (m : FoundModule) → Found results files listings modulepath name (Ok m) → IsScript files m
+found_text results files listings modulepath name m h = found_if results files listings name (directories modulepath) m (is_module_name name) h

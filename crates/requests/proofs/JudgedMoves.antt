@@ -2,50 +2,50 @@
 use Rattle.std.proofs.Common.{◌≡◌, true, false, List, [], ◌∷◌, ◌++◌, ◌∙◌, sym, subst}
 use Rattle.std.specs.List.{list_all}
 use Rattle.std.proofs.lemmas.Bool.{and_parts}
-use Rattle.environment.specs.Texts.{Text}
+use Rattle.envvars.specs.Texts.{Text}
 use Rattle.modulerecords.specs.Records.{Record}
 use Rattle.modulerecords.specs.Moves.{Module, Move, Loads, Unloads}
 use Rattle.modulefile.specs.Files.{Ran}
 use Rattle.modulefile.specs.Laws.{PlainFilesAgree}
-use Rattle.reversal.specs.Ways.{Way, is_reversible, AllSuit}
-use Rattle.reversal.specs.Runs.{without_live, IsFit}
+use Rattle.reversal.specs.VariableUses.{VariableUse, is_reversible, AllSuit}
+use Rattle.reversal.specs.Runs.{without_live, IsReversibleBeside}
 use Rattle.requests.specs.Steps.{Site}
 use Rattle.requests.specs.Sessions.{session_moves}
-use Rattle.requests.specs.PlainRuns.{HasLeft, IsPlain, ArePlain}
-use Rattle.requests.specs.JudgedRuns.{IsJudgedPlain, AllInWay, IsApart, AreJudged, JudgedIsReversible, JudgedSessionsReturn}
+use Rattle.requests.specs.PlainRuns.{HasEvaluatedTo, IsPlain, ArePlain}
+use Rattle.requests.specs.JudgedRuns.{IsJudgedPlain, AllFollowUses, IsApart, AreJudged, JudgedIsReversible, JudgedSessionsReturn}
 use Rattle.requests.specs.Laws.{PlainSessionsReturn}
 use Rattle.requests.proofs.Judging.{judged_left}
 use Rattle.requests.proofs.Origins.{IsFrom, AllFrom}
 use Rattle.requests.proofs.PlainMoves.{same_records, moved_left, session_from}
 
 -- the result of the evaluation of the verdict, at the module's own name and path
-judged_of : (s : Site) (name path : Text) → IsJudgedPlain s name path → (ran : Ran) × HasLeft s name path ran × (ran.asked ≡ false) × (list_all is_reversible ran.records ≡ true)
+judged_of : (s : Site) (name path : Text) → IsJudgedPlain s name path → (ran : Ran) × HasEvaluatedTo s name path ran × (ran.asked ≡ false) × (list_all is_reversible ran.records ≡ true)
 judged_of s name path j =
     let (m, found, ran, left, unasked, undone) = judged_left s j.env j.typed j.judged in
     let at = j.means m found in
     (ran, moved_left s m.name name m.path path ran at.0 at.1 left, unasked, undone)
 
-all_suit : (ways : Text → Way) (rs : List Record) → list_all is_reversible rs ≡ true → AllInWay ways rs → AllSuit ways rs
-all_suit ways [] h k = tt
-all_suit ways (r ∷ rs) h k = let p = and_parts (is_reversible r) (list_all is_reversible rs) h in ((p.0, k.0), all_suit ways rs p.1 k.1)
+all_suit : (uses : Text → VariableUse) (rs : List Record) → list_all is_reversible rs ≡ true → AllFollowUses uses rs → AllSuit uses rs
+all_suit uses [] h k = tt
+all_suit uses (r ∷ rs) h k = let p = and_parts (is_reversible r) (list_all is_reversible rs) h in ((p.0, k.0), all_suit uses rs p.1 k.1)
 
 pub judged_is_reversible : PlainFilesAgree → JudgedIsReversible
 judged_is_reversible agree s name path other j left =
     let (ran, judged, unasked, undone) = judged_of s name path j in
     subst (λ rs. list_all is_reversible rs ≡ true) (sym (same_records agree s name path ran other judged unasked left)) undone
 
-plain_load : PlainFilesAgree → (s : Site) (ways : Text → Way) (live : List Module) (m : Module) → IsFrom s m → IsApart ways live m → IsJudgedPlain s m.name m.path → IsFit ways live m × IsPlain s m.name m.path
-plain_load agree s ways live m (other, left, is) apart j =
+plain_load : PlainFilesAgree → (s : Site) (uses : Text → VariableUse) (live : List Module) (m : Module) → IsFrom s m → IsApart uses live m → IsJudgedPlain s m.name m.path → IsReversibleBeside uses live m × IsPlain s m.name m.path
+plain_load agree s uses live m (other, left, is) apart j =
     let (ran, judged, unasked, undone) = judged_of s m.name m.path j in
     let again : list_all is_reversible m.records ≡ true = subst (λ rs. list_all is_reversible rs ≡ true) (sym is) (judged_is_reversible agree s m.name m.path other j left) in
-    (record { suits = all_suit ways m.records again apart.in_ways; alone = apart.alone }, (ran, judged, unasked))
+    (record { suits = all_suit uses m.records again apart.follow_uses; sets_apart = apart.sets_apart }, (ran, judged, unasked))
 
-are_plain : PlainFilesAgree → (s : Site) (ways : Text → Way) (ms : List Move) (live : List Module) → AllFrom s ms → AreJudged s ways live ms → ArePlain s ways live ms
-are_plain agree s ways [] live from judged = tt
-are_plain agree s ways (Loads m ∷ ms) live from judged = (plain_load agree s ways live m from.0 judged.0.0 judged.0.1, are_plain agree s ways ms (m ∷ live) from.1 judged.1)
-are_plain agree s ways (Unloads m ∷ ms) live from judged = are_plain agree s ways ms (without_live m.name live) from.1 judged
+are_plain : PlainFilesAgree → (s : Site) (uses : Text → VariableUse) (ms : List Move) (live : List Module) → AllFrom s ms → AreJudged s uses live ms → ArePlain s uses live ms
+are_plain agree s uses [] live from judged = tt
+are_plain agree s uses (Loads m ∷ ms) live from judged = (plain_load agree s uses live m from.0 judged.0.0 judged.0.1, are_plain agree s uses ms (m ∷ live) from.1 judged.1)
+are_plain agree s uses (Unloads m ∷ ms) live from judged = are_plain agree s uses ms (without_live m.name live) from.1 judged
 
 pub judged_sessions_return : PlainFilesAgree → PlainSessionsReturn → JudgedSessionsReturn
-judged_sessions_return agree returns ways s start rs before after begin session news judged =
+judged_sessions_return agree returns uses s start rs before after begin session news judged =
     let os = before ++ after in
-    returns ways s start rs before after begin session news (are_plain agree s ways (session_moves os) [] (session_from s start rs os session) judged)
+    returns uses s start rs before after begin session news (are_plain agree s uses (session_moves os) [] (session_from s start rs os session) judged)

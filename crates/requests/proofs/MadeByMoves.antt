@@ -6,37 +6,37 @@ use Rattle.std.proofs.lemmas.Bool.{or_left, or_right, and_from}
 use Rattle.std.proofs.lemmas.Slice.Eq.{bytes_eq-Decides}
 use Rattle.std.proofs.lemmas.List.Sorted.{list_any-IsPermutation, IsPermutation-reverse}
 use Rattle.modulename.specs.ModuleName.{is_module_name, means}
-use Rattle.environment.specs.Texts.{Text, has}
-use Rattle.environment.specs.Environment.{Environment}
-use Rattle.loadedlist.specs.Loaded.{Entry, names_of, loaded_in}
-use Rattle.relations.specs.Relations.{Is, Then, If}
+use Rattle.envvars.specs.Texts.{Text, has}
+use Rattle.envvars.specs.Environment.{Environment}
+use Rattle.envloaded.specs.Loaded.{Entry, names_of, loaded_in}
+use Rattle.filetree.specs.Relations.{Is, Then, If}
 use Rattle.modulerecords.specs.Records.{Record}
 use Rattle.modulerecords.specs.Effects as modes
 use Rattle.modulerecords.specs.Effects.{Mode}
-use Rattle.modulerecords.specs.Moves.{Move, Loads, Unloads, moved, Fits, Lead}
-use Rattle.modulesearch.specs.Reasons.{bad_name}
-use Rattle.modulesearch.specs.Found as search
+use Rattle.modulerecords.specs.Moves.{Move, Loads, Unloads, moved, Fits, MovesReach}
+use Rattle.search.specs.Reasons.{bad_name}
+use Rattle.search.specs.Found as search
 use Rattle.requests.specs.Refusals.{refused_as}
 use Rattle.requests.specs.Reasons.{RequestReason, missed, refused_edit, bad_arguments}
 use Rattle.requests.specs.Requests.{RequestedAction, load, unload, switch, purge, list, avail, show, whatis}
 use Rattle.requests.specs.Conditions.{load_objection, end_objection}
-use Rattle.requests.specs.Steps.{Site, Done, begun, moved_on, went, module_of, LoadsFound, LoadsName, UnloadsMeant, last_meant, UnloadsName, ShowsName, shown_text, described_text, Each, Named, EndsRequest, Changes, Switches, ShowsNames, RequestStep, old_name, entries_of, consistent}
+use Rattle.requests.specs.Steps.{Site, Done, nothing_done, with_move, continued, module_of, LoadsFound, LoadsName, UnloadsMeant, last_meant, UnloadsName, ShowsName, shown_text, described_text, Each, NeedsNames, EndsRequest, Changes, Switches, ShowsNames, RequestStep, old_name, entries_of, consistent}
 use Rattle.requests.proofs.Bound.{bound, ok_of_refused_as, allowed, went_on}
 
 abbrev IsMadeByMoves : Environment → Done → Type 0
-IsMadeByMoves e d = Lead d.moves e d.env
+IsMadeByMoves e d = MovesReach d.moves e d.env
 
 abbrev AreMadeByMoves : Environment → (Result Done RequestReason → Type 0) → Type 0
 AreMadeByMoves e Comes = (d : Done) → Comes (Ok d) → IsMadeByMoves e d
 
-lead_more : (ms : List Move) (m : Move) (e d t : Environment) → Lead ms e d → Fits m d → moved m d ≡ Ok t → Lead (ms ++ m ∷ []) e t
+lead_more : (ms : List Move) (m : Move) (e d t : Environment) → MovesReach ms e d → Fits m d → moved m d ≡ Ok t → MovesReach (ms ++ m ∷ []) e t
 lead_more [] m e d t h f k = (subst (λ x. Fits m x) h f, (t, subst (λ x. moved m x ≡ Ok t) h k, refl))
 lead_more (x ∷ ms) m e d t h f k = (h.0, (h.1.0, h.1.1, lead_more ms m h.1.0 d t h.1.2 f k))
 
-made_went : (e : Environment) (d : Done) (m : Move) (messages : List Text) → Fits m d.env → IsMadeByMoves e d → AreMadeByMoves e (Is (went d m messages))
+made_went : (e : Environment) (d : Done) (m : Move) (messages : List Text) → Fits m d.env → IsMadeByMoves e d → AreMadeByMoves e (Is (continued d m messages))
 made_went e d m messages fits by_moves t h =
-    let b = bound (refused_as refused_edit (moved m d.env)) (λ x. Ok (moved_on d m messages x)) t (sym h) in
-    let same : moved_on d m messages b.0 ≡ t = cc in
+    let b = bound (refused_as refused_edit (moved m d.env)) (λ x. Ok (with_move d m messages x)) t (sym h) in
+    let same : with_move d m messages b.0 ≡ t = cc in
     subst (λ x. IsMadeByMoves e x) same (lead_more d.moves m e d.env b.0 by_moves fits (ok_of_refused_as refused_edit (moved m d.env) b.0 b.1))
 
 -- the list that was read
@@ -74,7 +74,7 @@ made_found : (s : Site) (w : Bool) (typed : Text) (e : Environment) (d : Done) (
 made_found s w typed e d xs m read by_moves =
     made_if e (has m.name (names_of xs)) _ _ (λ b. made_same e d by_moves) (λ b. made_then e (λ ran h.
     λ t g. made_went e d (Loads (module_of m.name m.path ran)) ran.messages (xs, read, b) by_moves t
-    (sym (allowed (load_objection m.name ran.records xs) (went d (Loads (module_of m.name m.path ran)) ran.messages) t (sym g)))))
+    (sym (allowed (load_objection m.name ran.records xs) (continued d (Loads (module_of m.name m.path ran)) ran.messages) t (sym g)))))
 
 made_load : (s : Site) (w : Bool) (e : Environment) (typed : Text) (d : Done) → IsMadeByMoves e d → AreMadeByMoves e (LoadsName s w typed d)
 made_load s w e typed d by_moves =
@@ -102,7 +102,7 @@ made_each e Does all_made [] d by_moves = made_same e d by_moves
 made_each e Does all_made (name ∷ names) d by_moves =
     made_then e (λ t h. made_each e Does all_made names t (all_made name d by_moves t h))
 
-made_named : (e : Environment) (names : List Text) (Does : Result Done RequestReason → Type 0) → AreMadeByMoves e Does → AreMadeByMoves e (Named names Does)
+made_named : (e : Environment) (names : List Text) (Does : Result Done RequestReason → Type 0) → AreMadeByMoves e Does → AreMadeByMoves e (NeedsNames names Does)
 made_named e [] Does all_made = made_refused e bad_arguments
 made_named e (name ∷ names) Does all_made = all_made
 
@@ -112,7 +112,7 @@ made_end e before d by_moves =
 
 made_changes : (e : Environment) (Does : List Entry → Done → Result Done RequestReason → Type 0) → ((before : List Entry) (d : Done) → IsMadeByMoves e d → AreMadeByMoves e (Does before d)) → AreMadeByMoves e (Changes e Does)
 made_changes e Does all_made =
-    made_then e (λ before h. made_then e (λ d g. made_end e before d (all_made before (begun e) refl d g)))
+    made_then e (λ before h. made_then e (λ d g. made_end e before d (all_made before (nothing_done e) refl d g)))
 
 made_switch : (s : Site) (e : Environment) (old : Option Text) (new : Text) (d : Done) → IsMadeByMoves e d → AreMadeByMoves e (Switches s old new d)
 made_switch s e old new d by_moves =
@@ -120,7 +120,7 @@ made_switch s e old new d by_moves =
 
 made_shown : (s : Site) (mode : Mode) (text_of : search.FoundModule → List Record → Text) (e : Environment) (names : List Text) → AreMadeByMoves e (ShowsNames s mode text_of e names)
 made_shown s mode text_of e names =
-    made_then {First = Is (entries_of e)} {Rest = λ xs. Each (ShowsName s mode text_of) names (begun e)} e (λ xs h. made_each e (ShowsName s mode text_of) (made_show s mode text_of e) names (begun e) refl)
+    made_then {First = Is (entries_of e)} {Rest = λ xs. Each (ShowsName s mode text_of) names (nothing_done e)} e (λ xs h. made_each e (ShowsName s mode text_of) (made_show s mode text_of e) names (nothing_done e) refl)
 
 pub led_by_moves : (s : Site) (e : Environment) (asked : RequestedAction) → AreMadeByMoves e (RequestStep s e asked)
 led_by_moves s e (load names) =

@@ -1,26 +1,26 @@
 -- The records of each move of a step are those that the file at its module's path made.
 use Rattle.std.proofs.Common.{◌≡◌, Bool, true, false, List, [], ◌∷◌, ◌++◌, Option, Some, None, Result, Ok, Err, refl, sym, subst, reverse}
 use Rattle.modulename.specs.ModuleName.{is_module_name}
-use Rattle.environment.specs.Texts.{Text, has}
-use Rattle.environment.specs.Environment.{Environment}
-use Rattle.loadedlist.specs.Loaded.{Entry, names_of}
-use Rattle.filetree.specs.Search.{Held, absent, no_cookie, not_utf8, script, modulefile}
-use Rattle.relations.specs.Relations.{Is, Then, If}
+use Rattle.envvars.specs.Texts.{Text, has}
+use Rattle.envvars.specs.Environment.{Environment}
+use Rattle.envloaded.specs.Loaded.{Entry, names_of}
+use Rattle.filetree.specs.Modulefiles.{Held, absent, no_cookie, not_utf8, script, modulefile}
+use Rattle.filetree.specs.Relations.{Is, Then, If}
 use Rattle.modulerecords.specs.Effects as modes
 use Rattle.modulerecords.specs.Moves.{Module, Move, Loads, Unloads, moved}
 use Rattle.modulerecords.specs.Moves as moves
-use Rattle.modulefile.specs.Answers.{Context}
+use Rattle.modulefile.specs.Answers.{FileContext}
 use Rattle.modulefile.specs.Files.{Ran, RunsFile}
-use Rattle.defaultfiles.specs.Leaves.{Leaves}
-use Rattle.modulesearch.specs.Reasons.{bad_name}
-use Rattle.modulesearch.specs.Found as search
-use Rattle.modulesearch.specs.Found.{Found}
+use Rattle.defaultfiles.specs.DefaultFileResults.{Leaves}
+use Rattle.search.specs.Reasons.{bad_name}
+use Rattle.search.specs.Found as search
+use Rattle.search.specs.Found.{Found}
 use Rattle.requests.specs.Refusals.{refused_as, RefusedAs}
-use Rattle.requests.specs.Reasons.{RequestReason, bad_arguments, missed, stopped, refused_edit}
+use Rattle.requests.specs.Reasons.{RequestReason, bad_arguments, missed, file_refused, refused_edit}
 use Rattle.requests.specs.Requests.{RequestedAction, load, unload, switch, purge, list, avail, show, whatis}
 use Rattle.requests.specs.Conditions.{load_objection, end_objection}
-use Rattle.requests.specs.Steps.{Site, Done, begun, moved_on, went, module_of, modulepath, context_of, Finds, script_at, LoadsFound, LoadsName, UnloadsMeant, last_meant, UnloadsName, Each, Named, EndsRequest, Changes, Switches, RequestStep, old_name}
-use Rattle.requests.specs.PlainRuns.{HasLeft}
+use Rattle.requests.specs.Steps.{Site, Done, nothing_done, with_move, continued, module_of, modulepath, context_of, Finds, script_at, LoadsFound, LoadsName, UnloadsMeant, last_meant, UnloadsName, Each, NeedsNames, EndsRequest, Changes, Switches, RequestStep, old_name}
+use Rattle.requests.specs.PlainRuns.{HasEvaluatedTo}
 use Rattle.requests.proofs.Bound.{bound, ok_of_refused_as, allowed, went_on}
 use Rattle.requests.specs.Laws.{Reports}
 use Rattle.requests.proofs.Reporting.{reports_leave}
@@ -28,7 +28,7 @@ use Rattle.requests.proofs.FoundText.{IsScript, found_text}
 
 -- the records are those that the file made
 abbrev pub IsFrom : Site → Module → Type 0
-IsFrom s m = (ran : Ran) × HasLeft s m.name m.path ran × (m.records ≡ ran.records)
+IsFrom s m = (ran : Ran) × HasEvaluatedTo s m.name m.path ran × (m.records ≡ ran.records)
 
 abbrev pub AllFrom : Site → List Move → Type 0
 AllFrom s [] = Unit {0}
@@ -54,14 +54,14 @@ trace_if : (s : Site) (test : Bool) (One Other : Result Done RequestReason → T
 trace_if s true One Other k l = k
 trace_if s false One Other k l = l
 
-trace_went : (s : Site) (d : Done) (m : Move) (messages : List Text) → AllFrom s d.moves → IsFrom s (moves.module_of m) → Traces s (Is (went d m messages))
+trace_went : (s : Site) (d : Done) (m : Move) (messages : List Text) → AllFrom s d.moves → IsFrom s (moves.module_of m) → Traces s (Is (continued d m messages))
 trace_went s d m messages from one t h =
-    let b = bound (refused_as refused_edit (moved m d.env)) (λ x. Ok (moved_on d m messages x)) t (sym h) in
-    let same : moved_on d m messages b.0 ≡ t = cc in
+    let b = bound (refused_as refused_edit (moved m d.env)) (λ x. Ok (with_move d m messages x)) t (sym h) in
+    let same : with_move d m messages b.0 ≡ t = cc in
     subst (λ (x : Done). AllFrom s x.moves) same (all_both s d.moves (m ∷ []) from (one, tt))
 
-as_ok : (s : Site) (c : Context) (text : Text) (ran : Ran) → RefusedAs stopped (RunsFile s.limits c text) (Ok ran) → RunsFile s.limits c text (Ok ran)
-as_ok s c text ran h = subst (RunsFile s.limits c text) (ok_of_refused_as stopped h.0 ran (sym h.2)) h.1
+as_ok : (s : Site) (c : FileContext) (text : Text) (ran : Ran) → RefusedAs file_refused (RunsFile s.limits c text) (Ok ran) → RunsFile s.limits c text (Ok ran)
+as_ok s c text ran h = subst (RunsFile s.limits c text) (ok_of_refused_as file_refused h.0 ran (sym h.2)) h.1
 
 pub found_script : (s : Site) (e : Environment) (name : Text) (m : search.FoundModule) → Finds s e name (Ok m) → IsScript s.files m
 found_script s e name m h =
@@ -72,8 +72,8 @@ trace_found : (s : Site) (w : Bool) (typed : Text) (d : Done) (xs : List Entry) 
 trace_found s w typed d xs m file from =
     trace_if s (has m.name (names_of xs)) _ _ (trace_same s d from) (trace_then s (λ ran h t g.
     trace_went s d (Loads (module_of m.name m.path ran)) ran.messages from
-    (ran, record { text = m.text; file = file; context = context_of s modes.load w typed m.name m.path xs d.env; named = refl; placed = refl; runs = as_ok s (context_of s modes.load w typed m.name m.path xs d.env) m.text ran h }, refl)
-    t (sym (allowed (load_objection m.name ran.records xs) (went d (Loads (module_of m.name m.path ran)) ran.messages) t (sym g)))))
+    (ran, record { text = m.text; file = file; context = context_of s modes.load w typed m.name m.path xs d.env; named = refl; at_path = refl; runs = as_ok s (context_of s modes.load w typed m.name m.path xs d.env) m.text ran h }, refl)
+    t (sym (allowed (load_objection m.name ran.records xs) (continued d (Loads (module_of m.name m.path ran)) ran.messages) t (sym g)))))
 
 trace_load : (s : Site) (w : Bool) (typed : Text) (d : Done) → AllFrom s d.moves → Traces s (LoadsName s w typed d)
 trace_load s w typed d from =
@@ -92,7 +92,7 @@ trace_meant s w typed d xs None from = trace_same s d from
 trace_meant s w typed d xs (Some x) from =
     trace_then s (λ text h. trace_then s (λ ran g.
     trace_went s d (Unloads (module_of x.name x.path ran)) ran.messages from
-    (ran, record { text = text; file = script_held x.path text (modulefile (s.files x.path)) h; context = context_of s modes.unload w typed x.name x.path xs d.env; named = refl; placed = refl; runs = as_ok s (context_of s modes.unload w typed x.name x.path xs d.env) text ran g }, refl)))
+    (ran, record { text = text; file = script_held x.path text (modulefile (s.files x.path)) h; context = context_of s modes.unload w typed x.name x.path xs d.env; named = refl; at_path = refl; runs = as_ok s (context_of s modes.unload w typed x.name x.path xs d.env) text ran g }, refl)))
 
 trace_unload : (s : Site) (w : Bool) (typed : Text) (d : Done) → AllFrom s d.moves → Traces s (UnloadsName s w typed d)
 trace_unload s w typed d from =
@@ -104,7 +104,7 @@ trace_each s Does traces [] d from = trace_same s d from
 trace_each s Does traces (name ∷ names) d from =
     trace_then s (λ t h. trace_each s Does traces names t (traces name d from t h))
 
-trace_named : (s : Site) (names : List Text) (Does : Result Done RequestReason → Type 0) → Traces s Does → Traces s (Named names Does)
+trace_named : (s : Site) (names : List Text) (Does : Result Done RequestReason → Type 0) → Traces s Does → Traces s (NeedsNames names Does)
 trace_named s [] Does traces = trace_refused s bad_arguments
 trace_named s (name ∷ names) Does traces = traces
 
@@ -114,7 +114,7 @@ trace_end s before d from =
 
 trace_changes : (s : Site) (e : Environment) (Does : List Entry → Done → Result Done RequestReason → Type 0) → ((before : List Entry) (d : Done) → AllFrom s d.moves → Traces s (Does before d)) → Traces s (Changes e Does)
 trace_changes s e Does traces =
-    trace_then s (λ before h. trace_then s (λ d g. trace_end s before d (traces before (begun e) tt d g)))
+    trace_then s (λ before h. trace_then s (λ d g. trace_end s before d (traces before (nothing_done e) tt d g)))
 
 trace_switch : (s : Site) (old : Option Text) (new : Text) (d : Done) → AllFrom s d.moves → Traces s (Switches s old new d)
 trace_switch s old new d from =

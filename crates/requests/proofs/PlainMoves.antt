@@ -6,27 +6,27 @@ use Rattle.std.proofs.lemmas.Bool.{and_parts}
 use Rattle.std.proofs.lemmas.List.{map-append}
 use Rattle.std.proofs.lemmas.List.Folds.{list_any-append}
 use Rattle.std.proofs.lemmas.Slice.Eq.{bytes_eq-Decides}
-use Rattle.environment.specs.Texts.{Text, has}
-use Rattle.environment.specs.Fields.{are_distinct}
-use Rattle.environment.specs.Environment.{Environment}
-use Rattle.environment.proofs.ChangeLemmas.{are_distinct-push}
-use Rattle.loadedlist.specs.Loaded.{Entry, names_of, loaded_in}
-use Rattle.filetree.specs.Search.{script, modulefile}
+use Rattle.envvars.specs.Texts.{Text, has}
+use Rattle.envvars.specs.Fields.{are_distinct}
+use Rattle.envvars.specs.Environment.{Environment}
+use Rattle.envvars.proofs.ChangeLemmas.{are_distinct-push}
+use Rattle.envloaded.specs.Loaded.{Entry, names_of, loaded_in}
+use Rattle.filetree.specs.Modulefiles.{script, modulefile}
 use Rattle.shells.specs.declared.shell.Shell.{Shell}
-use Rattle.modulerecords.specs.Moves.{Module, Move, Loads, Unloads, entry_of, Fits, Lead}
+use Rattle.modulerecords.specs.Moves.{Module, Move, Loads, Unloads, entry_of, Fits, MovesReach}
 use Rattle.modulefile.specs.Files.{Ran, refused_by, RunsFile, IsSameOrRefused}
 use Rattle.modulefile.specs.Laws.{PlainFilesAgree}
-use Rattle.reversal.specs.Ways.{Way}
+use Rattle.reversal.specs.VariableUses.{VariableUse}
 use Rattle.reversal.specs.Live.{entries_over}
-use Rattle.reversal.specs.Standing.{IsInOrder, IsStart, Stands}
-use Rattle.reversal.specs.Runs.{live_named, without_live, AreFit}
-use Rattle.reversal.specs.Laws.{RunsReturn, StepsKeep}
+use Rattle.reversal.specs.Starts.{IsInOrder, IsStart, IsStartWith}
+use Rattle.reversal.specs.Runs.{live_named, without_live, AreReversibleTogether}
+use Rattle.reversal.specs.Laws.{RunsReturn, MovesPreserve}
 use Rattle.requests.specs.Requests.{Request}
 use Rattle.requests.specs.Steps.{Site}
-use Rattle.requests.specs.Sessions.{Response, accepted, refused, given_up, IsResponse, env_after, left_by, in_shell, Session, session_moves}
+use Rattle.requests.specs.Sessions.{Response, accepted, refused, given_up, IsResponse, env_after, end_environment, in_shell, Session, session_moves}
 use Rattle.requests.specs.Returning.{AreNew, HasLoadRecords, AreFitting}
-use Rattle.requests.specs.PlainRuns.{HasLeft, IsPlain, ArePlain}
-use Rattle.requests.specs.Laws.{SessionsLead, SessionsReturn, PlainSessionsReturn}
+use Rattle.requests.specs.PlainRuns.{HasEvaluatedTo, IsPlain, ArePlain}
+use Rattle.requests.specs.Laws.{SessionsReach, SessionsReturn, PlainSessionsReturn}
 use Rattle.requests.proofs.Undone.{entries_at, entries_read, is_entry_of, not_among, same_list, undoes}
 use Rattle.requests.proofs.Origins.{IsFrom, AllFrom, all_both, traced}
 
@@ -104,13 +104,13 @@ agreed : (ran other : Ran) → IsSameOrRefused ran (Ok other) → other.records 
 agreed ran other (inl (again, same, records)) = let q : other ≡ again = (let r : Ok other ≡ Ok again = same in cc) in ap (λ (x : Ran). x.records) q ∙ records
 agreed ran other (inr (n, refusal, same)) = absurd (let r : Ok other ≡ Err (refused_by n refusal) = same in cc)
 
-pub same_records : PlainFilesAgree → (s : Site) (name path : Text) (ran other : Ran) → HasLeft s name path ran → ran.asked ≡ false → HasLeft s name path other → other.records ≡ ran.records
+pub same_records : PlainFilesAgree → (s : Site) (name path : Text) (ran other : Ran) → HasEvaluatedTo s name path ran → ran.asked ≡ false → HasEvaluatedTo s name path other → other.records ≡ ran.records
 same_records agree s name path ran other h unasked k =
-    agreed ran other (agree s.limits h.context k.context h.text ran (Ok other) h.runs unasked (k.named ∙ sym h.named) (k.placed ∙ sym h.placed)
+    agreed ran other (agree s.limits h.context k.context h.text ran (Ok other) h.runs unasked (k.named ∙ sym h.named) (k.at_path ∙ sym h.at_path)
     (subst (λ (t : Text). RunsFile s.limits k.context t (Ok other)) (one_script s path k.text h.text k.file h.file) k.runs))
 
-pub moved_left : (s : Site) (a b c d : Text) (ran : Ran) → a ≡ b → c ≡ d → HasLeft s a c ran → HasLeft s b d ran
-moved_left s a b c d ran e g h = subst (λ (x : Text). HasLeft s x d ran) e (subst (λ (x : Text). HasLeft s a x ran) g h)
+pub moved_left : (s : Site) (a b c d : Text) (ran : Ran) → a ≡ b → c ≡ d → HasEvaluatedTo s a c ran → HasEvaluatedTo s b d ran
+moved_left s a b c d ran e g h = subst (λ (x : Text). HasEvaluatedTo s x d ran) e (subst (λ (x : Text). HasEvaluatedTo s a x ran) g h)
 
 unload_records : PlainFilesAgree → (s : Site) (m l : Module) → m.name ≡ l.name → m.path ≡ l.path → IsFrom s m → IsFrom s l → IsPlain s l.name l.path → m.records ≡ l.records
 unload_records agree s m l name path (ran, left, is) (other, loaded, was) (plain, one, unasked) =
@@ -119,9 +119,9 @@ unload_records agree s m l name path (ran, left, is) (other, loaded, was) (plain
 
 -- ---- moves
 
-has_records : PlainFilesAgree → (s : Site) (ways : Text → Way) (start old : Environment) (bs : List Entry) (live : List Module) (m : Module) → loaded_in start ≡ Some bs → IsInOrder ways old → Stands ways start live old → LiveFrom s live → IsFrom s m → Fits (Unloads m) old → HasLoadRecords live m
-has_records agree s ways start old bs live m list order stands froms from (xs, read, any) l found =
-    let now : loaded_in old ≡ Some (entries_over bs live) = stands.entries bs list in
+has_records : PlainFilesAgree → (s : Site) (uses : Text → VariableUse) (start old : Environment) (bs : List Entry) (live : List Module) (m : Module) → loaded_in start ≡ Some bs → IsInOrder uses old → IsStartWith uses start live old → LiveFrom s live → IsFrom s m → Fits (Unloads m) old → HasLoadRecords live m
+has_records agree s uses start old bs live m list order start_with_live froms from (xs, read, any) l found =
+    let now : loaded_in old ≡ Some (entries_over bs live) = start_with_live.entries bs list in
     let same : xs ≡ entries_over bs live = same_list xs (entries_over bs live) (sym read ∙ now) in
     let same_entries : order.loaded.entries ≡ entries_over bs live = same_list order.loaded.entries (entries_over bs live) (sym (entries_read old order.loaded) ∙ now) in
     let distinct : are_distinct (names_of (entries_over bs live)) ≡ true = subst (λ (ys : List Entry). are_distinct (names_of ys) ≡ true) same_entries order.loaded.list.names in
@@ -129,22 +129,22 @@ has_records agree s ways start old bs live m list order stands froms from (xs, r
     let f = live_from s m.name live l froms found in
     unload_records agree s m l p.0 p.1 from f.0 f.1
 
-fitting : StepsKeep → PlainFilesAgree → (ways : Text → Way) (s : Site) (start : Environment) → IsStart ways start → (ms : List Move) (live : List Module) (old new : Environment) → IsInOrder ways old → Stands ways start live old → AreFit ways live → LiveFrom s live → AllFrom s ms → AreNew start ms → ArePlain s ways live ms → Lead ms old new → AreFitting ways live ms
-fitting step_law agree ways s start begin [] live old new order stands fit froms from news plains lead = tt
-fitting step_law agree ways s start begin (Loads m ∷ ms) live old new order stands fit froms from news plains (fits, (mid, move, lead)) =
-    let h = step_law ways start old mid live (Loads m ∷ []) begin order stands fit (plains.0.0, tt) (fits, (mid, move, refl)) in
-    (plains.0.0, fitting step_law agree ways s start begin ms (m ∷ live) mid new h.0.order h.0.stands h.1 ((from.0, plains.0.1), froms) from.1 news.1 plains.1 lead)
-fitting step_law agree ways s start begin (Unloads m ∷ ms) live old new order stands fit froms from news plains (fits, (mid, move, lead)) =
+fitting : MovesPreserve → PlainFilesAgree → (uses : Text → VariableUse) (s : Site) (start : Environment) → IsStart uses start → (ms : List Move) (live : List Module) (old new : Environment) → IsInOrder uses old → IsStartWith uses start live old → AreReversibleTogether uses live → LiveFrom s live → AllFrom s ms → AreNew start ms → ArePlain s uses live ms → MovesReach ms old new → AreFitting uses live ms
+fitting step_law agree uses s start begin [] live old new order start_with_live fit froms from news plains reach = tt
+fitting step_law agree uses s start begin (Loads m ∷ ms) live old new order start_with_live fit froms from news plains (fits, (mid, move, reach)) =
+    let h = step_law uses start old mid live (Loads m ∷ []) begin order start_with_live fit (plains.0.0, tt) (fits, (mid, move, refl)) in
+    (plains.0.0, fitting step_law agree uses s start begin ms (m ∷ live) mid new h.0.order h.0.start_with_live h.1 ((from.0, plains.0.1), froms) from.1 news.1 plains.1 reach)
+fitting step_law agree uses s start begin (Unloads m ∷ ms) live old new order start_with_live fit froms from news plains (fits, (mid, move, reach)) =
     let bs = entries_at start begin.order.loaded in
-    let records : HasLoadRecords live m = has_records agree s ways start old bs.0 live m bs.1 order stands froms from.0 fits in
-    let u = undoes ways start old bs.0 live m bs.1 stands news.0 records fits in
-    let h = step_law ways start old mid live (Unloads m ∷ []) begin order stands fit (u, tt) (fits, (mid, move, refl)) in
-    (records, fitting step_law agree ways s start begin ms (without_live m.name live) mid new h.0.order h.0.stands h.1 (without_from s m.name live froms) from.1 news.1 plains lead)
+    let records : HasLoadRecords live m = has_records agree s uses start old bs.0 live m bs.1 order start_with_live froms from.0 fits in
+    let u = undoes uses start old bs.0 live m bs.1 start_with_live news.0 records fits in
+    let h = step_law uses start old mid live (Unloads m ∷ []) begin order start_with_live fit (u, tt) (fits, (mid, move, refl)) in
+    (records, fitting step_law agree uses s start begin ms (without_live m.name live) mid new h.0.order h.0.start_with_live h.1 (without_from s m.name live froms) from.1 news.1 plains reach)
 
 same_site : (s : Site) (shell : Shell) (ms : List Move) → AllFrom (in_shell s shell) ms → AllFrom s ms
 same_site s shell [] h = tt
 same_site s shell (m ∷ ms) ((ran, left, is), rest) =
-    ((ran, record { text = left.text; file = left.file; context = left.context; named = left.named; placed = left.placed; runs = left.runs }, is), same_site s shell ms rest)
+    ((ran, record { text = left.text; file = left.file; context = left.context; named = left.named; at_path = left.at_path; runs = left.runs }, is), same_site s shell ms rest)
 
 response_from : (s : Site) (e : Environment) (r : Request) (o : Response) → IsResponse (in_shell s r.0) e r.1 o → AllFrom s (session_moves (o ∷ []))
 response_from s e r (accepted d) h = all_both s d.moves [] (same_site s r.0 d.moves (traced (in_shell s r.0) e r.1 d h)) tt
@@ -166,10 +166,10 @@ session_from s e [] (o ∷ os) h = absurd h
 session_from s e (r ∷ rs) [] h = absurd h
 session_from s e (r ∷ rs) (o ∷ os) h = one_response o os s (response_from s e r o h.0) (session_from s (env_after e o) rs os h.1)
 
-pub plain_sessions_return : SessionsLead → RunsReturn → StepsKeep → PlainFilesAgree → SessionsReturn → PlainSessionsReturn
-plain_sessions_return leads runs step_law agree returns ways s start rs before after begin session news plains =
+pub plain_sessions_return : SessionsReach → RunsReturn → MovesPreserve → PlainFilesAgree → SessionsReturn → PlainSessionsReturn
+plain_sessions_return leads runs step_law agree returns uses s start rs before after begin session news plains =
     let os = before ++ after in
-    let none = runs ways start start [] begin tt refl in
-    let fits : AreFitting ways [] (session_moves os) =
-    fitting step_law agree ways s start begin (session_moves os) [] start (left_by start os) none.order none.stands tt tt (session_from s start rs os session) news plains (leads s start rs os session) in
-    returns ways s start rs before after begin session news fits
+    let none = runs uses start start [] begin tt refl in
+    let fits : AreFitting uses [] (session_moves os) =
+    fitting step_law agree uses s start begin (session_moves os) [] start (end_environment start os) none.order none.start_with_live tt tt (session_from s start rs os session) news plains (leads s start rs os session) in
+    returns uses s start rs before after begin session news fits

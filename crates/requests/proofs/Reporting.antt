@@ -1,15 +1,15 @@
 -- What only reports leaves the environment, and moves nothing.
 use Rattle.std.proofs.Common.{◌≡◌, List, [], ◌∷◌, Result, Ok, Err, refl, subst}
-use Rattle.environment.specs.Texts.{Text}
-use Rattle.environment.specs.Environment.{Environment}
-use Rattle.relations.specs.Relations.{Is, Then}
+use Rattle.envvars.specs.Texts.{Text}
+use Rattle.envvars.specs.Environment.{Environment}
+use Rattle.filetree.specs.Relations.{Is, Then}
 use Rattle.modulerecords.specs.Records.{Record}
 use Rattle.modulerecords.specs.Effects as modes
 use Rattle.modulerecords.specs.Effects.{Mode}
-use Rattle.modulesearch.specs.Found as search
+use Rattle.search.specs.Found as search
 use Rattle.requests.specs.Reasons.{RequestReason}
 use Rattle.requests.specs.Requests.{RequestedAction, load, unload, switch, purge, list, avail, show, whatis}
-use Rattle.requests.specs.Steps.{Site, Done, begun, entries_of, ShowsName, shown_text, described_text, Each, Named, ShowsNames, RequestStep}
+use Rattle.requests.specs.Steps.{Site, Done, nothing_done, entries_of, ShowsName, shown_text, described_text, Each, NeedsNames, ShowsNames, RequestStep}
 use Rattle.requests.specs.Laws.{Reports}
 use Rattle.requests.proofs.Bound.{went_on}
 
@@ -37,10 +37,10 @@ stay_each e Does stays [] d still = stay_same e d still
 stay_each e Does stays (name ∷ names) d still =
     stay_then e (λ t h. stay_each e Does stays names t (stays name d still t h))
 
-stay_shown : (s : Site) (mode : Mode) (text_of : search.FoundModule → List Record → Text) (e : Environment) (names : List Text) → Stays e (Named names (ShowsNames s mode text_of e names))
+stay_shown : (s : Site) (mode : Mode) (text_of : search.FoundModule → List Record → Text) (e : Environment) (names : List Text) → Stays e (NeedsNames names (ShowsNames s mode text_of e names))
 stay_shown s mode text_of e [] = stay_refused e _
 stay_shown s mode text_of e (name ∷ names) =
-    stay_then {First = Is (entries_of e)} {Rest = λ xs. Each (ShowsName s mode text_of) (name ∷ names) (begun e)} e (λ xs h. stay_each e (ShowsName s mode text_of) (stay_show s mode text_of e) (name ∷ names) (begun e) (refl, refl))
+    stay_then {First = Is (entries_of e)} {Rest = λ xs. Each (ShowsName s mode text_of) (name ∷ names) (nothing_done e)} e (λ xs h. stay_each e (ShowsName s mode text_of) (stay_show s mode text_of e) (name ∷ names) (nothing_done e) (refl, refl))
 
 pub reports_leave : (s : Site) (e : Environment) (asked : RequestedAction) (d : Done) → Reports asked → RequestStep s e asked (Ok d) → Still e d
 reports_leave s e (load names) d r h = absurd r

@@ -1,17 +1,17 @@
 -- Sessions and commands of new modules that are reversible and apart, by the laws of runs.
 use Rattle.std.proofs.Common.{◌≡◌, List, [], ◌∷◌, ◌++◌, refl, ap, sym, ◌∙◌, subst}
-use Rattle.environment.specs.Texts.{Text}
-use Rattle.environment.specs.Environment.{Environment}
-use Rattle.modulerecords.specs.Moves.{Module, Move, Loads, Unloads, Lead}
-use Rattle.reversal.specs.Ways.{Way}
+use Rattle.envvars.specs.Texts.{Text}
+use Rattle.envvars.specs.Environment.{Environment}
+use Rattle.modulerecords.specs.Moves.{Module, Move, Loads, Unloads, MovesReach}
+use Rattle.reversal.specs.VariableUses.{VariableUse}
 use Rattle.reversal.specs.Runs.{without_live}
 use Rattle.reversal.specs.Requests as moves
-use Rattle.reversal.specs.Laws.{RunsReturn, StepsKeep}
+use Rattle.reversal.specs.Laws.{RunsReturn, MovesPreserve}
 use Rattle.requests.specs.Requests.{Request}
 use Rattle.requests.specs.Steps.{Site}
-use Rattle.requests.specs.Sessions.{Response, env_after, left_by, Session, outcome_of, session_moves}
+use Rattle.requests.specs.Sessions.{Response, env_after, end_environment, Session, outcome_of, session_moves}
 use Rattle.requests.specs.Returning.{AreNew, AreFitting}
-use Rattle.requests.specs.Laws.{StepsLead, SessionsLead, SessionsReturn, CommandsReturn}
+use Rattle.requests.specs.Laws.{StepsReach, SessionsReach, SessionsReturn, CommandsReturn}
 use Rattle.requests.proofs.Undone.{reversible}
 
 front_session : (s : Site) (e : Environment) (rs : List Request) (before after : List Response) → Session s e rs (before ++ after) → (qs : List Request) × Session s e qs before
@@ -34,24 +34,24 @@ front_new : (start : Environment) (ms ns : List Move) → AreNew start (ms ++ ns
 front_new start [] ns h = tt
 front_new start (m ∷ ms) ns h = (h.0, front_new start ms ns h.1)
 
-front_fitting : (ways : Text → Way) (live : List Module) (ms ns : List Move) → AreFitting ways live (ms ++ ns) → AreFitting ways live ms
-front_fitting ways live [] ns h = tt
-front_fitting ways live (Loads m ∷ ms) ns h = (h.0, front_fitting ways (m ∷ live) ms ns h.1)
-front_fitting ways live (Unloads m ∷ ms) ns h = (h.0, front_fitting ways (without_live m.name live) ms ns h.1)
+front_fitting : (uses : Text → VariableUse) (live : List Module) (ms ns : List Move) → AreFitting uses live (ms ++ ns) → AreFitting uses live ms
+front_fitting uses live [] ns h = tt
+front_fitting uses live (Loads m ∷ ms) ns h = (h.0, front_fitting uses (m ∷ live) ms ns h.1)
+front_fitting uses live (Unloads m ∷ ms) ns h = (h.0, front_fitting uses (without_live m.name live) ms ns h.1)
 
-pub commands_return : StepsLead → StepsKeep → CommandsReturn
-commands_return leads step_law ways s start e live asked d begin order stands fit step news fitting =
-    let lead = leads s e asked d step in
-    step_law ways start e d.env live d.moves begin order stands fit
-    (reversible step_law ways start begin d.moves live e d.env order stands fit news fitting lead) lead
+pub commands_return : StepsReach → MovesPreserve → CommandsReturn
+commands_return leads step_law uses s start e live asked d begin order start_with_live fit step news fitting =
+    let reach = leads s e asked d step in
+    step_law uses start e d.env live d.moves begin order start_with_live fit
+    (reversible step_law uses start begin d.moves live e d.env order start_with_live fit news fitting reach) reach
 
-pub sessions_return : SessionsLead → RunsReturn → StepsKeep → SessionsReturn
-sessions_return leads runs step_law ways s start rs before after begin session news fitting =
+pub sessions_return : SessionsReach → RunsReturn → MovesPreserve → SessionsReturn
+sessions_return leads runs step_law uses s start rs before after begin session news fitting =
     let f = front_session s start rs before after session in
     let ms = session_moves before in
-    let lead : Lead ms start (left_by start before) = leads s start f.0 before f.1 in
+    let reach : MovesReach ms start (end_environment start before) = leads s start f.0 before f.1 in
     let new : AreNew start ms = front_new start ms (session_moves after) (subst (λ (l : List Move). AreNew start l) (moves_parts before after) news) in
-    let fits : AreFitting ways [] ms = front_fitting ways [] ms (session_moves after) (subst (λ (l : List Move). AreFitting ways [] l) (moves_parts before after) fitting) in
-    let none = runs ways start start [] begin tt refl in
-    runs ways start (left_by start before) ms begin
-    (reversible step_law ways start begin ms [] start (left_by start before) none.order none.stands tt new fits lead) lead
+    let fits : AreFitting uses [] ms = front_fitting uses [] ms (session_moves after) (subst (λ (l : List Move). AreFitting uses [] l) (moves_parts before after) fitting) in
+    let none = runs uses start start [] begin tt refl in
+    runs uses start (end_environment start before) ms begin
+    (reversible step_law uses start begin ms [] start (end_environment start before) none.order none.start_with_live tt new fits reach) reach

@@ -6,15 +6,15 @@ use Rattle.std.specs.List.{list_any}
 use Rattle.std.proofs.lemmas.Bool.{or_cases, or_left, or_right, and_parts, and_from}
 use Rattle.std.proofs.lemmas.Slice.Eq.{bytes_eq-Decides}
 use Rattle.modulename.specs.ModuleName.{Text, is_module_name}
-use Rattle.moduleversion.specs.Versions.{IsGreatest, IsIn, greater}
-use Rattle.moduleversion.proofs.GreatestLemmas.{greatest_of_more, greatest_of_one}
+use Rattle.modulename.specs.Versions.{IsGreatest, IsIn, greater}
+use Rattle.modulename.proofs.GreatestLemmas.{greatest_of_more, greatest_of_one}
 use Rattle.filetree.specs.Agreement.{Files, Listings}
-use Rattle.filetree.specs.Search.{Held, absent, no_cookie, not_utf8, script, modulefile, is_module, directories, path_of}
-use Rattle.relations.specs.Relations.{Is, After, Then, If, Where}
-use Rattle.modulesearch.specs.Reasons.{bad_name, not_found, bad_default}
-use Rattle.modulesearch.specs.Single.{is_single}
-use Rattle.modulesearch.specs.DefaultFiles.{Left, VersionIn, said, NamesIn, Names, by_command, by_variable}
-use Rattle.modulesearch.specs.Found.{IsCandidate, HasCandidates, IsOneOf, default_file, NamedDefault, Greatest, NamedOrGreatest, Default, read, FoundAlong, Found}
+use Rattle.filetree.specs.Modulefiles.{Held, absent, no_cookie, not_utf8, script, modulefile, is_module, directories, path_of}
+use Rattle.filetree.specs.Relations.{Is, After, Then, If, Where}
+use Rattle.search.specs.Reasons.{bad_name, not_found, bad_default}
+use Rattle.search.specs.Single.{is_single}
+use Rattle.search.specs.DefaultFiles.{DefaultFileResult, VersionIn, version_named, NamesIn, Names, by_command, by_variable}
+use Rattle.search.specs.Found.{IsCandidate, HasCandidates, IsSomeCandidate, default_file, NamedDefault, Greatest, NamedOrGreatest, Default, read, FoundAlong, Found}
 use Rattle.requests.specs.Refusals.{refused_as, RefusedAs}
 
 -- it has an outcome
@@ -105,7 +105,7 @@ decided_candidate : (files : Files) (listings : Listings) (dir name v : Text) �
 decided_candidate files listings dir name v =
     ⊎_elim (λ h. inl (candidate_in files listings dir name v h)) (λ n. inr (λ c. n (in_candidates files listings dir name v c))) (decided (list_any (bytes_eq v) (candidates files listings dir name)))
 
-decided_one_of : (files : Files) (listings : Listings) (dir name : Text) (o : Option Text) → Decided (IsOneOf (IsCandidate files listings dir name) o)
+decided_one_of : (files : Files) (listings : Listings) (dir name : Text) (o : Option Text) → Decided (IsSomeCandidate (IsCandidate files listings dir name) o)
 decided_one_of files listings dir name None = inr (λ h. h)
 decided_one_of files listings dir name (Some v) = decided_candidate files listings dir name v
 
@@ -152,41 +152,41 @@ some_greatest files listings dir name (v, c) =
 
 -- ---- the search
 
-abbrev Leaving : (Text → Text → Option Left → Type 0) → Type 0
-Leaving leaves = (path text : Text) → (o : Option Left) × leaves path text o
+abbrev Leaving : (Text → Text → Option DefaultFileResult → Type 0) → Type 0
+Leaving results = (path text : Text) → (o : Option DefaultFileResult) × results path text o
 
-some_names_in : (leaves : Text → Text → Option Left → Type 0) → Leaving leaves → (says : VersionIn) (path : Text) (held : Held) → IsSome (NamesIn leaves says path held)
-some_names_in leaves law says path absent = (Ok None, refl)
-some_names_in leaves law says path no_cookie = (Ok None, refl)
-some_names_in leaves law says path not_utf8 = (Err (bad_default path), refl)
-some_names_in leaves law says path (script text) = let l = law path text in (said says path l.0, (l.0, l.1, refl))
+some_names_in : (results : Text → Text → Option DefaultFileResult → Type 0) → Leaving results → (says : VersionIn) (path : Text) (held : Held) → IsSome (NamesIn results says path held)
+some_names_in results law says path absent = (Ok None, refl)
+some_names_in results law says path no_cookie = (Ok None, refl)
+some_names_in results law says path not_utf8 = (Err (bad_default path), refl)
+some_names_in results law says path (script text) = let l = law path text in (version_named says path l.0, (l.0, l.1, refl))
 
-some_names : (leaves : Text → Text → Option Left → Type 0) → Leaving leaves → (files : Files) (says : VersionIn) (path : Text) → IsSome (Names leaves files says path)
-some_names leaves law files says path = some_names_in leaves law says path (modulefile (files path))
+some_names : (results : Text → Text → Option DefaultFileResult → Type 0) → Leaving results → (files : Files) (says : VersionIn) (path : Text) → IsSome (Names results files says path)
+some_names results law files says path = some_names_in results law says path (modulefile (files path))
 
-some_named : (leaves : Text → Text → Option Left → Type 0) → Leaving leaves → (files : Files) (listings : Listings) (dir name : Text) → IsSome (NamedDefault leaves files listings dir name)
-some_named leaves law files listings dir name =
-    some_then (some_names leaves law files (by_command name) (default_file dir name (codes ".modulerc"))) (λ first.
+some_named : (results : Text → Text → Option DefaultFileResult → Type 0) → Leaving results → (files : Files) (listings : Listings) (dir name : Text) → IsSome (NamedDefault results files listings dir name)
+some_named results law files listings dir name =
+    some_then (some_names results law files (by_command name) (default_file dir name (codes ".modulerc"))) (λ first.
     some_where (decided_one_of files listings dir name first) (λ h. some_is (Ok first)) (
-    some_then (some_names leaves law files by_variable (default_file dir name (codes ".version"))) (λ second.
+    some_then (some_names results law files by_variable (default_file dir name (codes ".version"))) (λ second.
     some_where (decided_one_of files listings dir name second) (λ h. some_is (Ok second)) (some_is (Ok None)))))
 
 some_or_greatest : (files : Files) (listings : Listings) (dir name : Text) → HasCandidates files listings dir name → (named : Option Text) → IsSome (NamedOrGreatest files listings dir name named)
 some_or_greatest files listings dir name h (Some v) = some_is (Ok v)
 some_or_greatest files listings dir name h None = some_greatest files listings dir name h
 
-some_default : (leaves : Text → Text → Option Left → Type 0) → Leaving leaves → (files : Files) (listings : Listings) (dir name : Text) → HasCandidates files listings dir name → IsSome (Default leaves files listings dir name)
-some_default leaves law files listings dir name h =
-    some_then {First = NamedDefault leaves files listings dir name} {Rest = NamedOrGreatest files listings dir name} (some_named leaves law files listings dir name) (some_or_greatest files listings dir name h)
+some_default : (results : Text → Text → Option DefaultFileResult → Type 0) → Leaving results → (files : Files) (listings : Listings) (dir name : Text) → HasCandidates files listings dir name → IsSome (Default results files listings dir name)
+some_default results law files listings dir name h =
+    some_then {First = NamedDefault results files listings dir name} {Rest = NamedOrGreatest files listings dir name} (some_named results law files listings dir name) (some_or_greatest files listings dir name h)
 
-some_along : (leaves : Text → Text → Option Left → Type 0) → Leaving leaves → (files : Files) (listings : Listings) (name : Text) (dirs : List Text) → IsSome (FoundAlong leaves files listings name dirs)
-some_along leaves law files listings name [] = some_is (Err (not_found name))
-some_along leaves law files listings name (dir ∷ dirs) =
+some_along : (results : Text → Text → Option DefaultFileResult → Type 0) → Leaving results → (files : Files) (listings : Listings) (name : Text) (dirs : List Text) → IsSome (FoundAlong results files listings name dirs)
+some_along results law files listings name [] = some_is (Err (not_found name))
+some_along results law files listings name (dir ∷ dirs) =
     some_where (decided (is_module (modulefile (files (path_of dir name))))) (λ h. some_is (read name (path_of dir name) (modulefile (files (path_of dir name))))) (
     some_where (decided_some files listings dir name) (λ h.
-    some_then (some_default leaves law files listings dir name h) (λ v. some_is (read (path_of name v) (path_of dir (path_of name v)) (modulefile (files (path_of dir (path_of name v))))))) (
-    some_along leaves law files listings name dirs))
+    some_then (some_default results law files listings dir name h) (λ v. some_is (read (path_of name v) (path_of dir (path_of name v)) (modulefile (files (path_of dir (path_of name v))))))) (
+    some_along results law files listings name dirs))
 
-pub some_found : (leaves : Text → Text → Option Left → Type 0) → Leaving leaves → (files : Files) (listings : Listings) (modulepath name : Text) → IsSome (Found leaves files listings modulepath name)
-some_found leaves law files listings modulepath name =
-    some_if (is_module_name name) (some_along leaves law files listings name (directories modulepath)) (some_is (Err (bad_name name)))
+pub some_found : (results : Text → Text → Option DefaultFileResult → Type 0) → Leaving results → (files : Files) (listings : Listings) (modulepath name : Text) → IsSome (Found results files listings modulepath name)
+some_found results law files listings modulepath name =
+    some_if (is_module_name name) (some_along results law files listings name (directories modulepath)) (some_is (Err (bad_name name)))

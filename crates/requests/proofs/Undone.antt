@@ -3,16 +3,16 @@ use Rattle.std.proofs.Common.{◌≡◌, Bool, true, false, cond, ◌&&◌, ◌|
 use Rattle.std.specs.Prelude.{bytes_eq}
 use Rattle.std.specs.List.{list_any}
 use Rattle.std.proofs.lemmas.List.Folds.{list_any-append}
-use Rattle.environment.specs.Texts.{Text, has}
-use Rattle.environment.specs.Environment.{Environment}
-use Rattle.loadedlist.specs.Loaded.{Entry, names_of, loaded_in, AreLoadedInOrder}
-use Rattle.loadedlist.proofs.LoadedAgain.{loaded_again}
-use Rattle.modulerecords.specs.Moves.{Module, Move, Loads, Unloads, entry_of, Fits, Lead}
-use Rattle.reversal.specs.Ways.{Way}
+use Rattle.envvars.specs.Texts.{Text, has}
+use Rattle.envvars.specs.Environment.{Environment}
+use Rattle.envloaded.specs.Loaded.{Entry, names_of, loaded_in, AreLoadedInOrder}
+use Rattle.envloaded.proofs.LoadedAgain.{loaded_again}
+use Rattle.modulerecords.specs.Moves.{Module, Move, Loads, Unloads, entry_of, Fits, MovesReach}
+use Rattle.reversal.specs.VariableUses.{VariableUse}
 use Rattle.reversal.specs.Live.{entries_over}
-use Rattle.reversal.specs.Standing.{IsInOrder, IsStart, Stands}
-use Rattle.reversal.specs.Runs.{live_named, without_live, AreFit, Undoes, AreReversible}
-use Rattle.reversal.specs.Laws.{StepsKeep}
+use Rattle.reversal.specs.Starts.{IsInOrder, IsStart, IsStartWith}
+use Rattle.reversal.specs.Runs.{live_named, without_live, AreReversibleTogether, Undoes, AreReversible}
+use Rattle.reversal.specs.Laws.{MovesPreserve}
 use Rattle.requests.specs.Returning.{IsNew, AreNew, HasLoadRecords, AreFitting}
 
 pub entries_read : (e : Environment) (o : AreLoadedInOrder e) → loaded_in e ≡ Some o.entries
@@ -47,19 +47,19 @@ live_among m xs (n ∷ live) h k =
 pub same_list : (xs ys : List Entry) → Some xs ≡ Some ys → xs ≡ ys
 same_list xs ys e = cc
 
-pub undoes : (ways : Text → Way) (start old : Environment) (bs : List Entry) (live : List Module) (m : Module) → loaded_in start ≡ Some bs → Stands ways start live old → IsNew start (Unloads m) → HasLoadRecords live m → Fits (Unloads m) old → Undoes live m
-undoes ways start old bs live m list stands new records (xs, read, any) =
-    let same : xs ≡ entries_over bs live = same_list xs (entries_over bs live) (sym read ∙ stands.entries bs list) in
+pub undoes : (uses : Text → VariableUse) (start old : Environment) (bs : List Entry) (live : List Module) (m : Module) → loaded_in start ≡ Some bs → IsStartWith uses start live old → IsNew start (Unloads m) → HasLoadRecords live m → Fits (Unloads m) old → Undoes live m
+undoes uses start old bs live m list start_with_live new records (xs, read, any) =
+    let same : xs ≡ entries_over bs live = same_list xs (entries_over bs live) (sym read ∙ start_with_live.entries bs list) in
     let l = live_among m bs live (new bs list) (subst (λ (ys : List Entry). list_any (is_entry_of m) ys ≡ true) same any) in
     record { loaded = l.0; found = l.1; records = records l.0 l.1 }
 
-pub reversible : StepsKeep → (ways : Text → Way) (start : Environment) → IsStart ways start → (ms : List Move) (live : List Module) (old new : Environment) → IsInOrder ways old → Stands ways start live old → AreFit ways live → AreNew start ms → AreFitting ways live ms → Lead ms old new → AreReversible ways live ms
-reversible step_law ways start begin [] live old new order stands fit news fitting lead = tt
-reversible step_law ways start begin (Loads m ∷ ms) live old new order stands fit news fitting (fits, (mid, move, lead)) =
-    let h = step_law ways start old mid live (Loads m ∷ []) begin order stands fit (fitting.0, tt) (fits, (mid, move, refl)) in
-    (fitting.0, reversible step_law ways start begin ms (m ∷ live) mid new h.0.order h.0.stands h.1 news.1 fitting.1 lead)
-reversible step_law ways start begin (Unloads m ∷ ms) live old new order stands fit news fitting (fits, (mid, move, lead)) =
+pub reversible : MovesPreserve → (uses : Text → VariableUse) (start : Environment) → IsStart uses start → (ms : List Move) (live : List Module) (old new : Environment) → IsInOrder uses old → IsStartWith uses start live old → AreReversibleTogether uses live → AreNew start ms → AreFitting uses live ms → MovesReach ms old new → AreReversible uses live ms
+reversible step_law uses start begin [] live old new order start_with_live fit news fitting reach = tt
+reversible step_law uses start begin (Loads m ∷ ms) live old new order start_with_live fit news fitting (fits, (mid, move, reach)) =
+    let h = step_law uses start old mid live (Loads m ∷ []) begin order start_with_live fit (fitting.0, tt) (fits, (mid, move, refl)) in
+    (fitting.0, reversible step_law uses start begin ms (m ∷ live) mid new h.0.order h.0.start_with_live h.1 news.1 fitting.1 reach)
+reversible step_law uses start begin (Unloads m ∷ ms) live old new order start_with_live fit news fitting (fits, (mid, move, reach)) =
     let bs = entries_at start begin.order.loaded in
-    let u = undoes ways start old bs.0 live m bs.1 stands news.0 fitting.0 fits in
-    let h = step_law ways start old mid live (Unloads m ∷ []) begin order stands fit (u, tt) (fits, (mid, move, refl)) in
-    (u, reversible step_law ways start begin ms (without_live m.name live) mid new h.0.order h.0.stands h.1 news.1 fitting.1 lead)
+    let u = undoes uses start old bs.0 live m bs.1 start_with_live news.0 fitting.0 fits in
+    let h = step_law uses start old mid live (Unloads m ∷ []) begin order start_with_live fit (u, tt) (fits, (mid, move, refl)) in
+    (u, reversible step_law uses start begin ms (without_live m.name live) mid new h.0.order h.0.start_with_live h.1 news.1 fitting.1 reach)

@@ -4,8 +4,8 @@ use Rattle.std.specs.Prelude.{Bool, not, ◌&&◌, List, [], ◌∷◌, find, Op
 use Rattle.std.specs.List.{list_any}
 use Rattle.std.specs.Option.{option_map, option_or}
 use Rattle.modulename.specs.ModuleName.{means}
-use Rattle.environment.specs.Texts.{Text, has}
-use Rattle.loadedlist.specs.Loaded.{Entry, names_of}
+use Rattle.envvars.specs.Texts.{Text, has}
+use Rattle.envloaded.specs.Loaded.{Entry, names_of}
 use Rattle.modulerecords.specs.Records.{Record, conflict_names, prereq_groups}
 use Rattle.requests.specs.Reasons.{RequestReason, conflict_with, prereq_missing, still_needed_by}
 

@@ -2,18 +2,18 @@
 -- start.
 use Rattle.std.specs.Prelude.{◌≡◌, true, List, [], ◌++◌, map, Result, Ok}
 use Rattle.std.specs.List.{list_all}
-use Rattle.environment.specs.Texts.{Text}
-use Rattle.environment.specs.Environment.{Environment}
-use Rattle.modulerecords.specs.Moves.{Module, made, Lead}
-use Rattle.reversal.specs.Ways.{Way}
-use Rattle.reversal.specs.Standing.{IsInOrder, IsStart, Stands}
-use Rattle.reversal.specs.Runs.{live_after, AreFit}
+use Rattle.envvars.specs.Texts.{Text}
+use Rattle.envvars.specs.Environment.{Environment}
+use Rattle.modulerecords.specs.Moves.{Module, made, MovesReach}
+use Rattle.reversal.specs.VariableUses.{VariableUse}
+use Rattle.reversal.specs.Starts.{IsInOrder, IsStart, IsStartWith}
+use Rattle.reversal.specs.Runs.{live_after, AreReversibleTogether}
 use Rattle.reversal.specs.Requests as moves
 use Rattle.reversal.specs.Laws.{Holds}
 use Rattle.requests.specs.Reasons.{RequestReason}
 use Rattle.requests.specs.Requests.{RequestedAction, Request, load, unload, switch, purge, list, avail, show, whatis}
 use Rattle.requests.specs.Steps.{Site, Done, RequestStep}
-use Rattle.requests.specs.Sessions.{Response, Session, left_by, outcome_of, session_moves, is_told}
+use Rattle.requests.specs.Sessions.{Response, Session, end_environment, outcome_of, session_moves, is_decided}
 use Rattle.requests.specs.Returning.{AreNew, AreFitting}
 use Rattle.requests.specs.PlainRuns.{ArePlain}
 
@@ -41,10 +41,10 @@ SomeOutcome =
     → (o : Result Done RequestReason) × RequestStep s e action o
 
 -- The moves of an accepted step take the environment to the one that results, and each fits where it is made.
-abbrev pub StepsLead : Type 0
-StepsLead =
+abbrev pub StepsReach : Type 0
+StepsReach =
     (s : Site) (e : Environment) (action : RequestedAction) (d : Done) → RequestStep s e action (Ok d)
-    → Lead d.moves e d.env
+    → MovesReach d.moves e d.env
 
 -- So the environment that results is the one that they make.
 abbrev pub StepsAreMade : Type 0
@@ -64,8 +64,8 @@ Reports (show names) = Unit {0}
 Reports (whatis names) = Unit {0}
 
 -- It changes no variable, and moves nothing.
-abbrev pub ReportsLeave : Type 0
-ReportsLeave =
+abbrev pub ReportsChangeNothing : Type 0
+ReportsChangeNothing =
     (s : Site) (e : Environment) (action : RequestedAction) (d : Done) → Reports action → RequestStep s e action (Ok d)
     → (d.env ≡ e) × (d.moves ≡ [])
 
@@ -73,43 +73,44 @@ ReportsLeave =
 abbrev pub SessionsRun : Type 0
 SessionsRun =
     (s : Site) (e : Environment) (rs : List Request) (os : List Response) → Session s e rs os
-    → moves.RunLeads (map outcome_of os) e (left_by e os)
+    → moves.RequestsReach (map outcome_of os) e (end_environment e os)
 
 -- Its moves take the first environment to the last.
-abbrev pub SessionsLead : Type 0
-SessionsLead =
+abbrev pub SessionsReach : Type 0
+SessionsReach =
     (s : Site) (e : Environment) (rs : List Request) (os : List Response) → Session s e rs os
-    → Lead (session_moves os) e (left_by e os)
+    → MovesReach (session_moves os) e (end_environment e os)
 
 -- Where nothing was given up it has one list of responses.
 abbrev pub OneSession : Type 0
 OneSession =
     (s : Site) (e : Environment) (rs : List Request) (os ps : List Response)
-    → list_all is_told os ≡ true → list_all is_told ps ≡ true → Session s e rs os → Session s e rs ps → os ≡ ps
+    → list_all is_decided os ≡ true → list_all is_decided ps ≡ true → Session s e rs os → Session s e rs ps → os ≡ ps
 
 -- A session of new modules that are reversible and apart, from a start in order: each environment of the session is in
 -- order and is the start with the live modules layered on it. With none it is the start.
 abbrev pub SessionsReturn : Type 0
 SessionsReturn =
-    (ways : Text → Way) (s : Site) (start : Environment) (rs : List Request) (before after : List Response)
-    → IsStart ways start → Session s start rs (before ++ after)
-    → AreNew start (session_moves (before ++ after)) → AreFitting ways [] (session_moves (before ++ after))
-    → Holds ways start (live_after [] (session_moves before)) (left_by start before)
+    (uses : Text → VariableUse) (s : Site) (start : Environment) (rs : List Request) (before after : List Response)
+    → IsStart uses start → Session s start rs (before ++ after)
+    → AreNew start (session_moves (before ++ after)) → AreFitting uses [] (session_moves (before ++ after))
+    → Holds uses start (live_after [] (session_moves before)) (end_environment start before)
 
 -- The same where the files of the modules are plain: then there is no premise about the records of unloads.
 abbrev pub PlainSessionsReturn : Type 0
 PlainSessionsReturn =
-    (ways : Text → Way) (s : Site) (start : Environment) (rs : List Request) (before after : List Response)
-    → IsStart ways start → Session s start rs (before ++ after)
-    → AreNew start (session_moves (before ++ after)) → ArePlain s ways [] (session_moves (before ++ after))
-    → Holds ways start (live_after [] (session_moves before)) (left_by start before)
+    (uses : Text → VariableUse) (s : Site) (start : Environment) (rs : List Request) (before after : List Response)
+    → IsStart uses start → Session s start rs (before ++ after)
+    → AreNew start (session_moves (before ++ after)) → ArePlain s uses [] (session_moves (before ++ after))
+    → Holds uses start (live_after [] (session_moves before)) (end_environment start before)
 
 -- One command, which knows no history: it begins in an environment in order, with live modules layered on a start in
 -- order. The result is in order and is that start with the modules that are live then layered on it. With none it is
 -- the start.
 abbrev pub CommandsReturn : Type 0
 CommandsReturn =
-    (ways : Text → Way) (s : Site) (start e : Environment) (live : List Module) (action : RequestedAction) (d : Done)
-    → IsStart ways start → IsInOrder ways e → Stands ways start live e → AreFit ways live
-    → RequestStep s e action (Ok d) → AreNew start d.moves → AreFitting ways live d.moves
-    → Holds ways start (live_after live d.moves) d.env × AreFit ways (live_after live d.moves)
+    (uses : Text → VariableUse) (s : Site) (start e : Environment) (live : List Module) (action : RequestedAction)
+    (d : Done)
+    → IsStart uses start → IsInOrder uses e → IsStartWith uses start live e → AreReversibleTogether uses live
+    → RequestStep s e action (Ok d) → AreNew start d.moves → AreFitting uses live d.moves
+    → Holds uses start (live_after live d.moves) d.env × AreReversibleTogether uses (live_after live d.moves)

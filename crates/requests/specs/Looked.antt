@@ -1,16 +1,16 @@
--- Where a request looks (own): the paths of the files and folders that it reads or lists on its way. No failure of the
+-- Where a request looks (own): the paths of the files and directories that it reads or lists on its way. No failure of the
 -- device at another path can refuse it.
 use Rattle.std.specs.Prelude.{◌≡◌, ◌⊎◌, true, false, List, [], ◌∷◌, reverse, Some, Result, Ok}
 use Rattle.modulename.specs.ModuleName.{is_module_name}
-use Rattle.environment.specs.Texts.{Text, has}
-use Rattle.environment.specs.Environment.{Environment}
-use Rattle.loadedlist.specs.Loaded.{Entry, names_of}
-use Rattle.defaultfiles.specs.Leaves.{Leaves}
+use Rattle.envvars.specs.Texts.{Text, has}
+use Rattle.envvars.specs.Environment.{Environment}
+use Rattle.envloaded.specs.Loaded.{Entry, names_of}
+use Rattle.defaultfiles.specs.DefaultFileResults.{Leaves}
 use Rattle.modulerecords.specs.Effects as modes
-use Rattle.modulesearch.specs.Looked as search
+use Rattle.search.specs.Looked as search
 use Rattle.requests.specs.Reasons.{RequestReason}
 use Rattle.requests.specs.Requests.{RequestedAction, load, unload, switch, purge, list, avail, show, whatis}
-use Rattle.requests.specs.Steps.{Site, Done, begun, entries_of, modulepath, last_meant, old_name}
+use Rattle.requests.specs.Steps.{Site, Done, nothing_done, entries_of, modulepath, last_meant, old_name}
 use Rattle.requests.specs.Steps.{LoadsName, UnloadsName, ShowsName, shown_text, described_text}
 
 -- The search for what a name means now looks at this path. The file of the module that is found is one of these.
@@ -59,18 +59,18 @@ SwitchLooksAt s old new d =
 pub record PurgeLooksAt (s : Site) (e : Environment) (at : Text) : Type 0 where
   pub entries : List Entry
   pub read : Ok entries ≡ entries_of e
-  pub unloading : EachLooksAt (UnloadsName s false) UnloadLooksAt (reverse (names_of entries)) (begun e) at
+  pub unloading : EachLooksAt (UnloadsName s false) UnloadLooksAt (reverse (names_of entries)) (nothing_done e) at
 
 -- The request looks at this path.
 abbrev pub RequestLooksAt : Site → Environment → RequestedAction → Text → Type 0
-RequestLooksAt s e (load names) at = EachLooksAt (LoadsName s false) (LoadLooksAt s) names (begun e) at
-RequestLooksAt s e (unload names) at = EachLooksAt (UnloadsName s false) UnloadLooksAt names (begun e) at
-RequestLooksAt s e (switch old new) at = SwitchLooksAt s (old_name old new) new (begun e) at
+RequestLooksAt s e (load names) at = EachLooksAt (LoadsName s false) (LoadLooksAt s) names (nothing_done e) at
+RequestLooksAt s e (unload names) at = EachLooksAt (UnloadsName s false) UnloadLooksAt names (nothing_done e) at
+RequestLooksAt s e (switch old new) at = SwitchLooksAt s (old_name old new) new (nothing_done e) at
 RequestLooksAt s e purge at = PurgeLooksAt s e at
 RequestLooksAt s e list at = ⊥
 RequestLooksAt s e (avail texts) at =
     search.ListingLooksAt (Leaves s.limits) s.files s.listings (modulepath e) at
 RequestLooksAt s e (show names) at =
-    EachLooksAt (ShowsName s modes.display shown_text) (ShowLooksAt s) names (begun e) at
+    EachLooksAt (ShowsName s modes.display shown_text) (ShowLooksAt s) names (nothing_done e) at
 RequestLooksAt s e (whatis names) at =
-    EachLooksAt (ShowsName s modes.whatis described_text) (ShowLooksAt s) names (begun e) at
+    EachLooksAt (ShowsName s modes.whatis described_text) (ShowLooksAt s) names (nothing_done e) at

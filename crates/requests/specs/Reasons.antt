@@ -1,12 +1,12 @@
 -- Why a request is refused, and the number of each reason (own). Want of memory and a failed device are no reasons:
 -- they are causes beside these.
 use Rattle.std.specs.Prelude.{ℕ, List}
-use Rattle.environment.specs.Texts.{Text}
+use Rattle.envvars.specs.Texts.{Text}
 use Rattle.modulerecords.specs.Judgments.{RecordReason}
 use Rattle.modulefile.specs.Answers.{record_number}
-use Rattle.modulefile.specs.Files.{Stop, stop_number}
-use Rattle.modulesearch.specs.Reasons as search
-use Rattle.modulesearch.specs.Reasons.{bad_name, not_found, bad_default, not_utf8_at}
+use Rattle.modulefile.specs.Files.{FileReason, file_reason_number}
+use Rattle.search.specs.Reasons as search
+use Rattle.search.specs.Reasons.{bad_name, not_found, bad_default, not_utf8_at}
 
 pub data RequestReason : Type 0 where
   -- the words don't fit the subcommand
@@ -20,7 +20,7 @@ pub data RequestReason : Type 0 where
   -- the file at the path of a loaded module is no modulefile
   not_a_modulefile : (path : Text) → RequestReason
   -- a modulefile's evaluation is refused
-  stopped : Stop → RequestReason
+  file_refused : FileReason → RequestReason
   -- this loaded module and the one that is to be loaded are in conflict
   conflict_with : (name : Text) → RequestReason
   -- none of these is loaded
@@ -44,7 +44,7 @@ reason_number (unknown_subcommand word) = 57
 reason_number (missed reason) = search_number reason
 reason_number (file_gone path) = 54
 reason_number (not_a_modulefile path) = 55
-reason_number (stopped stop) = stop_number stop
+reason_number (file_refused stop) = file_reason_number stop
 reason_number (conflict_with name) = 51
 reason_number (prereq_missing names) = 52
 reason_number (still_needed_by name) = 53

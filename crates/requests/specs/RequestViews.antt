@@ -3,7 +3,7 @@ use Rattle.std.specs.Prelude.{ℕ, List, codes, map, string_bytes, String, Optio
 use Rattle.std.specs.Option.{option_map}
 use Rattle.std.specs.declared.alloc.Global.{Global}
 use Rattle.std.specs.declared.vec.Vec.{Vec}
-use Rattle.environment.specs.Texts.{Text}
+use Rattle.envvars.specs.Texts.{Text}
 use Rattle.message.specs.Messages.{quoting}
 use Rattle.requests.specs.declared.request_fault.RequestFault.{RequestFault}
 use Rattle.requests.specs.declared.request_fault.RequestFault.TheVariants as faults
@@ -18,19 +18,19 @@ abbrev pub texts_of : Vec (String Global) Global → List Text
 texts_of words = map string_bytes words.items
 
 -- what an action asks for
-abbrev pub asked_view : Action → RequestedAction
-asked_view (actions.Load names) = load (texts_of names)
-asked_view (actions.Unload names) = unload (texts_of names)
-asked_view (actions.Switch old new) = switch (option_map string_bytes old) (string_bytes new)
-asked_view actions.Purge = purge
-asked_view actions.List = list
-asked_view (actions.Avail texts) = avail (texts_of texts)
-asked_view (actions.Show names) = show (texts_of names)
-asked_view (actions.Whatis names) = whatis (texts_of names)
+abbrev pub action_view : Action → RequestedAction
+action_view (actions.Load names) = load (texts_of names)
+action_view (actions.Unload names) = unload (texts_of names)
+action_view (actions.Switch old new) = switch (option_map string_bytes old) (string_bytes new)
+action_view actions.Purge = purge
+action_view actions.List = list
+action_view (actions.Avail texts) = avail (texts_of texts)
+action_view (actions.Show names) = show (texts_of names)
+action_view (actions.Whatis names) = whatis (texts_of names)
 
 -- the request: its shell, and what it asks for
 abbrev pub request_view : code.Request → Request
-request_view request = (request.shell, asked_view request.action)
+request_view request = (request.shell, action_view request.action)
 
 -- the reason that a fault names; want of memory is none
 abbrev pub reason_of : RequestFault → Option RequestReason

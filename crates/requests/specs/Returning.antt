@@ -1,11 +1,11 @@
 -- The premises under which a run returns to its start (own): the modules are new, reversible and apart.
 use Rattle.std.specs.Prelude.{◌≡◌, false, List, [], ◌∷◌, Some}
-use Rattle.environment.specs.Texts.{Text, has}
-use Rattle.environment.specs.Environment.{Environment}
-use Rattle.loadedlist.specs.Loaded.{Entry, names_of, loaded_in}
+use Rattle.envvars.specs.Texts.{Text, has}
+use Rattle.envvars.specs.Environment.{Environment}
+use Rattle.envloaded.specs.Loaded.{Entry, names_of, loaded_in}
 use Rattle.modulerecords.specs.Moves.{Module, Move, Loads, Unloads}
-use Rattle.reversal.specs.Ways.{Way}
-use Rattle.reversal.specs.Runs.{live_named, without_live, IsFit}
+use Rattle.reversal.specs.VariableUses.{VariableUse}
+use Rattle.reversal.specs.Runs.{live_named, without_live, IsReversibleBeside}
 
 -- no module that is loaded at the start is unloaded
 abbrev pub IsNew : Environment → Move → Type 0
@@ -23,7 +23,7 @@ HasLoadRecords live m = (loaded : Module) → live_named m.name live ≡ Some lo
 
 -- Each load is of a module that is reversible and apart from the live ones, and each unload has the records of the load
 -- that it undoes.
-abbrev pub AreFitting : (Text → Way) → List Module → List Move → Type 0
-AreFitting ways live [] = Unit {0}
-AreFitting ways live (Loads m ∷ ms) = IsFit ways live m × AreFitting ways (m ∷ live) ms
-AreFitting ways live (Unloads m ∷ ms) = HasLoadRecords live m × AreFitting ways (without_live m.name live) ms
+abbrev pub AreFitting : (Text → VariableUse) → List Module → List Move → Type 0
+AreFitting uses live [] = Unit {0}
+AreFitting uses live (Loads m ∷ ms) = IsReversibleBeside uses live m × AreFitting uses (m ∷ live) ms
+AreFitting uses live (Unloads m ∷ ms) = HasLoadRecords live m × AreFitting uses (without_live m.name live) ms

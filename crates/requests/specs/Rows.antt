@@ -1,7 +1,7 @@
 -- The loaded modules and the listing of the worked examples.
 use Rattle.std.specs.Prelude.{true, false, List, [], ◌∷◌, codes}
-use Rattle.loadedlist.specs.Loaded.{Entry}
-use Rattle.modulesearch.specs.Listed.{Row}
+use Rattle.envloaded.specs.Loaded.{Entry}
+use Rattle.search.specs.Listed.{ListingEntry}
 
 -- without conflicts and prereqs
 abbrev pub k1 : Entry
@@ -20,5 +20,5 @@ abbrev pub mpi1 : Entry
 mpi1 = record { name = codes "mpi/1"; path = codes "/m/mpi/1"; conflicts = []; prereqs = (codes "gcc" ∷ []) ∷ [] }
 
 -- versions in their order, of which a default file names the first
-abbrev pub versions : List Row
+abbrev pub versions : List ListingEntry
 versions = (codes "ver/1.9", true) ∷ (codes "ver/1.10", false) ∷ (codes "ver/1.10-rc", false) ∷ []

@@ -1,7 +1,7 @@
 -- Sessions: requests one after another, each with one response (own).
 use Rattle.std.specs.Prelude.{ℕ, ◌≡◌, ◌==◌, Bool, true, false, List, [], ◌∷◌, map, Ok, Err}
 use Rattle.std.specs.List.{list_any}
-use Rattle.environment.specs.Environment.{Environment}
+use Rattle.envvars.specs.Environment.{Environment}
 use Rattle.shells.specs.declared.shell.Shell.{Shell}
 use Rattle.modulerecords.specs.Moves.{Move}
 use Rattle.reversal.specs.Requests as moves
@@ -19,14 +19,14 @@ pub data Response : Type 0 where
 
 -- whether the number is that of a cause: 11, 31, 41 and 61 of memory (in an evaluation, a request, the search,
 -- printing), 43 of a device, 62 of a value without a text
-abbrev pub is_cause : ℕ → Bool
-is_cause number = list_any (λ n. n == number) (11 ∷ 31 ∷ 41 ∷ 61 ∷ 43 ∷ 62 ∷ [])
+abbrev pub is_given_up_by : ℕ → Bool
+is_given_up_by number = list_any (λ n. n == number) (11 ∷ 31 ∷ 41 ∷ 61 ∷ 43 ∷ 62 ∷ [])
 
 -- an accepted or refused request has the outcome of its step; one that was given up has a cause
 abbrev pub IsResponse : Site → Environment → RequestedAction → Response → Type 0
 IsResponse s e action (accepted d) = RequestStep s e action (Ok d)
 IsResponse s e action (refused reason) = RequestStep s e action (Err reason)
-IsResponse s e action (given_up number) = is_cause number ≡ true
+IsResponse s e action (given_up number) = is_given_up_by number ≡ true
 
 -- only an accepted request changes the environment
 abbrev pub env_after : Environment → Response → Environment
@@ -35,9 +35,9 @@ env_after e (refused reason) = e
 env_after e (given_up number) = e
 
 -- the environment after all of them
-abbrev pub left_by : Environment → List Response → Environment
-left_by e [] = e
-left_by e (o ∷ os) = left_by (env_after e o) os
+abbrev pub end_environment : Environment → List Response → Environment
+end_environment e [] = e
+end_environment e (o ∷ os) = end_environment (env_after e o) os
 
 -- what a request is run over, for another shell
 abbrev pub in_shell : Site → Shell → Site
@@ -61,7 +61,7 @@ abbrev pub session_moves : List Response → List Move
 session_moves os = all_moves (map outcome_of os)
 
 -- not given up
-abbrev pub is_told : Response → Bool
-is_told (accepted d) = true
-is_told (refused reason) = true
-is_told (given_up number) = false
+abbrev pub is_decided : Response → Bool
+is_decided (accepted d) = true
+is_decided (refused reason) = true
+is_decided (given_up number) = false

@@ -1,37 +1,37 @@
--- The step of a request: what it makes of an environment, over the files and folders of a tree (module(1)). It names
+-- The step of a request: what it makes of an environment, over the files and directories of a tree (module(1)). It names
 -- its moves.
 use Rattle.std.specs.Prelude.{◌≡◌, Bool, true, false, List, [], ◌∷◌, ◌++◌, codes, reverse, find, unwrap_or, Option, Some, None, Result, Ok, Err}
 use Rattle.modulename.specs.ModuleName.{is_module_name, means, parts}
-use Rattle.environment.specs.Texts.{Text, has}
-use Rattle.environment.specs.Environment.{Environment, lookup}
-use Rattle.environment.specs.Reasons as edits
-use Rattle.loadedlist.specs.Loaded.{Entry, names_of, loaded_in}
+use Rattle.envvars.specs.Texts.{Text, has}
+use Rattle.envvars.specs.Environment.{Environment, lookup}
+use Rattle.envvars.specs.Reasons as edits
+use Rattle.envloaded.specs.Loaded.{Entry, names_of, loaded_in}
 use Rattle.tclrules.specs.declared.limits.Limits.{Limits}
 use Rattle.shells.specs.declared.shell.Shell.{Shell}
 use Rattle.filetree.specs.Agreement.{Files, Listings}
-use Rattle.filetree.specs.Search.{Held, absent, no_cookie, not_utf8, script, modulefile}
-use Rattle.relations.specs.Relations.{Is, If, ◌>>◌}
+use Rattle.filetree.specs.Modulefiles.{Held, absent, no_cookie, not_utf8, script, modulefile}
+use Rattle.filetree.specs.Relations.{Is, If, ◌>>◌}
 use Rattle.modulerecords.specs.Records.{Record}
 use Rattle.modulerecords.specs.Judgments.{bad_edit}
 use Rattle.modulerecords.specs.Effects as modes
 use Rattle.modulerecords.specs.Effects.{Mode}
 use Rattle.modulerecords.specs.Moves.{Module, Move, Loads, Unloads, moved}
 use Rattle.modulefile.specs.Results.{◌>>=◌}
-use Rattle.modulefile.specs.Answers.{Context}
+use Rattle.modulefile.specs.Answers.{FileContext}
 use Rattle.modulefile.specs.Files.{Ran, RunsFile}
 use Rattle.modulefile.specs.Reports.{show_text, whatis_text}
-use Rattle.defaultfiles.specs.Leaves.{Leaves}
-use Rattle.modulesearch.specs.Reasons.{bad_name, not_utf8_at}
-use Rattle.modulesearch.specs.Found as search
-use Rattle.modulesearch.specs.Found.{Found}
-use Rattle.modulesearch.specs.Listed.{Listing, Listed}
+use Rattle.defaultfiles.specs.DefaultFileResults.{Leaves}
+use Rattle.search.specs.Reasons.{bad_name, not_utf8_at}
+use Rattle.search.specs.Found as search
+use Rattle.search.specs.Found.{Found}
+use Rattle.search.specs.Listed.{Listing, Listed}
 use Rattle.requests.specs.Refusals.{refused_as, unless, RefusedAs}
-use Rattle.requests.specs.Reasons.{RequestReason, bad_arguments, missed, file_gone, not_a_modulefile, stopped, refused_edit}
+use Rattle.requests.specs.Reasons.{RequestReason, bad_arguments, missed, file_gone, not_a_modulefile, file_refused, refused_edit}
 use Rattle.requests.specs.Requests.{RequestedAction, load, unload, switch, purge, list, avail, show, whatis}
 use Rattle.requests.specs.Conditions.{load_objection, end_objection}
 use Rattle.requests.specs.Reports.{loaded_text, avail_text}
 
--- What a request is run over: the files and folders of a tree, the limits on the evaluation of each file, and the shell
+-- What a request is run over: the files and directories of a tree, the limits on the evaluation of each file, and the shell
 -- that reads what is printed.
 pub record Site : Type 0 where
   pub files : Files
@@ -48,21 +48,21 @@ pub record Done : Type 0 where
   pub report : Text
 
 -- nothing done yet
-abbrev pub begun : Environment → Done
-begun e = record { env = e; moves = []; messages = []; report = [] }
+abbrev pub nothing_done : Environment → Done
+nothing_done e = record { env = e; moves = []; messages = []; report = [] }
 
 -- one move more, which makes this environment
-abbrev pub moved_on : Done → Move → List Text → Environment → Done
-moved_on d move messages e =
+abbrev pub with_move : Done → Move → List Text → Environment → Done
+with_move d move messages e =
     record { env = e; moves = d.moves ++ move ∷ []; messages = d.messages ++ messages; report = d.report }
 
 -- the move is made, or refused as an edit of the environment
-abbrev pub went : Done → Move → List Text → Result Done RequestReason
-went d move messages = refused_as refused_edit (moved move d.env) >>= (λ e. Ok (moved_on d move messages e))
+abbrev pub continued : Done → Move → List Text → Result Done RequestReason
+continued d move messages = refused_as refused_edit (moved move d.env) >>= (λ e. Ok (with_move d move messages e))
 
 -- the report with this text after it
-abbrev pub reported : Done → List Text → Text → Done
-reported d messages text =
+abbrev pub with_report : Done → List Text → Text → Done
+with_report d messages text =
     record { env = d.env; moves = d.moves; messages = d.messages ++ messages; report = d.report ++ text }
 
 -- the loaded modules, or the reason that the loaded lists don't fit together
@@ -79,7 +79,7 @@ abbrev pub modulepath : Environment → Text
 modulepath e = unwrap_or (lookup e (codes "MODULEPATH")) []
 
 -- the context in which the file of this name and path is evaluated
-abbrev pub context_of : Site → Mode → Bool → Text → Text → Text → List Entry → Environment → Context
+abbrev pub context_of : Site → Mode → Bool → Text → Text → Text → List Entry → Environment → FileContext
 context_of s mode in_switch typed name path xs e =
     record {
       mode = mode;
@@ -104,13 +104,14 @@ Finds s e name = RefusedAs missed (Found (Leaves s.limits) s.files s.listings (m
 
 -- The module joins the loaded list at its end, unless something forbids it beside the loaded ones.
 abbrev pub joins : Done → List Entry → Module → List Text → Result Done RequestReason
-joins d xs m messages = unless (load_objection m.name m.records xs) (went d (Loads m) messages)
+joins d xs m messages = unless (load_objection m.name m.records xs) (continued d (Loads m) messages)
 
 -- The module that was found is loaded, unless it is already.
 abbrev pub LoadsFound : Site → Bool → Text → Done → List Entry → search.FoundModule → Result Done RequestReason → Type 0
 LoadsFound s in_switch typed d xs m =
     If (has m.name (names_of xs)) (Is (Ok d)) (
-    RefusedAs stopped (RunsFile s.limits (context_of s modes.load in_switch typed m.name m.path xs d.env) m.text) >>
+    RefusedAs file_refused
+    (RunsFile s.limits (context_of s modes.load in_switch typed m.name m.path xs d.env) m.text) >>
     (λ ran.
     Is (joins d xs (module_of m.name m.path ran) ran.messages)))
 
@@ -134,9 +135,10 @@ script_at path (script text) = Ok text
 abbrev pub UnloadsEntry : Site → Bool → Text → Done → List Entry → Entry → Result Done RequestReason → Type 0
 UnloadsEntry s in_switch typed d xs x =
     Is (script_at x.path (modulefile (s.files x.path))) >> (λ text.
-    RefusedAs stopped (RunsFile s.limits (context_of s modes.unload in_switch typed x.name x.path xs d.env) text) >>
+    RefusedAs file_refused
+    (RunsFile s.limits (context_of s modes.unload in_switch typed x.name x.path xs d.env) text) >>
     (λ ran.
-    Is (went d (Unloads (module_of x.name x.path ran)) ran.messages)))
+    Is (continued d (Unloads (module_of x.name x.path ran)) ran.messages)))
 
 -- where there is no such module nothing changes
 abbrev pub UnloadsMeant : Site → Bool → Text → Done → List Entry → Option Entry → Result Done RequestReason → Type 0
@@ -163,8 +165,8 @@ abbrev pub ShowsName : Site → Mode → (search.FoundModule → List Record →
 ShowsName s mode text_of typed d =
     Is (entries_of d.env) >> (λ xs.
     Finds s d.env typed >> (λ m.
-    RefusedAs stopped (RunsFile s.limits (context_of s mode false typed m.name m.path xs d.env) m.text) >> (λ ran.
-    Is (Ok (reported d ran.messages (text_of m ran.records))))))
+    RefusedAs file_refused (RunsFile s.limits (context_of s mode false typed m.name m.path xs d.env) m.text) >> (λ ran.
+    Is (Ok (with_report d ran.messages (text_of m ran.records))))))
 
 -- the report of `show`
 abbrev pub shown_text : search.FoundModule → List Record → Text
@@ -183,9 +185,9 @@ Each Does [] d = Is (Ok d)
 Each Does (name ∷ names) d = Does name d >> Each Does names
 
 -- at least one name
-abbrev pub Named : List Text → (Result Done RequestReason → Type 0) → Result Done RequestReason → Type 0
-Named [] Does = Is (Err bad_arguments)
-Named (name ∷ names) Does = Does
+abbrev pub NeedsNames : List Text → (Result Done RequestReason → Type 0) → Result Done RequestReason → Type 0
+NeedsNames [] Does = Is (Err bad_arguments)
+NeedsNames (name ∷ names) Does = Does
 
 -- At the end no module that is still loaded has lost what it needs.
 abbrev pub EndsRequest : List Entry → Done → Result Done RequestReason → Type 0
@@ -194,7 +196,7 @@ EndsRequest before d = Is (entries_of d.env) >> (λ after. Is (unless (end_objec
 -- The loaded modules are read first, and judged last.
 abbrev pub Changes : Environment → (List Entry → Done → Result Done RequestReason → Type 0)
     → Result Done RequestReason → Type 0
-Changes e Does = Is (entries_of e) >> (λ before. Does before (begun e) >> EndsRequest before)
+Changes e Does = Is (entries_of e) >> (λ before. Does before (nothing_done e) >> EndsRequest before)
 
 -- the first part of a name
 abbrev pub first_part : List Text → Text
@@ -213,25 +215,25 @@ Switches s old new d = UnloadsName s true (old_name old new) d >> LoadsName s tr
 -- each name is reported on in turn
 abbrev pub ShowsNames : Site → Mode → (search.FoundModule → List Record → Text) → Environment → List Text
     → Result Done RequestReason → Type 0
-ShowsNames s mode text_of e names = Is (entries_of e) >> (λ xs. Each (ShowsName s mode text_of) names (begun e))
+ShowsNames s mode text_of e names = Is (entries_of e) >> (λ xs. Each (ShowsName s mode text_of) names (nothing_done e))
 
 -- the loaded modules are reported
 abbrev pub ListsLoaded : Environment → Result Done RequestReason → Type 0
-ListsLoaded e = Is (entries_of e) >> (λ xs. Is (Ok (reported (begun e) [] (loaded_text (names_of xs)))))
+ListsLoaded e = Is (entries_of e) >> (λ xs. Is (Ok (with_report (nothing_done e) [] (loaded_text (names_of xs)))))
 
 -- the modules along MODULEPATH are reported, whatever is loaded
 abbrev pub ListsAll : Site → Environment → List Text → Result Done RequestReason → Type 0
 ListsAll s e texts o =
     (listings : List Listing) × Listed (Leaves s.limits) s.files s.listings (modulepath e) listings
-    × (o ≡ Ok (reported (begun e) [] (avail_text texts listings)))
+    × (o ≡ Ok (with_report (nothing_done e) [] (avail_text texts listings)))
 
 -- The step of a request.
 abbrev pub RequestStep : Site → Environment → RequestedAction → Result Done RequestReason → Type 0
-RequestStep s e (load names) = Named names (Changes e (λ before. Each (LoadsName s false) names))
-RequestStep s e (unload names) = Named names (Changes e (λ before. Each (UnloadsName s false) names))
+RequestStep s e (load names) = NeedsNames names (Changes e (λ before. Each (LoadsName s false) names))
+RequestStep s e (unload names) = NeedsNames names (Changes e (λ before. Each (UnloadsName s false) names))
 RequestStep s e (switch old new) = Changes e (λ before. Switches s old new)
 RequestStep s e purge = Changes e (λ before. Each (UnloadsName s false) (reverse (names_of before)))
 RequestStep s e list = ListsLoaded e
 RequestStep s e (avail texts) = ListsAll s e texts
-RequestStep s e (show names) = Named names (ShowsNames s modes.display shown_text e names)
-RequestStep s e (whatis names) = Named names (ShowsNames s modes.whatis described_text e names)
+RequestStep s e (show names) = NeedsNames names (ShowsNames s modes.display shown_text e names)
+RequestStep s e (whatis names) = NeedsNames names (ShowsNames s modes.whatis described_text e names)

@@ -1,18 +1,18 @@
 -- Verdicts (own): whether a modulefile makes the same records wherever it is evaluated, and can be undone.
 use Rattle.std.specs.Prelude.{◌≡◌, List, true, false, if◌then◌else◌, Result, Ok}
 use Rattle.std.specs.List.{list_all}
-use Rattle.environment.specs.Texts.{Text}
-use Rattle.environment.specs.Environment.{Environment}
-use Rattle.loadedlist.specs.Loaded.{Entry}
+use Rattle.envvars.specs.Texts.{Text}
+use Rattle.envvars.specs.Environment.{Environment}
+use Rattle.envloaded.specs.Loaded.{Entry}
 use Rattle.shells.specs.declared.shell.Shell.TheVariants.{Sh}
-use Rattle.relations.specs.Relations.{Is, ◌>>◌}
+use Rattle.filetree.specs.Relations.{Is, ◌>>◌}
 use Rattle.modulerecords.specs.Effects as modes
-use Rattle.modulefile.specs.Answers.{Context}
-use Rattle.modulefile.specs.Files.{Ran, Stop, RunsFile, IsSameOrRefused}
-use Rattle.modulesearch.specs.Found as search
-use Rattle.reversal.specs.Ways.{is_reversible}
+use Rattle.modulefile.specs.Answers.{FileContext}
+use Rattle.modulefile.specs.Files.{Ran, FileReason, RunsFile, IsSameOrRefused}
+use Rattle.search.specs.Found as search
+use Rattle.reversal.specs.VariableUses.{is_reversible}
 use Rattle.requests.specs.Refusals.{RefusedAs}
-use Rattle.requests.specs.Reasons.{RequestReason, stopped}
+use Rattle.requests.specs.Reasons.{RequestReason, file_refused}
 use Rattle.requests.specs.Steps.{Site, entries_of, Finds, context_of}
 use Rattle.requests.specs.Sessions.{in_shell}
 
@@ -30,34 +30,34 @@ abbrev pub verdict_of : Ran → Verdict
 verdict_of ran = if ran.asked then asks else if list_all is_reversible ran.records then plain else one_way
 
 -- the context of a verdict: for loading, in sh
-abbrev pub judged_in : Site → Text → search.FoundModule → List Entry → Environment → Context
-judged_in s name m xs e = context_of (in_shell s Sh) modes.load false name m.name m.path xs e
+abbrev pub verdict_context : Site → Text → search.FoundModule → List Entry → Environment → FileContext
+verdict_context s name m xs e = context_of (in_shell s Sh) modes.load false name m.name m.path xs e
 
 -- The verdict on the module that a name means. Its file is evaluated for loading in sh, and the typed name is this
 -- name. Conflicts and prereqs aren't judged.
-abbrev pub Judged : Site → Environment → Text → Result Verdict RequestReason → Type 0
-Judged s e name =
+abbrev pub HasVerdict : Site → Environment → Text → Result Verdict RequestReason → Type 0
+HasVerdict s e name =
     Is (entries_of e) >> (λ xs.
     Finds s e name >> (λ m.
-    RefusedAs stopped (RunsFile s.limits (judged_in s name m xs e) m.text) >> (λ ran.
+    RefusedAs file_refused (RunsFile s.limits (verdict_context s name m xs e) m.text) >> (λ ran.
     Is (Ok (verdict_of ran)))))
 
 -- In every context of this module, whatever the mode, the environment, the shell, the typed name and the loaded
 -- modules, its file makes these records or is refused.
-abbrev pub LeavesAlways : Site → search.FoundModule → Ran → Type 0
-LeavesAlways s m ran =
-    (c : Context) (o : Result Ran Stop) → c.name ≡ m.name → c.path ≡ m.path → RunsFile s.limits c m.text o
+abbrev pub AlwaysRecords : Site → search.FoundModule → Ran → Type 0
+AlwaysRecords s m ran =
+    (c : FileContext) (o : Result Ran FileReason) → c.name ≡ m.name → c.path ≡ m.path → RunsFile s.limits c m.text o
     → IsSameOrRefused ran o
 
 -- A module has one verdict at most.
 abbrev pub OneVerdict : Type 0
 OneVerdict =
     (s : Site) (e : Environment) (name : Text) (o p : Result Verdict RequestReason)
-    → Judged s e name o → Judged s e name p → o ≡ p
+    → HasVerdict s e name o → HasVerdict s e name p → o ≡ p
 
 -- A module that is judged plain makes the same records always, and unloading undoes each of them.
 abbrev pub PlainHolds : Type 0
 PlainHolds =
-    (s : Site) (e : Environment) (name : Text) → Judged s e name (Ok plain)
+    (s : Site) (e : Environment) (name : Text) → HasVerdict s e name (Ok plain)
     → (m : search.FoundModule) × (ran : Ran) × Finds s e name (Ok m)
-    × (list_all is_reversible ran.records ≡ true) × LeavesAlways s m ran
+    × (list_all is_reversible ran.records ≡ true) × AlwaysRecords s m ran

@@ -1,6 +1,6 @@
 //! Laws about requests, sessions and verdicts. Each is a function that does nothing: its contract is the law.
-ghost use Rattle.requests.specs.Laws.{OneOutcome, SomeOutcome, StepsLead, StepsAreMade, ReportsLeave};
-ghost use Rattle.requests.specs.Laws.{SessionsRun, SessionsLead, OneSession, SessionsReturn, PlainSessionsReturn, CommandsReturn};
+ghost use Rattle.requests.specs.Laws.{OneOutcome, SomeOutcome, StepsReach, StepsAreMade, ReportsChangeNothing};
+ghost use Rattle.requests.specs.Laws.{SessionsRun, SessionsReach, OneSession, SessionsReturn, PlainSessionsReturn, CommandsReturn};
 ghost use Rattle.requests.specs.PlainRuns.{JudgedIsPlain};
 ghost use Rattle.requests.specs.JudgedRuns.{SomeVerdict, JudgedIsReversible, JudgedSessionsReturn};
 ghost use Rattle.requests.specs.Verdicts.{OneVerdict, PlainHolds};
@@ -10,11 +10,11 @@ ghost use Rattle.requests.specs.Verdicts.{OneVerdict, PlainHolds};
 /// its path. So what the step results in is what its moves make.
 pub fn outcomes()
     ensures one { OneOutcome }
-    ensures lead { StepsLead }
+    ensures reach { StepsReach }
     ensures made { StepsAreMade }
 {
     modulefile::files();
-    defaultfiles::one_left();
+    defaultfiles::one_result();
     modulerecords::laws::moves();
 }
 
@@ -24,19 +24,19 @@ pub fn some_outcome()
     ensures { SomeOutcome }
 {
     modulefile::files();
-    defaultfiles::some_left();
+    defaultfiles::some_result();
 }
 
 /// `list`, `avail`, `show` and `whatis` leave the environment as it is.
 pub fn reports()
-    ensures { ReportsLeave }
+    ensures { ReportsChangeNothing }
 {}
 
 /// A session is a run of what its requests moved: its moves take its first environment to its last. Where no request
 /// was given up, a session has one list of responses.
 pub fn sessions()
     ensures run { SessionsRun }
-    ensures lead { SessionsLead }
+    ensures reach { SessionsReach }
     ensures one { OneSession }
 {
     outcomes();
@@ -93,6 +93,6 @@ pub fn verdicts()
 {
     modulefile::files();
     modulefile::plain();
-    defaultfiles::one_left();
-    defaultfiles::some_left();
+    defaultfiles::one_result();
+    defaultfiles::some_result();
 }

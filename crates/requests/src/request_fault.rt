@@ -38,8 +38,8 @@ impl RequestFault {
         ensures { text_of result ≡ fault_message self.now }
     {
         match self {
-            RequestFault::OutOfMemory => Message::plain("Out of memory"),
-            RequestFault::BadArguments => Message::plain("Bad arguments"),
+            RequestFault::OutOfMemory => Message::of_text("Out of memory"),
+            RequestFault::BadArguments => Message::of_text("Bad arguments"),
             RequestFault::UnknownSubcommand(word) => {
                 Message::quoting("Unknown subcommand '", word.as_str())
             }

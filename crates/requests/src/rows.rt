@@ -31,6 +31,6 @@ pub fn report_rows()
     ensures list { loaded_text (codes "foo/1.0" ∷ []) ≡ codes "Currently Loaded Modulefiles:\nfoo/1.0\n" }
     ensures avail { avail_text [] ((codes "/m", []) ∷ (codes "/n", versions) ∷ [])
         ≡ codes "/n:\nver/1.9(default)\nver/1.10\nver/1.10-rc\n" }
-    ensures wanted { avail_text (codes "ver/1.1" ∷ []) ((codes "/n", versions) ∷ [])
+    ensures selected { avail_text (codes "ver/1.1" ∷ []) ((codes "/n", versions) ∷ [])
         ≡ codes "/n:\nver/1.10\nver/1.10-rc\n" }
 {}

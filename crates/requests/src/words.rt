@@ -1,9 +1,9 @@
 //! Parses the words of a command line into a request (module(1)).
 ghost use Rattle.std.specs.Prelude.{◌≡◌, List, map, IfOk, string_bytes, vec_items, Ok};
-ghost use Rattle.environment.specs.Texts.{Text};
+ghost use Rattle.envvars.specs.Texts.{Text};
 ghost use Rattle.requests.specs.Requests.{RequestedAction, some_names, switch_of, no_names, request_of};
 ghost use Rattle.message.specs.Answers.{Gives};
-ghost use Rattle.requests.specs.RequestViews.{reason_of, asked_view, texts_of};
+ghost use Rattle.requests.specs.RequestViews.{reason_of, action_view, texts_of};
 
 use crate::action::{Action, Request};
 use crate::request_fault::RequestFault;
@@ -34,7 +34,7 @@ fn some_names(alloc: Global, words: &[String]) -> Result<Vec<String>, RequestFau
 
 /// The action, where no name follows the subcommand; else 56.
 fn no_names(action: Action, words: &[String]) -> Result<Action, RequestFault>
-    ensures { Gives reason_of asked_view result (no_names (asked_view action) (map string_bytes words.now)) }
+    ensures { Gives reason_of action_view result (no_names (action_view action) (map string_bytes words.now)) }
 {
     match words {
         [] => Ok(action),
@@ -44,7 +44,7 @@ fn no_names(action: Action, words: &[String]) -> Result<Action, RequestFault>
 
 /// The action of `switch [OLD] NEW`; 56 for any other count of names.
 fn switch_of(words: &[String]) -> Result<Action, RequestFault>
-    ensures { Gives reason_of asked_view result (switch_of (map string_bytes words.now)) }
+    ensures { Gives reason_of action_view result (switch_of (map string_bytes words.now)) }
 {
     match words {
         [new] => Ok(Action::Switch(None, new.clone()?)),
@@ -55,7 +55,7 @@ fn switch_of(words: &[String]) -> Result<Action, RequestFault>
 
 /// The action that the words ask for; the first is the subcommand.
 fn action_of(alloc: Global, words: &[String]) -> Result<Action, RequestFault>
-    ensures { Gives reason_of asked_view result (request_of (map string_bytes words.now)) }
+    ensures { Gives reason_of action_view result (request_of (map string_bytes words.now)) }
 {
     let [word, names @ ..] = words else {
         return Err(RequestFault::BadArguments);
@@ -80,7 +80,7 @@ fn action_of(alloc: Global, words: &[String]) -> Result<Action, RequestFault>
 /// names don't fit it: `load`, `unload`, `show` and `whatis` take at least one, `switch` one or two, `purge` and `list`
 /// none; `OutOfMemory` (31), memory ran out.
 pub fn request(alloc: Global, shell: Shell, words: &[String]) -> Result<Request, RequestFault>
-    ensures action { Gives reason_of (λ request. asked_view request.action) result
+    ensures action { Gives reason_of (λ request. action_view request.action) result
         (request_of (map string_bytes words.now)) }
     ensures shell { IfOk result (λ request. request.shell ≡ shell) }
 {

@@ -3,20 +3,20 @@ use Rattle.std.proofs.Common.{◌≡◌, Bool, true, false, List, [], ◌∷◌,
 use Rattle.std.specs.Prelude.{bytes_eq}
 use Rattle.std.specs.Option.{option_map, option_or}
 use Rattle.std.proofs.lemmas.Bool.{false≢true}
-use Rattle.environment.specs.Texts.{Text}
-use Rattle.environment.specs.Names.{name_reason}
-use Rattle.environment.specs.Environment.{Environment, lookup, with_value}
-use Rattle.environment.specs.Reasons.{EnvReason}
-use Rattle.pathstate.specs.declared.paths.End.TheVariants as ends
-use Rattle.envlaws.specs.Places.{place_of, is_editable}
-use Rattle.envlaws.specs.Places.StatePlace.{Other}
-use Rattle.envlaws.specs.Frames.{EditsVariable, KeepsVariable, KeepsLoaded}
-use Rattle.envlaws.proofs.PlaceLemmas.{no_reason_against}
-use Rattle.envlaws.proofs.FrameLemmas.{add_edits, drop_edits, push_edits, pop_edits, set_edits, path_edits_variable, stack_edits_variable, keeps_other, keeps_loaded, rest_stays}
+use Rattle.envvars.specs.Texts.{Text}
+use Rattle.envvars.specs.Names.{name_reason}
+use Rattle.envvars.specs.Environment.{Environment, lookup, with_value}
+use Rattle.envvars.specs.Reasons.{EnvReason}
+use Rattle.envpaths.specs.declared.edits.End.TheVariants as ends
+use Rattle.envstate.specs.Roles.{role_of, is_editable}
+use Rattle.envstate.specs.Roles.VariableRole.{Other}
+use Rattle.envstate.specs.Frames.{EditsVariable, IsVariableUnchanged, AreLoadedUnchanged}
+use Rattle.envstate.proofs.RoleLemmas.{no_reason_against}
+use Rattle.envstate.proofs.FrameLemmas.{add_edits, drop_edits, push_edits, pop_edits, set_edits, path_edits_variable, stack_edits_variable, keeps_other, keeps_loaded, rest_stays}
 use Rattle.modulerecords.specs.Records.{Record, Set, Unset, Push, Front, Back, Remove, Conflict, Prereq, Whatis, variable_of}
-use Rattle.modulerecords.specs.Judgments.{RecordReason, bad_edit, plain_reason, values_of, record_reason}
-use Rattle.modulerecords.specs.Effects.{Mode, load, unload, loaded_by, unloaded_by, edited, by_edit, permitted, effect}
-use Rattle.reversal.specs.Ways.{is_reversible}
+use Rattle.modulerecords.specs.Judgments.{RecordReason, bad_edit, value_reason, values_of, record_reason}
+use Rattle.modulerecords.specs.Effects.{Mode, load, unload, loaded_by, unloaded_by, edited, edit_outcome, permitted, effect}
+use Rattle.reversal.specs.VariableUses.{is_reversible}
 
 abbrev pub accepted : Environment → Result Environment EnvReason
 accepted e = Ok e
@@ -24,7 +24,7 @@ accepted e = Ok e
 pub same_accepted : (d e : Environment) → accepted d ≡ Ok e → e ≡ d
 same_accepted d e h = cc
 
-permitted_ok : (o : Option RecordReason) (r : Result Environment EnvReason) (new : Environment) → permitted o (by_edit r) ≡ Ok new → (o ≡ None) × (r ≡ Ok new)
+permitted_ok : (o : Option RecordReason) (r : Result Environment EnvReason) (new : Environment) → permitted o (edit_outcome r) ≡ Ok new → (o ≡ None) × (r ≡ Ok new)
 permitted_ok None (Ok e) new h = let s : e ≡ new = cc in (refl, ap (λ (t : Environment). accepted t) s)
 permitted_ok None (Err x) new h = absurd (cc)
 permitted_ok (Some x) r new h = absurd (cc)
@@ -41,8 +41,8 @@ first_none : (o p : Option EnvReason) → option_or o p ≡ None → o ≡ None
 first_none None p h = refl
 first_none (Some x) p h = absurd (cc)
 
-plain_editable : (v : Text) (xs : List Text) → option_map bad_edit (plain_reason v xs) ≡ None → is_editable v ≡ true
-plain_editable v xs h = (no_reason_against v).1 (first_none (name_reason v) _ (mapped_none (plain_reason v xs) h))
+plain_editable : (v : Text) (xs : List Text) → option_map bad_edit (value_reason v xs) ≡ None → is_editable v ≡ true
+plain_editable v xs h = (no_reason_against v).1 (first_none (name_reason v) _ (mapped_none (value_reason v xs) h))
 
 -- nothing but the variable, its counters and its stack
 abbrev pub Touched : Option Text → Environment → Environment → Type 0
@@ -89,17 +89,17 @@ abbrev pub is_named : Text → Option Text → Bool
 is_named w None = false
 is_named w (Some v) = bytes_eq w v
 
-keeps_self : (e : Environment) (w : Text) → KeepsVariable e e w
+keeps_self : (e : Environment) (w : Text) → IsVariableUnchanged e e w
 keeps_self e w = record { value = refl; counters = refl; stack_text = refl; path = λ d. refl; path_order = λ d o. o; stack = refl; stack_order = λ l o. o }
 
-pub kept_variable : (o : Option Text) (old new : Environment) (w : Text) → Touched o old new → is_editable w ≡ true → is_named w o ≡ false → KeepsVariable old new w
-kept_variable None old new w t h k = subst (λ (e : Environment). KeepsVariable old e w) (sym t) (keeps_self old w)
+pub kept_variable : (o : Option Text) (old new : Environment) (w : Text) → Touched o old new → is_editable w ≡ true → is_named w o ≡ false → IsVariableUnchanged old new w
+kept_variable None old new w t h k = subst (λ (e : Environment). IsVariableUnchanged old e w) (sym t) (keeps_self old w)
 kept_variable (Some v) old new w t h k = keeps_other old new v w t h k
 
-pub kept_loaded : (o : Option Text) (old new : Environment) → Touched o old new → KeepsLoaded old new
-kept_loaded None old new t = subst (λ (e : Environment). KeepsLoaded old e) (sym t) (record { list = refl; order = λ o. o })
+pub kept_loaded : (o : Option Text) (old new : Environment) → Touched o old new → AreLoadedUnchanged old new
+kept_loaded None old new t = subst (λ (e : Environment). AreLoadedUnchanged old e) (sym t) (record { list = refl; order = λ o. o })
 kept_loaded (Some v) old new t = keeps_loaded old new v t
 
-pub kept_rest : (o : Option Text) (old new : Environment) (q : Text) → Touched o old new → place_of q ≡ Other → lookup new q ≡ lookup old q
+pub kept_rest : (o : Option Text) (old new : Environment) (q : Text) → Touched o old new → role_of q ≡ Other → lookup new q ≡ lookup old q
 kept_rest None old new q t h = ap (λ (e : Environment). lookup e q) t
 kept_rest (Some v) old new q t h = rest_stays old new v q t h

@@ -5,28 +5,28 @@ use Rattle.std.specs.List.{list_any}
 use Rattle.std.specs.FinMap as finite
 use Rattle.std.proofs.lemmas.Bool.{false≢true}
 use Rattle.std.proofs.lemmas.Option.{same_Some, none-some}
-use Rattle.environment.specs.Texts.{Text, has}
-use Rattle.environment.specs.Names.{share_name, stack_name}
-use Rattle.environment.specs.Environment.{Environment, lookup, with_value}
-use Rattle.environment.specs.Changes.{NewValue}
-use Rattle.environment.specs.Reasons.{EnvReason, unless}
-use Rattle.environment.proofs.EnvLemmas.{lookup-with_value}
-use Rattle.environment.proofs.EditLemmas.{not_is}
-use Rattle.environment.proofs.TableLemmas.{nothing_set}
-use Rattle.pathstate.specs.Paths.{PathState, add_all, drop_all}
-use Rattle.pathstate.specs.PathTexts.{state_of, elements_text, pairs_text}
-use Rattle.pathstate.specs.PathVariables.{path_in, path_reason, counters_fit, with_path, written_path, added_path, dropped_path}
-use Rattle.pathstate.specs.declared.paths.End.{End}
-use Rattle.pathstate.specs.declared.paths.End.TheVariants as ends
-use Rattle.stackstate.specs.Stacks.{StackState, holds, push, pop}
-use Rattle.stackstate.specs.StackTexts.{items_in, stack_text}
-use Rattle.stackstate.specs.StackVariables.{stack_from, stack_in, with_stack, push_reason, pop_reason, pushed_on, pushed_value, popped_from, popped_value}
-use Rattle.loadedlist.specs.LoadedTexts.{names_variable, files_variable, conflicts_variable, prereqs_variable}
-use Rattle.loadedlist.specs.Loaded.{Entry, names_of, names_text, files_text, conflicts_text, prereqs_text, entries_in, loaded_in, with_loaded, can_be_added, kept_once, without_entry, added_to, added_loaded, dropped_from, dropped_loaded}
+use Rattle.envvars.specs.Texts.{Text, has}
+use Rattle.envvars.specs.Names.{share_name, stack_name}
+use Rattle.envvars.specs.Environment.{Environment, lookup, with_value}
+use Rattle.envvars.specs.Changes.{NewValue}
+use Rattle.envvars.specs.Reasons.{EnvReason, unless}
+use Rattle.envvars.proofs.EnvLemmas.{lookup-with_value}
+use Rattle.envvars.proofs.EditLemmas.{not_is}
+use Rattle.envvars.proofs.TableLemmas.{nothing_set}
+use Rattle.envpaths.specs.Paths.{PathState, add_all, drop_all}
+use Rattle.envpaths.specs.PathTexts.{state_of, elements_text, pairs_text}
+use Rattle.envpaths.specs.PathVariables.{path_in, path_reason, counters_fit, with_path, written_path, added_path, dropped_path}
+use Rattle.envpaths.specs.declared.edits.End.{End}
+use Rattle.envpaths.specs.declared.edits.End.TheVariants as ends
+use Rattle.envstacks.specs.Stacks.{StackState, holds, push, pop}
+use Rattle.envstacks.specs.StackTexts.{items_in, stack_text}
+use Rattle.envstacks.specs.StackVariables.{stack_from, stack_in, with_stack, push_reason, pop_reason, pushed_on, pushed_value, popped_from, popped_value}
+use Rattle.envloaded.specs.LoadedTexts.{names_variable, files_variable, conflicts_variable, prereqs_variable}
+use Rattle.envloaded.specs.Loaded.{Entry, names_of, names_text, files_text, conflicts_text, prereqs_text, entries_in, loaded_in, with_loaded, can_be_added, with_conflicts_once, without_entry, added_to, added_loaded, dropped_from, dropped_loaded}
 use Rattle.modulerecords.specs.Records.{Record, Set, Unset, Push, Front, Back, Remove, Conflict, Prereq, Whatis}
 use Rattle.modulerecords.specs.Judgments.{RecordReason, record_reason}
-use Rattle.modulerecords.specs.Effects.{Mode, load, unload, display, whatis, edited, by_edit, permitted, effect, effects, and_then}
-use Rattle.modulerecords.specs.Moves.{Move, Loads, Unloads, entry_of, module_of, mode_of, listed, moved, Fits, Lead}
+use Rattle.modulerecords.specs.Effects.{Mode, load, unload, display, whatis, edited, edit_outcome, permitted, effect, effects, and_then}
+use Rattle.modulerecords.specs.Moves.{Move, Loads, Unloads, entry_of, module_of, mode_of, listed, moved, Fits, MovesReach}
 
 abbrev as_ok : Environment → Result Environment EnvReason
 as_ok e = Ok e
@@ -48,17 +48,17 @@ lookup_seen [] q = nothing_set q
 lookup_seen (c ∷ h) q = lookup-with_value (env h) c.0 c.1 q ∙ ap (cond (bytes_eq q c.0) c.1) (lookup_seen h q)
 
 -- the outcome of the edit is the environment of this history, where there is one
-abbrev pub Comes : Option History → Result Environment EnvReason → Type 0
-Comes None r = Unit {0}
-Comes (Some h) r = r ≡ Ok (env h)
+abbrev pub Corresponds : Option History → Result Environment EnvReason → Type 0
+Corresponds None r = Unit {0}
+Corresponds (Some h) r = r ≡ Ok (env h)
 
 abbrev pub unless_at : Option EnvReason → Option History → Option History
 unless_at None o = o
 unless_at (Some r) o = None
 
-unless_comes : (r : Option EnvReason) (o : Option History) (out : Result Environment EnvReason) → Comes o out → Comes (unless_at r o) (unless r out)
-unless_comes None o out c = c
-unless_comes (Some r) o out c = tt
+unless_corresponds : (r : Option EnvReason) (o : Option History) (out : Result Environment EnvReason) → Corresponds o out → Corresponds (unless_at r o) (unless r out)
+unless_corresponds None o out c = c
+unless_corresponds (Some r) o out c = tt
 
 abbrev pub when : Bool → History → Option History
 when b h = cond b (Some h) None
@@ -80,24 +80,24 @@ abbrev pub added_at : History → Text → ℕ → List Text → End → Option 
 added_at h name delim xs end =
     unless_at (path_reason name delim xs) (when (counters_fit (add_all (path_at h name delim) xs end)) (path_written h name delim (add_all (path_at h name delim) xs end)))
 
-fitting : (h : History) (name : Text) (delim : ℕ) (s : PathState) (b : Bool) → counters_fit s ≡ b → Comes (when b (path_written h name delim s)) (written_path (env h) name delim s)
+fitting : (h : History) (name : Text) (delim : ℕ) (s : PathState) (b : Bool) → counters_fit s ≡ b → Corresponds (when b (path_written h name delim s)) (written_path (env h) name delim s)
 fitting h name delim s true q = rw q refl
 fitting h name delim s false q = tt
 
-added_comes : (h : History) (name : Text) (delim : ℕ) (xs : List Text) (end : End) → Comes (added_at h name delim xs end) (added_path (env h) name delim xs end)
-added_comes h name delim xs end =
-    subst (λ (s : PathState). Comes (added_at h name delim xs end) (unless (path_reason name delim xs) (written_path (env h) name delim (add_all s xs end)))) (sym (path_seen h name delim))
-    (unless_comes (path_reason name delim xs) (when (counters_fit (add_all (path_at h name delim) xs end)) (path_written h name delim (add_all (path_at h name delim) xs end)))
+added_corresponds : (h : History) (name : Text) (delim : ℕ) (xs : List Text) (end : End) → Corresponds (added_at h name delim xs end) (added_path (env h) name delim xs end)
+added_corresponds h name delim xs end =
+    subst (λ (s : PathState). Corresponds (added_at h name delim xs end) (unless (path_reason name delim xs) (written_path (env h) name delim (add_all s xs end)))) (sym (path_seen h name delim))
+    (unless_corresponds (path_reason name delim xs) (when (counters_fit (add_all (path_at h name delim) xs end)) (path_written h name delim (add_all (path_at h name delim) xs end)))
     (written_path (env h) name delim (add_all (path_at h name delim) xs end))
     (fitting h name delim (add_all (path_at h name delim) xs end) (counters_fit (add_all (path_at h name delim) xs end)) refl))
 
 abbrev pub dropped_at : History → Text → ℕ → List Text → Option History
 dropped_at h name delim xs = unless_at (path_reason name delim xs) (Some (path_written h name delim (drop_all (path_at h name delim) xs)))
 
-dropped_comes : (h : History) (name : Text) (delim : ℕ) (xs : List Text) → Comes (dropped_at h name delim xs) (dropped_path (env h) name delim xs)
-dropped_comes h name delim xs =
-    subst (λ (s : PathState). Comes (dropped_at h name delim xs) (unless (path_reason name delim xs) (Ok (with_path (env h) name delim (drop_all s xs))))) (sym (path_seen h name delim))
-    (unless_comes (path_reason name delim xs) (Some (path_written h name delim (drop_all (path_at h name delim) xs))) (Ok (with_path (env h) name delim (drop_all (path_at h name delim) xs))) refl)
+dropped_corresponds : (h : History) (name : Text) (delim : ℕ) (xs : List Text) → Corresponds (dropped_at h name delim xs) (dropped_path (env h) name delim xs)
+dropped_corresponds h name delim xs =
+    subst (λ (s : PathState). Corresponds (dropped_at h name delim xs) (unless (path_reason name delim xs) (Ok (with_path (env h) name delim (drop_all s xs))))) (sym (path_seen h name delim))
+    (unless_corresponds (path_reason name delim xs) (Some (path_written h name delim (drop_all (path_at h name delim) xs))) (Ok (with_path (env h) name delim (drop_all (path_at h name delim) xs))) refl)
 
 -- stacks
 
@@ -116,25 +116,25 @@ abbrev pub push_on : History → Text → Text → Text → Option StackState �
 push_on h name owner value None = None
 push_on h name owner value (Some s) = Some (stack_written h name (push s owner value))
 
-push_comes : (h : History) (name owner value : Text) (s : Option StackState) → Comes (push_on h name owner value s) (pushed_on (env h) name owner value s)
-push_comes h name owner value None = tt
-push_comes h name owner value (Some s) = refl
+push_corresponds : (h : History) (name owner value : Text) (s : Option StackState) → Corresponds (push_on h name owner value s) (pushed_on (env h) name owner value s)
+push_corresponds h name owner value None = tt
+push_corresponds h name owner value (Some s) = refl
 
 abbrev pub pushed_at : History → Text → Text → Text → Option History
 pushed_at h name owner value = unless_at (push_reason name owner value) (push_on h name owner value (stack_at h name))
 
-pushed_comes : (h : History) (name owner value : Text) → Comes (pushed_at h name owner value) (pushed_value (env h) name owner value)
-pushed_comes h name owner value =
-    subst (λ (s : Option StackState). Comes (pushed_at h name owner value) (unless (push_reason name owner value) (pushed_on (env h) name owner value s))) (sym (stack_seen h name))
-    (unless_comes (push_reason name owner value) (push_on h name owner value (stack_at h name)) (pushed_on (env h) name owner value (stack_at h name)) (push_comes h name owner value (stack_at h name)))
+pushed_corresponds : (h : History) (name owner value : Text) → Corresponds (pushed_at h name owner value) (pushed_value (env h) name owner value)
+pushed_corresponds h name owner value =
+    subst (λ (s : Option StackState). Corresponds (pushed_at h name owner value) (unless (push_reason name owner value) (pushed_on (env h) name owner value s))) (sym (stack_seen h name))
+    (unless_corresponds (push_reason name owner value) (push_on h name owner value (stack_at h name)) (pushed_on (env h) name owner value (stack_at h name)) (push_corresponds h name owner value (stack_at h name)))
 
 abbrev pub pop_from : History → Text → Text → Option StackState → Option History
 pop_from h name owner None = None
 pop_from h name owner (Some s) = Some (cond (holds owner s.items) (stack_written h name (pop s owner)) h)
 
-pop_comes : (h : History) (name owner : Text) (s : Option StackState) → Comes (pop_from h name owner s) (popped_from (env h) name owner s)
-pop_comes h name owner None = tt
-pop_comes h name owner (Some s) = go (holds owner s.items) refl
+pop_corresponds : (h : History) (name owner : Text) (s : Option StackState) → Corresponds (pop_from h name owner s) (popped_from (env h) name owner s)
+pop_corresponds h name owner None = tt
+pop_corresponds h name owner (Some s) = go (holds owner s.items) refl
   where
     go : (b : Bool) → holds owner s.items ≡ b → cond (holds owner s.items) (Ok (with_stack (env h) name (pop s owner))) (Ok (env h)) ≡ as_ok (env (cond (holds owner s.items) (stack_written h name (pop s owner)) h))
     go true q = rw q refl
@@ -143,10 +143,10 @@ pop_comes h name owner (Some s) = go (holds owner s.items) refl
 abbrev pub popped_at : History → Text → Text → Option History
 popped_at h name owner = unless_at (pop_reason name owner) (pop_from h name owner (stack_at h name))
 
-popped_comes : (h : History) (name owner : Text) → Comes (popped_at h name owner) (popped_value (env h) name owner)
-popped_comes h name owner =
-    subst (λ (s : Option StackState). Comes (popped_at h name owner) (unless (pop_reason name owner) (popped_from (env h) name owner s))) (sym (stack_seen h name))
-    (unless_comes (pop_reason name owner) (pop_from h name owner (stack_at h name)) (popped_from (env h) name owner (stack_at h name)) (pop_comes h name owner (stack_at h name)))
+popped_corresponds : (h : History) (name owner : Text) → Corresponds (popped_at h name owner) (popped_value (env h) name owner)
+popped_corresponds h name owner =
+    subst (λ (s : Option StackState). Corresponds (popped_at h name owner) (unless (pop_reason name owner) (popped_from (env h) name owner s))) (sym (stack_seen h name))
+    (unless_corresponds (pop_reason name owner) (pop_from h name owner (stack_at h name)) (popped_from (env h) name owner (stack_at h name)) (pop_corresponds h name owner (stack_at h name)))
 
 -- the loaded list
 
@@ -165,33 +165,33 @@ list_written h xs = (prereqs_variable, prereqs_text xs) ∷ (conflicts_variable,
 
 abbrev pub join_at : History → Entry → Option (List Entry) → Option History
 join_at h x None = None
-join_at h x (Some xs) = when (can_be_added xs x) (list_written h (xs ++ kept_once x ∷ []))
+join_at h x (Some xs) = when (can_be_added xs x) (list_written h (xs ++ with_conflicts_once x ∷ []))
 
-join_comes : (h : History) (x : Entry) (o : Option (List Entry)) → Comes (join_at h x o) (added_to (env h) x o)
-join_comes h x None = tt
-join_comes h x (Some xs) = go (can_be_added xs x) refl
+join_corresponds : (h : History) (x : Entry) (o : Option (List Entry)) → Corresponds (join_at h x o) (added_to (env h) x o)
+join_corresponds h x None = tt
+join_corresponds h x (Some xs) = go (can_be_added xs x) refl
   where
-    go : (b : Bool) → can_be_added xs x ≡ b → Comes (when b (list_written h (xs ++ kept_once x ∷ []))) (added_to (env h) x (Some xs))
+    go : (b : Bool) → can_be_added xs x ≡ b → Corresponds (when b (list_written h (xs ++ with_conflicts_once x ∷ []))) (added_to (env h) x (Some xs))
     go true q = rw q refl
     go false q = tt
 
-joined_comes : (h : History) (x : Entry) → Comes (join_at h x (list_at h)) (added_loaded (env h) x)
-joined_comes h x = subst (λ (o : Option (List Entry)). Comes (join_at h x (list_at h)) (added_to (env h) x o)) (sym (list_seen h)) (join_comes h x (list_at h))
+joined_corresponds : (h : History) (x : Entry) → Corresponds (join_at h x (list_at h)) (added_loaded (env h) x)
+joined_corresponds h x = subst (λ (o : Option (List Entry)). Corresponds (join_at h x (list_at h)) (added_to (env h) x o)) (sym (list_seen h)) (join_corresponds h x (list_at h))
 
 abbrev pub leave_at : History → Text → Option (List Entry) → Option History
 leave_at h name None = None
 leave_at h name (Some xs) = Some (cond (has name (names_of xs)) (list_written h (without_entry name xs)) h)
 
-leave_comes : (h : History) (name : Text) (o : Option (List Entry)) → Comes (leave_at h name o) (dropped_from (env h) name o)
-leave_comes h name None = tt
-leave_comes h name (Some xs) = go (has name (names_of xs)) refl
+leave_corresponds : (h : History) (name : Text) (o : Option (List Entry)) → Corresponds (leave_at h name o) (dropped_from (env h) name o)
+leave_corresponds h name None = tt
+leave_corresponds h name (Some xs) = go (has name (names_of xs)) refl
   where
     go : (b : Bool) → has name (names_of xs) ≡ b → cond (has name (names_of xs)) (Ok (with_loaded (env h) (without_entry name xs))) (Ok (env h)) ≡ as_ok (env (cond (has name (names_of xs)) (list_written h (without_entry name xs)) h))
     go true q = rw q refl
     go false q = rw q refl
 
-left_comes : (h : History) (name : Text) → Comes (leave_at h name (list_at h)) (dropped_loaded (env h) name)
-left_comes h name = subst (λ (o : Option (List Entry)). Comes (leave_at h name (list_at h)) (dropped_from (env h) name o)) (sym (list_seen h)) (leave_comes h name (list_at h))
+left_corresponds : (h : History) (name : Text) → Corresponds (leave_at h name (list_at h)) (dropped_loaded (env h) name)
+left_corresponds h name = subst (λ (o : Option (List Entry)). Corresponds (leave_at h name (list_at h)) (dropped_from (env h) name o)) (sym (list_seen h)) (leave_corresponds h name (list_at h))
 
 -- records
 
@@ -209,89 +209,89 @@ edited_at unload owner (Front delim var xs) h = dropped_at h var delim xs
 edited_at unload owner (Back delim var xs) h = dropped_at h var delim xs
 edited_at mode owner r h = Some h
 
-edited_comes : (mode : Mode) (owner : Text) (r : Record) (h : History) → Comes (edited_at mode owner r h) (edited mode owner r (env h))
-edited_comes load owner (Set var value) h = refl
-edited_comes load owner (Unset var value) h = refl
-edited_comes load owner (Push var value) h = pushed_comes h var owner value
-edited_comes load owner (Front delim var xs) h = added_comes h var delim xs ends.Front
-edited_comes load owner (Back delim var xs) h = added_comes h var delim xs ends.Back
-edited_comes load owner (Remove delim var xs) h = dropped_comes h var delim xs
-edited_comes load owner (Conflict xs) h = refl
-edited_comes load owner (Prereq xs) h = refl
-edited_comes load owner (Whatis x) h = refl
-edited_comes unload owner (Set var value) h = refl
-edited_comes unload owner (Unset var None) h = refl
-edited_comes unload owner (Unset var (Some value)) h = refl
-edited_comes unload owner (Push var value) h = popped_comes h var owner
-edited_comes unload owner (Front delim var xs) h = dropped_comes h var delim xs
-edited_comes unload owner (Back delim var xs) h = dropped_comes h var delim xs
-edited_comes unload owner (Remove delim var xs) h = refl
-edited_comes unload owner (Conflict xs) h = refl
-edited_comes unload owner (Prereq xs) h = refl
-edited_comes unload owner (Whatis x) h = refl
-edited_comes display owner r h = refl
-edited_comes whatis owner r h = refl
+edited_corresponds : (mode : Mode) (owner : Text) (r : Record) (h : History) → Corresponds (edited_at mode owner r h) (edited mode owner r (env h))
+edited_corresponds load owner (Set var value) h = refl
+edited_corresponds load owner (Unset var value) h = refl
+edited_corresponds load owner (Push var value) h = pushed_corresponds h var owner value
+edited_corresponds load owner (Front delim var xs) h = added_corresponds h var delim xs ends.Front
+edited_corresponds load owner (Back delim var xs) h = added_corresponds h var delim xs ends.Back
+edited_corresponds load owner (Remove delim var xs) h = dropped_corresponds h var delim xs
+edited_corresponds load owner (Conflict xs) h = refl
+edited_corresponds load owner (Prereq xs) h = refl
+edited_corresponds load owner (Whatis x) h = refl
+edited_corresponds unload owner (Set var value) h = refl
+edited_corresponds unload owner (Unset var None) h = refl
+edited_corresponds unload owner (Unset var (Some value)) h = refl
+edited_corresponds unload owner (Push var value) h = popped_corresponds h var owner
+edited_corresponds unload owner (Front delim var xs) h = dropped_corresponds h var delim xs
+edited_corresponds unload owner (Back delim var xs) h = dropped_corresponds h var delim xs
+edited_corresponds unload owner (Remove delim var xs) h = refl
+edited_corresponds unload owner (Conflict xs) h = refl
+edited_corresponds unload owner (Prereq xs) h = refl
+edited_corresponds unload owner (Whatis x) h = refl
+edited_corresponds display owner r h = refl
+edited_corresponds whatis owner r h = refl
 
 -- the same of effects and moves
-abbrev pub Comes2 : Option History → Result Environment RecordReason → Type 0
-Comes2 None r = Unit {0}
-Comes2 (Some h) r = r ≡ Ok (env h)
+abbrev pub Corresponds2 : Option History → Result Environment RecordReason → Type 0
+Corresponds2 None r = Unit {0}
+Corresponds2 (Some h) r = r ≡ Ok (env h)
 
-by_edit_comes : (o : Option History) (r : Result Environment EnvReason) → Comes o r → Comes2 o (by_edit r)
-by_edit_comes None r c = tt
-by_edit_comes (Some h) r c = ap by_edit c
+edit_outcome_corresponds : (o : Option History) (r : Result Environment EnvReason) → Corresponds o r → Corresponds2 o (edit_outcome r)
+edit_outcome_corresponds None r c = tt
+edit_outcome_corresponds (Some h) r c = ap edit_outcome c
 
 abbrev pub permitted_at : Option RecordReason → Option History → Option History
 permitted_at None o = o
 permitted_at (Some r) o = None
 
-permitted_comes : (r : Option RecordReason) (o : Option History) (out : Result Environment RecordReason) → Comes2 o out → Comes2 (permitted_at r o) (permitted r out)
-permitted_comes None o out c = c
-permitted_comes (Some r) o out c = tt
+permitted_corresponds : (r : Option RecordReason) (o : Option History) (out : Result Environment RecordReason) → Corresponds2 o out → Corresponds2 (permitted_at r o) (permitted r out)
+permitted_corresponds None o out c = c
+permitted_corresponds (Some r) o out c = tt
 
 abbrev pub effect_at : Mode → Text → Record → History → Option History
 effect_at mode owner r h = permitted_at (record_reason r) (edited_at mode owner r h)
 
-effect_comes : (mode : Mode) (owner : Text) (r : Record) (h : History) → Comes2 (effect_at mode owner r h) (effect mode owner r (env h))
-effect_comes mode owner r h =
-    permitted_comes (record_reason r) (edited_at mode owner r h) (by_edit (edited mode owner r (env h)))
-    (by_edit_comes (edited_at mode owner r h) (edited mode owner r (env h)) (edited_comes mode owner r h))
+effect_corresponds : (mode : Mode) (owner : Text) (r : Record) (h : History) → Corresponds2 (effect_at mode owner r h) (effect mode owner r (env h))
+effect_corresponds mode owner r h =
+    permitted_corresponds (record_reason r) (edited_at mode owner r h) (edit_outcome (edited mode owner r (env h)))
+    (edit_outcome_corresponds (edited_at mode owner r h) (edited mode owner r (env h)) (edited_corresponds mode owner r h))
 
 abbrev pub then_at : Option History → (History → Option History) → Option History
 then_at None next = None
 then_at (Some h) next = next h
 
-then_comes : (o : Option History) (next : History → Option History) (out : Result Environment RecordReason) (next_out : Environment → Result Environment RecordReason)
-    → Comes2 o out → ((h : History) → Comes2 (next h) (next_out (env h))) → Comes2 (then_at o next) (and_then out next_out)
-then_comes None next out next_out c d = tt
-then_comes (Some h) next out next_out c d = subst (λ (z : Result Environment RecordReason). Comes2 (next h) (and_then z next_out)) (sym c) (d h)
+then_corresponds : (o : Option History) (next : History → Option History) (out : Result Environment RecordReason) (next_out : Environment → Result Environment RecordReason)
+    → Corresponds2 o out → ((h : History) → Corresponds2 (next h) (next_out (env h))) → Corresponds2 (then_at o next) (and_then out next_out)
+then_corresponds None next out next_out c d = tt
+then_corresponds (Some h) next out next_out c d = subst (λ (z : Result Environment RecordReason). Corresponds2 (next h) (and_then z next_out)) (sym c) (d h)
 
 abbrev pub effects_at : Mode → Text → List Record → History → Option History
 effects_at mode owner [] h = Some h
 effects_at mode owner (r ∷ rs) h = then_at (effect_at mode owner r h) (effects_at mode owner rs)
 
-effects_come : (mode : Mode) (owner : Text) (rs : List Record) (h : History) → Comes2 (effects_at mode owner rs h) (effects mode owner rs (env h))
+effects_come : (mode : Mode) (owner : Text) (rs : List Record) (h : History) → Corresponds2 (effects_at mode owner rs h) (effects mode owner rs (env h))
 effects_come mode owner [] h = refl
 effects_come mode owner (r ∷ rs) h =
-    then_comes (effect_at mode owner r h) (effects_at mode owner rs) (effect mode owner r (env h)) (effects mode owner rs)
-    (effect_comes mode owner r h) (effects_come mode owner rs)
+    then_corresponds (effect_at mode owner r h) (effects_at mode owner rs) (effect mode owner r (env h)) (effects mode owner rs)
+    (effect_corresponds mode owner r h) (effects_come mode owner rs)
 
 abbrev pub listed_at : Move → History → Option History
 listed_at (Loads m) h = join_at h (entry_of m) (list_at h)
 listed_at (Unloads m) h = leave_at h m.name (list_at h)
 
-listed_comes : (m : Move) (h : History) → Comes2 (listed_at m h) (listed m (env h))
-listed_comes (Loads m) h = by_edit_comes (listed_at (Loads m) h) (added_loaded (env h) (entry_of m)) (joined_comes h (entry_of m))
-listed_comes (Unloads m) h = by_edit_comes (listed_at (Unloads m) h) (dropped_loaded (env h) m.name) (left_comes h m.name)
+listed_corresponds : (m : Move) (h : History) → Corresponds2 (listed_at m h) (listed m (env h))
+listed_corresponds (Loads m) h = edit_outcome_corresponds (listed_at (Loads m) h) (added_loaded (env h) (entry_of m)) (joined_corresponds h (entry_of m))
+listed_corresponds (Unloads m) h = edit_outcome_corresponds (listed_at (Unloads m) h) (dropped_loaded (env h) m.name) (left_corresponds h m.name)
 
 abbrev pub moved_at : Move → History → Option History
 moved_at m h = then_at (effects_at (mode_of m) (module_of m).name (module_of m).records h) (listed_at m)
 
-moved_comes : (m : Move) (h : History) → Comes2 (moved_at m h) (moved m (env h))
-moved_comes m h =
-    then_comes (effects_at (mode_of m) (module_of m).name (module_of m).records h) (listed_at m)
+moved_corresponds : (m : Move) (h : History) → Corresponds2 (moved_at m h) (moved m (env h))
+moved_corresponds m h =
+    then_corresponds (effects_at (mode_of m) (module_of m).name (module_of m).records h) (listed_at m)
     (effects (mode_of m) (module_of m).name (module_of m).records (env h)) (listed m)
-    (effects_come (mode_of m) (module_of m).name (module_of m).records h) (listed_comes m)
+    (effects_come (mode_of m) (module_of m).name (module_of m).records h) (listed_corresponds m)
 
 abbrev pub fits_in : Move → Option (List Entry) → Bool
 fits_in m None = false
@@ -308,14 +308,14 @@ abbrev pub played : List Move → History → Option History
 played [] h = Some h
 played (m ∷ ms) h = cond (fits_in m (list_at h)) (then_at (moved_at m h) (played ms)) None
 
-pub played_leads : (ms : List Move) (h last : History) → played ms h ≡ Some last → Lead ms (env h) (env last)
+pub played_leads : (ms : List Move) (h last : History) → played ms h ≡ Some last → MovesReach ms (env h) (env last)
 played_leads [] h last p = ap env (sym (same_Some h last p))
 played_leads (m ∷ ms) h last p = go (λ k q. played_leads ms k last q) (fits_in m (list_at h)) refl p
   where
-    step : ((k : History) → played ms k ≡ Some last → Lead ms (env k) (env last)) → (o : Option History) → Comes2 o (moved m (env h)) → then_at o (played ms) ≡ Some last → (mid : Environment) × (moved m (env h) ≡ Ok mid) × Lead ms mid (env last)
+    step : ((k : History) → played ms k ≡ Some last → MovesReach ms (env k) (env last)) → (o : Option History) → Corresponds2 o (moved m (env h)) → then_at o (played ms) ≡ Some last → (mid : Environment) × (moved m (env h) ≡ Ok mid) × MovesReach ms mid (env last)
     step later None c q = absurd (none-some last q)
     step later (Some k) c q = (env k, c, later k q)
 
-    go : ((k : History) → played ms k ≡ Some last → Lead ms (env k) (env last)) → (b : Bool) → fits_in m (list_at h) ≡ b → cond b (then_at (moved_at m h) (played ms)) None ≡ Some last → Lead (m ∷ ms) (env h) (env last)
-    go later true f q = (fits_by m h (list_at h) refl f, step later (moved_at m h) (moved_comes m h) q)
+    go : ((k : History) → played ms k ≡ Some last → MovesReach ms (env k) (env last)) → (b : Bool) → fits_in m (list_at h) ≡ b → cond b (then_at (moved_at m h) (played ms)) None ≡ Some last → MovesReach (m ∷ ms) (env h) (env last)
+    go later true f q = (fits_by m h (list_at h) refl f, step later (moved_at m h) (moved_corresponds m h) q)
     go later false f q = absurd (none-some last q)

@@ -4,18 +4,18 @@ use Rattle.std.specs.Prelude.{bytes_eq, is_some}
 use Rattle.std.specs.Option.{option_or}
 use Rattle.std.proofs.lemmas.Bool.{false≢true}
 use Rattle.std.proofs.lemmas.Option.{same_Some, none-some}
-use Rattle.environment.specs.Texts.{Text, has}
-use Rattle.environment.specs.Fields.{are_distinct}
-use Rattle.environment.proofs.TextLemmas.{same_text, bytes_eq-symmetric, has-push, or_left, or_right}
-use Rattle.environment.proofs.EditLemmas.{both_true, not_is}
-use Rattle.stackstate.specs.StackRuns.{other_pushes}
-use Rattle.loadedlist.specs.Loaded.{Entry, names_of, without_entry}
-use Rattle.envlaws.proofs.StateLemmas.{names_added}
+use Rattle.envvars.specs.Texts.{Text, has}
+use Rattle.envvars.specs.Fields.{are_distinct}
+use Rattle.envvars.proofs.TextLemmas.{same_text, bytes_eq-symmetric, has-push, or_left, or_right}
+use Rattle.envvars.proofs.EditLemmas.{both_true, not_is}
+use Rattle.envstacks.specs.StackRuns.{other_pushes}
+use Rattle.envloaded.specs.Loaded.{Entry, names_of, without_entry}
+use Rattle.envstate.proofs.StateLemmas.{names_added}
 use Rattle.modulerecords.specs.Moves.{Module, entry_of}
-use Rattle.reversal.specs.Ways.{Way, AllSuit}
+use Rattle.reversal.specs.VariableUses.{VariableUse, AllSuit}
 use Rattle.reversal.specs.Live.{last_set, live_set, adds, live_adds, last_push, with_push, live_pushes, entries_over}
-use Rattle.reversal.specs.Standing.{InAnyOrder, none, next, swap, also}
-use Rattle.reversal.specs.Runs.{live_named, without_live, AreFit}
+use Rattle.reversal.specs.Starts.{IsPermutation, none, next, swap, transitive}
+use Rattle.reversal.specs.Runs.{live_named, without_live, AreReversibleTogether}
 use Rattle.reversal.proofs.ModuleEntries.{entry_once}
 use Rattle.reversal.proofs.OneVariable.{by_test}
 use Rattle.reversal.proofs.OneStack.{popped}
@@ -31,11 +31,11 @@ adds_less w x n (k ∷ live) m h = by_test (bytes_eq n k.name) _
     (λ t. let q : k ≡ m = same_Some k m (rw t at h) in rw t (ap (λ (y : Module). adds w x y.records + live_adds w live x) q))
     (λ t. let i = adds_less w x n live m (rw t at h) in rw t (omega (arith, i)))
 
-pub suits_of : (ways : Text → Way) (n : Text) (live : List Module) (m : Module) → live_named n live ≡ Some m → AreFit ways live → AllSuit ways m.records
-suits_of ways n [] m h f = absurd (none-some m h)
-suits_of ways n (k ∷ live) m h f = by_test (bytes_eq n k.name) _
-    (λ t. let q : k ≡ m = same_Some k m (rw t at h) in subst (λ (y : Module). AllSuit ways y.records) q f.0.suits)
-    (λ t. suits_of ways n live m (rw t at h) f.1)
+pub suits_of : (uses : Text → VariableUse) (n : Text) (live : List Module) (m : Module) → live_named n live ≡ Some m → AreReversibleTogether uses live → AllSuit uses m.records
+suits_of uses n [] m h f = absurd (none-some m h)
+suits_of uses n (k ∷ live) m h f = by_test (bytes_eq n k.name) _
+    (λ t. let q : k ≡ m = same_Some k m (rw t at h) in subst (λ (y : Module). AllSuit uses y.records) q f.0.suits)
+    (λ t. suits_of uses n live m (rw t at h) f.1)
 
 -- what is set
 
@@ -65,57 +65,57 @@ set_same w n (k ∷ live) m h s = by_test (bytes_eq n k.name) _
     (λ t. let q : k ≡ m = same_Some k m (rw t at h) in rw t (ap (λ (o : Option (Option Text)). option_or o (live_set w live)) (sym (ap (λ (z : Module). last_set w z.records) q ∙ s))))
     (λ t. rw t (ap (option_or (last_set w k.records)) (set_same w n live m (rw t at h) s)))
 
-pub set_alone : (ways : Text → Way) (w n : Text) (live : List Module) (m : Module) → live_named n live ≡ Some m → AreFit ways live → is_some (last_set w m.records) ≡ true → live_set w (without_live n live) ≡ None
-set_alone ways w n [] m h f s = refl
-set_alone ways w n (k ∷ live) m h f s = by_test (bytes_eq n k.name) _
-    (λ t. let q : k ≡ m = same_Some k m (rw t at h) in rw t (f.0.alone w (ap (λ (z : Module). is_some (last_set w z.records)) q ∙ s)))
+pub set_alone : (uses : Text → VariableUse) (w n : Text) (live : List Module) (m : Module) → live_named n live ≡ Some m → AreReversibleTogether uses live → is_some (last_set w m.records) ≡ true → live_set w (without_live n live) ≡ None
+set_alone uses w n [] m h f s = refl
+set_alone uses w n (k ∷ live) m h f s = by_test (bytes_eq n k.name) _
+    (λ t. let q : k ≡ m = same_Some k m (rw t at h) in rw t (f.0.sets_apart w (ap (λ (z : Module). is_some (last_set w z.records)) q ∙ s)))
     (λ t. by_test (is_some (last_set w k.records)) _
-    (λ i. absurd (set_there w n live m (rw t at h) s (f.0.alone w i)))
-    (λ i. rw (t, none_of (last_set w k.records) i) (set_alone ways w n live m (rw t at h) f.1 s)))
+    (λ i. absurd (set_there w n live m (rw t at h) s (f.0.sets_apart w i)))
+    (λ i. rw (t, none_of (last_set w k.records) i) (set_alone uses w n live m (rw t at h) f.1 s)))
 
-pub fit_less : (ways : Text → Way) (n : Text) (live : List Module) → AreFit ways live → AreFit ways (without_live n live)
-fit_less ways n [] f = tt
-fit_less ways n (k ∷ live) f = by_test (bytes_eq n k.name) _
+pub fit_less : (uses : Text → VariableUse) (n : Text) (live : List Module) → AreReversibleTogether uses live → AreReversibleTogether uses (without_live n live)
+fit_less uses n [] f = tt
+fit_less uses n (k ∷ live) f = by_test (bytes_eq n k.name) _
     (λ t. rw t f.1)
-    (λ t. rw t (record { suits = f.0.suits; alone = λ v s. set_less v n live (f.0.alone v s) }, fit_less ways n live f.1))
+    (λ t. rw t (record { suits = f.0.suits; sets_apart = λ v s. set_less v n live (f.0.sets_apart v s) }, fit_less uses n live f.1))
 
 -- what is pushed, in any order
 
 abbrev owners : List (Text × Text) → List Text
 owners ps = map (λ p. p.0) ps
 
-pub order_refl : (ps : List (Text × Text)) → InAnyOrder ps ps
+pub order_refl : (ps : List (Text × Text)) → IsPermutation ps ps
 order_refl [] = none
 order_refl (p ∷ ps) = next (order_refl ps)
 
-pub order_with : (m : Text) (o : Option Text) (ps qs : List (Text × Text)) → InAnyOrder ps qs → InAnyOrder (with_push m o ps) (with_push m o qs)
+pub order_with : (m : Text) (o : Option Text) (ps qs : List (Text × Text)) → IsPermutation ps qs → IsPermutation (with_push m o ps) (with_push m o qs)
 order_with m None ps qs h = h
 order_with m (Some v) ps qs h = next h
 
-order_other : (m : Text) (ps qs : List (Text × Text)) → InAnyOrder ps qs → InAnyOrder (other_pushes m ps) (other_pushes m qs)
+order_other : (m : Text) (ps qs : List (Text × Text)) → IsPermutation ps qs → IsPermutation (other_pushes m ps) (other_pushes m qs)
 order_other m ps qs none = none
 order_other m ps qs (next {p = p} {ps = a} {qs = b} h) = by_test (bytes_eq m p.0) _ (λ e. rw e (order_other m a b h)) (λ e. rw e (next (order_other m a b h)))
 order_other m ps qs (swap {p = p} {q = q} {ps = a}) = by_test (bytes_eq m p.0) _
     (λ e. by_test (bytes_eq m q.0) _ (λ g. rw (e, g) (order_refl (other_pushes m a))) (λ g. rw (e, g) (order_refl (q ∷ other_pushes m a))))
     (λ e. by_test (bytes_eq m q.0) _ (λ g. rw (e, g) (order_refl (p ∷ other_pushes m a))) (λ g. rw (e, g) swap))
-order_other m ps qs (also {ps = a} {qs = b} {rs = c} h k) = also (order_other m a b h) (order_other m b c k)
+order_other m ps qs (transitive {ps = a} {qs = b} {rs = c} h k) = transitive (order_other m a b h) (order_other m b c k)
 
-pub order_none : (ps qs : List (Text × Text)) → InAnyOrder ps qs → qs ≡ [] → ps ≡ []
+pub order_none : (ps qs : List (Text × Text)) → IsPermutation ps qs → qs ≡ [] → ps ≡ []
 order_none ps qs none e = refl
 order_none ps qs (next h) e = absurd cc
 order_none ps qs swap e = absurd cc
-order_none ps qs (also {ps = a} {qs = b} {rs = c} h k) e = order_none a b h (order_none b c k e)
+order_none ps qs (transitive {ps = a} {qs = b} {rs = c} h k) e = order_none a b h (order_none b c k e)
 
 or_swap : (a b c : Bool) → (a || (b || c)) ≡ (b || (a || c))
 or_swap true true c = refl
 or_swap true false c = refl
 or_swap false b c = refl
 
-pub order_has : (n : Text) (ps qs : List (Text × Text)) → InAnyOrder ps qs → has n (owners ps) ≡ has n (owners qs)
+pub order_has : (n : Text) (ps qs : List (Text × Text)) → IsPermutation ps qs → has n (owners ps) ≡ has n (owners qs)
 order_has n ps qs none = refl
 order_has n ps qs (next {p = p} {ps = a} {qs = b} h) = ap (λ (t : Bool). bytes_eq n p.0 || t) (order_has n a b h)
 order_has n ps qs (swap {p = p} {q = q} {ps = a}) = or_swap (bytes_eq n p.0) (bytes_eq n q.0) (has n (owners a))
-order_has n ps qs (also {ps = a} {qs = b} {rs = c} h k) = order_has n a b h ∙ order_has n b c k
+order_has n ps qs (transitive {ps = a} {qs = b} {rs = c} h k) = order_has n a b h ∙ order_has n b c k
 
 other_absent : (m : Text) (ps : List (Text × Text)) → has m (owners ps) ≡ false → other_pushes m ps ≡ ps
 other_absent m [] h = refl
@@ -130,7 +130,7 @@ no_push n w (m ∷ live) h = go (last_push w m.records) (or_left (bytes_eq n m.n
     go (Some v) e k = rw e k
 
 -- a module that isn't live has no push
-pub other_live : (n w : Text) (live : List Module) (ps : List (Text × Text)) → InAnyOrder ps (live_pushes w live) → has n (live_names live) ≡ false → other_pushes n ps ≡ ps
+pub other_live : (n w : Text) (live : List Module) (ps : List (Text × Text)) → IsPermutation ps (live_pushes w live) → has n (live_names live) ≡ false → other_pushes n ps ≡ ps
 other_live n w live ps o h = other_absent n ps (order_has n ps (live_pushes w live) o ∙ no_push n w live h)
 
 -- no live module twice
@@ -158,13 +158,13 @@ pushes_same n w (k ∷ live) m h s = by_test (bytes_eq n k.name) _
     (λ t. let q : k ≡ m = same_Some k m (rw t at h) in rw t (ap (λ (o : Option Text). with_push k.name o (live_pushes w live)) (sym (ap (λ (z : Module). last_push w z.records) q ∙ s))))
     (λ t. rw t (ap (with_push k.name (last_push w k.records)) (pushes_same n w live m (rw t at h) s)))
 
-pub order_popped : (n w : Text) (live : List Module) (m : Module) (ps : List (Text × Text)) → live_named n live ≡ Some m → Distinct live → InAnyOrder ps (live_pushes w live)
-    → InAnyOrder (popped n (last_push w m.records) ps) (live_pushes w (without_live n live))
+pub order_popped : (n w : Text) (live : List Module) (m : Module) (ps : List (Text × Text)) → live_named n live ≡ Some m → Distinct live → IsPermutation ps (live_pushes w live)
+    → IsPermutation (popped n (last_push w m.records) ps) (live_pushes w (without_live n live))
 order_popped n w live m ps h d o = go (last_push w m.records) refl
   where
-    go : (q : Option Text) → last_push w m.records ≡ q → InAnyOrder (popped n q ps) (live_pushes w (without_live n live))
-    go None e = subst (InAnyOrder ps) (sym (pushes_same n w live m h e)) o
-    go (Some v) e = subst (InAnyOrder (other_pushes n ps)) (pushes_less n w live d) (order_other n ps (live_pushes w live) o)
+    go : (q : Option Text) → last_push w m.records ≡ q → IsPermutation (popped n q ps) (live_pushes w (without_live n live))
+    go None e = subst (IsPermutation ps) (sym (pushes_same n w live m h e)) o
+    go (Some v) e = subst (IsPermutation (other_pushes n ps)) (pushes_less n w live d) (order_other n ps (live_pushes w live) o)
 
 -- the loaded list
 

@@ -1,12 +1,12 @@
 -- What an accepted load makes.
 use Rattle.std.proofs.Common.{◌≡◌, refl, ap, Result, Ok, Err}
-use Rattle.environment.specs.Environment.{Environment}
-use Rattle.environment.specs.Reasons.{EnvReason}
-use Rattle.loadedlist.specs.Loaded.{added_loaded, dropped_loaded}
-use Rattle.loadedlist.proofs.LoadedEdits.{loaded_after_add}
-use Rattle.envlaws.proofs.FrameLemmas.{add_edits_loaded}
+use Rattle.envvars.specs.Environment.{Environment}
+use Rattle.envvars.specs.Reasons.{EnvReason}
+use Rattle.envloaded.specs.Loaded.{added_loaded, dropped_loaded}
+use Rattle.envloaded.proofs.LoadedEdits.{loaded_after_add}
+use Rattle.envstate.proofs.FrameLemmas.{add_edits_loaded}
 use Rattle.modulerecords.specs.Judgments.{RecordReason}
-use Rattle.modulerecords.specs.Effects.{load, unload, effects, by_edit, and_then}
+use Rattle.modulerecords.specs.Effects.{load, unload, effects, edit_outcome, and_then}
 use Rattle.modulerecords.specs.Moves.{Module, Loads, Unloads, entry_of, listed, moved}
 use Rattle.reversal.specs.Laws.{IsLoad}
 use Rattle.reversal.proofs.Frames.{accepted}
@@ -20,7 +20,7 @@ pub parts : (o : Outcome) (then : Environment → Outcome) (e : Environment) →
 parts (Ok d) then e h = (d, refl, h)
 parts (Err r) then e h = absurd (cc)
 
-by_edit_ok : (r : Result Environment EnvReason) (new : Environment) → by_edit r ≡ Ok new → r ≡ accepted new
+by_edit_ok : (r : Result Environment EnvReason) (new : Environment) → edit_outcome r ≡ Ok new → r ≡ accepted new
 by_edit_ok (Ok e) new h = let s : e ≡ new = cc in ap accepted s
 by_edit_ok (Err x) new h = absurd (cc)
 

@@ -1,9 +1,9 @@
 -- What is lost without a premise.
 use Rattle.std.proofs.Common.{◌≡◌, [], ◌∷◌, sym, ap, ◌∙◌, Some, None, Ok}
 use Rattle.std.proofs.lemmas.Option.{none-some}
-use Rattle.environment.specs.Texts.{Text}
-use Rattle.environment.specs.Environment.{Environment, lookup, with_value}
-use Rattle.environment.proofs.EnvLemmas.{lookup-set}
+use Rattle.envvars.specs.Texts.{Text}
+use Rattle.envvars.specs.Environment.{Environment, lookup, with_value}
+use Rattle.envvars.proofs.EnvLemmas.{lookup-set}
 use Rattle.modulerecords.specs.Records.{Record, Set, Unset}
 use Rattle.modulerecords.specs.Effects.{Mode, load, unload, edited, effect, effects}
 use Rattle.reversal.specs.Losses.{SetLosesValue, UnsetLosesValue, UnsetGivesAnother}

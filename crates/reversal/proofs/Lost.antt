@@ -2,25 +2,25 @@
 use Rattle.std.proofs.Common.{◌≡◌, ℕ, Bool, true, false, cond, List, [], ◌∷◌, refl, sym, ap, ◌∙◌, subst, Option, Some, None, inl}
 use Rattle.std.specs.Prelude.{◌≢◌, bytes_eq, unwrap_or, codes}
 use Rattle.std.proofs.lemmas.Bool.{false≢true}
-use Rattle.environment.specs.Texts.{Text}
-use Rattle.environment.specs.Names.{share_name, stack_name}
-use Rattle.environment.specs.Environment.{Environment, lookup, with_value}
-use Rattle.environment.specs.Fields.{colon}
-use Rattle.environment.specs.Changes.{same_value}
-use Rattle.environment.proofs.TextLemmas.{bytes_eq-same, same_text}
-use Rattle.environment.proofs.EnvLemmas.{same_environment, lookup-with_value}
-use Rattle.pathstate.specs.Paths.{PathState}
-use Rattle.pathstate.specs.PathTexts.{elements_text, pairs_text}
-use Rattle.pathstate.specs.PathOrder.{IsPathInOrder}
-use Rattle.stackstate.specs.StackVariables.{IsStackInOrder}
-use Rattle.loadedlist.specs.LoadedTexts.{names_variable, files_variable, conflicts_variable, prereqs_variable}
-use Rattle.loadedlist.specs.Loaded.{Entry, IsLoadedList, AreLoadedInOrder, names_of, names_text, files_text, conflicts_text, prereqs_text, with_loaded}
+use Rattle.envvars.specs.Texts.{Text}
+use Rattle.envvars.specs.Names.{share_name, stack_name}
+use Rattle.envvars.specs.Environment.{Environment, lookup, with_value}
+use Rattle.envvars.specs.Fields.{colon}
+use Rattle.envvars.specs.Changes.{same_value}
+use Rattle.envvars.proofs.TextLemmas.{bytes_eq-same, same_text}
+use Rattle.envvars.proofs.EnvLemmas.{same_environment, lookup-with_value}
+use Rattle.envpaths.specs.Paths.{PathState}
+use Rattle.envpaths.specs.PathTexts.{elements_text, pairs_text}
+use Rattle.envpaths.specs.PathOrder.{IsPathInOrder}
+use Rattle.envstacks.specs.StackVariables.{IsStackInOrder}
+use Rattle.envloaded.specs.LoadedTexts.{names_variable, files_variable, conflicts_variable, prereqs_variable}
+use Rattle.envloaded.specs.Loaded.{Entry, IsLoadedList, AreLoadedInOrder, names_of, names_text, files_text, conflicts_text, prereqs_text, with_loaded}
 use Rattle.modulerecords.specs.Records.{Record, Set, Unset, Back, Remove}
 use Rattle.modulerecords.specs.Moves.{Module, Move, Loads, Unloads}
-use Rattle.reversal.specs.Ways.{Way, Untouched, Fixed, Pathed, Stacked}
-use Rattle.reversal.specs.Standing.{IsStart}
+use Rattle.reversal.specs.VariableUses.{VariableUse, Untouched, Fixed, Pathed, Stacked}
+use Rattle.reversal.specs.Starts.{IsStart}
 use Rattle.reversal.specs.Runs.{live_after}
-use Rattle.reversal.specs.Examples.{of_kind, in_way, apart, alive, unchanged, HasPart, OtherParts, only_way, Lose, first_module, second_module, variable, there_and_back, crossed, add_front, push_value, EmptyPath, CounterOfNone, BottomAlone, HiddenValue, OtherEscapes, OwnerNotLoaded, ValueBeforeSet, OtherValue, EmptyLists, NeedsOfNone, ConflictTwice, IllSpelled, EmptyGroup, UnsetWithoutValue, ElementRemoved, OtherRecords, StartUnloaded, SetAndPushed, UnsetAndPushed, AddedAndPushed, TwoDelimiters, SetByTwo}
+use Rattle.reversal.specs.Examples.{of_kind, follows_use, apart, alive, unchanged, HasPart, OtherParts, only_use, Lose, first_module, second_module, variable, there_and_back, crossed, add_front, push_value, EmptyPath, CounterOfNone, BottomAlone, HiddenValue, OtherEscapes, OwnerNotLoaded, ValueBeforeSet, OtherValue, EmptyLists, NeedsOfNone, ConflictTwice, IllSpelled, EmptyGroup, UnsetWithoutValue, ElementRemoved, OtherRecords, StartUnloaded, SetAndPushed, UnsetAndPushed, AddedAndPushed, TwoDelimiters, SetByTwo}
 use Rattle.reversal.proofs.OneVariable.{by_test}
 use Rattle.reversal.proofs.Histories.{History, env, seen, lookup_seen, path_at, path_seen, played, played_leads}
 
@@ -38,7 +38,7 @@ differ a b d e = false≢true (sym d ∙ ap (same_value a) (sym e) ∙ same a)
 lose : (ms : List Move) (h : History) (q : Text) → played ms h ≡ Some (end_of ms h) → live_after [] ms ≡ [] → same_value (seen (end_of ms h) q) (seen h q) ≡ false → Lose (env h) ms
 lose ms h q p n d = record {
   end = env (end_of ms h);
-  lead = played_leads ms h (end_of ms h) p;
+  reach = played_leads ms h (end_of ms h) p;
   none = n;
   lost = λ e. differ (seen (end_of ms h) q) (seen h q) d (sym (lookup_seen (end_of ms h) q) ∙ ap (λ (t : Environment). lookup t q) e ∙ lookup_seen h q);
 }
@@ -86,32 +86,32 @@ a1_listed h n f c p = listed h a1 (record { each = record { each = refl; names =
 
 -- a start, by its one variable
 
-abbrev AtStart : Way → Environment → Text → Type 0
+abbrev AtStart : VariableUse → Environment → Text → Type 0
 AtStart Untouched e name = Unit {0}
 AtStart (Fixed value) e name = lookup e name ≡ value
 AtStart (Pathed delim) e name = IsPathInOrder e name delim
 AtStart Stacked e name = lookup e (stack_name name) ≡ None
 
-this_way : (name v : Text) (way other : Way) → bytes_eq v name ≡ true → only_way name way v ≡ other → way ≡ other
-this_way name v way other t q = rw t at q
+this_way : (name v : Text) (variable_use other : VariableUse) → bytes_eq v name ≡ true → only_use name variable_use v ≡ other → variable_use ≡ other
+this_way name v variable_use other t q = rw t at q
 
-no_way : (name v : Text) (way other : Way) → bytes_eq v name ≡ false → only_way name way v ≡ other → Untouched ≡ other
-no_way name v way other t q = rw t at q
+no_way : (name v : Text) (variable_use other : VariableUse) → bytes_eq v name ≡ false → only_use name variable_use v ≡ other → Untouched ≡ other
+no_way name v variable_use other t q = rw t at q
 
-start_at : (name : Text) (way : Way) (e : Environment) → AreLoadedInOrder e → AtStart way e name → IsStart (only_way name way) e
-start_at name way e l a = record {
+start_at : (name : Text) (variable_use : VariableUse) (e : Environment) → AreLoadedInOrder e → AtStart variable_use e name → IsStart (only_use name variable_use) e
+start_at name variable_use e l a = record {
   order = record {
     loaded = l;
     paths = λ v d f q. by_test (bytes_eq v name) _
-        (λ t. subst (λ (z : Text). IsPathInOrder e z d) (sym (same_text v name t)) (subst (λ (y : Way). AtStart y e name) (this_way name v way (Pathed d) t q) a))
-        (λ t. let z = no_way name v way (Pathed d) t q in absurd cc);
+        (λ t. subst (λ (z : Text). IsPathInOrder e z d) (sym (same_text v name t)) (subst (λ (y : VariableUse). AtStart y e name) (this_way name v variable_use (Pathed d) t q) a))
+        (λ t. let z = no_way name v variable_use (Pathed d) t q in absurd cc);
     stacks = λ v xs f q i. by_test (bytes_eq v name) _
-        (λ t. subst (λ (z : Text). IsStackInOrder (names_of xs) e z) (sym (same_text v name t)) (inl (subst (λ (y : Way). AtStart y e name) (this_way name v way Stacked t q) a)))
-        (λ t. let z = no_way name v way Stacked t q in absurd cc);
+        (λ t. subst (λ (z : Text). IsStackInOrder (names_of xs) e z) (sym (same_text v name t)) (inl (subst (λ (y : VariableUse). AtStart y e name) (this_way name v variable_use Stacked t q) a)))
+        (λ t. let z = no_way name v variable_use Stacked t q in absurd cc);
   };
   fixed = λ v value f q. by_test (bytes_eq v name) _
-      (λ t. subst (λ (z : Text). lookup e z ≡ value) (sym (same_text v name t)) (subst (λ (y : Way). AtStart y e name) (this_way name v way (Fixed value) t q) a))
-      (λ t. let z = no_way name v way (Fixed value) t q in absurd cc);
+      (λ t. subst (λ (z : Text). lookup e z ≡ value) (sym (same_text v name t)) (subst (λ (y : VariableUse). AtStart y e name) (this_way name v variable_use (Fixed value) t q) a))
+      (λ t. let z = no_way name v variable_use (Fixed value) t q in absurd cc);
 }
 
 path_ordered : (h : History) (name : Text) (delim : ℕ) → seen h name ≡ elements_text delim (path_at h name delim).elements → seen h (share_name name) ≡ pairs_text (path_at h name delim) → IsPathInOrder (env h) name delim
@@ -124,7 +124,7 @@ pub empty_path : EmptyPath
 empty_path =
     let h : History = (codes "V", Some ([])) ∷ [] in
     record {
-      reversible = (record { suits = ((refl, refl), tt); alone = λ v s. refl }, (record { loaded = _; found = refl; records = refl }, tt));
+      reversible = (record { suits = ((refl, refl), tt); sets_apart = λ v s. refl }, (record { loaded = _; found = refl; records = refl }, tt));
       listed = nothing_listed h refl refl refl refl;
       lose = lose _ h (codes "V") refl refl refl;
     }
@@ -133,7 +133,7 @@ pub counter_of_none : CounterOfNone
 counter_of_none =
     let h : History = (codes "V", Some (codes "/b")) ∷ (codes "__MODULES_SHARE_V", Some (codes "/z:3")) ∷ [] in
     record {
-      reversible = (record { suits = ((refl, refl), tt); alone = λ v s. refl }, (record { loaded = _; found = refl; records = refl }, tt));
+      reversible = (record { suits = ((refl, refl), tt); sets_apart = λ v s. refl }, (record { loaded = _; found = refl; records = refl }, tt));
       listed = nothing_listed h refl refl refl refl;
       lose = lose _ h (codes "__MODULES_SHARE_V") refl refl refl;
     }
@@ -142,7 +142,7 @@ pub bottom_alone : BottomAlone
 bottom_alone =
     let h : History = (codes "V", Some (codes "y")) ∷ (codes "__MODULES_PUSHENV_V", Some (codes "&y")) ∷ [] in
     record {
-      reversible = (record { suits = ((refl, refl), tt); alone = λ v s. refl }, (record { loaded = _; found = refl; records = refl }, tt));
+      reversible = (record { suits = ((refl, refl), tt); sets_apart = λ v s. refl }, (record { loaded = _; found = refl; records = refl }, tt));
       listed = nothing_listed h refl refl refl refl;
       lose = lose _ h (codes "__MODULES_PUSHENV_V") refl refl refl;
     }
@@ -151,7 +151,7 @@ pub hidden_value : HiddenValue
 hidden_value =
     let h : History = (codes "LOADEDMODULES", Some (codes "a/1")) ∷ (codes "_LMFILES_", Some (codes "/m/a/1")) ∷ (codes "V", Some (codes "z")) ∷ (codes "__MODULES_PUSHENV_V", Some (codes "a/1&y")) ∷ [] in
     record {
-      reversible = (record { suits = ((refl, refl), tt); alone = λ v s. refl }, (record { loaded = _; found = refl; records = refl }, tt));
+      reversible = (record { suits = ((refl, refl), tt); sets_apart = λ v s. refl }, (record { loaded = _; found = refl; records = refl }, tt));
       listed = a1_listed h refl refl refl refl;
       lose = lose _ h (codes "V") refl refl refl;
     }
@@ -160,7 +160,7 @@ pub other_escapes : OtherEscapes
 other_escapes =
     let h : History = (codes "LOADEDMODULES", Some (codes "a/1")) ∷ (codes "_LMFILES_", Some (codes "/m/a/1")) ∷ (codes "V", Some (codes "\\y")) ∷ (codes "__MODULES_PUSHENV_V", Some (codes "a/1&\\y")) ∷ [] in
     record {
-      reversible = (record { suits = ((refl, refl), tt); alone = λ v s. refl }, (record { loaded = _; found = refl; records = refl }, tt));
+      reversible = (record { suits = ((refl, refl), tt); sets_apart = λ v s. refl }, (record { loaded = _; found = refl; records = refl }, tt));
       listed = a1_listed h refl refl refl refl;
       lose = lose _ h (codes "__MODULES_PUSHENV_V") refl refl refl;
     }
@@ -169,7 +169,7 @@ pub owner_not_loaded : OwnerNotLoaded
 owner_not_loaded =
     let h : History = (codes "V", Some (codes "y")) ∷ (codes "__MODULES_PUSHENV_V", Some (codes "m/1&y")) ∷ [] in
     record {
-      reversible = (record { suits = ((refl, refl), tt); alone = λ v s. refl }, (record { loaded = _; found = refl; records = refl }, tt));
+      reversible = (record { suits = ((refl, refl), tt); sets_apart = λ v s. refl }, (record { loaded = _; found = refl; records = refl }, tt));
       listed = nothing_listed h refl refl refl refl;
       lose = lose _ h (codes "V") refl refl refl;
     }
@@ -178,7 +178,7 @@ pub value_before_set : ValueBeforeSet
 value_before_set =
     let h : History = (codes "V", Some (codes "y")) ∷ [] in
     record {
-      reversible = (record { suits = ((refl, refl), tt); alone = λ v s. refl }, (record { loaded = _; found = refl; records = refl }, tt));
+      reversible = (record { suits = ((refl, refl), tt); sets_apart = λ v s. refl }, (record { loaded = _; found = refl; records = refl }, tt));
       listed = nothing_listed h refl refl refl refl;
       lose = lose _ h (codes "V") refl refl refl;
     }
@@ -187,7 +187,7 @@ pub other_value : OtherValue
 other_value =
     let h : History = (codes "V", Some (codes "y")) ∷ [] in
     record {
-      reversible = (record { suits = ((refl, refl), tt); alone = λ v s. refl }, (record { loaded = _; found = refl; records = refl }, tt));
+      reversible = (record { suits = ((refl, refl), tt); sets_apart = λ v s. refl }, (record { loaded = _; found = refl; records = refl }, tt));
       listed = nothing_listed h refl refl refl refl;
       lose = lose _ h (codes "V") refl refl refl;
     }
@@ -195,63 +195,63 @@ other_value =
 pub empty_lists : EmptyLists
 empty_lists =
     let h : History = (codes "LOADEDMODULES", Some ([])) ∷ (codes "_LMFILES_", Some ([])) ∷ [] in
-    record { reversible = (record { suits = tt; alone = λ v s. refl }, (record { loaded = _; found = refl; records = refl }, tt)); lose = lose _ h (codes "LOADEDMODULES") refl refl refl }
+    record { reversible = (record { suits = tt; sets_apart = λ v s. refl }, (record { loaded = _; found = refl; records = refl }, tt)); lose = lose _ h (codes "LOADEDMODULES") refl refl refl }
 
 pub needs_of_none : NeedsOfNone
 needs_of_none =
     let h : History = (codes "__MODULES_LMPREREQ", Some (codes "z/1&k")) ∷ [] in
-    record { reversible = (record { suits = tt; alone = λ v s. refl }, (record { loaded = _; found = refl; records = refl }, tt)); lose = lose _ h (codes "__MODULES_LMPREREQ") refl refl refl }
+    record { reversible = (record { suits = tt; sets_apart = λ v s. refl }, (record { loaded = _; found = refl; records = refl }, tt)); lose = lose _ h (codes "__MODULES_LMPREREQ") refl refl refl }
 
 pub conflict_twice : ConflictTwice
 conflict_twice =
     let h : History = (codes "LOADEDMODULES", Some (codes "a/1")) ∷ (codes "_LMFILES_", Some (codes "/m/a/1")) ∷ (codes "__MODULES_LMCONFLICT", Some (codes "a/1&k&k")) ∷ [] in
-    record { reversible = (record { suits = tt; alone = λ v s. refl }, (record { loaded = _; found = refl; records = refl }, tt)); lose = lose _ h (codes "__MODULES_LMCONFLICT") refl refl refl }
+    record { reversible = (record { suits = tt; sets_apart = λ v s. refl }, (record { loaded = _; found = refl; records = refl }, tt)); lose = lose _ h (codes "__MODULES_LMCONFLICT") refl refl refl }
 
 pub ill_spelled : IllSpelled
 ill_spelled =
     let h : History = (codes "LOADEDMODULES", Some (codes "a/1")) ∷ (codes "_LMFILES_", Some (codes "/m/a/1")) ∷ (codes "__MODULES_LMPREREQ", Some (codes "a/1&k|.l")) ∷ [] in
-    record { reversible = (record { suits = tt; alone = λ v s. refl }, (record { loaded = _; found = refl; records = refl }, tt)); lose = lose _ h (codes "__MODULES_LMPREREQ") refl refl refl }
+    record { reversible = (record { suits = tt; sets_apart = λ v s. refl }, (record { loaded = _; found = refl; records = refl }, tt)); lose = lose _ h (codes "__MODULES_LMPREREQ") refl refl refl }
 
 pub empty_group : EmptyGroup
 empty_group =
     let h : History = (codes "LOADEDMODULES", Some (codes "a/1")) ∷ (codes "_LMFILES_", Some (codes "/m/a/1")) ∷ (codes "__MODULES_LMPREREQ", Some (codes "a/1&k&")) ∷ [] in
-    record { reversible = (record { suits = tt; alone = λ v s. refl }, (record { loaded = _; found = refl; records = refl }, tt)); lose = lose _ h (codes "__MODULES_LMPREREQ") refl refl refl }
+    record { reversible = (record { suits = tt; sets_apart = λ v s. refl }, (record { loaded = _; found = refl; records = refl }, tt)); lose = lose _ h (codes "__MODULES_LMPREREQ") refl refl refl }
 
 -- every part but one
-but_kind : (ways : Text → Way) (ms : List Move) → HasPart in_way ways [] ms → HasPart apart ways [] ms → HasPart alive ways [] ms → HasPart unchanged ways [] ms → OtherParts of_kind ways ms
-but_kind ways ms w a l u of_kind n = absurd (n refl)
-but_kind ways ms w a l u in_way n = w
-but_kind ways ms w a l u apart n = a
-but_kind ways ms w a l u alive n = l
-but_kind ways ms w a l u unchanged n = u
+but_kind : (uses : Text → VariableUse) (ms : List Move) → HasPart follows_use uses [] ms → HasPart apart uses [] ms → HasPart alive uses [] ms → HasPart unchanged uses [] ms → OtherParts of_kind uses ms
+but_kind uses ms w a l u of_kind n = absurd (n refl)
+but_kind uses ms w a l u follows_use n = w
+but_kind uses ms w a l u apart n = a
+but_kind uses ms w a l u alive n = l
+but_kind uses ms w a l u unchanged n = u
 
-but_way : (ways : Text → Way) (ms : List Move) → HasPart of_kind ways [] ms → HasPart apart ways [] ms → HasPart alive ways [] ms → HasPart unchanged ways [] ms → OtherParts in_way ways ms
-but_way ways ms k a l u of_kind n = k
-but_way ways ms k a l u in_way n = absurd (n refl)
-but_way ways ms k a l u apart n = a
-but_way ways ms k a l u alive n = l
-but_way ways ms k a l u unchanged n = u
+but_way : (uses : Text → VariableUse) (ms : List Move) → HasPart of_kind uses [] ms → HasPart apart uses [] ms → HasPart alive uses [] ms → HasPart unchanged uses [] ms → OtherParts follows_use uses ms
+but_way uses ms k a l u of_kind n = k
+but_way uses ms k a l u follows_use n = absurd (n refl)
+but_way uses ms k a l u apart n = a
+but_way uses ms k a l u alive n = l
+but_way uses ms k a l u unchanged n = u
 
-but_apart : (ways : Text → Way) (ms : List Move) → HasPart of_kind ways [] ms → HasPart in_way ways [] ms → HasPart alive ways [] ms → HasPart unchanged ways [] ms → OtherParts apart ways ms
-but_apart ways ms k w l u of_kind n = k
-but_apart ways ms k w l u in_way n = w
-but_apart ways ms k w l u apart n = absurd (n refl)
-but_apart ways ms k w l u alive n = l
-but_apart ways ms k w l u unchanged n = u
+but_apart : (uses : Text → VariableUse) (ms : List Move) → HasPart of_kind uses [] ms → HasPart follows_use uses [] ms → HasPart alive uses [] ms → HasPart unchanged uses [] ms → OtherParts apart uses ms
+but_apart uses ms k w l u of_kind n = k
+but_apart uses ms k w l u follows_use n = w
+but_apart uses ms k w l u apart n = absurd (n refl)
+but_apart uses ms k w l u alive n = l
+but_apart uses ms k w l u unchanged n = u
 
-but_alive : (ways : Text → Way) (ms : List Move) → HasPart of_kind ways [] ms → HasPart in_way ways [] ms → HasPart apart ways [] ms → HasPart unchanged ways [] ms → OtherParts alive ways ms
-but_alive ways ms k w a u of_kind n = k
-but_alive ways ms k w a u in_way n = w
-but_alive ways ms k w a u apart n = a
-but_alive ways ms k w a u alive n = absurd (n refl)
-but_alive ways ms k w a u unchanged n = u
+but_alive : (uses : Text → VariableUse) (ms : List Move) → HasPart of_kind uses [] ms → HasPart follows_use uses [] ms → HasPart apart uses [] ms → HasPart unchanged uses [] ms → OtherParts alive uses ms
+but_alive uses ms k w a u of_kind n = k
+but_alive uses ms k w a u follows_use n = w
+but_alive uses ms k w a u apart n = a
+but_alive uses ms k w a u alive n = absurd (n refl)
+but_alive uses ms k w a u unchanged n = u
 
-but_unchanged : (ways : Text → Way) (ms : List Move) → HasPart of_kind ways [] ms → HasPart in_way ways [] ms → HasPart apart ways [] ms → HasPart alive ways [] ms → OtherParts unchanged ways ms
-but_unchanged ways ms k w a l of_kind n = k
-but_unchanged ways ms k w a l in_way n = w
-but_unchanged ways ms k w a l apart n = a
-but_unchanged ways ms k w a l alive n = l
-but_unchanged ways ms k w a l unchanged n = absurd (n refl)
+but_unchanged : (uses : Text → VariableUse) (ms : List Move) → HasPart of_kind uses [] ms → HasPart follows_use uses [] ms → HasPart apart uses [] ms → HasPart alive uses [] ms → OtherParts unchanged uses ms
+but_unchanged uses ms k w a l of_kind n = k
+but_unchanged uses ms k w a l follows_use n = w
+but_unchanged uses ms k w a l apart n = a
+but_unchanged uses ms k w a l alive n = l
+but_unchanged uses ms k w a l unchanged n = absurd (n refl)
 
 -- the records of a module that is found
 abbrev records_in : Option Module → List Record
@@ -266,7 +266,7 @@ unset_without_value =
     let h : History = (codes "V", Some (codes "y")) ∷ [] in
     record {
       begins = start_at variable Untouched (env h) (nothing_listed h refl refl refl refl) tt;
-      others = but_kind (only_way variable Untouched) (there_and_back (Unset variable None)) ((tt, tt), (tt, tt)) ((λ v s. refl), (tt, tt)) (tt, ((_, refl), tt)) (tt, ((λ loaded f. ap records_in f), tt));
+      others = but_kind (only_use variable Untouched) (there_and_back (Unset variable None)) ((tt, tt), (tt, tt)) ((λ v s. refl), (tt, tt)) (tt, ((_, refl), tt)) (tt, ((λ loaded f. ap records_in f), tt));
       lose = lose _ h (codes "V") refl refl refl;
     }
 
@@ -275,7 +275,7 @@ element_removed =
     let h : History = (codes "V", Some (codes "/a:/b")) ∷ [] in
     record {
       begins = start_at variable (Pathed colon) (env h) (nothing_listed h refl refl refl refl) (path_ordered h variable colon refl refl);
-      others = but_kind (only_way variable (Pathed colon)) (there_and_back (Remove colon variable (codes "/a" ∷ []))) ((tt, tt), (tt, tt)) ((λ v s. refl), (tt, tt)) (tt, ((_, refl), tt)) (tt, ((λ loaded f. ap records_in f), tt));
+      others = but_kind (only_use variable (Pathed colon)) (there_and_back (Remove colon variable (codes "/a" ∷ []))) ((tt, tt), (tt, tt)) ((λ v s. refl), (tt, tt)) (tt, ((_, refl), tt)) (tt, ((λ loaded f. ap records_in f), tt));
       lose = lose _ h (codes "V") refl refl refl;
     }
 
@@ -284,7 +284,7 @@ other_records =
     let h : History = (codes "V", Some (codes "/b")) ∷ [] in
     record {
       begins = start_at variable (Pathed colon) (env h) (nothing_listed h refl refl refl refl) (path_ordered h variable colon refl refl);
-      others = but_unchanged (only_way variable (Pathed colon)) (Loads (first_module (add_front ∷ [])) ∷ Unloads (first_module []) ∷ []) (refl, (tt, tt)) ((refl, tt), (tt, tt)) ((λ v s. refl), (tt, tt)) (tt, ((_, refl), tt));
+      others = but_unchanged (only_use variable (Pathed colon)) (Loads (first_module (add_front ∷ [])) ∷ Unloads (first_module []) ∷ []) (refl, (tt, tt)) ((refl, tt), (tt, tt)) ((λ v s. refl), (tt, tt)) (tt, ((_, refl), tt));
       lose = lose _ h (codes "V") refl refl refl;
     }
 
@@ -293,16 +293,16 @@ start_unloaded =
     let h : History = (codes "LOADEDMODULES", Some (codes "a/1")) ∷ (codes "_LMFILES_", Some (codes "/m/a/1")) ∷ [] in
     record {
       begins = start_at variable Untouched (env h) (a1_listed h refl refl refl refl) tt;
-      others = but_alive (only_way variable Untouched) (Unloads (record { name = codes "a/1"; path = codes "/m/a/1"; records = [] }) ∷ []) (tt, tt) (tt, tt) (tt, tt) ((λ loaded f. absurd (nothing_found loaded f)), tt);
+      others = but_alive (only_use variable Untouched) (Unloads (record { name = codes "a/1"; path = codes "/m/a/1"; records = [] }) ∷ []) (tt, tt) (tt, tt) (tt, tt) ((λ loaded f. absurd (nothing_found loaded f)), tt);
       lose = lose _ h (codes "LOADEDMODULES") refl refl refl;
     }
 
 -- modules that are loaded, and unloaded in that order
-crossed_alive : (ways : Text → Way) (r s : Record) → HasPart alive ways [] (crossed r s)
-crossed_alive ways r s = (tt, (tt, ((_, refl), ((_, refl), tt))))
+crossed_alive : (uses : Text → VariableUse) (r s : Record) → HasPart alive uses [] (crossed r s)
+crossed_alive uses r s = (tt, (tt, ((_, refl), ((_, refl), tt))))
 
-crossed_unchanged : (ways : Text → Way) (r s : Record) → HasPart unchanged ways [] (crossed r s)
-crossed_unchanged ways r s = (tt, (tt, ((λ loaded f. ap records_in f), ((λ loaded f. ap records_in f), tt))))
+crossed_unchanged : (uses : Text → VariableUse) (r s : Record) → HasPart unchanged uses [] (crossed r s)
+crossed_unchanged uses r s = (tt, (tt, ((λ loaded f. ap records_in f), ((λ loaded f. ap records_in f), tt))))
 
 pub set_and_pushed : SetAndPushed
 set_and_pushed =
@@ -310,7 +310,7 @@ set_and_pushed =
     record {
       in_one = record {
         begins = start_at variable (Fixed None) (env h) (nothing_listed h refl refl refl refl) (lookup_seen h variable);
-        others = but_way (only_way variable (Fixed None)) (crossed (Set variable (codes "y")) push_value) (refl, (refl, (tt, (tt, tt)))) ((λ v s. refl), ((λ v s. absurd (false≢true s)), (tt, (tt, tt)))) (crossed_alive (λ v. Untouched) _ _) (crossed_unchanged (λ v. Untouched) _ _);
+        others = but_way (only_use variable (Fixed None)) (crossed (Set variable (codes "y")) push_value) (refl, (refl, (tt, (tt, tt)))) ((λ v s. refl), ((λ v s. absurd (false≢true s)), (tt, (tt, tt)))) (crossed_alive (λ v. Untouched) _ _) (crossed_unchanged (λ v. Untouched) _ _);
         lose = lose _ h (codes "V") refl refl refl;
       };
       in_other = start_at variable Stacked (env h) (nothing_listed h refl refl refl refl) (lookup_seen h (stack_name variable));
@@ -324,7 +324,7 @@ unset_and_pushed =
     record {
       in_one = record {
         begins = start_at variable (Fixed (Some (codes "y"))) (env h) (nothing_listed h refl refl refl refl) (lookup_seen h variable);
-        others = but_way (only_way variable (Fixed (Some (codes "y")))) (crossed (Unset variable (Some (codes "y"))) push_value) (refl, (refl, (tt, (tt, tt)))) ((λ v s. refl), ((λ v s. absurd (false≢true s)), (tt, (tt, tt)))) (crossed_alive (λ v. Untouched) _ _) (crossed_unchanged (λ v. Untouched) _ _);
+        others = but_way (only_use variable (Fixed (Some (codes "y")))) (crossed (Unset variable (Some (codes "y"))) push_value) (refl, (refl, (tt, (tt, tt)))) ((λ v s. refl), ((λ v s. absurd (false≢true s)), (tt, (tt, tt)))) (crossed_alive (λ v. Untouched) _ _) (crossed_unchanged (λ v. Untouched) _ _);
         lose = lose _ h (codes "V") refl refl refl;
       };
       in_other = start_at variable Stacked (env h) (nothing_listed h refl refl refl refl) (lookup_seen h (stack_name variable));
@@ -338,7 +338,7 @@ added_and_pushed =
     record {
       in_one = record {
         begins = start_at variable (Pathed colon) (env h) (nothing_listed h refl refl refl refl) (path_ordered h variable colon refl refl);
-        others = but_way (only_way variable (Pathed colon)) (crossed add_front push_value) (refl, (refl, (tt, (tt, tt)))) ((λ v s. refl), ((λ v s. refl), (tt, (tt, tt)))) (crossed_alive (λ v. Untouched) _ _) (crossed_unchanged (λ v. Untouched) _ _);
+        others = but_way (only_use variable (Pathed colon)) (crossed add_front push_value) (refl, (refl, (tt, (tt, tt)))) ((λ v s. refl), ((λ v s. refl), (tt, (tt, tt)))) (crossed_alive (λ v. Untouched) _ _) (crossed_unchanged (λ v. Untouched) _ _);
         lose = lose _ h (codes "V") refl refl refl;
       };
       in_other = start_at variable Stacked (env h) (nothing_listed h refl refl refl refl) (lookup_seen h (stack_name variable));
@@ -352,7 +352,7 @@ two_delimiters =
     record {
       in_one = record {
         begins = start_at variable (Pathed colon) (env h) (nothing_listed h refl refl refl refl) (path_ordered h variable colon refl refl);
-        others = but_way (only_way variable (Pathed colon)) (crossed (Back colon variable (codes "b" ∷ [])) (Back 59 variable (codes "c" ∷ []))) (refl, (refl, (tt, (tt, tt)))) ((λ v s. refl), ((λ v s. refl), (tt, (tt, tt)))) (crossed_alive (λ v. Untouched) _ _) (crossed_unchanged (λ v. Untouched) _ _);
+        others = but_way (only_use variable (Pathed colon)) (crossed (Back colon variable (codes "b" ∷ [])) (Back 59 variable (codes "c" ∷ []))) (refl, (refl, (tt, (tt, tt)))) ((λ v s. refl), ((λ v s. refl), (tt, (tt, tt)))) (crossed_alive (λ v. Untouched) _ _) (crossed_unchanged (λ v. Untouched) _ _);
         lose = lose _ h (codes "V") refl refl refl;
       };
       in_other = start_at variable (Pathed 59) (env h) (nothing_listed h refl refl refl refl) (path_ordered h variable 59 refl refl);
@@ -366,8 +366,8 @@ set_by_two = Loads (first_module (Set variable (codes "x") ∷ [])) ∷ Loads (s
 pub set_by_two_falls : SetByTwo
 set_by_two_falls = record {
   begins = start_at variable (Fixed None) (env []) (nothing_listed [] refl refl refl refl) (lookup_seen [] variable);
-  others = but_apart (only_way variable (Fixed None)) set_by_two (refl, (refl, (tt, tt))) ((refl, tt), ((refl, tt), (tt, tt))) (tt, (tt, ((_, refl), tt))) (tt, (tt, ((λ loaded f. ap records_in f), tt)));
+  others = but_apart (only_use variable (Fixed None)) set_by_two (refl, (refl, (tt, tt))) ((refl, tt), ((refl, tt), (tt, tt))) (tt, (tt, ((_, refl), tt))) (tt, (tt, ((λ loaded f. ap records_in f), tt)));
   end = env (end_of set_by_two []);
-  lead = played_leads set_by_two [] (end_of set_by_two []) refl;
-  fallen = λ s. differ (seen (end_of set_by_two []) variable) (Some (codes "y")) refl (sym (lookup_seen (end_of set_by_two []) variable) ∙ (s.variables variable refl).value);
+  reach = played_leads set_by_two [] (end_of set_by_two []) refl;
+  differs = λ s. differ (seen (end_of set_by_two []) variable) (Some (codes "y")) refl (sym (lookup_seen (end_of set_by_two []) variable) ∙ (s.variables variable refl).value);
 }

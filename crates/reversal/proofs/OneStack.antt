@@ -4,24 +4,24 @@ use Rattle.std.specs.Prelude.{bytes_eq}
 use Rattle.std.specs.List.{list_all}
 use Rattle.std.specs.Option.{option_or}
 use Rattle.modulename.specs.ModuleName.{is_module_name}
-use Rattle.environment.specs.Texts.{Text, has}
-use Rattle.environment.specs.Names.{share_name}
-use Rattle.environment.specs.Fields.{without}
-use Rattle.environment.specs.Environment.{Environment, lookup}
-use Rattle.environment.proofs.TextLemmas.{bytes_eq-same, has-without}
-use Rattle.environment.proofs.EditLemmas.{both_true, and_both}
-use Rattle.stackstate.specs.Stacks.{OwnedValue, StackState, holds}
-use Rattle.stackstate.specs.StackRuns.{IsOwnedStart, other_pushes, standing}
-use Rattle.stackstate.specs.StackVariables.{stack_in, is_loaded_owner, IsStackInOrder, pushed_value, popped_value}
-use Rattle.stackstate.proofs.StackLemmas.{push-standing, pop-standing}
-use Rattle.stackstate.proofs.StackAfter.{stack_after_push, stack_after_pop}
-use Rattle.stackstate.proofs.StackInOrder.{push_in_order, pop_in_order}
-use Rattle.envlaws.specs.Places.{is_editable}
-use Rattle.envlaws.specs.Frames.{KeepsVariable}
-use Rattle.envlaws.proofs.FrameLemmas.{push_edits, pop_edits, stack_edits_variable}
+use Rattle.envvars.specs.Texts.{Text, has}
+use Rattle.envvars.specs.Names.{share_name}
+use Rattle.envvars.specs.Fields.{without}
+use Rattle.envvars.specs.Environment.{Environment, lookup}
+use Rattle.envvars.proofs.TextLemmas.{bytes_eq-same, has-without}
+use Rattle.envvars.proofs.EditLemmas.{both_true, and_both}
+use Rattle.envstacks.specs.Stacks.{OwnedValue, StackState, holds}
+use Rattle.envstacks.specs.StackRuns.{IsOwnedStart, other_pushes, start_with_pushes}
+use Rattle.envstacks.specs.StackVariables.{stack_in, is_loaded_owner, IsStackInOrder, pushed_value, popped_value}
+use Rattle.envstacks.proofs.StackLemmas.{push-start_with_pushes, pop-start_with_pushes}
+use Rattle.envstacks.proofs.StackAfter.{stack_after_push, stack_after_pop}
+use Rattle.envstacks.proofs.StackInOrder.{push_in_order, pop_in_order}
+use Rattle.envstate.specs.Roles.{is_editable}
+use Rattle.envstate.specs.Frames.{IsVariableUnchanged}
+use Rattle.envstate.proofs.FrameLemmas.{push_edits, pop_edits, stack_edits_variable}
 use Rattle.modulerecords.specs.Records.{Record, variable_of}
 use Rattle.modulerecords.specs.Effects.{load, unload, effect, effects}
-use Rattle.reversal.specs.Ways.{Way, Stacked, Suits, AllSuit}
+use Rattle.reversal.specs.VariableUses.{VariableUse, Stacked, Suits, AllSuit}
 use Rattle.reversal.specs.Live.{push_by, last_push, with_push}
 use Rattle.reversal.proofs.Frames.{effect_edits, loads, unloads, is_named}
 use Rattle.reversal.proofs.Loads.{parts}
@@ -49,34 +49,34 @@ less_has o m xs h = (both_true (not (bytes_eq o m)) (has o xs) (sym (has-without
 
 -- a stack with these pushes on what was under them
 
-pub record StackAt (b e : Environment) (w : Text) (loaded : List Text) (under : StackState) (ps : List (Text × Text)) : Type 0 where
+pub record StackAt (b e : Environment) (w : Text) (loaded : List Text) (base : StackState) (ps : List (Text × Text)) : Type 0 where
   pub order : IsStackInOrder loaded e w
-  pub state : stack_in e w ≡ Some (standing under ps)
+  pub state : stack_in e w ≡ Some (start_with_pushes base ps)
   pub counters : lookup e (share_name w) ≡ lookup b (share_name w)
 
-pub stack_kept : (b old new : Environment) (w : Text) (loaded : List Text) (under : StackState) (ps : List (Text × Text)) → KeepsVariable old new w → StackAt b old w loaded under ps → StackAt b new w loaded under ps
-stack_kept b old new w loaded under ps k p = record { order = k.stack_order loaded p.order; state = k.stack ∙ p.state; counters = k.counters ∙ p.counters }
+pub stack_kept : (b old new : Environment) (w : Text) (loaded : List Text) (base : StackState) (ps : List (Text × Text)) → IsVariableUnchanged old new w → StackAt b old w loaded base ps → StackAt b new w loaded base ps
+stack_kept b old new w loaded base ps k p = record { order = k.stack_order loaded p.order; state = k.stack ∙ p.state; counters = k.counters ∙ p.counters }
 
 -- what is known of the module and of the start
-pub record Pusher (owner : Text) (loaded : List Text) (under : StackState) : Type 0 where
+pub record Pusher (owner : Text) (loaded : List Text) (base : StackState) : Type 0 where
   pub names : list_all is_module_name loaded ≡ true
   pub there : has owner loaded ≡ true
-  pub start : IsOwnedStart under
-  pub foreign : holds owner under.items ≡ false
+  pub start : IsOwnedStart base
+  pub foreign : holds owner base.items ≡ false
 
-push_at : (b old new : Environment) (w owner x : Text) (loaded : List Text) (under : StackState) (ps : List (Text × Text)) → Pusher owner loaded under → pushed_value old w owner x ≡ Ok new
-    → StackAt b old w loaded under ps → StackAt b new w loaded under ((owner, x) ∷ other_pushes owner ps)
-push_at b old new w owner x loaded under ps m h p = record {
+push_at : (b old new : Environment) (w owner x : Text) (loaded : List Text) (base : StackState) (ps : List (Text × Text)) → Pusher owner loaded base → pushed_value old w owner x ≡ Ok new
+    → StackAt b old w loaded base ps → StackAt b new w loaded base ((owner, x) ∷ other_pushes owner ps)
+push_at b old new w owner x loaded base ps m h p = record {
   order = push_in_order loaded old new w owner x m.names m.there p.order h;
-  state = stack_after_push old new w owner x (standing under ps) p.state h ∙ ap (λ (s : StackState). Some s) (push-standing under ps owner x m.foreign);
+  state = stack_after_push old new w owner x (start_with_pushes base ps) p.state h ∙ ap (λ (s : StackState). Some s) (push-start_with_pushes base ps owner x m.foreign);
   counters = (stack_edits_variable old new w (push_edits old new w owner x h)).1 ∙ p.counters;
 }
 
-pop_at : (b old new : Environment) (w owner : Text) (loaded : List Text) (under : StackState) (ps : List (Text × Text)) → Pusher owner loaded under → popped_value old w owner ≡ Ok new
-    → StackAt b old w loaded under ps → StackAt b new w loaded under (other_pushes owner ps)
-pop_at b old new w owner loaded under ps m h p = record {
+pop_at : (b old new : Environment) (w owner : Text) (loaded : List Text) (base : StackState) (ps : List (Text × Text)) → Pusher owner loaded base → popped_value old w owner ≡ Ok new
+    → StackAt b old w loaded base ps → StackAt b new w loaded base (other_pushes owner ps)
+pop_at b old new w owner loaded base ps m h p = record {
   order = more_loaded (without owner loaded) loaded new w (λ o. less_has o owner loaded) (pop_in_order loaded old new w owner m.names p.order h);
-  state = stack_after_pop old new w owner (standing under ps) p.state h ∙ ap (λ (s : StackState). Some s) (pop-standing under ps owner m.start m.foreign);
+  state = stack_after_pop old new w owner (start_with_pushes base ps) p.state h ∙ ap (λ (s : StackState). Some s) (pop-start_with_pushes base ps owner m.start m.foreign);
   counters = (stack_edits_variable old new w (pop_edits old new w owner h)).1 ∙ p.counters;
 }
 
@@ -86,29 +86,29 @@ pub other_with : (owner : Text) (o : Option Text) (ps : List (Text × Text)) →
 other_with owner None ps h = h
 other_with owner (Some v) ps h = rw (bytes_eq-same owner) h
 
-load_push : (ways : Text → Way) (owner w : Text) (r : Record) (b old new : Environment) (loaded : List Text) (under : StackState) (o : Option Text) (ps : List (Text × Text)) → ways w ≡ Stacked → Suits ways r → is_editable w ≡ true
-    → Pusher owner loaded under → other_pushes owner ps ≡ ps → effect load owner r old ≡ Ok new
-    → StackAt b old w loaded under (with_push owner o ps) → StackAt b new w loaded under (with_push owner (option_or (push_by w r) o) ps)
-load_push ways owner w r b old new loaded under o ps h s f m q e p = by_test (is_named w (variable_of r)) _
-    (λ t. let u = uses_stack ways w r h s t in
-    subst (λ (z : Option Text). StackAt b new w loaded under (with_push owner (option_or z o) ps)) (sym u.by)
-    (subst (λ (z : List (Text × Text)). StackAt b new w loaded under ((owner, u.value) ∷ z)) (other_with owner o ps q)
-    (push_at b old new w owner u.value loaded under (with_push owner o ps) m (sym (u.loads owner old) ∙ (effect_edits load owner r old new e).1) p)))
-    (λ t. subst (λ (z : Option Text). StackAt b new w loaded under (with_push owner (option_or z o) ps)) (sym (push_by_none w r t))
-    (stack_kept b old new w loaded under (with_push owner o ps) (one_keeps load loads ways owner w r old new s f e t) p))
+load_push : (uses : Text → VariableUse) (owner w : Text) (r : Record) (b old new : Environment) (loaded : List Text) (base : StackState) (o : Option Text) (ps : List (Text × Text)) → uses w ≡ Stacked → Suits uses r → is_editable w ≡ true
+    → Pusher owner loaded base → other_pushes owner ps ≡ ps → effect load owner r old ≡ Ok new
+    → StackAt b old w loaded base (with_push owner o ps) → StackAt b new w loaded base (with_push owner (option_or (push_by w r) o) ps)
+load_push uses owner w r b old new loaded base o ps h s f m q e p = by_test (is_named w (variable_of r)) _
+    (λ t. let u = uses_stack uses w r h s t in
+    subst (λ (z : Option Text). StackAt b new w loaded base (with_push owner (option_or z o) ps)) (sym u.by)
+    (subst (λ (z : List (Text × Text)). StackAt b new w loaded base ((owner, u.value) ∷ z)) (other_with owner o ps q)
+    (push_at b old new w owner u.value loaded base (with_push owner o ps) m (sym (u.loads owner old) ∙ (effect_edits load owner r old new e).1) p)))
+    (λ t. subst (λ (z : Option Text). StackAt b new w loaded base (with_push owner (option_or z o) ps)) (sym (push_by_none w r t))
+    (stack_kept b old new w loaded base (with_push owner o ps) (one_keeps load loads uses owner w r old new s f e t) p))
 
 or_assoc : (x y z : Option Text) → option_or x (option_or y z) ≡ option_or (option_or x y) z
 or_assoc None y z = refl
 or_assoc (Some v) y z = refl
 
-pub loads_push : (ways : Text → Way) (owner w : Text) (rs : List Record) (b old new : Environment) (loaded : List Text) (under : StackState) (o : Option Text) (ps : List (Text × Text)) → ways w ≡ Stacked → AllSuit ways rs → is_editable w ≡ true
-    → Pusher owner loaded under → other_pushes owner ps ≡ ps → effects load owner rs old ≡ Ok new
-    → StackAt b old w loaded under (with_push owner o ps) → StackAt b new w loaded under (with_push owner (option_or (last_push w rs) o) ps)
-loads_push ways owner w [] b old new loaded under o ps h s f m q e p = let i : old ≡ new = cc in subst (λ (c : Environment). StackAt b c w loaded under (with_push owner o ps)) i p
-loads_push ways owner w (r ∷ rs) b old new loaded under o ps h s f m q e p =
+pub loads_push : (uses : Text → VariableUse) (owner w : Text) (rs : List Record) (b old new : Environment) (loaded : List Text) (base : StackState) (o : Option Text) (ps : List (Text × Text)) → uses w ≡ Stacked → AllSuit uses rs → is_editable w ≡ true
+    → Pusher owner loaded base → other_pushes owner ps ≡ ps → effects load owner rs old ≡ Ok new
+    → StackAt b old w loaded base (with_push owner o ps) → StackAt b new w loaded base (with_push owner (option_or (last_push w rs) o) ps)
+loads_push uses owner w [] b old new loaded base o ps h s f m q e p = let i : old ≡ new = cc in subst (λ (c : Environment). StackAt b c w loaded base (with_push owner o ps)) i p
+loads_push uses owner w (r ∷ rs) b old new loaded base o ps h s f m q e p =
     let i = parts (effect load owner r old) (effects load owner rs) new e in
-    subst (λ (z : Option Text). StackAt b new w loaded under (with_push owner z ps)) (or_assoc (last_push w rs) (push_by w r) o)
-    (loads_push ways owner w rs b i.0 new loaded under (option_or (push_by w r) o) ps h s.1 f m q i.2 (load_push ways owner w r b old i.0 loaded under o ps h s.0 f m q i.1 p))
+    subst (λ (z : Option Text). StackAt b new w loaded base (with_push owner z ps)) (or_assoc (last_push w rs) (push_by w r) o)
+    (loads_push uses owner w rs b i.0 new loaded base (option_or (push_by w r) o) ps h s.1 f m q i.2 (load_push uses owner w r b old i.0 loaded base o ps h s.0 f m q i.1 p))
 
 -- an unload
 
@@ -121,26 +121,26 @@ other_other owner (p ∷ ps) = by_test (bytes_eq owner p.0) _
 abbrev pub popped : Text → Option Text → List (Text × Text) → List (Text × Text)
 popped owner o ps = pick o ps (other_pushes owner ps)
 
-unload_push : (ways : Text → Way) (owner w : Text) (r : Record) (b old new : Environment) (loaded : List Text) (under : StackState) (ps : List (Text × Text)) → ways w ≡ Stacked → Suits ways r → is_editable w ≡ true
-    → Pusher owner loaded under → effect unload owner r old ≡ Ok new
-    → StackAt b old w loaded under ps → StackAt b new w loaded under (popped owner (push_by w r) ps)
-unload_push ways owner w r b old new loaded under ps h s f m e p = by_test (is_named w (variable_of r)) _
-    (λ t. let u = uses_stack ways w r h s t in
-    subst (λ (z : Option Text). StackAt b new w loaded under (popped owner z ps)) (sym u.by)
-    (pop_at b old new w owner loaded under ps m (sym (u.unloads owner old) ∙ (effect_edits unload owner r old new e).1) p))
-    (λ t. subst (λ (z : Option Text). StackAt b new w loaded under (popped owner z ps)) (sym (push_by_none w r t))
-    (stack_kept b old new w loaded under ps (one_keeps unload unloads ways owner w r old new s f e t) p))
+unload_push : (uses : Text → VariableUse) (owner w : Text) (r : Record) (b old new : Environment) (loaded : List Text) (base : StackState) (ps : List (Text × Text)) → uses w ≡ Stacked → Suits uses r → is_editable w ≡ true
+    → Pusher owner loaded base → effect unload owner r old ≡ Ok new
+    → StackAt b old w loaded base ps → StackAt b new w loaded base (popped owner (push_by w r) ps)
+unload_push uses owner w r b old new loaded base ps h s f m e p = by_test (is_named w (variable_of r)) _
+    (λ t. let u = uses_stack uses w r h s t in
+    subst (λ (z : Option Text). StackAt b new w loaded base (popped owner z ps)) (sym u.by)
+    (pop_at b old new w owner loaded base ps m (sym (u.unloads owner old) ∙ (effect_edits unload owner r old new e).1) p))
+    (λ t. subst (λ (z : Option Text). StackAt b new w loaded base (popped owner z ps)) (sym (push_by_none w r t))
+    (stack_kept b old new w loaded base ps (one_keeps unload unloads uses owner w r old new s f e t) p))
 
 popped_both : (owner : Text) (x y : Option Text) (ps : List (Text × Text)) → popped owner x (popped owner y ps) ≡ popped owner (option_or x y) ps
 popped_both owner None y ps = refl
 popped_both owner (Some v) None ps = refl
 popped_both owner (Some v) (Some u) ps = other_other owner ps
 
-pub unloads_push : (ways : Text → Way) (owner w : Text) (rs : List Record) (b old new : Environment) (loaded : List Text) (under : StackState) (ps : List (Text × Text)) → ways w ≡ Stacked → AllSuit ways rs → is_editable w ≡ true
-    → Pusher owner loaded under → effects unload owner rs old ≡ Ok new
-    → StackAt b old w loaded under ps → StackAt b new w loaded under (popped owner (last_push w rs) ps)
-unloads_push ways owner w [] b old new loaded under ps h s f m e p = let i : old ≡ new = cc in subst (λ (c : Environment). StackAt b c w loaded under ps) i p
-unloads_push ways owner w (r ∷ rs) b old new loaded under ps h s f m e p =
+pub unloads_push : (uses : Text → VariableUse) (owner w : Text) (rs : List Record) (b old new : Environment) (loaded : List Text) (base : StackState) (ps : List (Text × Text)) → uses w ≡ Stacked → AllSuit uses rs → is_editable w ≡ true
+    → Pusher owner loaded base → effects unload owner rs old ≡ Ok new
+    → StackAt b old w loaded base ps → StackAt b new w loaded base (popped owner (last_push w rs) ps)
+unloads_push uses owner w [] b old new loaded base ps h s f m e p = let i : old ≡ new = cc in subst (λ (c : Environment). StackAt b c w loaded base ps) i p
+unloads_push uses owner w (r ∷ rs) b old new loaded base ps h s f m e p =
     let i = parts (effect unload owner r old) (effects unload owner rs) new e in
-    subst (λ (z : List (Text × Text)). StackAt b new w loaded under z) (popped_both owner (last_push w rs) (push_by w r) ps)
-    (unloads_push ways owner w rs b i.0 new loaded under (popped owner (push_by w r) ps) h s.1 f m i.2 (unload_push ways owner w r b old i.0 loaded under ps h s.0 f m i.1 p))
+    subst (λ (z : List (Text × Text)). StackAt b new w loaded base z) (popped_both owner (last_push w rs) (push_by w r) ps)
+    (unloads_push uses owner w rs b i.0 new loaded base (popped owner (push_by w r) ps) h s.1 f m i.2 (unload_push uses owner w r b old i.0 loaded base ps h s.0 f m i.1 p))

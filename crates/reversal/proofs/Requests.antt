@@ -1,22 +1,22 @@
 -- Runs of requests are runs of their moves.
 use Rattle.std.proofs.Common.{◌≡◌, List, [], ◌∷◌, ◌++◌, refl, sym, ap, ◌∙◌, subst}
-use Rattle.environment.specs.Environment.{Environment}
-use Rattle.modulerecords.specs.Moves.{Move, Lead}
-use Rattle.modulerecords.proofs.Moved.{leads_go_on}
+use Rattle.envvars.specs.Environment.{Environment}
+use Rattle.modulerecords.specs.Moves.{Move, MovesReach}
+use Rattle.modulerecords.proofs.Moved.{reach_composes}
 use Rattle.reversal.specs.Runs.{AreReversible}
-use Rattle.reversal.specs.Requests.{RequestOutcome, accepted, refused, moves_of, all_moves, RequestLeads, RunLeads}
+use Rattle.reversal.specs.Requests.{RequestOutcome, accepted, refused, moves_of, all_moves, RequestReaches, RequestsReach}
 use Rattle.reversal.specs.Laws.{RequestsReturn}
 use Rattle.reversal.proofs.WholeRuns.{runs_return, front_reversible}
 
-comes_by : (o : RequestOutcome) (old new : Environment) → RequestLeads o old new → Lead (moves_of o) old new
+comes_by : (o : RequestOutcome) (old new : Environment) → RequestReaches o old new → MovesReach (moves_of o) old new
 comes_by (accepted moves) old new h = h
 comes_by refused old new h = h
 
-run_by : (os : List RequestOutcome) (old new : Environment) → RunLeads os old new → Lead (all_moves os) old new
-run_by [] old new h = h
-run_by (o ∷ os) old new h = leads_go_on (moves_of o) (all_moves os) old h.0 new (comes_by o old h.0 h.1) (run_by os h.0 new h.2)
+moves_by_requests : (os : List RequestOutcome) (old new : Environment) → RequestsReach os old new → MovesReach (all_moves os) old new
+moves_by_requests [] old new h = h
+moves_by_requests (o ∷ os) old new h = reach_composes (moves_of o) (all_moves os) old h.0 new (comes_by o old h.0 h.1) (moves_by_requests os h.0 new h.2)
 
-run_parts : (done rest : List RequestOutcome) (old new : Environment) → RunLeads (done ++ rest) old new → (mid : Environment) × RunLeads done old mid × RunLeads rest mid new
+run_parts : (done rest : List RequestOutcome) (old new : Environment) → RequestsReach (done ++ rest) old new → (mid : Environment) × RequestsReach done old mid × RequestsReach rest mid new
 run_parts [] rest old new h = (old, refl, h)
 run_parts (o ∷ done) rest old new h = let p = run_parts done rest h.0 new h.2 in (p.0, (h.0, h.1, p.1), p.2)
 
@@ -29,7 +29,7 @@ moves_parts [] rest = refl
 moves_parts (o ∷ done) rest = ap (λ (l : List Move). moves_of o ++ l) (moves_parts done rest) ∙ sym (joined (moves_of o) (all_moves done) (all_moves rest))
 
 pub requests_return : RequestsReturn
-requests_return ways b e done rest s r h =
+requests_return uses b e done rest s r h =
     let p = run_parts done rest b e h in
-    let f = front_reversible ways [] (all_moves done) (all_moves rest) (subst (AreReversible ways []) (moves_parts done rest) r) in
-    (p.0, p.1, p.2, runs_return ways b p.0 (all_moves done) s f (run_by done b p.0 p.1))
+    let f = front_reversible uses [] (all_moves done) (all_moves rest) (subst (AreReversible uses []) (moves_parts done rest) r) in
+    (p.0, p.1, p.2, runs_return uses b p.0 (all_moves done) s f (moves_by_requests done b p.0 p.1))

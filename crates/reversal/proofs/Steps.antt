@@ -6,31 +6,31 @@ use Rattle.std.specs.Option.{option_or}
 use Rattle.std.proofs.lemmas.Bool.{false≢true}
 use Rattle.std.proofs.lemmas.Option.{same_Some}
 use Rattle.modulename.specs.ModuleName.{is_module_name}
-use Rattle.environment.specs.Texts.{Text, has}
-use Rattle.environment.specs.Fields.{without}
-use Rattle.environment.specs.Environment.{Environment, lookup}
-use Rattle.environment.proofs.TextLemmas.{same_text, bytes_eq-same}
-use Rattle.environment.proofs.EditLemmas.{both_true}
-use Rattle.stackstate.specs.Stacks.{OwnedValue, StackState, is_owner, holds}
-use Rattle.stackstate.specs.StackRuns.{IsOwnedStart, standing}
-use Rattle.stackstate.specs.StackVariables.{stack_in, is_loaded_owner, IsStackInOrder}
-use Rattle.stackstate.proofs.StackInOrder.{order_of_fewer}
-use Rattle.loadedlist.specs.Loaded.{Entry, names_of, loaded_in, AreLoadedInOrder}
-use Rattle.loadedlist.proofs.LoadedEdits.{loaded_after_add}
-use Rattle.loadedlist.proofs.LoadedOrder.{add_in_order, drop_keeps_order}
-use Rattle.envlaws.specs.Places.{place_of, is_editable}
-use Rattle.envlaws.specs.Places.StatePlace.{Other}
-use Rattle.envlaws.specs.Frames.{KeepsVariable, KeepsLoaded}
-use Rattle.envlaws.specs.EnvLaws.{AreSound}
-use Rattle.envlaws.proofs.FrameLemmas.{add_edits_loaded, drop_edits_loaded, loaded_keeps, loaded_rest_stays}
-use Rattle.envlaws.proofs.StateLemmas.{start_of, standing_absent, names_dropped, list_in_order, dropped_list}
+use Rattle.envvars.specs.Texts.{Text, has}
+use Rattle.envvars.specs.Fields.{without}
+use Rattle.envvars.specs.Environment.{Environment, lookup}
+use Rattle.envvars.proofs.TextLemmas.{same_text, bytes_eq-same}
+use Rattle.envvars.proofs.EditLemmas.{both_true}
+use Rattle.envstacks.specs.Stacks.{OwnedValue, StackState, is_owner, holds}
+use Rattle.envstacks.specs.StackRuns.{IsOwnedStart, start_with_pushes}
+use Rattle.envstacks.specs.StackVariables.{stack_in, is_loaded_owner, IsStackInOrder}
+use Rattle.envstacks.proofs.StackInOrder.{order_of_fewer}
+use Rattle.envloaded.specs.Loaded.{Entry, names_of, loaded_in, AreLoadedInOrder}
+use Rattle.envloaded.proofs.LoadedEdits.{loaded_after_add}
+use Rattle.envloaded.proofs.LoadedOrder.{add_in_order, drop_keeps_order}
+use Rattle.envstate.specs.Roles.{role_of, is_editable}
+use Rattle.envstate.specs.Roles.VariableRole.{Other}
+use Rattle.envstate.specs.Frames.{IsVariableUnchanged, AreLoadedUnchanged}
+use Rattle.envstate.specs.EnvLaws.{AreSound}
+use Rattle.envstate.proofs.FrameLemmas.{add_edits_loaded, drop_edits_loaded, loaded_keeps, loaded_rest_stays}
+use Rattle.envstate.proofs.StateLemmas.{start_of, standing_absent, names_dropped, list_in_order, dropped_list}
 use Rattle.modulerecords.specs.Records.{Record, variable_of}
 use Rattle.modulerecords.specs.Effects.{Mode, load, unload, effect, effects}
 use Rattle.modulerecords.specs.Moves.{Module, Loads, Unloads, entry_of, moved, Fits}
-use Rattle.reversal.specs.Ways.{Way, Untouched, Fixed, Pathed, Stacked, AllSuit}
+use Rattle.reversal.specs.VariableUses.{VariableUse, Untouched, Fixed, Pathed, Stacked, AllSuit}
 use Rattle.reversal.specs.Live.{last_set, live_set, adds, live_adds, last_push, with_push, live_pushes, entries_over}
-use Rattle.reversal.specs.Standing.{IsStart, HasValue, InAnyOrder}
-use Rattle.reversal.specs.Runs.{live_named, without_live, IsFit, AreFit}
+use Rattle.reversal.specs.Starts.{IsStart, HasValue, IsPermutation}
+use Rattle.reversal.specs.Runs.{live_named, without_live, IsReversibleBeside, AreReversibleTogether}
 use Rattle.reversal.proofs.Frames.{Side, loads, unloads, touched, kept_loaded, kept_rest}
 use Rattle.reversal.proofs.Loads.{parts, load_parts, unload_parts}
 use Rattle.reversal.proofs.OneVariable.{by_test, pick, value_kept, all_untouched, loads_fixed, unloads_fixed, or_unwrap, PathAt, path_kept, path_same, loads_path, unloads_path}
@@ -41,19 +41,19 @@ use Rattle.reversal.proofs.LiveModules.{live_names, adds_less, suits_of, set_sam
 -- records leave the loaded list and every name that is none of the tool's
 
 record Through (old new : Environment) : Type 0 where
-  loaded : KeepsLoaded old new
-  rest : (q : Text) → place_of q ≡ Other → lookup new q ≡ lookup old q
+  loaded : AreLoadedUnchanged old new
+  rest : (q : Text) → role_of q ≡ Other → lookup new q ≡ lookup old q
 
 through_self : (e : Environment) → Through e e
 through_self e = record { loaded = record { list = refl; order = λ o. o }; rest = λ q h. refl }
 
-all_through : (mode : Mode) (side : Side mode) (ways : Text → Way) (owner : Text) (rs : List Record) (old new : Environment) → AllSuit ways rs → effects mode owner rs old ≡ Ok new → Through old new
-all_through mode side ways owner [] old new s e = let q : old ≡ new = cc in subst (Through old) q (through_self old)
-all_through mode side ways owner (r ∷ rs) old new s e =
+all_through : (mode : Mode) (side : Side mode) (uses : Text → VariableUse) (owner : Text) (rs : List Record) (old new : Environment) → AllSuit uses rs → effects mode owner rs old ≡ Ok new → Through old new
+all_through mode side uses owner [] old new s e = let q : old ≡ new = cc in subst (Through old) q (through_self old)
+all_through mode side uses owner (r ∷ rs) old new s e =
     let p = parts (effect mode owner r old) (effects mode owner rs) new e in
     let t = touched mode side owner r old p.0 s.0.0 p.1 in
     let a = kept_loaded (variable_of r) old p.0 t in
-    let i = all_through mode side ways owner rs p.0 new s.1 p.2 in
+    let i = all_through mode side uses owner rs p.0 new s.1 p.2 in
     record {
       loaded = record { list = i.loaded.list ∙ a.list; order = λ o. i.loaded.order (a.order o) };
       rest = λ q h. i.rest q h ∙ kept_rest (variable_of r) old p.0 q t h;
@@ -62,34 +62,34 @@ all_through mode side ways owner (r ∷ rs) old new s e =
 -- one variable, by its use, with what is in order
 
 pub record StackHeld (b e : Environment) (w : Text) (loaded : List Text) (live : List Module) : Type 0 where
-  pub under : StackState
-  pub found : stack_in b w ≡ Some under
+  pub base : StackState
+  pub found : stack_in b w ≡ Some base
   pub pushes : List (Text × Text)
-  pub order : InAnyOrder pushes (live_pushes w live)
-  pub at_ : StackAt b e w loaded under pushes
+  pub order : IsPermutation pushes (live_pushes w live)
+  pub at_ : StackAt b e w loaded base pushes
 
-abbrev pub Held : Way → Environment → Text → List Text → List Module → Environment → Type 0
+abbrev pub Held : VariableUse → Environment → Text → List Text → List Module → Environment → Type 0
 Held Untouched b w loaded live e = HasValue b e w (lookup b w)
 Held (Fixed k) b w loaded live e = HasValue b e w (unwrap_or (live_set w live) (lookup b w))
 Held (Pathed d) b w loaded live e = PathAt b e w d (live_adds w live)
 Held Stacked b w loaded live e = StackHeld b e w loaded live
 
-held_kept : (y : Way) (b : Environment) (w : Text) (loaded : List Text) (live : List Module) (old new : Environment) → KeepsVariable old new w → Held y b w loaded live old → Held y b w loaded live new
+held_kept : (y : VariableUse) (b : Environment) (w : Text) (loaded : List Text) (live : List Module) (old new : Environment) → IsVariableUnchanged old new w → Held y b w loaded live old → Held y b w loaded live new
 held_kept Untouched b w loaded live old new k h = value_kept b old new w (lookup b w) k h
 held_kept (Fixed v) b w loaded live old new k h = value_kept b old new w (unwrap_or (live_set w live) (lookup b w)) k h
 held_kept (Pathed d) b w loaded live old new k h = path_kept b old new w d (live_adds w live) k h
-held_kept Stacked b w loaded live old new k h = record { under = h.under; found = h.found; pushes = h.pushes; order = h.order; at_ = stack_kept b old new w loaded h.under h.pushes k h.at_ }
+held_kept Stacked b w loaded live old new k h = record { base = h.base; found = h.found; pushes = h.pushes; order = h.order; at_ = stack_kept b old new w loaded h.base h.pushes k h.at_ }
 
-pub record Kept (ways : Text → Way) (b : Environment) (xs : List Entry) (live : List Module) (e : Environment) : Type 0 where
+pub record Kept (uses : Text → VariableUse) (b : Environment) (xs : List Entry) (live : List Module) (e : Environment) : Type 0 where
   pub loaded : AreLoadedInOrder e
   pub list : loaded_in e ≡ Some (entries_over xs live)
-  pub held : (w : Text) → is_editable w ≡ true → Held (ways w) b w (names_of (entries_over xs live)) live e
-  pub others : (q : Text) → place_of q ≡ Other → lookup e q ≡ lookup b q
-  pub fit : AreFit ways live
+  pub held : (w : Text) → is_editable w ≡ true → Held (uses w) b w (names_of (entries_over xs live)) live e
+  pub others : (q : Text) → role_of q ≡ Other → lookup e q ≡ lookup b q
+  pub fit : AreReversibleTogether uses live
 
 -- the start, and its entries
-pub record Begun (ways : Text → Way) (b : Environment) (xs : List Entry) : Type 0 where
-  pub start : IsStart ways b
+pub record Begun (uses : Text → VariableUse) (b : Environment) (xs : List Entry) : Type 0 where
+  pub start : IsStart uses b
   pub list : loaded_in b ≡ Some xs
   pub sound : AreSound xs
 
@@ -110,11 +110,11 @@ owners_foreign n names (item ∷ items) h k =
         (λ t. absurd (false≢true (sym k ∙ ap (λ (z : Text). has z names) (same_text n u t) ∙ q)))
         (λ t. t)
 
-pusher : (ways : Text → Way) (b : Environment) (xs : List Entry) (w owner : Text) (names : List Text) (under : StackState) → Begun ways b xs → is_editable w ≡ true → ways w ≡ Stacked → stack_in b w ≡ Some under
-    → list_all is_module_name names ≡ true → has owner names ≡ true → has owner (names_of xs) ≡ false → Pusher owner names under
-pusher ways b xs w owner names under g f q found n there absent =
+pusher : (uses : Text → VariableUse) (b : Environment) (xs : List Entry) (w owner : Text) (names : List Text) (base : StackState) → Begun uses b xs → is_editable w ≡ true → uses w ≡ Stacked → stack_in b w ≡ Some base
+    → list_all is_module_name names ≡ true → has owner names ≡ true → has owner (names_of xs) ≡ false → Pusher owner names base
+pusher uses b xs w owner names base g f q found n there absent =
     let s = start_of (names_of xs) b w g.sound.names (g.start.order.stacks w xs f q g.list) in
-    let same : s.0 ≡ under = same_Some s.0 under (sym s.1.found ∙ found) in
+    let same : s.0 ≡ base = same_Some s.0 base (sym s.1.found ∙ found) in
     record {
       names = n;
       there = there;
@@ -128,36 +128,36 @@ or_nothing (Some x) = refl
 
 -- a load
 
-held_load : (ways : Text → Way) (b : Environment) (xs : List Entry) (live : List Module) (m : Module) (old mid : Environment) (w : Text) (y : Way) → ways w ≡ y → Begun ways b xs → is_editable w ≡ true
-    → AllSuit ways m.records → effects load m.name m.records old ≡ Ok mid → list_all is_module_name (names_of (entries_over xs (m ∷ live))) ≡ true
+held_load : (uses : Text → VariableUse) (b : Environment) (xs : List Entry) (live : List Module) (m : Module) (old mid : Environment) (w : Text) (y : VariableUse) → uses w ≡ y → Begun uses b xs → is_editable w ≡ true
+    → AllSuit uses m.records → effects load m.name m.records old ≡ Ok mid → list_all is_module_name (names_of (entries_over xs (m ∷ live))) ≡ true
     → has m.name (names_of xs) ≡ false → has m.name (live_names live) ≡ false
     → Held y b w (names_of (entries_over xs live)) live old → Held y b w (names_of (entries_over xs (m ∷ live))) (m ∷ live) mid
-held_load ways b xs live m old mid w Untouched q g f s e n a l h = all_untouched load loads ways m.name w m.records b old mid (lookup b w) q s f e h
-held_load ways b xs live m old mid w (Fixed k) q g f s e n a l h =
+held_load uses b xs live m old mid w Untouched q g f s e n a l h = all_untouched load loads uses m.name w m.records b old mid (lookup b w) q s f e h
+held_load uses b xs live m old mid w (Fixed k) q g f s e n a l h =
     subst (HasValue b mid w) (sym (or_unwrap (last_set w m.records) (live_set w live) (lookup b w)))
-    (loads_fixed ways m.name w k m.records b old mid (unwrap_or (live_set w live) (lookup b w)) q s f e h)
-held_load ways b xs live m old mid w (Pathed d) q g f s e n a l h = loads_path ways m.name w d m.records b old mid (live_adds w live) q s f e h
-held_load ways b xs live m old mid w Stacked q g f s e n a l h =
-    let p = pusher ways b xs w m.name (names_of (entries_over xs (m ∷ live))) h.under g f q h.found n (newest_there m.name xs m live (bytes_eq-same m.name)) a in
-    let before : StackAt b old w (names_of (entries_over xs (m ∷ live))) h.under h.pushes = record {
+    (loads_fixed uses m.name w k m.records b old mid (unwrap_or (live_set w live) (lookup b w)) q s f e h)
+held_load uses b xs live m old mid w (Pathed d) q g f s e n a l h = loads_path uses m.name w d m.records b old mid (live_adds w live) q s f e h
+held_load uses b xs live m old mid w Stacked q g f s e n a l h =
+    let p = pusher uses b xs w m.name (names_of (entries_over xs (m ∷ live))) h.base g f q h.found n (newest_there m.name xs m live (bytes_eq-same m.name)) a in
+    let before : StackAt b old w (names_of (entries_over xs (m ∷ live))) h.base h.pushes = record {
       order = more_loaded (names_of (entries_over xs live)) (names_of (entries_over xs (m ∷ live))) old w (λ o. more_there o xs m live) h.at_.order;
       state = h.at_.state;
       counters = h.at_.counters;
     } in
     record {
-      under = h.under;
+      base = h.base;
       found = h.found;
       pushes = with_push m.name (last_push w m.records) h.pushes;
       order = order_with m.name (last_push w m.records) h.pushes (live_pushes w live) h.order;
-      at_ = subst (λ (z : Option Text). StackAt b mid w (names_of (entries_over xs (m ∷ live))) h.under (with_push m.name z h.pushes)) (or_nothing (last_push w m.records))
-          (loads_push ways m.name w m.records b old mid (names_of (entries_over xs (m ∷ live))) h.under None h.pushes q s f p (other_live m.name w live h.pushes h.order l) e before);
+      at_ = subst (λ (z : Option Text). StackAt b mid w (names_of (entries_over xs (m ∷ live))) h.base (with_push m.name z h.pushes)) (or_nothing (last_push w m.records))
+          (loads_push uses m.name w m.records b old mid (names_of (entries_over xs (m ∷ live))) h.base None h.pushes q s f p (other_live m.name w live h.pushes h.order l) e before);
     }
 
-pub kept_load : (ways : Text → Way) (b : Environment) (xs : List Entry) (live : List Module) (m : Module) (old new : Environment) → Begun ways b xs → Kept ways b xs live old → IsFit ways live m → Fits (Loads m) old
-    → moved (Loads m) old ≡ Ok new → Kept ways b xs (m ∷ live) new
-kept_load ways b xs live m old new g k fit fits h =
+pub kept_load : (uses : Text → VariableUse) (b : Environment) (xs : List Entry) (live : List Module) (m : Module) (old new : Environment) → Begun uses b xs → Kept uses b xs live old → IsReversibleBeside uses live m → Fits (Loads m) old
+    → moved (Loads m) old ≡ Ok new → Kept uses b xs (m ∷ live) new
+kept_load uses b xs live m old new g k fit fits h =
     let p = load_parts m old new h in
-    let t = all_through load loads ways m.name m.records old p.mid fit.suits p.effects in
+    let t = all_through load loads uses m.name m.records old p.mid fit.suits p.effects in
     let list : loaded_in new ≡ Some (entries_over xs (m ∷ live)) = added_entry m (entries_over xs live) new (loaded_after_add p.mid new (entry_of m) (entries_over xs live) (t.loaded.list ∙ k.list) p.entry) in
     let order : AreLoadedInOrder new = add_in_order p.mid new (entry_of m) p.entry in
     let sound : AreSound (entries_over xs (m ∷ live)) = sound_of new (entries_over xs (m ∷ live)) order list in
@@ -168,20 +168,20 @@ kept_load ways b xs live m old new g k fit fits h =
     record {
       loaded = order;
       list = list;
-      held = λ w f. held_kept (ways w) b w (names_of (entries_over xs (m ∷ live))) (m ∷ live) p.mid new (loaded_keeps p.mid new w only f)
-          (held_load ways b xs live m old p.mid w (ways w) refl g f fit.suits p.effects sound.names apart.0 apart.1 (k.held w f));
+      held = λ w f. held_kept (uses w) b w (names_of (entries_over xs (m ∷ live))) (m ∷ live) p.mid new (loaded_keeps p.mid new w only f)
+          (held_load uses b xs live m old p.mid w (uses w) refl g f fit.suits p.effects sound.names apart.0 apart.1 (k.held w f));
       others = λ q e. loaded_rest_stays p.mid new q only e ∙ t.rest q e ∙ k.others q e;
       fit = (fit, k.fit);
     }
 
 -- an unload
 
-held_unload : (ways : Text → Way) (b : Environment) (xs : List Entry) (live : List Module) (m : Module) (old mid : Environment) (w : Text) (y : Way) → ways w ≡ y → Begun ways b xs → is_editable w ≡ true
-    → live_named m.name live ≡ Some m → AreFit ways live → AreSound (entries_over xs live) → effects unload m.name m.records old ≡ Ok mid
+held_unload : (uses : Text → VariableUse) (b : Environment) (xs : List Entry) (live : List Module) (m : Module) (old mid : Environment) (w : Text) (y : VariableUse) → uses w ≡ y → Begun uses b xs → is_editable w ≡ true
+    → live_named m.name live ≡ Some m → AreReversibleTogether uses live → AreSound (entries_over xs live) → effects unload m.name m.records old ≡ Ok mid
     → Held y b w (names_of (entries_over xs live)) live old → Held y b w (names_of (entries_over xs (without_live m.name live))) (without_live m.name live) mid
-held_unload ways b xs live m old mid w Untouched q g f l fit sound e h = all_untouched unload unloads ways m.name w m.records b old mid (lookup b w) q (suits_of ways m.name live m l fit) f e h
-held_unload ways b xs live m old mid w (Fixed k) q g f l fit sound e h =
-    go (last_set w m.records) refl (unloads_fixed ways m.name w k m.records b old mid (unwrap_or (live_set w live) (lookup b w)) q (suits_of ways m.name live m l fit) f e h)
+held_unload uses b xs live m old mid w Untouched q g f l fit sound e h = all_untouched unload unloads uses m.name w m.records b old mid (lookup b w) q (suits_of uses m.name live m l fit) f e h
+held_unload uses b xs live m old mid w (Fixed k) q g f l fit sound e h =
+    go (last_set w m.records) refl (unloads_fixed uses m.name w k m.records b old mid (unwrap_or (live_set w live) (lookup b w)) q (suits_of uses m.name live m l fit) f e h)
   where
     go : (o : Option (Option Text)) → last_set w m.records ≡ o → HasValue b mid w (pick (last_set w m.records) (unwrap_or (live_set w live) (lookup b w)) k) → HasValue b mid w (unwrap_or (live_set w (without_live m.name live)) (lookup b w))
     go None i v =
@@ -189,42 +189,42 @@ held_unload ways b xs live m old mid w (Fixed k) q g f l fit sound e h =
         subst (λ (z : Option (Option Text)). HasValue b mid w (unwrap_or z (lookup b w))) (sym (set_same w m.name live m l i)) v2
     go (Some x) i v =
         let v2 : HasValue b mid w k = rw i at v in
-        let none_left = set_alone ways w m.name live m l fit (ap (λ (z : Option (Option Text)). is_some z) i) in
+        let none_left = set_alone uses w m.name live m l fit (ap (λ (z : Option (Option Text)). is_some z) i) in
         subst (λ (z : Option (Option Text)). HasValue b mid w (unwrap_or z (lookup b w))) (sym none_left)
         (subst (HasValue b mid w) (sym (g.start.fixed w k f q)) v2)
-held_unload ways b xs live m old mid w (Pathed d) q g f l fit sound e h =
-    unloads_path ways m.name w d m.records b old mid (live_adds w (without_live m.name live)) q (suits_of ways m.name live m l fit) f e
+held_unload uses b xs live m old mid w (Pathed d) q g f l fit sound e h =
+    unloads_path uses m.name w d m.records b old mid (live_adds w (without_live m.name live)) q (suits_of uses m.name live m l fit) f e
     (path_same b old w d (live_adds w live) (λ x. adds w x m.records + live_adds w (without_live m.name live) x) (λ x. adds_less w x m.name live m l) h)
-held_unload ways b xs live m old mid w Stacked q g f l fit sound e h =
+held_unload uses b xs live m old mid w Stacked q g f l fit sound e h =
     let apart = apart_of xs live sound.once in
     let absent = apart_named m.name xs live m l apart in
     let distinct = apart_distinct xs live apart in
-    let p = pusher ways b xs w m.name (names_of (entries_over xs live)) h.under g f q h.found sound.names (named_there m.name xs live m l) absent in
-    let after = unloads_push ways m.name w m.records b old mid (names_of (entries_over xs live)) h.under h.pushes q (suits_of ways m.name live m l fit) f p e h.at_ in
-    let order : InAnyOrder (popped m.name (last_push w m.records) h.pushes) (live_pushes w (without_live m.name live)) = order_popped m.name w live m h.pushes l distinct h.order in
+    let p = pusher uses b xs w m.name (names_of (entries_over xs live)) h.base g f q h.found sound.names (named_there m.name xs live m l) absent in
+    let after = unloads_push uses m.name w m.records b old mid (names_of (entries_over xs live)) h.base h.pushes q (suits_of uses m.name live m l fit) f p e h.at_ in
+    let order : IsPermutation (popped m.name (last_push w m.records) h.pushes) (live_pushes w (without_live m.name live)) = order_popped m.name w live m h.pushes l distinct h.order in
     let left : without m.name (names_of (entries_over xs live)) ≡ names_of (entries_over xs (without_live m.name live)) =
     sym (names_dropped (entries_over xs live) m.name) ∙ ap names_of (entries_less m.name xs live absent distinct) in
-    let none_left : holds m.name (standing h.under (popped m.name (last_push w m.records) h.pushes)).items ≡ false =
-    standing_absent h.under (popped m.name (last_push w m.records) h.pushes) m.name p.foreign
+    let none_left : holds m.name (start_with_pushes h.base (popped m.name (last_push w m.records) h.pushes)).items ≡ false =
+    standing_absent h.base (popped m.name (last_push w m.records) h.pushes) m.name p.foreign
     (order_has m.name (popped m.name (last_push w m.records) h.pushes) (live_pushes w (without_live m.name live)) order ∙ no_push m.name w (without_live m.name live) (gone m.name live distinct)) in
     record {
-      under = h.under;
+      base = h.base;
       found = h.found;
       pushes = popped m.name (last_push w m.records) h.pushes;
       order = order;
       at_ = record {
         order = subst (λ (z : List Text). IsStackInOrder z mid w) left
-            (order_of_fewer (names_of (entries_over xs live)) mid w m.name (standing h.under (popped m.name (last_push w m.records) h.pushes)) sound.names after.order after.state none_left);
+            (order_of_fewer (names_of (entries_over xs live)) mid w m.name (start_with_pushes h.base (popped m.name (last_push w m.records) h.pushes)) sound.names after.order after.state none_left);
         state = after.state;
         counters = after.counters;
       };
     }
 
-pub kept_unload : (ways : Text → Way) (b : Environment) (xs : List Entry) (live : List Module) (m : Module) (old new : Environment) → Begun ways b xs → Kept ways b xs live old → live_named m.name live ≡ Some m
-    → moved (Unloads m) old ≡ Ok new → Kept ways b xs (without_live m.name live) new
-kept_unload ways b xs live m old new g k l h =
+pub kept_unload : (uses : Text → VariableUse) (b : Environment) (xs : List Entry) (live : List Module) (m : Module) (old new : Environment) → Begun uses b xs → Kept uses b xs live old → live_named m.name live ≡ Some m
+    → moved (Unloads m) old ≡ Ok new → Kept uses b xs (without_live m.name live) new
+kept_unload uses b xs live m old new g k l h =
     let p = unload_parts m old new h in
-    let t = all_through unload unloads ways m.name m.records old p.mid (suits_of ways m.name live m l k.fit) p.effects in
+    let t = all_through unload unloads uses m.name m.records old p.mid (suits_of uses m.name live m l k.fit) p.effects in
     let sound : AreSound (entries_over xs live) = sound_of old (entries_over xs live) k.loaded k.list in
     let apart = apart_of xs live sound.once in
     let less = entries_less m.name xs live (apart_named m.name xs live m l apart) (apart_distinct xs live apart) in
@@ -232,8 +232,8 @@ kept_unload ways b xs live m old new g k l h =
     record {
       loaded = drop_keeps_order p.mid new m.name (t.loaded.order k.loaded) p.entry;
       list = dropped_list p.mid new m.name (entries_over xs live) (t.loaded.list ∙ k.list) p.entry ∙ ap (λ (z : List Entry). Some z) less;
-      held = λ w f. held_kept (ways w) b w (names_of (entries_over xs (without_live m.name live))) (without_live m.name live) p.mid new (loaded_keeps p.mid new w only f)
-          (held_unload ways b xs live m old p.mid w (ways w) refl g f l k.fit sound p.effects (k.held w f));
+      held = λ w f. held_kept (uses w) b w (names_of (entries_over xs (without_live m.name live))) (without_live m.name live) p.mid new (loaded_keeps p.mid new w only f)
+          (held_unload uses b xs live m old p.mid w (uses w) refl g f l k.fit sound p.effects (k.held w f));
       others = λ q e. loaded_rest_stays p.mid new q only e ∙ t.rest q e ∙ k.others q e;
-      fit = fit_less ways m.name live k.fit;
+      fit = fit_less uses m.name live k.fit;
     }

@@ -2,37 +2,37 @@
 use Rattle.std.proofs.Common.{◌≡◌, ℕ, Bool, true, false, cond, List, refl, sym, ap, ◌∙◌, Option, Some, None}
 use Rattle.std.specs.Prelude.{bytes_eq, count_by}
 use Rattle.std.proofs.lemmas.Bool.{false≢true}
-use Rattle.environment.specs.Texts.{Text}
-use Rattle.environment.specs.Environment.{Environment, with_value}
-use Rattle.environment.proofs.TextLemmas.{same_text}
-use Rattle.pathstate.specs.PathVariables.{added_path, dropped_path}
-use Rattle.pathstate.specs.declared.paths.End.{End}
-use Rattle.pathstate.specs.declared.paths.End.TheVariants as ends
-use Rattle.stackstate.specs.StackVariables.{pushed_value, popped_value}
+use Rattle.envvars.specs.Texts.{Text}
+use Rattle.envvars.specs.Environment.{Environment, with_value}
+use Rattle.envvars.proofs.TextLemmas.{same_text}
+use Rattle.envpaths.specs.PathVariables.{added_path, dropped_path}
+use Rattle.envpaths.specs.declared.edits.End.{End}
+use Rattle.envpaths.specs.declared.edits.End.TheVariants as ends
+use Rattle.envstacks.specs.StackVariables.{pushed_value, popped_value}
 use Rattle.modulerecords.specs.Records.{Record, Set, Unset, Push, Front, Back, Remove, Conflict, Prereq, Whatis, variable_of}
 use Rattle.modulerecords.specs.Effects.{loaded_by, unloaded_by}
-use Rattle.reversal.specs.Ways.{Way, Untouched, Fixed, Pathed, Stacked, Suits}
+use Rattle.reversal.specs.VariableUses.{VariableUse, Untouched, Fixed, Pathed, Stacked, Suits}
 use Rattle.reversal.specs.Live.{set_by, adds_by, push_by}
 use Rattle.reversal.proofs.Frames.{accepted, is_named}
 
-wrong : {P : Type 0} (ways : Text → Way) (w v : Text) (a k : Way) → ways w ≡ k → ways v ≡ a → bytes_eq w v ≡ true → (a ≡ k → ⊥) → P
-wrong ways w v a k h s e no_ = absurd (no_ (sym s ∙ ap ways (sym (same_text w v e)) ∙ h))
+wrong : {P : Type 0} (uses : Text → VariableUse) (w v : Text) (a k : VariableUse) → uses w ≡ k → uses v ≡ a → bytes_eq w v ≡ true → (a ≡ k → ⊥) → P
+wrong uses w v a k h s e no_ = absurd (no_ (sym s ∙ ap uses (sym (same_text w v e)) ∙ h))
 
-meets : (ways : Text → Way) (w v : Text) (a k : Way) → ways w ≡ k → ways v ≡ a → bytes_eq w v ≡ true → a ≡ k
-meets ways w v a k h s e = sym s ∙ ap ways (sym (same_text w v e)) ∙ h
+meets : (uses : Text → VariableUse) (w v : Text) (a k : VariableUse) → uses w ≡ k → uses v ≡ a → bytes_eq w v ≡ true → a ≡ k
+meets uses w v a k h s e = sym s ∙ ap uses (sym (same_text w v e)) ∙ h
 
 -- an untouched variable is named by none
-pub unnamed : (ways : Text → Way) (w : Text) (r : Record) → ways w ≡ Untouched → Suits ways r → is_named w (variable_of r) ≡ true → ⊥
-unnamed ways w (Set v x) h s e = wrong ways w v (Fixed None) Untouched h s.1 e (λ z. cc)
-unnamed ways w (Unset v None) h s e = false≢true s.0
-unnamed ways w (Unset v (Some x)) h s e = wrong ways w v (Fixed (Some x)) Untouched h s.1 e (λ z. cc)
-unnamed ways w (Push v x) h s e = wrong ways w v Stacked Untouched h s.1 e (λ z. cc)
-unnamed ways w (Front d v xs) h s e = wrong ways w v (Pathed d) Untouched h s.1 e (λ z. cc)
-unnamed ways w (Back d v xs) h s e = wrong ways w v (Pathed d) Untouched h s.1 e (λ z. cc)
-unnamed ways w (Remove d v xs) h s e = false≢true s.0
-unnamed ways w (Conflict x) h s e = false≢true e
-unnamed ways w (Prereq x) h s e = false≢true e
-unnamed ways w (Whatis x) h s e = false≢true e
+pub unnamed : (uses : Text → VariableUse) (w : Text) (r : Record) → uses w ≡ Untouched → Suits uses r → is_named w (variable_of r) ≡ true → ⊥
+unnamed uses w (Set v x) h s e = wrong uses w v (Fixed None) Untouched h s.1 e (λ z. cc)
+unnamed uses w (Unset v None) h s e = false≢true s.0
+unnamed uses w (Unset v (Some x)) h s e = wrong uses w v (Fixed (Some x)) Untouched h s.1 e (λ z. cc)
+unnamed uses w (Push v x) h s e = wrong uses w v Stacked Untouched h s.1 e (λ z. cc)
+unnamed uses w (Front d v xs) h s e = wrong uses w v (Pathed d) Untouched h s.1 e (λ z. cc)
+unnamed uses w (Back d v xs) h s e = wrong uses w v (Pathed d) Untouched h s.1 e (λ z. cc)
+unnamed uses w (Remove d v xs) h s e = false≢true s.0
+unnamed uses w (Conflict x) h s e = false≢true e
+unnamed uses w (Prereq x) h s e = false≢true e
+unnamed uses w (Whatis x) h s e = false≢true e
 
 pub record UsesFixed (w : Text) (k : Option Text) (r : Record) : Type 0 where
   pub value : Option Text
@@ -46,33 +46,33 @@ same_fixed a k h = cc
 moved_value : (v w : Text) (a b : Option Text) (e : Environment) → v ≡ w → a ≡ b → accepted (with_value e v a) ≡ accepted (with_value e w b)
 moved_value v w a b e h k = ap (λ (t : Text). accepted (with_value e t a)) h ∙ ap (λ (t : Option Text). accepted (with_value e w t)) k
 
-pub uses_fixed : (ways : Text → Way) (w : Text) (k : Option Text) (r : Record) → ways w ≡ Fixed k → Suits ways r → is_named w (variable_of r) ≡ true → UsesFixed w k r
-uses_fixed ways w k (Set v x) h s e =
+pub uses_fixed : (uses : Text → VariableUse) (w : Text) (k : Option Text) (r : Record) → uses w ≡ Fixed k → Suits uses r → is_named w (variable_of r) ≡ true → UsesFixed w k r
+uses_fixed uses w k (Set v x) h s e =
     let p : v ≡ w = sym (same_text w v e) in
-    let q : None ≡ k = same_fixed None k (meets ways w v (Fixed None) (Fixed k) h s.1 e) in
+    let q : None ≡ k = same_fixed None k (meets uses w v (Fixed None) (Fixed k) h s.1 e) in
     record {
       value = Some x;
       loads = λ owner d. moved_value v w (Some x) (Some x) d p refl;
       unloads = λ owner d. moved_value v w None k d p q;
       by = ap (λ (b : Bool). cond b (Some (Some x)) None) e;
     }
-uses_fixed ways w k (Unset v None) h s e = absurd (false≢true s.0)
-uses_fixed ways w k (Unset v (Some x)) h s e =
+uses_fixed uses w k (Unset v None) h s e = absurd (false≢true s.0)
+uses_fixed uses w k (Unset v (Some x)) h s e =
     let p : v ≡ w = sym (same_text w v e) in
-    let q : Some x ≡ k = same_fixed (Some x) k (meets ways w v (Fixed (Some x)) (Fixed k) h s.1 e) in
+    let q : Some x ≡ k = same_fixed (Some x) k (meets uses w v (Fixed (Some x)) (Fixed k) h s.1 e) in
     record {
       value = None;
       loads = λ owner d. moved_value v w None None d p refl;
       unloads = λ owner d. moved_value v w (Some x) k d p q;
       by = ap (λ (b : Bool). cond b (Some None) None) e;
     }
-uses_fixed ways w k (Push v x) h s e = wrong ways w v Stacked (Fixed k) h s.1 e (λ z. cc)
-uses_fixed ways w k (Front d v xs) h s e = wrong ways w v (Pathed d) (Fixed k) h s.1 e (λ z. cc)
-uses_fixed ways w k (Back d v xs) h s e = wrong ways w v (Pathed d) (Fixed k) h s.1 e (λ z. cc)
-uses_fixed ways w k (Remove d v xs) h s e = absurd (false≢true s.0)
-uses_fixed ways w k (Conflict x) h s e = absurd (false≢true e)
-uses_fixed ways w k (Prereq x) h s e = absurd (false≢true e)
-uses_fixed ways w k (Whatis x) h s e = absurd (false≢true e)
+uses_fixed uses w k (Push v x) h s e = wrong uses w v Stacked (Fixed k) h s.1 e (λ z. cc)
+uses_fixed uses w k (Front d v xs) h s e = wrong uses w v (Pathed d) (Fixed k) h s.1 e (λ z. cc)
+uses_fixed uses w k (Back d v xs) h s e = wrong uses w v (Pathed d) (Fixed k) h s.1 e (λ z. cc)
+uses_fixed uses w k (Remove d v xs) h s e = absurd (false≢true s.0)
+uses_fixed uses w k (Conflict x) h s e = absurd (false≢true e)
+uses_fixed uses w k (Prereq x) h s e = absurd (false≢true e)
+uses_fixed uses w k (Whatis x) h s e = absurd (false≢true e)
 
 pub record UsesPath (w : Text) (d : ℕ) (r : Record) : Type 0 where
   pub elements : List Text
@@ -90,14 +90,14 @@ moved_add v w a d xs end e h k = ap (λ (t : Text). added_path e t a xs end) h �
 moved_drop : (v w : Text) (a d : ℕ) (xs : List Text) (e : Environment) → v ≡ w → a ≡ d → dropped_path e v a xs ≡ dropped_path e w d xs
 moved_drop v w a d xs e h k = ap (λ (t : Text). dropped_path e t a xs) h ∙ ap (λ (t : ℕ). dropped_path e w t xs) k
 
-pub uses_path : (ways : Text → Way) (w : Text) (d : ℕ) (r : Record) → ways w ≡ Pathed d → Suits ways r → is_named w (variable_of r) ≡ true → UsesPath w d r
-uses_path ways w d (Set v x) h s e = wrong ways w v (Fixed None) (Pathed d) h s.1 e (λ z. cc)
-uses_path ways w d (Unset v None) h s e = absurd (false≢true s.0)
-uses_path ways w d (Unset v (Some x)) h s e = wrong ways w v (Fixed (Some x)) (Pathed d) h s.1 e (λ z. cc)
-uses_path ways w d (Push v x) h s e = wrong ways w v Stacked (Pathed d) h s.1 e (λ z. cc)
-uses_path ways w d (Front a v xs) h s e =
+pub uses_path : (uses : Text → VariableUse) (w : Text) (d : ℕ) (r : Record) → uses w ≡ Pathed d → Suits uses r → is_named w (variable_of r) ≡ true → UsesPath w d r
+uses_path uses w d (Set v x) h s e = wrong uses w v (Fixed None) (Pathed d) h s.1 e (λ z. cc)
+uses_path uses w d (Unset v None) h s e = absurd (false≢true s.0)
+uses_path uses w d (Unset v (Some x)) h s e = wrong uses w v (Fixed (Some x)) (Pathed d) h s.1 e (λ z. cc)
+uses_path uses w d (Push v x) h s e = wrong uses w v Stacked (Pathed d) h s.1 e (λ z. cc)
+uses_path uses w d (Front a v xs) h s e =
     let p : v ≡ w = sym (same_text w v e) in
-    let q : a ≡ d = same_delim a d (meets ways w v (Pathed a) (Pathed d) h s.1 e) in
+    let q : a ≡ d = same_delim a d (meets uses w v (Pathed a) (Pathed d) h s.1 e) in
     record {
       elements = xs;
       end = ends.Front;
@@ -105,9 +105,9 @@ uses_path ways w d (Front a v xs) h s e =
       unloads = λ owner c. moved_drop v w a d xs c p q;
       by = λ x. ap (λ (b : Bool). cond b (count_by (bytes_eq x) xs) 0) e;
     }
-uses_path ways w d (Back a v xs) h s e =
+uses_path uses w d (Back a v xs) h s e =
     let p : v ≡ w = sym (same_text w v e) in
-    let q : a ≡ d = same_delim a d (meets ways w v (Pathed a) (Pathed d) h s.1 e) in
+    let q : a ≡ d = same_delim a d (meets uses w v (Pathed a) (Pathed d) h s.1 e) in
     record {
       elements = xs;
       end = ends.Back;
@@ -115,10 +115,10 @@ uses_path ways w d (Back a v xs) h s e =
       unloads = λ owner c. moved_drop v w a d xs c p q;
       by = λ x. ap (λ (b : Bool). cond b (count_by (bytes_eq x) xs) 0) e;
     }
-uses_path ways w d (Remove a v xs) h s e = absurd (false≢true s.0)
-uses_path ways w d (Conflict x) h s e = absurd (false≢true e)
-uses_path ways w d (Prereq x) h s e = absurd (false≢true e)
-uses_path ways w d (Whatis x) h s e = absurd (false≢true e)
+uses_path uses w d (Remove a v xs) h s e = absurd (false≢true s.0)
+uses_path uses w d (Conflict x) h s e = absurd (false≢true e)
+uses_path uses w d (Prereq x) h s e = absurd (false≢true e)
+uses_path uses w d (Whatis x) h s e = absurd (false≢true e)
 
 pub record UsesStack (w : Text) (r : Record) : Type 0 where
   pub value : Text
@@ -126,11 +126,11 @@ pub record UsesStack (w : Text) (r : Record) : Type 0 where
   pub unloads : (owner : Text) (e : Environment) → unloaded_by owner r e ≡ popped_value e w owner
   pub by : push_by w r ≡ Some value
 
-pub uses_stack : (ways : Text → Way) (w : Text) (r : Record) → ways w ≡ Stacked → Suits ways r → is_named w (variable_of r) ≡ true → UsesStack w r
-uses_stack ways w (Set v x) h s e = wrong ways w v (Fixed None) Stacked h s.1 e (λ z. cc)
-uses_stack ways w (Unset v None) h s e = absurd (false≢true s.0)
-uses_stack ways w (Unset v (Some x)) h s e = wrong ways w v (Fixed (Some x)) Stacked h s.1 e (λ z. cc)
-uses_stack ways w (Push v x) h s e =
+pub uses_stack : (uses : Text → VariableUse) (w : Text) (r : Record) → uses w ≡ Stacked → Suits uses r → is_named w (variable_of r) ≡ true → UsesStack w r
+uses_stack uses w (Set v x) h s e = wrong uses w v (Fixed None) Stacked h s.1 e (λ z. cc)
+uses_stack uses w (Unset v None) h s e = absurd (false≢true s.0)
+uses_stack uses w (Unset v (Some x)) h s e = wrong uses w v (Fixed (Some x)) Stacked h s.1 e (λ z. cc)
+uses_stack uses w (Push v x) h s e =
     let p : v ≡ w = sym (same_text w v e) in
     record {
       value = x;
@@ -138,12 +138,12 @@ uses_stack ways w (Push v x) h s e =
       unloads = λ owner c. ap (λ (t : Text). popped_value c t owner) p;
       by = ap (λ (b : Bool). cond b (Some x) None) e;
     }
-uses_stack ways w (Front d v xs) h s e = wrong ways w v (Pathed d) Stacked h s.1 e (λ z. cc)
-uses_stack ways w (Back d v xs) h s e = wrong ways w v (Pathed d) Stacked h s.1 e (λ z. cc)
-uses_stack ways w (Remove d v xs) h s e = absurd (false≢true s.0)
-uses_stack ways w (Conflict x) h s e = absurd (false≢true e)
-uses_stack ways w (Prereq x) h s e = absurd (false≢true e)
-uses_stack ways w (Whatis x) h s e = absurd (false≢true e)
+uses_stack uses w (Front d v xs) h s e = wrong uses w v (Pathed d) Stacked h s.1 e (λ z. cc)
+uses_stack uses w (Back d v xs) h s e = wrong uses w v (Pathed d) Stacked h s.1 e (λ z. cc)
+uses_stack uses w (Remove d v xs) h s e = absurd (false≢true s.0)
+uses_stack uses w (Conflict x) h s e = absurd (false≢true e)
+uses_stack uses w (Prereq x) h s e = absurd (false≢true e)
+uses_stack uses w (Whatis x) h s e = absurd (false≢true e)
 
 -- a record that doesn't name the variable does nothing to it
 

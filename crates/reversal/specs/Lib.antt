@@ -1,6 +1,6 @@
-pub mod Ways
+pub mod VariableUses
 pub mod Live
-pub mod Standing
+pub mod Starts
 pub mod Runs
 pub mod Requests
 pub mod Laws

@@ -2,8 +2,8 @@
 -- since the start, and not unloaded; the list of them has the newest first.
 use Rattle.std.specs.Prelude.{ℕ, ◌+◌, List, [], ◌∷◌, ◌++◌, bytes_eq, count_by, if◌then◌else◌, Option, Some, None}
 use Rattle.std.specs.Option.{option_or}
-use Rattle.environment.specs.Texts.{Text}
-use Rattle.loadedlist.specs.Loaded.{Entry}
+use Rattle.envvars.specs.Texts.{Text}
+use Rattle.envloaded.specs.Loaded.{Entry}
 use Rattle.modulerecords.specs.Records.{Record, Set, Unset, Push, Front, Back}
 use Rattle.modulerecords.specs.Moves.{Module, entry_of}
 

@@ -1,7 +1,7 @@
 -- Why the premises are needed (own): what loading and then unloading a module loses where one of them doesn't hold.
 use Rattle.std.specs.Prelude.{◌≡◌, ◌≢◌, List, [], ◌∷◌, Some, None, Ok}
-use Rattle.environment.specs.Texts.{Text}
-use Rattle.environment.specs.Environment.{Environment, lookup}
+use Rattle.envvars.specs.Texts.{Text}
+use Rattle.envvars.specs.Environment.{Environment, lookup}
 use Rattle.modulerecords.specs.Records.{Record, Set, Unset}
 use Rattle.modulerecords.specs.Effects.{load, unload, effects}
 

@@ -1,7 +1,7 @@
 -- Requests: the outcome of each, and what environment a list of them reaches (module(1)).
 use Rattle.std.specs.Prelude.{◌≡◌, List, [], ◌∷◌, ◌++◌}
-use Rattle.environment.specs.Environment.{Environment}
-use Rattle.modulerecords.specs.Moves.{Move, Lead}
+use Rattle.envvars.specs.Environment.{Environment}
+use Rattle.modulerecords.specs.Moves.{Move, MovesReach}
 
 -- A request is accepted with its moves, the first of them first: one for each module that it loads or unloads, so that
 -- a switch is an unload and then a load. Or it is refused.
@@ -20,11 +20,11 @@ all_moves [] = []
 all_moves (o ∷ os) = moves_of o ++ all_moves os
 
 -- what one request reaches: a refused one leaves the environment unchanged
-abbrev pub RequestLeads : RequestOutcome → Environment → Environment → Type 0
-RequestLeads (accepted moves) old new = Lead moves old new
-RequestLeads refused old new = new ≡ old
+abbrev pub RequestReaches : RequestOutcome → Environment → Environment → Type 0
+RequestReaches (accepted moves) old new = MovesReach moves old new
+RequestReaches refused old new = new ≡ old
 
 -- what requests reach, the first of them first
-abbrev pub RunLeads : List RequestOutcome → Environment → Environment → Type 0
-RunLeads [] old new = new ≡ old
-RunLeads (o ∷ os) old new = (mid : Environment) × RequestLeads o old mid × RunLeads os mid new
+abbrev pub RequestsReach : List RequestOutcome → Environment → Environment → Type 0
+RequestsReach [] old new = new ≡ old
+RequestsReach (o ∷ os) old new = (mid : Environment) × RequestReaches o old mid × RequestsReach os mid new

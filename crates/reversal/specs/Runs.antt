@@ -1,8 +1,8 @@
 -- Loads and unloads of modules that are reversible and apart (own).
 use Rattle.std.specs.Prelude.{◌≡◌, true, List, [], ◌∷◌, bytes_eq, if◌then◌else◌, Option, Some, None, is_some}
-use Rattle.environment.specs.Texts.{Text}
+use Rattle.envvars.specs.Texts.{Text}
 use Rattle.modulerecords.specs.Moves.{Module, Move, Loads, Unloads}
-use Rattle.reversal.specs.Ways.{Way, AllSuit}
+use Rattle.reversal.specs.VariableUses.{VariableUse, AllSuit}
 use Rattle.reversal.specs.Live.{last_set, live_set}
 
 -- the live module of this name
@@ -23,14 +23,14 @@ live_after live (Unloads m ∷ ms) = live_after (without_live m.name live) ms
 
 -- The module is reversible, and apart from those that are live: it follows the use of each variable, and sets or unsets
 -- none that a live module sets or unsets.
-pub record IsFit (ways : Text → Way) (live : List Module) (m : Module) : Type 0 where
-  pub suits : AllSuit ways m.records
-  pub alone : (v : Text) → is_some (last_set v m.records) ≡ true → live_set v live ≡ None
+pub record IsReversibleBeside (uses : Text → VariableUse) (live : List Module) (m : Module) : Type 0 where
+  pub suits : AllSuit uses m.records
+  pub sets_apart : (v : Text) → is_some (last_set v m.records) ≡ true → live_set v live ≡ None
 
 -- each was so while the older ones were live
-abbrev pub AreFit : (Text → Way) → List Module → Type 0
-AreFit ways [] = Unit {0}
-AreFit ways (m ∷ live) = IsFit ways live m × AreFit ways live
+abbrev pub AreReversibleTogether : (Text → VariableUse) → List Module → Type 0
+AreReversibleTogether uses [] = Unit {0}
+AreReversibleTogether uses (m ∷ live) = IsReversibleBeside uses live m × AreReversibleTogether uses live
 
 -- The unloaded module is live, and these are the records of its load.
 pub record Undoes (live : List Module) (m : Module) : Type 0 where
@@ -40,7 +40,7 @@ pub record Undoes (live : List Module) (m : Module) : Type 0 where
 
 -- Each load is of a module that is reversible and apart from the live ones. Each unload is of a live module, with the
 -- records of its load: so no module of the start is unloaded.
-abbrev pub AreReversible : (Text → Way) → List Module → List Move → Type 0
-AreReversible ways live [] = Unit {0}
-AreReversible ways live (Loads m ∷ ms) = IsFit ways live m × AreReversible ways (m ∷ live) ms
-AreReversible ways live (Unloads m ∷ ms) = Undoes live m × AreReversible ways (without_live m.name live) ms
+abbrev pub AreReversible : (Text → VariableUse) → List Module → List Move → Type 0
+AreReversible uses live [] = Unit {0}
+AreReversible uses live (Loads m ∷ ms) = IsReversibleBeside uses live m × AreReversible uses (m ∷ live) ms
+AreReversible uses live (Unloads m ∷ ms) = Undoes live m × AreReversible uses (without_live m.name live) ms

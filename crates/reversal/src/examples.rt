@@ -41,7 +41,7 @@ pub fn kinds()
 /// which the environment is a start. And where two live modules set one variable, the unload of one takes the other's
 /// value away: the environment isn't the start with the other module any more (but the start is back when both are
 /// unloaded).
-pub fn ways()
+pub fn uses()
     ensures set_and_pushed { SetAndPushed }
     ensures unset_and_pushed { UnsetAndPushed }
     ensures added_and_pushed { AddedAndPushed }

@@ -1,5 +1,5 @@
 //! Laws of unloads that undo loads. Each function does nothing: its contract is the law.
-ghost use Rattle.reversal.specs.Laws.{RunsReturn, EachOnTheWay, RequestsReturn, StepsKeep, LoadsMake};
+ghost use Rattle.reversal.specs.Laws.{RunsReturn, EachMoveHolds, RequestsReturn, MovesPreserve, LoadsAreExact};
 ghost use Rattle.reversal.specs.Losses.{SetLosesValue, UnsetLosesValue, UnsetGivesAnother};
 
 /// After accepted loads and unloads of new modules that are reversible and apart, in whatever order, from a start in
@@ -7,7 +7,7 @@ ghost use Rattle.reversal.specs.Losses.{SetLosesValue, UnsetLosesValue, UnsetGiv
 /// the start: the maps are equal. The same holds after each of the moves.
 pub fn runs()
     ensures returned { RunsReturn }
-    ensures each { EachOnTheWay }
+    ensures each { EachMoveHolds }
 {}
 
 /// The same of requests: each is a list of moves, as a switch, which unloads and then loads, or several names; a
@@ -20,12 +20,12 @@ pub fn requests()
 /// The same from any environment in order that is a start with live modules over it, whatever was before: this is what
 /// one command needs, which knows no history.
 pub fn steps()
-    ensures { StepsKeep }
+    ensures { MovesPreserve }
 {}
 
 /// An accepted load makes the effects of its records and the new entry, and nothing else.
 pub fn loads()
-    ensures { LoadsMake }
+    ensures { LoadsAreExact }
 {}
 
 /// Why a variable that records set has to be unset at the start, one that they unset with a value has to have that

@@ -14,16 +14,16 @@ use Rattle.std.proofs.lemmas.List.Kept.{Any-dedup, IsStrictlySortedBy-dedup}
 use Rattle.std.proofs.lemmas.List.Sorted.{All-permutation, Contains-permutation}
 use Rattle.std.proofs.lemmas.Slice.Eq.{bytes_eq-Decides}
 use Rattle.modulename.specs.ModuleName.{Text, parts}
-use Rattle.moduleversion.specs.Versions.{version_order}
-use Rattle.moduleversion.proofs.OrderLemmas.{total, equal}
+use Rattle.modulename.specs.Versions.{version_order}
+use Rattle.modulename.proofs.OrderLemmas.{total, equal}
 use Rattle.filetree.specs.Agreement.{Files, Listings}
-use Rattle.search.specs.DefaultFiles.{Left}
+use Rattle.search.specs.DefaultFiles.{DefaultFileResult}
 use Rattle.search.specs.Listed as listed
-use Rattle.search.specs.Listed.{LeadsThrough, IsBelow, IsNamed, IsListing, names_of, is_marked}
+use Rattle.search.specs.Listed.{ReachesThrough, IsBelow, IsNamed, IsListing, names_of, is_marked}
 use Rattle.search.proofs.VersionLemmas.{has}
-use Rattle.search.specs.BelowFolder.{IsUnder, IsMarkRight, AreRows}
-use Rattle.search.specs.Rows.{row_view, name_of, goes_before, is_same_name}
-use Rattle.search.specs.declared.rows.Row.{Row}
+use Rattle.search.specs.BelowFolder.{IsUnder, IsMarkRight, AreListingEntries}
+use Rattle.search.specs.ListingEntries.{listing_entry_view, name_of, goes_before, is_same_name}
+use Rattle.search.specs.declared.listing_entries.ListingEntry.{ListingEntry}
 
 same : (x y : Text) → bytes_eq x y ≡ true → x ≡ y
 same x y = (bytes_eq-Decides x y).0
@@ -39,40 +39,40 @@ equal_from Equal h = refl
 equal_from Greater h = absurd (cc)
 
 -- two modules tie where their names are the same
-ties : (x y : Row) → is_same_name x y ≡ is_eq (version_order (name_of x) (name_of y))
+ties : (x y : ListingEntry) → is_same_name x y ≡ is_eq (version_order (name_of x) (name_of y))
 ties x y =
     alike (bytes_eq (name_of x) (name_of y)) (is_eq (version_order (name_of x) (name_of y)))
     (λ h. ap (λ n. is_eq (version_order (name_of x) n)) (sym (same (name_of x) (name_of y) h)) ∙ ap is_eq (tied_itself total (name_of x)))
     (λ h. (bytes_eq-Decides (name_of x) (name_of y)).1 (equal (name_of x) (name_of y) (equal_from (version_order (name_of x) (name_of y)) h)))
 
-abbrev row_order : Row → Row → Ordering
+abbrev row_order : ListingEntry → ListingEntry → Ordering
 row_order x y = version_order (name_of x) (name_of y)
 
-before_names : (n : Text) (rows : List Row) → AllByRecursion (λ y. version_order n (name_of y) ≡ Less) rows → AllByRecursion (λ m. version_order n m ≡ Less) (names_of (map row_view rows))
+before_names : (n : Text) (listing_entries : List ListingEntry) → AllByRecursion (λ y. version_order n (name_of y) ≡ Less) listing_entries → AllByRecursion (λ m. version_order n m ≡ Less) (names_of (map listing_entry_view listing_entries))
 before_names n [] a = tt
-before_names n (r ∷ rows) a = (a.0, before_names n rows a.1)
+before_names n (r ∷ listing_entries) a = (a.0, before_names n listing_entries a.1)
 
-strict_names : (rows : List Row) → IsStrictlySortedBy row_order rows → IsStrictlySortedBy version_order (names_of (map row_view rows))
+strict_names : (listing_entries : List ListingEntry) → IsStrictlySortedBy row_order listing_entries → IsStrictlySortedBy version_order (names_of (map listing_entry_view listing_entries))
 unfolding IsStrictlySortedBy
 strict_names [] s = tt
-strict_names (r ∷ rows) s = (before_names (name_of r) rows s.0, strict_names rows s.1)
+strict_names (r ∷ listing_entries) s = (before_names (name_of r) listing_entries s.0, strict_names listing_entries s.1)
 
-unmap : (Q : listed.Row → Type 0) (rows : List Row) → AllByRecursion Q (map row_view rows) → AllByRecursion (λ r. Q (row_view r)) rows
+unmap : (Q : listed.ListingEntry → Type 0) (listing_entries : List ListingEntry) → AllByRecursion Q (map listing_entry_view listing_entries) → AllByRecursion (λ r. Q (listing_entry_view r)) listing_entries
 unmap Q [] a = tt
-unmap Q (r ∷ rows) a = (a.0, unmap Q rows a.1)
+unmap Q (r ∷ listing_entries) a = (a.0, unmap Q listing_entries a.1)
 
-remap : (Q : listed.Row → Type 0) (rows : List Row) → AllByRecursion (λ r. Q (row_view r)) rows → AllByRecursion Q (map row_view rows)
+remap : (Q : listed.ListingEntry → Type 0) (listing_entries : List ListingEntry) → AllByRecursion (λ r. Q (listing_entry_view r)) listing_entries → AllByRecursion Q (map listing_entry_view listing_entries)
 remap Q [] a = tt
-remap Q (r ∷ rows) a = (a.0, remap Q rows a.1)
+remap Q (r ∷ listing_entries) a = (a.0, remap Q listing_entries a.1)
 
-any_name : (v : Text) (rows : List Row) → has v (names_of (map row_view rows)) ≡ list_any (λ r. bytes_eq v (name_of r)) rows
+any_name : (v : Text) (listing_entries : List ListingEntry) → has v (names_of (map listing_entry_view listing_entries)) ≡ list_any (λ r. bytes_eq v (name_of r)) listing_entries
 any_name v [] = refl
-any_name v (r ∷ rows) = ap (λ b. bytes_eq v (name_of r) || b) (any_name v rows)
+any_name v (r ∷ listing_entries) = ap (λ b. bytes_eq v (name_of r) || b) (any_name v listing_entries)
 
 same_name_equiv : IsEquivalence is_same_name
 same_name_equiv = on_equiv name_of nat_list_eq_equiv
 
-kept_name : (v : Text) (first sorted : List Row) → IsPermutation first sorted → has v (names_of (map row_view first)) ≡ true → has v (names_of (map row_view (dedup is_same_name sorted))) ≡ true
+kept_name : (v : Text) (first sorted : List ListingEntry) → IsPermutation first sorted → has v (names_of (map listing_entry_view first)) ≡ true → has v (names_of (map listing_entry_view (dedup is_same_name sorted))) ≡ true
 kept_name v first sorted moved h =
     let (k, x, lt, at, q) = Any-from_list_any (λ r. bytes_eq v (name_of r)) first (sym (any_name v first) ∙ h) in
     let (j, y, jlt, jat, e) = Any-dedup same_name_equiv sorted x (Contains-permutation first sorted x moved (k, lt, at)) in
@@ -80,57 +80,57 @@ kept_name v first sorted moved h =
     any_name v (dedup is_same_name sorted)
     ∙ list_any-from_Any (λ r. bytes_eq v (name_of r)) (dedup is_same_name sorted) (j, y, jlt, jat, (bytes_eq-Decides v (name_of y)).1 n)
 
-module _ (leaves : Text → Text → Option Left → Type 0) (files : Files) (folders : Listings) (dir : Text) where
-  abbrev Right : listed.Row → Type 0
-  Right row = IsUnder files folders dir None row.0 × IsMarkRight leaves files folders dir row
+module _ (results : Text → Text → Option DefaultFileResult → Type 0) (files : Files) (folders : Listings) (dir : Text) where
+  abbrev Right : listed.ListingEntry → Type 0
+  Right listing_entry = IsUnder files folders dir None listing_entry.0 × IsMarkRight results files folders dir listing_entry
 
   below_from : (v : Text) → IsUnder files folders dir None v → IsBelow files folders dir v
-  below_from v u = record { spelled = u.spelled; leads = subst (λ r. LeadsThrough folders dir (parts r)) (sym u.joined) u.leads; file = u.file }
+  below_from v u = record { spelled = u.spelled; reaches = subst (λ r. ReachesThrough folders dir (parts r)) (sym u.joined) u.reaches; file = u.file }
 
   under_from : (v : Text) → IsBelow files folders dir v → IsUnder files folders dir None v
-  under_from v b = record { rest = v; joined = refl; spelled = b.spelled; leads = b.leads; file = b.file }
+  under_from v b = record { rest = v; joined = refl; spelled = b.spelled; reaches = b.reaches; file = b.file }
 
-  named_under : (v : Text) (rows : List listed.Row) → AllByRecursion Right rows → has v (names_of rows) ≡ true → IsUnder files folders dir None v
+  named_under : (v : Text) (listing_entries : List listed.ListingEntry) → AllByRecursion Right listing_entries → has v (names_of listing_entries) ≡ true → IsUnder files folders dir None v
   named_under v [] a h = absurd (cc)
-  named_under v (r ∷ rows) a h =
-      ⊎_elim (λ q. subst (IsUnder files folders dir None) (sym (same v r.0 q)) a.0.0) (λ q. named_under v rows a.1 q) (or_cases (bytes_eq v r.0) (has v (names_of rows)) h)
+  named_under v (r ∷ listing_entries) a h =
+      ⊎_elim (λ q. subst (IsUnder files folders dir None) (sym (same v r.0 q)) a.0.0) (λ q. named_under v listing_entries a.1 q) (or_cases (bytes_eq v r.0) (has v (names_of listing_entries)) h)
 
-  marked_named : (v : Text) (rows : List listed.Row) → AllByRecursion Right rows → is_marked v rows ≡ true → IsUnder files folders dir None v × IsNamed leaves files folders dir v
+  marked_named : (v : Text) (listing_entries : List listed.ListingEntry) → AllByRecursion Right listing_entries → is_marked v listing_entries ≡ true → IsUnder files folders dir None v × IsNamed results files folders dir v
   marked_named v [] a h = absurd (cc)
-  marked_named v (r ∷ rows) a h =
+  marked_named v (r ∷ listing_entries) a h =
       ⊎_elim (λ q. let p = and_parts (bytes_eq v r.0) r.1 q in
       let e : r.0 ≡ v = sym (same v r.0 p.0) in
-      (subst (IsUnder files folders dir None) e a.0.0, subst (IsNamed leaves files folders dir) e (a.0.1.0 p.1)))
-      (λ q. marked_named v rows a.1 q) (or_cases (bytes_eq v r.0 && r.1) (is_marked v rows) h)
+      (subst (IsUnder files folders dir None) e a.0.0, subst (IsNamed results files folders dir) e (a.0.1.0 p.1)))
+      (λ q. marked_named v listing_entries a.1 q) (or_cases (bytes_eq v r.0 && r.1) (is_marked v listing_entries) h)
 
-  named_marked : (v : Text) (rows : List listed.Row) → AllByRecursion Right rows → has v (names_of rows) ≡ true → IsNamed leaves files folders dir v → is_marked v rows ≡ true
+  named_marked : (v : Text) (listing_entries : List listed.ListingEntry) → AllByRecursion Right listing_entries → has v (names_of listing_entries) ≡ true → IsNamed results files folders dir v → is_marked v listing_entries ≡ true
   named_marked v [] a h n = absurd (cc)
-  named_marked v (r ∷ rows) a h n =
-      ⊎_elim (λ q. or_left (bytes_eq v r.0 && r.1) (is_marked v rows) (and_from (bytes_eq v r.0) r.1 q (a.0.1.1 (subst (IsNamed leaves files folders dir) (same v r.0 q) n))))
-      (λ q. or_right (bytes_eq v r.0 && r.1) (is_marked v rows) (named_marked v rows a.1 q n)) (or_cases (bytes_eq v r.0) (has v (names_of rows)) h)
+  named_marked v (r ∷ listing_entries) a h n =
+      ⊎_elim (λ q. or_left (bytes_eq v r.0 && r.1) (is_marked v listing_entries) (and_from (bytes_eq v r.0) r.1 q (a.0.1.1 (subst (IsNamed results files folders dir) (same v r.0 q) n))))
+      (λ q. or_right (bytes_eq v r.0 && r.1) (is_marked v listing_entries) (named_marked v listing_entries a.1 q n)) (or_cases (bytes_eq v r.0) (has v (names_of listing_entries)) h)
 
-  sound_kept : (first sorted : List Row) → IsPermutation first sorted → AllByRecursion Right (map row_view first) → AllByRecursion Right (map row_view (dedup is_same_name sorted))
+  sound_kept : (first sorted : List ListingEntry) → IsPermutation first sorted → AllByRecursion Right (map listing_entry_view first) → AllByRecursion Right (map listing_entry_view (dedup is_same_name sorted))
   sound_kept first sorted moved a =
-      let P : Row → Type 0 = λ r. Right (row_view r) in
+      let P : ListingEntry → Type 0 = λ r. Right (listing_entry_view r) in
       let all = All-permutation P first sorted moved (All-from_recursion P first (unmap Right first a)) in
       remap Right (dedup is_same_name sorted) (recursion_from_All P (dedup is_same_name sorted) (All-dedup is_same_name P sorted all))
 
-  pub listing_is : (first sorted last : List Row) (more : List listed.Row) → map row_view first ≡ [] ++ more → AreRows leaves files folders dir (IsUnder files folders dir None) more
-      → IsPermutation first sorted → IsSortedBy goes_before sorted → last ≡ dedup is_same_name sorted → IsListing leaves files folders dir (map row_view last)
-  listing_is first sorted last more made rows moved up kept = subst (λ rs. IsListing leaves files folders dir (map row_view rs)) (sym kept) listing
+  pub listing_is : (first sorted last : List ListingEntry) (more : List listed.ListingEntry) → map listing_entry_view first ≡ [] ++ more → AreListingEntries results files folders dir (IsUnder files folders dir None) more
+      → IsPermutation first sorted → IsSortedBy goes_before sorted → last ≡ dedup is_same_name sorted → IsListing results files folders dir (map listing_entry_view last)
+  listing_is first sorted last more made listing_entries moved up kept = subst (λ rs. IsListing results files folders dir (map listing_entry_view rs)) (sym kept) listing
     where
-      sound : AllByRecursion Right (map row_view (dedup is_same_name sorted))
-      sound = sound_kept first sorted moved (subst (AllByRecursion Right) (sym made) rows.sound)
+      sound : AllByRecursion Right (map listing_entry_view (dedup is_same_name sorted))
+      sound = sound_kept first sorted moved (subst (AllByRecursion Right) (sym made) listing_entries.sound)
 
-      complete : (v : Text) → IsBelow files folders dir v → has v (names_of (map row_view (dedup is_same_name sorted))) ≡ true
-      complete v b = kept_name v first sorted moved (ap (λ rs. has v (names_of rs)) made ∙ rows.complete v (under_from v b))
+      complete : (v : Text) → IsBelow files folders dir v → has v (names_of (map listing_entry_view (dedup is_same_name sorted))) ≡ true
+      complete v b = kept_name v first sorted moved (ap (λ rs. has v (names_of rs)) made ∙ listing_entries.complete v (under_from v b))
 
-      listing : IsListing leaves files folders dir (map row_view (dedup is_same_name sorted))
+      listing : IsListing results files folders dir (map listing_entry_view (dedup is_same_name sorted))
       listing = record {
         order = strict_names (dedup is_same_name sorted) (IsStrictlySortedBy-dedup {R = row_order} (on_total name_of total) ties sorted up);
-        names = λ v. (λ h. below_from v (named_under v (map row_view (dedup is_same_name sorted)) sound h), λ b. complete v b);
+        names = λ v. (λ h. below_from v (named_under v (map listing_entry_view (dedup is_same_name sorted)) sound h), λ b. complete v b);
         marks = λ v. (
-          λ h. let p = marked_named v (map row_view (dedup is_same_name sorted)) sound h in (below_from v p.0, p.1),
-          λ p. named_marked v (map row_view (dedup is_same_name sorted)) sound (complete v p.0) p.1,
+          λ h. let p = marked_named v (map listing_entry_view (dedup is_same_name sorted)) sound h in (below_from v p.0, p.1),
+          λ p. named_marked v (map listing_entry_view (dedup is_same_name sorted)) sound (complete v p.0) p.1,
         );
       }

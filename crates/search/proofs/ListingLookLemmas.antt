@@ -9,12 +9,12 @@ use Rattle.modulename.specs.ModuleName.{Text, slash, parts, is_module_name}
 use Rattle.filetree.specs.Agreement.{Files, Listings}
 use Rattle.filetree.specs.Modulefiles.{path_of}
 use Rattle.search.specs.Single.{is_single}
-use Rattle.search.specs.DefaultFiles.{Left}
+use Rattle.search.specs.DefaultFiles.{DefaultFileResult}
 use Rattle.search.specs.Found.{HasEntry}
-use Rattle.search.specs.Listed.{LeadsThrough, IsBelow}
+use Rattle.search.specs.Listed.{ReachesThrough, IsBelow}
 use Rattle.search.specs.Looked.{IsReached}
 use Rattle.search.proofs.VersionLemmas.{has, in_filter, split_first}
-use Rattle.search.specs.BelowFolder.{folder_path, name_below, names_in, is_module_below, LooksAmong, LooksForDefault, IsFolderOf, LooksFrom}
+use Rattle.search.specs.BelowFolder.{folder_path, name_below, names_in, is_module_below, LooksAmong, LooksForDefault, IsFolderOf, LooksFromFolder}
 use Rattle.search.proofs.PartLemmas.{parts-single, parts-path, parts-some, path-assoc}
 use Rattle.search.proofs.UnderLemmas.{name_from}
 
@@ -35,41 +35,41 @@ walked_parts dir name = at (parts name) refl
     at (p ∷ ps) e = walked_joined dir p ps ∙ ap (path_of dir) (ap (join_with_byte slash) (sym e) ∙ join_with_byte-slice_split slash name)
 
 -- one part more is reached
-leads_further : (folders : Listings) (path : Text) (ps : List Text) (e : Text) → LeadsThrough folders path ps → HasEntry folders (walked path ps) e
-    → LeadsThrough folders path (ps ++ e ∷ [])
-leads_further folders path [] e l h = (h, tt)
-leads_further folders path (p ∷ ps) e l h = (l.0, leads_further folders (path_of path p) ps e l.1 h)
+reaches_further : (folders : Listings) (path : Text) (ps : List Text) (e : Text) → ReachesThrough folders path ps → HasEntry folders (walked path ps) e
+    → ReachesThrough folders path (ps ++ e ∷ [])
+reaches_further folders path [] e l h = (h, tt)
+reaches_further folders path (p ∷ ps) e l h = (l.0, reaches_further folders (path_of path p) ps e l.1 h)
 
-entry_reached : (folders : Listings) (dir : Text) (front : Option Text) (e : Text) → IsFolderOf folders dir front → HasEntry folders (folder_path dir front) e → is_single e ≡ true
-    → is_module_name (name_below front e) ≡ true → IsReached folders dir (name_below front e)
-entry_reached folders dir None e folder h s spelled = record { spelled = spelled; leads = subst (LeadsThrough folders dir) (sym (parts-single e s)) (h, tt) }
+entry_reached : (folders : Listings) (dir : Text) (prefix : Option Text) (e : Text) → IsFolderOf folders dir prefix → HasEntry folders (folder_path dir prefix) e → is_single e ≡ true
+    → is_module_name (name_below prefix e) ≡ true → IsReached folders dir (name_below prefix e)
+entry_reached folders dir None e folder h s spelled = record { spelled = spelled; reaches = subst (ReachesThrough folders dir) (sym (parts-single e s)) (h, tt) }
 entry_reached folders dir (Some f) e folder h s spelled = record {
   spelled = spelled;
-  leads = subst (LeadsThrough folders dir) (sym (parts-path f e ∙ ap (λ x. parts f ++ x) (parts-single e s)))
-      (leads_further folders dir (parts f) e folder.leads (subst (λ p. HasEntry folders p e) (sym (walked_parts dir f)) h));
+  reaches = subst (ReachesThrough folders dir) (sym (parts-path f e ∙ ap (λ x. parts f ++ x) (parts-single e s)))
+      (reaches_further folders dir (parts f) e folder.reaches (subst (λ p. HasEntry folders p e) (sym (walked_parts dir f)) h));
 }
 
 -- the names that are reached by the entries of a folder
-pub name_reached : (folders : Listings) (dir : Text) (front : Option Text) (entries : List Text) → folders (folder_path dir front) ≡ Some entries
-    → (n : Text) → has n (names_in front entries) ≡ true → IsFolderOf folders dir front → IsReached folders dir n
-name_reached folders dir front entries listed n h folder =
-    let r = name_from front entries n h in
-    subst (IsReached folders dir) (sym r.1) (entry_reached folders dir front r.0 folder (entries, listed, r.2) r.3 (ap is_module_name (sym r.1) ∙ r.4))
+pub name_reached : (folders : Listings) (dir : Text) (prefix : Option Text) (entries : List Text) → folders (folder_path dir prefix) ≡ Some entries
+    → (n : Text) → has n (names_in prefix entries) ≡ true → IsFolderOf folders dir prefix → IsReached folders dir n
+name_reached folders dir prefix entries listed n h folder =
+    let r = name_from prefix entries n h in
+    subst (IsReached folders dir) (sym r.1) (entry_reached folders dir prefix r.0 folder (entries, listed, r.2) r.3 (ap is_module_name (sym r.1) ∙ r.4))
 
-module _ (leaves : Text → Text → Option Left → Type 0) (files : Files) (folders : Listings) (dir : Text) where
-  pub looks_at_folder : (front : Option Text) (at : Text) → at ≡ folder_path dir front → LooksFrom leaves files folders dir front at
+module _ (results : Text → Text → Option DefaultFileResult → Type 0) (files : Files) (folders : Listings) (dir : Text) where
+  pub looks_at_folder : (prefix : Option Text) (at : Text) → at ≡ folder_path dir prefix → LooksFromFolder results files folders dir prefix at
   looks_at_folder None at e = λ folder. inl e
   looks_at_folder (Some f) at e = λ folder. inr (inl (f, folder, e))
 
-  module _ (front : Option Text) (entries : List Text) (listed : folders (folder_path dir front) ≡ Some entries) (names : List Text) (named : names ≡ names_in front entries) where
-    pub looks_among : (at : Text) → LooksAmong dir names at → LooksFrom leaves files folders dir front at
-    looks_among at (n, h, e) = λ folder. inr (inl (n, name_reached folders dir front entries listed n (ap (has n) (sym named) ∙ h) folder, e))
+  module _ (prefix : Option Text) (entries : List Text) (listed : folders (folder_path dir prefix) ≡ Some entries) (names : List Text) (named : names ≡ names_in prefix entries) where
+    pub looks_among : (at : Text) → LooksAmong dir names at → LooksFromFolder results files folders dir prefix at
+    looks_among at (n, h, e) = λ folder. inr (inl (n, name_reached folders dir prefix entries listed n (ap (has n) (sym named) ∙ h) folder, e))
 
-    pub looks_inside : (n : Text) → has n names ≡ true → (at : Text) → LooksFrom leaves files folders dir (Some n) at → LooksFrom leaves files folders dir front at
-    looks_inside n h at l = λ folder. l (name_reached folders dir front entries listed n (ap (has n) (sym named) ∙ h) folder)
+    pub looks_inside : (n : Text) → has n names ≡ true → (at : Text) → LooksFromFolder results files folders dir (Some n) at → LooksFromFolder results files folders dir prefix at
+    looks_inside n h at l = λ folder. l (name_reached folders dir prefix entries listed n (ap (has n) (sym named) ∙ h) folder)
 
-  pub looks_at_default : (front : Option Text) (entries : List Text) → folders (folder_path dir front) ≡ Some entries → (names modules : List Text) → names ≡ names_in front entries
-      → modules ≡ filter (is_module_below files dir) names → (modules ≡ [] → ⊥) → (at : Text) → LooksForDefault leaves files folders dir front at → LooksFrom leaves files folders dir front at
+  pub looks_at_default : (prefix : Option Text) (entries : List Text) → folders (folder_path dir prefix) ≡ Some entries → (names modules : List Text) → names ≡ names_in prefix entries
+      → modules ≡ filter (is_module_below files dir) names → (modules ≡ [] → ⊥) → (at : Text) → LooksForDefault results files folders dir prefix at → LooksFromFolder results files folders dir prefix at
   looks_at_default None entries listed names modules named made some at l = absurd l
   looks_at_default (Some f) entries listed names [] named made some at l = absurd (some refl)
   looks_at_default (Some f) entries listed names (m ∷ ms) named made some at l = λ folder.
@@ -77,7 +77,7 @@ module _ (leaves : Text → Text → Option Left → Type 0) (files : Files) (fo
       let h = ap (has m) (sym named) ∙ p.0 in
       let r = name_from (Some f) entries m h in
       let here = name_reached folders dir (Some f) entries listed m h folder in
-      inr (inr (f, (r.0, r.3, subst (IsBelow files folders dir) r.1 (record { spelled = here.spelled; leads = here.leads; file = p.1 })), l))
+      inr (inr (f, (r.0, r.3, subst (IsBelow files folders dir) r.1 (record { spelled = here.spelled; reaches = here.reaches; file = p.1 })), l))
 
 -- the first of what remains, and the rest
 module _ {X : Type 0} (view : X → Text) (d : X) (rest : List X) (some : 1 ≤ length rest) where

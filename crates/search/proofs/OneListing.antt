@@ -9,10 +9,10 @@ use Rattle.std.proofs.lemmas.Slice.Eq.{bytes_eq-Decides}
 use Rattle.modulename.specs.ModuleName.{Text}
 use Rattle.filetree.specs.Agreement.{Files, Listings}
 use Rattle.filetree.specs.Modulefiles.{directories}
-use Rattle.search.specs.DefaultFiles.{Left}
-use Rattle.moduleversion.specs.Versions.{version_order}
-use Rattle.search.specs.Listed.{Row, names_of, is_marked, IsListing, Listing, AreListings, Listed}
-use Rattle.moduleversion.proofs.OrderLemmas.{total}
+use Rattle.search.specs.DefaultFiles.{DefaultFileResult}
+use Rattle.modulename.specs.Versions.{version_order}
+use Rattle.search.specs.Listed.{ListingEntry, names_of, is_marked, IsListing, Listing, AreListings, Listed}
+use Rattle.modulename.proofs.OrderLemmas.{total}
 
 abbrev Sorted : List Text → Type 0
 Sorted xs = IsStrictlySortedBy version_order xs
@@ -68,22 +68,22 @@ one_names (x ∷ xs) (y ∷ ys) s t m =
     let r : xs ≡ ys = one_names xs ys s.1 t'.1 (λ v. (rest_in x xs ys s (λ w. (m' w).0) v, rest_in x ys xs t' (λ w. (m' w).1) v)) in
     ap (λ z. z ∷ xs) e ∙ ap (λ zs. y ∷ zs) r
 
-marked_has : (name : Text) (rows : List Row) → is_marked name rows ≡ true → has name (names_of rows) ≡ true
+marked_has : (name : Text) (listing_entries : List ListingEntry) → is_marked name listing_entries ≡ true → has name (names_of listing_entries) ≡ true
 marked_has name [] h = absurd (cc)
-marked_has name ((n, b) ∷ rows) h =
-    ⊎_elim (λ e. or_left (bytes_eq name n) (has name (names_of rows)) (and_parts (bytes_eq name n) b e).0)
-    (λ e. or_right (bytes_eq name n) (has name (names_of rows)) (marked_has name rows e))
-    (or_cases (bytes_eq name n && b) (is_marked name rows) h)
+marked_has name ((n, b) ∷ listing_entries) h =
+    ⊎_elim (λ e. or_left (bytes_eq name n) (has name (names_of listing_entries)) (and_parts (bytes_eq name n) b e).0)
+    (λ e. or_right (bytes_eq name n) (has name (names_of listing_entries)) (marked_has name listing_entries e))
+    (or_cases (bytes_eq name n && b) (is_marked name listing_entries) h)
 
 -- the mark of the first module
-first_mark : (n : Text) (b : Bool) (c : Bool) (rs qs : List Row) → Sorted (n ∷ names_of qs) → (is_marked n ((n, b) ∷ rs) ≡ true → is_marked n ((n, c) ∷ qs) ≡ true) → b ≡ true → c ≡ true
+first_mark : (n : Text) (b : Bool) (c : Bool) (rs qs : List ListingEntry) → Sorted (n ∷ names_of qs) → (is_marked n ((n, b) ∷ rs) ≡ true → is_marked n ((n, c) ∷ qs) ≡ true) → b ≡ true → c ≡ true
 unfolding IsStrictlySortedBy
 first_mark n b c rs qs s m e =
     ⊎_elim (λ g. (and_parts (bytes_eq n n) c g).1)
     (λ g. absurd (not_below_itself n (below (λ w. version_order n w ≡ Less) n (names_of qs) s.0 (marked_has n qs g))))
     (or_cases (bytes_eq n n && c) (is_marked n qs) (m (or_left (bytes_eq n n && b) (is_marked n rs) (and_from (bytes_eq n n) b (itself n) e))))
 
-rest_mark : (n : Text) (b c : Bool) (rs qs : List Row) → Sorted (n ∷ names_of rs) → ((v : Text) → is_marked v ((n, b) ∷ rs) ≡ true → is_marked v ((n, c) ∷ qs) ≡ true) → (v : Text) → is_marked v rs ≡ true → is_marked v qs ≡ true
+rest_mark : (n : Text) (b c : Bool) (rs qs : List ListingEntry) → Sorted (n ∷ names_of rs) → ((v : Text) → is_marked v ((n, b) ∷ rs) ≡ true → is_marked v ((n, c) ∷ qs) ≡ true) → (v : Text) → is_marked v rs ≡ true → is_marked v qs ≡ true
 unfolding IsStrictlySortedBy
 rest_mark n b c rs qs s m v h =
     ⊎_elim (λ e. absurd (not_below_itself n (subst (λ w. version_order n w ≡ Less) (same v n (and_parts (bytes_eq v n) c e).0) (below (λ w. version_order n w ≡ Less) v (names_of rs) s.0 (marked_has v rs h)))))
@@ -94,7 +94,7 @@ alike true c f g = sym (f refl)
 alike false true f g = g refl
 alike false false f g = refl
 
-one_rows : (rs qs : List Row) → Sorted (names_of rs) → Sorted (names_of qs) → names_of rs ≡ names_of qs → ((v : Text) → (is_marked v rs ≡ true) ↔ (is_marked v qs ≡ true)) → rs ≡ qs
+one_rows : (rs qs : List ListingEntry) → Sorted (names_of rs) → Sorted (names_of qs) → names_of rs ≡ names_of qs → ((v : Text) → (is_marked v rs ≡ true) ↔ (is_marked v qs ≡ true)) → rs ≡ qs
 unfolding IsStrictlySortedBy
 one_rows [] [] s t e m = refl
 one_rows [] (q ∷ qs) s t e m = absurd (cc)
@@ -108,23 +108,23 @@ one_rows ((n, b) ∷ rs) ((k, c) ∷ qs) s t e m =
     let r : rs ≡ qs = one_rows rs qs s.1 t'.1 g (λ v. (rest_mark n b c rs qs s (λ w. (m' w).0) v, rest_mark n c b qs rs t' (λ w. (m' w).1) v)) in
     ap (λ z. (z, b) ∷ rs) h ∙ (ap (λ z. (k, z) ∷ rs) f ∙ ap (λ z. (k, c) ∷ z) r)
 
-one_listing : (leaves : Text → Text → Option Left → Type 0) (files : Files) (listings : Listings) (dir : Text) (rs qs : List Row) → IsListing leaves files listings dir rs → IsListing leaves files listings dir qs → rs ≡ qs
-one_listing leaves files listings dir rs qs h k =
+one_listing : (results : Text → Text → Option DefaultFileResult → Type 0) (files : Files) (listings : Listings) (dir : Text) (rs qs : List ListingEntry) → IsListing results files listings dir rs → IsListing results files listings dir qs → rs ≡ qs
+one_listing results files listings dir rs qs h k =
     one_rows rs qs h.order k.order
     (one_names (names_of rs) (names_of qs) h.order k.order (λ v. (λ e. (k.names v).1 ((h.names v).0 e), λ e. (h.names v).1 ((k.names v).0 e))))
     (λ v. (λ e. (k.marks v).1 ((h.marks v).0 e), λ e. (h.marks v).1 ((k.marks v).0 e)))
 
-one_listings : (leaves : Text → Text → Option Left → Type 0) (files : Files) (listings : Listings) (dirs : List Text) (ls ks : List Listing) → AreListings leaves files listings dirs ls → AreListings leaves files listings dirs ks → ls ≡ ks
-one_listings leaves files listings [] [] [] h k = refl
-one_listings leaves files listings [] [] (y ∷ ys) h k = absurd k
-one_listings leaves files listings [] (x ∷ xs) ks h k = absurd h
-one_listings leaves files listings (dir ∷ dirs) [] ks h k = absurd h
-one_listings leaves files listings (dir ∷ dirs) (x ∷ xs) [] h k = absurd k
-one_listings leaves files listings (dir ∷ dirs) ((d, rs) ∷ xs) ((c, qs) ∷ ys) h k =
+one_listings : (results : Text → Text → Option DefaultFileResult → Type 0) (files : Files) (listings : Listings) (dirs : List Text) (ls ks : List Listing) → AreListings results files listings dirs ls → AreListings results files listings dirs ks → ls ≡ ks
+one_listings results files listings [] [] [] h k = refl
+one_listings results files listings [] [] (y ∷ ys) h k = absurd k
+one_listings results files listings [] (x ∷ xs) ks h k = absurd h
+one_listings results files listings (dir ∷ dirs) [] ks h k = absurd h
+one_listings results files listings (dir ∷ dirs) (x ∷ xs) [] h k = absurd k
+one_listings results files listings (dir ∷ dirs) ((d, rs) ∷ xs) ((c, qs) ∷ ys) h k =
     let e : d ≡ c = h.0 ∙ sym k.0 in
-    let r : rs ≡ qs = one_listing leaves files listings dir rs qs h.1 k.1 in
-    let m : xs ≡ ys = one_listings leaves files listings dirs xs ys h.2 k.2 in
+    let r : rs ≡ qs = one_listing results files listings dir rs qs h.1 k.1 in
+    let m : xs ≡ ys = one_listings results files listings dirs xs ys h.2 k.2 in
     ap (λ z. (z, rs) ∷ xs) e ∙ (ap (λ z. (c, z) ∷ xs) r ∙ ap (λ z. (c, qs) ∷ z) m)
 
-pub one_listed : (leaves : Text → Text → Option Left → Type 0) (files : Files) (listings : Listings) (modulepath : Text) (ls ks : List Listing) → Listed leaves files listings modulepath ls → Listed leaves files listings modulepath ks → ls ≡ ks
-one_listed leaves files listings modulepath ls ks h k = one_listings leaves files listings (directories modulepath) ls ks h k
+pub one_listed : (results : Text → Text → Option DefaultFileResult → Type 0) (files : Files) (listings : Listings) (modulepath : Text) (ls ks : List Listing) → Listed results files listings modulepath ls → Listed results files listings modulepath ks → ls ≡ ks
+one_listed results files listings modulepath ls ks h k = one_listings results files listings (directories modulepath) ls ks h k

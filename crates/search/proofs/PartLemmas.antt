@@ -39,7 +39,7 @@ path_step true b xs ys zs e some = ap (λ w. [] ∷ w) e
 path_step false b [] ys zs e some = absurd (some refl)
 path_step false b (x ∷ xs) ys zs e some = ap (onto_first b) e
 
-pub parts-path : (front rest : Text) → parts (path_of front rest) ≡ parts front ++ parts rest
+pub parts-path : (prefix rest : Text) → parts (path_of prefix rest) ≡ parts prefix ++ parts rest
 parts-path [] rest = refl
 parts-path (b ∷ bs) rest = path_step (b == slash) b (parts bs) (parts rest) (parts (path_of bs rest)) (parts-path bs rest) (parts-some bs)
 
@@ -62,35 +62,35 @@ cut (b ∷ bs) = cut_step (b == slash) b bs refl (cut bs)
 pub path-assoc : (a b c : Text) → path_of (path_of a b) c ≡ path_of a (path_of b c)
 path-assoc a b c = append_assoc a (slash ∷ b) (slash ∷ c)
 
-pub name_below-path : (front : Option Text) (e more : Text) → name_below front (path_of e more) ≡ path_of (name_below front e) more
+pub name_below-path : (prefix : Option Text) (e more : Text) → name_below prefix (path_of e more) ≡ path_of (name_below prefix e) more
 name_below-path None e more = refl
 name_below-path (Some f) e more = sym (path-assoc f e more)
 
-pub folder_path-below : (dir : Text) (front : Option Text) (e : Text) → folder_path dir (Some (name_below front e)) ≡ path_of (folder_path dir front) e
+pub folder_path-below : (dir : Text) (prefix : Option Text) (e : Text) → folder_path dir (Some (name_below prefix e)) ≡ path_of (folder_path dir prefix) e
 folder_path-below dir None e = refl
 folder_path-below dir (Some f) e = sym (path-assoc dir f e)
 
-pub parts_of-below : (front : Option Text) (e : Text) → is_single e ≡ true → parts_of (Some (name_below front e)) ≡ parts_of front ++ e ∷ []
+pub parts_of-below : (prefix : Option Text) (e : Text) → is_single e ≡ true → parts_of (Some (name_below prefix e)) ≡ parts_of prefix ++ e ∷ []
 parts_of-below None e s = parts-single e s
 parts_of-below (Some f) e s = parts-path f e ∙ ap (λ x. parts f ++ x) (parts-single e s)
 
-all_front : (p : Text → Bool) (xs ys : List Text) → list_all p (xs ++ ys) ≡ true → list_all p xs ≡ true
-all_front p [] ys h = refl
-all_front p (x ∷ xs) ys h =
-    let q = and_parts (p x) (list_all p (xs ++ ys)) h in and_from (p x) (list_all p xs) q.0 (all_front p xs ys q.1)
+all_prefix : (p : Text → Bool) (xs ys : List Text) → list_all p (xs ++ ys) ≡ true → list_all p xs ≡ true
+all_prefix p [] ys h = refl
+all_prefix p (x ∷ xs) ys h =
+    let q = and_parts (p x) (list_all p (xs ++ ys)) h in and_from (p x) (list_all p xs) q.0 (all_prefix p xs ys q.1)
 
-few_front : (xs ys : List Text) → nat_le (length (xs ++ ys)) 4 ≡ true → nat_le (length xs) 4 ≡ true
-few_front xs ys h = let e = length-append xs ys in grind (arith, nat_tests)
+few_prefix : (xs ys : List Text) → nat_le (length (xs ++ ys)) 4 ≡ true → nat_le (length xs) 4 ≡ true
+few_prefix xs ys h = let e = length-append xs ys in grind (arith, nat_tests)
 
 spelled_step : (ps xs ys : List Text) → ps ≡ xs ++ ys → (list_all is_part ps && nat_le (length ps) 4) ≡ true → (list_all is_part xs && nat_le (length xs) 4) ≡ true
 spelled_step ps xs ys e h =
     let k : (list_all is_part (xs ++ ys) && nat_le (length (xs ++ ys)) 4) ≡ true = ap (λ zs. list_all is_part zs && nat_le (length zs) 4) (sym e) ∙ h in
     let q = and_parts (list_all is_part (xs ++ ys)) (nat_le (length (xs ++ ys)) 4) k in
-    and_from (list_all is_part xs) (nat_le (length xs) 4) (all_front is_part xs ys q.0) (few_front xs ys q.1)
+    and_from (list_all is_part xs) (nat_le (length xs) 4) (all_prefix is_part xs ys q.0) (few_prefix xs ys q.1)
 
 -- the prefix of a name is a name
-pub spelled_front : (name more : Text) → is_module_name (path_of name more) ≡ true → is_module_name name ≡ true
-spelled_front name more h = spelled_step (parts (path_of name more)) (parts name) (parts more) (parts-path name more) h
+pub spelled_prefix : (name more : Text) → is_module_name (path_of name more) ≡ true → is_module_name name ≡ true
+spelled_prefix name more h = spelled_step (parts (path_of name more)) (parts name) (parts more) (parts-path name more) h
 
 some_length : (xs : List Text) → (xs ≡ [] → ⊥) → 1 ≤ length xs
 some_length [] h = absurd (h refl)
@@ -100,7 +100,7 @@ few : (n : ℕ) → nat_le n 4 ≡ true → n ≤ 4
 few n h = grind (arith, nat_tests)
 
 -- below four parts there is no name
-pub too_deep : (front : Option Text) (rest name : Text) → 4 ≤ length (parts_of front) → name ≡ name_below front rest → is_module_name name ≡ true → ⊥
+pub too_deep : (prefix : Option Text) (rest name : Text) → 4 ≤ length (parts_of prefix) → name ≡ name_below prefix rest → is_module_name name ≡ true → ⊥
 too_deep None rest name deep e spelled = absurd (omega arith)
 too_deep (Some f) rest name deep e spelled =
     let q = few (length (parts name)) (and_parts (list_all is_part (parts name)) (nat_le (length (parts name)) 4) spelled).1 in
@@ -119,10 +119,10 @@ snoc_same (x ∷ xs) (y ∷ ys) a b h =
     let r = snoc_same xs ys a b t in (ap (λ z. z ∷ xs) p ∙ ap (λ zs. y ∷ zs) r.0, r.1)
 
 -- a name in a folder is in no other folder
-pub one_folder : (front folder e version : Text) → is_single e ≡ true → parts (path_of front e) ≡ parts folder ++ version ∷ [] → (front ≡ folder) × (e ≡ version)
-one_folder front folder e version s h =
-    let r = snoc_same (parts front) (parts folder) e version (ap (λ x. parts front ++ x) (sym (parts-single e s)) ∙ sym (parts-path front e) ∙ h) in
-    (sym (join_with_byte-slice_split slash front) ∙ ap (join_with_byte slash) r.0 ∙ join_with_byte-slice_split slash folder, r.1)
+pub one_folder : (prefix folder e version : Text) → is_single e ≡ true → parts (path_of prefix e) ≡ parts folder ++ version ∷ [] → (prefix ≡ folder) × (e ≡ version)
+one_folder prefix folder e version s h =
+    let r = snoc_same (parts prefix) (parts folder) e version (ap (λ x. parts prefix ++ x) (sym (parts-single e s)) ∙ sym (parts-path prefix e) ∙ h) in
+    (sym (join_with_byte-slice_split slash prefix) ∙ ap (join_with_byte slash) r.0 ∙ join_with_byte-slice_split slash folder, r.1)
 
 -- a single name is in no folder
 pub no_folder : (e folder version : Text) → is_single e ≡ true → parts e ≡ parts folder ++ version ∷ [] → ⊥

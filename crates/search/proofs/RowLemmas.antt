@@ -6,10 +6,10 @@ use Rattle.std.proofs.lemmas.Bool.{or_cases, or_left, or_right}
 use Rattle.std.proofs.lemmas.Slice.Eq.{bytes_eq-Decides}
 use Rattle.modulename.specs.ModuleName.{Text}
 use Rattle.filetree.specs.Agreement.{Files, Listings}
-use Rattle.search.specs.DefaultFiles.{Left}
-use Rattle.search.specs.Listed.{Row, names_of}
+use Rattle.search.specs.DefaultFiles.{DefaultFileResult}
+use Rattle.search.specs.Listed.{ListingEntry, names_of}
 use Rattle.search.proofs.VersionLemmas.{has, in_filter, filter_has}
-use Rattle.search.specs.BelowFolder.{is_module_below, IsMarkRight, AreFiles, AreRows}
+use Rattle.search.specs.BelowFolder.{is_module_below, IsMarkRight, AreEntriesOfFiles, AreListingEntries}
 
 same : (x y : Text) → bytes_eq x y ≡ true → x ≡ y
 same x y = (bytes_eq-Decides x y).0
@@ -17,9 +17,9 @@ same x y = (bytes_eq-Decides x y).0
 itself : (x : Text) → bytes_eq x x ≡ true
 itself x = (bytes_eq-Decides x x).1 refl
 
-names_of-append : (rows more : List Row) → names_of (rows ++ more) ≡ names_of rows ++ names_of more
+names_of-append : (listing_entries more : List ListingEntry) → names_of (listing_entries ++ more) ≡ names_of listing_entries ++ names_of more
 names_of-append [] more = refl
-names_of-append (r ∷ rows) more = ap (λ x. r.0 ∷ x) (names_of-append rows more)
+names_of-append (r ∷ listing_entries) more = ap (λ x. r.0 ∷ x) (names_of-append listing_entries more)
 
 has_left : (v : Text) (xs ys : List Text) → has v xs ≡ true → has v (xs ++ ys) ≡ true
 has_left v [] ys h = absurd (cc)
@@ -30,45 +30,45 @@ has_right : (v : Text) (xs ys : List Text) → has v ys ≡ true → has v (xs +
 has_right v [] ys h = h
 has_right v (x ∷ xs) ys h = or_right (bytes_eq v x) (has v (xs ++ ys)) (has_right v xs ys h)
 
-all_append : (P : Row → Type 0) (rows more : List Row) → AllByRecursion P rows → AllByRecursion P more → AllByRecursion P (rows ++ more)
+all_append : (P : ListingEntry → Type 0) (listing_entries more : List ListingEntry) → AllByRecursion P listing_entries → AllByRecursion P more → AllByRecursion P (listing_entries ++ more)
 all_append P [] more a b = b
-all_append P (r ∷ rows) more a b = (a.0, all_append P rows more a.1 b)
+all_append P (r ∷ listing_entries) more a b = (a.0, all_append P listing_entries more a.1 b)
 
-all_weaker : (P Q : Row → Type 0) → ((r : Row) → P r → Q r) → (rows : List Row) → AllByRecursion P rows → AllByRecursion Q rows
+all_weaker : (P Q : ListingEntry → Type 0) → ((r : ListingEntry) → P r → Q r) → (listing_entries : List ListingEntry) → AllByRecursion P listing_entries → AllByRecursion Q listing_entries
 all_weaker P Q f [] a = tt
-all_weaker P Q f (r ∷ rows) a = (f r a.0, all_weaker P Q f rows a.1)
+all_weaker P Q f (r ∷ listing_entries) a = (f r a.0, all_weaker P Q f listing_entries a.1)
 
 -- what holds of each name holds of each module with its mark
-all_named : (P : Text → Type 0) (M : Row → Type 0) (rows : List Row) → ((v : Text) → has v (names_of rows) ≡ true → P v) → AllByRecursion M rows → AllByRecursion (λ r. P r.0 × M r) rows
+all_named : (P : Text → Type 0) (M : ListingEntry → Type 0) (listing_entries : List ListingEntry) → ((v : Text) → has v (names_of listing_entries) ≡ true → P v) → AllByRecursion M listing_entries → AllByRecursion (λ r. P r.0 × M r) listing_entries
 all_named P M [] f a = tt
-all_named P M (r ∷ rows) f a = (
-  (f r.0 (or_left (bytes_eq r.0 r.0) (has r.0 (names_of rows)) (itself r.0)), a.0),
-  all_named P M rows (λ v h. f v (or_right (bytes_eq v r.0) (has v (names_of rows)) h)) a.1,
+all_named P M (r ∷ listing_entries) f a = (
+  (f r.0 (or_left (bytes_eq r.0 r.0) (has r.0 (names_of listing_entries)) (itself r.0)), a.0),
+  all_named P M listing_entries (λ v h. f v (or_right (bytes_eq v r.0) (has v (names_of listing_entries)) h)) a.1,
 )
 
-module _ (leaves : Text → Text → Option Left → Type 0) (files : Files) (folders : Listings) (dir : Text) where
-  pub rows_none : (Under : Text → Type 0) → ((v : Text) → Under v → ⊥) → AreRows leaves files folders dir Under []
+module _ (results : Text → Text → Option DefaultFileResult → Type 0) (files : Files) (folders : Listings) (dir : Text) where
+  pub rows_none : (Under : Text → Type 0) → ((v : Text) → Under v → ⊥) → AreListingEntries results files folders dir Under []
   rows_none Under none = record { sound = tt; complete = λ v u. absurd (none v u) }
 
-  pub rows_same : (Under Other : Text → Type 0) → ((v : Text) → Under v → Other v) → ((v : Text) → Other v → Under v) → (rows : List Row)
-      → AreRows leaves files folders dir Under rows → AreRows leaves files folders dir Other rows
-  rows_same Under Other into from rows a = record {
-    sound = all_weaker _ _ (λ r p. (into r.0 p.0, p.1)) rows a.sound;
+  pub rows_same : (Under Other : Text → Type 0) → ((v : Text) → Under v → Other v) → ((v : Text) → Other v → Under v) → (listing_entries : List ListingEntry)
+      → AreListingEntries results files folders dir Under listing_entries → AreListingEntries results files folders dir Other listing_entries
+  rows_same Under Other into from listing_entries a = record {
+    sound = all_weaker _ _ (λ r p. (into r.0 p.0, p.1)) listing_entries a.sound;
     complete = λ v u. a.complete v (from v u);
   }
 
-  pub rows_append : (Under Other Both : Text → Type 0) → ((v : Text) → Under v → Both v) → ((v : Text) → Other v → Both v) → ((v : Text) → Both v → Under v ⊎ Other v) → (rows more : List Row)
-      → AreRows leaves files folders dir Under rows → AreRows leaves files folders dir Other more → AreRows leaves files folders dir Both (rows ++ more)
-  rows_append Under Other Both first second either rows more a b = record {
-    sound = all_append _ rows more (all_weaker _ _ (λ r p. (first r.0 p.0, p.1)) rows a.sound) (all_weaker _ _ (λ r p. (second r.0 p.0, p.1)) more b.sound);
-    complete = λ v u. ap (has v) (names_of-append rows more)
-        ∙ ⊎_elim (λ q. has_left v (names_of rows) (names_of more) (a.complete v q)) (λ q. has_right v (names_of rows) (names_of more) (b.complete v q)) (either v u);
+  pub rows_append : (Under Other Both : Text → Type 0) → ((v : Text) → Under v → Both v) → ((v : Text) → Other v → Both v) → ((v : Text) → Both v → Under v ⊎ Other v) → (listing_entries more : List ListingEntry)
+      → AreListingEntries results files folders dir Under listing_entries → AreListingEntries results files folders dir Other more → AreListingEntries results files folders dir Both (listing_entries ++ more)
+  rows_append Under Other Both first second either listing_entries more a b = record {
+    sound = all_append _ listing_entries more (all_weaker _ _ (λ r p. (first r.0 p.0, p.1)) listing_entries a.sound) (all_weaker _ _ (λ r p. (second r.0 p.0, p.1)) more b.sound);
+    complete = λ v u. ap (has v) (names_of-append listing_entries more)
+        ∙ ⊎_elim (λ q. has_left v (names_of listing_entries) (names_of more) (a.complete v q)) (λ q. has_right v (names_of listing_entries) (names_of more) (b.complete v q)) (either v u);
   }
 
-  pub rows_of_files : (names : List Text) (rows : List Row) → AreFiles leaves files folders dir names rows
-      → AreRows leaves files folders dir (λ v. (has v names ≡ true) × (is_module_below files dir v ≡ true)) rows
-  rows_of_files names rows a = record {
-    sound = all_named (λ v. (has v names ≡ true) × (is_module_below files dir v ≡ true)) (IsMarkRight leaves files folders dir) rows
+  pub rows_of_files : (names : List Text) (listing_entries : List ListingEntry) → AreEntriesOfFiles results files folders dir names listing_entries
+      → AreListingEntries results files folders dir (λ v. (has v names ≡ true) × (is_module_below files dir v ≡ true)) listing_entries
+  rows_of_files names listing_entries a = record {
+    sound = all_named (λ v. (has v names ≡ true) × (is_module_below files dir v ≡ true)) (IsMarkRight results files folders dir) listing_entries
         (λ v h. in_filter (is_module_below files dir) v names (ap (has v) (sym a.named) ∙ h)) a.marks;
     complete = λ v u. ap (has v) a.named ∙ filter_has (is_module_below files dir) v names u.0 u.1;
   }

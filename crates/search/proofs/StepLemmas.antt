@@ -10,57 +10,57 @@ use Rattle.filetree.specs.declared.find_fault.FindFault.{FindFault}
 use Rattle.filetree.specs.declared.find_fault.FindFault.TheVariants as faults
 use Rattle.filetree.specs.Relations.{Then, Where}
 use Rattle.search.specs.Reasons.{Reason}
-use Rattle.search.specs.DefaultFiles.{Left}
-use Rattle.search.specs.Found.{FoundModule, IsCandidate, HasCandidates, NamedDefault, Default, At, FoundAlong, read}
-use Rattle.search.specs.Answers.{Tells, cause_of}
-use Rattle.search.specs.Steps.{caused, because_of, module_in, module_at, DefaultIn, OfDefault, Below}
+use Rattle.search.specs.DefaultFiles.{DefaultFileResult}
+use Rattle.search.specs.Found.{FoundModule, IsCandidate, HasCandidates, NamedDefault, Default, ModuleAt, FoundAlong, read}
+use Rattle.search.specs.Answers.{AnswersOverTree, cause_of}
+use Rattle.search.specs.Steps.{caused, because_of, module_in, module_at, DefaultIn, OfDefault, FoundBelow}
 use Rattle.search.specs.Versions.{IsGreatestOf}
 use Rattle.search.proofs.NamedLemmas.{named_is_candidate}
 use Rattle.search.proofs.VersionLemmas.{split_first}
 
 -- a fault of one step is a fault of the whole
-pub tells_fault : {X Y V W : Type 0} (agrees : Files → Listings → Type 0) (failed before : Type 0) (view : X → Y) (view' : V → W)
-    (Comes : Files → Listings → Result Y Reason → Type 0) (Comes' : Files → Listings → Result W Reason → Type 0) (e : FindFault)
-    → (failed → before) → ((files : Files) (listings : Listings) (r : Reason) → agrees files listings → Comes files listings (Err r) → Comes' files listings (Err r))
-    → Tells agrees failed view (Err e) Comes → Tells agrees before view' (Err e) Comes'
-tells_fault agrees failed before view view' Comes Comes' faults.OutOfMemory later then h = tt
-tells_fault agrees failed before view view' Comes Comes' faults.Device later then h = later h
-tells_fault agrees failed before view view' Comes Comes' (faults.NotFound n) later then h = λ files listings a. then files listings _ a (h files listings a)
-tells_fault agrees failed before view view' Comes Comes' (faults.BadName n) later then h = λ files listings a. then files listings _ a (h files listings a)
-tells_fault agrees failed before view view' Comes Comes' (faults.BadDefaultFile p) later then h = λ files listings a. then files listings _ a (h files listings a)
-tells_fault agrees failed before view view' Comes Comes' (faults.NotUtf8 p) later then h = λ files listings a. then files listings _ a (h files listings a)
+pub over_tree_fault : {X Y V W : Type 0} (agrees : Files → Listings → Type 0) (failed before : Type 0) (view : X → Y) (view' : V → W)
+    (Outcomes : Files → Listings → Result Y Reason → Type 0) (Outcomes' : Files → Listings → Result W Reason → Type 0) (e : FindFault)
+    → (failed → before) → ((files : Files) (listings : Listings) (r : Reason) → agrees files listings → Outcomes files listings (Err r) → Outcomes' files listings (Err r))
+    → AnswersOverTree agrees failed view (Err e) Outcomes → AnswersOverTree agrees before view' (Err e) Outcomes'
+over_tree_fault agrees failed before view view' Outcomes Outcomes' faults.OutOfMemory later then h = tt
+over_tree_fault agrees failed before view view' Outcomes Outcomes' faults.Device later then h = later h
+over_tree_fault agrees failed before view view' Outcomes Outcomes' (faults.NotFound n) later then h = λ files listings a. then files listings _ a (h files listings a)
+over_tree_fault agrees failed before view view' Outcomes Outcomes' (faults.BadName n) later then h = λ files listings a. then files listings _ a (h files listings a)
+over_tree_fault agrees failed before view view' Outcomes Outcomes' (faults.BadDefaultFile p) later then h = λ files listings a. then files listings _ a (h files listings a)
+over_tree_fault agrees failed before view view' Outcomes Outcomes' (faults.NotUtf8 p) later then h = λ files listings a. then files listings _ a (h files listings a)
 
 -- an outcome of the step is one of the whole
-pub tells_weaker : {X Y : Type 0} (agrees : Files → Listings → Type 0) (failed before : Type 0) (view : X → Y) (result : Result X FindFault)
-    (Comes Comes' : Files → Listings → Result Y Reason → Type 0) → (failed → before)
-    → ((files : Files) (listings : Listings) (o : Result Y Reason) → agrees files listings → Comes files listings o → Comes' files listings o)
-    → Tells agrees failed view result Comes → Tells agrees before view result Comes'
-tells_weaker agrees failed before view (Ok x) Comes Comes' later then h = λ files listings a. then files listings (Ok (view x)) a (h files listings a)
-tells_weaker agrees failed before view (Err e) Comes Comes' later then h = tells_fault agrees failed before view view Comes Comes' e later (λ files listings r. then files listings (Err r)) h
+pub over_tree_weaker : {X Y : Type 0} (agrees : Files → Listings → Type 0) (failed before : Type 0) (view : X → Y) (result : Result X FindFault)
+    (Outcomes Outcomes' : Files → Listings → Result Y Reason → Type 0) → (failed → before)
+    → ((files : Files) (listings : Listings) (o : Result Y Reason) → agrees files listings → Outcomes files listings o → Outcomes' files listings o)
+    → AnswersOverTree agrees failed view result Outcomes → AnswersOverTree agrees before view result Outcomes'
+over_tree_weaker agrees failed before view (Ok x) Outcomes Outcomes' later then h = λ files listings a. then files listings (Ok (view x)) a (h files listings a)
+over_tree_weaker agrees failed before view (Err e) Outcomes Outcomes' later then h = over_tree_fault agrees failed before view view Outcomes Outcomes' e later (λ files listings r. then files listings (Err r)) h
 
 -- the default candidate of a folder
-module _ (leaves : Text → Text → Option Left → Type 0) (files : Files) (listings : Listings) (dir name : Text) where
-  pub default_named : (v : Text) → NamedDefault leaves files listings dir name (Ok (Some v)) → DefaultIn leaves files listings dir name (Ok (Some v))
-  default_named v h = inl ((v, named_is_candidate leaves files listings dir name v h), (Ok v, (Ok (Some v), h, refl), refl))
+module _ (results : Text → Text → Option DefaultFileResult → Type 0) (files : Files) (listings : Listings) (dir name : Text) where
+  pub default_named : (v : Text) → NamedDefault results files listings dir name (Ok (Some v)) → DefaultIn results files listings dir name (Ok (Some v))
+  default_named v h = inl ((v, named_is_candidate results files listings dir name v h), (Ok v, (Ok (Some v), h, refl), refl))
 
-  pub default_greatest : (g : Option Text) → NamedDefault leaves files listings dir name (Ok None) → IsGreatestOf files listings dir name g → DefaultIn leaves files listings dir name (Ok g)
+  pub default_greatest : (g : Option Text) → NamedDefault results files listings dir name (Ok None) → IsGreatestOf files listings dir name g → DefaultIn results files listings dir name (Ok g)
   default_greatest None h none = inr (none, refl)
   default_greatest (Some v) h greatest = inl ((v, greatest.member), (Ok v, (Ok None, h, (v, greatest, refl)), refl))
 
-  pub default_bad : (v : Text) (r : Reason) → NamedDefault leaves files listings dir name (Err r) → IsGreatestOf files listings dir name (Some v) → DefaultIn leaves files listings dir name (Err r)
+  pub default_bad : (v : Text) (r : Reason) → NamedDefault results files listings dir name (Err r) → IsGreatestOf files listings dir name (Some v) → DefaultIn results files listings dir name (Err r)
   default_bad v r h greatest = inl ((v, greatest.member), (Err r, (Err r, h, refl), refl))
 
-  pub default_none : IsGreatestOf files listings dir name None → DefaultIn leaves files listings dir name (Ok None)
+  pub default_none : IsGreatestOf files listings dir name None → DefaultIn results files listings dir name (Ok None)
   default_none none = inr (none, refl)
 
-  pub default_absent : (path : Text) → path ≡ path_of dir name → listings path ≡ None → DefaultIn leaves files listings dir name (Ok None)
+  pub default_absent : (path : Text) → path ≡ path_of dir name → listings path ≡ None → DefaultIn results files listings dir name (Ok None)
   default_absent path at nothing = inr (no, refl)
     where
       no : HasCandidates files listings dir name → ⊥
       no (v, c) = let e : None ≡ Some c.entry.0 = sym nothing ∙ ap listings at ∙ c.entry.1 in absurd (cc)
 
   -- the directory gives the module of this name itself
-  pub below_first : (o : Result (Option FoundModule) Reason) (held : Held) → modulefile (files (path_of dir name)) ≡ held → o ≡ module_at files dir name → (o ≡ Ok None → ⊥) → Below leaves files listings dir name o
+  pub below_first : (o : Result (Option FoundModule) Reason) (held : Held) → modulefile (files (path_of dir name)) ≡ held → o ≡ module_at files dir name → (o ≡ Ok None → ⊥) → FoundBelow results files listings dir name o
   below_first o absent e h some = absurd (some (h ∙ ap (module_in name (path_of dir name)) e))
   below_first o no_cookie e h some = absurd (some (h ∙ ap (module_in name (path_of dir name)) e))
   below_first o not_utf8 e h some = inl (ap is_module e, h)
@@ -68,14 +68,14 @@ module _ (leaves : Text → Text → Option Left → Type 0) (files : Files) (li
 
   -- or else the default candidate
   pub below_default : (held : Held) → modulefile (files (path_of dir name)) ≡ held → Ok None ≡ module_at files dir name → (v : Option Text) (o : Result (Option FoundModule) Reason)
-      → DefaultIn leaves files listings dir name (Ok v) → OfDefault files dir name v o → Below leaves files listings dir name o
+      → DefaultIn results files listings dir name (Ok v) → OfDefault files dir name v o → FoundBelow results files listings dir name o
   below_default absent e h v o d of = inr (λ k. let q : false ≡ true = sym (ap is_module e) ∙ k in absurd (cc), (Ok v, d, of))
   below_default no_cookie e h v o d of = inr (λ k. let q : false ≡ true = sym (ap is_module e) ∙ k in absurd (cc), (Ok v, d, of))
   below_default not_utf8 e h v o d of = absurd (let q = h ∙ ap (module_in name (path_of dir name)) e in cc)
   below_default (script text) e h v o d of = absurd (let q = h ∙ ap (module_in name (path_of dir name)) e in cc)
 
   pub below_fault : (held : Held) → modulefile (files (path_of dir name)) ≡ held → Ok None ≡ module_at files dir name → (r : Reason)
-      → DefaultIn leaves files listings dir name (Err r) → Below leaves files listings dir name (Err r)
+      → DefaultIn results files listings dir name (Err r) → FoundBelow results files listings dir name (Err r)
   below_fault absent e h r d = inr (λ k. let q : false ≡ true = sym (ap is_module e) ∙ k in absurd (cc), (Err r, d, refl))
   below_fault no_cookie e h r d = inr (λ k. let q : false ≡ true = sym (ap is_module e) ∙ k in absurd (cc), (Err r, d, refl))
   below_fault not_utf8 e h r d = absurd (let q = h ∙ ap (module_in name (path_of dir name)) e in cc)
@@ -88,72 +88,72 @@ same_reason : {Y : Type 0} (r s : Reason) (c d : Result Y (Cause Reason)) → c 
 same_reason r s c d h k e = cc
 
 -- the answer of a call that asks no tree
-pub tells_caused : {X Y : Type 0} (agrees : Files → Listings → Type 0) (failed : Type 0) (view : X → Y) (r : Result X FindFault) (o : Result Y Reason)
-    (Comes : Files → Listings → Result Y Reason → Type 0)
-    → caused view r ≡ because_of o → ((files : Files) (listings : Listings) → agrees files listings → Comes files listings o) → Tells agrees failed view r Comes
-tells_caused agrees failed view (Ok x) (Ok y) Comes e h = λ files listings a. subst (λ z. Comes files listings (Ok z)) (sym (same_ok (view x) y (Ok (view x)) (Ok y) refl refl e)) (h files listings a)
-tells_caused agrees failed view (Ok x) (Err s) Comes e h = absurd (cc)
-tells_caused agrees failed view (Err f) (Ok y) Comes e h = absurd (cc)
-tells_caused {Y = Y} agrees failed view (Err f) (Err s) Comes e h = fault (cause_of f) (caused view (Err f)) (because_of (Err s)) refl refl e
+pub over_tree_caused : {X Y : Type 0} (agrees : Files → Listings → Type 0) (failed : Type 0) (view : X → Y) (r : Result X FindFault) (o : Result Y Reason)
+    (Outcomes : Files → Listings → Result Y Reason → Type 0)
+    → caused view r ≡ because_of o → ((files : Files) (listings : Listings) → agrees files listings → Outcomes files listings o) → AnswersOverTree agrees failed view r Outcomes
+over_tree_caused agrees failed view (Ok x) (Ok y) Outcomes e h = λ files listings a. subst (λ z. Outcomes files listings (Ok z)) (sym (same_ok (view x) y (Ok (view x)) (Ok y) refl refl e)) (h files listings a)
+over_tree_caused agrees failed view (Ok x) (Err s) Outcomes e h = absurd (cc)
+over_tree_caused agrees failed view (Err f) (Ok y) Outcomes e h = absurd (cc)
+over_tree_caused {Y = Y} agrees failed view (Err f) (Err s) Outcomes e h = fault (cause_of f) (caused view (Err f)) (because_of (Err s)) refl refl e
   where
-    fault : (c : Cause Reason) (p q : Result Y (Cause Reason)) → p ≡ Err c → q ≡ Err (because s) → p ≡ q → Applies c failed (λ r. InEachPair agrees (λ files listings. Comes files listings (Err r)))
+    fault : (c : Cause Reason) (p q : Result Y (Cause Reason)) → p ≡ Err c → q ≡ Err (because s) → p ≡ q → Applies c failed (λ r. InEachPair agrees (λ files listings. Outcomes files listings (Err r)))
     fault memory p q k l g = tt
     fault device p q k l g = absurd (cc)
-    fault (because r) p q k l g = λ files listings a. subst (λ z. Comes files listings (Err z)) (sym (same_reason r s p q k l g)) (h files listings a)
+    fault (because r) p q k l g = λ files listings a. subst (λ z. Outcomes files listings (Err z)) (sym (same_reason r s p q k l g)) (h files listings a)
 
 -- how the search continues after one directory
-abbrev pub Continues : (Text → Text → Option Left → Type 0) → Files → Listings → Text → List Text → Result (Option FoundModule) Reason → Result FoundModule Reason → Type 0
-Continues leaves files listings name dirs (Ok None) o = FoundAlong leaves files listings name dirs o
-Continues leaves files listings name dirs (Ok (Some m)) o = o ≡ Ok m
-Continues leaves files listings name dirs (Err r) o = o ≡ Err r
+abbrev pub Continues : (Text → Text → Option DefaultFileResult → Type 0) → Files → Listings → Text → List Text → Result (Option FoundModule) Reason → Result FoundModule Reason → Type 0
+Continues results files listings name dirs (Ok None) o = FoundAlong results files listings name dirs o
+Continues results files listings name dirs (Ok (Some m)) o = o ≡ Ok m
+Continues results files listings name dirs (Err r) o = o ≡ Err r
 
-module _ (leaves : Text → Text → Option Left → Type 0) (files : Files) (listings : Listings) (dir name : Text) where
-  pub default_is_candidate : (v : Text) → Default leaves files listings dir name (Ok v) → IsCandidate files listings dir name v
-  default_is_candidate v (Ok (Some w), h, e) = subst (IsCandidate files listings dir name) (sym (same_ok v w (Ok v) (Ok w) refl refl e)) (named_is_candidate leaves files listings dir name w h)
+module _ (results : Text → Text → Option DefaultFileResult → Type 0) (files : Files) (listings : Listings) (dir name : Text) where
+  pub default_is_candidate : (v : Text) → Default results files listings dir name (Ok v) → IsCandidate files listings dir name v
+  default_is_candidate v (Ok (Some w), h, e) = subst (IsCandidate files listings dir name) (sym (same_ok v w (Ok v) (Ok w) refl refl e)) (named_is_candidate results files listings dir name w h)
   default_is_candidate v (Ok None, h, (w, greatest, e)) = subst (IsCandidate files listings dir name) (sym (same_ok v w (Ok v) (Ok w) refl refl e)) greatest.member
   default_is_candidate v (Err r, h, e) = absurd (cc)
 
-module _ (leaves : Text → Text → Option Left → Type 0) (files : Files) (listings : Listings) (dir name : Text) (dirs : List Text) where
+module _ (results : Text → Text → Option DefaultFileResult → Type 0) (files : Files) (listings : Listings) (dir name : Text) (dirs : List Text) where
   given_read : (full path : Text) (held : Held) → is_module held ≡ true → (given : Result (Option FoundModule) Reason) (o : Result FoundModule Reason)
-      → given ≡ module_in full path held → Continues leaves files listings name dirs given o → o ≡ read full path held
+      → given ≡ module_in full path held → Continues results files listings name dirs given o → o ≡ read full path held
   given_read full path absent m given o e k = absurd (cc)
   given_read full path no_cookie m given o e k = absurd (cc)
-  given_read full path not_utf8 m given o e k = subst (λ x. Continues leaves files listings name dirs x o) e k
-  given_read full path (script text) m given o e k = subst (λ x. Continues leaves files listings name dirs x o) e k
+  given_read full path not_utf8 m given o e k = subst (λ x. Continues results files listings name dirs x o) e k
+  given_read full path (script text) m given o e k = subst (λ x. Continues results files listings name dirs x o) e k
 
-  along_default : (v : Option Text) (given : Result (Option FoundModule) Reason) (o : Result FoundModule Reason) → DefaultIn leaves files listings dir name (Ok v) → OfDefault files dir name v given
-      → Continues leaves files listings name dirs given o
-      → Where (HasCandidates files listings dir name) (Then (Default leaves files listings dir name) (λ w. At files dir (path_of name w))) (FoundAlong leaves files listings name dirs) o
+  along_default : (v : Option Text) (given : Result (Option FoundModule) Reason) (o : Result FoundModule Reason) → DefaultIn results files listings dir name (Ok v) → OfDefault files dir name v given
+      → Continues results files listings name dirs given o
+      → Where (HasCandidates files listings dir name) (Then (Default results files listings dir name) (λ w. ModuleAt files dir (path_of name w))) (FoundAlong results files listings name dirs) o
   along_default v given o (inl (c, (Ok w, default, e))) of k =
       let q : v ≡ Some w = same_ok v (Some w) (Ok v) (Ok (Some w)) refl refl e in
       let at : given ≡ module_at files dir (path_of name w) = subst (λ x. OfDefault files dir name x given) q of in
       let path = path_of dir (path_of name w) in
-      inl (c, (Ok w, default, given_read (path_of name w) path (modulefile (files path)) (default_is_candidate leaves files listings dir name w default).file given o at k))
+      inl (c, (Ok w, default, given_read (path_of name w) path (modulefile (files path)) (default_is_candidate results files listings dir name w default).file given o at k))
   along_default v given o (inl (c, (Err r, default, e))) of k = absurd (cc)
   along_default v given o (inr (none, e)) of k =
       let q : v ≡ None = same_ok v None (Ok v) (Ok None) refl refl e in
       let at : given ≡ Ok None = subst (λ x. OfDefault files dir name x given) q of in
-      inr (none, subst (λ x. Continues leaves files listings name dirs x o) at k)
+      inr (none, subst (λ x. Continues results files listings name dirs x o) at k)
 
-  along_fault : (r : Reason) (o : Result FoundModule Reason) → DefaultIn leaves files listings dir name (Err r) → o ≡ Err r
-      → Where (HasCandidates files listings dir name) (Then (Default leaves files listings dir name) (λ w. At files dir (path_of name w))) (FoundAlong leaves files listings name dirs) o
+  along_fault : (r : Reason) (o : Result FoundModule Reason) → DefaultIn results files listings dir name (Err r) → o ≡ Err r
+      → Where (HasCandidates files listings dir name) (Then (Default results files listings dir name) (λ w. ModuleAt files dir (path_of name w))) (FoundAlong results files listings name dirs) o
   along_fault r o (inl (c, (Ok w, default, e))) k = absurd (cc)
   along_fault r o (inl (c, (Err s, default, e))) k = inl (c, (Err s, default, (let q : r ≡ s = cc in k ∙ ap Err q)))
   along_fault r o (inr (none, e)) k = absurd (cc)
 
-  pub along : (given : Result (Option FoundModule) Reason) (o : Result FoundModule Reason) → Below leaves files listings dir name given → Continues leaves files listings name dirs given o
-      → FoundAlong leaves files listings name (dir ∷ dirs) o
+  pub along : (given : Result (Option FoundModule) Reason) (o : Result FoundModule Reason) → FoundBelow results files listings dir name given → Continues results files listings name dirs given o
+      → FoundAlong results files listings name (dir ∷ dirs) o
   along given o (inl (at, e)) k = inl (at, given_read name (path_of dir name) (modulefile (files (path_of dir name))) at given o e k)
   along given o (inr (other, (Ok v, d, of))) k = inr (other, along_default v given o d of k)
-  along given o (inr (other, (Err r, d, e))) k = inr (other, along_fault r o d (subst (λ x. Continues leaves files listings name dirs x o) e k))
+  along given o (inr (other, (Err r, d, e))) k = inr (other, along_fault r o d (subst (λ x. Continues results files listings name dirs x o) e k))
 
 -- the first of the remaining directories
-pub along_rest : (leaves : Text → Text → Option Left → Type 0) (files : Files) (listings : Listings) (name : Text) {X : Type 0} (view : X → Text) (d : X) (rest : List X) → 1 ≤ length rest
-    → (given : Result (Option FoundModule) Reason) (o : Result FoundModule Reason) → Below leaves files listings (view (get_or rest 0 d)) name given
-    → Continues leaves files listings name (map view (take (length rest - 1) (drop 1 rest))) given o → FoundAlong leaves files listings name (map view rest) o
-along_rest leaves files listings name view d rest some given o below k =
-    subst (λ dirs. FoundAlong leaves files listings name dirs o) (sym (split_first view d rest some))
-    (along leaves files listings (view (get_or rest 0 d)) name (map view (take (length rest - 1) (drop 1 rest))) given o below k)
+pub along_rest : (results : Text → Text → Option DefaultFileResult → Type 0) (files : Files) (listings : Listings) (name : Text) {X : Type 0} (view : X → Text) (d : X) (rest : List X) → 1 ≤ length rest
+    → (given : Result (Option FoundModule) Reason) (o : Result FoundModule Reason) → FoundBelow results files listings (view (get_or rest 0 d)) name given
+    → Continues results files listings name (map view (take (length rest - 1) (drop 1 rest))) given o → FoundAlong results files listings name (map view rest) o
+along_rest results files listings name view d rest some given o below k =
+    subst (λ dirs. FoundAlong results files listings name dirs o) (sym (split_first view d rest some))
+    (along results files listings (view (get_or rest 0 d)) name (map view (take (length rest - 1) (drop 1 rest))) given o below k)
 
 pub is_empty-length : (dir : Text) → (length dir == 0) ≡ is_empty dir
 is_empty-length [] = refl

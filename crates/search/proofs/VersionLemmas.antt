@@ -13,14 +13,14 @@ use Rattle.std.proofs.lemmas.List.Folds.{Any-from_list_any, list_any-from_Any}
 use Rattle.std.proofs.lemmas.List.Sorted.{sorted_far, ranks_by, IsStrictWeakOrder-flip, IsPermutation-map, IsPermutation-sym, Contains-permutation}
 use Rattle.std.proofs.lemmas.Slice.Eq.{bytes_eq-Decides}
 use Rattle.modulename.specs.ModuleName.{Text, is_module_name}
-use Rattle.moduleversion.specs.Versions.{version_order}
-use Rattle.moduleversion.proofs.OrderLemmas.{total}
+use Rattle.modulename.specs.Versions.{version_order}
+use Rattle.modulename.proofs.OrderLemmas.{total}
 use Rattle.filetree.specs.Agreement.{Files, Listings}
 use Rattle.filetree.specs.Modulefiles.{path_of}
 use Rattle.search.specs.Single.{is_single}
 use Rattle.search.specs.Found.{IsCandidate}
 use Rattle.search.specs.Looked.{IsVersionIn, LooksForGreatest}
-use Rattle.search.specs.Versions.{is_version, is_module_in, goes_before, IsGreatestOf, LooksDown}
+use Rattle.search.specs.Versions.{is_version, is_module_in, goes_before, IsGreatestOf, LooksFromGreatest}
 
 abbrev pub has : Text → List Text → Bool
 has v xs = list_any (bytes_eq v) xs
@@ -145,7 +145,7 @@ module _ {X : Type 0} (view : X → Text) (p : Text → Bool) (d : X) (rest : Li
 
 -- of versions from the greatest down, where the first that is a module is looked for
 module _ {X : Type 0} (view : X → Text) (files : Files) (dir name : Text) where
-  looked_down : (xs : List X) (at : Text) → Down view xs → LooksDown files dir name (map view xs) at
+  looked_down : (xs : List X) (at : Text) → Down view xs → LooksFromGreatest files dir name (map view xs) at
       → (v : Text) × (has v (map view xs) ≡ true) × ((w : Text) → has w (map view xs) ≡ true → is_module_in files dir name w ≡ true → is_le (version_order w v) ≡ true)
       × (at ≡ path_of dir (path_of name v))
   looked_down [] at d h = absurd h
@@ -166,12 +166,12 @@ module _ {X : Type 0} (view : X → Text) (files : Files) (dir name : Text) wher
       )
 
   module _ (d : X) (rest : List X) (some : 1 ≤ length rest) (at : Text) where
-    pub looks_first : at ≡ path_of dir (path_of name (view (get_or rest 0 d))) → LooksDown files dir name (map view rest) at
-    looks_first e = subst (λ vs. LooksDown files dir name vs at) (sym (split_first view d rest some)) (inl e)
+    pub looks_first : at ≡ path_of dir (path_of name (view (get_or rest 0 d))) → LooksFromGreatest files dir name (map view rest) at
+    looks_first e = subst (λ vs. LooksFromGreatest files dir name vs at) (sym (split_first view d rest some)) (inl e)
 
-    pub looks_later : is_module_in files dir name (view (get_or rest 0 d)) ≡ false → LooksDown files dir name (map view (take (length rest - 1) (drop 1 rest))) at
-        → LooksDown files dir name (map view rest) at
-    looks_later e h = subst (λ vs. LooksDown files dir name vs at) (sym (split_first view d rest some)) (inr (e, h))
+    pub looks_later : is_module_in files dir name (view (get_or rest 0 d)) ≡ false → LooksFromGreatest files dir name (map view (take (length rest - 1) (drop 1 rest))) at
+        → LooksFromGreatest files dir name (map view rest) at
+    looks_later e h = subst (λ vs. LooksFromGreatest files dir name vs at) (sym (split_first view d rest some)) (inr (e, h))
 
 same_entries : (entries others : List Text) (o : Option (List Text)) → o ≡ Some entries → o ≡ Some others → others ≡ entries
 same_entries entries others o e f = cc
@@ -230,7 +230,7 @@ module _ (files : Files) (listings : Listings) (dir name : Text) (entries : List
       o (subst (IsFirstDown (is_module_in files dir name) (map view sorted)) (sym found) (first_down view (is_module_in files dir name) sorted (down_from view sorted far)))
 
   pub greatest_looked : {X : Type 0} (view : X → Text) (versions sorted : List X) → map view versions ≡ filter (is_version name) entries → IsPermutation versions sorted
-      → IsSortedBy (λ v w. goes_before (view v) (view w)) sorted → (at : Text) → LooksDown files dir name (map view sorted) at → LooksForGreatest files listings dir name at
+      → IsSortedBy (λ v w. goes_before (view v) (view w)) sorted → (at : Text) → LooksFromGreatest files dir name (map view sorted) at → LooksForGreatest files listings dir name at
   greatest_looked view versions sorted made moved up at h =
       let there = IsPermutation-map view versions sorted moved in
       let back = IsPermutation-sym (map view versions) (map view sorted) there in

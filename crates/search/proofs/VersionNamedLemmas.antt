@@ -5,14 +5,14 @@ use Rattle.std.specs.Option.{option_or}
 use Rattle.std.specs.Str.Pattern.{FindsTextPrefix, StripsPrefix}
 use Rattle.std.proofs.lemmas.Bool.Decides.{nat_tests}
 use Rattle.modulename.specs.ModuleName.{Text}
-use Rattle.search.specs.DefaultFiles.{after_front, default_by, last_default}
+use Rattle.search.specs.DefaultFiles.{after_prefix, default_by, last_default}
 
 itself : (b : ℕ) → (b == b) ≡ true
 itself b = grind (arith, nat_tests)
 
-pub after_front-front : (front rest : Text) → after_front front (front ++ rest) ≡ Some rest
-after_front-front [] rest = refl
-after_front-front (c ∷ cs) rest = rw (itself c) (after_front-front cs rest)
+pub after_prefix-prefix : (prefix rest : Text) → after_prefix prefix (prefix ++ rest) ≡ Some rest
+after_prefix-prefix [] rest = refl
+after_prefix-prefix (c ∷ cs) rest = rw (itself c) (after_prefix-prefix cs rest)
 
 -- a text without the prefix has no rest after it
 same_head : (c d : ℕ) → (c == d) ≡ true → c ≡ d
@@ -22,39 +22,39 @@ other_head : (t : Bool) (o : Option Text) → (t ≡ true → o ≡ None) → (i
 other_head true o h = h refl
 other_head false o h = refl
 
-pub after_front-none : (front text : Text) → ((rest : Text) → text ≢ front ++ rest) → after_front front text ≡ None
-after_front-none [] text h = absurd (h text refl)
-after_front-none (c ∷ cs) [] h = refl
-after_front-none (c ∷ cs) (d ∷ ds) h =
-    other_head (c == d) (after_front cs ds) (λ e. after_front-none cs ds (λ rest g. h rest (ap (λ x. x ∷ ds) (sym (same_head c d e)) ∙ ap (λ xs. c ∷ xs) g)))
+pub after_prefix-none : (prefix text : Text) → ((rest : Text) → text ≢ prefix ++ rest) → after_prefix prefix text ≡ None
+after_prefix-none [] text h = absurd (h text refl)
+after_prefix-none (c ∷ cs) [] h = refl
+after_prefix-none (c ∷ cs) (d ∷ ds) h =
+    other_head (c == d) (after_prefix cs ds) (λ e. after_prefix-none cs ds (λ rest g. h rest (ap (λ x. x ∷ ds) (sym (same_head c d e)) ∙ ap (λ xs. c ∷ xs) g)))
 
 step : (t : Bool) (o : Option Text) (f : Text → Option Text) → (if t then option_and_then f o else None) ≡ option_and_then f (if t then o else None)
 step true o f = refl
 step false o f = refl
 
 -- one prefix after another
-pub after_front-append : (front more text : Text) → after_front (front ++ more) text ≡ option_and_then (after_front more) (after_front front text)
-after_front-append [] more text = refl
-after_front-append (c ∷ cs) more [] = refl
-after_front-append (c ∷ cs) more (d ∷ ds) =
-    ap (λ o. if c == d then o else None) (after_front-append cs more ds) ∙ step (c == d) (after_front cs ds) (after_front more)
+pub after_prefix-append : (prefix more text : Text) → after_prefix (prefix ++ more) text ≡ option_and_then (after_prefix more) (after_prefix prefix text)
+after_prefix-append [] more text = refl
+after_prefix-append (c ∷ cs) more [] = refl
+after_prefix-append (c ∷ cs) more (d ∷ ds) =
+    ap (λ o. if c == d then o else None) (after_prefix-append cs more ds) ∙ step (c == d) (after_prefix cs ds) (after_prefix more)
 
 -- what `strip_prefix` says
-pub stripped : (front text : Text) (r : Option (Bor Text)) → MatchOption r (FindsTextPrefix front text None) (λ x. StripsPrefix (FindsTextPrefix front) text x.now)
-    → option_map (λ v. v.now) r ≡ after_front front text
-stripped front text None h = sym (after_front-none front text h)
-stripped front text (Some x) (n, found, here, len) =
-    ap Some here ∙ sym (after_front-front front (drop n text)) ∙ ap (after_front front) (sym found.1)
+pub stripped : (prefix text : Text) (r : Option (Bor Text)) → MatchOption r (FindsTextPrefix prefix text None) (λ x. StripsPrefix (FindsTextPrefix prefix) text x.now)
+    → option_map (λ v. v.now) r ≡ after_prefix prefix text
+stripped prefix text None h = sym (after_prefix-none prefix text h)
+stripped prefix text (Some x) (n, found, here, len) =
+    ap Some here ∙ sym (after_prefix-prefix prefix (drop n text)) ∙ ap (after_prefix prefix) (sym found.1)
 
-pub behind_none : (front more text : Text) (r : Option (Bor Text)) → option_map (λ v. v.now) r ≡ after_front front text → r ≡ None → None ≡ after_front (front ++ more) text
-behind_none front more text r h e =
-    let none : after_front front text ≡ None = sym h ∙ ap (option_map (λ v. v.now)) e in
-    sym (after_front-append front more text ∙ ap (option_and_then (after_front more)) none)
+pub after_prefix_none : (prefix more text : Text) (r : Option (Bor Text)) → option_map (λ v. v.now) r ≡ after_prefix prefix text → r ≡ None → None ≡ after_prefix (prefix ++ more) text
+after_prefix_none prefix more text r h e =
+    let none : after_prefix prefix text ≡ None = sym h ∙ ap (option_map (λ v. v.now)) e in
+    sym (after_prefix-append prefix more text ∙ ap (option_and_then (after_prefix more)) none)
 
-pub behind_some : (front more text rest : Text) (r : Option (Bor Text)) (o : Option Text) → option_map (λ v. v.now) r ≡ after_front front text → option_map (λ v. v.now) r ≡ Some rest
-    → o ≡ after_front more rest → o ≡ after_front (front ++ more) text
-behind_some front more text rest r o h e made =
-    made ∙ sym (after_front-append front more text ∙ ap (option_and_then (after_front more)) (sym h ∙ e))
+pub after_prefix_some : (prefix more text rest : Text) (r : Option (Bor Text)) (o : Option Text) → option_map (λ v. v.now) r ≡ after_prefix prefix text → option_map (λ v. v.now) r ≡ Some rest
+    → o ≡ after_prefix more rest → o ≡ after_prefix (prefix ++ more) text
+after_prefix_some prefix more text rest r o h e made =
+    made ∙ sym (after_prefix-append prefix more text ∙ ap (option_and_then (after_prefix more)) (sym h ∙ e))
 
 -- one more command of those that come after each other
 pub last_default-more : (name : Text) (words : List Text) (after : List (List Text)) (last : Option Text) (all : Option Text)

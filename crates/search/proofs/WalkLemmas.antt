@@ -6,10 +6,10 @@ use Rattle.std.proofs.lemmas.List.{take_all}
 use Rattle.std.proofs.lemmas.Slice.Eq.{bytes_eq-Decides}
 use Rattle.modulename.specs.ModuleName.{Text, parts}
 use Rattle.filetree.specs.Agreement.{Files, Listings}
-use Rattle.search.specs.DefaultFiles.{Left}
-use Rattle.search.specs.Listed.{Row}
+use Rattle.search.specs.DefaultFiles.{DefaultFileResult}
+use Rattle.search.specs.Listed.{ListingEntry}
 use Rattle.search.proofs.VersionLemmas.{has}
-use Rattle.search.specs.BelowFolder.{folder_path, parts_of, names_in, is_module_below, IsUnder, IsInside, AreFiles, AreRows}
+use Rattle.search.specs.BelowFolder.{folder_path, parts_of, names_in, is_module_below, IsUnder, IsInside, AreEntriesOfFiles, AreListingEntries}
 use Rattle.search.proofs.PartLemmas.{parts_of-below}
 use Rattle.search.proofs.UnderLemmas.{name_from, inside, outside}
 use Rattle.search.proofs.RowLemmas.{rows_same, rows_append, rows_of_files}
@@ -42,41 +42,41 @@ split_first view x (y ∷ ys) some is =
     ap (λ z. view z ∷ map view ys) (sym is) ∙ ap (λ zs. view x ∷ map view zs) (sym (take_all (length (y ∷ ys) - 1) ys (omega arith)))
 
 -- one level down
-pub deeper : (front : Option Text) (entries names done after : List Text) (n name : Text) (levels : ℕ) → names ≡ names_in front entries → names ≡ done ++ n ∷ after → name ≡ n
-    → 4 ≤ length (parts_of front) + levels → levels ≢ 0 → 4 ≤ length (parts name) + (levels - 1)
-deeper front entries names done after n name levels named split is deep some =
-    let h : has n (names_in front entries) ≡ true = ap (has n) (sym named ∙ split) ∙ has_middle n done after in
-    let r = name_from front entries n h in
-    let made : parts name ≡ parts_of front ++ r.0 ∷ [] = ap parts (is ∙ r.1) ∙ parts_of-below front r.0 r.3 in
-    let e : length (parts name) ≡ length (parts_of front ++ r.0 ∷ []) = ap length made in
-    let l = length-append (parts_of front) (r.0 ∷ []) in
+pub deeper : (prefix : Option Text) (entries names done after : List Text) (n name : Text) (levels : ℕ) → names ≡ names_in prefix entries → names ≡ done ++ n ∷ after → name ≡ n
+    → 4 ≤ length (parts_of prefix) + levels → levels ≢ 0 → 4 ≤ length (parts name) + (levels - 1)
+deeper prefix entries names done after n name levels named split is deep some =
+    let h : has n (names_in prefix entries) ≡ true = ap (has n) (sym named ∙ split) ∙ has_middle n done after in
+    let r = name_from prefix entries n h in
+    let made : parts name ≡ parts_of prefix ++ r.0 ∷ [] = ap parts (is ∙ r.1) ∙ parts_of-below prefix r.0 r.3 in
+    let e : length (parts name) ≡ length (parts_of prefix ++ r.0 ∷ []) = ap length made in
+    let l = length-append (parts_of prefix) (r.0 ∷ []) in
     omega arith
 
-module _ (leaves : Text → Text → Option Left → Type 0) (files : Files) (folders : Listings) (dir : Text) where
-  pub rows_begun : (names all : List Text) (rows : List Row) → names ≡ all → AreFiles leaves files folders dir names rows
-      → AreRows leaves files folders dir (IsInside files folders dir all []) rows
-  rows_begun names all rows e a =
-      rows_same leaves files folders dir (λ v. (has v names ≡ true) × (is_module_below files dir v ≡ true)) (IsInside files folders dir all [])
+module _ (results : Text → Text → Option DefaultFileResult → Type 0) (files : Files) (folders : Listings) (dir : Text) where
+  pub rows_begun : (names all : List Text) (listing_entries : List ListingEntry) → names ≡ all → AreEntriesOfFiles results files folders dir names listing_entries
+      → AreListingEntries results files folders dir (IsInside files folders dir all []) listing_entries
+  rows_begun names all listing_entries e a =
+      rows_same results files folders dir (λ v. (has v names ≡ true) × (is_module_below files dir v ≡ true)) (IsInside files folders dir all [])
       (λ v u. inl (ap (has v) (sym e) ∙ u.0, u.1))
-      (λ v u. ⊎_elim (λ q. (ap (has v) e ∙ q.0, q.1)) (λ q. absurd (let f : false ≡ true = q.1 in cc)) u) rows (rows_of_files leaves files folders dir names rows a)
+      (λ v u. ⊎_elim (λ q. (ap (has v) e ∙ q.0, q.1)) (λ q. absurd (let f : false ≡ true = q.1 in cc)) u) listing_entries (rows_of_files results files folders dir names listing_entries a)
 
-  pub rows_more : (names done : List Text) (name : Text) (rows more : List Row) → AreRows leaves files folders dir (IsInside files folders dir names done) rows
-      → AreRows leaves files folders dir (IsUnder files folders dir (Some name)) more → AreRows leaves files folders dir (IsInside files folders dir names (done ++ name ∷ [])) (rows ++ more)
-  rows_more names done name rows more a b =
-      rows_append leaves files folders dir (IsInside files folders dir names done) (IsUnder files folders dir (Some name)) (IsInside files folders dir names (done ++ name ∷ []))
+  pub rows_more : (names done : List Text) (name : Text) (listing_entries more : List ListingEntry) → AreListingEntries results files folders dir (IsInside files folders dir names done) listing_entries
+      → AreListingEntries results files folders dir (IsUnder files folders dir (Some name)) more → AreListingEntries results files folders dir (IsInside files folders dir names (done ++ name ∷ [])) (listing_entries ++ more)
+  rows_more names done name listing_entries more a b =
+      rows_append results files folders dir (IsInside files folders dir names done) (IsUnder files folders dir (Some name)) (IsInside files folders dir names (done ++ name ∷ []))
       (λ v u. ⊎_elim (λ q. inl q) (λ q. inr (q.0, has_left q.0 done (name ∷ []) q.1, q.2)) u)
       (λ v u. inr (name, has_middle name done [], u))
       (λ v u. ⊎_elim (λ q. inl (inl q)) (λ q. ⊎_elim (λ r. inl (inr (q.0, r, q.2))) (λ r. inr (subst (λ n. IsUnder files folders dir (Some n) v) r q.2)) (has_last q.0 name done q.1)) u)
-      rows more a b
+      listing_entries more a b
 
-  pub rows_finished : (front : Option Text) (entries : List Text) → folders (folder_path dir front) ≡ Some entries → (names done : List Text) → names ≡ names_in front entries → names ≡ done
-      → (rows : List Row) → AreRows leaves files folders dir (IsInside files folders dir names done) rows → AreRows leaves files folders dir (IsUnder files folders dir front) rows
-  rows_finished front entries listed names done named all rows a =
-      let made : AreRows leaves files folders dir (IsInside files folders dir (names_in front entries) (names_in front entries)) rows =
-      subst (λ ns. AreRows leaves files folders dir (IsInside files folders dir ns ns) rows) named
-      (subst (λ ns. AreRows leaves files folders dir (IsInside files folders dir names ns) rows) (sym all) a) in
-      rows_same leaves files folders dir (IsInside files folders dir (names_in front entries) (names_in front entries)) (IsUnder files folders dir front)
-      (λ v u. outside files folders dir front entries listed v u) (λ v u. inside files folders dir front entries listed v u) rows made
+  pub rows_finished : (prefix : Option Text) (entries : List Text) → folders (folder_path dir prefix) ≡ Some entries → (names done : List Text) → names ≡ names_in prefix entries → names ≡ done
+      → (listing_entries : List ListingEntry) → AreListingEntries results files folders dir (IsInside files folders dir names done) listing_entries → AreListingEntries results files folders dir (IsUnder files folders dir prefix) listing_entries
+  rows_finished prefix entries listed names done named all listing_entries a =
+      let made : AreListingEntries results files folders dir (IsInside files folders dir (names_in prefix entries) (names_in prefix entries)) listing_entries =
+      subst (λ ns. AreListingEntries results files folders dir (IsInside files folders dir ns ns) listing_entries) named
+      (subst (λ ns. AreListingEntries results files folders dir (IsInside files folders dir names ns) listing_entries) (sym all) a) in
+      rows_same results files folders dir (IsInside files folders dir (names_in prefix entries) (names_in prefix entries)) (IsUnder files folders dir prefix)
+      (λ v u. outside files folders dir prefix entries listed v u) (λ v u. inside files folders dir prefix entries listed v u) listing_entries made
 
 pub none_left : {X : Type 0} (view : X → Text) (names done : List Text) (rest : List X) → names ≡ done ++ map view rest → length rest < 1 → names ≡ done
 none_left view names done [] e h = e ∙ append-nil done

@@ -28,9 +28,9 @@ is_failure (faults.BadDefaultFile path) = false
 is_failure (faults.NotUtf8 path) = false
 
 -- the answer of a call over a tree whose faults are those of the search
-abbrev pub Tells : {X Y : Type 0} → (Files → Listings → Type 0) → Type 0 → (X → Y) → Result X FindFault
+abbrev pub AnswersOverTree : {X Y : Type 0} → (Files → Listings → Type 0) → Type 0 → (X → Y) → Result X FindFault
     → (Files → Listings → Result Y Reason → Type 0) → Type 0
-Tells = causes.Tells cause_of
+AnswersOverTree = causes.AnswersOverTree cause_of
 
 -- the module that was found
 abbrev pub found_view : Found → FoundModule

@@ -1,15 +1,15 @@
 -- Which modulefile a name means (module(1), modulefile(5)): the search along MODULEPATH, with the candidates of a
--- folder and its default. `leaves` has the results of the evaluation of default files.
+-- folder and its default. `results` has the results of the evaluation of default files.
 use Rattle.std.specs.Prelude.{◌≡◌, true, List, [], ◌∷◌, bytes_eq, codes, Option, Some, None, Result, Ok, Err}
 use Rattle.std.specs.List.{list_any}
 use Rattle.modulename.specs.ModuleName.{Text, is_module_name}
 use Rattle.filetree.specs.Agreement.{Files, Listings}
 use Rattle.filetree.specs.Modulefiles.{Held, absent, no_cookie, not_utf8, script, modulefile, is_module, directories, path_of}
 use Rattle.filetree.specs.Relations.{Is, If, Where, ◌>>◌}
-use Rattle.moduleversion.specs.Versions.{IsGreatest}
+use Rattle.modulename.specs.Versions.{IsGreatest}
 use Rattle.search.specs.Single.{is_single}
 use Rattle.search.specs.Reasons.{Reason, bad_name, not_found, not_utf8_at}
-use Rattle.search.specs.DefaultFiles.{Left, Names, by_command, by_variable}
+use Rattle.search.specs.DefaultFiles.{DefaultFileResult, Names, by_command, by_variable}
 
 -- a file with the cookie is at the path
 abbrev pub IsModuleAt : Files → Text → Type 0
@@ -33,9 +33,9 @@ abbrev pub HasCandidates : Files → Listings → Text → Text → Type 0
 HasCandidates files listings dir name = (v : Text) × IsCandidate files listings dir name v
 
 -- some version is named, and it is a candidate
-abbrev pub IsOneOf : (Text → Type 0) → Option Text → Type 0
-IsOneOf Candidate None = ⊥
-IsOneOf Candidate (Some v) = Candidate v
+abbrev pub IsSomeCandidate : (Text → Type 0) → Option Text → Type 0
+IsSomeCandidate Candidate None = ⊥
+IsSomeCandidate Candidate (Some v) = Candidate v
 
 -- the path of a default file in the folder of a name
 abbrev pub default_file : Text → Text → Text → Text
@@ -43,13 +43,13 @@ default_file dir name file = path_of (path_of dir name) file
 
 -- The candidate that the default files of a folder name, if they name one: `.modulerc`, or else `.version`, which is
 -- not read where `.modulerc` names a candidate.
-abbrev pub NamedDefault : (Text → Text → Option Left → Type 0) → Files → Listings → Text → Text
+abbrev pub NamedDefault : (Text → Text → Option DefaultFileResult → Type 0) → Files → Listings → Text → Text
     → Result (Option Text) Reason → Type 0
-NamedDefault leaves files listings dir name =
-    Names leaves files (by_command name) (default_file dir name (codes ".modulerc")) >> (λ first.
-    Where (IsOneOf (IsCandidate files listings dir name) first) (Is (Ok first)) (
-    Names leaves files by_variable (default_file dir name (codes ".version")) >> (λ second.
-    Where (IsOneOf (IsCandidate files listings dir name) second) (Is (Ok second)) (Is (Ok None)))))
+NamedDefault results files listings dir name =
+    Names results files (by_command name) (default_file dir name (codes ".modulerc")) >> (λ first.
+    Where (IsSomeCandidate (IsCandidate files listings dir name) first) (Is (Ok first)) (
+    Names results files by_variable (default_file dir name (codes ".version")) >> (λ second.
+    Where (IsSomeCandidate (IsCandidate files listings dir name) second) (Is (Ok second)) (Is (Ok None)))))
 
 -- the greatest candidate
 abbrev pub Greatest : Files → Listings → Text → Text → Result Text Reason → Type 0
@@ -61,9 +61,10 @@ NamedOrGreatest files listings dir name (Some v) = Is (Ok v)
 NamedOrGreatest files listings dir name None = Greatest files listings dir name
 
 -- the default candidate of a folder: the one that its default files name, or else the greatest
-abbrev pub Default : (Text → Text → Option Left → Type 0) → Files → Listings → Text → Text → Result Text Reason → Type 0
-Default leaves files listings dir name =
-    NamedDefault leaves files listings dir name >> NamedOrGreatest files listings dir name
+abbrev pub Default : (Text → Text → Option DefaultFileResult → Type 0) → Files → Listings → Text → Text
+    → Result Text Reason → Type 0
+Default results files listings dir name =
+    NamedDefault results files listings dir name >> NamedOrGreatest files listings dir name
 
 -- a module that was found: its full name, its path and its text
 pub record FoundModule : Type 0 where
@@ -79,22 +80,24 @@ read name path not_utf8 = Err (not_utf8_at path)
 read name path (script text) = Ok (record { name = name; path = path; text = text })
 
 -- the module of this full name below a directory
-abbrev pub At : Files → Text → Text → Result FoundModule Reason → Type 0
-At files dir name = Is (read name (path_of dir name) (modulefile (files (path_of dir name))))
+abbrev pub ModuleAt : Files → Text → Text → Result FoundModule Reason → Type 0
+ModuleAt files dir name = Is (read name (path_of dir name) (modulefile (files (path_of dir name))))
 
 -- The module of the first directory that gives one: the file of this name, or else the default candidate of the folder
 -- of this name.
-abbrev pub FoundAlong : (Text → Text → Option Left → Type 0) → Files → Listings → Text → List Text
+abbrev pub FoundAlong : (Text → Text → Option DefaultFileResult → Type 0) → Files → Listings → Text → List Text
     → Result FoundModule Reason → Type 0
-FoundAlong leaves files listings name [] = Is (Err (not_found name))
-FoundAlong leaves files listings name (dir ∷ dirs) =
-    Where (IsModuleAt files (path_of dir name)) (At files dir name) (
+FoundAlong results files listings name [] = Is (Err (not_found name))
+FoundAlong results files listings name (dir ∷ dirs) =
+    Where (IsModuleAt files (path_of dir name)) (ModuleAt files dir name) (
     Where (HasCandidates files listings dir name)
-    (Default leaves files listings dir name >> (λ v. At files dir (path_of name v))) (
-    FoundAlong leaves files listings name dirs))
+    (Default results files listings dir name >> (λ v. ModuleAt files dir (path_of name v))) (
+    FoundAlong results files listings name dirs))
 
 -- What a name means along a MODULEPATH.
-abbrev pub Found : (Text → Text → Option Left → Type 0) → Files → Listings → Text → Text → Result FoundModule Reason
+abbrev pub Found : (Text → Text → Option DefaultFileResult → Type 0) → Files → Listings → Text → Text
+    → Result FoundModule Reason
     → Type 0
-Found leaves files listings modulepath name =
-    If (is_module_name name) (FoundAlong leaves files listings name (directories modulepath)) (Is (Err (bad_name name)))
+Found results files listings modulepath name =
+    If (is_module_name name) (FoundAlong results files listings name (directories modulepath))
+    (Is (Err (bad_name name)))

@@ -6,62 +6,70 @@ use Rattle.std.specs.List.Sorted.{IsStrictlySortedBy}
 use Rattle.modulename.specs.ModuleName.{Text, parts, is_module_name}
 use Rattle.filetree.specs.Agreement.{Files, Listings}
 use Rattle.filetree.specs.Modulefiles.{directories, path_of}
-use Rattle.moduleversion.specs.Versions.{version_order}
-use Rattle.search.specs.DefaultFiles.{Left}
+use Rattle.modulename.specs.Versions.{version_order}
+use Rattle.search.specs.DefaultFiles.{DefaultFileResult}
 use Rattle.search.specs.Found.{IsModuleAt, HasEntry, NamedDefault}
 
 -- each part is an entry of the folder that is reached by the parts before it
-abbrev pub LeadsThrough : Listings → Text → List Text → Type 0
-LeadsThrough listings path [] = Unit {0}
-LeadsThrough listings path (part ∷ rest) = HasEntry listings path part × LeadsThrough listings (path_of path part) rest
+abbrev pub ReachesThrough : Listings → Text → List Text → Type 0
+ReachesThrough listings path [] = Unit {0}
+ReachesThrough listings path (part ∷ rest) = HasEntry listings path part × ReachesThrough listings
+    (path_of path part) rest
 
 -- a module below the directory: a well-spelled name of one to four parts, of a file with the cookie
 pub record IsBelow (files : Files) (listings : Listings) (dir name : Text) : Type 0 where
   pub spelled : is_module_name name ≡ true
-  pub leads : LeadsThrough listings dir (parts name)
+  pub reaches : ReachesThrough listings dir (parts name)
   pub file : IsModuleAt files (path_of dir name)
 
 -- A default file of the module's folder names it. Where a default file has a fault, no module of the folder is named.
-pub record IsNamed (leaves : Text → Text → Option Left → Type 0) (files : Files) (listings : Listings) (dir name : Text)
+pub record IsNamed (results : Text → Text → Option DefaultFileResult → Type 0) (files : Files) (listings : Listings)
+    (dir name : Text)
     : Type 0 where
   pub folder : Text
   pub version : Text
   pub joined : name ≡ path_of folder version
   pub last : parts name ≡ parts folder ++ version ∷ []
-  pub named : NamedDefault leaves files listings dir folder (Ok (Some version))
+  pub named : NamedDefault results files listings dir folder (Ok (Some version))
 
 -- a module's full name, and whether it is marked as a default
-abbrev pub Row : Type 0
-Row = Text × Bool
+abbrev pub ListingEntry : Type 0
+ListingEntry = Text × Bool
 
 -- the names of a listing
-abbrev pub names_of : List Row → List Text
-names_of rows = map (λ row. row.0) rows
+abbrev pub names_of : List ListingEntry → List Text
+names_of listing_entries = map (λ listing_entry. listing_entry.0) listing_entries
 
 -- the name is in a listing, marked as a default
-abbrev pub is_marked : Text → List Row → Bool
-is_marked name rows = list_any (λ row. bytes_eq name row.0 && row.1) rows
+abbrev pub is_marked : Text → List ListingEntry → Bool
+is_marked name listing_entries = list_any
+    (λ listing_entry. bytes_eq name listing_entry.0 && listing_entry.1) listing_entries
 
 -- the listing of a directory: its modules, and no others, each once, in version order, with their marks
-pub record IsListing (leaves : Text → Text → Option Left → Type 0) (files : Files) (listings : Listings) (dir : Text)
-    (rows : List Row) : Type 0 where
-  pub order : IsStrictlySortedBy version_order (names_of rows)
-  pub names : (name : Text) → (list_any (bytes_eq name) (names_of rows) ≡ true) ↔ IsBelow files listings dir name
+pub record IsListing (results : Text → Text → Option DefaultFileResult → Type 0) (files : Files)
+    (listings : Listings) (dir : Text)
+    (listing_entries : List ListingEntry) : Type 0 where
+  pub order : IsStrictlySortedBy version_order (names_of listing_entries)
+  pub names : (name : Text) →
+      (list_any (bytes_eq name) (names_of listing_entries) ≡ true) ↔ IsBelow files listings dir name
   pub marks : (name : Text)
-      → (is_marked name rows ≡ true) ↔ (IsBelow files listings dir name × IsNamed leaves files listings dir name)
+      → (is_marked name listing_entries ≡ true) ↔ (IsBelow files listings dir name
+      × IsNamed results files listings dir name)
 
 -- a directory with its modules
 abbrev pub Listing : Type 0
-Listing = Text × List Row
+Listing = Text × List ListingEntry
 
 -- the listings of some directories, in turn
-abbrev pub AreListings : (Text → Text → Option Left → Type 0) → Files → Listings → List Text → List Listing → Type 0
-AreListings leaves files listings [] [] = Unit {0}
-AreListings leaves files listings [] (l ∷ ls) = ⊥
-AreListings leaves files listings (dir ∷ dirs) [] = ⊥
-AreListings leaves files listings (dir ∷ dirs) (l ∷ ls) =
-    (l.0 ≡ dir) × IsListing leaves files listings dir l.1 × AreListings leaves files listings dirs ls
+abbrev pub AreListings : (Text → Text → Option DefaultFileResult → Type 0) → Files → Listings → List Text
+    → List Listing → Type 0
+AreListings results files listings [] [] = Unit {0}
+AreListings results files listings [] (l ∷ ls) = ⊥
+AreListings results files listings (dir ∷ dirs) [] = ⊥
+AreListings results files listings (dir ∷ dirs) (l ∷ ls) =
+    (l.0 ≡ dir) × IsListing results files listings dir l.1 × AreListings results files listings dirs ls
 
 -- each directory of the MODULEPATH in turn, a repeated one again
-abbrev pub Listed : (Text → Text → Option Left → Type 0) → Files → Listings → Text → List Listing → Type 0
-Listed leaves files listings modulepath rows = AreListings leaves files listings (directories modulepath) rows
+abbrev pub Listed : (Text → Text → Option DefaultFileResult → Type 0) → Files → Listings → Text → List Listing → Type 0
+Listed results files listings modulepath listing_entries = AreListings results files listings
+    (directories modulepath) listing_entries

@@ -1,18 +1,18 @@
--- The paths that the search for a module and the listing of all modules look at: those of the files and folders that
+-- The paths that the search for a module and the listing of all modules look at: those of the files and directories that
 -- they ask the tree for (module(1), modulefile(5)). A failure of the device at another path can't end them.
 use Rattle.std.specs.Prelude.{◌≡◌, ◌⊎◌, true, List, [], ◌∷◌, bytes_eq, codes, Option, Some, None, Ok, Err}
 use Rattle.std.specs.List.{list_any}
 use Rattle.std.specs.Ordering.{is_le}
 use Rattle.modulename.specs.ModuleName.{Text, parts, is_module_name}
-use Rattle.moduleversion.specs.Versions.{version_order}
+use Rattle.modulename.specs.Versions.{version_order}
 use Rattle.filetree.specs.Agreement.{Files, Listings}
 use Rattle.filetree.specs.Modulefiles.{directories, path_of}
 use Rattle.search.specs.Single.{is_single}
 use Rattle.search.specs.Reasons.{Reason}
-use Rattle.search.specs.DefaultFiles.{Left, VersionIn, Names, by_command, by_variable}
-use Rattle.search.specs.Found.{IsModuleAt, HasEntry, IsCandidate, HasCandidates, IsOneOf}
+use Rattle.search.specs.DefaultFiles.{DefaultFileResult, VersionIn, Names, by_command, by_variable}
+use Rattle.search.specs.Found.{IsModuleAt, HasEntry, IsCandidate, HasCandidates, IsSomeCandidate}
 use Rattle.search.specs.Found.{NamedDefault, default_file}
-use Rattle.search.specs.Listed.{LeadsThrough, IsBelow}
+use Rattle.search.specs.Listed.{ReachesThrough, IsBelow}
 
 -- an entry of the folder of a name that can be a version: it has one part, and with it the full name is well spelled
 pub record IsVersionIn (listings : Listings) (dir name v : Text) : Type 0 where
@@ -25,26 +25,29 @@ abbrev pub LooksAtVersion : Listings → Text → Text → Text → Text → Typ
 LooksAtVersion listings dir name v at = IsVersionIn listings dir name v × (at ≡ path_of dir (path_of name v))
 
 -- the path of a default file, and that of the file of the version that it names
-abbrev pub LooksBy : (Text → Text → Option Left → Type 0) → Files → Listings → Text → Text → VersionIn → Text → Text
+abbrev pub LooksAtDefaultFile : (Text → Text → Option DefaultFileResult → Type 0) → Files → Listings → Text → Text
+    → VersionIn → Text → Text
     → Type 0
-LooksBy leaves files listings dir name says file at =
+LooksAtDefaultFile results files listings dir name says file at =
     (at ≡ default_file dir name file)
-    ⊎ ((v : Text) × Names leaves files says (default_file dir name file) (Ok (Some v))
+    ⊎ ((v : Text) × Names results files says (default_file dir name file) (Ok (Some v))
     × LooksAtVersion listings dir name v at)
 
 -- `.modulerc` has no fault, and names no candidate
-abbrev pub PassesOn : (Text → Text → Option Left → Type 0) → Files → Listings → Text → Text → Type 0
-PassesOn leaves files listings dir name =
-    (first : Option Text) × Names leaves files (by_command name) (default_file dir name (codes ".modulerc")) (Ok first)
-    × (IsOneOf (IsCandidate files listings dir name) first → ⊥)
+abbrev pub ModulercNamesNoCandidate : (Text → Text → Option DefaultFileResult → Type 0) → Files → Listings → Text
+    → Text → Type 0
+ModulercNamesNoCandidate results files listings dir name =
+    (first : Option Text) × Names results files (by_command name) (default_file dir name (codes ".modulerc")) (Ok first)
+    × (IsSomeCandidate (IsCandidate files listings dir name) first → ⊥)
 
 -- the paths that are looked at for the candidate that default files name: those of `.modulerc`, and those of `.version`
 -- where `.modulerc` names no candidate
-abbrev pub LooksForNamed : (Text → Text → Option Left → Type 0) → Files → Listings → Text → Text → Text → Type 0
-LooksForNamed leaves files listings dir name at =
-    LooksBy leaves files listings dir name (by_command name) (codes ".modulerc") at
-    ⊎ (PassesOn leaves files listings dir name
-    × LooksBy leaves files listings dir name by_variable (codes ".version") at)
+abbrev pub LooksForNamed : (Text → Text → Option DefaultFileResult → Type 0) → Files → Listings → Text → Text → Text
+    → Type 0
+LooksForNamed results files listings dir name at =
+    LooksAtDefaultFile results files listings dir name (by_command name) (codes ".modulerc") at
+    ⊎ (ModulercNamesNoCandidate results files listings dir name
+    × LooksAtDefaultFile results files listings dir name by_variable (codes ".version") at)
 
 -- the paths that are looked at for the greatest candidate: those of the versions that no candidate comes after
 abbrev pub LooksForGreatest : Files → Listings → Text → Text → Text → Type 0
@@ -53,45 +56,49 @@ LooksForGreatest files listings dir name at =
     × ((w : Text) → IsCandidate files listings dir name w → is_le (version_order w v) ≡ true)
 
 -- the default files of a folder name no candidate, or have a fault
-abbrev pub NamesNoCandidate : (Text → Text → Option Left → Type 0) → Files → Listings → Text → Text → Type 0
-NamesNoCandidate leaves files listings dir name =
-    NamedDefault leaves files listings dir name (Ok None)
-    ⊎ ((r : Reason) × NamedDefault leaves files listings dir name (Err r))
+abbrev pub NamesNoCandidate : (Text → Text → Option DefaultFileResult → Type 0) → Files → Listings → Text → Text
+    → Type 0
+NamesNoCandidate results files listings dir name =
+    NamedDefault results files listings dir name (Ok None)
+    ⊎ ((r : Reason) × NamedDefault results files listings dir name (Err r))
 
 -- the paths that are looked at in the folder of a name: none where no entry can be a version
-abbrev pub LooksInFolder : (Text → Text → Option Left → Type 0) → Files → Listings → Text → Text → Text → Type 0
-LooksInFolder leaves files listings dir name at =
+abbrev pub LooksInFolder : (Text → Text → Option DefaultFileResult → Type 0) → Files → Listings → Text → Text → Text
+    → Type 0
+LooksInFolder results files listings dir name at =
     ((v : Text) × IsVersionIn listings dir name v)
-    × (LooksForNamed leaves files listings dir name at
-    ⊎ (NamesNoCandidate leaves files listings dir name × LooksForGreatest files listings dir name at))
+    × (LooksForNamed results files listings dir name at
+    ⊎ (NamesNoCandidate results files listings dir name × LooksForGreatest files listings dir name at))
 
 -- the paths that are looked at below one directory: that of the name, and those in its folder where the name is no
 -- module itself
-abbrev pub LooksBelow : (Text → Text → Option Left → Type 0) → Files → Listings → Text → Text → Text → Type 0
-LooksBelow leaves files listings dir name at =
+abbrev pub LooksBelow : (Text → Text → Option DefaultFileResult → Type 0) → Files → Listings → Text → Text → Text
+    → Type 0
+LooksBelow results files listings dir name at =
     (at ≡ path_of dir name)
-    ⊎ ((IsModuleAt files (path_of dir name) → ⊥) × LooksInFolder leaves files listings dir name at)
+    ⊎ ((IsModuleAt files (path_of dir name) → ⊥) × LooksInFolder results files listings dir name at)
 
 -- the directory has a module that the name can mean
-abbrev pub Gives : Files → Listings → Text → Text → Type 0
-Gives files listings dir name = IsModuleAt files (path_of dir name) ⊎ HasCandidates files listings dir name
+abbrev pub GivesModule : Files → Listings → Text → Text → Type 0
+GivesModule files listings dir name = IsModuleAt files (path_of dir name) ⊎ HasCandidates files listings dir name
 
 -- the paths that are looked at along directories, up to the first that gives a module
-abbrev pub LooksAlong : (Text → Text → Option Left → Type 0) → Files → Listings → Text → List Text → Text → Type 0
-LooksAlong leaves files listings name [] at = ⊥
-LooksAlong leaves files listings name (dir ∷ dirs) at =
-    LooksBelow leaves files listings dir name at
-    ⊎ ((Gives files listings dir name → ⊥) × LooksAlong leaves files listings name dirs at)
+abbrev pub LooksAlong : (Text → Text → Option DefaultFileResult → Type 0) → Files → Listings → Text → List Text
+    → Text → Type 0
+LooksAlong results files listings name [] at = ⊥
+LooksAlong results files listings name (dir ∷ dirs) at =
+    LooksBelow results files listings dir name at
+    ⊎ ((GivesModule files listings dir name → ⊥) × LooksAlong results files listings name dirs at)
 
 -- The search for a name along a MODULEPATH looks at this path.
-abbrev pub LooksAt : (Text → Text → Option Left → Type 0) → Files → Listings → Text → Text → Text → Type 0
-LooksAt leaves files listings modulepath name at =
-    (is_module_name name ≡ true) × LooksAlong leaves files listings name (directories modulepath) at
+abbrev pub LooksAt : (Text → Text → Option DefaultFileResult → Type 0) → Files → Listings → Text → Text → Text → Type 0
+LooksAt results files listings modulepath name at =
+    (is_module_name name ≡ true) × LooksAlong results files listings name (directories modulepath) at
 
 -- a well-spelled name, of a file or a folder, that is reached from a directory by the entries of folders
 pub record IsReached (listings : Listings) (dir name : Text) : Type 0 where
   pub spelled : is_module_name name ≡ true
-  pub leads : LeadsThrough listings dir (parts name)
+  pub reaches : ReachesThrough listings dir (parts name)
 
 -- some module stands in the folder itself
 abbrev pub HasModule : Files → Listings → Text → Text → Type 0
@@ -100,13 +107,14 @@ HasModule files listings dir folder =
 
 -- the paths that are looked at for the listing of a directory: that of the directory, those of the names that are
 -- reached from it, and those for the defaults of folders in which a module stands
-abbrev pub LooksThrough : (Text → Text → Option Left → Type 0) → Files → Listings → Text → Text → Type 0
-LooksThrough leaves files listings dir at =
+abbrev pub LooksForListing : (Text → Text → Option DefaultFileResult → Type 0) → Files → Listings → Text → Text → Type 0
+LooksForListing results files listings dir at =
     (at ≡ dir)
     ⊎ (((name : Text) × IsReached listings dir name × (at ≡ path_of dir name))
-    ⊎ ((folder : Text) × HasModule files listings dir folder × LooksForNamed leaves files listings dir folder at))
+    ⊎ ((folder : Text) × HasModule files listings dir folder × LooksForNamed results files listings dir folder at))
 
 -- The listing of a MODULEPATH looks at this path.
-abbrev pub ListingLooksAt : (Text → Text → Option Left → Type 0) → Files → Listings → Text → Text → Type 0
-ListingLooksAt leaves files listings modulepath at =
-    (dir : Text) × (list_any (bytes_eq dir) (directories modulepath) ≡ true) × LooksThrough leaves files listings dir at
+abbrev pub ListingLooksAt : (Text → Text → Option DefaultFileResult → Type 0) → Files → Listings → Text → Text → Type 0
+ListingLooksAt results files listings modulepath at =
+    (dir : Text) × (list_any (bytes_eq dir) (directories modulepath) ≡ true)
+    × LooksForListing results files listings dir at

@@ -5,7 +5,7 @@ use Rattle.filetree.specs.Agreement.{Files, Listings}
 use Rattle.filetree.specs.Modulefiles.{Held, absent, no_cookie, not_utf8, script, modulefile, path_of}
 use Rattle.filetree.specs.Relations.{Is, Where, ◌>>◌}
 use Rattle.search.specs.Reasons.{Reason, not_utf8_at}
-use Rattle.search.specs.DefaultFiles.{Left}
+use Rattle.search.specs.DefaultFiles.{DefaultFileResult}
 use Rattle.filetree.specs.Causes.{Cause, because}
 use Rattle.filetree.specs.declared.find_fault.FindFault.{FindFault}
 use Rattle.search.specs.Answers.{cause_of}
@@ -33,10 +33,10 @@ abbrev pub module_at : Files → Text → Text → Result (Option FoundModule) R
 module_at files dir name = module_in name (path_of dir name) (modulefile (files (path_of dir name)))
 
 -- the default candidate of a folder, if it has a candidate
-abbrev pub DefaultIn : (Text → Text → Option Left → Type 0) → Files → Listings → Text → Text
+abbrev pub DefaultIn : (Text → Text → Option DefaultFileResult → Type 0) → Files → Listings → Text → Text
     → Result (Option Text) Reason → Type 0
-DefaultIn leaves files listings dir name =
-    Where (HasCandidates files listings dir name) (Default leaves files listings dir name >> (λ v. Is (Ok (Some v))))
+DefaultIn results files listings dir name =
+    Where (HasCandidates files listings dir name) (Default results files listings dir name >> (λ v. Is (Ok (Some v))))
     (Is (Ok None))
 
 -- the module of the default candidate, if there is one
@@ -45,8 +45,8 @@ OfDefault files dir name None = Is (Ok None)
 OfDefault files dir name (Some v) = Is (module_at files dir (path_of name v))
 
 -- the module that one directory gives, if it gives one
-abbrev pub Below : (Text → Text → Option Left → Type 0) → Files → Listings → Text → Text
+abbrev pub FoundBelow : (Text → Text → Option DefaultFileResult → Type 0) → Files → Listings → Text → Text
     → Result (Option FoundModule) Reason → Type 0
-Below leaves files listings dir name =
+FoundBelow results files listings dir name =
     Where (IsModuleAt files (path_of dir name)) (Is (module_at files dir name))
-    (DefaultIn leaves files listings dir name >> OfDefault files dir name)
+    (DefaultIn results files listings dir name >> OfDefault files dir name)

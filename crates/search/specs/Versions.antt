@@ -3,7 +3,7 @@
 use Rattle.std.specs.Prelude.{◌≡◌, ◌⊎◌, Bool, false, ◌&&◌, List, [], ◌∷◌, Option, Some, None}
 use Rattle.std.specs.Ordering.{is_lt}
 use Rattle.modulename.specs.ModuleName.{Text, is_module_name}
-use Rattle.moduleversion.specs.Versions.{version_order, IsGreatest}
+use Rattle.modulename.specs.Versions.{version_order, IsGreatest}
 use Rattle.filetree.specs.Agreement.{Files, Listings}
 use Rattle.filetree.specs.Modulefiles.{modulefile, is_module, path_of}
 use Rattle.search.specs.Single.{is_single}
@@ -27,8 +27,8 @@ IsGreatestOf files listings dir name None = HasCandidates files listings dir nam
 IsGreatestOf files listings dir name (Some v) = IsGreatest (IsCandidate files listings dir name) v
 
 -- the paths of the files of versions, one after the other, up to the first that is a module
-abbrev pub LooksDown : Files → Text → Text → List Text → Text → Type 0
-LooksDown files dir name [] at = ⊥
-LooksDown files dir name (v ∷ vs) at =
+abbrev pub LooksFromGreatest : Files → Text → Text → List Text → Text → Type 0
+LooksFromGreatest files dir name [] at = ⊥
+LooksFromGreatest files dir name (v ∷ vs) at =
     (at ≡ path_of dir (path_of name v))
-    ⊎ ((is_module_in files dir name v ≡ false) × LooksDown files dir name vs at)
+    ⊎ ((is_module_in files dir name v ≡ false) × LooksFromGreatest files dir name vs at)

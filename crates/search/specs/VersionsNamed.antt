@@ -5,14 +5,14 @@ use Rattle.modulename.specs.ModuleName.{Text}
 use Rattle.filetree.specs.Agreement.{Files, Listings}
 use Rattle.filetree.specs.Relations.{Is, Where, ◌>>◌}
 use Rattle.search.specs.Reasons.{Reason, bad_default}
-use Rattle.search.specs.DefaultFiles.{Left, VersionIn, Names, by_command, by_variable}
-use Rattle.search.specs.Found.{IsCandidate, IsOneOf, default_file}
+use Rattle.search.specs.DefaultFiles.{DefaultFileResult, VersionIn, Names, by_command, by_variable}
+use Rattle.search.specs.Found.{IsCandidate, IsSomeCandidate, default_file}
 use Rattle.search.specs.declared.version_named.DefaultFile.{DefaultFile}
 use Rattle.search.specs.declared.version_named.DefaultFile.TheVariants.{Modulerc, Version}
-use Rattle.search.specs.declared.defaults.Said.{Said}
-use Rattle.search.specs.declared.defaults.Said.TheVariants as versions
-use Rattle.search.specs.declared.defaults.Named.{Named}
-use Rattle.search.specs.declared.defaults.Named.TheVariants as candidates
+use Rattle.search.specs.declared.defaults.NamedVersion.{NamedVersion}
+use Rattle.search.specs.declared.defaults.NamedVersion.TheVariants as versions
+use Rattle.search.specs.declared.defaults.NamedCandidate.{NamedCandidate}
+use Rattle.search.specs.declared.defaults.NamedCandidate.TheVariants as candidates
 
 -- the name of a default file in its folder
 abbrev pub file_name : DefaultFile → Text
@@ -25,16 +25,16 @@ says Modulerc name = by_command name
 says Version name = by_variable
 
 -- the version that a default file names: one, none, or the reason that is its fault
-abbrev pub said_view : Said → Result (Option Text) Reason
-said_view versions.Nothing = Ok None
-said_view (versions.Version version) = Ok (Some (string_bytes version))
-said_view (versions.BadFile path) = Err (bad_default (string_bytes path))
+abbrev pub named_version_view : NamedVersion → Result (Option Text) Reason
+named_version_view versions.Nothing = Ok None
+named_version_view (versions.Version version) = Ok (Some (string_bytes version))
+named_version_view (versions.BadFile path) = Err (bad_default (string_bytes path))
 
 -- the candidate that default files name: one, none, or the reason that is the fault of a default file
-abbrev pub named_view : Named → Result (Option Text) Reason
-named_view candidates.Nothing = Ok None
-named_view (candidates.Candidate version) = Ok (Some (string_bytes version))
-named_view (candidates.BadFile path) = Err (bad_default (string_bytes path))
+abbrev pub named_candidate_view : NamedCandidate → Result (Option Text) Reason
+named_candidate_view candidates.Nothing = Ok None
+named_candidate_view (candidates.Candidate version) = Ok (Some (string_bytes version))
+named_candidate_view (candidates.BadFile path) = Err (bad_default (string_bytes path))
 
 -- the version, where it is a candidate, or else none
 abbrev pub IsCandidateIfAny : (Text → Type 0) → Text → Option Text → Type 0
@@ -42,8 +42,8 @@ IsCandidateIfAny IsOne version None = IsOne version → ⊥
 IsCandidateIfAny IsOne version (Some v) = IsOne version × (v ≡ version)
 
 -- the candidate that one of the default files names, if it names one
-abbrev pub NamedBy : (Text → Text → Option Left → Type 0) → Files → Listings → Text → Text → DefaultFile
+abbrev pub NamedBy : (Text → Text → Option DefaultFileResult → Type 0) → Files → Listings → Text → Text → DefaultFile
     → Result (Option Text) Reason → Type 0
-NamedBy leaves files listings dir name file =
-    Names leaves files (says file name) (default_file dir name (file_name file)) >> (λ v.
-    Where (IsOneOf (IsCandidate files listings dir name) v) (Is (Ok v)) (Is (Ok None)))
+NamedBy results files listings dir name file =
+    Names results files (says file name) (default_file dir name (file_name file)) >> (λ v.
+    Where (IsSomeCandidate (IsCandidate files listings dir name) v) (Is (Ok v)) (Is (Ok None)))

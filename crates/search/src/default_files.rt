@@ -1,7 +1,7 @@
 //! The trait of evaluators of default files, and the result of such an evaluation.
 ghost use Rattle.std.specs.Prelude.{◌≡◌, Option, IfOk, option_map};
 ghost use Rattle.modulename.specs.ModuleName.{Text};
-ghost use Rattle.search.specs.DefaultFiles.{Left};
+ghost use Rattle.search.specs.DefaultFiles.{DefaultFileResult};
 
 use std::alloc::{AllocError, Global};
 
@@ -20,15 +20,15 @@ pub trait DefaultFiles {
 
     /// By the evaluator, the path and the text of a default file: the result of its evaluation, `None` where that has a
     /// fault.
-    ghost leaves: { Self → Text → Text → Option Left → Type 0 };
+    ghost results: { Self → Text → Text → Option DefaultFileResult → Type 0 };
 
     /// Evaluates the text of the default file at the path; `None` where the evaluation has a fault.
     ///
     /// It fails with `AllocError` alone.
     fn evaluate(&self, alloc: Global, path: &str, text: &str) -> Result<Option<Ended>, AllocError>
-        ensures { IfOk result (λ ended. leaves self.now path.now text.now (option_map ended_view ended)) };
+        ensures { IfOk result (λ ended. results self.now path.now text.now (option_map ended_view ended)) };
 
     /// An evaluation has one result.
-    ghost one: { (files : Self) (path text : Text) (o p : Option Left)
-        → leaves files path text o → leaves files path text p → o ≡ p };
+    ghost one: { (files : Self) (path text : Text) (o p : Option DefaultFileResult)
+        → results files path text o → results files path text p → o ≡ p };
 }

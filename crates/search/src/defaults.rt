@@ -2,10 +2,10 @@
 ghost use Rattle.std.specs.Prelude.{◌≡◌, map, Some, IfOk, string_bytes};
 ghost use Rattle.filetree.specs.Agreement.{FailsAt, Files, Listings, InEachPair, HasCause, is_device};
 ghost use Rattle.filetree.specs.Modulefiles.{path_of};
-ghost use Rattle.search.specs.DefaultFiles.{Names, said};
+ghost use Rattle.search.specs.DefaultFiles.{Names, version_named};
 ghost use Rattle.search.specs.Found.{IsCandidate, NamedDefault, default_file};
-ghost use Rattle.search.specs.Looked.{LooksAtVersion, LooksBy, LooksForNamed};
-ghost use Rattle.search.specs.VersionsNamed.{file_name, says, said_view, named_view, IsCandidateIfAny, NamedBy};
+ghost use Rattle.search.specs.Looked.{LooksAtVersion, LooksAtDefaultFile, LooksForNamed};
+ghost use Rattle.search.specs.VersionsNamed.{file_name, says, named_version_view, named_candidate_view, IsCandidateIfAny, NamedBy};
 ghost use Rattle.std.specs.Option.{option_map};
 ghost use Rattle.search.specs.Ended.{ended_view};
 
@@ -19,7 +19,7 @@ use std::alloc::{AllocError, Global};
 
 /// The candidate that default files name.
 #[derive(Debug, Drop)]
-pub enum Named {
+pub enum NamedCandidate {
     /// They name no candidate.
     Nothing,
     /// The candidate of this version.
@@ -30,7 +30,7 @@ pub enum Named {
 
 /// The version that a default file names.
 #[derive(Drop)]
-enum Said {
+enum NamedVersion {
     /// It names no version, or is absent, or has no cookie.
     Nothing,
     /// It names this version, which may be no candidate.
@@ -41,39 +41,39 @@ enum Said {
 
 /// The version that the default file at a path names, by the result of its evaluation; `None` there is an evaluation
 /// with a fault.
-fn said_by_ended(
+fn version_named_in(
     alloc: Global,
     file: DefaultFile,
     name: &str,
     path: String,
     ended: Option<Ended>,
-) -> Result<Said, AllocError>
+) -> Result<NamedVersion, AllocError>
     ensures { IfOk result (λ s.
-        said_view s ≡ said (says file name.now) (string_bytes path) (option_map ended_view ended)) }
+        named_version_view s ≡ version_named (says file name.now) (string_bytes path) (option_map ended_view ended)) }
 {
     let Some(ended) = ended else {
-        return Ok(Said::BadFile(path));
+        return Ok(NamedVersion::BadFile(path));
     };
-    match file.said(name, &ended) {
-        None => Ok(Said::Nothing),
-        Some(version) => Ok(Said::Version(String::from_str(alloc, version)?)),
+    match file.version_named(name, &ended) {
+        None => Ok(NamedVersion::Nothing),
+        Some(version) => Ok(NamedVersion::Version(String::from_str(alloc, version)?)),
     }
 }
 
 /// The version that a default file in the folder of a name names. The file is read, and evaluated where it has the
 /// cookie.
-fn said_by<T: Tree, D: DefaultFiles>(
+fn version_named_by<T: Tree, D: DefaultFiles>(
     alloc: Global,
     tree: &mut T,
     default_files: &D,
     dir: &str,
     name: &str,
     file: DefaultFile,
-) -> Result<Said, TreeFault>
+) -> Result<NamedVersion, TreeFault>
     ensures before { InEachPair (T.agrees tree.new) (λ files listings. T.agrees tree.old files listings) }
     ensures answer { IfOk result (λ s. InEachPair (T.agrees tree.new) (λ files listings.
-        Names (D.leaves default_files.now) files (says file name.now)
-        (default_file dir.now name.now (file_name file)) (said_view s))) }
+        Names (D.results default_files.now) files (says file name.now)
+        (default_file dir.now name.now (file_name file)) (named_version_view s))) }
     ensures cause { HasCause (T.failures tree.old) (T.failures tree.new) result }
     ensures failed { FailsAt is_device (T.failed tree.old) (T.failed tree.new) result (λ at.
         at ≡ default_file dir.now name.now (file_name file)) }
@@ -81,12 +81,12 @@ fn said_by<T: Tree, D: DefaultFiles>(
     let folder = path_of(alloc, dir, name)?;
     let path = path_of(alloc, &folder, file.file_name())?;
     match read_modulefile(tree, &path)? {
-        Modulefile::Absent => Ok(Said::Nothing),
-        Modulefile::NoCookie => Ok(Said::Nothing),
-        Modulefile::NotUtf8 => Ok(Said::BadFile(path)),
+        Modulefile::Absent => Ok(NamedVersion::Nothing),
+        Modulefile::NoCookie => Ok(NamedVersion::Nothing),
+        Modulefile::NotUtf8 => Ok(NamedVersion::BadFile(path)),
         Modulefile::Script(text) => {
             let ended = default_files.evaluate(alloc, &path, &text)?;
-            Ok(said_by_ended(alloc, file, name, path, ended)?)
+            Ok(version_named_in(alloc, file, name, path, ended)?)
         }
     }
 }
@@ -105,7 +105,8 @@ fn candidate_of<T: Tree>(
         listings (path_of dir.now name.now) ≡ Some (map string_bytes entries.now)) }
     ensures before { InEachPair (T.agrees tree.new) (λ files listings. T.agrees tree.old files listings) }
     ensures answer { IfOk result (λ r. InEachPair (T.agrees tree.new) (λ files listings.
-        IsCandidateIfAny (IsCandidate files listings dir.now name.now) (string_bytes version) (option_map string_bytes r))) }
+        IsCandidateIfAny (IsCandidate files listings dir.now name.now) (string_bytes version)
+        (option_map string_bytes r))) }
     ensures cause { HasCause (T.failures tree.old) (T.failures tree.new) result }
     ensures failed { FailsAt is_device (T.failed tree.old) (T.failed tree.new) result (λ at.
         InEachPair (T.agrees tree.new) (λ files listings.
@@ -130,23 +131,26 @@ fn named_by<T: Tree, D: DefaultFiles>(
     name: &str,
     entries: &[String],
     file: DefaultFile,
-) -> Result<Named, TreeFault>
+) -> Result<NamedCandidate, TreeFault>
     requires { InEachPair (T.agrees tree.old) (λ files listings.
         listings (path_of dir.now name.now) ≡ Some (map string_bytes entries.now)) }
     ensures before { InEachPair (T.agrees tree.new) (λ files listings. T.agrees tree.old files listings) }
     ensures answer { IfOk result (λ n. InEachPair (T.agrees tree.new) (λ files listings.
-        NamedBy (D.leaves default_files.now) files listings dir.now name.now file (named_view n))) }
+        NamedBy (D.results default_files.now) files listings dir.now name.now file (named_candidate_view n))) }
     ensures cause { HasCause (T.failures tree.old) (T.failures tree.new) result }
     ensures failed { FailsAt is_device (T.failed tree.old) (T.failed tree.new) result (λ at.
-        InEachPair (T.agrees tree.new) (λ files listings. LooksBy (D.leaves default_files.now) files listings
+        InEachPair (T.agrees tree.new) (λ files listings. LooksAtDefaultFile
+        (D.results default_files.now) files listings
         dir.now name.now (says file name.now) (file_name file) at)) }
 {
-    match said_by(alloc, tree, default_files, dir, name, file)? {
-        Said::Nothing => Ok(Named::Nothing),
-        Said::BadFile(path) => Ok(Named::BadFile(path)),
-        Said::Version(version) => match candidate_of(alloc, tree, dir, name, entries, version)? {
-            None => Ok(Named::Nothing),
-            Some(version) => Ok(Named::Candidate(version)),
+    match version_named_by(alloc, tree, default_files, dir, name, file)? {
+        NamedVersion::Nothing => Ok(NamedCandidate::Nothing),
+        NamedVersion::BadFile(path) => Ok(NamedCandidate::BadFile(path)),
+        NamedVersion::Version(version) => match candidate_of(
+            alloc, tree, dir, name, entries, version,
+        )? {
+            None => Ok(NamedCandidate::Nothing),
+            Some(version) => Ok(NamedCandidate::Candidate(version)),
         },
     }
 }
@@ -163,16 +167,16 @@ pub fn named_default<T: Tree, D: DefaultFiles>(
     dir: &str,
     name: &str,
     entries: &[String],
-) -> Result<Named, TreeFault>
+) -> Result<NamedCandidate, TreeFault>
     requires { InEachPair (T.agrees tree.old) (λ files listings.
         listings (path_of dir.now name.now) ≡ Some (map string_bytes entries.now)) }
     ensures before { InEachPair (T.agrees tree.new) (λ files listings. T.agrees tree.old files listings) }
     ensures answer { IfOk result (λ n. InEachPair (T.agrees tree.new) (λ files listings.
-        NamedDefault (D.leaves default_files.now) files listings dir.now name.now (named_view n))) }
+        NamedDefault (D.results default_files.now) files listings dir.now name.now (named_candidate_view n))) }
     ensures cause { HasCause (T.failures tree.old) (T.failures tree.new) result }
     ensures failed { FailsAt is_device (T.failed tree.old) (T.failed tree.new) result (λ at.
         InEachPair (T.agrees tree.new) (λ files listings.
-        LooksForNamed (D.leaves default_files.now) files listings dir.now name.now at)) }
+        LooksForNamed (D.results default_files.now) files listings dir.now name.now at)) }
 {
     match named_by(
         alloc,
@@ -183,7 +187,7 @@ pub fn named_default<T: Tree, D: DefaultFiles>(
         entries,
         DefaultFile::Modulerc,
     )? {
-        Named::Nothing => named_by(
+        NamedCandidate::Nothing => named_by(
             alloc,
             tree,
             default_files,

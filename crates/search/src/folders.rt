@@ -3,15 +3,15 @@ ghost use Rattle.std.specs.Prelude.{◌≡◌, ◌++◌, ◌+◌, ◌≤◌, Lis
 ghost use Rattle.std.specs.Option.{option_map};
 ghost use Rattle.filetree.specs.Agreement.{FailsAt, Files, Listings, InEachPair, HasCause, is_device};
 ghost use Rattle.search.specs.Listed as listed;
-ghost use Rattle.search.specs.BelowFolder.{folder_path, parts_of, names_in, IsUnder, AreFiles, AreRows, IsDefaultOf};
-ghost use Rattle.search.specs.BelowFolder.{LooksForDefault, LooksFrom};
-ghost use Rattle.search.specs.Rows.{row_view};
+ghost use Rattle.search.specs.BelowFolder.{folder_path, parts_of, names_in, IsUnder, AreEntriesOfFiles, AreListingEntries, IsDefaultOf};
+ghost use Rattle.search.specs.BelowFolder.{LooksForDefault, LooksFromFolder};
+ghost use Rattle.search.specs.ListingEntries.{listing_entry_view};
 
 use crate::default_files::DefaultFiles;
-use crate::defaults::{Named, named_default};
+use crate::defaults::{NamedCandidate, named_default};
+use crate::listing_entries::{ListingEntry, push_listing_entries};
 use crate::names::{folder_path, modules_among, names_in};
 use crate::paths::path_of;
-use crate::rows::{Row, push_rows};
 use filetree::{Tree, TreeFault};
 use std::alloc::Global;
 
@@ -32,23 +32,24 @@ impl<D: DefaultFiles> Walk<'_, D> {
     fn default_name<T: Tree>(
         &self,
         tree: &mut T,
-        front: Option<&str>,
+        prefix: Option<&str>,
         entries: &[String],
     ) -> Result<Option<String>, TreeFault>
         requires { InEachPair (T.agrees tree.old) (λ files folders.
-            folders (folder_path self.now.dir.now (option_map (λ f. f.now) front))
+            folders (folder_path self.now.dir.now (option_map (λ f. f.now) prefix))
             ≡ Some (map string_bytes entries.now)) }
         ensures before { InEachPair (T.agrees tree.new) (λ files folders. T.agrees tree.old files folders) }
         ensures answer { IfOk result (λ default. InEachPair (T.agrees tree.new) (λ files folders.
-            IsDefaultOf (D.leaves self.now.default_files.now) files folders self.now.dir.now
-            (option_map (λ f. f.now) front.entry)
+            IsDefaultOf (D.results self.now.default_files.now) files folders self.now.dir.now
+            (option_map (λ f. f.now) prefix.entry)
             (option_map string_bytes default))) }
         ensures cause { HasCause (T.failures tree.old) (T.failures tree.new) result }
         ensures failed { FailsAt is_device (T.failed tree.old) (T.failed tree.new) result (λ at.
-            InEachPair (T.agrees tree.new) (λ files folders. LooksForDefault (D.leaves self.now.default_files.now) files folders
-            self.now.dir.now (option_map (λ f. f.now) front.entry) at)) }
+            InEachPair (T.agrees tree.new) (λ files folders. LooksForDefault
+            (D.results self.now.default_files.now) files folders
+            self.now.dir.now (option_map (λ f. f.now) prefix.entry) at)) }
     {
-        let Some(front) = front else {
+        let Some(prefix) = prefix else {
             return Ok(None);
         };
         match named_default(
@@ -56,12 +57,12 @@ impl<D: DefaultFiles> Walk<'_, D> {
             tree,
             self.default_files,
             self.dir,
-            front,
+            prefix,
             entries,
         )? {
-            Named::Candidate(version) => Ok(Some(path_of(self.alloc, front, &version)?)),
-            Named::Nothing => Ok(None),
-            Named::BadFile(_) => Ok(None),
+            NamedCandidate::Candidate(version) => Ok(Some(path_of(self.alloc, prefix, &version)?)),
+            NamedCandidate::Nothing => Ok(None),
+            NamedCandidate::BadFile(_) => Ok(None),
         }
     }
 
@@ -70,32 +71,33 @@ impl<D: DefaultFiles> Walk<'_, D> {
     fn list_files<T: Tree>(
         &self,
         tree: &mut T,
-        front: Option<&str>,
+        prefix: Option<&str>,
         entries: &[String],
         names: &[String],
-        rows: &mut Vec<Row>,
+        listing_entries: &mut Vec<ListingEntry>,
     ) -> Result<(), TreeFault>
         requires listed { InEachPair (T.agrees tree.old) (λ files folders.
-            folders (folder_path self.now.dir.now (option_map (λ f. f.now) front))
+            folders (folder_path self.now.dir.now (option_map (λ f. f.now) prefix))
             ≡ Some (map string_bytes entries.now)) }
         requires named { map string_bytes names.now
-            ≡ names_in (option_map (λ f. f.now) front) (map string_bytes entries.now) }
+            ≡ names_in (option_map (λ f. f.now) prefix) (map string_bytes entries.now) }
         ensures before { InEachPair (T.agrees tree.new) (λ files folders. T.agrees tree.old files folders) }
-        ensures added { OnOk result (InEachPair (T.agrees tree.new) (λ files folders. (more : List listed.Row)
-            × (map row_view rows.new.items ≡ map row_view rows.old.items ++ more)
-            × AreFiles (D.leaves self.now.default_files.now) files folders self.now.dir.now
+        ensures added { OnOk result (InEachPair (T.agrees tree.new) (λ files folders. (more : List listed.ListingEntry)
+            × (map listing_entry_view listing_entries.new.items ≡ map listing_entry_view listing_entries.old.items ++ more)
+            × AreEntriesOfFiles (D.results self.now.default_files.now) files folders self.now.dir.now
             (map string_bytes names.now) more)) }
         ensures cause { HasCause (T.failures tree.old) (T.failures tree.new) result }
         ensures failed { FailsAt is_device (T.failed tree.old) (T.failed tree.new) result (λ at.
-            InEachPair (T.agrees tree.new) (λ files folders. LooksFrom (D.leaves self.now.default_files.now) files folders
-            self.now.dir.now (option_map (λ f. f.now) front.entry) at)) }
+            InEachPair (T.agrees tree.new) (λ files folders. LooksFromFolder
+            (D.results self.now.default_files.now) files folders
+            self.now.dir.now (option_map (λ f. f.now) prefix.entry) at)) }
     {
         let modules = modules_among(self.alloc, tree, self.dir, names)?;
         if modules.is_empty() {
             return Ok(());
         }
-        let default = self.default_name(tree, front, entries)?;
-        push_rows(self.alloc, rows, &modules, as_text(&default))?;
+        let default = self.default_name(tree, prefix, entries)?;
+        push_listing_entries(self.alloc, listing_entries, &modules, as_text(&default))?;
         Ok(())
     }
 
@@ -104,33 +106,34 @@ impl<D: DefaultFiles> Walk<'_, D> {
     pub(crate) fn list_folder<T: Tree>(
         &self,
         tree: &mut T,
-        front: Option<&str>,
+        prefix: Option<&str>,
         levels: usize,
-        rows: &mut Vec<Row>,
+        listing_entries: &mut Vec<ListingEntry>,
     ) -> Result<(), TreeFault>
-        requires { 4 ≤ length (parts_of (option_map (λ f. f.now) front)) + levels }
+        requires { 4 ≤ length (parts_of (option_map (λ f. f.now) prefix)) + levels }
         ensures before { InEachPair (T.agrees tree.new) (λ files folders. T.agrees tree.old files folders) }
-        ensures added { OnOk result (InEachPair (T.agrees tree.new) (λ files folders. (more : List listed.Row)
-            × (map row_view rows.new.items ≡ map row_view rows.old.items ++ more)
-            × AreRows (D.leaves self.now.default_files.now) files folders self.now.dir.now
-            (IsUnder files folders self.now.dir.now (option_map (λ f. f.now) front.entry)) more)) }
+        ensures added { OnOk result (InEachPair (T.agrees tree.new) (λ files folders. (more : List listed.ListingEntry)
+            × (map listing_entry_view listing_entries.new.items ≡ map listing_entry_view listing_entries.old.items ++ more)
+            × AreListingEntries (D.results self.now.default_files.now) files folders self.now.dir.now
+            (IsUnder files folders self.now.dir.now (option_map (λ f. f.now) prefix.entry)) more)) }
         ensures cause { HasCause (T.failures tree.old) (T.failures tree.new) result }
         ensures failed { FailsAt is_device (T.failed tree.old) (T.failed tree.new) result (λ at.
-            InEachPair (T.agrees tree.new) (λ files folders. LooksFrom (D.leaves self.now.default_files.now) files folders
-            self.now.dir.now (option_map (λ f. f.now) front.entry) at)) }
+            InEachPair (T.agrees tree.new) (λ files folders. LooksFromFolder
+            (D.results self.now.default_files.now) files folders
+            self.now.dir.now (option_map (λ f. f.now) prefix.entry) at)) }
     {
         if levels == 0 {
             return Ok(());
         }
-        let folder = folder_path(self.alloc, self.dir, front)?;
+        let folder = folder_path(self.alloc, self.dir, prefix)?;
         let Some(entries) = tree.entries(&folder)? else {
             return Ok(());
         };
-        let names = names_in(self.alloc, front, &entries)?;
-        self.list_files(tree, front, &entries, &names, rows)?;
+        let names = names_in(self.alloc, prefix, &entries)?;
+        self.list_files(tree, prefix, &entries, &names, listing_entries)?;
         let mut rest = names.as_slice();
         while let [name, after @ ..] = rest {
-            self.list_folder(tree, Some(name.as_str()), levels - 1, rows)?;
+            self.list_folder(tree, Some(name.as_str()), levels - 1, listing_entries)?;
             rest = after;
         }
         Ok(())

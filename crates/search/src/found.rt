@@ -8,11 +8,11 @@ ghost use Rattle.filetree.specs.Relations.{Is};
 ghost use Rattle.search.specs.Found as meaning;
 ghost use Rattle.filetree.specs.Answers.{modulefile_view};
 ghost use Rattle.search.specs.Looked.{LooksInFolder, LooksBelow, LooksAlong, LooksAt};
-ghost use Rattle.search.specs.Answers.{Tells, found_view, is_failure};
-ghost use Rattle.search.specs.Steps.{caused, because_of, module_in, module_at, DefaultIn, Below};
+ghost use Rattle.search.specs.Answers.{AnswersOverTree, found_view, is_failure};
+ghost use Rattle.search.specs.Steps.{caused, because_of, module_in, module_at, DefaultIn, FoundBelow};
 
 use crate::default_files::DefaultFiles;
-use crate::defaults::{Named, named_default};
+use crate::defaults::{NamedCandidate, named_default};
 use crate::paths::path_of;
 use crate::versions::{greatest_candidate, has_version};
 use filetree::{FindFault, Modulefile, Tree, read_modulefile};
@@ -56,7 +56,8 @@ fn module_at<T: Tree>(
 ) -> Result<Option<Found>, FindFault>
     ensures before { InEachPair (T.agrees tree.new) (λ files listings. T.agrees tree.old files listings) }
     ensures later { T.failures tree.old ≤ T.failures tree.new }
-    ensures told { Tells (T.agrees tree.new) (T.failures tree.old < T.failures tree.new) (option_map found_view) result
+    ensures over_tree { AnswersOverTree (T.agrees tree.new) (T.failures tree.old < T.failures tree.new)
+        (option_map found_view) result
         (λ files listings. Is (module_at files dir.now name.now)) }
     ensures failed { FailsAt is_failure (T.failed tree.old) (T.failed tree.new) result (λ at.
         at ≡ path_of dir.now name.now) }
@@ -83,19 +84,22 @@ fn default_of<T: Tree, D: DefaultFiles>(
         listings (path_of dir.now name.now) ≡ Some (map string_bytes entries.now)) }
     ensures before { InEachPair (T.agrees tree.new) (λ files listings. T.agrees tree.old files listings) }
     ensures later { T.failures tree.old ≤ T.failures tree.new }
-    ensures told { Tells (T.agrees tree.new) (T.failures tree.old < T.failures tree.new) (option_map string_bytes) result
-        (λ files listings. DefaultIn (D.leaves default_files.now) files listings dir.now name.now) }
+    ensures over_tree { AnswersOverTree (T.agrees tree.new) (T.failures tree.old < T.failures tree.new)
+        (option_map string_bytes) result
+        (λ files listings. DefaultIn (D.results default_files.now) files listings dir.now name.now) }
     ensures failed { FailsAt is_failure (T.failed tree.old) (T.failed tree.new) result (λ at.
         InEachPair (T.agrees tree.new) (λ files listings.
-        LooksInFolder (D.leaves default_files.now) files listings dir.now name.now at)) }
+        LooksInFolder (D.results default_files.now) files listings dir.now name.now at)) }
 {
     if !has_version(alloc, name, entries)? {
         return Ok(None);
     }
     match named_default(alloc, tree, default_files, dir, name, entries)? {
-        Named::Candidate(version) => Ok(Some(version)),
-        Named::Nothing => Ok(greatest_candidate(alloc, tree, dir, name, entries)?),
-        Named::BadFile(path) => match greatest_candidate(alloc, tree, dir, name, entries)? {
+        NamedCandidate::Candidate(version) => Ok(Some(version)),
+        NamedCandidate::Nothing => Ok(greatest_candidate(alloc, tree, dir, name, entries)?),
+        NamedCandidate::BadFile(path) => match greatest_candidate(
+            alloc, tree, dir, name, entries,
+        )? {
             None => Ok(None),
             Some(_) => Err(FindFault::BadDefaultFile(path)),
         },
@@ -112,11 +116,12 @@ fn default_in<T: Tree, D: DefaultFiles>(
 ) -> Result<Option<String>, FindFault>
     ensures before { InEachPair (T.agrees tree.new) (λ files listings. T.agrees tree.old files listings) }
     ensures later { T.failures tree.old ≤ T.failures tree.new }
-    ensures told { Tells (T.agrees tree.new) (T.failures tree.old < T.failures tree.new) (option_map string_bytes) result
-        (λ files listings. DefaultIn (D.leaves default_files.now) files listings dir.now name.now) }
+    ensures over_tree { AnswersOverTree (T.agrees tree.new) (T.failures tree.old < T.failures tree.new)
+        (option_map string_bytes) result
+        (λ files listings. DefaultIn (D.results default_files.now) files listings dir.now name.now) }
     ensures failed { FailsAt is_failure (T.failed tree.old) (T.failed tree.new) result (λ at.
         InEachPair (T.agrees tree.new) (λ files listings. (at ≡ path_of dir.now name.now)
-        ⊎ LooksInFolder (D.leaves default_files.now) files listings dir.now name.now at)) }
+        ⊎ LooksInFolder (D.results default_files.now) files listings dir.now name.now at)) }
 {
     let folder = path_of(alloc, dir, name)?;
     match tree.entries(&folder)? {
@@ -136,11 +141,12 @@ fn module_below<T: Tree, D: DefaultFiles>(
 ) -> Result<Option<Found>, FindFault>
     ensures before { InEachPair (T.agrees tree.new) (λ files listings. T.agrees tree.old files listings) }
     ensures later { T.failures tree.old ≤ T.failures tree.new }
-    ensures told { Tells (T.agrees tree.new) (T.failures tree.old < T.failures tree.new) (option_map found_view) result
-        (λ files listings. Below (D.leaves default_files.now) files listings dir.now name.now) }
+    ensures over_tree { AnswersOverTree (T.agrees tree.new) (T.failures tree.old < T.failures tree.new)
+        (option_map found_view) result
+        (λ files listings. FoundBelow (D.results default_files.now) files listings dir.now name.now) }
     ensures failed { FailsAt is_failure (T.failed tree.old) (T.failed tree.new) result (λ at.
         InEachPair (T.agrees tree.new) (λ files listings.
-        LooksBelow (D.leaves default_files.now) files listings dir.now name.now at)) }
+        LooksBelow (D.results default_files.now) files listings dir.now name.now at)) }
 {
     if let Some(found) = module_at(alloc, tree, dir, name)? {
         return Ok(Some(found));
@@ -178,12 +184,13 @@ fn module_along<T: Tree, D: DefaultFiles>(
 ) -> Result<Found, FindFault>
     ensures before { InEachPair (T.agrees tree.new) (λ files listings. T.agrees tree.old files listings) }
     ensures later { T.failures tree.old ≤ T.failures tree.new }
-    ensures told { Tells (T.agrees tree.new) (T.failures tree.old < T.failures tree.new) found_view result
-        (λ files listings. meaning.FoundAlong (D.leaves default_files.now) files listings name.now
+    ensures over_tree { AnswersOverTree (T.agrees tree.new)
+        (T.failures tree.old < T.failures tree.new) found_view result
+        (λ files listings. meaning.FoundAlong (D.results default_files.now) files listings name.now
         (map (λ dir. dir.now) dirs.now)) }
     ensures failed { FailsAt is_failure (T.failed tree.old) (T.failed tree.new) result (λ at.
         InEachPair (T.agrees tree.new) (λ files listings.
-        LooksAlong (D.leaves default_files.now) files listings name.now (map (λ dir. dir.now) dirs.now) at)) }
+        LooksAlong (D.results default_files.now) files listings name.now (map (λ dir. dir.now) dirs.now) at)) }
 {
     let mut rest = dirs;
     while let [dir, after @ ..] = rest {
@@ -212,11 +219,12 @@ pub fn locate<T: Tree, D: DefaultFiles>(
 ) -> Result<Found, FindFault>
     ensures before { InEachPair (T.agrees tree.new) (λ files listings. T.agrees tree.old files listings) }
     ensures later { T.failures tree.old ≤ T.failures tree.new }
-    ensures told { Tells (T.agrees tree.new) (T.failures tree.old < T.failures tree.new) found_view result
-        (λ files listings. meaning.Found (D.leaves default_files.now) files listings modulepath.now name.now) }
+    ensures over_tree { AnswersOverTree (T.agrees tree.new)
+        (T.failures tree.old < T.failures tree.new) found_view result
+        (λ files listings. meaning.Found (D.results default_files.now) files listings modulepath.now name.now) }
     ensures failed { FailsAt is_failure (T.failed tree.old) (T.failed tree.new) result (λ at.
         InEachPair (T.agrees tree.new) (λ files listings.
-        LooksAt (D.leaves default_files.now) files listings modulepath.now name.now at)) }
+        LooksAt (D.results default_files.now) files listings modulepath.now name.now at)) }
     ensures unread { is_module_name name.now ≡ false → tree.new ≡ tree.old }
 {
     if !is_module_name(name) {

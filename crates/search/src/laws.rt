@@ -13,8 +13,8 @@ use crate::default_files::DefaultFiles;
 /// most why it means none.
 pub fn one_found<D: DefaultFiles>(default_files: &D)
     ensures { (files : Files) (listings : Listings) (modulepath name : Text) (o p : Result FoundModule Reason)
-        → Found (D.leaves default_files.now) files listings modulepath name o
-        → Found (D.leaves default_files.now) files listings modulepath name p → o ≡ p }
+        → Found (D.results default_files.now) files listings modulepath name o
+        → Found (D.results default_files.now) files listings modulepath name p → o ≡ p }
 {
     let _ = default_files;
 }
@@ -22,8 +22,8 @@ pub fn one_found<D: DefaultFiles>(default_files: &D)
 /// For the same files and directories, a MODULEPATH has one listing at most.
 pub fn one_listed<D: DefaultFiles>(default_files: &D)
     ensures { (files : Files) (listings : Listings) (modulepath : Text) (ls ks : List Listing)
-        → Listed (D.leaves default_files.now) files listings modulepath ls
-        → Listed (D.leaves default_files.now) files listings modulepath ks → ls ≡ ks }
+        → Listed (D.results default_files.now) files listings modulepath ls
+        → Listed (D.results default_files.now) files listings modulepath ks → ls ≡ ks }
 {
     let _ = default_files;
 }

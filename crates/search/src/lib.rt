@@ -1,9 +1,6 @@
-//! Which modulefile a name means along MODULEPATH, all modules along it, and the default files of folders: the
-//! definitions with their laws, and the search that answers them (module(1), modulefile(5)).
-//! Takes memory, reads files and directories through the `Tree` that it is given, and has default files evaluated by
-//! the `DefaultFiles` that it is given.
-//! Used by `lookup`, `requeststep` and `reports`; `defaultfiles` implements its trait, and `requests` cites its
-//! definitions.
+//! Which modulefile a name means along MODULEPATH, all modules along it, and default files (modulefile(5)).
+//! Takes memory, reads through the `Tree`, and has default files evaluated by the `DefaultFiles`, that it is given.
+//! Used by lookup, requeststep and reports; defaultfiles implements its trait, and requests cites its definitions.
 #![tactic(auto)]
 
 mod candidates;
@@ -12,17 +9,17 @@ mod defaults;
 mod folders;
 mod found;
 mod laws;
+mod listing_entries;
 mod listings;
 mod names;
 mod paths;
-mod rows;
 mod version_named;
 mod versions;
 
 pub use default_files::{DefaultFiles, Ended};
-pub use defaults::{Named, named_default};
+pub use defaults::{NamedCandidate, named_default};
 pub use found::{Found, directories, locate};
 pub use laws::{one_found, one_listed, rows_of_defaults};
+pub use listing_entries::ListingEntry;
 pub use listings::{Listing, available};
 pub use paths::{is_single, path_of};
-pub use rows::Row;

@@ -2,16 +2,16 @@
 ghost use Rattle.std.specs.Prelude.{◌≡◌, map, IfOk, string_bytes};
 ghost use Rattle.filetree.specs.Agreement.{FailsAt, Files, Listings, InEachPair, HasCause, is_device};
 ghost use Rattle.search.specs.Listed.{IsListing, AreListings, Listed};
-ghost use Rattle.search.specs.Looked.{LooksThrough, ListingLooksAt};
-ghost use Rattle.search.specs.Rows.{row_view};
+ghost use Rattle.search.specs.Looked.{LooksForListing, ListingLooksAt};
+ghost use Rattle.search.specs.ListingEntries.{listing_entry_view};
 ghost use Rattle.search.specs.Listings.{listing_view};
 
 use crate::default_files::DefaultFiles;
 use crate::folders::Walk;
 use crate::found::directories;
-use crate::rows::{Row, drop_repeats, sort_rows};
+use crate::listing_entries::{ListingEntry, drop_repeats, sort_listing_entries};
 use filetree::{Tree, TreeFault};
-use modulename::MOST_PARTS;
+use modulename::MAX_PARTS;
 use std::alloc::Global;
 
 /// The listing of one directory of MODULEPATH.
@@ -20,7 +20,7 @@ pub struct Listing {
     /// The directory, as MODULEPATH spells it.
     pub dir: String,
     /// Its modules, each once, in version order of their full names.
-    pub modules: Vec<Row>,
+    pub modules: Vec<ListingEntry>,
 }
 
 /// The modules below a directory, each once, in version order of their full names.
@@ -29,25 +29,25 @@ fn modules_of<T: Tree, D: DefaultFiles>(
     tree: &mut T,
     default_files: &D,
     dir: &str,
-) -> Result<Vec<Row>, TreeFault>
+) -> Result<Vec<ListingEntry>, TreeFault>
     ensures before { InEachPair (T.agrees tree.new) (λ files folders. T.agrees tree.old files folders) }
-    ensures answer { IfOk result (λ rows. InEachPair (T.agrees tree.new) (λ files folders.
-        IsListing (D.leaves default_files.now) files folders dir.now (map row_view rows.items))) }
+    ensures answer { IfOk result (λ listing_entries. InEachPair (T.agrees tree.new) (λ files folders.
+        IsListing (D.results default_files.now) files folders dir.now (map listing_entry_view listing_entries.items))) }
     ensures cause { HasCause (T.failures tree.old) (T.failures tree.new) result }
     ensures failed { FailsAt is_device (T.failed tree.old) (T.failed tree.new) result (λ at.
         InEachPair (T.agrees tree.new) (λ files folders.
-        LooksThrough (D.leaves default_files.now) files folders dir.now at)) }
+        LooksForListing (D.results default_files.now) files folders dir.now at)) }
 {
     let walk = Walk {
         alloc,
         default_files,
         dir,
     };
-    let mut rows = Vec::new(alloc);
-    walk.list_folder(tree, None, MOST_PARTS, &mut rows)?;
-    sort_rows(&mut rows)?;
-    drop_repeats(&mut rows);
-    Ok(rows)
+    let mut listing_entries = Vec::new(alloc);
+    walk.list_folder(tree, None, MAX_PARTS, &mut listing_entries)?;
+    sort_listing_entries(&mut listing_entries)?;
+    drop_repeats(&mut listing_entries);
+    Ok(listing_entries)
 }
 
 /// All modules along a MODULEPATH, a list parted by colons: for each directory, a repeated one again, the
@@ -64,11 +64,11 @@ pub fn available<T: Tree, D: DefaultFiles>(
 ) -> Result<Vec<Listing>, TreeFault>
     ensures before { InEachPair (T.agrees tree.new) (λ files folders. T.agrees tree.old files folders) }
     ensures listed { IfOk result (λ listings. InEachPair (T.agrees tree.new) (λ files folders.
-        Listed (D.leaves default_files.now) files folders modulepath.now (map listing_view listings.items))) }
+        Listed (D.results default_files.now) files folders modulepath.now (map listing_view listings.items))) }
     ensures cause { HasCause (T.failures tree.old) (T.failures tree.new) result }
     ensures failed { FailsAt is_device (T.failed tree.old) (T.failed tree.new) result (λ at.
         InEachPair (T.agrees tree.new) (λ files folders.
-        ListingLooksAt (D.leaves default_files.now) files folders modulepath.now at)) }
+        ListingLooksAt (D.results default_files.now) files folders modulepath.now at)) }
 {
     let dirs = directories(alloc, modulepath)?;
     let mut listings = Vec::new(alloc);

@@ -10,44 +10,44 @@ use filetree::{Tree, TreeFault, holds_module};
 use modulename::is_module_name;
 use std::alloc::{AllocError, Global};
 
-/// The path of a folder below a directory; of the directory itself where `front` is `None`.
+/// The path of a folder below a directory; of the directory itself where `prefix` is `None`.
 pub(crate) fn folder_path(
     alloc: Global,
     dir: &str,
-    front: Option<&str>,
+    prefix: Option<&str>,
 ) -> Result<String, AllocError>
-    ensures { IfOk result (λ path. string_bytes path ≡ folder_path dir.now (option_map (λ f. f.now) front.entry)) }
+    ensures { IfOk result (λ path. string_bytes path ≡ folder_path dir.now (option_map (λ f. f.now) prefix.entry)) }
 {
-    match front {
+    match prefix {
         None => String::from_str(alloc, dir),
-        Some(front) => path_of(alloc, dir, front),
+        Some(prefix) => path_of(alloc, dir, prefix),
     }
 }
 
-/// The full name of an entry of a folder below a directory; of the directory itself where `front` is `None`.
-fn name_below(alloc: Global, front: Option<&str>, entry: &str) -> Result<String, AllocError>
-    ensures { IfOk result (λ name. string_bytes name ≡ name_below (option_map (λ f. f.now) front.entry) entry.now) }
+/// The full name of an entry of a folder below a directory; of the directory itself where `prefix` is `None`.
+fn name_below(alloc: Global, prefix: Option<&str>, entry: &str) -> Result<String, AllocError>
+    ensures { IfOk result (λ name. string_bytes name ≡ name_below (option_map (λ f. f.now) prefix.entry) entry.now) }
 {
-    match front {
+    match prefix {
         None => String::from_str(alloc, entry),
-        Some(front) => path_of(alloc, front, entry),
+        Some(prefix) => path_of(alloc, prefix, entry),
     }
 }
 
 /// The full names of the entries of a folder; entries whose names are ill-spelled are passed over.
 pub(crate) fn names_in(
     alloc: Global,
-    front: Option<&str>,
+    prefix: Option<&str>,
     entries: &[String],
 ) -> Result<Vec<String>, AllocError>
     ensures { IfOk result (λ names.
-        map string_bytes names.items ≡ names_in (option_map (λ f. f.now) front.entry) (map string_bytes entries.now)) }
+        map string_bytes names.items ≡ names_in (option_map (λ f. f.now) prefix.entry) (map string_bytes entries.now)) }
 {
     let mut names = Vec::new(alloc);
     let mut rest = entries;
     while let [entry, after @ ..] = rest {
         if is_single(entry) {
-            let name = name_below(alloc, front, entry)?;
+            let name = name_below(alloc, prefix, entry)?;
             if is_module_name(&name) {
                 names.push(name)?;
             }

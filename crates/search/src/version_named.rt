@@ -1,6 +1,6 @@
 //! The version that a default file names, by the result of its evaluation (modulefile(5)).
 ghost use Rattle.std.specs.Prelude.{◌≡◌, ◌++◌, ◌∷◌, [], map, option_map, string_bytes};
-ghost use Rattle.search.specs.DefaultFiles.{after_front, version_in, default_by, last_default};
+ghost use Rattle.search.specs.DefaultFiles.{after_prefix, version_in, default_by, last_default};
 ghost use Rattle.search.specs.Ended.{ended_view};
 ghost use Rattle.search.specs.VersionsNamed.{file_name, says};
 
@@ -28,7 +28,7 @@ impl DefaultFile {
     }
 
     /// The version in the folder of a name that the file names, by the result of its evaluation, if it names one.
-    pub(crate) fn said<'a>(self, name: &str, ended: &'a Ended) -> Option<&'a str>
+    pub(crate) fn version_named<'a>(self, name: &str, ended: &'a Ended) -> Option<&'a str>
         ensures { option_map (λ v. v.now) result ≡ says self name.now (ended_view ended.entry.now) }
     {
         match self {
@@ -42,19 +42,19 @@ impl DefaultFile {
 }
 
 /// The rest of a text after this prefix; `None` where the text doesn't begin with it.
-fn after_front<'a>(front: &str, text: &'a str) -> Option<&'a str>
-    ensures { option_map (λ v. v.now) result ≡ after_front front.now text.entry.now }
+fn after_prefix<'a>(prefix: &str, text: &'a str) -> Option<&'a str>
+    ensures { option_map (λ v. v.now) result ≡ after_prefix prefix.now text.entry.now }
 {
-    text.strip_prefix(front)
+    text.strip_prefix(prefix)
 }
 
 /// The rest of a text after `name/`; `None` where it doesn't begin so.
 fn below_name<'a>(name: &str, spelled: &'a str) -> Option<&'a str>
-    ensures { option_map (λ v. v.now) result ≡ after_front (name.now ++ 47 ∷ []) spelled.entry.now }
+    ensures { option_map (λ v. v.now) result ≡ after_prefix (name.now ++ 47 ∷ []) spelled.entry.now }
 {
-    match after_front(name, spelled) {
+    match after_prefix(name, spelled) {
         None => None,
-        Some(rest) => after_front("/", rest),
+        Some(rest) => after_prefix("/", rest),
     }
 }
 
@@ -65,10 +65,10 @@ fn version_in<'a>(name: &str, spelled: &'a str) -> Option<&'a str>
     if let Some(version) = below_name(name, spelled) {
         return Some(version);
     }
-    if let Some(version) = after_front("/", spelled) {
+    if let Some(version) = after_prefix("/", spelled) {
         return Some(version);
     }
-    after_front("./", spelled)
+    after_prefix("./", spelled)
 }
 
 /// The version that one `module-version` command makes the default of the folder of a name, if it makes one. Other

@@ -6,13 +6,12 @@ ghost use Rattle.std.specs.Option.{option_map};
 ghost use Rattle.filetree.specs.Agreement.{FailsAt, Files, Listings, InEachPair, HasCause, is_device};
 ghost use Rattle.filetree.specs.Modulefiles.{path_of};
 ghost use Rattle.search.specs.Looked.{LooksForGreatest};
-ghost use Rattle.search.specs.Versions.{is_version, is_module_in, goes_before, IsGreatestOf, LooksDown};
+ghost use Rattle.search.specs.Versions.{is_version, is_module_in, goes_before, IsGreatestOf, LooksFromGreatest};
 
 use crate::candidates::is_module_in;
 use crate::paths::{is_single, path_of};
 use filetree::{Tree, TreeFault};
-use modulename::is_module_name;
-use moduleversion::version_order;
+use modulename::{is_module_name, version_order};
 use std::alloc::{AllocError, Global};
 
 /// Whether an entry of the folder of a name can be a version: it has one part, and with it the full name is well
@@ -84,7 +83,7 @@ fn first_module<T: Tree>(
     ensures cause { HasCause (T.failures tree.old) (T.failures tree.new) result }
     ensures failed { FailsAt is_device (T.failed tree.old) (T.failed tree.new) result (λ at.
         InEachPair (T.agrees tree.new) (λ files listings.
-        LooksDown files dir.now name.now (map (λ v. v.now) versions.now) at)) }
+        LooksFromGreatest files dir.now name.now (map (λ v. v.now) versions.now) at)) }
 {
     let mut rest = versions;
     while let [version, after @ ..] = rest {

@@ -1,13 +1,13 @@
 -- A check, of the session of its lines and the verdicts on what that loaded.
 use Rattle.std.proofs.Common.{◌≡◌, ℕ, ◌+◌, ◌<◌, ◌≤◌, List, arith, sym, subst, ap, ◌∙◌}
 use Rattle.std.specs.List.{flat_map}
-use Rattle.environment.specs.Texts.{Text}
-use Rattle.environment.specs.Environment.{Environment}
-use Rattle.environment.specs.Fields.{firsts}
+use Rattle.envvars.specs.Texts.{Text}
+use Rattle.envvars.specs.Environment.{Environment}
+use Rattle.envvars.specs.Fields.{without_repeats}
 use Rattle.filetree.specs.Agreement.{Files, Listings, InEachPair, Narrows}
 use Rattle.shells.specs.declared.shell.Shell.{Shell}
 use Rattle.tclrules.specs.declared.limits.Limits.{Limits}
-use Rattle.requests.specs.Sessions.{left_by}
+use Rattle.requests.specs.Sessions.{end_environment}
 use Rattle.modules.specs.Replies.{site_in}
 use Rattle.modules.specs.Responses.{count_failed, responses}
 use Rattle.sessioncheck.specs.Checks.{IsCheck}
@@ -25,21 +25,21 @@ pub checked : (agrees agrees' : Files → Listings → Type 0) (before mid now :
     (lines : List (List Text)) (names : List Text) (f : Findings)
     → Narrows agrees agrees' → before + count_failed f.outcomes.items ≤ mid → mid + count_failed_judgments f.judgments.items ≤ now → from ≡ e → lines ≡ lines_in text
     → InEachPair agrees (λ files listings. LineSession (site_in limits shell files listings) from lines (responses from f.outcomes.items))
-    → InEachPair agrees (λ files listings. f.env ≡ left_by from (responses from f.outcomes.items))
-    → names ≡ firsts (flat_map loaded_in f.outcomes.items) → AreJudgments agrees' (mid < now) limits e names f.judgments.items
+    → InEachPair agrees (λ files listings. f.env ≡ end_environment from (responses from f.outcomes.items))
+    → names ≡ without_repeats (flat_map loaded_in f.outcomes.items) → AreJudgments agrees' (mid < now) limits e names f.judgments.items
     → IsCheck agrees' before now limits shell e text f
-checked agrees agrees' before mid now limits shell e from text lines names f narrows ran_count judged_count same made ran left named judged = record {
+checked agrees agrees' before mid now limits shell e from text lines names f narrows ran_count judged_count same made ran end named judged = record {
   session = λ files listings a.
       let site = site_in limits shell files listings in
       let P : List (List Text) → Type 0 = λ xs. LineSession site from xs (responses from f.outcomes.items) in
       let Q : Environment → Type 0 = λ x. LineSession site x (lines_in text) (responses x f.outcomes.items) in
       subst Q same (subst P made (ran files listings (narrows files listings a)));
-  left = λ files listings a.
-      let Q : Environment → Type 0 = λ x. f.env ≡ left_by x (responses x f.outcomes.items) in
-      subst Q same (left files listings (narrows files listings a));
+  end = λ files listings a.
+      let Q : Environment → Type 0 = λ x. f.env ≡ end_environment x (responses x f.outcomes.items) in
+      subst Q same (end files listings (narrows files listings a));
   judged =
       let P : List Text → Type 0 = λ xs. AreJudgments agrees' (before < now) limits e xs f.judgments.items in
-      subst P (named ∙ ap firsts (sym (names_of_responses e f.outcomes.items)))
+      subst P (named ∙ ap without_repeats (sym (names_of_responses e f.outcomes.items)))
       (judgments_narrowed agrees' agrees' (mid < now) (before < now) limits e names f.judgments.items (λ files listings a. a)
       (λ h. failed_before before mid now (count_failed f.outcomes.items) ran_count h) judged);
   failures = counts before mid now (count_failed f.outcomes.items) (count_failed_judgments f.judgments.items) ran_count judged_count;

@@ -2,8 +2,8 @@
 use Rattle.std.proofs.Common.{◌≡◌, ℕ, ◌+◌, ◌<◌, ◌≤◌, ◌-◌, List, [], ◌∷◌, ◌++◌, length, take, drop, get_or, Bor, string_bytes, Result, Ok, Err, refl, sym, subst, ap, ◌∙◌, arith, append_assoc}
 use Rattle.std.proofs.lemmas.List.{take_all}
 use Rattle.std.specs.List.{flat_map}
-use Rattle.environment.specs.Texts.{Text, shown, texts_in}
-use Rattle.environment.specs.Environment.{Environment}
+use Rattle.envvars.specs.Texts.{Text, slice_texts, texts_in}
+use Rattle.envvars.specs.Environment.{Environment}
 use Rattle.filetree.specs.Agreement.{Files, Listings, InEachPair, Narrows}
 use Rattle.filetree.specs.Causes.{Cause, Applies, memory, device, because}
 use Rattle.modulerecords.specs.Moves.{Move, Loads, Unloads, loaded_names}
@@ -11,15 +11,15 @@ use Rattle.tclrules.specs.declared.limits.Limits.{Limits}
 use Rattle.requests.specs.Reasons.{RequestReason}
 use Rattle.requests.specs.Sessions.{Response, session_moves, env_after}
 use Rattle.requests.specs.Verdicts as verdicts
-use Rattle.modulesteps.specs.Answers.{Tells, cause_of}
-use Rattle.modulesteps.specs.Verdicts.{in_sh, verdict_view}
-use Rattle.modulesteps.specs.MoveViews.{moves_of}
-use Rattle.modulesteps.specs.declared.judged.Verdict.{Verdict}
-use Rattle.modulesteps.specs.declared.refusal.Refusal.{Refusal}
+use Rattle.requeststep.specs.Answers.{AnswersOverTree, cause_of}
+use Rattle.requeststep.specs.Verdicts.{in_sh, verdict_view}
+use Rattle.requeststep.specs.MoveViews.{moves_of}
+use Rattle.requeststep.specs.declared.judged.Verdict.{Verdict}
+use Rattle.requeststep.specs.declared.refusal.Refusal.{Refusal}
 use Rattle.modules.specs.Responses.{by_cause, count_cause, response_of, responses}
 use Rattle.modules.specs.declared.sessions.Outcome.{Outcome}
 use Rattle.modules.specs.declared.sessions.Outcome.TheVariants.{Accepted, Refused}
-use Rattle.modulesteps.specs.Messages.{number_of}
+use Rattle.requeststep.specs.Messages.{number_of}
 use Rattle.sessioncheck.specs.Judgments.{IsJudgment, AreJudgments, count_failed_judgments, count_unjudged}
 use Rattle.sessioncheck.specs.Parts.{loaded_in}
 use Rattle.sessioncheck.specs.declared.judging.Judgment.{Judgment}
@@ -34,7 +34,7 @@ narrowed_cause (because r) agrees agrees' failed failed' Is narrows fails h = λ
 
 narrowed : {X Y : Type 0} (view : X → Y) (agrees agrees' : Files → Listings → Type 0) (failed failed' : Type 0) (r : Result X Refusal)
     (Comes : Files → Listings → Result Y RequestReason → Type 0)
-    → Narrows agrees agrees' → (failed → failed') → Tells agrees failed view r Comes → Tells agrees' failed' view r Comes
+    → Narrows agrees agrees' → (failed → failed') → AnswersOverTree agrees failed view r Comes → AnswersOverTree agrees' failed' view r Comes
 narrowed view agrees agrees' failed failed' (Ok x) Comes narrows fails h = λ files listings a. h files listings (narrows files listings a)
 narrowed view agrees agrees' failed failed' (Err e) Comes narrows fails h =
     narrowed_cause (cause_of e) agrees agrees' failed failed' (λ r files listings. Comes files listings (Err r)) narrows fails h
@@ -93,7 +93,7 @@ cause_counts device before now Is later h = one_failed before now h
 cause_counts (because r) before now Is later h = none_failed before now later
 
 pub verdict_counts : (agrees : Files → Listings → Type 0) (before now : ℕ) (r : Result Verdict Refusal) (Comes : Files → Listings → Result verdicts.Verdict RequestReason → Type 0)
-    → before ≤ now → Tells agrees (before < now) verdict_view r Comes → before + count_unjudged r ≤ now
+    → before ≤ now → AnswersOverTree agrees (before < now) verdict_view r Comes → before + count_unjudged r ≤ now
 verdict_counts agrees before now (Ok v) Comes later h = none_failed before now later
 verdict_counts agrees before now (Err refusal) Comes later h = cause_counts (cause_of refusal) before now (λ r. InEachPair agrees (λ files listings. Comes files listings (Err r))) later h
 
@@ -106,19 +106,19 @@ pub below_more : (a b c : ℕ) → a ≤ b → b < c → a < c
 below_more a b c h k = omega arith
 
 pub moves_on : (done : List Text) (name : Text) (d : Bor Text) (rest : List (Bor Text)) (all : List Text) → 1 ≤ length rest → name ≡ (get_or rest 0 d).now
-    → done ++ shown rest ≡ all → (done ++ name ∷ []) ++ shown (take (length rest - 1) (drop 1 rest)) ≡ all
+    → done ++ slice_texts rest ≡ all → (done ++ name ∷ []) ++ slice_texts (take (length rest - 1) (drop 1 rest)) ≡ all
 moves_on done name d [] all some is h = absurd (omega arith)
 moves_on done name d (x ∷ xs) all some is h =
     let whole : take (length (x ∷ xs) - 1) xs ≡ xs = take_all _ xs (omega arith) in
-    rw (whole, is) (append_assoc done (x.now ∷ []) (shown xs) ∙ h)
+    rw (whole, is) (append_assoc done (x.now ∷ []) (slice_texts xs) ∙ h)
 
 -- a judgment of a name that was copied
 pub judged_name : (agrees : Files → Listings → Type 0) (failed failed' : Type 0) (limits : Limits) (e : Environment) (name : Text) (j : Judgment)
     → string_bytes j.name ≡ name → (failed → failed')
-    → Tells agrees failed verdict_view j.verdict (λ files listings. verdicts.Judged (in_sh limits files listings) e name)
+    → AnswersOverTree agrees failed verdict_view j.verdict (λ files listings. verdicts.HasVerdict (in_sh limits files listings) e name)
     → IsJudgment agrees failed' limits e (string_bytes j.name) j
 judged_name agrees failed failed' limits e name j same fails h =
-    let P : Text → Type 0 = λ n. Tells agrees failed' verdict_view j.verdict (λ files listings. verdicts.Judged (in_sh limits files listings) e n) in
+    let P : Text → Type 0 = λ n. AnswersOverTree agrees failed' verdict_view j.verdict (λ files listings. verdicts.HasVerdict (in_sh limits files listings) e n) in
     (refl, subst P (sym same) (narrowed verdict_view agrees agrees failed failed' j.verdict _ (λ files listings a. a) fails h))
 
 -- ---- the names of what was loaded

@@ -1,21 +1,21 @@
 -- A session of lines is a session of their requests.
 use Rattle.std.proofs.Common.{◌≡◌, true, List, [], ◌∷◌, Result, Ok, Err, refl, subst}
-use Rattle.environment.specs.Texts.{Text}
-use Rattle.environment.specs.Environment.{Environment}
+use Rattle.envvars.specs.Texts.{Text}
+use Rattle.envvars.specs.Environment.{Environment}
 use Rattle.shells.specs.declared.shell.Shell.{Shell}
-use Rattle.relations.specs.Relations.{After}
+use Rattle.filetree.specs.Relations.{After}
 use Rattle.requests.specs.Reasons.{RequestReason}
 use Rattle.requests.specs.Requests.{RequestedAction, Request, request_of}
-use Rattle.requests.specs.Sessions.{Response, accepted, refused, given_up, IsResponse, Session, env_after, in_shell, is_cause, left_by, session_moves}
+use Rattle.requests.specs.Sessions.{Response, accepted, refused, given_up, IsResponse, Session, env_after, in_shell, is_given_up_by, end_environment, session_moves}
 use Rattle.requests.specs.Steps.{Site, Done, RequestStep}
 use Rattle.sessioncheck.specs.Laws.{LinesRun}
-use Rattle.sessioncheck.specs.Sessions.{IsLineResponse, answered, requests_in, with_request, with_response}
+use Rattle.sessioncheck.specs.Sessions.{IsLineResponse, request_responses, requests_in, with_request, with_response}
 
 -- a response, by what came of making a request
 abbrev pub Responds : Site → Environment → Result RequestedAction RequestReason → Response → Type 0
 Responds s e made (accepted d) = After (RequestStep s e) made (Ok d)
 Responds s e made (refused reason) = After (RequestStep s e) made (Err reason)
-Responds s e made (given_up number) = is_cause number ≡ true
+Responds s e made (given_up number) = is_given_up_by number ≡ true
 
 responds : (s : Site) (e : Environment) (words : List Text) (o : Response) → IsLineResponse s e words o → Responds s e (request_of words) o
 responds s e words (accepted d) (made, is, h) =
@@ -26,7 +26,7 @@ responds s e words (given_up number) h = h
 
 -- what holds of a session that continues after some responses
 abbrev pub Runs : Site → Environment → List Request → List Response → List Response → Type 0
-Runs s e rs given os = Session s e rs given × (left_by e given ≡ left_by e os) × (session_moves given ≡ session_moves os)
+Runs s e rs given os = Session s e rs given × (end_environment e given ≡ end_environment e os) × (session_moves given ≡ session_moves os)
 
 made_responds : (s : Site) (e : Environment) (asked : RequestedAction) (o : Response) → Responds s e (Ok asked) o → IsResponse s e asked o
 made_responds s e asked (accepted d) h = h
@@ -53,4 +53,4 @@ lines_run s shell e [] [] h = (tt, refl, refl)
 lines_run s shell e [] (o ∷ os) h = absurd h
 lines_run s shell e (words ∷ lines) [] h = absurd h
 lines_run s shell e (words ∷ lines) (o ∷ os) h =
-    more_runs s shell e (request_of words) o (requests_in shell lines) (answered lines os) os (responds (in_shell s shell) e words o h.0) (lines_run s shell (env_after e o) lines os h.1)
+    more_runs s shell e (request_of words) o (requests_in shell lines) (request_responses lines os) os (responds (in_shell s shell) e words o h.0) (lines_run s shell (env_after e o) lines os h.1)

@@ -1,16 +1,16 @@
 -- Sessions of lines grow by one line at their end.
 use Rattle.std.proofs.Common.{◌≡◌, ℕ, ◌<◌, ◌≤◌, ◌+◌, true, List, [], ◌∷◌, ◌++◌, map, length, refl, sym, subst, ap, ◌∙◌, Ok, Err, append_assoc, append-nil, arith}
-use Rattle.environment.specs.Texts.{Text}
-use Rattle.environment.specs.Environment.{Environment}
+use Rattle.envvars.specs.Texts.{Text}
+use Rattle.envvars.specs.Environment.{Environment}
 use Rattle.filetree.specs.Causes.{Cause, Applies, memory, device, because}
-use Rattle.relations.specs.Relations.{Is}
+use Rattle.filetree.specs.Relations.{Is}
 use Rattle.requests.specs.Reasons.{RequestReason}
 use Rattle.requests.specs.Requests.{RequestedAction, request_of}
-use Rattle.requests.specs.Sessions.{Response, accepted, refused, given_up, IsResponse, env_after, is_cause}
+use Rattle.requests.specs.Sessions.{Response, accepted, refused, given_up, IsResponse, env_after, is_given_up_by}
 use Rattle.requests.specs.Steps.{Site}
-use Rattle.modulesteps.specs.Answers.{cause_of}
-use Rattle.modulesteps.specs.Messages.{memory_number, number_by}
-use Rattle.modulesteps.specs.declared.refusal.Refusal.{Refusal}
+use Rattle.requeststep.specs.Answers.{cause_of}
+use Rattle.requeststep.specs.Messages.{memory_number, number_by}
+use Rattle.requeststep.specs.declared.refusal.Refusal.{Refusal}
 use Rattle.modules.proofs.SessionLemmas.{memory_is_cause, refused_counts}
 use Rattle.modules.specs.Responses.{by_cause, count_failed, response_of}
 use Rattle.modules.specs.declared.sessions.Outcome.TheVariants.{Refused}
@@ -24,11 +24,11 @@ line_responds s e words asked (refused reason) made h = (Ok asked, sym made, h)
 line_responds s e words asked (given_up number) made h = h
 
 -- a line that makes no request
-by_cause_responds : (s : Site) (e : Environment) (words : List Text) (wanting : ℕ) (c : Cause RequestReason) → is_cause wanting ≡ true
-    → Applies c ⊥ (λ r. Is (request_of words) (Err r)) → IsLineResponse s e words (by_cause (number_by wanting c) c)
-by_cause_responds s e words wanting memory is h = is
-by_cause_responds s e words wanting device is h = absurd h
-by_cause_responds s e words wanting (because r) is h = (Err r, h, refl)
+by_cause_responds : (s : Site) (e : Environment) (words : List Text) (out_of_memory : ℕ) (c : Cause RequestReason) → is_given_up_by out_of_memory ≡ true
+    → Applies c ⊥ (λ r. Is (request_of words) (Err r)) → IsLineResponse s e words (by_cause (number_by out_of_memory c) c)
+by_cause_responds s e words out_of_memory memory is h = is
+by_cause_responds s e words out_of_memory device is h = absurd h
+by_cause_responds s e words out_of_memory (because r) is h = (Err r, h, refl)
 
 pub none_responds : (s : Site) (e : Environment) (words : List Text) (refusal : Refusal)
     → Applies (cause_of refusal) ⊥ (λ r. Is (request_of words) (Err r)) → IsLineResponse s e words (response_of e (Refused refusal))
@@ -50,10 +50,10 @@ pub lines_taken : (s : Site) (start e new : Environment) (words : List Text) (li
     → (os : List Response) → (LineSession s e (words ∷ lines) (o ∷ os) → LineSession s start all (sofar ++ o ∷ os))
     → IsLineResponse s e words o → new ≡ env_after e o → grown ≡ sofar ++ o ∷ []
     → LineSession s new lines os → LineSession s start all (grown ++ os)
-lines_taken s start e new words lines all sofar grown o os run is_response left more rest =
+lines_taken s start e new words lines all sofar grown o os run is_response end more rest =
     let P : Environment → Type 0 = λ x. LineSession s x lines os in
     let Q : List Response → Type 0 = λ x. LineSession s start all x in
-    subst Q (sym (append_assoc sofar (o ∷ []) os) ∙ ap (λ x. x ++ os) (sym more)) (run (is_response, subst P left rest))
+    subst Q (sym (append_assoc sofar (o ∷ []) os) ∙ ap (λ x. x ++ os) (sym more)) (run (is_response, subst P end rest))
 
 no_more : {W : Type 0} (view : W → List Text) (s : Site) (e : Environment) (rest : List W) → length rest < 1 → LineSession s e (map view rest) []
 no_more view s e [] none = tt

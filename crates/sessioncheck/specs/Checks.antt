@@ -1,12 +1,12 @@
 -- What the check of an input's lines answers (own).
 use Rattle.std.specs.Prelude.{◌≡◌, ℕ, ◌+◌, ◌<◌, ◌≤◌, Bool, true, false, List}
 use Rattle.std.specs.List.{list_all}
-use Rattle.environment.specs.Texts.{Text}
-use Rattle.environment.specs.Environment.{Environment}
+use Rattle.envvars.specs.Texts.{Text}
+use Rattle.envvars.specs.Environment.{Environment}
 use Rattle.filetree.specs.Agreement.{Files, Listings, InEachPair}
 use Rattle.shells.specs.declared.shell.Shell.{Shell}
 use Rattle.tclrules.specs.declared.limits.Limits.{Limits}
-use Rattle.requests.specs.Sessions.{Response, left_by}
+use Rattle.requests.specs.Sessions.{Response, end_environment}
 use Rattle.modules.specs.Replies.{site_in}
 use Rattle.modules.specs.Responses.{count_failed, responses}
 use Rattle.modules.specs.declared.sessions.Outcome.{Outcome}
@@ -31,7 +31,7 @@ pub record IsCheck (agrees : Files → Listings → Type 0) (before now : ℕ) (
     (e : Environment) (text : Text) (check : Findings) : Type 0 where
   pub session : InEachPair agrees (λ files listings.
       LineSession (site_in limits shell files listings) e (lines_in text) (responses_in e check))
-  pub left : InEachPair agrees (λ files listings. check.env ≡ left_by e (responses_in e check))
+  pub end : InEachPair agrees (λ files listings. check.env ≡ end_environment e (responses_in e check))
   pub judged : AreJudgments agrees (before < now) limits e (names_loaded (responses_in e check)) check.judgments.items
   pub failures : before + failed_in check ≤ now
 

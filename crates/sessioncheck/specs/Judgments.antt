@@ -1,29 +1,30 @@
 -- The verdicts on the modules that a session loaded, in its first environment (own).
 use Rattle.std.specs.Prelude.{◌≡◌, ℕ, ◌+◌, List, [], ◌∷◌, Result, Ok, Err, string_bytes}
-use Rattle.environment.specs.Texts.{Text}
-use Rattle.environment.specs.Environment.{Environment}
-use Rattle.environment.specs.Fields.{firsts}
+use Rattle.envvars.specs.Texts.{Text}
+use Rattle.envvars.specs.Environment.{Environment}
+use Rattle.envvars.specs.Fields.{without_repeats}
 use Rattle.filetree.specs.Agreement.{Files, Listings}
 use Rattle.modulerecords.specs.Moves.{loaded_names}
 use Rattle.tclrules.specs.declared.limits.Limits.{Limits}
 use Rattle.requests.specs.Sessions.{Response, session_moves}
-use Rattle.requests.specs.Verdicts.{Judged}
-use Rattle.modulesteps.specs.Answers.{Tells, cause_of}
-use Rattle.modulesteps.specs.Verdicts.{verdict_view, in_sh}
-use Rattle.modulesteps.specs.declared.judged.Verdict.{Verdict}
-use Rattle.modulesteps.specs.declared.refusal.Refusal.{Refusal}
+use Rattle.requests.specs.Verdicts.{HasVerdict}
+use Rattle.requeststep.specs.Answers.{AnswersOverTree, cause_of}
+use Rattle.requeststep.specs.Verdicts.{verdict_view, in_sh}
+use Rattle.requeststep.specs.declared.judged.Verdict.{Verdict}
+use Rattle.requeststep.specs.declared.refusal.Refusal.{Refusal}
 use Rattle.modules.specs.Responses.{count_cause}
 use Rattle.sessioncheck.specs.declared.judging.Judgment.{Judgment}
 
 -- the full names of the modules that were loaded, each once, in the order of the first load
 abbrev pub names_loaded : List Response → List Text
-names_loaded os = firsts (loaded_names (session_moves os))
+names_loaded os = without_repeats (loaded_names (session_moves os))
 
 -- the verdict on the module of this name, or the refusal that it has in place of one
 abbrev pub IsJudgment : (Files → Listings → Type 0) → Type 0 → Limits → Environment → Text → Judgment → Type 0
 IsJudgment agrees failed limits e name judgment =
     (string_bytes judgment.name ≡ name)
-    × Tells agrees failed verdict_view judgment.verdict (λ files listings. Judged (in_sh limits files listings) e name)
+    × AnswersOverTree agrees failed verdict_view judgment.verdict
+    (λ files listings. HasVerdict (in_sh limits files listings) e name)
 
 -- the verdicts on the modules of these names, one for each, in order
 abbrev pub AreJudgments : (Files → Listings → Type 0) → Type 0 → Limits → Environment → List Text → List Judgment

@@ -1,7 +1,7 @@
 -- The lines of an input, by their words (own).
 use Rattle.std.specs.Prelude.{◌==◌, List, [], ◌∷◌}
 use Rattle.std.specs.List.{flat_map, slice_split}
-use Rattle.environment.specs.Texts.{Text}
+use Rattle.envvars.specs.Texts.{Text}
 
 -- the list, unless it is empty
 abbrev pub unless_empty : {X : Type 0} → List X → List (List X)

@@ -1,6 +1,6 @@
 -- The names that one request loaded, for the contracts of this crate's private functions.
 use Rattle.std.specs.Prelude.{List, []}
-use Rattle.environment.specs.Texts.{Text, texts_in}
+use Rattle.envvars.specs.Texts.{Text, texts_in}
 use Rattle.modules.specs.declared.sessions.Outcome.{Outcome}
 use Rattle.modules.specs.declared.sessions.Outcome.TheVariants.{Accepted, Refused}
 

@@ -1,11 +1,11 @@
 -- The bytes of the report of a check (own).
 use Rattle.std.specs.Prelude.{ℕ, ◌+◌, List, [], ◌∷◌, ◌++◌, codes, decimal, string_bytes, Result, Ok, Err}
 use Rattle.std.specs.List.{flat_map}
-use Rattle.environment.specs.Texts.{Text}
-use Rattle.modulesteps.specs.Messages.{message_of}
-use Rattle.modulesteps.specs.declared.judged.Verdict.{Verdict}
-use Rattle.modulesteps.specs.declared.judged.Verdict.TheVariants.{Plain, Asked, OneWay}
-use Rattle.modulesteps.specs.declared.refusal.Refusal.{Refusal}
+use Rattle.envvars.specs.Texts.{Text}
+use Rattle.requeststep.specs.Messages.{message_of}
+use Rattle.requeststep.specs.declared.judged.Verdict.{Verdict}
+use Rattle.requeststep.specs.declared.judged.Verdict.TheVariants.{Plain, Asked, OneWay}
+use Rattle.requeststep.specs.declared.refusal.Refusal.{Refusal}
 use Rattle.modules.specs.declared.sessions.Outcome.{Outcome}
 use Rattle.modules.specs.declared.sessions.Outcome.TheVariants.{Accepted, Refused}
 use Rattle.sessioncheck.specs.declared.checking.Findings.{Findings}

@@ -1,12 +1,12 @@
 -- The session of lines (own): each line makes a request, or has a reason why it makes none.
 use Rattle.std.specs.Prelude.{◌≡◌, true, List, [], ◌∷◌, Result, Ok, Err}
-use Rattle.environment.specs.Texts.{Text}
-use Rattle.environment.specs.Environment.{Environment}
+use Rattle.envvars.specs.Texts.{Text}
+use Rattle.envvars.specs.Environment.{Environment}
 use Rattle.shells.specs.declared.shell.Shell.{Shell}
-use Rattle.relations.specs.Relations.{Is, ◌>>◌}
+use Rattle.filetree.specs.Relations.{Is, ◌>>◌}
 use Rattle.requests.specs.Reasons.{RequestReason}
 use Rattle.requests.specs.Requests.{RequestedAction, Request, request_of}
-use Rattle.requests.specs.Sessions.{Response, accepted, refused, given_up, is_cause, env_after}
+use Rattle.requests.specs.Sessions.{Response, accepted, refused, given_up, is_given_up_by, env_after}
 use Rattle.requests.specs.Steps.{Site, Done, RequestStep}
 
 -- the step of a line: that of the request which its words make, or the reason why they make none
@@ -17,7 +17,7 @@ LineStep s e words = Is (request_of words) >> RequestStep s e
 abbrev pub IsLineResponse : Site → Environment → List Text → Response → Type 0
 IsLineResponse s e words (accepted d) = LineStep s e words (Ok d)
 IsLineResponse s e words (refused reason) = LineStep s e words (Err reason)
-IsLineResponse s e words (given_up number) = is_cause number ≡ true
+IsLineResponse s e words (given_up number) = is_given_up_by number ≡ true
 
 -- From an environment, the lines have these responses: each in the environment after those before it.
 abbrev pub LineSession : Site → Environment → List (List Text) → List Response → Type 0
@@ -42,7 +42,7 @@ with_response (Ok action) o os = o ∷ os
 with_response (Err reason) o os = os
 
 -- the responses of the lines that make a request, in order
-abbrev pub answered : List (List Text) → List Response → List Response
-answered [] os = []
-answered (words ∷ lines) [] = []
-answered (words ∷ lines) (o ∷ os) = with_response (request_of words) o (answered lines os)
+abbrev pub request_responses : List (List Text) → List Response → List Response
+request_responses [] os = []
+request_responses (words ∷ lines) [] = []
+request_responses (words ∷ lines) (o ∷ os) = with_response (request_of words) o (request_responses lines os)

@@ -1,9 +1,9 @@
 //! Checks the lines of a text: runs their requests as a session, and judges the modules that they loaded.
 ghost use Rattle.std.specs.Prelude.{◌≡◌, ◌<◌, ◌≤◌, ◌+◌, IfOk, IfErr};
 ghost use Rattle.std.specs.List.{flat_map};
-ghost use Rattle.environment.specs.Fields.{firsts};
+ghost use Rattle.envvars.specs.Fields.{without_repeats};
 ghost use Rattle.filetree.specs.Agreement.{Narrows};
-ghost use Rattle.modulesteps.specs.declared.refusal.Refusal.TheVariants as refusals;
+ghost use Rattle.requeststep.specs.declared.refusal.Refusal.TheVariants as refusals;
 ghost use Rattle.sessioncheck.specs.Judgments.{AreJudgments, count_failed_judgments};
 ghost use Rattle.sessioncheck.specs.Parts.{loaded_in};
 ghost use Rattle.sessioncheck.specs.Checks.{IsCheck, all_accepted, was_accepted};
@@ -12,7 +12,7 @@ use crate::judging::{Judgment, judge};
 use crate::lines::lines_in;
 use crate::loading::names_loaded;
 use crate::running::run_lines;
-use environment::Env;
+use envvars::Env;
 use filetree::Tree;
 use modules::{Outcome, Refusal};
 use shells::Shell;
@@ -58,7 +58,7 @@ fn judge_loaded<T: Tree>(
     ensures later { T.failures tree.old ≤ T.failures tree.new }
     ensures judged { IfOk result (λ judgments.
         AreJudgments (T.agrees tree.new) (T.failures tree.old < T.failures tree.new) limits env.now
-        (firsts (flat_map loaded_in outcomes.now)) judgments.items) }
+        (without_repeats (flat_map loaded_in outcomes.now)) judgments.items) }
     ensures failures { IfOk result (λ judgments.
         T.failures tree.old + count_failed_judgments judgments.items ≤ T.failures tree.new) }
 {

@@ -1,10 +1,10 @@
 //! Judges modules by their names, each with a verdict or why there is none.
 ghost use Rattle.std.specs.Prelude.{◌<◌, ◌≤◌, ◌+◌, IfOk};
-ghost use Rattle.environment.specs.Texts.{shown};
+ghost use Rattle.envvars.specs.Texts.{slice_texts};
 ghost use Rattle.filetree.specs.Agreement.{Narrows};
 ghost use Rattle.sessioncheck.specs.Judgments.{AreJudgments, count_failed_judgments};
 
-use environment::Env;
+use envvars::Env;
 use filetree::Tree;
 use modules::{Refusal, Verdict, verdict};
 use std::alloc::{AllocError, Global};
@@ -30,7 +30,8 @@ pub(crate) fn judge<T: Tree>(
     ensures before { Narrows (T.agrees tree.old) (T.agrees tree.new) }
     ensures later { T.failures tree.old ≤ T.failures tree.new }
     ensures judged { IfOk result (λ judgments.
-        AreJudgments (T.agrees tree.new) (T.failures tree.old < T.failures tree.new) limits env.now (shown names.now)
+        AreJudgments (T.agrees tree.new) (T.failures tree.old < T.failures tree.new) limits env.now
+        (slice_texts names.now)
         judgments.items) }
     ensures failures { IfOk result (λ judgments.
         T.failures tree.old + count_failed_judgments judgments.items ≤ T.failures tree.new) }

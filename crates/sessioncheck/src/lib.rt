@@ -1,5 +1,5 @@
 //! The check of an input's lines: what their requests would do, and the verdict on each module that they load (own).
-//! Takes memory; reads the files and folders (`Tree`) that it is given.
+//! Takes memory; reads the files and directories (`Tree`) that it is given.
 //! Used by modulecmd.
 #![tactic(auto)]
 

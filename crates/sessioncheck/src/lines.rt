@@ -1,10 +1,10 @@
 //! Takes a text apart into its lines, and a line into the words between its spaces and tabs.
 ghost use Rattle.std.specs.Prelude.{◌≡◌, ◌++◌, map, IfOk, OnOk};
-ghost use Rattle.environment.specs.Texts.{texts_in};
+ghost use Rattle.envvars.specs.Texts.{texts_in};
 ghost use Rattle.sessioncheck.specs.Lines as spec;
 ghost use Rattle.sessioncheck.specs.Lines.{line_words, unless_empty, words_between_tabs};
 
-use environment::fields::parts;
+use envvars::fields::parts;
 use std::alloc::{AllocError, Global};
 
 /// Adds the word, unless it is empty.

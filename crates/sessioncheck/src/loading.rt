@@ -1,17 +1,17 @@
 //! Which modules the requests loaded.
 ghost use Rattle.std.specs.Prelude.{◌≡◌, ◌++◌, map, IfOk, OnOk, string_bytes};
 ghost use Rattle.std.specs.List.{flat_map};
-ghost use Rattle.environment.specs.Fields.{firsts};
-ghost use Rattle.environment.specs.Texts.{shown};
+ghost use Rattle.envvars.specs.Fields.{without_repeats};
+ghost use Rattle.envvars.specs.Texts.{slice_texts};
 ghost use Rattle.sessioncheck.specs.Parts.{loaded_in};
 
-use environment::fields::once;
+use envvars::fields::deduplicated;
 use modules::Outcome;
 use std::alloc::{AllocError, Global};
 
 /// Adds the names that one request loaded.
 fn push_names<'a>(names: &mut Vec<&'a str>, loaded: &'a [String]) -> Result<(), AllocError>
-    ensures { OnOk result (shown names.new.items ≡ shown names.old.items ++ map string_bytes loaded.now) }
+    ensures { OnOk result (slice_texts names.new.items ≡ slice_texts names.old.items ++ map string_bytes loaded.now) }
 {
     let mut rest = loaded;
     while let [name, later @ ..] = rest {
@@ -23,7 +23,7 @@ fn push_names<'a>(names: &mut Vec<&'a str>, loaded: &'a [String]) -> Result<(), 
 
 /// The full names of the modules that accepted requests loaded, each once, in the order of the first load.
 pub(crate) fn names_loaded(alloc: Global, outcomes: &[Outcome]) -> Result<Vec<&str>, AllocError>
-    ensures { IfOk result (λ names. shown names.items ≡ firsts (flat_map loaded_in outcomes.now)) }
+    ensures { IfOk result (λ names. slice_texts names.items ≡ without_repeats (flat_map loaded_in outcomes.now)) }
 {
     let mut names = Vec::new(alloc);
     let mut rest = outcomes;
@@ -33,5 +33,5 @@ pub(crate) fn names_loaded(alloc: Global, outcomes: &[Outcome]) -> Result<Vec<&s
         }
         rest = later;
     }
-    once(alloc, names.as_slice())
+    deduplicated(alloc, names.as_slice())
 }

@@ -1,14 +1,14 @@
 //! Runs lines one after another, each by the request that its words make.
 ghost use Rattle.std.specs.Prelude.{◌≡◌, ◌≤◌, ◌+◌, [], ◌∷◌, map, IfOk, IfErr, string_bytes};
-ghost use Rattle.environment.specs.Texts.{texts_in};
+ghost use Rattle.envvars.specs.Texts.{texts_in};
 ghost use Rattle.filetree.specs.Agreement.{Narrows, InEachPair};
-ghost use Rattle.modulesteps.specs.declared.refusal.Refusal.TheVariants as refusals;
+ghost use Rattle.requeststep.specs.declared.refusal.Refusal.TheVariants as refusals;
 ghost use Rattle.modules.specs.Replies.{site_in};
 ghost use Rattle.modules.specs.Responses.{response_of, responses, count_failed};
-ghost use Rattle.requests.specs.Sessions.{env_after, left_by};
+ghost use Rattle.requests.specs.Sessions.{env_after, end_environment};
 ghost use Rattle.sessioncheck.specs.Sessions.{IsLineResponse, LineSession};
 
-use environment::Env;
+use envvars::Env;
 use filetree::Tree;
 use modules::{Outcome, Refusal, request, respond};
 use shells::Shell;
@@ -29,7 +29,7 @@ fn respond_to<T: Tree>(
     ensures answer { InEachPair (T.agrees tree.new) (λ files listings.
         IsLineResponse (site_in limits shell files listings) env.old (map string_bytes words.now)
         (response_of env.old result)) }
-    ensures left { InEachPair (T.agrees tree.new) (λ files listings.
+    ensures end { InEachPair (T.agrees tree.new) (λ files listings.
         env.new ≡ env_after env.old (response_of env.old result)) }
 {
     match request(alloc, shell, words) {
@@ -54,8 +54,8 @@ pub(crate) fn run_lines<T: Tree>(
     ensures ran { IfOk result (λ outcomes. InEachPair (T.agrees tree.new) (λ files listings.
         LineSession (site_in limits shell files listings) env.old (map texts_in lines.now)
         (responses env.old outcomes.items))) }
-    ensures left { IfOk result (λ outcomes. InEachPair (T.agrees tree.new) (λ files listings.
-        env.new ≡ left_by env.old (responses env.old outcomes.items))) }
+    ensures end { IfOk result (λ outcomes. InEachPair (T.agrees tree.new) (λ files listings.
+        env.new ≡ end_environment env.old (responses env.old outcomes.items))) }
     ensures only { IfErr result (λ refusal. refusal ≡ refusals.OutOfMemory) }
 {
     let mut outcomes = Vec::new(alloc);

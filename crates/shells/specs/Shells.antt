@@ -1,7 +1,7 @@
 -- The shells that text is printed for, and the families of those that read the same text (module(1); module-info shell
 -- and shelltype of modulefile(5)).
 use Rattle.std.specs.Prelude.{List, [], ◌∷◌, Option, bytes_eq, codes, find}
-use Rattle.environment.specs.Texts.{Text}
+use Rattle.envvars.specs.Texts.{Text}
 use Rattle.shells.specs.declared.shell.Shell.{Shell}
 use Rattle.shells.specs.declared.shell.Shell.TheVariants.{Sh, Bash, Ksh, Zsh, Csh, Tcsh, Fish}
 use Rattle.shells.specs.declared.family.Family.{Family}
@@ -42,5 +42,5 @@ family_name families.Csh = codes "csh"
 family_name families.Fish = codes "fish"
 
 -- the name of a shell's family
-abbrev pub shell_family : Shell → Text
-shell_family shell = family_name (family_of shell)
+abbrev pub shell_family_name : Shell → Text
+shell_family_name shell = family_name (family_of shell)

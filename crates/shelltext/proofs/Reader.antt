@@ -3,13 +3,13 @@ use Rattle.std.proofs.Common.{◌≡◌, ℕ, Bool, true, false, cond, not, ◌&
 use Rattle.std.proofs.lemmas.Bool.{cases_Bool, and_parts}
 use Rattle.std.proofs.lemmas.Bool.Decides.{nat_tests}
 use Rattle.std.specs.List.{flat_map, list_all}
-use Rattle.environment.specs.Names.{is_name_start, is_name_byte, is_variable_name}
-use Rattle.environment.specs.Changes.{NewValue}
+use Rattle.envvars.specs.Names.{is_name_start, is_name_byte, is_variable_name}
+use Rattle.envvars.specs.Changes.{NewValue}
 use Rattle.shells.specs.declared.shell.Shell.{Shell}
 use Rattle.shells.specs.declared.family.Family.{Family}
 use Rattle.shells.specs.declared.family.Family.TheVariants.{Sh, Csh, Fish}
 use Rattle.shells.specs.Shells.{family_of}
-use Rattle.shelltext.specs.Reading.{is_mark, is_literal, ValuePart, literal, mark, AreParts, part_value, part_text, inner_text, value_text, set_line, unset_line, SaysChange, AreLines, IsText}
+use Rattle.shelltext.specs.Reading.{is_special, is_literal, ValuePart, literal, special, AreParts, part_value, part_text, inner_text, value_text, set_line, unset_line, LineSays, LinesSay, TextSays}
 
 -- between parts, inside quotes, behind a backslash
 data Mode : Type 0 where
@@ -35,7 +35,7 @@ value_at family inside (b ∷ bs) =
     cond (eqb b 39) (cond (is_fish family) (Some ([], bs)) (value_at family outside bs))
     (cond (eqb b 92 && is_fish family) (value_at family behind bs) (cond (is_literal family b) (onto b (value_at family inside bs)) None))
 value_at family behind [] = None
-value_at family behind (b ∷ bs) = cond (is_mark family b) (onto b (cond (is_fish family) (value_at family inside bs) (value_at family outside bs))) None
+value_at family behind (b ∷ bs) = cond (is_special family b) (onto b (cond (is_fish family) (value_at family inside bs) (value_at family outside bs))) None
 
 abbrev name_at : List ℕ → List ℕ × List ℕ
 name_at [] = ([], [])
@@ -124,14 +124,14 @@ quoted_value family nf [] are t = refl
 quoted_value family nf (literal bytes ∷ ps) are t =
     rw (append_assoc bytes (39 ∷ []) (flat_map part_text ps), append_assoc bytes (39 ∷ flat_map part_text ps) (59 ∷ t), inside_plain family bytes (39 ∷ (flat_map part_text ps ++ 59 ∷ t)) are.0, nf, quoted_value family nf ps are.1 t)
     (prepended bytes (flat_map part_value ps) (59 ∷ t))
-quoted_value family nf (mark b ∷ ps) are t = rw (nf, are.0, quoted_value family nf ps are.1 t) refl
+quoted_value family nf (special b ∷ ps) are t = rw (nf, are.0, quoted_value family nf ps are.1 t) refl
 
 inner_value : (ps : List ValuePart) → AreParts Fish ps → (t : List ℕ) → value_at Fish inside (flat_map inner_text ps ++ 39 ∷ t) ≡ Some (flat_map part_value ps, t)
 inner_value [] are t = refl
 inner_value (literal bytes ∷ ps) are t =
     rw (append_assoc bytes (flat_map inner_text ps) (39 ∷ t), inside_plain Fish bytes (flat_map inner_text ps ++ 39 ∷ t) are.0, inner_value ps are.1 t)
     (prepended bytes (flat_map part_value ps) t)
-inner_value (mark b ∷ ps) are t = rw (are.0, inner_value ps are.1 t) refl
+inner_value (special b ∷ ps) are t = rw (are.0, inner_value ps are.1 t) refl
 
 value_found : (family : Family) (ps : List ValuePart) → AreParts family ps → (t : List ℕ) → value_at family outside (value_text family ps ++ 59 ∷ t) ≡ Some (flat_map part_value ps, 59 ∷ t)
 value_found Sh ps are t = quoted_value Sh refl ps are t
@@ -169,7 +169,7 @@ set_line_found Sh n rest ps e are =
 set_line_found Csh n rest ps e are = key_found Csh n rest ps e are
 set_line_found Fish n rest ps e are = key_found Fish n rest ps e are
 
-found : (family : Family) (line rest n : List ℕ) (v : Option (List ℕ)) → is_variable_name n ≡ true → SaysChange family line n v → line_at family (line ++ rest) ≡ Some ((n, v), rest)
+found : (family : Family) (line rest n : List ℕ) (v : Option (List ℕ)) → is_variable_name n ≡ true → LineSays family line n v → line_at family (line ++ rest) ≡ Some ((n, v), rest)
 found family line rest n None e h = ap (λ l. line_at family (l ++ rest)) h ∙ unset_line_found family n rest e
 found family line rest n (Some v) e h =
     ap (λ l. line_at family (l ++ rest)) (h.2 ∙ ap (λ t. set_line family n t) (sym h.1.spelled))
@@ -180,14 +180,14 @@ nothing_found Sh = refl
 nothing_found Csh = refl
 nothing_found Fish = refl
 
-clash : (family : Family) (text : List ℕ) (r : NewValue) (rs : List NewValue) → text ≡ [] → AreLines family text (r ∷ rs) → ⊥
+clash : (family : Family) (text : List ℕ) (r : NewValue) (rs : List NewValue) → text ≡ [] → LinesSay family text (r ∷ rs) → ⊥
 clash family text r rs e k =
     let some = ap (λ l. line_at family l) k.5 ∙ found family k.0 k.1 r.0 r.1 k.2 k.3 in
     let none = ap (λ l. line_at family l) e ∙ nothing_found family in
     let both = sym some ∙ none in
     let absurd_case : ◌≡◌ {A = Option (NewValue × List ℕ)} (Some (r, k.1)) None = both in cc
 
-one_list : (family : Family) (text : List ℕ) (ss rs : List NewValue) → AreLines family text ss → AreLines family text rs → ss ≡ rs
+one_list : (family : Family) (text : List ℕ) (ss rs : List NewValue) → LinesSay family text ss → LinesSay family text rs → ss ≡ rs
 one_list family text [] [] h k = refl
 one_list family text [] (r ∷ rs) h k = absurd (clash family text r rs h k)
 one_list family text (s ∷ ss) [] h k = absurd (clash family text s ss k h)
@@ -197,11 +197,11 @@ one_list family text (s ∷ ss) (r ∷ rs) h k =
     let both : ◌≡◌ {A = Option (NewValue × List ℕ)} (Some (s, h.1)) (Some (r, k.1)) = sym a ∙ b in
     let same : ◌≡◌ {A = NewValue × List ℕ} (s, h.1) (r, k.1) = cc in
     let rests : h.1 ≡ k.1 = ap (λ p. p.1) same in
-    let P : List ℕ → Type 0 = λ t. AreLines family t ss in
+    let P : List ℕ → Type 0 = λ t. LinesSay family t ss in
     let firsts : s ≡ r = ap (λ p. p.0) same in
     let others : ss ≡ rs = one_list family k.1 ss rs (subst P rests h.4) k.4 in
     cc
 
 -- a text says at most one list of changes
-pub one : (shell : Shell) (text : List ℕ) (ss rs : List NewValue) → IsText shell text ss → IsText shell text rs → ss ≡ rs
+pub one : (shell : Shell) (text : List ℕ) (ss rs : List NewValue) → TextSays shell text ss → TextSays shell text rs → ss ≡ rs
 one shell text ss rs h k = one_list (family_of shell) text ss rs h k

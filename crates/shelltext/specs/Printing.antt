@@ -4,15 +4,15 @@ use Rattle.std.specs.List.{flat_map, list_all}
 use Rattle.std.specs.Option.{option_map}
 use Rattle.shells.specs.declared.shell.Shell.{Shell}
 use Rattle.message.specs.Messages.{around}
-use Rattle.environment.specs.Texts.{Text}
-use Rattle.environment.specs.Names.{is_variable_name}
-use Rattle.environment.specs.Changes.{NewValue}
+use Rattle.envvars.specs.Texts.{Text}
+use Rattle.envvars.specs.Names.{is_variable_name}
+use Rattle.envvars.specs.Changes.{NewValue}
 use Rattle.shells.specs.declared.family.Family.{Family}
 use Rattle.shells.specs.declared.family.Family.TheVariants.{Sh, Csh, Fish}
 use Rattle.shells.specs.Shells.{family_of}
 use Rattle.shelltext.specs.declared.print.PrintFault.{PrintFault}
 use Rattle.shelltext.specs.declared.print.PrintFault.TheVariants.{OutOfMemory, NotSayable}
-use Rattle.shelltext.specs.Reading.{is_mark, is_unsayable, set_line, unset_line, IsText}
+use Rattle.shelltext.specs.Reading.{is_special, is_unsayable, set_line, unset_line, TextSays}
 
 -- a text says the value, if there is one
 abbrev pub value_is_sayable : Family → Option Text → Bool
@@ -24,32 +24,32 @@ abbrev pub is_sayable : Family → NewValue → Bool
 is_sayable family s = is_variable_name s.0 && value_is_sayable family s.1
 
 -- how a byte with a meaning inside quotes is written: in sh and csh the quotes end before it and begin again after it
-abbrev pub marked : Family → ℕ → Text
-marked Sh b = 39 ∷ 92 ∷ b ∷ 39 ∷ []
-marked Csh b = 39 ∷ 92 ∷ b ∷ 39 ∷ []
-marked Fish b = 92 ∷ b ∷ []
+abbrev pub special_text : Family → ℕ → Text
+special_text Sh b = 39 ∷ 92 ∷ b ∷ 39 ∷ []
+special_text Csh b = 39 ∷ 92 ∷ b ∷ 39 ∷ []
+special_text Fish b = 92 ∷ b ∷ []
 
 -- how a byte of a value is written
 abbrev pub spell : Family → ℕ → Text
-spell family b = if is_mark family b then marked family b else b ∷ []
+spell family b = if is_special family b then special_text family b else b ∷ []
 
 -- how a value is written
 abbrev pub quoted : Family → Text → Text
 quoted family value = 39 ∷ (flat_map (spell family) value ++ 39 ∷ [])
 
 -- the line that is printed for a name and its new value, or none
-abbrev pub line_by : Family → Text → Option Text → Text
-line_by family name None = unset_line family name
-line_by family name (Some value) = set_line family name (quoted family value)
+abbrev pub line_of_value : Family → Text → Option Text → Text
+line_of_value family name None = unset_line family name
+line_of_value family name (Some value) = set_line family name (quoted family value)
 
 -- the line that is printed for a change
 abbrev pub printed_line : Family → NewValue → Text
-printed_line family s = line_by family s.0 s.1
+printed_line family s = line_of_value family s.0 s.1
 
 -- the first change that no line says has this name, and no text says all the changes
 pub record IsUnsayable (shell : Shell) (ss : List NewValue) (name : Text) : Type 0 where
   pub first : option_map (λ s. s.0) (find (λ s. not (is_sayable (family_of shell) s)) ss) ≡ Some name
-  pub no_text : (text : Text) → IsText shell text ss → ⊥
+  pub no_text : (text : Text) → TextSays shell text ss → ⊥
 
 -- the error is one of these changes
 abbrev pub IsPrintFault : Shell → List NewValue → PrintFault → Type 0

@@ -1,20 +1,20 @@
 -- Texts that are run one after the other, each by its own shell: the environment that a user has after all commands so
 -- far (own).
 use Rattle.std.specs.Prelude.{◌≡◌, List, [], ◌∷◌}
-use Rattle.environment.specs.Texts.{Text}
-use Rattle.environment.specs.Environment.{Environment}
+use Rattle.envvars.specs.Texts.{Text}
+use Rattle.envvars.specs.Environment.{Environment}
 use Rattle.shells.specs.declared.shell.Shell.{Shell}
-use Rattle.shelltext.specs.Reading.{MakesOf, SaysDifference}
+use Rattle.shelltext.specs.Reading.{TextMakes, SaysDifference}
 
 -- a text, and the shell that runs it
 abbrev pub ShellRun : Type 0
 ShellRun = Shell × Text
 
 -- the runs turn the old environment into the new one, each beginning with the environment that the one before it left
-abbrev pub MakeOf : List ShellRun → Environment → Environment → Type 0
-MakeOf [] old new = new ≡ old
-MakeOf (run ∷ runs) old new =
-    (between : Environment) × MakesOf run.0 run.1 old between × MakeOf runs between new
+abbrev pub TextsMake : List ShellRun → Environment → Environment → Type 0
+TextsMake [] old new = new ≡ old
+TextsMake (run ∷ runs) old new =
+    (between : Environment) × TextMakes run.0 run.1 old between × TextsMake runs between new
 
 -- Each text says the difference between the environment before it and the next of these.
 abbrev pub SayDifferences : List ShellRun → Environment → List Environment → Type 0
@@ -31,10 +31,11 @@ last_of old (new ∷ later) = last_of new later
 -- runs turn an environment into one environment
 abbrev pub OneEffectTogether : Type 0
 OneEffectTogether =
-    (runs : List ShellRun) (old new other : Environment) → MakeOf runs old new → MakeOf runs old other → new ≡ other
+    (runs : List ShellRun) (old new other : Environment) → TextsMake runs old new → TextsMake runs old other
+    → new ≡ other
 
 -- runs whose texts say the differences from each environment to the next turn the first into the last
 abbrev pub DifferencesMake : Type 0
 DifferencesMake =
     (runs : List ShellRun) (old : Environment) (later : List Environment) → SayDifferences runs old later
-    → MakeOf runs old (last_of old later)
+    → TextsMake runs old (last_of old later)

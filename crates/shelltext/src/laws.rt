@@ -17,7 +17,7 @@ pub fn one_effect()
 pub fn difference_makes()
     ensures { DifferenceMakes }
 {
-    environment::laws::changes();
+    envvars::laws::changes();
 }
 
 /// Texts that are run one after the other turn an environment into one environment.

@@ -1,14 +1,14 @@
 //! The printer: changes of variables as a text for a shell.
 ghost use Rattle.std.specs.Prelude.{◌≡◌, ◌++◌, map, Some, IfOk, IfErr, OnOk, string_bytes};
-ghost use Rattle.environment.specs.Changes.{new_value_of};
+ghost use Rattle.envvars.specs.Changes.{new_value_of};
 ghost use Rattle.message.specs.Messages.{text_of};
-ghost use Rattle.shelltext.specs.Reading.{IsText};
+ghost use Rattle.shelltext.specs.Reading.{TextSays};
 ghost use Rattle.shelltext.specs.Printing as printing;
 ghost use Rattle.shelltext.specs.Printing.{printed_line, IsPrintFault, print_fault_number, print_message};
 ghost use Rattle.shelltext.specs.declared.print.PrintFault.TheVariants.{OutOfMemory};
 
 use crate::spelling::{are_sayable, push_set, push_unset};
-use environment::{Change, is_variable_name};
+use envvars::{Change, is_variable_name};
 use message::Message;
 use shells::{Family, Shell};
 use std::alloc::{AllocError, Global};
@@ -41,7 +41,7 @@ impl PrintFault {
         ensures { text_of result ≡ print_message self.now }
     {
         match self {
-            PrintFault::OutOfMemory => Message::plain("Out of memory"),
+            PrintFault::OutOfMemory => Message::of_text("Out of memory"),
             PrintFault::NotSayable(name) => Message::around(
                 "Value of '",
                 name.as_str(),
@@ -99,7 +99,7 @@ fn push_line(out: &mut String, family: Family, change: &Change) -> Result<(), Al
 /// NUL or, for csh and tcsh, a newline, or a name isn't a letter or `_` followed by letters, digits and `_`. It names
 /// the first variable of this kind.
 pub fn print_changes(alloc: Global, shell: Shell, changes: &[Change]) -> Result<String, PrintFault>
-    ensures text { IfOk result (λ text. IsText shell (string_bytes text) (map new_value_of changes.now)) }
+    ensures text { IfOk result (λ text. TextSays shell (string_bytes text) (map new_value_of changes.now)) }
     ensures fault { IfErr result (IsPrintFault shell (map new_value_of changes.now)) }
 {
     let family = shell.family();

@@ -25,8 +25,8 @@ pub fn are_sayable(family: Family, bytes: &[u8]) -> bool
 }
 
 /// Whether the character means something inside single quotes, and so needs a backslash.
-fn is_mark(family: Family, c: char) -> bool
-    ensures { result ≡ reading.is_mark family c }
+fn is_special(family: Family, c: char) -> bool
+    ensures { result ≡ reading.is_special family c }
 {
     match family {
         Family::Sh => c == '\'',
@@ -36,19 +36,19 @@ fn is_mark(family: Family, c: char) -> bool
 }
 
 /// Appends a character that needs a backslash. In sh and csh the quotes end before it and begin again after it.
-fn push_mark(out: &mut String, family: Family, mark: char) -> Result<(), AllocError>
-    requires { reading.is_mark family mark ≡ true }
-    ensures { OnOk result (string_bytes out.new ≡ string_bytes out.old ++ printing.marked family mark) }
+fn push_special(out: &mut String, family: Family, special: char) -> Result<(), AllocError>
+    requires { reading.is_special family special ≡ true }
+    ensures { OnOk result (string_bytes out.new ≡ string_bytes out.old ++ printing.special_text family special) }
 {
     match family {
         Family::Sh | Family::Csh => {
             out.push_str("'\\")?;
-            out.push(mark)?;
+            out.push(special)?;
             out.push('\'')
         }
         Family::Fish => {
             out.push('\\')?;
-            out.push(mark)
+            out.push(special)
         }
     }
 }
@@ -58,8 +58,8 @@ fn push_char(out: &mut String, family: Family, c: char) -> Result<(), AllocError
     ensures { OnOk result (string_bytes out.new ≡ string_bytes out.old
         ++ flat_map (printing.spell family) (encode_utf8 c)) }
 {
-    if is_mark(family, c) {
-        push_mark(out, family, c)
+    if is_special(family, c) {
+        push_special(out, family, c)
     } else {
         out.push(c)
     }

@@ -6,7 +6,7 @@ use Rattle.tclchars.specs.Runs.{Text, take_while, drop_while, begins}
 use Rattle.tclchars.specs.Backslash.{is_blank_or_tab}
 use Rattle.tclchars.specs.Classes.{in_class}
 use Rattle.tclchars.specs.declared.runs.Class.TheVariants.{Unescaped}
-use Rattle.tclchars.specs.BracedText.{braced_text, behind_backslash, behind_newline}
+use Rattle.tclchars.specs.BracedText.{braced_text, braced_after_backslash, braced_after_newline}
 
 run_cases : (b : ℕ) (bs : Text) (t : Bool) → (b == backslash) ≡ t → braced_text bs ≡ take_while (in_class Unescaped) bs ++ braced_text (drop_while (in_class Unescaped) bs)
     → braced_text (b ∷ bs) ≡ take_while (in_class Unescaped) (b ∷ bs) ++ braced_text (drop_while (in_class Unescaped) (b ∷ bs))
@@ -18,27 +18,27 @@ pub run_text : (bs : Text) → braced_text bs ≡ take_while (in_class Unescaped
 run_text [] = refl
 run_text (b ∷ bs) = run_cases b bs (b == backslash) refl (run_text bs)
 
-newline_cases : (b : ℕ) (bs : Text) (t : Bool) → is_blank_or_tab b ≡ t → behind_newline bs ≡ braced_text (drop_while is_blank_or_tab bs) → behind_newline (b ∷ bs) ≡ braced_text (drop_while is_blank_or_tab (b ∷ bs))
+newline_cases : (b : ℕ) (bs : Text) (t : Bool) → is_blank_or_tab b ≡ t → braced_after_newline bs ≡ braced_text (drop_while is_blank_or_tab bs) → braced_after_newline (b ∷ bs) ≡ braced_text (drop_while is_blank_or_tab (b ∷ bs))
 newline_cases b bs true e so = rw e so
 newline_cases b bs false e so = rw e refl
 
 -- behind a backslash and a newline, blanks and tabs are passed
-pub newline_text : (bs : Text) → behind_newline bs ≡ braced_text (drop_while is_blank_or_tab bs)
+pub newline_text : (bs : Text) → braced_after_newline bs ≡ braced_text (drop_while is_blank_or_tab bs)
 newline_text [] = refl
 newline_text (b ∷ bs) = newline_cases b bs (is_blank_or_tab b) refl (newline_text bs)
 
 -- behind a backslash that escapes neither a newline nor a backslash, the text goes on
-pub other_text : (bs : Text) → begins newline bs ≡ false → begins backslash bs ≡ false → behind_backslash bs ≡ backslash ∷ braced_text bs
+pub other_text : (bs : Text) → begins newline bs ≡ false → begins backslash bs ≡ false → braced_after_backslash bs ≡ backslash ∷ braced_text bs
 other_text [] h k = refl
 other_text (b ∷ bs) h k = rw (h, k) refl
 
-pub escaped_newline : (old new after next rest : Text) → new ≡ old ++ 32 ∷ [] → after ≡ newline ∷ next → rest ≡ drop_while is_blank_or_tab next → new ++ braced_text rest ≡ old ++ behind_backslash after
+pub escaped_newline : (old new after next rest : Text) → new ≡ old ++ 32 ∷ [] → after ≡ newline ∷ next → rest ≡ drop_while is_blank_or_tab next → new ++ braced_text rest ≡ old ++ braced_after_backslash after
 escaped_newline old new after next rest n a r = rw (n, a, r) (append_assoc old (32 ∷ []) (braced_text (drop_while is_blank_or_tab next)) ∙ ap (λ xs. old ++ 32 ∷ xs) (sym (newline_text next)))
 
-pub escaped_backslash : (old mid new after next : Text) → mid ≡ old ++ backslash ∷ [] → new ≡ mid ++ backslash ∷ [] → after ≡ backslash ∷ next → new ++ braced_text next ≡ old ++ behind_backslash after
+pub escaped_backslash : (old mid new after next : Text) → mid ≡ old ++ backslash ∷ [] → new ≡ mid ++ backslash ∷ [] → after ≡ backslash ∷ next → new ++ braced_text next ≡ old ++ braced_after_backslash after
 escaped_backslash old mid new after next m n a = rw (n, m, a) (append_assoc (old ++ backslash ∷ []) (backslash ∷ []) (braced_text next) ∙ append_assoc old (backslash ∷ []) (backslash ∷ braced_text next))
 
-pub escaped_other : (old new after : Text) → new ≡ old ++ backslash ∷ [] → begins newline after ≡ false → begins backslash after ≡ false → new ++ braced_text after ≡ old ++ behind_backslash after
+pub escaped_other : (old new after : Text) → new ≡ old ++ backslash ∷ [] → begins newline after ≡ false → begins backslash after ≡ false → new ++ braced_text after ≡ old ++ braced_after_backslash after
 escaped_other old new after n h k = rw n (append_assoc old (backslash ∷ []) (braced_text after) ∙ ap (λ xs. old ++ xs) (sym (other_text after h k)))
 
 pub back_no_longer : (p : ℕ → Bool) (bs : Text) → length (drop_while p bs) ≤ length bs
@@ -67,17 +67,17 @@ run_stops (b ∷ bs) = cases (b == backslash) refl (run_stops bs) where
   cases true e so = inr (bs, rw e (ap (λ (x : ℕ). x ∷ bs) (is_byte b e)))
   cases false e so = rw e so
 
-pub run_added : (value run rest behind : Text) → run ≡ take_while (in_class Unescaped) behind → rest ≡ drop_while (in_class Unescaped) behind → (value ++ run) ++ braced_text rest ≡ value ++ braced_text behind
-run_added value run rest behind r e = rw (r, e) (append_assoc value (take_while (in_class Unescaped) behind) (braced_text (drop_while (in_class Unescaped) behind)) ∙ ap (λ xs. value ++ xs) (sym (run_text behind)))
+pub run_added : (value run rest following : Text) → run ≡ take_while (in_class Unescaped) following → rest ≡ drop_while (in_class Unescaped) following → (value ++ run) ++ braced_text rest ≡ value ++ braced_text following
+run_added value run rest following r e = rw (r, e) (append_assoc value (take_while (in_class Unescaped) following) (braced_text (drop_while (in_class Unescaped) following)) ∙ ap (λ xs. value ++ xs) (sym (run_text following)))
 
-pub so_far-run : (whole value run rest behind : Text) → run ≡ take_while (in_class Unescaped) behind → rest ≡ drop_while (in_class Unescaped) behind → value ++ braced_text behind ≡ whole → SoFar whole (value ++ run) rest
-so_far-run whole value run rest behind r e so = record {
-  same = run_added value run rest behind r e ∙ so;
-  stands = subst (λ (xs : Text). (xs ≡ []) ⊎ ((more : Text) × (xs ≡ backslash ∷ more))) (sym e) (run_stops behind);
+pub so_far-run : (whole value run rest following : Text) → run ≡ take_while (in_class Unescaped) following → rest ≡ drop_while (in_class Unescaped) following → value ++ braced_text following ≡ whole → SoFar whole (value ++ run) rest
+so_far-run whole value run rest following r e so = record {
+  same = run_added value run rest following r e ∙ so;
+  stands = subst (λ (xs : Text). (xs ≡ []) ⊎ ((more : Text) × (xs ≡ backslash ∷ more))) (sym e) (run_stops following);
 }
 
 -- from a backslash on
-pub so_far-escape : (whole value rest after : Text) → rest ≡ backslash ∷ after → SoFar whole value rest → value ++ behind_backslash after ≡ whole
+pub so_far-escape : (whole value rest after : Text) → rest ≡ backslash ∷ after → SoFar whole value rest → value ++ braced_after_backslash after ≡ whole
 so_far-escape whole value rest after e s = ap (λ xs. value ++ braced_text xs) (sym e) ∙ s.same
 
 pub so_far-end : (whole value rest : Text) → begins backslash rest ≡ false → SoFar whole value rest → value ≡ whole
@@ -86,8 +86,8 @@ so_far-end whole value rest e s = cases s.stands where
   cases (inl none) = sym (append-nil value) ∙ ap (λ xs. value ++ braced_text xs) (sym none) ∙ s.same
   cases (inr more) = absurd (true_false (sym (ap (begins backslash) more.1) ∙ e))
 
-pub so_far-none : (value rest behind : Text) → rest ≡ drop_while (in_class Unescaped) behind → SoFar (value ++ braced_text rest) value rest
-so_far-none value rest behind e = record {
+pub so_far-none : (value rest following : Text) → rest ≡ drop_while (in_class Unescaped) following → SoFar (value ++ braced_text rest) value rest
+so_far-none value rest following e = record {
   same = refl;
-  stands = subst (λ (xs : Text). (xs ≡ []) ⊎ ((more : Text) × (xs ≡ backslash ∷ more))) (sym e) (run_stops behind);
+  stands = subst (λ (xs : Text). (xs ≡ []) ⊎ ((more : Text) × (xs ≡ backslash ∷ more))) (sym e) (run_stops following);
 }

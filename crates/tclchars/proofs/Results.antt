@@ -4,19 +4,19 @@ use Rattle.tclchars.specs.Runs.{Text}
 use Rattle.tclchars.specs.declared.fault.Fault.{Fault}
 use Rattle.tclchars.specs.Reading.{◌>>=◌, Read, read_map}
 
-pub ok_same : {A B : Type 0} (x y : A) → (let left : Result A B = Ok x in left ≡ Ok y) → x ≡ y
+pub ok_same : {A B : Type 0} (x y : A) → (let remaining : Result A B = Ok x in remaining ≡ Ok y) → x ≡ y
 ok_same x y h = cc
 
-pub err_same : {A B : Type 0} (f g : B) → (let left : Result A B = Err f in left ≡ Err g) → f ≡ g
+pub err_same : {A B : Type 0} (f g : B) → (let remaining : Result A B = Err f in remaining ≡ Err g) → f ≡ g
 err_same f g h = cc
 
-pub ok_err : {A B : Type 0} (x : A) (f : B) → (let left : Result A B = Ok x in left ≡ Err f) → ⊥
+pub ok_err : {A B : Type 0} (x : A) (f : B) → (let remaining : Result A B = Ok x in remaining ≡ Err f) → ⊥
 ok_err x f h = cc
 
-pub err_ok : {A B : Type 0} (x : A) (f : B) → (let left : Result A B = Err f in left ≡ Ok x) → ⊥
+pub err_ok : {A B : Type 0} (x : A) (f : B) → (let remaining : Result A B = Err f in remaining ≡ Ok x) → ⊥
 err_ok x f h = cc
 
-pub ok_pair : {A B : Type 0} (p q : A × B) → (let left : Result (A × B) Fault = Ok p in left ≡ Ok q) → (p.0 ≡ q.0) × (p.1 ≡ q.1)
+pub ok_pair : {A B : Type 0} (p q : A × B) → (let remaining : Result (A × B) Fault = Ok p in remaining ≡ Ok q) → (p.0 ≡ q.0) × (p.1 ≡ q.1)
 ok_pair {A} {B} p q h =
     let e : p ≡ q = cc in
     (ap (λ (x : A × B). x.0) e, ap (λ (x : A × B). x.1) e)

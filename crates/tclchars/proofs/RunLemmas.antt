@@ -8,7 +8,7 @@ use Rattle.std.proofs.lemmas.Str.{IsCharBoundary-start, IsCharBoundary-after_asc
 use Rattle.tclchars.specs.Runs.{take_while, drop_while}
 use Rattle.tclchars.specs.Classes.{in_class}
 use Rattle.tclchars.specs.declared.runs.Class.{Class}
-use Rattle.tclchars.specs.declared.runs.Class.TheVariants.{Blank, Gap, Space, BlankOrTab, Plain, BareScript, BareBracket, BareIndex, BareQuote, BareElement, Name, InName, Unescaped}
+use Rattle.tclchars.specs.declared.runs.Class.TheVariants.{Blank, Gap, Space, BlankOrTab, Literal, BareScript, BareBracket, BareIndex, BareQuote, BareElement, Name, InBracedName, Unescaped}
 
 pub take_while-cons_true : (p : ℕ → Bool) (b : ℕ) (bs : List ℕ) → p b ≡ true → take_while p (b ∷ bs) ≡ b ∷ take_while p bs
 take_while-cons_true p b bs h = rw h refl
@@ -66,14 +66,14 @@ is_narrow Blank = true
 is_narrow Gap = true
 is_narrow Space = true
 is_narrow BlankOrTab = true
-is_narrow Plain = false
+is_narrow Literal = false
 is_narrow BareScript = false
 is_narrow BareBracket = false
 is_narrow BareIndex = false
 is_narrow BareQuote = false
 is_narrow BareElement = false
 is_narrow Name = true
-is_narrow InName = false
+is_narrow InBracedName = false
 is_narrow Unescaped = false
 
 narrow_ascii : (class : Class) (b : ℕ) → is_narrow class ≡ true → in_class class b ≡ true → b < 128
@@ -82,23 +82,23 @@ narrow_ascii Gap b n h = grind (arith, nat_tests)
 narrow_ascii Space b n h = grind (arith, nat_tests)
 narrow_ascii BlankOrTab b n h = grind (arith, nat_tests)
 narrow_ascii Name b n h = grind (arith, nat_tests)
-narrow_ascii Plain b n h = cc
+narrow_ascii Literal b n h = cc
 narrow_ascii BareScript b n h = cc
 narrow_ascii BareBracket b n h = cc
 narrow_ascii BareIndex b n h = cc
 narrow_ascii BareQuote b n h = cc
 narrow_ascii BareElement b n h = cc
-narrow_ascii InName b n h = cc
+narrow_ascii InBracedName b n h = cc
 narrow_ascii Unescaped b n h = cc
 
 wide_ascii : (class : Class) (b : ℕ) → is_narrow class ≡ false → in_class class b ≡ false → b < 128
-wide_ascii Plain b n h = grind (arith, nat_tests)
+wide_ascii Literal b n h = grind (arith, nat_tests)
 wide_ascii BareScript b n h = grind (arith, nat_tests)
 wide_ascii BareBracket b n h = grind (arith, nat_tests)
 wide_ascii BareIndex b n h = grind (arith, nat_tests)
 wide_ascii BareQuote b n h = grind (arith, nat_tests)
 wide_ascii BareElement b n h = grind (arith, nat_tests)
-wide_ascii InName b n h = grind (arith, nat_tests)
+wide_ascii InBracedName b n h = grind (arith, nat_tests)
 wide_ascii Unescaped b n h = grind (arith, nat_tests)
 wide_ascii Blank b n h = cc
 wide_ascii Gap b n h = cc
@@ -115,8 +115,8 @@ run_cut class bs n u s le stop = cases (is_narrow class) refl n s le stop where
   cases false e n s le stop = (le, λ lt big. let small : get_or bs n 0 < 128 = wide_ascii class _ e (stop lt) in absurd (omega arith))
 
 -- a text that is cut before a mark may be cut after it
-pub mark_cut : (bs behind : List ℕ) (i mark : ℕ) → IsUtf8 bs → behind ≡ drop i bs → i < length bs → get_or bs i 0 ≡ mark → mark < 128 → IsCharBoundary behind 1
-mark_cut bs behind i mark u e lt is small =
+pub mark_cut : (bs following : List ℕ) (i mark : ℕ) → IsUtf8 bs → following ≡ drop i bs → i < length bs → get_or bs i 0 ≡ mark → mark < 128 → IsCharBoundary following 1
+mark_cut bs following i mark u e lt is small =
     let utf8 : IsUtf8 (drop i bs) = IsUtf8-drop bs i u (IsCharBoundary-before_ascii bs i lt (omega arith)) in
     let here : drop i bs ≡ get_or bs i 0 ∷ drop (i + 1) bs = drop_more bs i 0 lt in
     let first : get_or (drop i bs) 0 0 ≡ mark = ap (λ ys. get_or ys 0 0) here ∙ is in

@@ -4,8 +4,8 @@ use Rattle.std.specs.Prelude.{nat_lt, IfOk, IfErr, MatchResult}
 use Rattle.std.proofs.lemmas.Bool.Decides.{nat_tests}
 use Rattle.tclchars.specs.Runs.{Text}
 use Rattle.tclchars.specs.Faults.{max_bytes}
-use Rattle.tclchars.specs.Reading.{left_of, with_offset}
-use Rattle.tclchars.specs.Whole.{IsFaultAt, IsFaultOf, at_place, whole_of, FailsWith, Reads}
+use Rattle.tclchars.specs.Reading.{remaining_of, with_offset}
+use Rattle.tclchars.specs.Whole.{IsFaultAt, IsFaultOf, reading_with_offset, whole_of, FailsWith, Reads}
 use Rattle.tclchars.specs.declared.fault.Fault.{Fault}
 use Rattle.tclchars.specs.declared.fault.Fault.TheVariants as marks
 use Rattle.tclchars.specs.declared.fault.TextFault.{TextFault}
@@ -18,40 +18,40 @@ long_or_not n = go (nat_lt max_bytes n) refl where
   go true e = inl (grind (arith, nat_tests))
   go false e = inr (grind (arith, nat_tests))
 
-place_same : (len at left : ℕ) → at + left ≡ len → len - left ≡ at
-place_same len at left h = omega arith
+place_same : (len at remaining : ℕ) → at + remaining ≡ len → len - remaining ≡ at
+place_same len at remaining h = omega arith
 
 no_memory_placed : (len : ℕ) (f : Fault) → with_offset len f ≢ OutOfMemory
-no_memory_placed len (marks.OpenBrace left) = λ h. cc
-no_memory_placed len (marks.OpenQuote left) = λ h. cc
-no_memory_placed len (marks.OpenBracket left) = λ h. cc
-no_memory_placed len (marks.JoinedToClose left) = λ h. cc
+no_memory_placed len (marks.OpenBrace remaining) = λ h. cc
+no_memory_placed len (marks.OpenQuote remaining) = λ h. cc
+no_memory_placed len (marks.OpenBracket remaining) = λ h. cc
+no_memory_placed len (marks.JoinedToClose remaining) = λ h. cc
 no_memory_placed len marks.TooDeep = λ h. cc
-no_memory_placed len (marks.BadCharacter left) = λ h. cc
-no_memory_placed len (marks.BadExpression left) = λ h. cc
+no_memory_placed len (marks.BadCharacter remaining) = λ h. cc
+no_memory_placed len (marks.BadExpression remaining) = λ h. cc
 
 -- the fault that is met, at its place
-placed_is : (Is : Text → Fault → Type 0) (bs : Text) (f : Fault) → length bs ≤ max_bytes → left_of f ≤ length bs → Is bs f → IsFaultOf Is bs (with_offset (length bs) f)
-placed_is Is bs (marks.OpenBrace left) short inside h = (short, left, omega arith, h)
-placed_is Is bs (marks.OpenQuote left) short inside h = (short, left, omega arith, h)
-placed_is Is bs (marks.OpenBracket left) short inside h = (short, left, omega arith, h)
-placed_is Is bs (marks.JoinedToClose left) short inside h = (short, left, omega arith, h)
+placed_is : (Is : Text → Fault → Type 0) (bs : Text) (f : Fault) → length bs ≤ max_bytes → remaining_of f ≤ length bs → Is bs f → IsFaultOf Is bs (with_offset (length bs) f)
+placed_is Is bs (marks.OpenBrace remaining) short inside h = (short, remaining, omega arith, h)
+placed_is Is bs (marks.OpenQuote remaining) short inside h = (short, remaining, omega arith, h)
+placed_is Is bs (marks.OpenBracket remaining) short inside h = (short, remaining, omega arith, h)
+placed_is Is bs (marks.JoinedToClose remaining) short inside h = (short, remaining, omega arith, h)
 placed_is Is bs marks.TooDeep short inside h = (short, h)
-placed_is Is bs (marks.BadCharacter left) short inside h = (short, left, omega arith, h)
-placed_is Is bs (marks.BadExpression left) short inside h = (short, left, omega arith, h)
+placed_is Is bs (marks.BadCharacter remaining) short inside h = (short, remaining, omega arith, h)
+placed_is Is bs (marks.BadExpression remaining) short inside h = (short, remaining, omega arith, h)
 
 module _ {A : Type 0} (read : Text → Result A Fault) where
   pub too_long : (bs : Text) → max_bytes < length bs → whole_of read bs ≡ Err TooLong
   too_long bs h = let t : nat_lt max_bytes (length bs) ≡ true = grind (arith, nat_tests) in rw t refl
 
-  pub not_long : (bs : Text) → length bs ≤ max_bytes → whole_of read bs ≡ at_place bs (read bs)
+  pub not_long : (bs : Text) → length bs ≤ max_bytes → whole_of read bs ≡ reading_with_offset bs (read bs)
   not_long bs h = let t : nat_lt max_bytes (length bs) ≡ false = grind (arith, nat_tests) in rw t refl
 
-  found_value : (bs : Text) (r : Result A Fault) (x : A) → at_place bs r ≡ Ok x → r ≡ Ok x
+  found_value : (bs : Text) (r : Result A Fault) (x : A) → reading_with_offset bs r ≡ Ok x → r ≡ Ok x
   found_value bs (Ok y) x h = ap (λ z. Ok z) (ok_same y x h)
   found_value bs (Err f) x h = absurd (err_ok x (with_offset (length bs) f) h)
 
-  found_fault : (bs : Text) (r : Result A Fault) (f : TextFault) → at_place bs r ≡ Err f → (g : Fault) × (r ≡ Err g) × (with_offset (length bs) g ≡ f)
+  found_fault : (bs : Text) (r : Result A Fault) (f : TextFault) → reading_with_offset bs r ≡ Err f → (g : Fault) × (r ≡ Err g) × (with_offset (length bs) g ≡ f)
   found_fault bs (Ok y) f h = absurd (ok_err y f h)
   found_fault bs (Err g) f h = (g, refl, err_same {A = A} (with_offset (length bs) g) f h)
 
@@ -63,11 +63,11 @@ module _ {A : Type 0} (read : Text → Result A Fault) where
   ]
 
   pub value_met : (bs : Text) (x : A) → length bs ≤ max_bytes → read bs ≡ Ok x → whole_of read bs ≡ Ok x
-  value_met bs x short h = not_long bs short ∙ ap (at_place bs) h
+  value_met bs x short h = not_long bs short ∙ ap (reading_with_offset bs) h
 
 -- The faults: those that are met are the text's, with their marks within it, and those of the text are met.
 module _ {A : Type 0} (read : Text → Result A Fault) (Is : Text → Fault → Type 0) (faulty : (bs : Text) (f : Fault) → read bs ≡ Err f → Is bs f)
-    (met : (bs : Text) (f : Fault) → Is bs f → read bs ≡ Err f) (within : (bs : Text) (f : Fault) → read bs ≡ Err f → left_of f ≤ length bs) where
+    (met : (bs : Text) (f : Fault) → Is bs f → read bs ≡ Err f) (within : (bs : Text) (f : Fault) → read bs ≡ Err f → remaining_of f ≤ length bs) where
   pub fault_is : (bs : Text) (f : TextFault) → whole_of read bs ≡ Err f → IsFaultOf Is bs f × (f ≢ OutOfMemory)
   fault_is bs f h = elim (long_or_not (length bs)) [
     | inl long ↦ (let same = err_same {A = A} TooLong f (sym (too_long read bs long) ∙ h) in subst (λ f. IsFaultOf Is bs f × (f ≢ OutOfMemory)) same (long, long_memory))
@@ -79,19 +79,19 @@ module _ {A : Type 0} (read : Text → Result A Fault) (Is : Text → Fault → 
     long_memory : TooLong ≢ OutOfMemory
     long_memory = λ h. cc
 
-  placed_met : (bs : Text) (at : ℕ) (mark : ℕ → Fault) (said : ℕ → TextFault) → ((left : ℕ) → with_offset (length bs) (mark left) ≡ said (length bs - left)) → IsFaultAt Is bs at mark → whole_of read bs ≡ Err (said at)
+  placed_met : (bs : Text) (at : ℕ) (mark : ℕ → Fault) (said : ℕ → TextFault) → ((remaining : ℕ) → with_offset (length bs) (mark remaining) ≡ said (length bs - remaining)) → IsFaultAt Is bs at mark → whole_of read bs ≡ Err (said at)
   placed_met bs at mark said same h =
-      not_long read bs h.0 ∙ ap (at_place bs) (met bs (mark h.1) h.3) ∙ ap (λ f. Err f) (same h.1 ∙ ap said (place_same (length bs) at h.1 h.2))
+      not_long read bs h.0 ∙ ap (reading_with_offset bs) (met bs (mark h.1) h.3) ∙ ap (λ f. Err f) (same h.1 ∙ ap said (place_same (length bs) at h.1 h.2))
 
   pub fault_met : (bs : Text) (f : TextFault) → f ≢ OutOfMemory → IsFaultOf Is bs f → whole_of read bs ≡ Err f
   fault_met bs OutOfMemory some h = absurd (some refl)
-  fault_met bs (OpenBrace at) some h = placed_met bs at (λ left. marks.OpenBrace left) (λ at. OpenBrace at) (λ left. refl) h
-  fault_met bs (OpenQuote at) some h = placed_met bs at (λ left. marks.OpenQuote left) (λ at. OpenQuote at) (λ left. refl) h
-  fault_met bs (OpenBracket at) some h = placed_met bs at (λ left. marks.OpenBracket left) (λ at. OpenBracket at) (λ left. refl) h
-  fault_met bs (JoinedToClose at) some h = placed_met bs at (λ left. marks.JoinedToClose left) (λ at. JoinedToClose at) (λ left. refl) h
-  fault_met bs TooDeep some h = not_long read bs h.0 ∙ ap (at_place bs) (met bs marks.TooDeep h.1)
-  fault_met bs (BadCharacter at) some h = placed_met bs at (λ left. marks.BadCharacter left) (λ at. BadCharacter at) (λ left. refl) h
-  fault_met bs (BadExpression at) some h = placed_met bs at (λ left. marks.BadExpression left) (λ at. BadExpression at) (λ left. refl) h
+  fault_met bs (OpenBrace at) some h = placed_met bs at (λ remaining. marks.OpenBrace remaining) (λ at. OpenBrace at) (λ remaining. refl) h
+  fault_met bs (OpenQuote at) some h = placed_met bs at (λ remaining. marks.OpenQuote remaining) (λ at. OpenQuote at) (λ remaining. refl) h
+  fault_met bs (OpenBracket at) some h = placed_met bs at (λ remaining. marks.OpenBracket remaining) (λ at. OpenBracket at) (λ remaining. refl) h
+  fault_met bs (JoinedToClose at) some h = placed_met bs at (λ remaining. marks.JoinedToClose remaining) (λ at. JoinedToClose at) (λ remaining. refl) h
+  fault_met bs TooDeep some h = not_long read bs h.0 ∙ ap (reading_with_offset bs) (met bs marks.TooDeep h.1)
+  fault_met bs (BadCharacter at) some h = placed_met bs at (λ remaining. marks.BadCharacter remaining) (λ at. BadCharacter at) (λ remaining. refl) h
+  fault_met bs (BadExpression at) some h = placed_met bs at (λ remaining. marks.BadExpression remaining) (λ at. BadExpression at) (λ remaining. refl) h
   fault_met bs TooLong some h = too_long read bs h
 
   pub no_memory : (bs : Text) → whole_of read bs ≢ Err OutOfMemory

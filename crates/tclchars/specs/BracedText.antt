@@ -9,16 +9,16 @@ use Rattle.tclchars.specs.Backslash.{is_blank_or_tab}
 abbrev mutual
   pub braced_text : Text → Text
   braced_text [] = []
-  braced_text (b ∷ bs) = if b == backslash then behind_backslash bs else b ∷ braced_text bs
+  braced_text (b ∷ bs) = if b == backslash then braced_after_backslash bs else b ∷ braced_text bs
 
-  pub behind_backslash : Text → Text
-  behind_backslash [] = backslash ∷ []
-  behind_backslash (b ∷ bs) =
-      if b == newline then space ∷ behind_newline bs else backslash ∷ (b ∷ braced_text bs)
+  pub braced_after_backslash : Text → Text
+  braced_after_backslash [] = backslash ∷ []
+  braced_after_backslash (b ∷ bs) =
+      if b == newline then space ∷ braced_after_newline bs else backslash ∷ (b ∷ braced_text bs)
 
-  pub behind_newline : Text → Text
-  behind_newline [] = []
-  behind_newline (b ∷ bs) =
-      if is_blank_or_tab b then behind_newline bs
-      else if b == backslash then behind_backslash bs
+  pub braced_after_newline : Text → Text
+  braced_after_newline [] = []
+  braced_after_newline (b ∷ bs) =
+      if is_blank_or_tab b then braced_after_newline bs
+      else if b == backslash then braced_after_backslash bs
       else b ∷ braced_text bs

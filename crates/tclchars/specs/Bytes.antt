@@ -77,8 +77,8 @@ is_special b =
     || b == backslash
 
 -- what has no meaning of its own anywhere
-abbrev pub is_plain : ℕ → Bool
-is_plain b = not (is_gap b || is_special b)
+abbrev pub is_literal : ℕ → Bool
+is_literal b = not (is_gap b || is_special b)
 
 -- each byte passes the test
 abbrev pub AllPass : (ℕ → Bool) → List ℕ → Type 0

@@ -1,10 +1,10 @@
 -- The classes of bytes that runs are made of (Tcl(n), rules 1 to 9), by the code's names for them.
 use Rattle.std.specs.Prelude.{ℕ, [], ◌∷◌, Bool, false, not, ◌||◌, ◌&&◌, ◌==◌, nat_le}
-use Rattle.tclchars.specs.Bytes.{quote, dollar, right_parenthesis, left_bracket, right_bracket, right_brace, is_blank, is_gap, is_plain, is_space, backslash}
+use Rattle.tclchars.specs.Bytes.{quote, dollar, right_parenthesis, left_bracket, right_bracket, right_brace, is_blank, is_gap, is_literal, is_space, backslash}
 use Rattle.tclchars.specs.Runs.{Text}
 use Rattle.tclchars.specs.Backslash.{is_blank_or_tab}
 use Rattle.tclchars.specs.declared.runs.Class.{Class}
-use Rattle.tclchars.specs.declared.runs.Class.TheVariants.{Blank, Gap, Space, BlankOrTab, Plain, BareScript, BareBracket, BareIndex, BareQuote, BareElement, Name, InName, Unescaped}
+use Rattle.tclchars.specs.declared.runs.Class.TheVariants.{Blank, Gap, Space, BlankOrTab, Literal, BareScript, BareBracket, BareIndex, BareQuote, BareElement, Name, InBracedName, Unescaped}
 
 -- letters, digits and the underscore, of which the names of variables are made
 abbrev pub is_name : ℕ → Bool
@@ -20,14 +20,14 @@ in_class Blank b = is_blank b
 in_class Gap b = is_gap b
 in_class Space b = is_space b
 in_class BlankOrTab b = is_blank_or_tab b
-in_class Plain b = is_plain b
+in_class Literal b = is_literal b
 in_class BareScript b = not (is_gap b || is_substitution b)
 in_class BareBracket b = not (is_gap b || is_substitution b || b == right_bracket)
 in_class BareIndex b = not (is_substitution b || b == right_parenthesis)
 in_class BareQuote b = not (is_substitution b || b == quote)
 in_class BareElement b = not (is_space b || b == backslash)
 in_class Name b = is_name b
-in_class InName b = not (b == right_brace)
+in_class InBracedName b = not (b == right_brace)
 in_class Unescaped b = not (b == backslash)
 
 -- whether there is a first byte, and it passes

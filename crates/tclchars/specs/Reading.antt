@@ -46,21 +46,21 @@ items_at skip ends one zero bs = Err marks.TooDeep
 items_at skip ends one (suc n) bs = items_step one (items_at skip ends one n) (skip bs) (ends (skip bs))
 
 -- how many bytes remain from the mark on
-abbrev pub left_of : Fault → ℕ
-left_of (marks.OpenBrace left) = left
-left_of (marks.OpenQuote left) = left
-left_of (marks.OpenBracket left) = left
-left_of (marks.JoinedToClose left) = left
-left_of marks.TooDeep = 0
-left_of (marks.BadCharacter left) = left
-left_of (marks.BadExpression left) = left
+abbrev pub remaining_of : Fault → ℕ
+remaining_of (marks.OpenBrace remaining) = remaining
+remaining_of (marks.OpenQuote remaining) = remaining
+remaining_of (marks.OpenBracket remaining) = remaining
+remaining_of (marks.JoinedToClose remaining) = remaining
+remaining_of marks.TooDeep = 0
+remaining_of (marks.BadCharacter remaining) = remaining
+remaining_of (marks.BadExpression remaining) = remaining
 
 -- the fault of a text of that length, with the offset of its mark
 abbrev pub with_offset : ℕ → Fault → TextFault
-with_offset len (marks.OpenBrace left) = faults.OpenBrace (len - left)
-with_offset len (marks.OpenQuote left) = faults.OpenQuote (len - left)
-with_offset len (marks.OpenBracket left) = faults.OpenBracket (len - left)
-with_offset len (marks.JoinedToClose left) = faults.JoinedToClose (len - left)
+with_offset len (marks.OpenBrace remaining) = faults.OpenBrace (len - remaining)
+with_offset len (marks.OpenQuote remaining) = faults.OpenQuote (len - remaining)
+with_offset len (marks.OpenBracket remaining) = faults.OpenBracket (len - remaining)
+with_offset len (marks.JoinedToClose remaining) = faults.JoinedToClose (len - remaining)
 with_offset len marks.TooDeep = faults.TooDeep
-with_offset len (marks.BadCharacter left) = faults.BadCharacter (len - left)
-with_offset len (marks.BadExpression left) = faults.BadExpression (len - left)
+with_offset len (marks.BadCharacter remaining) = faults.BadCharacter (len - remaining)
+with_offset len (marks.BadExpression remaining) = faults.BadExpression (len - remaining)

@@ -15,29 +15,29 @@ use Rattle.tclchars.specs.declared.fault.TextFault.TheVariants as faults
 -- the first fault of a text within the limit, whose mark has that offset
 abbrev pub IsFaultAt : (Text → Fault → Type 0) → Text → ℕ → (ℕ → Fault) → Type 0
 IsFaultAt Is bs at mark =
-    (length bs ≤ max_bytes) × (left : ℕ) × (at + left ≡ length bs) × Is bs (mark left)
+    (length bs ≤ max_bytes) × (remaining : ℕ) × (at + remaining ≡ length bs) × Is bs (mark remaining)
 
 -- What is wrong with a text: one past the limit is too long, whatever else is wrong; else it is its first fault. Want
 -- of memory says nothing of the text.
 abbrev pub IsFaultOf : (Text → Fault → Type 0) → Text → TextFault → Type 0
 IsFaultOf Is bs faults.OutOfMemory = Unit {0}
-IsFaultOf Is bs (faults.OpenBrace at) = IsFaultAt Is bs at (λ left. OpenBrace left)
-IsFaultOf Is bs (faults.OpenQuote at) = IsFaultAt Is bs at (λ left. OpenQuote left)
-IsFaultOf Is bs (faults.OpenBracket at) = IsFaultAt Is bs at (λ left. OpenBracket left)
-IsFaultOf Is bs (faults.JoinedToClose at) = IsFaultAt Is bs at (λ left. JoinedToClose left)
+IsFaultOf Is bs (faults.OpenBrace at) = IsFaultAt Is bs at (λ remaining. OpenBrace remaining)
+IsFaultOf Is bs (faults.OpenQuote at) = IsFaultAt Is bs at (λ remaining. OpenQuote remaining)
+IsFaultOf Is bs (faults.OpenBracket at) = IsFaultAt Is bs at (λ remaining. OpenBracket remaining)
+IsFaultOf Is bs (faults.JoinedToClose at) = IsFaultAt Is bs at (λ remaining. JoinedToClose remaining)
 IsFaultOf Is bs faults.TooDeep = (length bs ≤ max_bytes) × Is bs TooDeep
-IsFaultOf Is bs (faults.BadCharacter at) = IsFaultAt Is bs at (λ left. BadCharacter left)
-IsFaultOf Is bs (faults.BadExpression at) = IsFaultAt Is bs at (λ left. BadExpression left)
+IsFaultOf Is bs (faults.BadCharacter at) = IsFaultAt Is bs at (λ remaining. BadCharacter remaining)
+IsFaultOf Is bs (faults.BadExpression at) = IsFaultAt Is bs at (λ remaining. BadExpression remaining)
 IsFaultOf Is bs faults.TooLong = max_bytes < length bs
 
 -- what was read of a text, or the fault with its offset
-abbrev pub at_place : {A : Type 0} → Text → Result A Fault → Result A TextFault
-at_place bs (Ok x) = Ok x
-at_place bs (Err fault) = Err (with_offset (length bs) fault)
+abbrev pub reading_with_offset : {A : Type 0} → Text → Result A Fault → Result A TextFault
+reading_with_offset bs (Ok x) = Ok x
+reading_with_offset bs (Err fault) = Err (with_offset (length bs) fault)
 
 -- what is read of a text within the limit
 abbrev pub whole_of : {A : Type 0} → (Text → Result A Fault) → Text → Result A TextFault
-whole_of read bs = if nat_lt max_bytes (length bs) then Err faults.TooLong else at_place bs (read bs)
+whole_of read bs = if nat_lt max_bytes (length bs) then Err faults.TooLong else reading_with_offset bs (read bs)
 
 -- a call's fault is that of the reading, unless memory ran out
 abbrev pub FailsWith : {Y : Type 0} → TextFault → Result Y TextFault → Type 0

@@ -3,7 +3,7 @@ ghost use Rattle.std.specs.Prelude.{true, ◌≡◌, ◌<◌, ◌≤◌, ◌^◌
 ghost use Rattle.std.specs.Char.{digit_value};
 ghost use Rattle.tclchars.specs.Backslash.{after_backslash, letter_value, is_octal, begins_wide, digit_at, octal_at, hexadecimal_at, character, code_at, wide_code_at, begins_hexadecimal};
 
-use crate::runs::{Class, split_front};
+use crate::runs::{Class, split_run};
 
 /// The character that a backslash stands for (Tcl(n), rule 9), and the rest of the text; `text` is what follows the
 /// backslash. Takes no memory.
@@ -22,7 +22,7 @@ pub fn read_backslash(text: &str) -> Option<(char, &str)>
     }
     let rest = text.split_at(1).1;
     if b == b'\n' {
-        return Some((' ', split_front(rest, Class::BlankOrTab).1));
+        return Some((' ', split_run(rest, Class::BlankOrTab).1));
     }
     if is_octal(b) {
         let (value, rest) = octal(text, 3, 0);

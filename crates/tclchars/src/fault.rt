@@ -2,7 +2,7 @@
 ghost use Rattle.std.specs.Prelude.{◌≡◌, ◌≤◌, Some};
 ghost use Rattle.message.specs.Messages.{text_of};
 ghost use Rattle.tclchars.specs.Faults.{fault_message, fault_number};
-ghost use Rattle.tclchars.specs.Reading.{left_of, with_offset};
+ghost use Rattle.tclchars.specs.Reading.{remaining_of, with_offset};
 ghost use Rattle.tclchars.specs.declared.fault.ReadError.TheVariants.{Memory};
 
 use message::Message;
@@ -57,17 +57,17 @@ impl TextFault {
         ensures { text_of result ≡ fault_message self.now }
     {
         match self {
-            TextFault::OutOfMemory => Message::plain("Out of memory"),
+            TextFault::OutOfMemory => Message::of_text("Out of memory"),
             TextFault::OpenBrace(at) => Message::at_byte("Missing close-brace at byte ", *at),
             TextFault::OpenQuote(at) => Message::at_byte("Missing close-quote at byte ", *at),
             TextFault::OpenBracket(at) => Message::at_byte("Missing close-bracket at byte ", *at),
             TextFault::JoinedToClose(at) => {
                 Message::at_byte("Extra characters after a close at byte ", *at)
             }
-            TextFault::TooDeep => Message::plain("Text is nested too deeply"),
+            TextFault::TooDeep => Message::of_text("Text is nested too deeply"),
             TextFault::BadCharacter(at) => Message::at_byte("Bad character at byte ", *at),
             TextFault::BadExpression(at) => Message::at_byte("Bad expression at byte ", *at),
-            TextFault::TooLong => Message::plain("Text is too long"),
+            TextFault::TooLong => Message::of_text("Text is too long"),
         }
     }
 }
@@ -129,16 +129,16 @@ impl<T: Drop> From<AllocFailed<T>> for ReadError {
 
 /// The fault in a text of `len` bytes, with its offset from the beginning of the text.
 pub fn with_offset(fault: Fault, len: usize) -> TextFault
-    requires { left_of fault ≤ len }
+    requires { remaining_of fault ≤ len }
     ensures { result ≡ with_offset len fault }
 {
     match fault {
-        Fault::OpenBrace(left) => TextFault::OpenBrace(len - left),
-        Fault::OpenQuote(left) => TextFault::OpenQuote(len - left),
-        Fault::OpenBracket(left) => TextFault::OpenBracket(len - left),
-        Fault::JoinedToClose(left) => TextFault::JoinedToClose(len - left),
+        Fault::OpenBrace(remaining) => TextFault::OpenBrace(len - remaining),
+        Fault::OpenQuote(remaining) => TextFault::OpenQuote(len - remaining),
+        Fault::OpenBracket(remaining) => TextFault::OpenBracket(len - remaining),
+        Fault::JoinedToClose(remaining) => TextFault::JoinedToClose(len - remaining),
         Fault::TooDeep => TextFault::TooDeep,
-        Fault::BadCharacter(left) => TextFault::BadCharacter(len - left),
-        Fault::BadExpression(left) => TextFault::BadExpression(len - left),
+        Fault::BadCharacter(remaining) => TextFault::BadCharacter(len - remaining),
+        Fault::BadExpression(remaining) => TextFault::BadExpression(len - remaining),
     }
 }

@@ -1,5 +1,4 @@
-//! The characters of Tcl's texts: classes of bytes, what a backslash stands for, which braces match, and the faults of
-//! texts.
+//! The characters of Tcl's texts: classes of bytes, what a backslash stands for, matching braces, and their faults.
 //! Touches nothing but a text that grows; takes memory for that alone.
 //! Used by all crates that read or write texts of Tcl.
 #![tactic(auto)]
@@ -18,4 +17,4 @@ pub use braces::split_close;
 pub use fault::{Fault, ReadError, TextFault, with_offset};
 pub use laws::closing_brace;
 pub use limits::{MAX_BYTES, MAX_NESTING};
-pub use runs::{Class, after_mark, begins_class, split_front};
+pub use runs::{Class, after_mark, begins_class, split_run};

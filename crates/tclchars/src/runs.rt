@@ -1,6 +1,6 @@
 //! Classes of bytes, and the runs of one class that a text begins with (Tcl(n), rules 1 to 9).
 ghost use Rattle.std.specs.Prelude.{◌≡◌, ◌<◌, ◌∷◌, false, MatchOption};
-ghost use Rattle.tclchars.specs.Bytes.{is_blank, is_end, is_gap, is_special, is_plain, is_space};
+ghost use Rattle.tclchars.specs.Bytes.{is_blank, is_end, is_gap, is_special, is_literal, is_space};
 ghost use Rattle.tclchars.specs.Runs.{take_while, drop_while, begins};
 ghost use Rattle.tclchars.specs.Classes.{in_class, begins_in, is_name, is_substitution};
 
@@ -16,7 +16,7 @@ pub enum Class {
     /// Blanks and tabs: what a backslash before a newline takes with it.
     BlankOrTab,
     /// What has no meaning of its own anywhere: no white space, `;`, quote, brace, bracket, `$` or backslash.
-    Plain,
+    Literal,
     /// What is literal in a word without quotes and braces, in a script outside of brackets.
     BareScript,
     /// What is literal in a word without quotes and braces, in a script in brackets.
@@ -30,7 +30,7 @@ pub enum Class {
     /// Letters, digits and the underscore.
     Name,
     /// What a name in braces may hold.
-    InName,
+    InBracedName,
     /// What is no backslash.
     Unescaped,
 }
@@ -86,14 +86,14 @@ fn in_class(class: Class, b: u8) -> bool
         Class::Gap => is_gap(b),
         Class::Space => is_space(b),
         Class::BlankOrTab => b == b' ' || b == b'\t',
-        Class::Plain => !(is_gap(b) || is_special(b)),
+        Class::Literal => !(is_gap(b) || is_special(b)),
         Class::BareScript => !(is_gap(b) || is_substitution(b)),
         Class::BareBracket => !(is_gap(b) || is_substitution(b) || b == b']'),
         Class::BareIndex => !(is_substitution(b) || b == b')'),
         Class::BareQuote => !(is_substitution(b) || b == b'"'),
         Class::BareElement => !(is_space(b) || b == b'\\'),
         Class::Name => is_name(b),
-        Class::InName => b != b'}',
+        Class::InBracedName => b != b'}',
         Class::Unescaped => b != b'\\',
     }
 }
@@ -109,7 +109,7 @@ pub fn begins_class(text: &str, class: Class) -> bool
 }
 
 /// The longest run of bytes of that class that the text begins with, and the rest.
-pub fn split_front(text: &str, class: Class) -> (&str, &str)
+pub fn split_run(text: &str, class: Class) -> (&str, &str)
     ensures run { result.0.now ≡ take_while (in_class class) text.now }
     ensures rest { result.1.now ≡ drop_while (in_class class) text.now }
 {

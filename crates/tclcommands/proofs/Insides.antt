@@ -6,13 +6,13 @@ use Rattle.tclchars.specs.Runs.{Text}
 use Rattle.tcloperators.specs.Faults.{HasReason, error}
 use Rattle.tcloperators.specs.declared.fault.ValueFault.{ValueFault}
 use Rattle.tcloperators.specs.declared.fault.ValueFault.TheVariants as faults
-use Rattle.tclrules.specs.Messages.{not_to_unset}
+use Rattle.tclrules.specs.Messages.{cannot_unset}
 use Rattle.tclrules.specs.Variables.{State, Frame, without_value}
-use Rattle.tclrules.specs.Leads.{Point, Leads}
+use Rattle.tclrules.specs.Simulates.{Point, Simulates}
 use Rattle.tclrules.proofs.Leading.{stay, starve}
-use Rattle.tclsteps.specs.Stops.{stopped, stop_of}
+use Rattle.tclsubstitution.specs.Stops.{stopped, stop_of}
 use Rattle.tclrules.specs.Plans.{Job, Step, Next, raise}
-use Rattle.tclrules.specs.Rules.{share, share_from, is_there, unset_at}
+use Rattle.tclrules.specs.Rules.{share, share_from, is_set, unset_at}
 
 pub inside : (f : Option Frame) (vs : List Text) (s : State) (k : State → Step) → is_some f ≡ true → share_from f vs s k ≡ share vs s k
 inside None vs s k h = cc
@@ -26,12 +26,12 @@ not_inside (Some f) vs s k h = cc
 pub names_from : (names : List (String Global)) (i : ℕ) (name : String Global) → i < length names → name ≡ get_or names i name → map string_bytes (drop i names) ≡ string_bytes name ∷ map string_bytes (drop (i + 1) names)
 names_from names i name h e = ap (map string_bytes) (drop-cons names i name h) ∙ rw (← e, add-one) refl
 
-pub seen : (s : State) (k : Next) (v : Option (String Global)) (b : Bool) → b ≡ is_some v → is_there s k (option_map string_bytes v) ≡ k (truth_text b) s
+pub seen : (s : State) (k : Next) (v : Option (String Global)) (b : Bool) → b ≡ is_some v → is_set s k (option_map string_bytes v) ≡ k (truth_text b) s
 seen s k None b e = rw e refl
 seen s k (Some t) b e = rw e refl
 
 -- a fault with a message raises it
-pub reason_stops : {most : ℕ} {r : Job → Step} {x : Point} (m : Text) (e : ValueFault) (s : State) → HasReason (error m) e → Leads most r (raise m s) x (stopped (stop_of e) s) x
+pub reason_stops : {most : ℕ} {r : Job → Step} {x : Point} (m : Text) (e : ValueFault) (s : State) → HasReason (error m) e → Simulates most r (raise m s) x (stopped (stop_of e) s) x
 reason_stops m faults.OutOfMemory s h = starve
 reason_stops m (faults.Text f) s h = cc
 reason_stops m (faults.TclError t) s h = let e : string_bytes t ≡ m = cc in rw e stay
@@ -44,6 +44,6 @@ pub unset_there : (quiet : Bool) (v : Text) (s : State) (p : Bool × Text) (k : 
 unset_there quiet v s p k None h = cc
 unset_there quiet v s p k (Some t) h = refl
 
-pub unset_absent : (v : Text) (s : State) (p : Bool × Text) (k : State → Step) (o : Option Text) → is_some o ≡ false → (unset_at true v s p k o ≡ k s) × (unset_at false v s p k o ≡ raise (not_to_unset v) s)
+pub unset_absent : (v : Text) (s : State) (p : Bool × Text) (k : State → Step) (o : Option Text) → is_some o ≡ false → (unset_at true v s p k o ≡ k s) × (unset_at false v s p k o ≡ raise (cannot_unset v) s)
 unset_absent v s p k None h = (refl, refl)
 unset_absent v s p k (Some t) h = cc

@@ -10,10 +10,10 @@ use Rattle.tcloperators.specs.declared.fault.ValueFault.TheVariants as faults
 use Rattle.tclvalue.specs.Limits.{limited}
 use Rattle.tclrules.specs.Variables.{State}
 use Rattle.tclrules.specs.Plans.{Job, Step, sized}
-use Rattle.tclrules.specs.Leads.{Point, Leads}
+use Rattle.tclrules.specs.Simulates.{Point, Simulates}
 use Rattle.tclrules.proofs.Leading.{starve}
-use Rattle.tclsteps.specs.Stops.{stopped, stop_of}
-use Rattle.tclsteps.proofs.Leading.{sized_stops}
+use Rattle.tclsubstitution.specs.Stops.{stopped, stop_of}
+use Rattle.tclsubstitution.proofs.Leading.{sized_stops}
 
 pub within : (limit : ℕ) (t : Text) → length t ≤ limit → limited limit t ≡ Ok t
 within limit t h = rw (le-leb (length t) limit h) refl
@@ -39,7 +39,7 @@ too_long limit t f h = go (nat_le (length t) limit) refl h
     go false e h = (cc, not_within (length t) limit e)
 
 -- a text that passes the limit, or want of memory
-pub limited_stops : {most : ℕ} {r : Job → Step} {x : Point} (e : ValueFault) (limit : ℕ) (t : Text) (p : Step) (s : State) → IfSome (reason_of e) (λ f. limited limit t ≡ Err f) → Leads most r (sized limit t p) x (stopped (stop_of e) s) x
+pub limited_stops : {most : ℕ} {r : Job → Step} {x : Point} (e : ValueFault) (limit : ℕ) (t : Text) (p : Step) (s : State) → IfSome (reason_of e) (λ f. limited limit t ≡ Err f) → Simulates most r (sized limit t p) x (stopped (stop_of e) s) x
 limited_stops faults.OutOfMemory limit t p s h = starve
 limited_stops (faults.Text f) limit t p s h = let e = (too_long limit t _ h).0 in cc
 limited_stops (faults.TclError m) limit t p s h = let e = (too_long limit t _ h).0 in cc

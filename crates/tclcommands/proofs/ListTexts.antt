@@ -4,7 +4,7 @@ use Rattle.std.proofs.lemmas.List.{append_assoc}
 use Rattle.tclchars.specs.Bytes.{backslash, space, hash}
 use Rattle.tclchars.specs.Runs.{Text}
 use Rattle.tclchars.specs.Faults.{max_bytes}
-use Rattle.tcllist.specs.Lists.{is_bare, balances, escape, is_marked, letter_of, escaped, braced, element_text, list_rest, list_text}
+use Rattle.tcllist.specs.Lists.{is_bare, balances, escape, needs_escape, letter_of, escaped, braced, element_text, list_rest, list_text}
 use Rattle.tcllist.specs.ListReading.{list_of}
 use Rattle.tcllist.proofs.ListAnswers.{elements_law}
 use Rattle.tcllist.proofs.RoundTrip.{list_is}
@@ -17,7 +17,7 @@ rest_append [] fs = refl
 rest_append (e ∷ es) fs = ap (λ t. space ∷ (element_text e ++ t)) (rest_append es fs) ∙ ap (λ t. space ∷ t) (sym (append_assoc (element_text e) (list_rest es) (list_rest fs)))
 
 escape_some : (b : ℕ) (t : Text) → escape b ++ t ≡ [] → ⊥
-escape_some b t h = go (is_marked b) h
+escape_some b t h = go (needs_escape b) h
   where
     go : (m : Bool) → cond m (backslash ∷ (letter_of b ∷ [])) (b ∷ []) ++ t ≡ [] → ⊥
     go true h = cc

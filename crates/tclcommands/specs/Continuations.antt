@@ -5,13 +5,13 @@ use Rattle.std.specs.Borrow.{Bor}
 use Rattle.std.specs.declared.alloc.Global.{Global}
 use Rattle.tclchars.specs.Runs.{Text}
 use Rattle.tclrules.specs.Variables.{State, value_at}
-use Rattle.tclrules.specs.Leads.{Point, Leads}
+use Rattle.tclrules.specs.Simulates.{Point, Simulates}
 use Rattle.tclrules.specs.Plans as plans
 use Rattle.tclrules.specs.Plans.{Bounds, Job, Next, given}
 use Rattle.tclrules.specs.Rules.{lengthened, value_or, write_at}
-use Rattle.tclsteps.specs.Machine.{bounds}
-use Rattle.tclsteps.specs.Stops.{after}
-use Rattle.tclsteps.specs.declared.stop.Stop.{Stop}
+use Rattle.tclsubstitution.specs.Machine.{bounds}
+use Rattle.tclsubstitution.specs.Stops.{after}
+use Rattle.tclsubstitution.specs.declared.stop.Stop.{Stop}
 use Rattle.tclcommands.specs.declared.value.Value.{Value}
 use Rattle.tclcommands.specs.declared.value.Value.TheVariants as values
 
@@ -22,56 +22,60 @@ value_text (values.Word w) s = w.now
 value_text (values.Variable global name) s = unwrap_or (value_at s (global, name.now)) []
 
 -- the first of the words, which is a command's name
-abbrev pub first_text : List Text → Text
-first_text [] = []
-first_text (w ∷ ws) = w
+abbrev pub command_name : List Text → Text
+command_name [] = []
+command_name (w ∷ ws) = w
 
 -- names with their values
 abbrev pub named_values : List (Bor (List ℕ) × String Global) → List (Text × Text)
 named_values ps = map (λ p. (p.0.now, string_bytes p.1)) ps
 
 -- the plan continues with the text of the result, over the variables after the call; the host may have been asked
-abbrev pub Does : (Bounds → Next → plans.Step) → Result Value Stop → State → (ℕ → Point) → (ℕ → Point) → Type 0
-Does p result s x y =
+abbrev pub ContinuesWithResult : (Bounds → Next → plans.Step) → Result Value Stop → State → (ℕ → Point) →
+    (ℕ → Point) → Type 0
+ContinuesWithResult p result s x y =
     (most used : ℕ) (b : Bounds) (r : Job → plans.Step) (k : Next)
-    → Leads most r (p b k) (x used) (after result (λ v s'. k (value_text v s') s') s) (y used)
+    → Simulates most r (p b k) (x used) (after result (λ v s'. k (value_text v s') s') s) (y used)
 
 -- the same where the host isn't asked
-abbrev pub DoesAlone : (Bounds → Next → plans.Step) → Result Value Stop → State → Type 0
-DoesAlone p result s =
+abbrev pub ContinuesWithoutHost : (Bounds → Next → plans.Step) → Result Value Stop → State → Type 0
+ContinuesWithoutHost p result s =
     (most : ℕ) (b : Bounds) (r : Job → plans.Step) (k : Next) (x : Point)
-    → Leads most r (p b k) x (after result (λ v s'. k (value_text v s') s') s) x
+    → Simulates most r (p b k) x (after result (λ v s'. k (value_text v s') s') s) x
 
 -- the same where the host isn't asked and a value is written that may have so many bytes
-abbrev pub Writes : (Bounds → Next → plans.Step) → ℕ → Result Value Stop → State → Type 0
-Writes p limit result s =
-    (most left : ℕ) (r : Job → plans.Step) (k : Next) (x : Point)
-    → Leads most r (p (bounds limit left) k) x (after result (λ v s'. k (value_text v s') s') s) x
+abbrev pub ContinuesWithinLimit : (Bounds → Next → plans.Step) → ℕ → Result Value Stop → State → Type 0
+ContinuesWithinLimit p limit result s =
+    (most remaining : ℕ) (r : Job → plans.Step) (k : Next) (x : Point)
+    → Simulates most r (p (bounds limit remaining) k) x (after result (λ v s'. k (value_text v s') s') s) x
 
 -- the same of a call without a result: the plan continues with this text of the variables after the call
-abbrev pub ContinuesWithText : (Bounds → Next → plans.Step) → ℕ → Result (Unit {0}) Stop → (State → Text) → State → Type 0
+abbrev pub ContinuesWithText : (Bounds → Next → plans.Step) → ℕ → Result (Unit {0}) Stop → (State → Text) → State
+    → Type 0
 ContinuesWithText p limit result t s =
-    (most left : ℕ) (r : Job → plans.Step) (k : Next) (x : Point)
-    → Leads most r (p (bounds limit left) k) x (after result (λ u s'. k (t s') s') s) x
+    (most remaining : ℕ) (r : Job → plans.Step) (k : Next) (x : Point)
+    → Simulates most r (p (bounds limit remaining) k) x (after result (λ u s'. k (t s') s') s) x
 
 -- the same where the plan continues with the variables alone
-abbrev pub Goes : ((State → plans.Step) → plans.Step) → Result (Unit {0}) Stop → State → Type 0
-Goes p result s =
+abbrev pub ContinuesWithVariables : ((State → plans.Step) → plans.Step) → Result (Unit {0}) Stop → State → Type 0
+ContinuesWithVariables p result s =
     (most : ℕ) (r : Job → plans.Step) (k : State → plans.Step) (x : Point)
-    → Leads most r (p k) x (after result (λ u s'. k s') s) x
+    → Simulates most r (p k) x (after result (λ u s'. k s') s) x
 
 -- the same where values are written that may have so many bytes
-abbrev pub GoesWithin : (Bounds → (State → plans.Step) → plans.Step) → ℕ → Result (Unit {0}) Stop → State → Type 0
-GoesWithin p limit result s =
-    (most left : ℕ) (r : Job → plans.Step) (k : State → plans.Step) (x : Point)
-    → Leads most r (p (bounds limit left) k) x (after result (λ u s'. k s') s) x
+abbrev pub ContinuesWithVariablesWithin : (Bounds → (State → plans.Step) → plans.Step) → ℕ → Result (Unit {0}) Stop
+    → State → Type 0
+ContinuesWithVariablesWithin p limit result s =
+    (most remaining : ℕ) (r : Job → plans.Step) (k : State → plans.Step) (x : Point)
+    → Simulates most r (p (bounds limit remaining) k) x (after result (λ u s'. k s') s) x
 
 -- the plan continues with the text that the host answered
-abbrev pub Asks : (Next → plans.Step) → Result (String Global) Stop → State → (ℕ → Point) → (ℕ → Point) → Type 0
-Asks p result s x y =
+abbrev pub ContinuesWithAnswer : (Next → plans.Step) → Result (String Global) Stop → State → (ℕ → Point) →
+    (ℕ → Point) → Type 0
+ContinuesWithAnswer p result s x y =
     (most used : ℕ) (r : Job → plans.Step) (k : Next)
-    → Leads most r (p k) (x used) (after result (λ t s'. k (string_bytes t) s') s) (y used)
+    → Simulates most r (p k) (x used) (after result (λ t s'. k (string_bytes t) s') s) (y used)
 
 -- the plan that appends elements to the list in the variable at a location
-abbrev pub lengthen_at : Bounds → Bool × Text → List Text → State → Next → plans.Step
-lengthen_at b p xs s k = given (lengthened (value_or [] s p) xs) s (λ t. write_at b p t s k)
+abbrev pub append_at : Bounds → Bool × Text → List Text → State → Next → plans.Step
+append_at b p xs s k = given (lengthened (value_or [] s p) xs) s (λ t. write_at b p t s k)

@@ -1,12 +1,12 @@
 //! The command proc(n), which defines a procedure.
 ghost use Rattle.tclrules.specs.Forms.{Define};
 ghost use Rattle.tclrules.specs.Rules.{form};
-ghost use Rattle.tclcommands.specs.Continuations.{DoesAlone};
+ghost use Rattle.tclcommands.specs.Continuations.{ContinuesWithoutHost};
 
 use crate::value::Value;
 use std::alloc::Global;
-use tclarguments::parameters;
-use tclsteps::Stop;
+use tclforms::parameters;
+use tclsubstitution::Stop;
 use tclvariables::{Procedure, Variables};
 
 /// proc(n): defines the procedure `name` with the parameters of the list and this body, which isn't parsed yet. The
@@ -22,7 +22,8 @@ pub fn define<'a>(
     list: &'a str,
     body: &'a str,
 ) -> Result<Value<'a>, Stop>
-    ensures { DoesAlone (λ b k. form b (Define name.now list.now body.now) variables.old k) result variables.new }
+    ensures { ContinuesWithoutHost
+        (λ b k. form b (Define name.now list.now body.now) variables.old k) result variables.new }
 {
     let parameters = parameters(alloc, name, list)?;
     let body = String::from_str(alloc, body)?;

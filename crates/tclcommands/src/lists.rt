@@ -8,14 +8,14 @@ ghost use Rattle.tclvalue.specs.Faults.{GivesText};
 ghost use Rattle.tclrules.specs.Variables.{value_at, writable};
 ghost use Rattle.tclrules.specs.Forms.{ListAppend};
 ghost use Rattle.tclrules.specs.Rules.{form, value_or, lengthened};
-ghost use Rattle.tclvariables.specs.Contents.{IsWritten, HoldsList};
-ghost use Rattle.tclcommands.specs.Continuations.{lengthen_at, ContinuesWithText, Writes};
+ghost use Rattle.tclvariables.specs.Contents.{IsListText, HoldsList};
+ghost use Rattle.tclcommands.specs.Continuations.{append_at, ContinuesWithText, ContinuesWithinLimit};
 
 use crate::value::{Value, value_or};
-use crate::writing::{put_at, taken};
+use crate::writing::{put_at, take_text};
 use std::alloc::{AllocError, Global};
 use tclchars::MAX_BYTES;
-use tclsteps::Stop;
+use tclsubstitution::Stop;
 use tclvalue::{ValueFault, elements, list_text};
 use tclvariables::{Content, Variables, writable};
 
@@ -56,7 +56,7 @@ fn with_copies(
 /// The text of any list with elements appended: it is read and written anew. A text that is no list is an error of Tcl.
 fn lengthened(alloc: Global, list: &str, values: &[String]) -> Result<String, ValueFault>
     ensures text { GivesText result (lengthened list.now (map string_bytes values.now)) }
-    ensures written { IfOk result (λ t. IsWritten (string_bytes t)) }
+    ensures written { IfOk result (λ t. IsListText (string_bytes t)) }
 {
     let elements = with_copies(alloc, elements(alloc, list)?, values)?;
     Ok(list_text(alloc, &elements)?)
@@ -81,13 +81,14 @@ fn extend_list(
     name: &str,
     values: &[String],
 ) -> Result<(), Stop>
-    requires place { (v : Text) × (writable variables.old v ≡ Ok (global, name.now)) }
+    requires location { (v : Text) × (writable variables.old v ≡ Ok (global, name.now)) }
     requires list { HoldsList (value_at variables.old (global, name.now)) }
     requires read { length (value_or [] variables.old (global, name.now)) ≤ max_bytes }
-    ensures { ContinuesWithText (λ b. lengthen_at b (global, name.now) (map string_bytes values.now) variables.old) limit result
+    ensures { ContinuesWithText (λ b. append_at b (global, name.now)
+        (map string_bytes values.now) variables.old) limit result
         (λ s. value_or [] s (global, name.now)) variables.new }
 {
-    let old = taken(alloc, variables, global, name);
+    let old = take_text(alloc, variables, global, name);
     let text = with_elements(alloc, old, values)?;
     put_at(
         alloc,
@@ -111,7 +112,8 @@ fn rewrite_list(
     values: &[String],
 ) -> Result<(), Stop>
     requires { (v : Text) × (writable variables.old v ≡ Ok (global, name.now)) }
-    ensures { ContinuesWithText (λ b. lengthen_at b (global, name.now) (map string_bytes values.now) variables.old) limit result
+    ensures { ContinuesWithText (λ b. append_at b (global, name.now)
+        (map string_bytes values.now) variables.old) limit result
         (λ s. value_or [] s (global, name.now)) variables.new }
 {
     let text = lengthened(alloc, value_or(variables, global, name, ""), values)?;
@@ -128,7 +130,7 @@ fn rewrite_list(
 
 /// Appends elements to the value of a variable: in place where it is known to hold a list, else by writing it anew.
 #[tactic(none)]
-fn put_elements(
+fn append_elements(
     alloc: Global,
     variables: &mut Variables,
     limit: usize,
@@ -137,7 +139,8 @@ fn put_elements(
     values: &[String],
 ) -> Result<(), Stop>
     requires { (v : Text) × (writable variables.old v ≡ Ok (global, name.now)) }
-    ensures { ContinuesWithText (λ b. lengthen_at b (global, name.now) (map string_bytes values.now) variables.old) limit result
+    ensures { ContinuesWithText (λ b. append_at b (global, name.now)
+        (map string_bytes values.now) variables.old) limit result
         (λ s. value_or [] s (global, name.now)) variables.new }
 {
     if holds_list(variables, global, name) {
@@ -159,10 +162,11 @@ pub fn list_append<'a>(
     name: &'a str,
     values: &'a [String],
 ) -> Result<Value<'a>, Stop>
-    ensures { Writes (λ b. form b (ListAppend name.now (map string_bytes values.now)) variables.old) limit result
+    ensures { ContinuesWithinLimit (λ b. form b (ListAppend name.now
+        (map string_bytes values.now)) variables.old) limit result
         variables.new }
 {
     let (global, name) = writable(variables, alloc, name)?;
-    put_elements(alloc, variables, limit, global, name, values)?;
+    append_elements(alloc, variables, limit, global, name, values)?;
     Ok(Value::Variable(global, name))
 }

@@ -1,18 +1,18 @@
 //! Commands that read variables: set(n) with one word, and `info exists` of info(n).
 ghost use Rattle.std.specs.Prelude.{◌≡◌, string_bytes};
 ghost use Rattle.tclvalue.specs.Operators.{truth_text};
-ghost use Rattle.tclrules.specs.Variables.{State, Plain};
-ghost use Rattle.tclrules.specs.Leads.{point};
+ghost use Rattle.tclrules.specs.Variables.{State, Scalar};
+ghost use Rattle.tclrules.specs.Simulates.{point};
 ghost use Rattle.tclrules.specs.Plans.{Next};
 ghost use Rattle.tclrules.specs.Forms.{Get, Exists};
 ghost use Rattle.tclrules.specs.Rules.{form, exists_at};
-ghost use Rattle.tclcommands.specs.Continuations.{value_text, Does};
+ghost use Rattle.tclcommands.specs.Continuations.{value_text, ContinuesWithResult};
 
 use crate::value::Value;
 use std::alloc::Global;
 use tclrules::Host;
-use tclsteps::{Stop, read};
-use tclvariables::{Place, Variables, place_named};
+use tclsubstitution::{Stop, read};
+use tclvariables::{Location, Variables, location_named};
 
 /// set(n) with the name alone: the value of the variable.
 ///
@@ -24,8 +24,8 @@ pub fn get<'a, H: Host>(
     host: &mut H,
     name: &'a str,
 ) -> Result<Value<'a>, Stop>
-    ensures { Does (λ b k. form b (Get name.now) variables.now k) result variables.now
-        (point (H.oracle host.old) (H.told host.old)) (point (H.oracle host.new) (H.told host.new)) }
+    ensures { ContinuesWithResult (λ b k. form b (Get name.now) variables.now k) result variables.now
+        (point (H.oracle host.old) (H.trace host.old)) (point (H.oracle host.new) (H.trace host.new)) }
 {
     Ok(Value::Text(read(alloc, variables, host, name)?))
 }
@@ -42,8 +42,8 @@ fn truth<'a>(holds: bool) -> Value<'a>
 }
 
 /// Whether a scalar variable is set; the array `env` always is.
-fn is_there(variables: &Variables, global: bool, name: &str) -> bool
-    ensures { (k : Next) → exists_at variables.now k (Plain global name.now) ≡ k (truth_text result) variables.now }
+fn is_set(variables: &Variables, global: bool, name: &str) -> bool
+    ensures { (k : Next) → exists_at variables.now k (Scalar global name.now) ≡ k (truth_text result) variables.now }
 {
     if global && name == "env" {
         return true;
@@ -61,13 +61,13 @@ pub fn exists<'a, H: Host>(
     host: &mut H,
     name: &'a str,
 ) -> Result<Value<'a>, Stop>
-    ensures { Does (λ b k. form b (Exists name.now) variables.now k) result variables.now
-        (point (H.oracle host.old) (H.told host.old)) (point (H.oracle host.new) (H.told host.new)) }
+    ensures { ContinuesWithResult (λ b k. form b (Exists name.now) variables.now k) result variables.now
+        (point (H.oracle host.old) (H.trace host.old)) (point (H.oracle host.new) (H.trace host.new)) }
 {
-    let place = place_named(variables, alloc, name)?;
-    match place {
-        Place::Plain(global, name) => Ok(truth(is_there(variables, global, name))),
-        Place::Element(global, name) => {
+    let location = location_named(variables, alloc, name)?;
+    match location {
+        Location::Scalar(global, name) => Ok(truth(is_set(variables, global, name))),
+        Location::Element(global, name) => {
             if global {
                 let value = host.read_env(name)?;
                 return Ok(truth(value.is_some()));

@@ -4,29 +4,29 @@ ghost use Rattle.tclrules.specs.Variables.{writable, value_at};
 ghost use Rattle.tclrules.specs.Plans.{given};
 ghost use Rattle.tclrules.specs.Forms.{Unset};
 ghost use Rattle.tclrules.specs.Rules.{form, unset, unset_at};
-ghost use Rattle.tclcommands.specs.Continuations.{DoesAlone, Goes};
+ghost use Rattle.tclcommands.specs.Continuations.{ContinuesWithoutHost, ContinuesWithVariables};
 
 use crate::value::Value;
 use std::alloc::Global;
-use tclarguments::not_to_unset;
-use tclsteps::Stop;
+use tclforms::cannot_unset;
+use tclsubstitution::Stop;
 use tclvariables::{Variables, writable};
 
 /// Unsets one variable. One that is unset already is an error, unless `quiet`.
 #[tactic(none)]
 fn unset_one(alloc: Global, variables: &mut Variables, quiet: bool, name: &str) -> Result<(), Stop>
-    ensures { Goes (λ k. given (writable variables.old name.now) variables.old
+    ensures { ContinuesWithVariables (λ k. given (writable variables.old name.now) variables.old
         (λ p. unset_at quiet name.now variables.old p k (value_at variables.old p))) result variables.new }
 {
-    let (global, place) = writable(variables, alloc, name)?;
-    if variables.get(global, place).is_some() {
-        variables.unset(global, place);
+    let (global, location) = writable(variables, alloc, name)?;
+    if variables.get(global, location).is_some() {
+        variables.unset(global, location);
         return Ok(());
     }
     if quiet {
         return Ok(());
     }
-    Err(Stop::from(not_to_unset(alloc, name)))
+    Err(Stop::from(cannot_unset(alloc, name)))
 }
 
 /// Unsets variables in turn, up to the first error.
@@ -37,7 +37,7 @@ fn unset_each(
     quiet: bool,
     names: &[String],
 ) -> Result<(), Stop>
-    ensures { Goes (unset quiet (map string_bytes names.now) variables.old) result variables.new }
+    ensures { ContinuesWithVariables (unset quiet (map string_bytes names.now) variables.old) result variables.new }
 {
     for name in names {
         unset_one(alloc, variables, quiet, name)?;
@@ -57,7 +57,8 @@ pub fn unset<'a>(
     quiet: bool,
     names: &'a [String],
 ) -> Result<Value<'a>, Stop>
-    ensures { DoesAlone (λ b. form b (Unset quiet (map string_bytes names.now)) variables.old) result variables.new }
+    ensures { ContinuesWithoutHost (λ b. form b (Unset quiet
+        (map string_bytes names.now)) variables.old) result variables.new }
 {
     unset_each(alloc, variables, quiet, names)?;
     Ok(Value::Word(""))

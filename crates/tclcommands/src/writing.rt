@@ -8,12 +8,12 @@ ghost use Rattle.tclchars.specs.Runs.{Text};
 ghost use Rattle.tclrules.specs.Variables.{with_value};
 ghost use Rattle.tclrules.specs.Forms.{Set, Append, Increase};
 ghost use Rattle.tclrules.specs.Rules.{write_at, write, assign, form, value_or, increased};
-ghost use Rattle.tclcommands.specs.Continuations.{named_values, GoesWithin, ContinuesWithText, Writes};
+ghost use Rattle.tclcommands.specs.Continuations.{named_values, ContinuesWithVariablesWithin, ContinuesWithText, ContinuesWithinLimit};
 
 use crate::value::{Value, value_or};
 use std::alloc::Global;
 use tclforms::increase_of;
-use tclsteps::{Halt, Stop};
+use tclsubstitution::{Halt, Stop};
 use tclvalue::{ValueFault, count_of, sum};
 use tclvariables::{Content, Variables, writable};
 
@@ -27,7 +27,8 @@ pub(crate) fn put_at(
     name: &str,
     content: Content,
 ) -> Result<(), Stop>
-    ensures leads { ContinuesWithText (λ b. write_at b (global, name.now) content variables.old) limit result (λ _. content)
+    ensures continues { ContinuesWithText (λ b. write_at b (global, name.now) content variables.old) limit result
+        (λ _. content)
         variables.new }
     ensures written { OnOk result (variables.new ≡ with_value variables.old (global, name.now) content) }
 {
@@ -48,7 +49,8 @@ fn write_at(
     name: &str,
     value: String,
 ) -> Result<(), Stop>
-    ensures leads { ContinuesWithText (λ b. write_at b (global, name.now) (string_bytes value) variables.old) limit result
+    ensures continues { ContinuesWithText (λ b. write_at b (global, name.now)
+        (string_bytes value) variables.old) limit result
         (λ _. string_bytes value) variables.new }
     ensures written { OnOk result (variables.new ≡ with_value variables.old (global, name.now) (string_bytes value)) }
 {
@@ -73,7 +75,8 @@ pub fn write(
     name: &str,
     value: String,
 ) -> Result<(), Stop>
-    ensures { ContinuesWithText (λ b. write b name.now (string_bytes value) variables.old) limit result (λ _. string_bytes value)
+    ensures { ContinuesWithText (λ b. write b name.now (string_bytes value) variables.old) limit result
+        (λ _. string_bytes value)
         variables.new }
 {
     let (global, name) = writable(variables, alloc, name)?;
@@ -90,7 +93,8 @@ pub fn assign(
     limit: usize,
     pairs: Vec<(&str, String)>,
 ) -> Result<(), Stop>
-    ensures { GoesWithin (λ b. assign b (named_values pairs.entry.items) variables.old) limit result variables.new }
+    ensures { ContinuesWithVariablesWithin
+        (λ b. assign b (named_values pairs.entry.items) variables.old) limit result variables.new }
 {
     for (name, value) in pairs {
         write(alloc, variables, limit, name, value)?;
@@ -109,7 +113,7 @@ pub fn set<'a>(
     name: &'a str,
     value: &'a str,
 ) -> Result<Value<'a>, Stop>
-    ensures { Writes (λ b. form b (Set name.now value.now) variables.old) limit result variables.new }
+    ensures { ContinuesWithinLimit (λ b. form b (Set name.now value.now) variables.old) limit result variables.new }
 {
     let copy = String::from_str(alloc, value)?;
     write(alloc, variables, limit, name, copy)?;
@@ -118,7 +122,12 @@ pub fn set<'a>(
 
 /// Takes the text of a variable, or an empty one where it is unset, so that it grows without a copy. The caller gives
 /// the variable its next value.
-pub(crate) fn taken(alloc: Global, variables: &mut Variables, global: bool, name: &str) -> String
+pub(crate) fn take_text(
+    alloc: Global,
+    variables: &mut Variables,
+    global: bool,
+    name: &str,
+) -> String
     ensures value { string_bytes result ≡ value_or [] variables.old (global, name.now) }
     ensures given_back { (t : Text) → with_value variables.new (global, name.now) t
         ≡ with_value variables.old (global, name.now) t }
@@ -159,11 +168,12 @@ pub fn append<'a>(
     name: &'a str,
     values: &'a [String],
 ) -> Result<Value<'a>, Stop>
-    ensures { Writes (λ b. form b (Append name.now (map string_bytes values.now)) variables.old) limit result
+    ensures { ContinuesWithinLimit (λ b. form b (Append name.now
+        (map string_bytes values.now)) variables.old) limit result
         variables.new }
 {
     let (global, name) = writable(variables, alloc, name)?;
-    let old = taken(alloc, variables, global, name);
+    let old = take_text(alloc, variables, global, name);
     let value = extended(old, values, limit)?;
     write_at(alloc, variables, limit, global, name, value)?;
     Ok(Value::Variable(global, name))
@@ -192,7 +202,8 @@ pub fn increase<'a>(
     name: &'a str,
     increases: &'a [String],
 ) -> Result<Value<'a>, Stop>
-    ensures { Writes (λ b. form b (Increase name.now (map string_bytes increases.now)) variables.old) limit result
+    ensures { ContinuesWithinLimit (λ b. form b (Increase name.now
+        (map string_bytes increases.now)) variables.old) limit result
         variables.new }
 {
     let (global, name) = writable(variables, alloc, name)?;

@@ -11,30 +11,31 @@ use Rattle.tclrules.specs.Promise.{ReportsFault, texts_of}
 use Rattle.tclrules.specs.declared.outcome.Ending.{Ending}
 use Rattle.tclrules.specs.declared.outcome.EvalFault.{EvalFault}
 use Rattle.tclrules.specs.declared.outcome.EvalFault.TheVariants as fault
-use Rattle.tclsteps.specs.Stops.{halt_of}
-use Rattle.tcleval.specs.declared.file.Cut.{Cut}
-use Rattle.tcleval.specs.declared.file.Cut.TheVariants as cuts
+use Rattle.tclsubstitution.specs.Stops.{halt_of}
+use Rattle.tcleval.specs.declared.file.FileFailure.{FileFailure}
+use Rattle.tcleval.specs.declared.file.FileFailure.TheVariants as failures
 
 -- the outcome of a file that fails in this state
-abbrev pub cut_outcome : Cut → State → Outcome plans.Ending
-cut_outcome (cuts.Raised m) s = Ended (Raised (string_bytes m) s)
-cut_outcome (cuts.Halted h) s = Halted (halt_of h)
+abbrev pub failure_outcome : FileFailure → State → Outcome plans.Completion
+failure_outcome (failures.Raised m) s = Ended (Raised (string_bytes m) s)
+failure_outcome (failures.Halted h) s = Halted (halt_of h)
 
 -- the plan of the rules at the end of a file
-abbrev pub after_file : Result (String Global) Cut → State → Step
+abbrev pub after_file : Result (String Global) FileFailure → State → Step
 after_file (Ok t) s = ended (Normal (string_bytes t) s)
-after_file (Err (cuts.Raised m)) s = raise (string_bytes m) s
-after_file (Err (cuts.Halted h)) s = halt (halt_of h)
+after_file (Err (failures.Raised m)) s = raise (string_bytes m) s
+after_file (Err (failures.Halted h)) s = halt (halt_of h)
 
 -- a fault reports the failure of a file whose current command begins at this byte offset
-abbrev pub ReportsCut : Text → ℕ → Cut → EvalFault → Type 0
-ReportsCut script place cut f = (s : State) → s.place ≡ place → ReportsFault script f (cut_outcome cut s)
+abbrev pub ReportsFailure : Text → ℕ → FileFailure → EvalFault → Type 0
+ReportsFailure script offset failure f = (s : State) → s.offset ≡ offset → ReportsFault script f
+    (failure_outcome failure s)
 
 -- the answer for a file that ended with these variables and this count of commands
-abbrev pub AnswersFile : Text → State → ℕ → Result (String Global) Cut → Result Ending EvalFault → Type 0
+abbrev pub AnswersFile : Text → State → ℕ → Result (String Global) FileFailure → Result Ending EvalFault → Type 0
 AnswersFile script s used (Ok t) (Ok end) =
     (string_bytes end.result ≡ string_bytes t) × (end.used_commands ≡ used)
     × (s.globals ≡ texts_of end.globals.items)
 AnswersFile script s used (Ok t) (Err f) = f ≡ fault.OutOfMemory
-AnswersFile script s used (Err cut) (Ok end) = ⊥
-AnswersFile script s used (Err cut) (Err f) = ReportsFault script f (cut_outcome cut s)
+AnswersFile script s used (Err failure) (Ok end) = ⊥
+AnswersFile script s used (Err failure) (Err f) = ReportsFault script f (failure_outcome failure s)

@@ -3,28 +3,28 @@ ghost use Rattle.std.specs.Prelude.{◌≡◌, ◌≤◌, ◌==◌, length, [], 
 ghost use Rattle.tclchars.specs.Runs.{Text};
 ghost use Rattle.tclrules.specs.Derivation.{Halted};
 ghost use Rattle.tclscript.specs.View.{script_view};
-ghost use Rattle.tclrules.specs.Leads.{Leads, point};
+ghost use Rattle.tclrules.specs.Simulates.{Simulates, point};
 ghost use Rattle.tclrules.specs.Variables.{State};
 ghost use Rattle.tclrules.specs.Plans as plans;
 ghost use Rattle.tclrules.specs.Rules as rules;
 ghost use Rattle.tclrules.specs.Rules.{rule, file_ended};
 ghost use Rattle.tclrules.specs.Meaning.{line_at};
 ghost use Rattle.tclrules.specs.Promise.{Evaluates, ReportsFault, texts_of};
-ghost use Rattle.tclsteps.specs.Machine.{shown, bounds};
-ghost use Rattle.tclsteps.specs.Stops.{after, halt_of};
-ghost use Rattle.tclkept.specs.Kept.{BeginWith};
-ghost use Rattle.tclevaluator.specs.Later.{Later};
-ghost use Rattle.tclendings.specs.Completions.{finish, ran};
-ghost use Rattle.tcleval.specs.Files.{after_file, ReportsCut, AnswersFile};
+ghost use Rattle.tclsubstitution.specs.Machine.{range_text, bounds};
+ghost use Rattle.tclsubstitution.specs.Stops.{after, halt_of};
+ghost use Rattle.tclcache.specs.Cache.{BeginWith};
+ghost use Rattle.tclevaluator.specs.OnlyGrows.{OnlyGrows};
+ghost use Rattle.tclcontrol.specs.Completions.{finish, completed};
+ghost use Rattle.tcleval.specs.Files.{after_file, ReportsFailure, AnswersFile};
 
 use std::alloc::Global;
 use std::mem;
-use tclcommands::started;
+use tclcache::Cache;
+use tclcommands::initial_variables;
 use tclevaluator::Evaluator;
-use tclkept::Kept;
 use tclrules::{Ending, EvalFault, Host, Limits};
 use tclscript::{ByteRange, Script};
-use tclsteps::{Halt, Stop};
+use tclsubstitution::{Halt, Stop};
 use tclvariables::Variables;
 
 /// Evaluates the commands of a file in turn. The byte offset of the current one is noted, for the line of an error.
@@ -33,22 +33,22 @@ fn file_commands<H: Host>(
     evaluator: &mut Evaluator,
     host: &mut H,
     limits: Limits,
-    left: u32,
+    remaining: u32,
     source: &str,
     script: &Script<ByteRange>,
 ) -> Result<String, Stop>
-    ensures comes { Leads limits.commands (rule limits.value_bytes)
-        (rules.file_commands (bounds limits.value_bytes left) (script_view (shown source.now) script.now) []
+    ensures evaluates_to { Simulates limits.commands (rule limits.value_bytes)
+        (rules.file_commands (bounds limits.value_bytes remaining) (script_view (range_text source.now) script.now) []
         evaluator.old.variables)
-        (point (H.oracle host.old) (H.told host.old) evaluator.old.used)
+        (point (H.oracle host.old) (H.trace host.old) evaluator.old.used)
         (after result (λ t s. finish (string_bytes t) s) evaluator.new.variables)
-        (point (H.oracle host.new) (H.told host.new) evaluator.new.used) }
-    ensures later { Later evaluator.old evaluator.new }
+        (point (H.oracle host.new) (H.trace host.new) evaluator.new.used) }
+    ensures only_grows { OnlyGrows evaluator.old evaluator.new }
 {
     let mut last = String::new(evaluator.alloc);
     for command in &script.commands {
-        evaluator.variables.at_place(command.place);
-        last = evaluator.command(host, limits, left, source, command, true)?;
+        evaluator.variables.set_offset(command.offset);
+        last = evaluator.command(host, limits, remaining, source, command, true)?;
     }
     Ok(last)
 }
@@ -59,31 +59,31 @@ fn run_file<H: Host>(
     evaluator: &mut Evaluator,
     host: &mut H,
     limits: Limits,
-    left: u32,
+    remaining: u32,
     text: &str,
 ) -> Result<String, Stop>
-    ensures comes { Leads limits.commands (rule limits.value_bytes)
-        (rule limits.value_bytes (plans.File left text.now evaluator.old.variables))
-        (point (H.oracle host.old) (H.told host.old) evaluator.old.used)
+    ensures evaluates_to { Simulates limits.commands (rule limits.value_bytes)
+        (rule limits.value_bytes (plans.File remaining text.now evaluator.old.variables))
+        (point (H.oracle host.old) (H.trace host.old) evaluator.old.used)
         (after result (λ t s. finish (string_bytes t) s) evaluator.new.variables)
-        (point (H.oracle host.new) (H.told host.new) evaluator.new.used) }
-    ensures later { Later evaluator.old evaluator.new }
+        (point (H.oracle host.new) (H.trace host.new) evaluator.new.used) }
+    ensures only_grows { OnlyGrows evaluator.old evaluator.new }
 {
-    if left == 0 {
+    if remaining == 0 {
         return Err(Stop::Halted(Halt::TooDeep));
     }
-    match evaluator.kept.script_tree(text) {
+    match evaluator.cache.script_tree(text) {
         Ok(tree) => {
             let source = tree.text.as_str();
-            file_commands(evaluator, host, limits, left - 1, source, &tree.script)
+            file_commands(evaluator, host, limits, remaining - 1, source, &tree.script)
         }
-        Err(fault) => Err(Stop::of_text(fault)),
+        Err(fault) => Err(Stop::from_text_fault(fault)),
     }
 }
 
 /// Why a file failed.
 #[derive(Drop)]
-enum Cut {
+enum FileFailure {
     /// An error, with its message.
     Raised(String),
     /// A halt, which no catch(n) sees.
@@ -91,25 +91,25 @@ enum Cut {
 }
 
 /// The result of a file, by the completion of its commands: `return` and `continue` end it, `break` halts it.
-fn end_of_file(alloc: Global, outcome: Result<String, Stop>) -> Result<String, Cut>
-    ensures { (s : State) → ran outcome file_ended s ≡ after_file result s }
+fn file_completion(alloc: Global, outcome: Result<String, Stop>) -> Result<String, FileFailure>
+    ensures { (s : State) → completed outcome file_ended s ≡ after_file result s }
 {
     match outcome {
         Ok(result) => Ok(result),
         Err(Stop::Returned(result)) => Ok(result),
         Err(Stop::Continued) => Ok(String::new(alloc)),
-        Err(Stop::Broken) => Err(Cut::Halted(Halt::Stopped)),
-        Err(Stop::Raised(message)) => Err(Cut::Raised(message)),
-        Err(Stop::Halted(halt)) => Err(Cut::Halted(halt)),
+        Err(Stop::Broken) => Err(FileFailure::Halted(Halt::Stopped)),
+        Err(Stop::Raised(message)) => Err(FileFailure::Raised(message)),
+        Err(Stop::Halted(halt)) => Err(FileFailure::Halted(halt)),
     }
 }
 
 /// The bytes before an offset.
-fn front(bytes: &[u8], place: usize) -> &[u8]
-    ensures { result.now ≡ take place bytes.now }
+fn prefix(bytes: &[u8], offset: usize) -> &[u8]
+    ensures { result.now ≡ take offset bytes.now }
 {
-    if place < bytes.len() {
-        &bytes[..place]
+    if offset < bytes.len() {
+        &bytes[..offset]
     } else {
         bytes
     }
@@ -124,10 +124,10 @@ fn newlines(bytes: &[u8]) -> usize
 }
 
 /// The line, counted from 1, of a byte offset in a script.
-fn line_at(script: &str, place: usize) -> usize
-    ensures { result ≡ line_at script.now place }
+fn line_at(script: &str, offset: usize) -> usize
+    ensures { result ≡ line_at script.now offset }
 {
-    1 + newlines(front(script.as_bytes(), place))
+    1 + newlines(prefix(script.as_bytes(), offset))
 }
 
 /// The fault that an evaluation answers for a halt.
@@ -149,29 +149,29 @@ fn fault_of_halt(halt: Halt) -> EvalFault
 }
 
 /// The fault of a file that failed in the command at this byte offset.
-fn fault_of(script: &str, place: usize, cut: Cut) -> EvalFault
-    ensures { ReportsCut script.now place cut result }
+fn fault_of(script: &str, offset: usize, failure: FileFailure) -> EvalFault
+    ensures { ReportsFailure script.now offset failure result }
 {
-    match cut {
-        Cut::Raised(message) => EvalFault::TclError(message, line_at(script, place)),
-        Cut::Halted(halt) => fault_of_halt(halt),
+    match failure {
+        FileFailure::Raised(message) => EvalFault::TclError(message, line_at(script, offset)),
+        FileFailure::Halted(halt) => fault_of_halt(halt),
     }
 }
 
 /// The depth that scripts may have: the limit, or 200 where that is less.
-fn depth_of(limits: Limits) -> u32
+fn depth_limit(limits: Limits) -> u32
     ensures { result ≡ min limits.depth 200 }
 {
     limits.depth.min(200)
 }
 
 /// The answer for a file: its result with the global variables after it, or its fault.
-fn ending(
+fn file_answer(
     alloc: Global,
     variables: Variables,
     used_commands: u64,
     script: &str,
-    outcome: Result<String, Cut>,
+    outcome: Result<String, FileFailure>,
 ) -> Result<Ending, EvalFault>
     ensures { AnswersFile script.now variables used_commands outcome result }
 {
@@ -184,7 +184,7 @@ fn ending(
                 used_commands,
             })
         }
-        Err(cut) => Err(fault_of(script, variables.place(), cut)),
+        Err(failure) => Err(fault_of(script, variables.offset(), failure)),
     }
 }
 
@@ -201,33 +201,39 @@ fn ending(
 #[tactic(none)]
 pub fn evaluate_with<H: Host>(
     alloc: Global,
-    kept: &mut Kept,
+    cache: &mut Cache,
     script: &str,
     globals: Vec<(String, String)>,
     host: &mut H,
     limits: Limits,
 ) -> Result<Ending, EvalFault>
-    ensures evaluates { Evaluates limits script.now (texts_of globals.items) (H.oracle host.old) (H.told host.old)
-        result (H.told host.new) }
+    ensures evaluates { Evaluates limits script.now (texts_of globals.items) (H.oracle host.old) (H.trace host.old)
+        result (H.trace host.new) }
     ensures same { H.oracle host.new ≡ H.oracle host.old }
-    ensures begins { BeginWith kept.old kept.new }
+    ensures begins { BeginWith cache.old cache.new }
 {
-    let variables = started(alloc, globals)?;
+    let variables = initial_variables(alloc, globals)?;
     let mut evaluator = Evaluator {
         alloc,
-        kept: mem::replace(kept, Kept::new(alloc)),
+        cache: mem::replace(cache, Cache::new(alloc)),
         variables,
         used: 0,
     };
-    let outcome = run_file(&mut evaluator, host, limits, depth_of(limits), script);
+    let outcome = run_file(&mut evaluator, host, limits, depth_limit(limits), script);
     let Evaluator {
         alloc: _,
-        kept: trees,
+        cache: trees,
         variables,
         used,
     } = evaluator;
-    *kept = trees;
-    ending(alloc, variables, used, script, end_of_file(alloc, outcome))
+    *cache = trees;
+    file_answer(
+        alloc,
+        variables,
+        used,
+        script,
+        file_completion(alloc, outcome),
+    )
 }
 
 /// Evaluates a script as `evaluate_with` does, with a cache of its own that is empty at first.
@@ -241,10 +247,10 @@ pub fn evaluate<H: Host>(
     host: &mut H,
     limits: Limits,
 ) -> Result<Ending, EvalFault>
-    ensures evaluates { Evaluates limits script.now (texts_of globals.items) (H.oracle host.old) (H.told host.old)
-        result (H.told host.new) }
+    ensures evaluates { Evaluates limits script.now (texts_of globals.items) (H.oracle host.old) (H.trace host.old)
+        result (H.trace host.new) }
     ensures same { H.oracle host.new ≡ H.oracle host.old }
 {
-    let mut kept = Kept::new(alloc);
-    evaluate_with(alloc, &mut kept, script, globals, host, limits)
+    let mut cache = Cache::new(alloc);
+    evaluate_with(alloc, &mut cache, script, globals, host, limits)
 }

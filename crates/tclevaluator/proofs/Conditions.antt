@@ -3,8 +3,8 @@ use Rattle.std.proofs.Common.{◌≡◌, ℕ, ◌≤◌, Bool, true, false, Ok, 
 use Rattle.std.specs.Prelude.{pos, IfSome}
 use Rattle.std.specs.Fmt.{signed_decimal}
 use Rattle.std.proofs.lemmas.Fmt.{decimal_digit}
-use Rattle.tcltext.specs.Numerals.{numeral}
-use Rattle.tcltext.specs.declared.number.Numeral.TheVariants as numerals
+use Rattle.tclnumber.specs.Numerals.{numeral}
+use Rattle.tclnumber.specs.declared.number.Numeral.TheVariants as numerals
 use Rattle.tclexpr.specs.Tree.{Expr}
 use Rattle.tclexpr.specs.Operands.{Operand}
 use Rattle.tcloperators.specs.Values.{computed_text}
@@ -13,12 +13,12 @@ use Rattle.tcloperators.specs.declared.operators.Computed.TheVariants.{Truth}
 use Rattle.tclvalue.specs.Operators.{truth, truth_of, truth_text}
 use Rattle.tclrules.specs.Variables.{State}
 use Rattle.tclrules.specs.Plans.{Job, Step, Next, given, sized}
-use Rattle.tclrules.specs.Leads.{Point, Leads}
+use Rattle.tclrules.specs.Simulates.{Point, Simulates}
 use Rattle.tclrules.specs.Expressions.{expr, normal}
-use Rattle.tclrules.proofs.Leading.{go_on}
-use Rattle.tclsteps.specs.Machine.{bounds}
-use Rattle.tclsteps.proofs.Leading.{given_on, sized_on}
-use Rattle.tclendings.specs.Completions.{decided}
+use Rattle.tclrules.proofs.Leading.{continue_with}
+use Rattle.tclsubstitution.specs.Machine.{bounds}
+use Rattle.tclsubstitution.proofs.Leading.{given_on, sized_on}
+use Rattle.tclcontrol.specs.Completions.{condition_plan}
 
 -- the digit that a truth value is written as
 abbrev digit : Bool → ℕ
@@ -47,16 +47,16 @@ short_truth n false h = h
 
 -- its text is in decimal already, and as true as it is
 pub held : {most : ℕ} {r : Job → Step} {x : Point} (limit : ℕ) (s : State) (k : Bool → State → Step) (b : Bool) → 1 ≤ limit
-    → Leads most r (given (normal (truth_text b) (numeral (truth_text b))) s (λ u. sized limit u (given (truth u) s (λ holds. k holds s)))) x (k b s) x
+    → Simulates most r (given (normal (truth_text b) (numeral (truth_text b))) s (λ u. sized limit u (given (truth u) s (λ holds. k holds s)))) x (k b s) x
 held limit s k b h =
-    go_on
+    continue_with
     (given_on _ _ s (λ u. sized limit u (given (truth u) s (λ holds. k holds s))) (normal_truth b))
-    (go_on (sized_on limit (truth_text b) _ (short_truth limit b h)) (given_on _ _ s (λ holds. k holds s) (truth_truth b)))
+    (continue_with (sized_on limit (truth_text b) _ (short_truth limit b h)) (given_on _ _ s (λ holds. k holds s) (truth_truth b)))
 
 pub held_found : (res : Option Bool) (made : Computed) (limit : ℕ) (e : Expr Operand) (s : State) → IfSome res (λ b. (made ≡ Truth b) × (1 ≤ limit))
-    → ((most left : ℕ) (r : Job → Step) (k : Next) (x : Point) → Leads most r (expr (bounds limit left) e s k) x (k (computed_text made) s) x)
-    → IfSome res (λ b. (most left : ℕ) (r : Job → Step) (k : Bool → State → Step) (x : Point) → Leads most r (decided (bounds limit left) e s k) x (k b s) x)
+    → ((most remaining : ℕ) (r : Job → Step) (k : Next) (x : Point) → Simulates most r (expr (bounds limit remaining) e s k) x (k (computed_text made) s) x)
+    → IfSome res (λ b. (most remaining : ℕ) (r : Job → Step) (k : Bool → State → Step) (x : Point) → Simulates most r (condition_plan (bounds limit remaining) e s k) x (k b s) x)
 held_found None made limit e s h m = tt
-held_found (Some b) made limit e s h m = λ most left r k x.
+held_found (Some b) made limit e s h m = λ most remaining r k x.
     let next : Next = λ v s'. given (normal v (numeral v)) s' (λ u. sized limit u (given (truth u) s' (λ holds. k holds s'))) in
-    go_on (rw h.0 at (m most left r next x)) (held limit s k b h.1)
+    continue_with (rw h.0 at (m most remaining r next x)) (held limit s k b h.1)

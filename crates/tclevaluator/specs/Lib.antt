@@ -1,1 +1,1 @@
-pub mod Later
+pub mod OnlyGrows

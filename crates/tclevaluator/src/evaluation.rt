@@ -1,15 +1,15 @@
 //! Scripts, commands, words and expressions, which evaluate one another: one cycle of methods, which ends since each
 //! script in another has less depth remaining, and each command and each turn of a loop is counted.
 //!
-//! Parameters that most methods have: `left` is how many scripts may still begin inside this one, `source`
-//! the text of which the pieces of the tree are ranges. `wanted` says whether the result is needed; where it
+//! Parameters that most methods have: `remaining` is how many scripts may still begin inside this one, `source`
+//! the text of which the pieces of the tree are ranges. `needs_result` says whether the result is needed; where it
 //! isn't, an empty text may be answered instead.
 ghost use Rattle.std.specs.Prelude.{◌≡◌, ◌<◌, ◌∷◌, [], Bool, true, false, List, map, option_map, IfOk, string_bytes};
 ghost use Rattle.tclchars.specs.Runs.{Text};
 ghost use Rattle.tclscript.specs.Tree.{commands_of, words_of};
 ghost use Rattle.tclscript.specs.View.{script_view, command_view, word_view, parts_view};
 ghost use Rattle.tclrules.specs.Derivation.{Counts, Runs};
-ghost use Rattle.tclrules.specs.Leads.{Leads, point};
+ghost use Rattle.tclrules.specs.Simulates.{Simulates, point};
 ghost use Rattle.tclrules.specs.Variables.{State, lookup};
 ghost use Rattle.tclvariables.specs.Views.{procedure_view};
 ghost use Rattle.tclrules.specs.Plans as plans;
@@ -20,26 +20,27 @@ ghost use Rattle.tclrules.specs.Rules as rules;
 ghost use Rattle.tclrules.specs.Rules.{rule, called, turn};
 ghost use Rattle.tclrules.specs.Forms as forms;
 ghost use Rattle.tclforms.specs.Views.{form_view, pair_texts};
-ghost use Rattle.tclsteps.specs.Machine.{shown, bounds, control_plan};
-ghost use Rattle.tclsteps.specs.Stops.{after};
+ghost use Rattle.tclsubstitution.specs.Machine.{range_text, bounds, control_plan};
+ghost use Rattle.tclsubstitution.specs.Stops.{after};
 ghost use Rattle.tclexpr.specs.Owned as expression;
-ghost use Rattle.tclendings.specs.Completions.{ComesToText, IsTreeOf, finish, sized_next, loop_continuation, guarded, expressed, decided};
-ghost use Rattle.tclevaluator.specs.Later.{Later};
+ghost use Rattle.tclcontrol.specs.Completions.{EvaluatesToText, IsScriptTree, finish, sized_next, loop_continuation, guarded, expression_plan, condition_plan};
+ghost use Rattle.tclevaluator.specs.OnlyGrows.{OnlyGrows};
 
 use crate::evaluator::{Evaluator, sized, within};
 use crate::literals::literal_form;
-use crate::trees::{express_tree, normal, tree_again};
+use crate::trees::{expression_tree, normal, repeated_tree};
 use crate::turns::begin_turn;
 use crate::words::{literal, push_words};
 use std::rc::Rc;
-use tclarguments::{Loops, allotted, chosen};
 use tclcommands::assign;
-use tclendings::{after_call, after_catch, after_next, after_turn, plain, unknown};
+use tclcontrol::{
+    after_call, after_catch, after_next, after_turn, simple_command, unknown_command,
+};
 use tclexpr::OwnedExpr;
-use tclforms::{Form, core_form};
+use tclforms::{Form, Loops, chosen, core_form, parameter_values};
 use tclrules::{Host, Limits};
 use tclscript::{ByteRange, Command, OwnedScript, Part, Script, Word};
-use tclsteps::{Context, Control, Halt, Step, Stop, advance};
+use tclsubstitution::{Control, Halt, Step, Stop, SubstitutionContext, advance};
 use tclvalue::{concatenated, truth, value_command};
 use tclvariables::Procedure;
 
@@ -51,31 +52,31 @@ impl Evaluator {
         &mut self,
         host: &mut H,
         limits: Limits,
-        left: u32,
+        remaining: u32,
         text: &str,
-        wanted: bool,
+        needs_result: bool,
     ) -> Result<String, Stop>
-        ensures comes { ComesToText wanted limits.value_bytes result
-            (λ t. Leads limits.commands (rule limits.value_bytes)
-            (rule limits.value_bytes (plans.Script left text.now self.old.variables))
-            (point (H.oracle host.old) (H.told host.old) self.old.used)
+        ensures evaluates_to { EvaluatesToText needs_result limits.value_bytes result
+            (λ t. Simulates limits.commands (rule limits.value_bytes)
+            (rule limits.value_bytes (plans.Script remaining text.now self.old.variables))
+            (point (H.oracle host.old) (H.trace host.old) self.old.used)
             (after result (λ _ s. finish t s) self.new.variables)
-            (point (H.oracle host.new) (H.told host.new) self.new.used)) }
-        ensures later { Later self.old self.new }
+            (point (H.oracle host.new) (H.trace host.new) self.new.used)) }
+        ensures only_grows { OnlyGrows self.old self.new }
     {
-        if left == 0 {
+        if remaining == 0 {
             return Err(Stop::Halted(Halt::TooDeep));
         }
-        match self.kept.script_tree(text) {
+        match self.cache.script_tree(text) {
             Ok(tree) => self.commands(
                 host,
                 limits,
-                left - 1,
+                remaining - 1,
                 tree.text.as_str(),
                 &tree.script,
-                wanted,
+                needs_result,
             ),
-            Err(fault) => Err(Stop::of_text(fault)),
+            Err(fault) => Err(Stop::from_text_fault(fault)),
         }
     }
 
@@ -83,37 +84,37 @@ impl Evaluator {
     /// `parsed`. The result isn't needed.
     #[cycle(evaluate)]
     #[tactic(none)]
-    fn script_again<H: Host>(
+    fn repeated_script<H: Host>(
         &mut self,
         host: &mut H,
         limits: Limits,
-        left: u32,
+        remaining: u32,
         text: &str,
         parsed: &mut Option<Rc<OwnedScript>>,
     ) -> Result<String, Stop>
-        requires { IsTreeOf text.now parsed.old }
-        ensures comes { ComesToText false limits.value_bytes result
-            (λ t. Leads limits.commands (rule limits.value_bytes)
-            (rule limits.value_bytes (plans.Script left text.now self.old.variables))
-            (point (H.oracle host.old) (H.told host.old) self.old.used)
+        requires { IsScriptTree text.now parsed.old }
+        ensures evaluates_to { EvaluatesToText false limits.value_bytes result
+            (λ t. Simulates limits.commands (rule limits.value_bytes)
+            (rule limits.value_bytes (plans.Script remaining text.now self.old.variables))
+            (point (H.oracle host.old) (H.trace host.old) self.old.used)
             (after result (λ _ s. finish t s) self.new.variables)
-            (point (H.oracle host.new) (H.told host.new) self.new.used)) }
-        ensures later { Later self.old self.new }
-        ensures parsed { IsTreeOf text.now parsed.new }
+            (point (H.oracle host.new) (H.trace host.new) self.new.used)) }
+        ensures only_grows { OnlyGrows self.old self.new }
+        ensures parsed { IsScriptTree text.now parsed.new }
     {
-        if left == 0 {
+        if remaining == 0 {
             return Err(Stop::Halted(Halt::TooDeep));
         }
-        match tree_again(&mut self.kept, text, parsed) {
+        match repeated_tree(&mut self.cache, text, parsed) {
             Ok(tree) => self.commands(
                 host,
                 limits,
-                left - 1,
+                remaining - 1,
                 tree.text.as_str(),
                 &tree.script,
                 false,
             ),
-            Err(fault) => Err(Stop::of_text(fault)),
+            Err(fault) => Err(Stop::from_text_fault(fault)),
         }
     }
 
@@ -124,21 +125,22 @@ impl Evaluator {
         &mut self,
         host: &mut H,
         limits: Limits,
-        left: u32,
+        remaining: u32,
         source: &str,
         script: &Script<ByteRange>,
     ) -> Result<String, Stop>
-        ensures comes { (k : Next) → Leads limits.commands (rule limits.value_bytes)
-            (Runs (plans.Bracket left (script_view (shown source.now) script.now) self.old.variables) (on_normal k))
-            (point (H.oracle host.old) (H.told host.old) self.old.used)
+        ensures evaluates_to { (k : Next) → Simulates limits.commands (rule limits.value_bytes)
+            (Runs (plans.Bracket remaining (script_view (range_text source.now) script.now) self.old.variables)
+            (on_normal k))
+            (point (H.oracle host.old) (H.trace host.old) self.old.used)
             (after result (λ t s. k (string_bytes t) s) self.new.variables)
-            (point (H.oracle host.new) (H.told host.new) self.new.used) }
-        ensures later { Later self.old self.new }
+            (point (H.oracle host.new) (H.trace host.new) self.new.used) }
+        ensures only_grows { OnlyGrows self.old self.new }
     {
-        if left == 0 {
+        if remaining == 0 {
             return Err(Stop::Halted(Halt::TooDeep));
         }
-        self.commands(host, limits, left - 1, source, script, true)
+        self.commands(host, limits, remaining - 1, source, script, true)
     }
 
     /// Evaluates the commands of a script in turn; the result is the last command's.
@@ -148,23 +150,23 @@ impl Evaluator {
         &mut self,
         host: &mut H,
         limits: Limits,
-        left: u32,
+        remaining: u32,
         source: &str,
         script: &Script<ByteRange>,
-        wanted: bool,
+        needs_result: bool,
     ) -> Result<String, Stop>
-        ensures comes { ComesToText wanted limits.value_bytes result
-            (λ t. Leads limits.commands (rule limits.value_bytes)
-            (rules.commands (bounds limits.value_bytes left) (script_view (shown source.now) script.now) []
+        ensures evaluates_to { EvaluatesToText needs_result limits.value_bytes result
+            (λ t. Simulates limits.commands (rule limits.value_bytes)
+            (rules.commands (bounds limits.value_bytes remaining) (script_view (range_text source.now) script.now) []
             self.old.variables)
-            (point (H.oracle host.old) (H.told host.old) self.old.used)
+            (point (H.oracle host.old) (H.trace host.old) self.old.used)
             (after result (λ _ s. finish t s) self.new.variables)
-            (point (H.oracle host.new) (H.told host.new) self.new.used)) }
-        ensures later { Later self.old self.new }
+            (point (H.oracle host.new) (H.trace host.new) self.new.used)) }
+        ensures only_grows { OnlyGrows self.old self.new }
     {
         let mut last = String::new(self.alloc);
         for command in &script.commands {
-            last = self.command(host, limits, left, source, command, wanted)?;
+            last = self.command(host, limits, remaining, source, command, needs_result)?;
         }
         Ok(last)
     }
@@ -178,28 +180,28 @@ impl Evaluator {
         &mut self,
         host: &mut H,
         limits: Limits,
-        left: u32,
+        remaining: u32,
         source: &str,
         command: &Command<ByteRange>,
-        wanted: bool,
+        needs_result: bool,
     ) -> Result<String, Stop>
-        ensures comes { ComesToText wanted limits.value_bytes result (λ t. (k : Next)
-            → Leads limits.commands (rule limits.value_bytes)
-            (Counts (pieces.words (bounds limits.value_bytes left) (command_view (shown source.now)
+        ensures evaluates_to { EvaluatesToText needs_result limits.value_bytes result (λ t. (k : Next)
+            → Simulates limits.commands (rule limits.value_bytes)
+            (Counts (pieces.words (bounds limits.value_bytes remaining) (command_view (range_text source.now)
             command.now).words []
-            self.old.variables (λ texts s1. called (bounds limits.value_bytes left) texts s1
+            self.old.variables (λ texts s1. called (bounds limits.value_bytes remaining) texts s1
             (λ u s2. sized limits.value_bytes u (k u s2)))))
-            (point (H.oracle host.old) (H.told host.old) self.old.used)
+            (point (H.oracle host.old) (H.trace host.old) self.old.used)
             (after result (λ _ s. k t s) self.new.variables)
-            (point (H.oracle host.new) (H.told host.new) self.new.used)) }
-        ensures later { Later self.old self.new }
+            (point (H.oracle host.new) (H.trace host.new) self.new.used)) }
+        ensures only_grows { OnlyGrows self.old self.new }
     {
         self.count(limits)?;
         if let Some(form) = literal_form(limits, source, &command.words) {
-            return self.form(host, limits, left, form, wanted);
+            return self.form(host, limits, remaining, form, needs_result);
         }
-        let texts = self.words(host, limits, left, source, &command.words)?;
-        self.called(host, limits, left, &texts, wanted)
+        let texts = self.words(host, limits, remaining, source, &command.words)?;
+        self.called(host, limits, remaining, &texts, needs_result)
     }
 
     /// The values of the words of a command, from left to right, with the words that `{*}` makes.
@@ -209,21 +211,23 @@ impl Evaluator {
         &mut self,
         host: &mut H,
         limits: Limits,
-        left: u32,
+        remaining: u32,
         source: &str,
         words: &[Word<ByteRange>],
     ) -> Result<Vec<String>, Stop>
-        ensures comes { (k : List Text → State → plans.Step) → Leads limits.commands (rule limits.value_bytes)
-            (pieces.words (bounds limits.value_bytes left) (words_of (map (word_view (shown source.now)) words.now)) []
+        ensures evaluates_to { (k : List Text → State → plans.Step) → Simulates limits.commands
+            (rule limits.value_bytes)
+            (pieces.words (bounds limits.value_bytes remaining)
+            (words_of (map (word_view (range_text source.now)) words.now)) []
             self.old.variables k)
-            (point (H.oracle host.old) (H.told host.old) self.old.used)
+            (point (H.oracle host.old) (H.trace host.old) self.old.used)
             (after result (λ ts s. k (map string_bytes ts.items) s) self.new.variables)
-            (point (H.oracle host.new) (H.told host.new) self.new.used) }
-        ensures later { Later self.old self.new }
+            (point (H.oracle host.new) (H.trace host.new) self.new.used) }
+        ensures only_grows { OnlyGrows self.old self.new }
     {
         let mut texts = Vec::new(self.alloc);
         for word in words {
-            let text = self.word(host, limits, left, source, word.parts.as_slice())?;
+            let text = self.word(host, limits, remaining, source, word.parts.as_slice())?;
             push_words(self.alloc, &mut texts, word.expands, text)?;
         }
         Ok(texts)
@@ -236,24 +240,24 @@ impl Evaluator {
         &mut self,
         host: &mut H,
         limits: Limits,
-        left: u32,
+        remaining: u32,
         source: &str,
         parts: &[Part<ByteRange>],
     ) -> Result<String, Stop>
-        ensures comes { (k : Next) → Leads limits.commands (rule limits.value_bytes)
-            (pieces.parts (bounds limits.value_bytes left) (parts_view (shown source.now) parts.now) []
+        ensures evaluates_to { (k : Next) → Simulates limits.commands (rule limits.value_bytes)
+            (pieces.parts (bounds limits.value_bytes remaining) (parts_view (range_text source.now) parts.now) []
             self.old.variables k)
-            (point (H.oracle host.old) (H.told host.old) self.old.used)
+            (point (H.oracle host.old) (H.trace host.old) self.old.used)
             (after result (λ t s. k (string_bytes t) s) self.new.variables)
-            (point (H.oracle host.new) (H.told host.new) self.new.used) }
-        ensures later { Later self.old self.new }
+            (point (H.oracle host.new) (H.trace host.new) self.new.used) }
+        ensures only_grows { OnlyGrows self.old self.new }
     {
         if let Some(range) = literal(parts) {
             let text = String::from_str(self.alloc, range.of(source))?;
             return sized(limits, text);
         }
         let start = Control::Parts(String::new(self.alloc), parts);
-        self.value(host, limits, left, source, start)
+        self.value(host, limits, remaining, source, start)
     }
 
     /// The value of a word or of an expression: steps of the substitution, between which brackets are evaluated.
@@ -263,21 +267,21 @@ impl Evaluator {
         &mut self,
         host: &mut H,
         limits: Limits,
-        left: u32,
+        remaining: u32,
         source: &'a str,
         start: Control<'a>,
     ) -> Result<String, Stop>
-        ensures comes { (k : Next) → Leads limits.commands (rule limits.value_bytes)
-            (control_plan source.entry.now (bounds limits.value_bytes left) start.entry self.old.variables k)
-            (point (H.oracle host.old) (H.told host.old) self.old.used)
+        ensures evaluates_to { (k : Next) → Simulates limits.commands (rule limits.value_bytes)
+            (control_plan source.entry.now (bounds limits.value_bytes remaining) start.entry self.old.variables k)
+            (point (H.oracle host.old) (H.trace host.old) self.old.used)
             (after result (λ t s. k (string_bytes t) s) self.new.variables)
-            (point (H.oracle host.new) (H.told host.new) self.new.used) }
-        ensures later { Later self.old self.new }
+            (point (H.oracle host.new) (H.trace host.new) self.new.used) }
+        ensures only_grows { OnlyGrows self.old self.new }
     {
         let mut stack = Vec::new(self.alloc);
         let mut control = start;
         loop {
-            let context = Context {
+            let context = SubstitutionContext {
                 alloc: self.alloc,
                 limits,
                 source,
@@ -287,7 +291,7 @@ impl Evaluator {
                 Step::Next(next) => control = next,
                 Step::Done(value) => return Ok(value),
                 Step::Bracket(script) => {
-                    let value = self.bracket(host, limits, left, source, script)?;
+                    let value = self.bracket(host, limits, remaining, source, script)?;
                     control = Control::Value(value);
                 }
             }
@@ -301,39 +305,40 @@ impl Evaluator {
         &mut self,
         host: &mut H,
         limits: Limits,
-        left: u32,
+        remaining: u32,
         text: &str,
     ) -> Result<String, Stop>
-        ensures comes { (k : Next) → Leads limits.commands (rule limits.value_bytes)
-            (express (bounds limits.value_bytes left) text.now self.old.variables k)
-            (point (H.oracle host.old) (H.told host.old) self.old.used)
+        ensures evaluates_to { (k : Next) → Simulates limits.commands (rule limits.value_bytes)
+            (express (bounds limits.value_bytes remaining) text.now self.old.variables k)
+            (point (H.oracle host.old) (H.trace host.old) self.old.used)
             (after result (λ t s. k (string_bytes t) s) self.new.variables)
-            (point (H.oracle host.new) (H.told host.new) self.new.used) }
-        ensures later { Later self.old self.new }
+            (point (H.oracle host.new) (H.trace host.new) self.new.used) }
+        ensures only_grows { OnlyGrows self.old self.new }
     {
-        let tree = express_tree(self.alloc, &mut self.kept, text)?;
-        self.tree_value(host, limits, left, &tree)
+        let tree = expression_tree(self.alloc, &mut self.cache, text)?;
+        self.expression_value(host, limits, remaining, &tree)
     }
 
     /// The value of an expression whose text is parsed; a whole number is written in decimal.
     #[cycle(evaluate)]
     #[tactic(none)]
-    fn tree_value<H: Host>(
+    fn expression_value<H: Host>(
         &mut self,
         host: &mut H,
         limits: Limits,
-        left: u32,
+        remaining: u32,
         tree: &OwnedExpr,
     ) -> Result<String, Stop>
-        ensures comes { (k : Next) → Leads limits.commands (rule limits.value_bytes)
-            (expressed (bounds limits.value_bytes left) (expression.owned_view tree.now) self.old.variables k)
-            (point (H.oracle host.old) (H.told host.old) self.old.used)
+        ensures evaluates_to { (k : Next) → Simulates limits.commands (rule limits.value_bytes)
+            (expression_plan (bounds limits.value_bytes remaining)
+            (expression.owned_view tree.now) self.old.variables k)
+            (point (H.oracle host.old) (H.trace host.old) self.old.used)
             (after result (λ t s. k (string_bytes t) s) self.new.variables)
-            (point (H.oracle host.new) (H.told host.new) self.new.used) }
-        ensures later { Later self.old self.new }
+            (point (H.oracle host.new) (H.trace host.new) self.new.used) }
+        ensures only_grows { OnlyGrows self.old self.new }
     {
         let start = Control::Expression(&tree.expression);
-        let value = self.value(host, limits, left, tree.text.as_str(), start)?;
+        let value = self.value(host, limits, remaining, tree.text.as_str(), start)?;
         let value = normal(self.alloc, value)?;
         sized(limits, value)
     }
@@ -345,18 +350,18 @@ impl Evaluator {
         &mut self,
         host: &mut H,
         limits: Limits,
-        left: u32,
+        remaining: u32,
         text: &str,
     ) -> Result<bool, Stop>
-        ensures comes { (k : Bool → State → plans.Step) → Leads limits.commands (rule limits.value_bytes)
-            (decide (bounds limits.value_bytes left) text.now self.old.variables k)
-            (point (H.oracle host.old) (H.told host.old) self.old.used)
+        ensures evaluates_to { (k : Bool → State → plans.Step) → Simulates limits.commands (rule limits.value_bytes)
+            (decide (bounds limits.value_bytes remaining) text.now self.old.variables k)
+            (point (H.oracle host.old) (H.trace host.old) self.old.used)
             (after result k self.new.variables)
-            (point (H.oracle host.new) (H.told host.new) self.new.used) }
-        ensures later { Later self.old self.new }
+            (point (H.oracle host.new) (H.trace host.new) self.new.used) }
+        ensures only_grows { OnlyGrows self.old self.new }
     {
-        let tree = express_tree(self.alloc, &mut self.kept, text)?;
-        self.holds(host, limits, left, &tree)
+        let tree = expression_tree(self.alloc, &mut self.cache, text)?;
+        self.holds(host, limits, remaining, &tree)
     }
 
     /// Whether an expression whose text is parsed holds as a condition.
@@ -366,20 +371,20 @@ impl Evaluator {
         &mut self,
         host: &mut H,
         limits: Limits,
-        left: u32,
+        remaining: u32,
         tree: &OwnedExpr,
     ) -> Result<bool, Stop>
-        ensures comes { (k : Bool → State → plans.Step) → Leads limits.commands (rule limits.value_bytes)
-            (decided (bounds limits.value_bytes left) (expression.owned_view tree.now) self.old.variables k)
-            (point (H.oracle host.old) (H.told host.old) self.old.used)
+        ensures evaluates_to { (k : Bool → State → plans.Step) → Simulates limits.commands (rule limits.value_bytes)
+            (condition_plan (bounds limits.value_bytes remaining) (expression.owned_view tree.now) self.old.variables k)
+            (point (H.oracle host.old) (H.trace host.old) self.old.used)
             (after result k self.new.variables)
-            (point (H.oracle host.new) (H.told host.new) self.new.used) }
-        ensures later { Later self.old self.new }
+            (point (H.oracle host.new) (H.trace host.new) self.new.used) }
+        ensures only_grows { OnlyGrows self.old self.new }
     {
         if let Some(holds) = self.comparison(limits, tree)? {
             return Ok(holds);
         }
-        let value = self.tree_value(host, limits, left, tree)?;
+        let value = self.expression_value(host, limits, remaining, tree)?;
         Ok(truth(self.alloc, value.as_str())?)
     }
 
@@ -390,22 +395,22 @@ impl Evaluator {
         &mut self,
         host: &mut H,
         limits: Limits,
-        left: u32,
+        remaining: u32,
         body: &str,
         parsed: &mut Option<Rc<OwnedScript>>,
     ) -> Result<bool, Stop>
-        requires { IsTreeOf body.now parsed.old }
-        ensures comes { (again : State → plans.Step) → Leads limits.commands (rule limits.value_bytes)
-            (turn (bounds limits.value_bytes left) body.now self.old.variables again)
-            (point (H.oracle host.old) (H.told host.old) self.old.used)
+        requires { IsScriptTree body.now parsed.old }
+        ensures evaluates_to { (again : State → plans.Step) → Simulates limits.commands (rule limits.value_bytes)
+            (turn (bounds limits.value_bytes remaining) body.now self.old.variables again)
+            (point (H.oracle host.old) (H.trace host.old) self.old.used)
             (after result (loop_continuation again) self.new.variables)
-            (point (H.oracle host.new) (H.told host.new) self.new.used) }
-        ensures later { Later self.old self.new }
-        ensures parsed { IsTreeOf body.now parsed.new }
+            (point (H.oracle host.new) (H.trace host.new) self.new.used) }
+        ensures only_grows { OnlyGrows self.old self.new }
+        ensures parsed { IsScriptTree body.now parsed.new }
         ensures counted { IfOk result (λ more. (self.old.used < limits.commands) × (self.old.used < self.new.used)) }
     {
         self.count(limits)?;
-        after_turn(self.script_again(host, limits, left, body, parsed))
+        after_turn(self.repeated_script(host, limits, remaining, body, parsed))
     }
 
     /// The condition of a loop and, where it holds, a turn; whether the loop continues.
@@ -415,25 +420,26 @@ impl Evaluator {
         &mut self,
         host: &mut H,
         limits: Limits,
-        left: u32,
+        remaining: u32,
         condition: &OwnedExpr,
         body: &str,
         parsed: &mut Option<Rc<OwnedScript>>,
     ) -> Result<bool, Stop>
-        requires { IsTreeOf body.now parsed.old }
-        ensures comes { (again : State → plans.Step) → Leads limits.commands (rule limits.value_bytes)
-            (decided (bounds limits.value_bytes left) (expression.owned_view condition.now) self.old.variables
-            (guarded (bounds limits.value_bytes left) body.now again))
-            (point (H.oracle host.old) (H.told host.old) self.old.used)
+        requires { IsScriptTree body.now parsed.old }
+        ensures evaluates_to { (again : State → plans.Step) → Simulates limits.commands (rule limits.value_bytes)
+            (condition_plan (bounds limits.value_bytes remaining)
+            (expression.owned_view condition.now) self.old.variables
+            (guarded (bounds limits.value_bytes remaining) body.now again))
+            (point (H.oracle host.old) (H.trace host.old) self.old.used)
             (after result (loop_continuation again) self.new.variables)
-            (point (H.oracle host.new) (H.told host.new) self.new.used) }
-        ensures later { Later self.old self.new }
-        ensures parsed { IsTreeOf body.now parsed.new }
+            (point (H.oracle host.new) (H.trace host.new) self.new.used) }
+        ensures only_grows { OnlyGrows self.old self.new }
+        ensures parsed { IsScriptTree body.now parsed.new }
         ensures counted { IfOk result (λ more. more ≡ true
             → (self.old.used < limits.commands) × (self.old.used < self.new.used)) }
     {
-        if self.holds(host, limits, left, condition)? {
-            return self.turn(host, limits, left, body, parsed);
+        if self.holds(host, limits, remaining, condition)? {
+            return self.turn(host, limits, remaining, body, parsed);
         }
         Ok(false)
     }
@@ -445,21 +451,21 @@ impl Evaluator {
         &mut self,
         host: &mut H,
         limits: Limits,
-        left: u32,
+        remaining: u32,
         condition: &str,
         body: &str,
     ) -> Result<String, Stop>
-        ensures comes { (k : Next) → Leads limits.commands (rule limits.value_bytes)
-            (Runs (plans.While left condition.now body.now self.old.variables) (on_normal k))
-            (point (H.oracle host.old) (H.told host.old) self.old.used)
+        ensures evaluates_to { (k : Next) → Simulates limits.commands (rule limits.value_bytes)
+            (Runs (plans.While remaining condition.now body.now self.old.variables) (on_normal k))
+            (point (H.oracle host.old) (H.trace host.old) self.old.used)
             (after result (λ t s. k (string_bytes t) s) self.new.variables)
-            (point (H.oracle host.new) (H.told host.new) self.new.used) }
-        ensures later { Later self.old self.new }
+            (point (H.oracle host.new) (H.trace host.new) self.new.used) }
+        ensures only_grows { OnlyGrows self.old self.new }
     {
-        let tree = express_tree(self.alloc, &mut self.kept, condition)?;
+        let tree = expression_tree(self.alloc, &mut self.cache, condition)?;
         let mut parsed = None;
         loop {
-            if !self.guarded_turn(host, limits, left, &tree, body, &mut parsed)? {
+            if !self.guarded_turn(host, limits, remaining, &tree, body, &mut parsed)? {
                 return Ok(String::new(self.alloc));
             }
         }
@@ -472,22 +478,22 @@ impl Evaluator {
         &mut self,
         host: &mut H,
         limits: Limits,
-        left: u32,
+        remaining: u32,
         start: &str,
         condition: &str,
         next: &str,
         body: &str,
     ) -> Result<String, Stop>
-        ensures comes { (k : Next) → Leads limits.commands (rule limits.value_bytes)
-            (rules.form (bounds limits.value_bytes left) (forms.For start.now condition.now next.now body.now)
+        ensures evaluates_to { (k : Next) → Simulates limits.commands (rule limits.value_bytes)
+            (rules.form (bounds limits.value_bytes remaining) (forms.For start.now condition.now next.now body.now)
             self.old.variables k)
-            (point (H.oracle host.old) (H.told host.old) self.old.used)
+            (point (H.oracle host.old) (H.trace host.old) self.old.used)
             (after result (λ t s. k (string_bytes t) s) self.new.variables)
-            (point (H.oracle host.new) (H.told host.new) self.new.used) }
-        ensures later { Later self.old self.new }
+            (point (H.oracle host.new) (H.trace host.new) self.new.used) }
+        ensures only_grows { OnlyGrows self.old self.new }
     {
-        let _ = self.script(host, limits, left, start, false)?;
-        self.for_turns(host, limits, left, condition, next, body)
+        let _ = self.script(host, limits, remaining, start, false)?;
+        self.for_turns(host, limits, remaining, condition, next, body)
     }
 
     /// The turns of for(n), with the script `next` between them.
@@ -497,26 +503,26 @@ impl Evaluator {
         &mut self,
         host: &mut H,
         limits: Limits,
-        left: u32,
+        remaining: u32,
         condition: &str,
         next: &str,
         body: &str,
     ) -> Result<String, Stop>
-        ensures comes { (k : Next) → Leads limits.commands (rule limits.value_bytes)
-            (Runs (plans.For left condition.now next.now body.now self.old.variables) (on_normal k))
-            (point (H.oracle host.old) (H.told host.old) self.old.used)
+        ensures evaluates_to { (k : Next) → Simulates limits.commands (rule limits.value_bytes)
+            (Runs (plans.For remaining condition.now next.now body.now self.old.variables) (on_normal k))
+            (point (H.oracle host.old) (H.trace host.old) self.old.used)
             (after result (λ t s. k (string_bytes t) s) self.new.variables)
-            (point (H.oracle host.new) (H.told host.new) self.new.used) }
-        ensures later { Later self.old self.new }
+            (point (H.oracle host.new) (H.trace host.new) self.new.used) }
+        ensures only_grows { OnlyGrows self.old self.new }
     {
-        let tree = express_tree(self.alloc, &mut self.kept, condition)?;
+        let tree = expression_tree(self.alloc, &mut self.cache, condition)?;
         let mut parsed = None;
         let mut between = None;
         loop {
-            if !self.guarded_turn(host, limits, left, &tree, body, &mut parsed)? {
+            if !self.guarded_turn(host, limits, remaining, &tree, body, &mut parsed)? {
                 return Ok(String::new(self.alloc));
             }
-            if !after_next(self.script_again(host, limits, left, next, &mut between))? {
+            if !after_next(self.repeated_script(host, limits, remaining, next, &mut between))? {
                 return Ok(String::new(self.alloc));
             }
         }
@@ -529,22 +535,23 @@ impl Evaluator {
         &mut self,
         host: &mut H,
         limits: Limits,
-        left: u32,
+        remaining: u32,
         body: Option<&str>,
-        wanted: bool,
+        needs_result: bool,
     ) -> Result<String, Stop>
-        ensures comes { ComesToText wanted limits.value_bytes result (λ t. (k : Next)
-            → Leads limits.commands (rule limits.value_bytes)
-            (rules.otherwise (bounds limits.value_bytes left) (option_map (λ t. t.now) body.entry) self.old.variables
+        ensures evaluates_to { EvaluatesToText needs_result limits.value_bytes result (λ t. (k : Next)
+            → Simulates limits.commands (rule limits.value_bytes)
+            (rules.otherwise (bounds limits.value_bytes remaining)
+            (option_map (λ t. t.now) body.entry) self.old.variables
             (sized_next limits.value_bytes k))
-            (point (H.oracle host.old) (H.told host.old) self.old.used)
+            (point (H.oracle host.old) (H.trace host.old) self.old.used)
             (after result (λ _ s. k t s) self.new.variables)
-            (point (H.oracle host.new) (H.told host.new) self.new.used)) }
-        ensures later { Later self.old self.new }
+            (point (H.oracle host.new) (H.trace host.new) self.new.used)) }
+        ensures only_grows { OnlyGrows self.old self.new }
     {
         match body {
             None => Ok(String::new(self.alloc)),
-            Some(body) => self.script(host, limits, left, body, wanted),
+            Some(body) => self.script(host, limits, remaining, body, needs_result),
         }
     }
 
@@ -555,27 +562,27 @@ impl Evaluator {
         &mut self,
         host: &mut H,
         limits: Limits,
-        left: u32,
+        remaining: u32,
         branches: &[(&str, &str)],
         other: Option<&str>,
-        wanted: bool,
+        needs_result: bool,
     ) -> Result<String, Stop>
-        ensures comes { ComesToText wanted limits.value_bytes result (λ t. (k : Next)
-            → Leads limits.commands (rule limits.value_bytes)
-            (rules.branches (bounds limits.value_bytes left) (pair_texts branches.now) (option_map (λ t. t.now)
+        ensures evaluates_to { EvaluatesToText needs_result limits.value_bytes result (λ t. (k : Next)
+            → Simulates limits.commands (rule limits.value_bytes)
+            (rules.branches (bounds limits.value_bytes remaining) (pair_texts branches.now) (option_map (λ t. t.now)
             other.entry)
             self.old.variables (sized_next limits.value_bytes k))
-            (point (H.oracle host.old) (H.told host.old) self.old.used)
+            (point (H.oracle host.old) (H.trace host.old) self.old.used)
             (after result (λ _ s. k t s) self.new.variables)
-            (point (H.oracle host.new) (H.told host.new) self.new.used)) }
-        ensures later { Later self.old self.new }
+            (point (H.oracle host.new) (H.trace host.new) self.new.used)) }
+        ensures only_grows { OnlyGrows self.old self.new }
     {
         for (condition, body) in branches {
-            if self.decide(host, limits, left, condition)? {
-                return self.script(host, limits, left, body, wanted);
+            if self.decide(host, limits, remaining, condition)? {
+                return self.script(host, limits, remaining, body, needs_result);
             }
         }
-        self.otherwise(host, limits, left, other, wanted)
+        self.otherwise(host, limits, remaining, other, needs_result)
     }
 
     /// catch(n). The result of its script is always made, also where no variable takes it.
@@ -585,19 +592,20 @@ impl Evaluator {
         &mut self,
         host: &mut H,
         limits: Limits,
-        left: u32,
+        remaining: u32,
         body: &str,
         name: Option<&str>,
     ) -> Result<String, Stop>
-        ensures comes { (k : Next) → Leads limits.commands (rule limits.value_bytes)
-            (rules.form (bounds limits.value_bytes left) (forms.Catch body.now (option_map (λ v. v.now) name.entry))
+        ensures evaluates_to { (k : Next) → Simulates limits.commands (rule limits.value_bytes)
+            (rules.form (bounds limits.value_bytes remaining)
+            (forms.Catch body.now (option_map (λ v. v.now) name.entry))
             self.old.variables k)
-            (point (H.oracle host.old) (H.told host.old) self.old.used)
+            (point (H.oracle host.old) (H.trace host.old) self.old.used)
             (after result (λ t s. k (string_bytes t) s) self.new.variables)
-            (point (H.oracle host.new) (H.told host.new) self.new.used) }
-        ensures later { Later self.old self.new }
+            (point (H.oracle host.new) (H.trace host.new) self.new.used) }
+        ensures only_grows { OnlyGrows self.old self.new }
     {
-        let outcome = self.script(host, limits, left, body, true);
+        let outcome = self.script(host, limits, remaining, body, true);
         after_catch(self.alloc, &mut self.variables, limits, name, outcome)
     }
 
@@ -608,52 +616,66 @@ impl Evaluator {
         &mut self,
         host: &mut H,
         limits: Limits,
-        left: u32,
+        remaining: u32,
         form: Form<'_>,
-        wanted: bool,
+        needs_result: bool,
     ) -> Result<String, Stop>
-        ensures comes { ComesToText wanted limits.value_bytes result (λ t. (k : Next)
-            → Leads limits.commands (rule limits.value_bytes)
-            (rules.form (bounds limits.value_bytes left) (form_view form.entry) self.old.variables (sized_next
+        ensures evaluates_to { EvaluatesToText needs_result limits.value_bytes result (λ t. (k : Next)
+            → Simulates limits.commands (rule limits.value_bytes)
+            (rules.form (bounds limits.value_bytes remaining) (form_view form.entry) self.old.variables (sized_next
             limits.value_bytes k))
-            (point (H.oracle host.old) (H.told host.old) self.old.used)
+            (point (H.oracle host.old) (H.trace host.old) self.old.used)
             (after result (λ _ s. k t s) self.new.variables)
-            (point (H.oracle host.new) (H.told host.new) self.new.used)) }
-        ensures later { Later self.old self.new }
+            (point (H.oracle host.new) (H.trace host.new) self.new.used)) }
+        ensures only_grows { OnlyGrows self.old self.new }
     {
         match form {
             Form::Express(texts) => {
                 let text = concatenated(self.alloc, texts, limits.value_bytes)?;
-                within(limits, self.express(host, limits, left, text.as_str()))
+                within(limits, self.express(host, limits, remaining, text.as_str()))
             }
             Form::If(branches, other) => {
-                self.branches(host, limits, left, branches.as_slice(), other, wanted)
+                self.branches(
+                    host,
+                    limits,
+                    remaining,
+                    branches.as_slice(),
+                    other,
+                    needs_result,
+                )
             }
             Form::While(condition, body) => {
                 within(
                     limits,
-                    self.while_turns(host, limits, left, condition, body),
+                    self.while_turns(host, limits, remaining, condition, body),
                 )
             }
             Form::For(start, condition, next, body) => {
-                let outcome = self.for_loop(host, limits, left, start, condition, next, body);
+                let outcome = self.for_loop(host, limits, remaining, start, condition, next, body);
                 within(limits, outcome)
             }
             Form::Foreach(lists, body) => {
                 within(
                     limits,
-                    self.foreach(host, limits, left, lists.as_slice(), body),
+                    self.foreach(host, limits, remaining, lists.as_slice(), body),
                 )
             }
             Form::Switch(by_glob, text, patterns) => {
                 let body = chosen(by_glob, text, patterns.as_slice());
-                self.otherwise(host, limits, left, body, wanted)
+                self.otherwise(host, limits, remaining, body, needs_result)
             }
             Form::Catch(body, name) => {
-                within(limits, self.catch(host, limits, left, body, name))
+                within(limits, self.catch(host, limits, remaining, body, name))
             }
             Form::Simple(form) => {
-                plain(self.alloc, &mut self.variables, host, limits, wanted, form)
+                simple_command(
+                    self.alloc,
+                    &mut self.variables,
+                    host,
+                    limits,
+                    needs_result,
+                    form,
+                )
             }
         }
     }
@@ -666,25 +688,33 @@ impl Evaluator {
         &mut self,
         host: &mut H,
         limits: Limits,
-        left: u32,
+        remaining: u32,
         words: &[String],
-        wanted: bool,
+        needs_result: bool,
     ) -> Result<String, Stop>
-        ensures comes { ComesToText wanted limits.value_bytes result (λ t. (k : Next)
-            → Leads limits.commands (rule limits.value_bytes)
-            (called (bounds limits.value_bytes left) (map string_bytes words.now) self.old.variables (sized_next
+        ensures evaluates_to { EvaluatesToText needs_result limits.value_bytes result (λ t. (k : Next)
+            → Simulates limits.commands (rule limits.value_bytes)
+            (called (bounds limits.value_bytes remaining) (map string_bytes words.now) self.old.variables (sized_next
             limits.value_bytes k))
-            (point (H.oracle host.old) (H.told host.old) self.old.used)
+            (point (H.oracle host.old) (H.trace host.old) self.old.used)
             (after result (λ _ s. k t s) self.new.variables)
-            (point (H.oracle host.new) (H.told host.new) self.new.used)) }
-        ensures later { Later self.old self.new }
+            (point (H.oracle host.new) (H.trace host.new) self.new.used)) }
+        ensures only_grows { OnlyGrows self.old self.new }
     {
         let Some((name, operands)) = words.split_first() else {
             return Ok(String::new(self.alloc));
         };
         match value_command(self.alloc, words, limits.value_bytes)? {
             Some(value) => within(limits, Ok(value)),
-            None => self.core_command(host, limits, left, name.as_str(), operands, words, wanted),
+            None => self.core_command(
+                host,
+                limits,
+                remaining,
+                name.as_str(),
+                operands,
+                words,
+                needs_result,
+            ),
         }
     }
 
@@ -696,26 +726,34 @@ impl Evaluator {
         &mut self,
         host: &mut H,
         limits: Limits,
-        left: u32,
+        remaining: u32,
         name: &str,
         operands: &[String],
         words: &[String],
-        wanted: bool,
+        needs_result: bool,
     ) -> Result<String, Stop>
         requires { map string_bytes words.now ≡ name.now ∷ map string_bytes operands.now }
-        ensures comes { ComesToText wanted limits.value_bytes result (λ t. (k : Next)
-            → Leads limits.commands (rule limits.value_bytes)
-            (rules.core_command (bounds limits.value_bytes left) name.now (map string_bytes operands.now)
+        ensures evaluates_to { EvaluatesToText needs_result limits.value_bytes result (λ t. (k : Next)
+            → Simulates limits.commands (rule limits.value_bytes)
+            (rules.core_command (bounds limits.value_bytes remaining) name.now (map string_bytes operands.now)
             self.old.variables (sized_next limits.value_bytes k)
             (forms.core_form name.now (map string_bytes operands.now)))
-            (point (H.oracle host.old) (H.told host.old) self.old.used)
+            (point (H.oracle host.old) (H.trace host.old) self.old.used)
             (after result (λ _ s. k t s) self.new.variables)
-            (point (H.oracle host.new) (H.told host.new) self.new.used)) }
-        ensures later { Later self.old self.new }
+            (point (H.oracle host.new) (H.trace host.new) self.new.used)) }
+        ensures only_grows { OnlyGrows self.old self.new }
     {
         match core_form(self.alloc, name, operands)? {
-            Some(form) => self.form(host, limits, left, form, wanted),
-            None => self.other_command(host, limits, left, name, operands, words, wanted),
+            Some(form) => self.form(host, limits, remaining, form, needs_result),
+            None => self.other_command(
+                host,
+                limits,
+                remaining,
+                name,
+                operands,
+                words,
+                needs_result,
+            ),
         }
     }
 
@@ -727,37 +765,37 @@ impl Evaluator {
         &mut self,
         host: &mut H,
         limits: Limits,
-        left: u32,
+        remaining: u32,
         name: &str,
         operands: &[String],
         words: &[String],
-        wanted: bool,
+        needs_result: bool,
     ) -> Result<String, Stop>
         requires { map string_bytes words.now ≡ name.now ∷ map string_bytes operands.now }
-        ensures comes { ComesToText wanted limits.value_bytes result (λ t. (k : Next)
-            → Leads limits.commands (rule limits.value_bytes)
-            (rules.other_command (bounds limits.value_bytes left) name.now (map string_bytes operands.now)
+        ensures evaluates_to { EvaluatesToText needs_result limits.value_bytes result (λ t. (k : Next)
+            → Simulates limits.commands (rule limits.value_bytes)
+            (rules.other_command (bounds limits.value_bytes remaining) name.now (map string_bytes operands.now)
             self.old.variables (sized_next limits.value_bytes k)
             (lookup self.old.variables.procedures name.now))
-            (point (H.oracle host.old) (H.told host.old) self.old.used)
+            (point (H.oracle host.old) (H.trace host.old) self.old.used)
             (after result (λ _ s. k t s) self.new.variables)
-            (point (H.oracle host.new) (H.told host.new) self.new.used)) }
-        ensures later { Later self.old self.new }
+            (point (H.oracle host.new) (H.trace host.new) self.new.used)) }
+        ensures only_grows { OnlyGrows self.old self.new }
     {
         match self.variables.procedure(name) {
             Some(procedure) => {
                 let procedure = procedure.clone()?;
                 within(
                     limits,
-                    self.call(host, limits, left, name, &procedure, operands),
+                    self.call(host, limits, remaining, name, &procedure, operands),
                 )
             }
-            None => unknown(
+            None => unknown_command(
                 self.alloc,
                 &self.variables,
                 host,
                 limits,
-                wanted,
+                needs_result,
                 name,
                 operands,
                 words,
@@ -772,24 +810,24 @@ impl Evaluator {
         &mut self,
         host: &mut H,
         limits: Limits,
-        left: u32,
+        remaining: u32,
         name: &str,
         procedure: &Procedure,
         words: &[String],
     ) -> Result<String, Stop>
-        ensures comes { (k : Next) → Leads limits.commands (rule limits.value_bytes)
-            (rules.call (bounds limits.value_bytes left) name.now (procedure_view procedure.now) (map string_bytes
+        ensures evaluates_to { (k : Next) → Simulates limits.commands (rule limits.value_bytes)
+            (rules.call (bounds limits.value_bytes remaining) name.now (procedure_view procedure.now) (map string_bytes
             words.now)
             self.old.variables k)
-            (point (H.oracle host.old) (H.told host.old) self.old.used)
+            (point (H.oracle host.old) (H.trace host.old) self.old.used)
             (after result (λ t s. k (string_bytes t) s) self.new.variables)
-            (point (H.oracle host.new) (H.told host.new) self.new.used) }
-        ensures later { Later self.old self.new }
+            (point (H.oracle host.new) (H.trace host.new) self.new.used) }
+        ensures only_grows { OnlyGrows self.old self.new }
     {
-        let values = allotted(self.alloc, name, &procedure.parameters, words)?;
+        let values = parameter_values(self.alloc, name, &procedure.parameters, words)?;
         let caller = self.variables.enter(self.alloc);
         assign(self.alloc, &mut self.variables, limits.value_bytes, values)?;
-        let outcome = self.script(host, limits, left, procedure.body.as_str(), true);
+        let outcome = self.script(host, limits, remaining, procedure.body.as_str(), true);
         self.variables.leave(caller);
         after_call(self.alloc, outcome)
     }
@@ -801,20 +839,20 @@ impl Evaluator {
         &mut self,
         host: &mut H,
         limits: Limits,
-        left: u32,
+        remaining: u32,
         lists: &[(&str, &str)],
         body: &str,
     ) -> Result<String, Stop>
-        ensures comes { (k : Next) → Leads limits.commands (rule limits.value_bytes)
-            (rules.form (bounds limits.value_bytes left) (forms.Foreach (pair_texts lists.now) body.now)
+        ensures evaluates_to { (k : Next) → Simulates limits.commands (rule limits.value_bytes)
+            (rules.form (bounds limits.value_bytes remaining) (forms.Foreach (pair_texts lists.now) body.now)
             self.old.variables k)
-            (point (H.oracle host.old) (H.told host.old) self.old.used)
+            (point (H.oracle host.old) (H.trace host.old) self.old.used)
             (after result (λ t s. k (string_bytes t) s) self.new.variables)
-            (point (H.oracle host.new) (H.told host.new) self.new.used) }
-        ensures later { Later self.old self.new }
+            (point (H.oracle host.new) (H.trace host.new) self.new.used) }
+        ensures only_grows { OnlyGrows self.old self.new }
     {
         let mut loops = Loops::of(self.alloc, lists)?;
-        self.foreach_turns(host, limits, left, &mut loops, body)
+        self.foreach_turns(host, limits, remaining, &mut loops, body)
     }
 
     /// The turns of foreach(n), until the items of all lists are used.
@@ -824,16 +862,16 @@ impl Evaluator {
         &mut self,
         host: &mut H,
         limits: Limits,
-        left: u32,
+        remaining: u32,
         loops: &mut Loops,
         body: &str,
     ) -> Result<String, Stop>
-        ensures comes { (k : Next) → Leads limits.commands (rule limits.value_bytes)
-            (Runs (plans.Foreach left loops.old body.now self.old.variables) (on_normal k))
-            (point (H.oracle host.old) (H.told host.old) self.old.used)
+        ensures evaluates_to { (k : Next) → Simulates limits.commands (rule limits.value_bytes)
+            (Runs (plans.Foreach remaining loops.old body.now self.old.variables) (on_normal k))
+            (point (H.oracle host.old) (H.trace host.old) self.old.used)
             (after result (λ t s. k (string_bytes t) s) self.new.variables)
-            (point (H.oracle host.new) (H.told host.new) self.new.used) }
-        ensures later { Later self.old self.new }
+            (point (H.oracle host.new) (H.trace host.new) self.new.used) }
+        ensures only_grows { OnlyGrows self.old self.new }
     {
         let mut parsed = None;
         loop {
@@ -841,7 +879,7 @@ impl Evaluator {
                 return Ok(String::new(self.alloc));
             }
             begin_turn(self.alloc, &mut self.variables, limits, loops)?;
-            if !self.turn(host, limits, left, body, &mut parsed)? {
+            if !self.turn(host, limits, remaining, body, &mut parsed)? {
                 return Ok(String::new(self.alloc));
             }
         }

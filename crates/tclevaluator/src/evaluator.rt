@@ -1,23 +1,23 @@
 //! The state of an evaluation, the count of commands, and results within the limit on values.
 ghost use Rattle.std.specs.Prelude.{◌≡◌, ◌≤◌, ◌<◌, ◌+◌, ℕ, Bool, MatchResult, IfOk, IfErr, IfSome, length, string_bytes};
-ghost use Rattle.tclrules.specs.Leads.{Leads, Point};
+ghost use Rattle.tclrules.specs.Simulates.{Simulates, Point};
 ghost use Rattle.tclrules.specs.Variables.{State};
 ghost use Rattle.tclrules.specs.Plans as plans;
 ghost use Rattle.tclrules.specs.Plans.{Job, Next, sized};
-ghost use Rattle.tclsteps.specs.Stops.{after, stopped};
+ghost use Rattle.tclsubstitution.specs.Stops.{after, stopped};
 ghost use Rattle.tclexpr.specs.Owned as expression;
-ghost use Rattle.tclsteps.specs.Machine.{bounds};
-ghost use Rattle.tclendings.specs.Completions.{ComesToText, decided};
+ghost use Rattle.tclsubstitution.specs.Machine.{bounds};
+ghost use Rattle.tclcontrol.specs.Completions.{EvaluatesToText, condition_plan};
 ghost use Rattle.tcloperators.specs.declared.operators.Computed.TheVariants.{Truth};
-ghost use Rattle.tclsteps.specs.declared.stop.Stop.TheVariants.{Halted};
-ghost use Rattle.tclsteps.specs.declared.stop.Halt.TheVariants.{TooManyCommands};
+ghost use Rattle.tclsubstitution.specs.declared.stop.Stop.TheVariants.{Halted};
+ghost use Rattle.tclsubstitution.specs.declared.stop.Halt.TheVariants.{TooManyCommands};
 
 use std::alloc::Global;
+use tclcache::Cache;
 use tclexpr::OwnedExpr;
-use tclkept::Kept;
 use tcloperators::Computed;
 use tclrules::Limits;
-use tclsteps::{Context, Halt, Stop, compute_at_hand};
+use tclsubstitution::{Halt, Stop, SubstitutionContext, compute_borrowed};
 use tclvariables::Variables;
 
 /// The state of an evaluation.
@@ -26,7 +26,7 @@ pub struct Evaluator {
     /// The allocator.
     pub alloc: Global,
     /// The trees of texts that were parsed before.
-    pub kept: Kept,
+    pub cache: Cache,
     /// The variables and procedures, and the byte offset of the file's current command.
     pub variables: Variables,
     /// How many commands and turns of loops were counted.
@@ -41,7 +41,7 @@ impl Evaluator {
             (λ stop. (limits.commands ≤ self.old.used) × (self.new.used ≡ self.old.used) × (stop ≡ Halted
             TooManyCommands)) }
         ensures variables { self.new.variables ≡ self.old.variables }
-        ensures kept { self.new.kept ≡ self.old.kept }
+        ensures cache { self.new.cache ≡ self.old.cache }
     {
         if self.used >= limits.commands {
             return Err(Stop::Halted(Halt::TooManyCommands));
@@ -53,22 +53,24 @@ impl Evaluator {
     /// Whether a comparison holds whose operands are literals or scalar variables; None for any other expression, which
     /// is evaluated by steps.
     pub(crate) fn comparison(&self, limits: Limits, tree: &OwnedExpr) -> Result<Option<bool>, Stop>
-        ensures found { IfOk result (λ found. IfSome found (λ holds. (most left : ℕ) (r : Job → plans.Step)
-            (k : Bool → State → plans.Step) (x : Point) → Leads most r
-            (decided (bounds limits.value_bytes left) (expression.owned_view tree.now) self.now.variables k) x
+        ensures found { IfOk result (λ found. IfSome found (λ holds. (most remaining : ℕ) (r : Job → plans.Step)
+            (k : Bool → State → plans.Step) (x : Point) → Simulates most r
+            (condition_plan (bounds limits.value_bytes remaining)
+            (expression.owned_view tree.now) self.now.variables k) x
             (k holds self.now.variables) x)) }
-        ensures err { IfErr result (λ stop. (most left : ℕ) (r : Job → plans.Step)
-            (k : Bool → State → plans.Step) (x : Point) → Leads most r
-            (decided (bounds limits.value_bytes left) (expression.owned_view tree.now) self.now.variables k) x
+        ensures err { IfErr result (λ stop. (most remaining : ℕ) (r : Job → plans.Step)
+            (k : Bool → State → plans.Step) (x : Point) → Simulates most r
+            (condition_plan (bounds limits.value_bytes remaining)
+            (expression.owned_view tree.now) self.now.variables k) x
             (stopped stop self.now.variables) x) }
     {
-        let context = Context {
+        let context = SubstitutionContext {
             alloc: self.alloc,
             limits,
             source: tree.text.as_str(),
             variables: &self.variables,
         };
-        match compute_at_hand(context, &tree.expression)? {
+        match compute_borrowed(context, &tree.expression)? {
             Some(made) => Ok(truth_of(limits, made)),
             None => Ok(None),
         }
@@ -90,8 +92,8 @@ fn truth_of(limits: Limits, made: Computed) -> Option<bool>
 #[tactic(none)]
 pub(crate) fn sized(limits: Limits, text: String) -> Result<String, Stop>
     ensures within { IfOk result (λ t. length (string_bytes t) ≤ limits.value_bytes) }
-    ensures comes { (most : ℕ) (r : Job → plans.Step) (k : Next) (s : State) (x : Point)
-        → Leads most r (sized limits.value_bytes (string_bytes text) (k (string_bytes text) s)) x
+    ensures evaluates_to { (most : ℕ) (r : Job → plans.Step) (k : Next) (s : State) (x : Point)
+        → Simulates most r (sized limits.value_bytes (string_bytes text) (k (string_bytes text) s)) x
         (after result (λ t s. k (string_bytes t) s) s) x }
 {
     if text.len() > limits.value_bytes {
@@ -103,9 +105,10 @@ pub(crate) fn sized(limits: Limits, text: String) -> Result<String, Stop>
 /// The completion of a command, with its result judged by the limit on values.
 #[tactic(none)]
 pub(crate) fn within(limits: Limits, outcome: Result<String, Stop>) -> Result<String, Stop>
-    ensures { (wanted : Bool) (s : State) → ComesToText wanted limits.value_bytes result (λ t. (most : ℕ) (r : Job →
+    ensures { (needs_result : Bool) (s : State) → EvaluatesToText needs_result limits.value_bytes result
+        (λ t. (most : ℕ) (r : Job →
         plans.Step)
-        (k : Next) (x : Point) → Leads most r
+        (k : Next) (x : Point) → Simulates most r
         (after outcome (λ v s'. sized limits.value_bytes (string_bytes v) (k (string_bytes v) s')) s) x
         (after result (λ _ s'. k t s') s) x) }
 {

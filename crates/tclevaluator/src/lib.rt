@@ -1,6 +1,6 @@
-//! The evaluation of scripts: commands, substitution of their words, loops, conditions and calls of procedures, which
-//! evaluate one another. Takes memory, changes what its `Evaluator` holds, and asks the host. Used by tcleval, which
-//! evaluates whole files.
+//! The evaluation of scripts: commands, substitution of their words, loops, conditions and calls of procedures.
+//! Takes memory, changes what its `Evaluator` holds, and asks the host.
+//! Used by tcleval, which evaluates whole files.
 #![tactic(auto)]
 
 mod evaluation;

@@ -12,7 +12,7 @@ ghost use Rattle.tclrules.specs.Words as pieces;
 ghost use Rattle.tclrules.specs.Rules as rules;
 ghost use Rattle.tclrules.specs.Forms.{core_form};
 ghost use Rattle.tclforms.specs.Views.{form_view};
-ghost use Rattle.tclsteps.specs.Machine.{shown, bounds};
+ghost use Rattle.tclsubstitution.specs.Machine.{range_text, bounds};
 
 use crate::words::literal;
 use tclforms::{Form, Simple};
@@ -21,8 +21,8 @@ use tclscript::{ByteRange, Word};
 
 /// The text of a word that is one literal part within the limit on values; None for any other word.
 fn literal_text<'t>(limits: Limits, source: &'t str, word: &Word<ByteRange>) -> Option<&'t str>
-    ensures { IfSome result (λ t. (left : ℕ) (s : State) (k : List Text → State → plans.Step)
-        → pieces.one_word (bounds limits.value_bytes left) (word_view (shown source.entry.now) word.now) s k
+    ensures { IfSome result (λ t. (remaining : ℕ) (s : State) (k : List Text → State → plans.Step)
+        → pieces.one_word (bounds limits.value_bytes remaining) (word_view (range_text source.entry.now) word.now) s k
         ≡ k (t.now ∷ []) s) }
 {
     if word.expands {
@@ -81,11 +81,11 @@ pub(crate) fn literal_form<'t>(
     source: &'t str,
     words: &'t [Word<ByteRange>],
 ) -> Option<Form<'t>>
-    ensures { IfSome result (λ form. (left : ℕ) (s : State) (k : Next)
-        → pieces.words (bounds limits.value_bytes left)
-        (words_of (map (word_view (shown source.entry.now)) words.entry.now)) [] s
-        (λ texts s1. rules.called (bounds limits.value_bytes left) texts s1 k)
-        ≡ rules.form (bounds limits.value_bytes left) (form_view form) s k) }
+    ensures { IfSome result (λ form. (remaining : ℕ) (s : State) (k : Next)
+        → pieces.words (bounds limits.value_bytes remaining)
+        (words_of (map (word_view (range_text source.entry.now)) words.entry.now)) [] s
+        (λ texts s1. rules.called (bounds limits.value_bytes remaining) texts s1 k)
+        ≡ rules.form (bounds limits.value_bytes remaining) (form_view form) s k) }
 {
     match words {
         [name] => form_alone(literal_text(limits, source, name)?),

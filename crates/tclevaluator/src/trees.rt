@@ -6,42 +6,43 @@ ghost use Rattle.tclscript.specs.Text.{script_of};
 ghost use Rattle.tclscript.specs.Owned as scripts;
 ghost use Rattle.tclexpr.specs.Text.{expr_of};
 ghost use Rattle.tclexpr.specs.Owned as expressions;
-ghost use Rattle.tcltext.specs.Numerals.{numeral};
+ghost use Rattle.tclnumber.specs.Numerals.{numeral};
 ghost use Rattle.tclchars.specs.Answers.{Gives};
 ghost use Rattle.tclchars.specs.Whole.{Reads};
 ghost use Rattle.tclchars.specs.declared.fault.TextFault.TheVariants.{OutOfMemory};
 ghost use Rattle.tclvalue.specs.Faults.{reason_of, GivesText};
-ghost use Rattle.tclchars.specs.Runs.{begins, front};
-ghost use Rattle.tclexpr.specs.Omitted.{begins_power, is_letter, is_operator_word, names_function, omitted_at};
+ghost use Rattle.tclchars.specs.Runs.{begins, take_while};
+ghost use Rattle.tclexpr.specs.UnsupportedSyntax.{begins_power, is_letter, is_operator_word, names_function, unsupported_at};
 ghost use Rattle.tclchars.specs.Classes.{is_name, begins_in};
 ghost use Rattle.tclrules.specs.Expressions.{fault_of, parsed, normal};
-ghost use Rattle.tclkept.specs.Kept.{BeginWith};
-ghost use Rattle.tclendings.specs.Completions.{IsTreeOf, IsReasonOf, value_fault};
+ghost use Rattle.tclcache.specs.Cache.{BeginWith};
+ghost use Rattle.tclcontrol.specs.Completions.{IsScriptTree, IsExpressionFault, value_fault};
 
 use std::alloc::{AllocError, Global};
 use std::rc::Rc;
-use tclchars::{Class, TextFault, split_front};
-use tclendings::left_out;
+use tclcache::Cache;
+use tclchars::{Class, TextFault, split_run};
+use tclcontrol::unsupported;
 use tclexpr::OwnedExpr;
-use tclkept::Kept;
+use tclnumber::{Numeral, read_number};
 use tclscript::OwnedScript;
-use tcltext::{Numeral, read_number};
 use tclvalue::ValueFault;
 
 /// The rest of a text from a byte offset on, where a character begins there. Where none does, no name that is
 /// unsupported begins there either.
-fn behind(text: &str, place: usize) -> Option<&str>
-    ensures { MatchOption result (omitted_at (drop place text.now) ≡ None) (λ rest. rest.now ≡ drop place text.now) }
+fn rest_at(text: &str, offset: usize) -> Option<&str>
+    ensures { MatchOption result (unsupported_at (drop offset text.now) ≡ None)
+        (λ rest. rest.now ≡ drop offset text.now) }
 {
-    if text.is_char_boundary(place) {
-        Some(text.split_at(place).1)
+    if text.is_char_boundary(offset) {
+        Some(text.split_at(offset).1)
     } else {
         None
     }
 }
 
 /// Whether a text begins with a letter or an underscore, as names of functions do.
-fn begins_letter(text: &str) -> bool
+fn begins_with_letter(text: &str) -> bool
     ensures { result ≡ begins_in is_letter text.now }
 {
     match text.as_bytes() {
@@ -51,7 +52,7 @@ fn begins_letter(text: &str) -> bool
 }
 
 /// Whether a text begins with an opening parenthesis.
-fn opens(text: &str) -> bool
+fn opens_parenthesis(text: &str) -> bool
     ensures { result ≡ begins 40 text.now }
 {
     text.as_bytes().first() == Some(&b'(')
@@ -67,10 +68,10 @@ fn is_operator_word(text: &str) -> bool
 /// The name of the function that a text begins with, where its parenthesis follows directly.
 fn function_named(text: &str) -> Option<&str>
     ensures { option_map (λ name. name.now) result
-        ≡ (if names_function text.now then Some (front is_name text.now) else None) }
+        ≡ (if names_function text.now then Some (take_while is_name text.now) else None) }
 {
-    let (name, rest) = split_front(text, Class::Name);
-    if begins_letter(text) && opens(rest) && !is_operator_word(name) {
+    let (name, rest) = split_run(text, Class::Name);
+    if begins_with_letter(text) && opens_parenthesis(rest) && !is_operator_word(name) {
         Some(name)
     } else {
         None
@@ -86,8 +87,8 @@ fn begins_power(text: &str) -> bool
 
 /// The name of the operator or function of expr(n) that is unsupported on purpose, where a text begins with one: `**`
 /// or any function.
-fn omitted_at(text: &str) -> Option<&str>
-    ensures { option_map (λ name. name.now) result ≡ omitted_at text.now }
+fn unsupported_at(text: &str) -> Option<&str>
+    ensures { option_map (λ name. name.now) result ≡ unsupported_at text.now }
 {
     if begins_power(text) {
         return Some("**");
@@ -96,7 +97,7 @@ fn omitted_at(text: &str) -> Option<&str>
 }
 
 /// The fault of an evaluation for a text that can't be parsed.
-fn of_text(fault: TextFault) -> ValueFault
+fn from_text_fault(fault: TextFault) -> ValueFault
     ensures { result ≡ value_fault fault }
 {
     match fault {
@@ -106,26 +107,26 @@ fn of_text(fault: TextFault) -> ValueFault
 }
 
 /// The name of what is unsupported at a byte offset of a text.
-fn omitted_from(text: &str, place: usize) -> Option<&str>
-    ensures { option_map (λ name. name.now) result ≡ omitted_at (drop place text.now) }
+fn unsupported_from(text: &str, offset: usize) -> Option<&str>
+    ensures { option_map (λ name. name.now) result ≡ unsupported_at (drop offset text.now) }
 {
-    match behind(text, place) {
-        Some(rest) => omitted_at(rest),
+    match rest_at(text, offset) {
+        Some(rest) => unsupported_at(rest),
         None => None,
     }
 }
 
 /// The fault of the evaluation of a text that is no expression: where it went wrong at an operator or a function that
 /// is unsupported, the fault names that.
-fn expr_fault(alloc: Global, text: &str, fault: TextFault) -> ValueFault
-    ensures { IsReasonOf text.now fault result }
+fn expression_fault(alloc: Global, text: &str, fault: TextFault) -> ValueFault
+    ensures { IsExpressionFault text.now fault result }
 {
     match fault {
-        TextFault::BadExpression(place) => match omitted_from(text, place) {
-            Some(name) => left_out(alloc, name),
-            None => ValueFault::Text(TextFault::BadExpression(place)),
+        TextFault::BadExpression(offset) => match unsupported_from(text, offset) {
+            Some(name) => unsupported(alloc, name),
+            None => ValueFault::Text(TextFault::BadExpression(offset)),
         },
-        fault => of_text(fault),
+        fault => from_text_fault(fault),
     }
 }
 
@@ -133,17 +134,17 @@ fn expr_fault(alloc: Global, text: &str, fault: TextFault) -> ValueFault
 ///
 /// Errors: `LeftOut` where the text goes wrong at an operator or a function that is unsupported, else `Text` with the
 /// fault of the text; `OutOfMemory`.
-pub(crate) fn express_tree(
+pub(crate) fn expression_tree(
     alloc: Global,
-    kept: &mut Kept,
+    cache: &mut Cache,
     text: &str,
 ) -> Result<Rc<OwnedExpr>, ValueFault>
     ensures tree { Gives reason_of (λ o. expressions.owned_view o.value) result (parsed text.now (expr_of text.now)) }
-    ensures begins { BeginWith kept.old kept.new }
+    ensures begins { BeginWith cache.old cache.new }
 {
-    match kept.expr_tree(text) {
+    match cache.expr_tree(text) {
         Ok(tree) => Ok(tree),
-        Err(fault) => Err(expr_fault(alloc, text, fault)),
+        Err(fault) => Err(expression_fault(alloc, text, fault)),
     }
 }
 
@@ -151,26 +152,26 @@ pub(crate) fn express_tree(
 /// the cache, and stands in `parsed` from then on.
 ///
 /// Errors: the fault of the text, or that memory ran out.
-pub(crate) fn tree_again(
-    kept: &mut Kept,
+pub(crate) fn repeated_tree(
+    cache: &mut Cache,
     text: &str,
     parsed: &mut Option<Rc<OwnedScript>>,
 ) -> Result<Rc<OwnedScript>, TextFault>
-    requires { IsTreeOf text.now parsed.old }
+    requires { IsScriptTree text.now parsed.old }
     ensures tree { Reads (λ tree. scripts.owned_view tree.value) result (script_of text.now) }
-    ensures parsed { IsTreeOf text.now parsed.new }
-    ensures begins { BeginWith kept.old kept.new }
+    ensures parsed { IsScriptTree text.now parsed.new }
+    ensures begins { BeginWith cache.old cache.new }
 {
     if let Some(tree) = parsed {
-        return shared(tree);
+        return share_tree(tree);
     }
-    let tree = kept.script_tree(text)?;
-    *parsed = Some(shared(&tree)?);
+    let tree = cache.script_tree(text)?;
+    *parsed = Some(share_tree(&tree)?);
     Ok(tree)
 }
 
 /// Another owner of a tree, which isn't copied.
-fn shared(tree: &Rc<OwnedScript>) -> Result<Rc<OwnedScript>, TextFault>
+fn share_tree(tree: &Rc<OwnedScript>) -> Result<Rc<OwnedScript>, TextFault>
     ensures { MatchResult result (λ copy. copy.value ≡ tree.now.value) (λ fault. fault ≡ OutOfMemory) }
 {
     match tree.clone() {

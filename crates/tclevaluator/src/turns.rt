@@ -1,18 +1,18 @@
 //! The beginning of a turn of foreach(n), which gives its variables their items.
 ghost use Rattle.std.specs.Prelude.{◌≡◌, ℕ, OnOk};
-ghost use Rattle.tclrules.specs.Leads.{Leads, Point};
+ghost use Rattle.tclrules.specs.Simulates.{Simulates, Point};
 ghost use Rattle.tclrules.specs.Variables.{State};
 ghost use Rattle.tclrules.specs.Plans as plans;
 ghost use Rattle.tclrules.specs.Plans.{Job};
 ghost use Rattle.tclrules.specs.Rules.{assign, turn_pairs, shortened};
-ghost use Rattle.tclsteps.specs.Machine.{bounds};
-ghost use Rattle.tclsteps.specs.Stops.{after};
+ghost use Rattle.tclsubstitution.specs.Machine.{bounds};
+ghost use Rattle.tclsubstitution.specs.Stops.{after};
 
 use std::alloc::Global;
-use tclarguments::Loops;
 use tclcommands::assign;
+use tclforms::Loops;
 use tclrules::Limits;
-use tclsteps::Stop;
+use tclsubstitution::Stop;
 use tclvariables::Variables;
 
 /// Gives the variables of a turn the next items of their lists; a list that is used up gives empty texts.
@@ -22,8 +22,8 @@ fn assign_items(
     limits: Limits,
     loops: &Loops,
 ) -> Result<(), Stop>
-    ensures { (most left : ℕ) (r : Job → plans.Step) (k : State → plans.Step) (x : Point) → Leads most r
-        (assign (bounds limits.value_bytes left) (turn_pairs loops.now) variables.old k) x
+    ensures { (most remaining : ℕ) (r : Job → plans.Step) (k : State → plans.Step) (x : Point) → Simulates most r
+        (assign (bounds limits.value_bytes remaining) (turn_pairs loops.now) variables.old k) x
         (after result (λ _ s. k s) variables.new) x }
 {
     let pairs = loops.turn_pairs(alloc)?;
@@ -39,8 +39,9 @@ pub(crate) fn begin_turn(
     limits: Limits,
     loops: &mut Loops,
 ) -> Result<(), Stop>
-    ensures comes { (most left : ℕ) (r : Job → plans.Step) (k : State → plans.Step) (x : Point) → Leads most r
-        (assign (bounds limits.value_bytes left) (turn_pairs loops.old) variables.old k) x
+    ensures evaluates_to { (most remaining : ℕ) (r : Job → plans.Step) (k : State → plans.Step) (x : Point)
+        → Simulates most r
+        (assign (bounds limits.value_bytes remaining) (turn_pairs loops.old) variables.old k) x
         (after result (λ _ s. k s) variables.new) x }
     ensures rest { OnOk result (loops.new ≡ shortened loops.old) }
 {

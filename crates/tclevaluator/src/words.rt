@@ -6,7 +6,7 @@ ghost use Rattle.tclvalue.specs.Faults.{reason_of};
 ghost use Rattle.tclscript.specs.Tree.{part, literal, no_parts};
 ghost use Rattle.tclscript.specs.View.{parts_view};
 ghost use Rattle.tclrules.specs.Words.{expanded};
-ghost use Rattle.tclsteps.specs.Machine.{shown};
+ghost use Rattle.tclsubstitution.specs.Machine.{range_text};
 
 use std::alloc::Global;
 use tclscript::{ByteRange, Part};
@@ -38,8 +38,8 @@ pub(crate) fn push_words(
 
 /// The range of a word that has one part, which is literal; None for any other word.
 pub(crate) fn literal(parts: &[Part<ByteRange>]) -> Option<ByteRange>
-    ensures { IfSome result (λ range. (source : Text) → parts_view (shown source) parts.now
-        ≡ part (literal (shown source range)) no_parts) }
+    ensures { IfSome result (λ range. (source : Text) → parts_view (range_text source) parts.now
+        ≡ part (literal (range_text source range)) no_parts) }
 {
     let (first, rest) = parts.split_first()?;
     match first {

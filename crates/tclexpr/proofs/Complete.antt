@@ -12,9 +12,9 @@ use Rattle.tclexpr.specs.declared.operators.Mark.TheVariants as marks
 use Rattle.tclexpr.specs.Tree.{Expr, operand, unary, choice, Token, mark}
 use Rattle.tclexpr.specs.Grammar.{level, sign_of, IsExpr, simple, choosing, IsChain, single, in_parentheses, signed, joining}
 use Rattle.tclexpr.specs.Marks.{after_white, mark_at}
-use Rattle.tclexpr.specs.Row.{IsRow, IsExprText}
+use Rattle.tclexpr.specs.TokenList.{AreTokens, IsExprText}
 use Rattle.tclexpr.specs.Faults.{Follows, NextIsNot, MayFollow}
-use Rattle.tclexpr.specs.Reading.{Extent, whole, chain, is_close, is_colon, is_question, is_open, infix_of, expected, expect, signed_at, enclosed_at, marked_at, begun_at, prefix_at, join, next_at, going_at, climb_at, chain_at, branches_at, choosing_at, whole_at, below_at, ended, expr_at}
+use Rattle.tclexpr.specs.Reading.{Extent, whole, chain, is_close, is_colon, is_question, is_open, infix_of, after_expected, expect, signed_at, enclosed_at, marked_at, begun_at, prefix_at, join, next_at, going_at, climb_at, chain_at, branches_at, choosing_at, whole_at, below_at, ended, expr_at}
 use Rattle.tclexpr.proofs.Results.{found_once, found_none, infix_once}
 use Rattle.tclexpr.proofs.Rows.{row_cut, row_shorter}
 use Rattle.tclexpr.proofs.Sound.{level_more, infix_is, question_is}
@@ -172,41 +172,41 @@ module _ (O : Type 0) (IsOperand : Text → Text → O → ℕ → Type 0) (read
     )
 
   mutual
-    pub chain_again : {h n : ℕ} {ts : List (Token O)} {e : Expr O} → IsChain O h n ts e → (d m : ℕ) → h ≤ d → n ≤ m → (bs rest : Text) → IsRow O IsOperand bs rest ts → Follows n rest → Reaches d m bs (e, h) rest
-    chain_again (single {h} o) d m deep above bs rest row f =
-        let row_ends = row.2 in
-        let reads = again d (after_white bs) row.0 o h row.1.0 row.1.1 deep in (
+    pub chain_again : {h n : ℕ} {ts : List (Token O)} {e : Expr O} → IsChain O h n ts e → (d m : ℕ) → h ≤ d → n ≤ m → (bs rest : Text) → AreTokens O IsOperand bs rest ts → Follows n rest → Reaches d m bs (e, h) rest
+    chain_again (single {h} o) d m deep above bs rest are_tokens f =
+        let row_ends = are_tokens.2 in
+        let reads = again d (after_white bs) are_tokens.0 o h are_tokens.1.0 are_tokens.1.1 deep in (
           suc (length rest),
           omega arith,
           chain_from read_operand d (below_at read_operand d) m bs (operand o, h) rest
-              (prefix_operand read_operand d (below_at read_operand d) bs (o, h) rest row.1.0 (reads ∙ ap (λ r. Ok ((o, h), r)) row_ends)),
+              (prefix_operand read_operand d (below_at read_operand d) bs (o, h) rest are_tokens.1.0 (reads ∙ ap (λ r. Ok ((o, h), r)) row_ends)),
         )
-    chain_again (in_parentheses ts is) zero m deep above bs rest row f = absurd (omega arith)
-    chain_again (in_parentheses {h} ts {e} is) (suc d) m deep above bs rest row f =
-        let cut = row_cut O IsOperand ts (mark marks.Close ∷ []) row.0 rest row.2 in
+    chain_again (in_parentheses ts is) zero m deep above bs rest are_tokens f = absurd (omega arith)
+    chain_again (in_parentheses {h} ts {e} is) (suc d) m deep above bs rest are_tokens f =
+        let cut = row_cut O IsOperand ts (mark marks.Close ∷ []) are_tokens.0 rest are_tokens.2 in
         let below = below_at read_operand (suc d) in
         let closes : mark_at (after_white cut.0) ≡ Some (marks.Close, rest) = cut.2.1 ∙ ap (λ r. Some (marks.Close, r)) cut.2.2 in
-        let inner = below_whole read_operand d row.0 ∙ expr_again is d (omega arith) row.0 cut.0 cut.1 (no_goes_on marks.Close cut.0 rest closes (λ h. h)) in
-        let all : enclosed_at read_operand below row.0 ≡ Ok ((e, suc h), rest) =
+        let inner = below_whole read_operand d are_tokens.0 ∙ expr_again is d (omega arith) are_tokens.0 cut.0 cut.1 (no_goes_on marks.Close cut.0 rest closes (λ h. h)) in
+        let all : enclosed_at read_operand below are_tokens.0 ≡ Ok ((e, suc h), rest) =
         ap (λ r. r >>= (λ x. expect is_close x.1 >>= (λ after. Ok ((x.0.0, suc x.0.1), after)))) inner
-        ∙ ap (λ r. expected is_close (length (after_white cut.0)) r >>= (λ after. Ok ((e, suc h), after))) closes
+        ∙ ap (λ r. after_expected is_close (length (after_white cut.0)) r >>= (λ after. Ok ((e, suc h), after))) closes
         in
-        (suc (length rest), omega arith, chain_from read_operand (suc d) below m bs (e, suc h) rest (prefix_marked read_operand (suc d) below bs marks.Open row.0 row.1 ∙ all))
-    chain_again (signed u s is) zero m deep above bs rest row f = absurd (omega arith)
-    chain_again (signed {h} {n} {m = k} u {ts} {e} s is) (suc d) m deep above bs rest row f =
+        (suc (length rest), omega arith, chain_from read_operand (suc d) below m bs (e, suc h) rest (prefix_marked read_operand (suc d) below bs marks.Open are_tokens.0 are_tokens.1 ∙ all))
+    chain_again (signed u s is) zero m deep above bs rest are_tokens f = absurd (omega arith)
+    chain_again (signed {h} {n} {m = k} u {ts} {e} s is) (suc d) m deep above bs rest are_tokens f =
         let below = below_at read_operand (suc d) in
-        let inner : below (chain 1) row.0 ≡ Ok ((e, h), rest) =
-        below_chain read_operand d 1 row.0
-        ∙ reaches_end d 1 row.0 (e, h) rest (chain_again is d 1 (omega arith) (omega arith) row.0 rest row.2 (λ i more is. omega (arith, level_more i))) (λ i more is. omega (arith, level_more i))
+        let inner : below (chain 1) are_tokens.0 ≡ Ok ((e, h), rest) =
+        below_chain read_operand d 1 are_tokens.0
+        ∙ reaches_end d 1 are_tokens.0 (e, h) rest (chain_again is d 1 (omega arith) (omega arith) are_tokens.0 rest are_tokens.2 (λ i more is. omega (arith, level_more i))) (λ i more is. omega (arith, level_more i))
         in (
           suc (length rest),
           omega arith,
           chain_from read_operand (suc d) below m bs (unary u e, suc h) rest
-              (prefix_marked read_operand (suc d) below bs k row.0 row.1 ∙ marked_sign read_operand (suc d) below (length (after_white bs)) k u row.0 s ∙ ap (read_map (λ (x : Expr O × ℕ). let made : Expr O × ℕ = (unary u x.0, suc x.1) in made)) inner),
+              (prefix_marked read_operand (suc d) below bs k are_tokens.0 are_tokens.1 ∙ marked_sign read_operand (suc d) below (length (after_white bs)) k u are_tokens.0 s ∙ ap (read_map (λ (x : Expr O × ℕ). let made : Expr O × ℕ = (unary u x.0, suc x.1) in made)) inner),
         )
-    chain_again (joining i ls rs within l r) zero m deep above bs rest row f = absurd (omega arith)
-    chain_again (joining {h} {j} {n} i ls rs {l = x} {r = y} within l r) (suc d) m deep above bs rest row f =
-        let cut = row_cut O IsOperand ls (mark (marks.Infix i) ∷ rs) bs rest row in
+    chain_again (joining i ls rs within l r) zero m deep above bs rest are_tokens f = absurd (omega arith)
+    chain_again (joining {h} {j} {n} i ls rs {l = x} {r = y} within l r) (suc d) m deep above bs rest are_tokens f =
+        let cut = row_cut O IsOperand ls (mark (marks.Infix i) ∷ rs) bs rest are_tokens in
         let after = cut.2.0 in
         let left = chain_again l (suc d) m (omega arith) (omega arith) bs cut.0 cut.1 (operator_follows i cut.0 after cut.2.1) in
         let more = level_more i in
@@ -216,15 +216,15 @@ module _ (O : Type 0) (IsOperand : Text → Text → O → ℕ → Type 0) (read
         in
         reaches_more d m bs (x, h) cut.0 left i after cut.2.1 (omega arith) (omega arith) (y, j) rest right (row_shorter O IsOperand shorter (mark (marks.Infix i)) rs cut.0 rest cut.2)
 
-    pub expr_again : {h : ℕ} {ts : List (Token O)} {e : Expr O} → IsExpr O h ts e → (d : ℕ) → h ≤ d → (bs rest : Text) → IsRow O IsOperand bs rest ts → NextIsNot MayFollow rest → whole_at read_operand d (below_at read_operand d) bs ≡ Ok ((e, h), rest)
-    expr_again (simple {h} {ts} {e} is) d deep bs rest row ends =
+    pub expr_again : {h : ℕ} {ts : List (Token O)} {e : Expr O} → IsExpr O h ts e → (d : ℕ) → h ≤ d → (bs rest : Text) → AreTokens O IsOperand bs rest ts → NextIsNot MayFollow rest → whole_at read_operand d (below_at read_operand d) bs ≡ Ok ((e, h), rest)
+    expr_again (simple {h} {ts} {e} is) d deep bs rest are_tokens ends =
         let below = below_at read_operand d in
-        whole_from read_operand d below bs (e, h) rest (reaches_end d 13 bs (e, h) rest (chain_again is d 13 deep (omega arith) bs rest row (ends_follow 13 rest ends)) (ends_follow 14 rest ends))
+        whole_from read_operand d below bs (e, h) rest (reaches_end d 13 bs (e, h) rest (chain_again is d 13 deep (omega arith) bs rest are_tokens (ends_follow 13 rest ends)) (ends_follow 14 rest ends))
         ∙ choosing_stops read_operand d below (e, h) rest ends
-    expr_again (choosing cs ys ns c y n) zero deep bs rest row ends = absurd (omega arith)
-    expr_again (choosing {h} {i} {j} cs ys ns {c = ce} {y = ye} {n = ne} c y n) (suc d) deep bs rest row ends =
+    expr_again (choosing cs ys ns c y n) zero deep bs rest are_tokens ends = absurd (omega arith)
+    expr_again (choosing {h} {i} {j} cs ys ns {c = ce} {y = ye} {n = ne} c y n) (suc d) deep bs rest are_tokens ends =
         let below = below_at read_operand (suc d) in
-        let cut = row_cut O IsOperand cs (mark marks.Question ∷ (ys ++ mark marks.Colon ∷ ns)) bs rest row in
+        let cut = row_cut O IsOperand cs (mark marks.Question ∷ (ys ++ mark marks.Colon ∷ ns)) bs rest are_tokens in
         let asks : mark_at (after_white cut.0) ≡ Some (marks.Question, cut.2.0) = cut.2.1 in
         let cut' = row_cut O IsOperand ys (mark marks.Colon ∷ ns) cut.2.0 rest cut.2.2 in
         let parts : mark_at (after_white cut'.0) ≡ Some (marks.Colon, cut'.2.0) = cut'.2.1 in
@@ -235,7 +235,7 @@ module _ (O : Type 0) (IsOperand : Text → Text → O → ℕ → Type 0) (read
         whole_from read_operand (suc d) below bs (ce, h) cut.0 first
         ∙ choosing_goes read_operand (suc d) below (ce, h) cut.0 cut.2.0 asks (omega arith)
         ∙ ap (λ r. r >>= (λ y. expect is_colon y.1 >>= (λ after. below whole after >>= (λ z. Ok ((choice ce y.0.0 z.0.0, suc (max h (max y.0.1 z.0.1))), z.1))))) yes'
-        ∙ ap (λ r. expected is_colon (length (after_white cut'.0)) r >>= (λ after. below whole after >>= (λ z. Ok ((choice ce ye z.0.0, suc (max h (max i z.0.1))), z.1)))) parts
+        ∙ ap (λ r. after_expected is_colon (length (after_white cut'.0)) r >>= (λ after. below whole after >>= (λ z. Ok ((choice ce ye z.0.0, suc (max h (max i z.0.1))), z.1)))) parts
         ∙ ap (λ r. r >>= (λ z. Ok ((choice ce ye z.0.0, suc (max h (max i z.0.1))), z.1))) no'
 
   -- An expression is read, where so many may nest as do in it.

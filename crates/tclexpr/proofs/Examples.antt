@@ -52,9 +52,9 @@ unfolding expr_at whole_at chain_at climb_at prefix_at below_at operand_at mark_
 early = refl
 
 -- ()
-closed : expr_at operand_at 200 (40 ∷ (41 ∷ [])) ≡ Err (BadExpression 1)
+after_closing : expr_at operand_at 200 (40 ∷ (41 ∷ [])) ≡ Err (BadExpression 1)
 unfolding expr_at whole_at chain_at climb_at prefix_at below_at operand_at mark_at after_white after_number after_digits is_truth word_at braced_text_at braced_at
-closed = refl
+after_closing = refl
 
 -- (1
 open_parenthesis : expr_at operand_at 200 (40 ∷ (49 ∷ [])) ≡ Err (BadExpression 0)

@@ -11,26 +11,26 @@ use Rattle.tclexpr.specs.declared.operators.Mark.TheVariants as marks
 use Rattle.tclexpr.specs.Tree.{Expr, operand, unary, choice, Token, mark}
 use Rattle.tclexpr.specs.Grammar.{level, sign_of, IsChain}
 use Rattle.tclexpr.specs.Marks.{after_white, mark_at}
-use Rattle.tclexpr.specs.Row.{IsRow, IsExprText}
-use Rattle.tclexpr.specs.Faults.{NextIsNot, MayFollow, MayFollowOr, BeginsOperand, bad_next, ExprFault, in_condition, deep_choice, in_yes, no_colon, in_no, ChainFault, in_operand, no_operand, deep_prefix, in_signed, in_open, no_close, deep_operator, in_right, ExprTextFault, inside, left_over}
-use Rattle.tclexpr.specs.Reading.{Extent, whole, chain, is_close, is_colon, is_open, expected, expect, signed_at, enclosed_at, begun_at, prefix_at, join, climb_at, chain_at, branches_at, choosing_at, whole_at, below_at, ended, expr_at}
+use Rattle.tclexpr.specs.TokenList.{AreTokens, IsExprText}
+use Rattle.tclexpr.specs.Faults.{NextIsNot, MayFollow, MayFollowOr, BeginsOperand, bad_next, ExprFault, in_condition, deep_choice, in_yes, no_colon, in_no, ChainFault, in_operand, no_operand, deep_prefix, in_signed, in_open, no_close, deep_operator, in_right, ExprTextFault, inside, trailing}
+use Rattle.tclexpr.specs.Reading.{Extent, whole, chain, is_close, is_colon, is_open, after_expected, expect, signed_at, enclosed_at, begun_at, prefix_at, join, climb_at, chain_at, branches_at, choosing_at, whole_at, below_at, ended, expr_at}
 use Rattle.tclexpr.proofs.Rows.{row_cut}
 use Rattle.tclexpr.proofs.Sound.{open_is, close_is, colon_is}
 use Rattle.tclexpr.proofs.Complete.{below_chain, below_whole, prefix_marked, marked_other, marked_sign, climb_operator, climb_goes, choosing_goes, whole_from, no_operator, no_goes_on, operator_follows, Reaches, reaches_end, chain_again, expr_again, complete, lt_false}
 
-marked_false : (test : Mark → Bool) (wanted : Mark) → ((m : Mark) → test m ≡ true → m ≡ wanted) → (m : Mark) → (m ≡ wanted → ⊥) → (t : Bool) → test m ≡ t → test m ≡ false
-marked_false test wanted only m other true is = absurd (other (only m is))
-marked_false test wanted only m other false is = is
+marked_false : (test : Mark → Bool) (expected : Mark) → ((m : Mark) → test m ≡ true → m ≡ expected) → (m : Mark) → (m ≡ expected → ⊥) → (t : Bool) → test m ≡ t → test m ≡ false
+marked_false test expected only m other true is = absurd (other (only m is))
+marked_false test expected only m other false is = is
 
 -- a mark that has to come next and doesn't
-expect_err : (test : Mark → Bool) (wanted : Mark) → ((m : Mark) → test m ≡ true → m ≡ wanted) → (rest : Text) → NextIsNot (MayFollowOr wanted) rest → expect test rest ≡ Err (bad_next rest)
-expect_err test wanted only rest none = at_mark (mark_at (after_white rest)) refl where
-  at_mark : (found : Option (Mark × Text)) → mark_at (after_white rest) ≡ found → expected test (length (after_white rest)) found ≡ Err (bad_next rest)
+expect_err : (test : Mark → Bool) (expected : Mark) → ((m : Mark) → test m ≡ true → m ≡ expected) → (rest : Text) → NextIsNot (MayFollowOr expected) rest → expect test rest ≡ Err (bad_next rest)
+expect_err test expected only rest none = at_mark (mark_at (after_white rest)) refl where
+  at_mark : (found : Option (Mark × Text)) → mark_at (after_white rest) ≡ found → after_expected test (length (after_white rest)) found ≡ Err (bad_next rest)
   at_mark None is = refl
-  at_mark (Some p) is = let off : test p.0 ≡ false = marked_false test wanted only p.0 (λ e. none p.0 p.1 is (inr e)) (test p.0) refl in rw off refl
+  at_mark (Some p) is = let off : test p.0 ≡ false = marked_false test expected only p.0 (λ e. none p.0 p.1 is (inr e)) (test p.0) refl in rw off refl
 
-ends_left : (wanted : Mark) (rest : Text) → NextIsNot (MayFollowOr wanted) rest → NextIsNot MayFollow rest
-ends_left wanted rest none = λ m more is goes. none m more is (inl goes)
+ends_left : (expected : Mark) (rest : Text) → NextIsNot (MayFollowOr expected) rest → NextIsNot MayFollow rest
+ends_left expected rest none = λ m more is goes. none m more is (inl goes)
 
 no_begin : (m : Mark) → (BeginsOperand m → ⊥) → (is_open m ≡ false) × (sign_of m ≡ None)
 no_begin m none = (marked_false is_open marks.Open open_is m (λ e. none (inl e)) (is_open m) refl, by_sign (sign_of m) refl) where
@@ -102,21 +102,21 @@ module _ (O : Type 0) (IsOperand : Text → Text → O → ℕ → Type 0) (Oper
     (shorter : (bs rest : Text) (o : O) (k : ℕ) → IsOperand bs rest o k → length rest < length bs)
     (operand_met : (d : ℕ) (bs : Text) (f : Fault) → mark_at bs ≡ None → OperandFault d bs f → read_operand d bs ≡ Err f) where
   -- the condition of a choice, read
-  first_read : (d h : ℕ) (bs : Text) (cs us : List (Token O)) (c : Expr O) (last : Text) → IsChain O h 13 cs c → h ≤ d → IsRow O IsOperand bs last (cs ++ mark marks.Question ∷ us)
-      → (rest : Text) × (after : Text) × (mark_at (after_white rest) ≡ Some (marks.Question, after)) × IsRow O IsOperand after last us
+  first_read : (d h : ℕ) (bs : Text) (cs us : List (Token O)) (c : Expr O) (last : Text) → IsChain O h 13 cs c → h ≤ d → AreTokens O IsOperand bs last (cs ++ mark marks.Question ∷ us)
+      → (rest : Text) × (after : Text) × (mark_at (after_white rest) ≡ Some (marks.Question, after)) × AreTokens O IsOperand after last us
       × (whole_at read_operand d (below_at read_operand d) bs ≡ choosing_at read_operand d (below_at read_operand d) (c, h) rest (mark_at (after_white rest)))
-  first_read d h bs cs us c last is deep row =
-      let cut = row_cut O IsOperand cs (mark marks.Question ∷ us) bs last row in
+  first_read d h bs cs us c last is deep are_tokens =
+      let cut = row_cut O IsOperand cs (mark marks.Question ∷ us) bs last are_tokens in
       let asks : mark_at (after_white cut.0) ≡ Some (marks.Question, cut.2.0) = cut.2.1 in
       let none = no_operator marks.Question cut.0 cut.2.0 asks refl in
       let read = reaches_end O IsOperand read_operand again shorter d 13 bs (c, h) cut.0 (chain_again O IsOperand read_operand again shorter is d 13 deep (omega arith) bs cut.0 cut.1 (none 13)) (none 14) in
       (cut.0, cut.2.0, asks, cut.2.2, whole_from read_operand d (below_at read_operand d) bs (c, h) cut.0 read)
 
   -- a left operand, read
-  left_read : (d h n : ℕ) (bs : Text) (i : Infix) (ls : List (Token O)) (l : Expr O) (after : Text) → level i ≤ n → IsChain O h (level i) ls l → h ≤ d → IsRow O IsOperand bs after (ls ++ mark (marks.Infix i) ∷ [])
+  left_read : (d h n : ℕ) (bs : Text) (i : Infix) (ls : List (Token O)) (l : Expr O) (after : Text) → level i ≤ n → IsChain O h (level i) ls l → h ≤ d → AreTokens O IsOperand bs after (ls ++ mark (marks.Infix i) ∷ [])
       → (rest : Text) × (mark_at (after_white rest) ≡ Some (marks.Infix i, after)) × Reaches O IsOperand read_operand again shorter d n bs (l, h) rest
-  left_read d h n bs i ls l after within is deep row =
-      let cut = row_cut O IsOperand ls (mark (marks.Infix i) ∷ []) bs after row in
+  left_read d h n bs i ls l after within is deep are_tokens =
+      let cut = row_cut O IsOperand ls (mark (marks.Infix i) ∷ []) bs after are_tokens in
       let found : mark_at (after_white cut.0) ≡ Some (marks.Infix i, after) = cut.2.1 ∙ ap (λ r. Some (marks.Infix i, r)) cut.2.2 in
       (cut.0, found, chain_again O IsOperand read_operand again shorter is d n deep within bs cut.0 cut.1 (operator_follows i cut.0 after found))
 
@@ -127,26 +127,26 @@ module _ (O : Type 0) (IsOperand : Text → Text → O → ℕ → Type 0) (Oper
   mutual
     pub expr_met : {d : ℕ} {bs : Text} {f : Fault} → ExprFault O IsOperand OperandFault d bs f → whole_at read_operand d (below_at read_operand d) bs ≡ Err f
     expr_met (in_condition {d} {bs} {f} h) = chain_err read_operand d (below_at read_operand d) bs f (chain_met h)
-    expr_met (deep_choice {d} {bs} cs c after is row) =
-        let r = first_read d d bs cs [] c after is (omega arith) row in
+    expr_met (deep_choice {d} {bs} cs c after is are_tokens) =
+        let r = first_read d d bs cs [] c after is (omega arith) are_tokens in
         r.4 ∙ choosing_deep read_operand d (below_at read_operand d) (c, d) r.0 r.1 r.2 (omega arith)
-    expr_met (in_yes {d} {bs} {f} cs c h after is deep row fault) =
+    expr_met (in_yes {d} {bs} {f} cs c h after is deep are_tokens fault) =
         let below = below_at read_operand (suc d) in
-        let r = first_read (suc d) h bs cs [] c after is (omega arith) row in
+        let r = first_read (suc d) h bs cs [] c after is (omega arith) are_tokens in
         let met = below_whole read_operand d r.1 ∙ ap (whole_at read_operand d (below_at read_operand d)) r.3 ∙ expr_met fault in
         r.4 ∙ choosing_goes read_operand (suc d) below (c, h) r.0 r.1 r.2 (omega arith) ∙ yes_err read_operand (suc d) below (c, h) r.1 f met
-    expr_met (no_colon {d} {bs} cs c h ys y i after is deep is' deep' row none) =
+    expr_met (no_colon {d} {bs} cs c h ys y i after is deep is' deep' are_tokens none) =
         let below = below_at read_operand (suc d) in
-        let r = first_read (suc d) h bs cs ys c after is (omega arith) row in
+        let r = first_read (suc d) h bs cs ys c after is (omega arith) are_tokens in
         let read = below_whole read_operand d r.1 ∙ expr_again O IsOperand read_operand again shorter is' d deep' r.1 after r.3 (ends_left marks.Colon after none) in
         r.4 ∙ choosing_goes read_operand (suc d) below (c, h) r.0 r.1 r.2 (omega arith) ∙ colon_err read_operand (suc d) below (c, h) (y, i) r.1 after (bad_next after) read (expect_err is_colon marks.Colon colon_is after none)
-    expr_met (in_no {d} {bs} {f} cs c h ys y i after is deep is' deep' row fault) =
+    expr_met (in_no {d} {bs} {f} cs c h ys y i after is deep is' deep' are_tokens fault) =
         let below = below_at read_operand (suc d) in
-        let r = first_read (suc d) h bs cs (ys ++ mark marks.Colon ∷ []) c after is (omega arith) row in
+        let r = first_read (suc d) h bs cs (ys ++ mark marks.Colon ∷ []) c after is (omega arith) are_tokens in
         let cut = row_cut O IsOperand ys (mark marks.Colon ∷ []) r.1 after r.3 in
         let parts : mark_at (after_white cut.0) ≡ Some (marks.Colon, after) = cut.2.1 ∙ ap (λ r. Some (marks.Colon, r)) cut.2.2 in
         let read = below_whole read_operand d r.1 ∙ expr_again O IsOperand read_operand again shorter is' d deep' r.1 cut.0 cut.1 (no_goes_on marks.Colon cut.0 after parts (λ h. h)) in
-        let colon : expect is_colon cut.0 ≡ Ok after = ap (expected is_colon (length (after_white cut.0))) parts in
+        let colon : expect is_colon cut.0 ≡ Ok after = ap (after_expected is_colon (length (after_white cut.0))) parts in
         r.4 ∙ choosing_goes read_operand (suc d) below (c, h) r.0 r.1 r.2 (omega arith)
         ∙ no_err read_operand (suc d) below (c, h) (y, i) r.1 cut.0 after f read colon (below_whole read_operand d after ∙ expr_met fault)
 
@@ -162,19 +162,19 @@ module _ (O : Type 0) (IsOperand : Text → Text → O → ℕ → Type 0) (Oper
     chain_met (in_open {d} {n} {bs} {f} after is h) =
         let below = below_at read_operand (suc d) in
         open_err read_operand (suc d) below n bs after f is (enclosed_err read_operand (suc d) below after f (below_whole read_operand d after ∙ expr_met h))
-    chain_met (no_close {d} {n} {bs} ts e h after is deep row none) =
+    chain_met (no_close {d} {n} {bs} ts e h after is deep are_tokens none) =
         let below = below_at read_operand (suc d) in
-        let read = below_whole read_operand d row.0 ∙ expr_again O IsOperand read_operand again shorter is d deep row.0 after row.2 (ends_left marks.Close after none) in
-        let all : enclosed_at read_operand below row.0 ≡ Err (bad_next after) =
+        let read = below_whole read_operand d are_tokens.0 ∙ expr_again O IsOperand read_operand again shorter is d deep are_tokens.0 after are_tokens.2 (ends_left marks.Close after none) in
+        let all : enclosed_at read_operand below are_tokens.0 ≡ Err (bad_next after) =
         ap (λ r. r >>= (λ x. expect is_close x.1 >>= (λ after. Ok ((x.0.0, suc x.0.1), after)))) read
         ∙ ap (λ r. r >>= (λ after. Ok ((e, suc h), after))) (expect_err is_close marks.Close close_is after none)
         in
-        open_err read_operand (suc d) below n bs row.0 (bad_next after) row.1 all
-    chain_met (deep_operator {d} {n} {bs} i ls l after within is row) =
-        let r = left_read d d n bs i ls l after within is (omega arith) row in
+        open_err read_operand (suc d) below n bs are_tokens.0 (bad_next after) are_tokens.1 all
+    chain_met (deep_operator {d} {n} {bs} i ls l after within is are_tokens) =
+        let r = left_read d d n bs i ls l after within is (omega arith) are_tokens in
         r.2.2 ∙ climb_deep read_operand d (below_at read_operand d) n r.2.0 (l, d) r.0 i after (omega (arith, r.2.1)) r.1 within (omega arith)
-    chain_met (in_right {d} {n} {bs} {f} i ls l h after within is deep row fault) =
-        let r = left_read (suc d) h n bs i ls l after within is (omega arith) row in
+    chain_met (in_right {d} {n} {bs} {f} i ls l h after within is deep are_tokens fault) =
+        let r = left_read (suc d) h n bs i ls l after within is (omega arith) are_tokens in
         r.2.2 ∙ climb_err read_operand (suc d) (below_at read_operand (suc d)) n r.2.0 (l, h) r.0 i after f (omega (arith, r.2.1)) r.1 within (omega arith) (below_chain read_operand d (level i - 1) after ∙ chain_met fault)
 
   left_err : (e : Expr O) (bs : Text) → bs ≢ [] → ended e bs ≡ Err (BadExpression (length bs))
@@ -185,8 +185,8 @@ module _ (O : Type 0) (IsOperand : Text → Text → O → ℕ → Type 0) (Oper
   pub met : (d : ℕ) (bs : Text) (f : Fault) → ExprTextFault O IsOperand OperandFault d bs f → expr_at read_operand d bs ≡ Err f
   unfolding expr_at
   met d bs f (inside h) = ap (λ r. r >>= (λ x. ended x.0.0 (after_white x.1))) (expr_met h)
-  met d bs f (left_over ts e h after is deep row ends some) =
-      ap (λ r. r >>= (λ x. ended x.0.0 (after_white x.1))) (expr_again O IsOperand read_operand again shorter is d deep bs after row ends)
+  met d bs f (trailing ts e h after is deep are_tokens ends some) =
+      ap (λ r. r >>= (λ x. ended x.0.0 (after_white x.1))) (expr_again O IsOperand read_operand again shorter is d deep bs after are_tokens ends)
       ∙ left_err e (after_white after) some
 
   -- It is one, and what has one is no expression nested no deeper than that.

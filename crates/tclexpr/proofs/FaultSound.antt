@@ -12,9 +12,9 @@ use Rattle.tclexpr.specs.declared.operators.Mark.TheVariants as marks
 use Rattle.tclexpr.specs.Tree.{Expr, operand, unary, choice, mark}
 use Rattle.tclexpr.specs.Grammar.{level, sign_of, IsChain}
 use Rattle.tclexpr.specs.Marks.{after_white, mark_at}
-use Rattle.tclexpr.specs.Row.{IsRow}
-use Rattle.tclexpr.specs.Faults.{NextIsNot, MayFollow, MayFollowOr, BeginsOperand, bad_next, ExprFault, in_condition, deep_choice, in_yes, no_colon, in_no, ChainFault, in_operand, no_operand, deep_prefix, in_signed, in_open, no_close, deep_operator, in_right, ExprTextFault, inside, left_over}
-use Rattle.tclexpr.specs.Reading.{Extent, whole, chain, is_close, is_colon, is_question, is_open, infix_of, expected, expect, signed_at, enclosed_at, begun_at, prefix_at, join, next_at, going_at, climb_at, chain_at, branches_at, choosing_at, whole_at, below_at, ended, expr_at}
+use Rattle.tclexpr.specs.TokenList.{AreTokens}
+use Rattle.tclexpr.specs.Faults.{NextIsNot, MayFollow, MayFollowOr, BeginsOperand, bad_next, ExprFault, in_condition, deep_choice, in_yes, no_colon, in_no, ChainFault, in_operand, no_operand, deep_prefix, in_signed, in_open, no_close, deep_operator, in_right, ExprTextFault, inside, trailing}
+use Rattle.tclexpr.specs.Reading.{Extent, whole, chain, is_close, is_colon, is_question, is_open, infix_of, after_expected, expect, signed_at, enclosed_at, begun_at, prefix_at, join, next_at, going_at, climb_at, chain_at, branches_at, choosing_at, whole_at, below_at, ended, expr_at}
 use Rattle.tclexpr.proofs.Results.{found_once, found_none}
 use Rattle.tclexpr.proofs.Rows.{row_join, row_no_longer, after_white_no_longer, mark_shorter}
 use Rattle.tclexpr.proofs.Sound.{SoundBelow, TookChain, TookWhole, TookFront, front_more, prefix_front, prefix_sound, chain_sound, whole_sound, below_sound, chain_weaker, expected_ok, open_is, colon_is, question_is, infix_is, true_false, lt_is, lt_not, le_is}
@@ -26,16 +26,16 @@ one_err : {A : Type 0} (e f : Fault) → (let err : Result A Fault = Err e in er
 one_err e f h = cc
 
 -- a mark that had to come next, did not
-expected_err : (wanted : Mark → Bool) (left : ℕ) (found : Option (Mark × Text)) (f : Fault) → expected wanted left found ≡ Err f → (BadExpression left ≡ f) × ((m : Mark) (rest : Text) → found ≡ Some (m, rest) → wanted m ≡ true → ⊥)
-expected_err wanted left None f h = (one_err {A = Text} (BadExpression left) f h, λ m rest is t. found_none {A = Mark} None m rest refl is)
-expected_err wanted left (Some p) f h = tested (wanted p.0) refl h where
-  tested : (t : Bool) → wanted p.0 ≡ t → cond t (let ok : Result Text Fault = Ok p.1 in ok) (Err (BadExpression left)) ≡ Err f → (BadExpression left ≡ f) × ((m : Mark) (rest : Text) → Some p ≡ Some (m, rest) → wanted m ≡ true → ⊥)
+expected_err : (expected : Mark → Bool) (left : ℕ) (found : Option (Mark × Text)) (f : Fault) → after_expected expected left found ≡ Err f → (BadExpression left ≡ f) × ((m : Mark) (rest : Text) → found ≡ Some (m, rest) → expected m ≡ true → ⊥)
+expected_err expected left None f h = (one_err {A = Text} (BadExpression left) f h, λ m rest is t. found_none {A = Mark} None m rest refl is)
+expected_err expected left (Some p) f h = tested (expected p.0) refl h where
+  tested : (t : Bool) → expected p.0 ≡ t → cond t (let ok : Result Text Fault = Ok p.1 in ok) (Err (BadExpression left)) ≡ Err f → (BadExpression left ≡ f) × ((m : Mark) (rest : Text) → Some p ≡ Some (m, rest) → expected m ≡ true → ⊥)
   tested true t h = absurd (no_ok p.1 f h)
-  tested false t h = (one_err {A = Text} (BadExpression left) f h, λ m rest is s. true_false (sym s ∙ ap wanted (sym (found_once (Some p) p.0 m p.1 rest refl is).0) ∙ t))
+  tested false t h = (one_err {A = Text} (BadExpression left) f h, λ m rest is s. true_false (sym s ∙ ap expected (sym (found_once (Some p) p.0 m p.1 rest refl is).0) ∙ t))
 
 -- neither what an expression goes on with nor the mark
-goes_or : (wanted : Mark) (test : Mark → Bool) → test wanted ≡ true → (rest : Text) → NextIsNot MayFollow rest → ((m : Mark) (after : Text) → mark_at (after_white rest) ≡ Some (m, after) → test m ≡ true → ⊥) → NextIsNot (MayFollowOr wanted) rest
-goes_or wanted test is rest ends none = λ m after found goes. elim goes [ inl g ↦ ends m after found g | inr e ↦ none m after found (ap test e ∙ is) ]
+goes_or : (expected : Mark) (test : Mark → Bool) → test expected ≡ true → (rest : Text) → NextIsNot MayFollow rest → ((m : Mark) (after : Text) → mark_at (after_white rest) ≡ Some (m, after) → test m ≡ true → ⊥) → NextIsNot (MayFollowOr expected) rest
+goes_or expected test is rest ends none = λ m after found goes. elim goes [ inl g ↦ ends m after found g | inr e ↦ none m after found (ap test e ∙ is) ]
 
 no_sign : (m : Mark) → is_open m ≡ false → sign_of m ≡ None → BeginsOperand m → ⊥
 no_sign m shut none begins = elim begins [ inl e ↦ true_false (sym (ap is_open e) ∙ shut) | inr s ↦ apart (sym s.1 ∙ none) ] where
@@ -77,7 +77,7 @@ module _ (O : Type 0) (IsOperand : Text → Text → O → ℕ → Type 0) (Oper
     enclosed_open (suc d) n bs after x rest f is t h =
         let e = expected_err is_close (length (after_white rest)) (mark_at (after_white rest)) f h in
         subst (ChainFault O IsOperand OperandFault (suc d) n bs) e.0
-        (no_close t.tokens x.0 x.1 rest t.is (omega (arith, t.deep)) (after, is, t.row) (goes_or marks.Close is_close refl rest t.ends e.1))
+        (no_close t.tokens x.0 x.1 rest t.is (omega (arith, t.deep)) (after, is, t.are_tokens) (goes_or marks.Close is_close refl rest t.ends e.1))
 
     module _ (d : ℕ) (sound : SoundBelow O IsOperand d below) (faulty : FaultBelow d below) where
       enclosed_faulty : (n : ℕ) (bs after : Text) (f : Fault) → mark_at (after_white bs) ≡ Some (marks.Open, after) → enclosed_at read_operand below after ≡ Err f → ChainFault O IsOperand OperandFault d n bs f
@@ -111,14 +111,14 @@ module _ (O : Type 0) (IsOperand : Text → Text → O → ℕ → Type 0) (Oper
       deep_here n bs x rest t i after is within tall =
           let all : x.1 ≡ d = omega (arith, t.deep) in
           deep_operator i t.tokens x.0 after within (subst (λ h. IsChain O h (level i) t.tokens x.0) all (chain_weaker t.is (level i) (t.follows i after is)))
-          (row_join O IsOperand t.tokens (mark (marks.Infix i) ∷ []) bs rest after t.row (after, is, refl))
+          (row_join O IsOperand t.tokens (mark (marks.Infix i) ∷ []) bs rest after t.are_tokens (after, is, refl))
 
       right_here : (k n : ℕ) (bs : Text) (x : Expr O × ℕ) (rest : Text) → k ≡ d → Front n bs x rest → (i : Infix) (after : Text) → mark_at (after_white rest) ≡ Some (marks.Infix i, after) → level i ≤ n → x.1 < k → (f : Fault)
           → BelowFault k (chain (level i - 1)) after f → ChainFault O IsOperand OperandFault k n bs f
       right_here zero n bs x rest same t i after is within less f h = absurd (omega arith)
       right_here (suc k) n bs x rest same t i after is within less f h =
           in_right i t.tokens x.0 x.1 after within (chain_weaker t.is (level i) (t.follows i after is)) (omega arith)
-          (row_join O IsOperand t.tokens (mark (marks.Infix i) ∷ []) bs rest after t.row (after, is, refl)) h
+          (row_join O IsOperand t.tokens (mark (marks.Infix i) ∷ []) bs rest after t.are_tokens (after, is, refl)) h
 
       -- what a turn of the loop does with a fault
       abbrev Rests : ℕ → Text → ℕ → (Expr O × ℕ → Text → Read (Expr O × ℕ)) → Type 0
@@ -133,7 +133,7 @@ module _ (O : Type 0) (IsOperand : Text → Text → O → ℕ → Type 0) (Oper
             | inr y ↦ (
                 let r = sound (chain (level i - 1)) after y.0.0 y.0.1 y.1 in
                 all (join i x y.0.0) y.0.1 (front_more O IsOperand read_operand operand_sound d below sound n bs x rest t i after is within (lt_is x.1 d s) y.0.0 y.0.1 y.1)
-                (omega (arith, row_no_longer O IsOperand shorter r.tokens after y.0.1 r.row, mark_shorter (after_white rest) (marks.Infix i) after is, after_white_no_longer rest)) f y.2
+                (omega (arith, row_no_longer O IsOperand shorter r.tokens after y.0.1 r.are_tokens, mark_shorter (after_white rest) (marks.Infix i) after is, after_white_no_longer rest)) f y.2
                 )
           ]
       operator_faulty n bs turns more all x rest t enough i after is within f false s h =
@@ -170,8 +170,8 @@ module _ (O : Type 0) (IsOperand : Text → Text → O → ℕ → Type 0) (Oper
       abbrev First : Text → Expr O × ℕ → Text → Type 0
       First bs x rest = TookChain O IsOperand (suc d) 13 bs x rest
 
-      asked : (bs : Text) (x : Expr O × ℕ) (rest : Text) (t : First bs x rest) (after : Text) → mark_at (after_white rest) ≡ Some (marks.Question, after) → IsRow O IsOperand bs after (t.tokens ++ mark marks.Question ∷ [])
-      asked bs x rest t after is = row_join O IsOperand t.tokens (mark marks.Question ∷ []) bs rest after t.row (after, is, refl)
+      asked : (bs : Text) (x : Expr O × ℕ) (rest : Text) (t : First bs x rest) (after : Text) → mark_at (after_white rest) ≡ Some (marks.Question, after) → AreTokens O IsOperand bs after (t.tokens ++ mark marks.Question ∷ [])
+      asked bs x rest t after is = row_join O IsOperand t.tokens (mark marks.Question ∷ []) bs rest after t.are_tokens (after, is, refl)
 
       deep_question : (bs : Text) (x : Expr O × ℕ) (rest : Text) → First bs x rest → (after : Text) → mark_at (after_white rest) ≡ Some (marks.Question, after) → d ≤ x.1 → ExprFault O IsOperand OperandFault d bs TooDeep
       deep_question bs x rest t after is tall =
@@ -190,7 +190,7 @@ module _ (O : Type 0) (IsOperand : Text → Text → O → ℕ → Type 0) (Oper
           let e = expected_err is_colon (length (after_white end)) (mark_at (after_white end)) f h in
           subst (ExprFault O IsOperand OperandFault (suc k) bs) e.0
           (no_colon t.tokens x.0 x.1 r.tokens y.0 y.1 end t.is (omega arith) r.is (omega (arith, r.deep))
-          (row_join O IsOperand t.tokens (mark marks.Question ∷ r.tokens) bs rest end t.row (after, is, r.row)) (goes_or marks.Colon is_colon refl end r.ends e.1))
+          (row_join O IsOperand t.tokens (mark marks.Question ∷ r.tokens) bs rest end t.are_tokens (after, is, r.are_tokens)) (goes_or marks.Colon is_colon refl end r.ends e.1))
 
       no_here : (k : ℕ) (bs : Text) (x : Expr O × ℕ) (rest : Text) → k ≡ d → First bs x rest → (after : Text) → mark_at (after_white rest) ≡ Some (marks.Question, after) → x.1 < k
           → (y : Expr O × ℕ) (end : Text) → TookWhole O IsOperand k after y end → (last : Text) → expect is_colon end ≡ Ok last → (f : Fault) → BelowFault k whole last f → ExprFault O IsOperand OperandFault k bs f
@@ -198,9 +198,9 @@ module _ (O : Type 0) (IsOperand : Text → Text → O → ℕ → Type 0) (Oper
       no_here (suc k) bs x rest same t after is less y end r last colon f h =
           let c = expected_ok is_colon (length (after_white end)) (mark_at (after_white end)) last colon in
           let parts : mark_at (after_white end) ≡ Some (marks.Colon, last) = c.1 ∙ ap (λ m. Some (m, last)) (colon_is c.0 c.2) in
-          let behind : IsRow O IsOperand after last (r.tokens ++ mark marks.Colon ∷ []) = row_join O IsOperand r.tokens (mark marks.Colon ∷ []) after end last r.row (last, parts, refl) in
+          let following : AreTokens O IsOperand after last (r.tokens ++ mark marks.Colon ∷ []) = row_join O IsOperand r.tokens (mark marks.Colon ∷ []) after end last r.are_tokens (last, parts, refl) in
           in_no t.tokens x.0 x.1 r.tokens y.0 y.1 last t.is (omega arith) r.is (omega (arith, r.deep))
-          (row_join O IsOperand t.tokens (mark marks.Question ∷ (r.tokens ++ mark marks.Colon ∷ [])) bs rest last t.row (after, is, behind)) h
+          (row_join O IsOperand t.tokens (mark marks.Question ∷ (r.tokens ++ mark marks.Colon ∷ [])) bs rest last t.are_tokens (after, is, following)) h
 
       branches_faulty : (bs : Text) (x : Expr O × ℕ) (rest : Text) → First bs x rest → (after : Text) → mark_at (after_white rest) ≡ Some (marks.Question, after) → x.1 < d → (f : Fault)
           → branches_at read_operand below x after ≡ Err f → ExprFault O IsOperand OperandFault d bs f
@@ -257,6 +257,6 @@ module _ (O : Type 0) (IsOperand : Text → Text → O → ℕ → Type 0) (Oper
         | inr y ↦ (
             let t = whole_sound O IsOperand read_operand operand_sound d below sound bs y.0.0 y.0.1 y.1 in
             let e = ended_err y.0.0.0 (after_white y.0.1) f y.2 in
-            subst (ExprTextFault O IsOperand OperandFault d bs) e.0 (left_over t.tokens y.0.0.0 y.0.0.1 y.0.1 t.is (omega (arith, t.deep)) t.row t.ends e.1)
+            subst (ExprTextFault O IsOperand OperandFault d bs) e.0 (trailing t.tokens y.0.0.0 y.0.0.1 y.0.1 t.is (omega (arith, t.deep)) t.are_tokens t.ends e.1)
             )
       ]

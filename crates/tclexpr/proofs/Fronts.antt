@@ -1,23 +1,23 @@
 -- Before a fault stand tokens with which some expression begins: what is open is closed behind them.
 use Rattle.std.proofs.Common.{◌≡◌, ℕ, suc, max, List, [], ◌∷◌, ◌++◌, length, refl, sym, ap, subst, ◌∙◌, append_assoc, append-nil}
 use Rattle.tclchars.specs.Runs.{Text}
-use Rattle.tclchars.specs.Reading.{left_of}
+use Rattle.tclchars.specs.Reading.{remaining_of}
 use Rattle.tclchars.specs.declared.fault.Fault.{Fault}
 use Rattle.tclchars.specs.declared.fault.Fault.TheVariants.{OpenBrace, OpenQuote, OpenBracket, JoinedToClose, TooDeep, BadCharacter, BadExpression}
 use Rattle.tclscript.specs.Faults as script
-use Rattle.tclscript.specs.Faults.{CommandsFault, CommandFault, WordsFault, WordFault, PlainFault, PartsFault, PartFault}
+use Rattle.tclscript.specs.Faults.{CommandsFault, CommandFault, WordsFault, WordFault, UnexpandedWordFault, PartsFault, PartFault}
 use Rattle.tclexpr.specs.declared.operators.Mark.TheVariants as marks
 use Rattle.tclexpr.specs.Tree.{Expr, operand, unary, choice, joined, Token, value, mark}
 use Rattle.tclexpr.specs.Grammar as grammar
 use Rattle.tclexpr.specs.Grammar.{IsExpr, IsChain}
 use Rattle.tclexpr.specs.Marks.{after_white}
-use Rattle.tclexpr.specs.Row.{IsRow}
+use Rattle.tclexpr.specs.TokenList.{AreTokens}
 use Rattle.tclexpr.specs.Operands.{Operand, number}
 use Rattle.tclexpr.specs.OperandGrammar as operands
 use Rattle.tclexpr.specs.OperandGrammar.{IsOperand, OperandFault}
 use Rattle.tclexpr.specs.Faults as faults
 use Rattle.tclexpr.specs.Faults.{ExprFault, ChainFault, ExprTextFault}
-use Rattle.tclexpr.specs.Offending.{IsFaultFrom, IsBehindFront}
+use Rattle.tclexpr.specs.ViablePrefixes.{IsFaultFrom, FollowsViablePrefix}
 use Rattle.tclexpr.proofs.Rows.{row_join}
 
 -- No script is wrong as an expression is
@@ -45,10 +45,10 @@ mutual
   words_fault (script.word_after blanks body w a b c h) bad = words_fault h bad
 
   word_fault : {d : ℕ} {nested : _} {bs : Text} {f : Fault} → WordFault d nested bs f → IsBad f → ⊥
-  word_fault (script.plain a h) bad = plain_fault h bad
+  word_fault (script.not_expanding a h) bad = plain_fault h bad
   word_fault (script.expanding a h) bad = plain_fault h bad
 
-  plain_fault : {d : ℕ} {nested : _} {bs : Text} {f : Fault} → PlainFault d nested bs f → IsBad f → ⊥
+  plain_fault : {d : ℕ} {nested : _} {bs : Text} {f : Fault} → UnexpandedWordFault d nested bs f → IsBad f → ⊥
   plain_fault (script.open_brace a) bad = bad
   plain_fault (script.joined_brace inside rest a b) bad = bad
   plain_fault (script.in_quotes h) bad = parts_fault h bad
@@ -73,11 +73,11 @@ mutual
 -- an operand is a wrong expression at its first byte alone
 bad_operand : {d : ℕ} {bs : Text} {f : Fault} (left : ℕ) → OperandFault d bs f → f ≡ BadExpression left → length bs ≡ left
 bad_operand left (operands.in_substitution a h) e = absurd (part_fault h (subst IsBad (sym e) tt))
-bad_operand left (operands.lone_dollar a) e = ap left_of e
+bad_operand left (operands.lone_dollar a) e = ap remaining_of e
 bad_operand left (operands.open_brace a) e = absurd (subst IsBad (sym e) tt)
 bad_operand left (operands.in_quotes h) e = absurd (parts_fault h (subst IsBad (sym e) tt))
 bad_operand left (operands.open_quote ps a b) e = absurd (subst IsBad (sym e) tt)
-bad_operand left (operands.no_operand a b c) e = ap left_of e
+bad_operand left (operands.no_operand a b c) e = ap remaining_of e
 
 fault_from : (f : Fault) {d : ℕ} {bs : Text} → OperandFault d bs f → IsFaultFrom f bs
 fault_from (OpenBrace left) {d} h = (d, h)
@@ -90,26 +90,26 @@ fault_from (BadExpression left) h = bad_operand left h refl
 
 -- Tokens that go on
 
-abbrev Row : Type 0
-Row = List (Token Operand)
+abbrev TokenList : Type 0
+TokenList = List (Token Operand)
 
 -- what an operand is put for
 abbrev some_operand : Token Operand
 some_operand = value (number (48 ∷ [])) 0
 
 -- the other half of a choice
-abbrev other_half : Row
+abbrev other_half : TokenList
 other_half = mark marks.Colon ∷ (some_operand ∷ [])
 
 -- tokens with which an expression begins that has no operator between operands above the level
-abbrev ChainGoesOn : ℕ → Row → Type 0
-ChainGoesOn n ts = (more : Row) × (h : ℕ) × (e : Expr Operand) × IsChain Operand h n (ts ++ more) e
+abbrev ChainGoesOn : ℕ → TokenList → Type 0
+ChainGoesOn n ts = (more : TokenList) × (h : ℕ) × (e : Expr Operand) × IsChain Operand h n (ts ++ more) e
 
 record IsBehindChain (n : ℕ) (bs : Text) (f : Fault) : Type 0 where
-  tokens : Row
+  tokens : TokenList
   rest : Text
-  row : IsRow Operand IsOperand bs rest tokens
-  goes_on : ChainGoesOn n tokens
+  are_tokens : AreTokens Operand IsOperand bs rest tokens
+  is_viable : ChainGoesOn n tokens
   fault : IsFaultFrom f (after_white rest)
 
 nothing_yet : (n : ℕ) (bs : Text) (f : Fault) → IsFaultFrom f (after_white bs) → IsBehindChain n bs f
@@ -117,31 +117,31 @@ nothing_yet n bs f h =
     record {
       tokens = [];
       rest = bs;
-      row = refl;
-      goes_on = (some_operand ∷ [], 0, operand (number (48 ∷ [])), grammar.single (number (48 ∷ [])));
+      are_tokens = refl;
+      is_viable = (some_operand ∷ [], 0, operand (number (48 ∷ [])), grammar.single (number (48 ∷ [])));
       fault = h;
     }
 
-three : (a b c d : Row) → ((a ++ b) ++ c) ++ d ≡ a ++ (b ++ (c ++ d))
+three : (a b c d : TokenList) → ((a ++ b) ++ c) ++ d ≡ a ++ (b ++ (c ++ d))
 three a b c d = append_assoc (a ++ b) c d ∙ append_assoc a b (c ++ d)
 
 mutual
-  expr_front : {d : ℕ} {bs : Text} {f : Fault} → ExprFault Operand IsOperand OperandFault d bs f → IsBehindFront bs f
+  expr_front : {d : ℕ} {bs : Text} {f : Fault} → ExprFault Operand IsOperand OperandFault d bs f → FollowsViablePrefix bs f
   expr_front (faults.in_condition h) =
       let c = chain_front h in
       record {
         tokens = c.tokens;
         rest = c.rest;
-        row = c.row;
-        goes_on = (c.goes_on.0, c.goes_on.1, c.goes_on.2, grammar.simple c.goes_on.3);
+        are_tokens = c.are_tokens;
+        is_viable = (c.is_viable.0, c.is_viable.1, c.is_viable.2, grammar.simple c.is_viable.3);
         fault = c.fault;
       }
-  expr_front {bs = bs} (faults.deep_choice cs c after chain row) =
+  expr_front {bs = bs} (faults.deep_choice cs c after chain are_tokens) =
       record {
         tokens = [];
         rest = bs;
-        row = refl;
-        goes_on = (
+        are_tokens = refl;
+        is_viable = (
           some_operand ∷ [],
           0,
           operand (number (48 ∷ [])),
@@ -149,14 +149,14 @@ mutual
         );
         fault = tt;
       }
-  expr_front {bs = bs} (faults.in_yes cs c h after chain low row fault) =
+  expr_front {bs = bs} (faults.in_yes cs c h after chain low are_tokens fault) =
       let y = expr_front fault in
-      let g = y.goes_on in
+      let g = y.is_viable in
       record {
         tokens = (cs ++ mark marks.Question ∷ []) ++ y.tokens;
         rest = y.rest;
-        row = row_join Operand IsOperand (cs ++ mark marks.Question ∷ []) y.tokens bs after y.rest row y.row;
-        goes_on = (
+        are_tokens = row_join Operand IsOperand (cs ++ mark marks.Question ∷ []) y.tokens bs after y.rest are_tokens y.are_tokens;
+        is_viable = (
           g.0 ++ other_half,
           suc (max h (max g.1 0)),
           choice c g.2 (operand (number (48 ∷ []))),
@@ -167,12 +167,12 @@ mutual
         );
         fault = y.fault;
       }
-  expr_front {bs = bs} (faults.no_colon cs c h ys y i after chain low expr low_too row next) =
+  expr_front {bs = bs} (faults.no_colon cs c h ys y i after chain low expr low_too are_tokens next) =
       record {
         tokens = cs ++ mark marks.Question ∷ ys;
         rest = after;
-        row = row;
-        goes_on = (
+        are_tokens = are_tokens;
+        is_viable = (
           other_half,
           suc (max h (max i 0)),
           choice c y (operand (number (48 ∷ []))),
@@ -182,15 +182,15 @@ mutual
         );
         fault = refl;
       }
-  expr_front {bs = bs} (faults.in_no cs c h ys y i after chain low expr low_too row fault) =
+  expr_front {bs = bs} (faults.in_no cs c h ys y i after chain low expr low_too are_tokens fault) =
       let n = expr_front fault in
-      let g = n.goes_on in
-      let seen : Row = cs ++ mark marks.Question ∷ (ys ++ mark marks.Colon ∷ []) in
+      let g = n.is_viable in
+      let seen : TokenList = cs ++ mark marks.Question ∷ (ys ++ mark marks.Colon ∷ []) in
       record {
         tokens = seen ++ n.tokens;
         rest = n.rest;
-        row = row_join Operand IsOperand seen n.tokens bs after n.rest row n.row;
-        goes_on = (
+        are_tokens = row_join Operand IsOperand seen n.tokens bs after n.rest are_tokens n.are_tokens;
+        is_viable = (
           g.0,
           suc (max h (max i g.1)),
           choice c y g.2,
@@ -209,22 +209,22 @@ mutual
   chain_front {n = n} {bs = bs} (faults.deep_prefix m after at begins) = nothing_yet n bs TooDeep tt
   chain_front {n = n} (faults.in_signed m u after at sign h) =
       let c = chain_front h in
-      let g = c.goes_on in
+      let g = c.is_viable in
       record {
         tokens = mark m ∷ c.tokens;
         rest = c.rest;
-        row = (after, at, c.row);
-        goes_on = (g.0, suc g.1, unary u g.2, grammar.signed u sign g.3);
+        are_tokens = (after, at, c.are_tokens);
+        is_viable = (g.0, suc g.1, unary u g.2, grammar.signed u sign g.3);
         fault = c.fault;
       }
   chain_front {n = n} (faults.in_open after at h) =
       let e = expr_front h in
-      let g = e.goes_on in
+      let g = e.is_viable in
       record {
         tokens = mark marks.Open ∷ e.tokens;
         rest = e.rest;
-        row = (after, at, e.row);
-        goes_on = (
+        are_tokens = (after, at, e.are_tokens);
+        is_viable = (
           g.0 ++ mark marks.Close ∷ [],
           suc g.1,
           g.2,
@@ -234,23 +234,23 @@ mutual
         );
         fault = e.fault;
       }
-  chain_front {n = n} (faults.no_close ts e h after expr low row next) =
+  chain_front {n = n} (faults.no_close ts e h after expr low are_tokens next) =
       record {
         tokens = mark marks.Open ∷ ts;
         rest = after;
-        row = row;
-        goes_on = (mark marks.Close ∷ [], suc h, e, grammar.in_parentheses ts expr);
+        are_tokens = are_tokens;
+        is_viable = (mark marks.Close ∷ [], suc h, e, grammar.in_parentheses ts expr);
         fault = refl;
       }
-  chain_front {n = n} {bs = bs} (faults.deep_operator i ls l after low chain row) = nothing_yet n bs TooDeep tt
-  chain_front {n = n} {bs = bs} (faults.in_right i ls l h after low chain low_too row fault) =
+  chain_front {n = n} {bs = bs} (faults.deep_operator i ls l after low chain are_tokens) = nothing_yet n bs TooDeep tt
+  chain_front {n = n} {bs = bs} (faults.in_right i ls l h after low chain low_too are_tokens fault) =
       let r = chain_front fault in
-      let g = r.goes_on in
+      let g = r.is_viable in
       record {
         tokens = (ls ++ mark (marks.Infix i) ∷ []) ++ r.tokens;
         rest = r.rest;
-        row = row_join Operand IsOperand (ls ++ mark (marks.Infix i) ∷ []) r.tokens bs after r.rest row r.row;
-        goes_on = (
+        are_tokens = row_join Operand IsOperand (ls ++ mark (marks.Infix i) ∷ []) r.tokens bs after r.rest are_tokens r.are_tokens;
+        is_viable = (
           g.0,
           suc (max h g.1),
           joined i l g.2,
@@ -261,13 +261,13 @@ mutual
         fault = r.fault;
       }
 
-pub text_front : (d : ℕ) (bs : Text) (f : Fault) → ExprTextFault Operand IsOperand OperandFault d bs f → IsBehindFront bs f
+pub text_front : (d : ℕ) (bs : Text) (f : Fault) → ExprTextFault Operand IsOperand OperandFault d bs f → FollowsViablePrefix bs f
 text_front d bs f (faults.inside h) = expr_front h
-text_front d bs f (faults.left_over ts e h after expr low row next more) =
+text_front d bs f (faults.trailing ts e h after expr low are_tokens next more) =
     record {
       tokens = ts;
       rest = after;
-      row = row;
-      goes_on = ([], h, e, subst (λ us. IsExpr Operand h us e) (sym (append-nil ts)) expr);
+      are_tokens = are_tokens;
+      is_viable = ([], h, e, subst (λ us. IsExpr Operand h us e) (sym (append-nil ts)) expr);
       fault = refl;
     }

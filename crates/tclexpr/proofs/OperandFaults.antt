@@ -5,7 +5,7 @@ use Rattle.tclchars.specs.Runs.{Text, take_while, drop_while, begins}
 use Rattle.tclchars.specs.Bytes.{AllPass, MayBegin, DoesBegin}
 use Rattle.tclchars.specs.Classes.{is_name, in_class}
 use Rattle.tclchars.specs.Braces.{braced_at}
-use Rattle.tclchars.specs.Reading.{◌>>=◌, Read, read_map, left_of}
+use Rattle.tclchars.specs.Reading.{◌>>=◌, Read, read_map, remaining_of}
 use Rattle.tclchars.specs.declared.fault.Fault.{Fault}
 use Rattle.tclchars.specs.declared.fault.Fault.TheVariants.{OpenBrace, BadExpression}
 use Rattle.tclchars.proofs.BraceClose.{close_sound, found_close, is_byte}
@@ -370,12 +370,12 @@ operand_met d bs f (no_operand free none others) = at_other d bs free ∙ ap (nu
 
 -- the place of a fault lies within the text
 
-script_fault : (d : ℕ) (b : ℕ) (xs : Text) (f : Fault) → (b == 36 || b == 91) ≡ true → PartFault d (b ∷ xs) f → left_of f ≤ length (b ∷ xs)
+script_fault : (d : ℕ) (b : ℕ) (xs : Text) (f : Fault) → (b == 36 || b == 91) ≡ true → PartFault d (b ∷ xs) f → remaining_of f ≤ length (b ∷ xs)
 script_fault d b xs f opens h =
     script_whole.within d (b ∷ xs) f (script_whole.met d (b ∷ xs) f
     (script_faults.CommandsFault.first_command [] script_grammar.IsGap.nothing (no_hash b opens)
-    (script_faults.CommandFault.first_word (script_faults.WordFault.plain (no_expansion b opens)
-    (script_faults.PlainFault.in_bare (bare_byte b opens) (script_faults.PartsFault.first_part h)))))) where
+    (script_faults.CommandFault.first_word (script_faults.WordFault.not_expanding (no_expansion b opens)
+    (script_faults.UnexpandedWordFault.in_bare (bare_byte b opens) (script_faults.PartsFault.first_part h)))))) where
       no_hash : (b : ℕ) → (b == 36 || b == 91) ≡ true → not (b == 35) ≡ true
       no_hash b h = grind (arith, nat_tests)
 
@@ -388,19 +388,19 @@ script_fault d b xs f opens h =
       no_expansion : (b : ℕ) → (b == 36 || b == 91) ≡ true → Expands false (b ∷ xs) → ⊥
       no_expansion b h e = no_brace b h (head_is b 123 xs (42 ∷ (125 ∷ e.0)) e.1)
 
-quote_within : (d : ℕ) (xs : Text) (f : Fault) → PartsFault d InQuotes xs f → left_of f ≤ suc (length xs)
+quote_within : (d : ℕ) (xs : Text) (f : Fault) → PartsFault d InQuotes xs f → remaining_of f ≤ suc (length xs)
 quote_within d xs f h =
     script_whole.within d (34 ∷ xs) f (script_whole.met d (34 ∷ xs) f
     (script_faults.CommandsFault.first_command [] script_grammar.IsGap.nothing refl
-    (script_faults.CommandFault.first_word (script_faults.WordFault.plain no_expansion (script_faults.PlainFault.in_quotes h))))) where
+    (script_faults.CommandFault.first_word (script_faults.WordFault.not_expanding no_expansion (script_faults.UnexpandedWordFault.in_quotes h))))) where
       no_expansion : Expands false (34 ∷ xs) → ⊥
       no_expansion e = apart 34 123 xs (42 ∷ (125 ∷ e.0)) e.1 (λ e. omega arith)
 
-part_fault_within : (d : ℕ) (bs : Text) (f : Fault) → DoesBegin (λ b. b == 36 || b == 91) bs → PartFault d bs f → left_of f ≤ length bs
+part_fault_within : (d : ℕ) (bs : Text) (f : Fault) → DoesBegin (λ b. b == 36 || b == 91) bs → PartFault d bs f → remaining_of f ≤ length bs
 part_fault_within d [] f opens h = absurd opens
 part_fault_within d (b ∷ xs) f opens h = script_fault d b xs f opens h
 
-pub operand_within : {d : ℕ} {bs : Text} {f : Fault} → OperandFault d bs f → left_of f ≤ length bs
+pub operand_within : {d : ℕ} {bs : Text} {f : Fault} → OperandFault d bs f → remaining_of f ≤ length bs
 operand_within (in_substitution {d} {bs} {f} opens h) = part_fault_within d bs f opens h
 operand_within (lone_dollar h) = omega arith
 operand_within (open_brace h) = omega arith

@@ -12,8 +12,8 @@ use Rattle.tclscript.specs.Tree as tree
 use Rattle.tclscript.specs.Tree.{Part, Parts, parts_nesting, part_nesting}
 use Rattle.tclscript.specs.Grammar.{IsPart, IsParts}
 use Rattle.tclscript.specs.Ends.{parts_end}
-use Rattle.tclscript.specs.Pieces.{IsEndOf}
-use Rattle.tclscript.specs.Reading.{on_mark, closed, inner_at, dollar_at, bracket_at, parts_with, part_at, quotes_at, taken}
+use Rattle.tclscript.specs.Pieces.{IsSuffixOf}
+use Rattle.tclscript.specs.Reading.{on_mark, after_closing, inner_at, dollar_at, bracket_at, parts_with, part_at, quotes_at, taken}
 use Rattle.tclscript.proofs.Ends.{end_through, end_length}
 use Rattle.tclscript.proofs.Escapes.{back_end}
 use Rattle.tclscript.proofs.PartsExact.{part_sound, at_dollar, at_bracket}
@@ -50,9 +50,9 @@ operand_other d bs w x y z =
     let last = numeric bs (after_number bs) in
     let third : Read (Operand × ℕ) = on_mark 123 bs braced_text_at last in
     let second : Read (Operand × ℕ) = on_mark 34 bs (quoted_at d) third in
-    let first : Read (Operand × ℕ) = on_mark 91 bs (λ behind. bracket_at (inner_at d) behind >>= substituted (length bs)) second in
-    on_mark-not 36 bs (λ behind. dollar_at (inner_at d) behind >>= substituted (length bs)) first w
-    ∙ on_mark-not 91 bs (λ behind. bracket_at (inner_at d) behind >>= substituted (length bs)) second x
+    let first : Read (Operand × ℕ) = on_mark 91 bs (λ following. bracket_at (inner_at d) following >>= substituted (length bs)) second in
+    on_mark-not 36 bs (λ following. dollar_at (inner_at d) following >>= substituted (length bs)) first w
+    ∙ on_mark-not 91 bs (λ following. bracket_at (inner_at d) following >>= substituted (length bs)) second x
     ∙ on_mark-not 34 bs (quoted_at d) third y
     ∙ on_mark-not 123 bs braced_text_at last z
 
@@ -117,8 +117,8 @@ pub quotes_sound : (d : ℕ) (bs : Text) (ps : Parts) (rest : Text) → quotes_a
 unfolding quotes_at
 quotes_sound d bs ps rest h =
     let mark = OpenQuote (suc (length bs)) in
-    let x = bind_ok (parts_with InQuotes (inner_at d) bs) (λ x. closed 34 mark x.1 >>= (λ rest. let found : Read Parts = Ok (x.0, rest) in found)) (ps, rest) h in
-    let y = bind_ok (closed 34 mark x.0.1) (λ rest. let found : Read Parts = Ok (x.0.0, rest) in found) (ps, rest) x.2 in
+    let x = bind_ok (parts_with InQuotes (inner_at d) bs) (λ x. after_closing 34 mark x.1 >>= (λ rest. let found : Read Parts = Ok (x.0, rest) in found)) (ps, rest) h in
+    let y = bind_ok (after_closing 34 mark x.0.1) (λ rest. let found : Read Parts = Ok (x.0.0, rest) in found) (ps, rest) x.2 in
     let two = ok_pair (x.0.0, y.0) (ps, rest) y.2 in
     let t = parts_sound d (inner_at d) (inner_exact d) InQuotes bs x.0.0 x.0.1 tt x.1 in
     let after : x.0.1 ≡ 34 ∷ rest = closed_ok 34 mark x.0.1 y.0 y.1 ∙ ap (λ xs. 34 ∷ xs) two.1 in
@@ -141,71 +141,71 @@ brace_found d bs o rest (Some p) is h =
 
 -- Numbers and words
 
-pub digits_end : (k : Digits) (bs : Text) → IsEndOf bs (after_digits k bs)
+pub digits_end : (k : Digits) (bs : Text) → IsSuffixOf bs (after_digits k bs)
 unfolding after_digits
 digits_end k bs = back_end (is_digit k) bs
 
-end_here : (bs : Text) → IsEndOf bs bs
+end_here : (bs : Text) → IsSuffixOf bs bs
 end_here bs = ([], refl)
 
-end_first : (b : ℕ) (bs rest : Text) → IsEndOf bs rest → IsEndOf (b ∷ bs) rest
+end_first : (b : ℕ) (bs rest : Text) → IsSuffixOf bs rest → IsSuffixOf (b ∷ bs) rest
 end_first b bs rest h = (b ∷ h.0, ap (λ xs. b ∷ xs) h.1)
 
-sign_end : (bs : Text) → IsEndOf bs (after_sign bs)
+sign_end : (bs : Text) → IsSuffixOf bs (after_sign bs)
 sign_end [] = end_here []
 sign_end (b ∷ bs) = go (is_sign b) where
-  go : (t : Bool) → IsEndOf (b ∷ bs) (cond t bs (b ∷ bs))
+  go : (t : Bool) → IsSuffixOf (b ∷ bs) (cond t bs (b ∷ bs))
   go true = end_first b bs bs (end_here bs)
   go false = end_here (b ∷ bs)
 
-pub exponent_end : (bs : Text) → IsEndOf bs (after_exponent bs)
+pub exponent_end : (bs : Text) → IsSuffixOf bs (after_exponent bs)
 exponent_end [] = end_here []
 exponent_end (b ∷ bs) = go ((b == 101 || b == 69) && begins_digit Decimal (after_sign bs)) where
-  go : (t : Bool) → IsEndOf (b ∷ bs) (cond t (after_digits Decimal (after_sign bs)) (b ∷ bs))
+  go : (t : Bool) → IsSuffixOf (b ∷ bs) (cond t (after_digits Decimal (after_sign bs)) (b ∷ bs))
   go true = end_first b bs (after_digits Decimal (after_sign bs)) (end_through bs (after_sign bs) (after_digits Decimal (after_sign bs)) (sign_end bs) (digits_end Decimal (after_sign bs)))
   go false = end_here (b ∷ bs)
 
-pub fraction_end : (bs : Text) → IsEndOf bs (after_fraction bs)
+pub fraction_end : (bs : Text) → IsSuffixOf bs (after_fraction bs)
 fraction_end [] = end_here []
 fraction_end (b ∷ bs) = go (b == 46) where
-  go : (t : Bool) → IsEndOf (b ∷ bs) (cond t (after_digits Decimal bs) (b ∷ bs))
+  go : (t : Bool) → IsSuffixOf (b ∷ bs) (cond t (after_digits Decimal bs) (b ∷ bs))
   go true = end_first b bs (after_digits Decimal bs) (digits_end Decimal bs)
   go false = end_here (b ∷ bs)
 
-decimal_end : (bs rest : Text) → after_decimal bs ≡ Some rest → IsEndOf bs rest
+decimal_end : (bs rest : Text) → after_decimal bs ≡ Some rest → IsSuffixOf bs rest
 decimal_end bs rest h = go (begins_digit Decimal bs || begins_point bs) h where
-  go : (t : Bool) → cond t (Some (after_exponent (after_fraction (after_digits Decimal bs)))) None ≡ Some rest → IsEndOf bs rest
+  go : (t : Bool) → cond t (Some (after_exponent (after_fraction (after_digits Decimal bs)))) None ≡ Some rest → IsSuffixOf bs rest
   go true h =
       let same : after_exponent (after_fraction (after_digits Decimal bs)) ≡ rest = cc in
       let digits = after_digits Decimal bs in
-      subst (IsEndOf bs) same (end_through bs (after_fraction digits) (after_exponent (after_fraction digits)) (end_through bs digits (after_fraction digits) (digits_end Decimal bs) (fraction_end digits)) (exponent_end (after_fraction digits)))
+      subst (IsSuffixOf bs) same (end_through bs (after_fraction digits) (after_exponent (after_fraction digits)) (end_through bs digits (after_fraction digits) (digits_end Decimal bs) (fraction_end digits)) (exponent_end (after_fraction digits)))
   go false h = cc
 
-pub announced_end : (bs rest : Text) (found : Option Digits) → after_announced bs found ≡ Some rest → IsEndOf bs rest
+pub announced_end : (bs rest : Text) (found : Option Digits) → after_announced bs found ≡ Some rest → IsSuffixOf bs rest
 announced_end bs rest None h = cc
 announced_end bs rest (Some k) h = go (begins_digit k bs) h where
-  go : (t : Bool) → cond t (Some (after_digits k bs)) None ≡ Some rest → IsEndOf bs rest
-  go true h = let same : after_digits k bs ≡ rest = cc in subst (IsEndOf bs) same (digits_end k bs)
+  go : (t : Bool) → cond t (Some (after_digits k bs)) None ≡ Some rest → IsSuffixOf bs rest
+  go true h = let same : after_digits k bs ≡ rest = cc in subst (IsSuffixOf bs) same (digits_end k bs)
   go false h = cc
 
-based_end : (bs rest : Text) → after_based bs ≡ Some rest → IsEndOf bs rest
+based_end : (bs rest : Text) → after_based bs ≡ Some rest → IsSuffixOf bs rest
 based_end [] rest h = cc
 based_end (b ∷ []) rest h = cc
 based_end (b ∷ (c ∷ bs)) rest h = go (b == 48) h where
-  go : (t : Bool) → cond t (after_announced bs (announced c)) None ≡ Some rest → IsEndOf (b ∷ (c ∷ bs)) rest
+  go : (t : Bool) → cond t (after_announced bs (announced c)) None ≡ Some rest → IsSuffixOf (b ∷ (c ∷ bs)) rest
   go true h = end_first b (c ∷ bs) rest (end_first c bs rest (announced_end bs rest (announced c) h))
   go false h = cc
 
-both_end : (bs rest : Text) (one two : Option Text) → ((r : Text) → one ≡ Some r → IsEndOf bs r) → ((r : Text) → two ≡ Some r → IsEndOf bs r) → first_of_both one two ≡ Some rest → IsEndOf bs rest
+both_end : (bs rest : Text) (one two : Option Text) → ((r : Text) → one ≡ Some r → IsSuffixOf bs r) → ((r : Text) → two ≡ Some r → IsSuffixOf bs r) → first_of_both one two ≡ Some rest → IsSuffixOf bs rest
 both_end bs rest None two x y h = y rest h
 both_end bs rest (Some r) two x y h = x rest h
 
-pub number_end : (bs rest : Text) → after_number bs ≡ Some rest → IsEndOf bs rest
+pub number_end : (bs rest : Text) → after_number bs ≡ Some rest → IsSuffixOf bs rest
 unfolding after_number
 number_end bs rest h = both_end bs rest (after_based bs) (after_decimal bs) (based_end bs) (decimal_end bs) h
 
 -- what was read of a text before its end
-pub taken_whole : (bs rest : Text) → IsEndOf bs rest → bs ≡ taken bs rest ++ rest
+pub taken_whole : (bs rest : Text) → IsSuffixOf bs rest → bs ≡ taken bs rest ++ rest
 taken_whole bs rest e = e.1 ∙ ap (λ xs. xs ++ rest) (sym front_is) where
   front_is : taken bs rest ≡ e.0
   front_is = ap (λ n. take n bs) (end_length bs rest e) ∙ ap (take (length e.0)) e.1 ∙ take_front e.0 rest where
@@ -242,7 +242,7 @@ operand_sound d bs o rest h = at_opening (opening bs) where
   at_opening (other w x y z) = numeric_found d bs o rest (after_number bs) refl (sym (operand_other d bs w x y z) ∙ h)
 
 -- what follows an operand is an end of the text
-pub operand_end : (bs rest : Text) (o : Operand) (k : ℕ) → IsOperand bs rest o k → IsEndOf bs rest
+pub operand_end : (bs rest : Text) (o : Operand) (k : ℕ) → IsOperand bs rest o k → IsSuffixOf bs rest
 operand_end bs rest (number t) k h = (t, h.0)
 operand_end bs rest (word t) k h = (t, h.0)
 operand_end bs rest (variable name) k h = (h.0, h.1)

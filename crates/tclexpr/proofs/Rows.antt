@@ -8,14 +8,14 @@ use Rattle.tclchars.specs.Classes.{is_name}
 use Rattle.tclexpr.specs.declared.operators.Mark.{Mark}
 use Rattle.tclexpr.specs.Tree.{Token, value, mark}
 use Rattle.tclexpr.specs.Marks.{after_white, mark_at, before, longest, symbol_at, word_mark, one_byte, two_bytes}
-use Rattle.tclexpr.specs.Row.{IsToken, IsRow}
+use Rattle.tclexpr.specs.TokenList.{IsToken, AreTokens}
 
 module _ (O : Type 0) (IsOperand : Text → Text → O → ℕ → Type 0) where
-  pub row_join : (ts us : List (Token O)) (bs middle rest : Text) → IsRow O IsOperand bs middle ts → IsRow O IsOperand middle rest us → IsRow O IsOperand bs rest (ts ++ us)
-  row_join [] us bs middle rest h k = subst (λ ys. IsRow O IsOperand ys rest us) (sym h) k
+  pub row_join : (ts us : List (Token O)) (bs middle rest : Text) → AreTokens O IsOperand bs middle ts → AreTokens O IsOperand middle rest us → AreTokens O IsOperand bs rest (ts ++ us)
+  row_join [] us bs middle rest h k = subst (λ ys. AreTokens O IsOperand ys rest us) (sym h) k
   row_join (t ∷ ts) us bs middle rest h k = (h.0, h.1, row_join ts us h.0 middle rest h.2 k)
 
-  pub row_cut : (ts us : List (Token O)) (bs rest : Text) → IsRow O IsOperand bs rest (ts ++ us) → (middle : Text) × IsRow O IsOperand bs middle ts × IsRow O IsOperand middle rest us
+  pub row_cut : (ts us : List (Token O)) (bs rest : Text) → AreTokens O IsOperand bs rest (ts ++ us) → (middle : Text) × AreTokens O IsOperand bs middle ts × AreTokens O IsOperand middle rest us
   row_cut [] us bs rest h = (bs, refl, h)
   row_cut (t ∷ ts) us bs rest h = let more = row_cut ts us h.0 rest h.2 in (more.0, (h.0, h.1, more.1), more.2)
 
@@ -69,9 +69,9 @@ module _ (O : Type 0) (IsOperand : Text → Text → O → ℕ → Type 0) (shor
   token_shorter (value o k) bs rest h = omega (arith, after_white_no_longer bs, shorter (after_white bs) rest o k h.1)
   token_shorter (mark m) bs rest h = omega (arith, after_white_no_longer bs, mark_shorter (after_white bs) m rest h)
 
-  pub row_no_longer : (ts : List (Token O)) (bs rest : Text) → IsRow O IsOperand bs rest ts → length rest ≤ length bs
+  pub row_no_longer : (ts : List (Token O)) (bs rest : Text) → AreTokens O IsOperand bs rest ts → length rest ≤ length bs
   row_no_longer [] bs rest h = omega (arith, ap length h)
   row_no_longer (t ∷ ts) bs rest h = omega (arith, token_shorter t bs h.0 h.1, row_no_longer ts h.0 rest h.2)
 
-  pub row_shorter : (t : Token O) (ts : List (Token O)) (bs rest : Text) → IsRow O IsOperand bs rest (t ∷ ts) → length rest < length bs
+  pub row_shorter : (t : Token O) (ts : List (Token O)) (bs rest : Text) → AreTokens O IsOperand bs rest (t ∷ ts) → length rest < length bs
   row_shorter t ts bs rest h = omega (arith, token_shorter t bs h.0 h.1, row_no_longer ts h.0 rest h.2)

@@ -15,9 +15,9 @@ use Rattle.tclexpr.specs.declared.operators.Mark.TheVariants as marks
 use Rattle.tclexpr.specs.Tree.{Expr, operand, unary, choice, Token, value, mark}
 use Rattle.tclexpr.specs.Grammar.{level, sign_of, IsExpr, simple, choosing, IsChain, single, in_parentheses, signed, joining}
 use Rattle.tclexpr.specs.Marks.{after_white, mark_at}
-use Rattle.tclexpr.specs.Row.{IsRow, IsExprText}
+use Rattle.tclexpr.specs.TokenList.{AreTokens, IsExprText}
 use Rattle.tclexpr.specs.Faults.{NextIsNot, MayFollow, Follows}
-use Rattle.tclexpr.specs.Reading.{Extent, whole, chain, is_close, is_colon, is_question, is_open, infix_of, expected, expect, signed_at, enclosed_at, begun_at, prefix_at, join, next_at, going_at, climb_at, chain_at, branches_at, choosing_at, whole_at, below_at, ended, expr_at}
+use Rattle.tclexpr.specs.Reading.{Extent, whole, chain, is_close, is_colon, is_question, is_open, infix_of, after_expected, expect, signed_at, enclosed_at, begun_at, prefix_at, join, next_at, going_at, climb_at, chain_at, branches_at, choosing_at, whole_at, below_at, ended, expr_at}
 use Rattle.tclexpr.proofs.Results.{found_once, found_none, infix_once}
 use Rattle.tclexpr.proofs.Rows.{row_join}
 
@@ -133,10 +133,10 @@ pub le_not : (a b : ℕ) → nat_le a b ≡ false → b < a
 le_not a b h = grind (arith, nat_tests)
 
 -- a mark that had to come next, came
-pub expected_ok : (wanted : Mark → Bool) (left : ℕ) (found : Option (Mark × Text)) (rest : Text) → expected wanted left found ≡ Ok rest → (m : Mark) × (found ≡ Some (m, rest)) × (wanted m ≡ true)
-expected_ok wanted left None rest h = cc
-expected_ok wanted left (Some p) rest h = tested (wanted p.0) refl h where
-  tested : (t : Bool) → wanted p.0 ≡ t → cond t (let ok : Result Text Fault = Ok p.1 in ok) (Err (BadExpression left)) ≡ Ok rest → (m : Mark) × (Some p ≡ Some (m, rest)) × (wanted m ≡ true)
+pub expected_ok : (expected : Mark → Bool) (left : ℕ) (found : Option (Mark × Text)) (rest : Text) → after_expected expected left found ≡ Ok rest → (m : Mark) × (found ≡ Some (m, rest)) × (expected m ≡ true)
+expected_ok expected left None rest h = cc
+expected_ok expected left (Some p) rest h = tested (expected p.0) refl h where
+  tested : (t : Bool) → expected p.0 ≡ t → cond t (let ok : Result Text Fault = Ok p.1 in ok) (Err (BadExpression left)) ≡ Ok rest → (m : Mark) × (Some p ≡ Some (m, rest)) × (expected m ≡ true)
   tested true t h = let same : p.1 ≡ rest = cc in (p.0, ap (λ r. Some (p.0, r)) same, t)
   tested false t h = cc
 
@@ -151,14 +151,14 @@ module _ (O : Type 0) (IsOperand : Text → Text → O → ℕ → Type 0) where
   -- what was read, nested less deep than d
   pub record TookChain (d n : ℕ) (bs : Text) (x : Expr O × ℕ) (rest : Text) : Type 0 where
     pub tokens : List (Token O)
-    pub row : IsRow O IsOperand bs rest tokens
+    pub are_tokens : AreTokens O IsOperand bs rest tokens
     pub is : IsChain O x.1 n tokens x.0
     pub deep : x.1 < d
     pub follows : Follows (suc n) rest
 
   pub record TookWhole (d : ℕ) (bs : Text) (x : Expr O × ℕ) (rest : Text) : Type 0 where
     pub tokens : List (Token O)
-    pub row : IsRow O IsOperand bs rest tokens
+    pub are_tokens : AreTokens O IsOperand bs rest tokens
     pub is : IsExpr O x.1 tokens x.0
     pub deep : x.1 < d
     pub ends : NextIsNot MayFollow rest
@@ -176,7 +176,7 @@ module _ (O : Type 0) (IsOperand : Text → Text → O → ℕ → Type 0) where
       -- a beginning, of whatever level
       pub record TookPrefix (bs : Text) (x : Expr O × ℕ) (rest : Text) : Type 0 where
         pub tokens : List (Token O)
-        pub row : IsRow O IsOperand bs rest tokens
+        pub are_tokens : AreTokens O IsOperand bs rest tokens
         pub is : IsChain O x.1 0 tokens x.0
         pub deep : x.1 ≤ d
 
@@ -186,7 +186,7 @@ module _ (O : Type 0) (IsOperand : Text → Text → O → ℕ → Type 0) where
       signed_sound bs left m after is x rest (Some u) s h =
           let y = read_map_ok (λ (x : Expr O × ℕ). let made : Expr O × ℕ = (unary u x.0, suc x.1) in made) (below (chain 1) after) x rest h in
           let t = sound (chain 1) after y.0 rest y.1 in
-          let made : TookPrefix bs (unary u y.0.0, suc y.0.1) rest = record { tokens = mark m ∷ t.tokens; row = (after, is, t.row); is = signed u s t.is; deep = t.deep } in
+          let made : TookPrefix bs (unary u y.0.0, suc y.0.1) rest = record { tokens = mark m ∷ t.tokens; are_tokens = (after, is, t.are_tokens); is = signed u s t.is; deep = t.deep } in
           subst (λ x. TookPrefix bs x rest) y.2 made
 
       enclosed_sound : (bs after : Text) → mark_at (after_white bs) ≡ Some (marks.Open, after) → (x : Expr O × ℕ) (rest : Text) → enclosed_at read_operand below after ≡ Ok (x, rest) → TookPrefix bs x rest
@@ -199,7 +199,7 @@ module _ (O : Type 0) (IsOperand : Text → Text → O → ℕ → Type 0) where
           let closes : mark_at (after_white y.0.1) ≡ Some (marks.Close, z.0) = c.1 ∙ ap (λ m. Some (m, z.0)) (close_is c.0 c.2) in
           let made : TookPrefix bs (y.0.0.0, suc y.0.0.1) z.0 = record {
             tokens = mark marks.Open ∷ (t.tokens ++ mark marks.Close ∷ []);
-            row = (after, is, row_join O IsOperand t.tokens (mark marks.Close ∷ []) after y.0.1 z.0 t.row (z.0, closes, refl));
+            are_tokens = (after, is, row_join O IsOperand t.tokens (mark marks.Close ∷ []) after y.0.1 z.0 t.are_tokens (z.0, closes, refl));
             is = in_parentheses t.tokens t.is;
             deep = t.deep;
           } in
@@ -214,7 +214,7 @@ module _ (O : Type 0) (IsOperand : Text → Text → O → ℕ → Type 0) where
       begun_sound bs x rest None is h =
           let y = read_map_ok (λ (o : O × ℕ). let made : Expr O × ℕ = (operand o.0, o.1) in made) (read_operand d (after_white bs)) x rest h in
           let s = operand_sound d (after_white bs) y.0 rest y.1 in
-          let made : TookPrefix bs (operand y.0.0, y.0.1) rest = record { tokens = value y.0.0 y.0.1 ∷ []; row = (rest, (is, s.0), refl); is = single y.0.0; deep = s.1 } in
+          let made : TookPrefix bs (operand y.0.0, y.0.1) rest = record { tokens = value y.0.0 y.0.1 ∷ []; are_tokens = (rest, (is, s.0), refl); is = single y.0.0; deep = s.1 } in
           subst (λ x. TookPrefix bs x rest) y.2 made
       begun_sound bs x rest (Some p) is h = marked_sound bs (length (after_white bs)) p.0 p.1 is x rest (is_open p.0) refl h
 
@@ -226,14 +226,14 @@ module _ (O : Type 0) (IsOperand : Text → Text → O → ℕ → Type 0) where
       pub record TookFront (n : ℕ) (bs : Text) (x : Expr O × ℕ) (rest : Text) : Type 0 where
         pub upto : ℕ
         pub tokens : List (Token O)
-        pub row : IsRow O IsOperand bs rest tokens
+        pub are_tokens : AreTokens O IsOperand bs rest tokens
         pub is : IsChain O x.1 upto tokens x.0
         pub within : upto ≤ n
         pub deep : x.1 ≤ d
         pub follows : Follows upto rest
 
       chain_ends : (n : ℕ) (bs : Text) (x : Expr O × ℕ) (rest : Text) → TookFront n bs x rest → Follows (suc n) rest → TookChain (suc d) n bs x rest
-      chain_ends n bs x rest t f = record { tokens = t.tokens; row = t.row; is = chain_weaker t.is n t.within; deep = omega (arith, t.deep); follows = f }
+      chain_ends n bs x rest t f = record { tokens = t.tokens; are_tokens = t.are_tokens; is = chain_weaker t.is n t.within; deep = omega (arith, t.deep); follows = f }
 
       -- one operator more
       pub front_more : (n : ℕ) (bs : Text) (x : Expr O × ℕ) (rest : Text) → TookFront n bs x rest → (i : Infix) (after : Text) → mark_at (after_white rest) ≡ Some (marks.Infix i, after) → level i ≤ n → x.1 < d
@@ -243,7 +243,7 @@ module _ (O : Type 0) (IsOperand : Text → Text → O → ℕ → Type 0) where
           record {
             upto = level i;
             tokens = t.tokens ++ mark (marks.Infix i) ∷ r.tokens;
-            row = row_join O IsOperand t.tokens (mark (marks.Infix i) ∷ r.tokens) bs rest end t.row (after, is, r.row);
+            are_tokens = row_join O IsOperand t.tokens (mark (marks.Infix i) ∷ r.tokens) bs rest end t.are_tokens (after, is, r.are_tokens);
             is = joining i t.tokens r.tokens (omega arith) (chain_weaker t.is (level i) (t.follows i after is)) r.is;
             within = within;
             deep = omega (arith, r.deep);
@@ -304,7 +304,7 @@ module _ (O : Type 0) (IsOperand : Text → Text → O → ℕ → Type 0) where
           going_sound n bs x rest t (climb_at read_operand d below n turns) (λ x rest t y end h. climb_sound n turns bs x rest t y end h) y end (mark_at (after_white rest)) refl h
 
       pub prefix_front : (n : ℕ) (bs : Text) (x : Expr O × ℕ) (rest : Text) → TookPrefix bs x rest → TookFront n bs x rest
-      prefix_front n bs x rest t = record { upto = 0; tokens = t.tokens; row = t.row; is = t.is; within = omega arith; deep = t.deep; follows = λ i rest is. omega arith }
+      prefix_front n bs x rest t = record { upto = 0; tokens = t.tokens; are_tokens = t.are_tokens; is = t.is; within = omega arith; deep = t.deep; follows = λ i rest is. omega arith }
 
       pub chain_sound : (n : ℕ) (bs : Text) (x : Expr O × ℕ) (rest : Text) → chain_at read_operand d below n bs ≡ Ok (x, rest) → TookChain (suc d) n bs x rest
       unfolding chain_at
@@ -314,7 +314,7 @@ module _ (O : Type 0) (IsOperand : Text → Text → O → ℕ → Type 0) where
 
       -- Whole expressions
       expression_ends : (bs : Text) (x : Expr O × ℕ) (rest : Text) → TookChain (suc d) 13 bs x rest → ((after : Text) → mark_at (after_white rest) ≡ Some (marks.Question, after) → ⊥) → TookWhole (suc d) bs x rest
-      expression_ends bs x rest t none = record { tokens = t.tokens; row = t.row; is = simple t.is; deep = t.deep; ends = ends } where
+      expression_ends bs x rest t none = record { tokens = t.tokens; are_tokens = t.are_tokens; is = simple t.is; deep = t.deep; ends = ends } where
         ends : NextIsNot MayFollow rest
         ends marks.Open after is h = h
         ends marks.Close after is h = h
@@ -335,11 +335,11 @@ module _ (O : Type 0) (IsOperand : Text → Text → O → ℕ → Type 0) where
           let ty = sound whole after y.0.0 y.0.1 y.1 in
           let tz = sound whole k.0 z.0.0 z.0.1 z.1 in
           let colon : mark_at (after_white y.0.1) ≡ Some (marks.Colon, k.0) = c.1 ∙ ap (λ m. Some (m, k.0)) (colon_is c.0 c.2) in
-          let last : IsRow O IsOperand y.0.1 z.0.1 (mark marks.Colon ∷ tz.tokens) = (k.0, colon, tz.row) in
+          let last : AreTokens O IsOperand y.0.1 z.0.1 (mark marks.Colon ∷ tz.tokens) = (k.0, colon, tz.are_tokens) in
           let made : TookWhole (suc d) bs (choice x.0 y.0.0.0 z.0.0.0, suc (max x.1 (max y.0.0.1 z.0.0.1))) z.0.1 = record {
             tokens = t.tokens ++ mark marks.Question ∷ (ty.tokens ++ mark marks.Colon ∷ tz.tokens);
-            row = row_join O IsOperand t.tokens (mark marks.Question ∷ (ty.tokens ++ mark marks.Colon ∷ tz.tokens)) bs rest z.0.1 t.row
-                (after, is, row_join O IsOperand ty.tokens (mark marks.Colon ∷ tz.tokens) after y.0.1 z.0.1 ty.row last);
+            are_tokens = row_join O IsOperand t.tokens (mark marks.Question ∷ (ty.tokens ++ mark marks.Colon ∷ tz.tokens)) bs rest z.0.1 t.are_tokens
+                (after, is, row_join O IsOperand ty.tokens (mark marks.Colon ∷ tz.tokens) after y.0.1 z.0.1 ty.are_tokens last);
             is = choosing t.tokens ty.tokens tz.tokens t.is ty.is tz.is;
             deep = omega (arith, ty.deep, tz.deep);
             ends = tz.ends;
@@ -387,4 +387,4 @@ module _ (O : Type 0) (IsOperand : Text → Text → O → ℕ → Type 0) where
         let x = bind_ok (whole_at read_operand d (below_at read_operand d) bs) (λ x. ended x.0.0 (after_white x.1)) e h in
         let t = whole_sound d (below_at read_operand d) (below_sound d) bs x.0.0 x.0.1 x.1 in
         let all = ended_ok x.0.0.0 e (after_white x.0.1) x.2 in
-        (x.0.0.1, omega (arith, t.deep), (t.tokens, x.0.1, subst (IsExpr O x.0.0.1 t.tokens) all.0 t.is, t.row, all.1))
+        (x.0.0.1, omega (arith, t.deep), (t.tokens, x.0.1, subst (IsExpr O x.0.0.1 t.tokens) all.0 t.is, t.are_tokens, all.1))

@@ -7,7 +7,7 @@ use Rattle.tclchars.specs.declared.fault.Fault.TheVariants.{TooDeep}
 use Rattle.tclchars.specs.declared.fault.ReadError.{ReadError}
 use Rattle.tclchars.specs.declared.fault.ReadError.TheVariants as errors
 use Rattle.tclchars.specs.Reading.{◌>>=◌, Read, Fails}
-use Rattle.tclscript.specs.Pieces.{IsEndOf}
+use Rattle.tclscript.specs.Pieces.{IsSuffixOf}
 use Rattle.tclscript.proofs.Ends.{end_same, end_behind, end_through, end_no_longer}
 use Rattle.tclscript.proofs.Escapes.{back_end}
 use Rattle.tclexpr.specs.declared.operators.Infix.{Infix}
@@ -16,7 +16,7 @@ use Rattle.tclexpr.specs.declared.operators.Mark.TheVariants as marks
 use Rattle.tclexpr.specs.Tree.{Token, value, mark}
 use Rattle.tclexpr.specs.Grammar.{level}
 use Rattle.tclexpr.specs.Marks.{begins_white, after_white, mark_at, before, longest, symbol_at, word_mark, one_byte, two_bytes}
-use Rattle.tclexpr.specs.Row.{IsRow}
+use Rattle.tclexpr.specs.TokenList.{AreTokens}
 use Rattle.tclexpr.specs.Faults.{Follows}
 use Rattle.tclexpr.specs.Operands.{Operand, operand_at}
 use Rattle.tclexpr.specs.OperandGrammar.{IsOperand}
@@ -28,63 +28,63 @@ use Rattle.tclexpr.proofs.OperandSound.{operand_sound, operand_end}
 
 -- Ends of texts
 
-white_end_one : (b : ℕ) (bs : Text) (t : Bool) → IsEndOf bs (after_white bs) → IsEndOf (b ∷ bs) (cond t (after_white bs) (b ∷ bs))
+white_end_one : (b : ℕ) (bs : Text) (t : Bool) → IsSuffixOf bs (after_white bs) → IsSuffixOf (b ∷ bs) (cond t (after_white bs) (b ∷ bs))
 white_end_one b bs true h = end_behind b bs (after_white bs) h
 white_end_one b bs false h = end_same (b ∷ bs)
 
-pub white_end : (bs : Text) → IsEndOf bs (after_white bs)
+pub white_end : (bs : Text) → IsSuffixOf bs (after_white bs)
 unfolding after_white
 white_end [] = end_same []
 white_end (b ∷ bs) = white_end_one b bs (begins_white (b ∷ bs)) (white_end bs)
 
-symbol_end : (bs : Text) (m : Mark) (r : Text) → symbol_at bs ≡ Some (m, r) → IsEndOf bs r
+symbol_end : (bs : Text) (m : Mark) (r : Text) → symbol_at bs ≡ Some (m, r) → IsSuffixOf bs r
 symbol_end [] m r h = cc
-symbol_end (b ∷ []) m r h = let two = before_found [] (one_byte b) m r h in subst (IsEndOf (b ∷ [])) (sym two.1) (b ∷ [], refl)
+symbol_end (b ∷ []) m r h = let two = before_found [] (one_byte b) m r h in subst (IsSuffixOf (b ∷ [])) (sym two.1) (b ∷ [], refl)
 symbol_end (b ∷ (c ∷ bs)) m r h = by_test (b == 42 && c == 42) h where
-  by_test : (t : Bool) → cond t None (longest (before bs (two_bytes b c)) (before (c ∷ bs) (one_byte b))) ≡ Some (m, r) → IsEndOf (b ∷ (c ∷ bs)) r
+  by_test : (t : Bool) → cond t None (longest (before bs (two_bytes b c)) (before (c ∷ bs) (one_byte b))) ≡ Some (m, r) → IsSuffixOf (b ∷ (c ∷ bs)) r
   by_test true h = cc
   by_test false h = elim (longest_found (before bs (two_bytes b c)) (before (c ∷ bs) (one_byte b)) (m, r) h) [
-    | inl k ↦ (let two = before_found bs (two_bytes b c) m r k in subst (IsEndOf (b ∷ (c ∷ bs))) (sym two.1) (b ∷ (c ∷ []), refl))
-    | inr k ↦ (let two = before_found (c ∷ bs) (one_byte b) m r k in subst (IsEndOf (b ∷ (c ∷ bs))) (sym two.1) (b ∷ [], refl))
+    | inl k ↦ (let two = before_found bs (two_bytes b c) m r k in subst (IsSuffixOf (b ∷ (c ∷ bs))) (sym two.1) (b ∷ (c ∷ []), refl))
+    | inr k ↦ (let two = before_found (c ∷ bs) (one_byte b) m r k in subst (IsSuffixOf (b ∷ (c ∷ bs))) (sym two.1) (b ∷ [], refl))
   ]
 
-mark_end_here : (bs : Text) (m : Mark) (r : Text) → mark_at bs ≡ Some (m, r) → IsEndOf bs r
+mark_end_here : (bs : Text) (m : Mark) (r : Text) → mark_at bs ≡ Some (m, r) → IsSuffixOf bs r
 unfolding mark_at
 mark_end_here bs m r h = elim (longest_found (before (drop_while is_name bs) (word_mark (take_while is_name bs))) (symbol_at bs) (m, r) h) [
-  | inl k ↦ subst (IsEndOf bs) (sym (before_found (drop_while is_name bs) (word_mark (take_while is_name bs)) m r k).1) (back_end is_name bs)
+  | inl k ↦ subst (IsSuffixOf bs) (sym (before_found (drop_while is_name bs) (word_mark (take_while is_name bs)) m r k).1) (back_end is_name bs)
   | inr k ↦ symbol_end bs m r k
 ]
 
 -- what follows the next mark is an end of the text
-pub mark_end : (bs : Text) (m : Mark) (r : Text) → mark_at (after_white bs) ≡ Some (m, r) → IsEndOf bs r
+pub mark_end : (bs : Text) (m : Mark) (r : Text) → mark_at (after_white bs) ≡ Some (m, r) → IsSuffixOf bs r
 mark_end bs m r h = end_through bs (after_white bs) r (white_end bs) (mark_end_here (after_white bs) m r h)
 
-row_end : (ts : List (Token Operand)) (bs rest : Text) → IsRow Operand IsOperand bs rest ts → IsEndOf bs rest
-row_end [] bs rest h = subst (IsEndOf bs) h (end_same bs)
+row_end : (ts : List (Token Operand)) (bs rest : Text) → AreTokens Operand IsOperand bs rest ts → IsSuffixOf bs rest
+row_end [] bs rest h = subst (IsSuffixOf bs) h (end_same bs)
 row_end (value o k ∷ ts) bs rest h = end_through bs h.0 rest (end_through bs (after_white bs) h.0 (white_end bs) (operand_end (after_white bs) h.0 o k h.1.1)) (row_end ts h.0 rest h.2)
 row_end (mark m ∷ ts) bs rest h = end_through bs h.0 rest (mark_end bs m h.0 h.1) (row_end ts h.0 rest h.2)
 
 -- the rest is an end of the text, and what was read nests no deeper than d
 abbrev pub Leaves : ℕ → Text → WithHeight Operand → Text → Type 0
-Leaves d bs x rest = IsEndOf bs rest × (x.1 ≤ d)
+Leaves d bs x rest = IsSuffixOf bs rest × (x.1 ≤ d)
 
 pub prefix_leaves : (d : ℕ) (bs : Text) (x : WithHeight Operand) (rest : Text) → prefix_at operand_at d (below_at operand_at d) bs ≡ Ok (x, rest) → Leaves d bs x rest
 prefix_leaves d bs x rest h =
     let t = prefix_sound Operand IsOperand operand_at operand_sound d (below_at operand_at d) (below_sound Operand IsOperand operand_at operand_sound d) bs x rest h in
-    (row_end t.tokens bs rest t.row, t.deep)
+    (row_end t.tokens bs rest t.are_tokens, t.deep)
 
 pub chain_leaves : (d n : ℕ) (bs : Text) (x : WithHeight Operand) (rest : Text) → chain_at operand_at d (below_at operand_at d) n bs ≡ Ok (x, rest) → Leaves d bs x rest
 chain_leaves d n bs x rest h =
     let t = chain_sound Operand IsOperand operand_at operand_sound d (below_at operand_at d) (below_sound Operand IsOperand operand_at operand_sound d) n bs x rest h in
-    (row_end t.tokens bs rest t.row, omega (arith, t.deep))
+    (row_end t.tokens bs rest t.are_tokens, omega (arith, t.deep))
 
 pub whole_leaves : (d : ℕ) (bs : Text) (x : WithHeight Operand) (rest : Text) → whole_at operand_at d (below_at operand_at d) bs ≡ Ok (x, rest) → Leaves d bs x rest
 whole_leaves d bs x rest h =
     let t = whole_sound Operand IsOperand operand_at operand_sound d (below_at operand_at d) (below_sound Operand IsOperand operand_at operand_sound d) bs x rest h in
-    (row_end t.tokens bs rest t.row, omega (arith, t.deep))
+    (row_end t.tokens bs rest t.are_tokens, omega (arith, t.deep))
 
-pub expect_end : (wanted : Mark → Bool) (bs rest : Text) → expect wanted bs ≡ Ok rest → IsEndOf bs rest
-expect_end wanted bs rest h = let c = expected_ok wanted (length (after_white bs)) (mark_at (after_white bs)) rest h in mark_end bs c.0 rest c.1
+pub expect_end : (expected : Mark → Bool) (bs rest : Text) → expect expected bs ≡ Ok rest → IsSuffixOf bs rest
+expect_end expected bs rest h = let c = expected_ok expected (length (after_white bs)) (mark_at (after_white bs)) rest h in mark_end bs c.0 rest c.1
 
 -- Right operands
 
@@ -92,14 +92,14 @@ expect_end wanted bs rest h = let c = expected_ok wanted (length (after_white bs
 abbrev pub right_at : ℕ → ℕ → ℕ → Text → Read (WithHeight Operand)
 right_at d h n bs = if nat_lt h d then below_at operand_at d (chain n) bs else Err TooDeep
 
-right_is : (d h n : ℕ) (bs : Text) (x : WithHeight Operand) (rest : Text) (t : Bool) → nat_lt h d ≡ t → cond t (below_at operand_at d (chain n) bs) (Err TooDeep) ≡ Ok (x, rest) → (h < d) × IsEndOf bs rest × (x.1 < d)
+right_is : (d h n : ℕ) (bs : Text) (x : WithHeight Operand) (rest : Text) (t : Bool) → nat_lt h d ≡ t → cond t (below_at operand_at d (chain n) bs) (Err TooDeep) ≡ Ok (x, rest) → (h < d) × IsSuffixOf bs rest × (x.1 < d)
 right_is zero h n bs x rest true t k = absurd (omega (arith, lt_is h 0 t))
 right_is (suc d) h n bs x rest true t k =
     let l = chain_leaves d n bs x rest (sym (below_chain operand_at d n bs) ∙ k) in
     (lt_is h (suc d) t, l.0, omega (arith, l.1))
 right_is d h n bs x rest false t k = cc
 
-pub right_leaves : (d h n : ℕ) (bs : Text) (x : WithHeight Operand) (rest : Text) → right_at d h n bs ≡ Ok (x, rest) → (h < d) × IsEndOf bs rest × (x.1 < d)
+pub right_leaves : (d h n : ℕ) (bs : Text) (x : WithHeight Operand) (rest : Text) → right_at d h n bs ≡ Ok (x, rest) → (h < d) × IsSuffixOf bs rest × (x.1 < d)
 right_leaves d h n bs x rest k = right_is d h n bs x rest (nat_lt h d) refl k
 
 -- The loop
@@ -109,7 +109,7 @@ pub record ChainSoFar (d n : ℕ) (bs : Text) (x : WithHeight Operand) (rest : T
   pub enough : length rest < turns
   pub is : chain_at operand_at d (below_at operand_at d) n bs ≡ climb_at operand_at d (below_at operand_at d) n turns x rest
   pub deep : x.1 ≤ d
-  pub end : IsEndOf bs rest
+  pub end : IsSuffixOf bs rest
 
 pub chain-first : (d n : ℕ) (bs : Text) (x : WithHeight Operand) (rest : Text) → prefix_at operand_at d (below_at operand_at d) bs ≡ Ok (x, rest) → ChainSoFar d n bs x rest
 chain-first d n bs x rest h =

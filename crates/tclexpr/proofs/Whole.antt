@@ -1,7 +1,7 @@
 -- The tree and the fault of a whole text.
 use Rattle.std.proofs.Common.{◌≡◌, ◌≢◌, ℕ, ◌<◌, ◌≤◌, [], ◌∷◌, ◌++◌, length, Bool, true, false, cond, ◌||◌, ◌&&◌, ◌==◌, Option, Some, None, Result, Ok, Err, refl, sym, ap, subst, ◌∙◌, arith, length-append}
 use Rattle.tclchars.specs.Runs.{Text}
-use Rattle.tclchars.specs.Reading.{◌>>=◌, Fails, left_of}
+use Rattle.tclchars.specs.Reading.{◌>>=◌, Fails, remaining_of}
 use Rattle.tclchars.specs.declared.fault.Fault.{Fault}
 use Rattle.tclchars.specs.declared.fault.Fault.TheVariants as marks
 use Rattle.tclchars.specs.declared.fault.ReadError.{ReadError}
@@ -9,7 +9,7 @@ use Rattle.tclchars.specs.declared.fault.ReadError.TheVariants as errors
 use Rattle.tclexpr.specs.declared.operators.Mark.TheVariants as marks_of
 use Rattle.tclexpr.specs.Tree.{Expr, mark}
 use Rattle.tclexpr.specs.Marks.{after_white}
-use Rattle.tclexpr.specs.Faults.{ExprFault, in_condition, deep_choice, in_yes, no_colon, in_no, ChainFault, in_operand, no_operand, deep_prefix, in_signed, in_open, no_close, deep_operator, in_right, inside, left_over}
+use Rattle.tclexpr.specs.Faults.{ExprFault, in_condition, deep_choice, in_yes, no_colon, in_no, ChainFault, in_operand, no_operand, deep_prefix, in_signed, in_open, no_close, deep_operator, in_right, inside, trailing}
 use Rattle.tclchars.specs.Bytes.{DoesBegin}
 use Rattle.tclchars.specs.Classes.{is_name}
 use Rattle.tclscript.specs.declared.context.Context.TheVariants.{InQuotes}
@@ -30,22 +30,22 @@ use Rattle.tclexpr.proofs.FaultSound as fault_operators
 use Rattle.tclexpr.proofs.FaultComplete as met_operators
 use Rattle.tclexpr.proofs.OperandSound.{operand_sound, digits_end, fraction_end, exponent_end, announced_end}
 use Rattle.tclexpr.proofs.OperandFaults.{operand_again, operand_faulty, operand_met, operand_within, truth_some}
-use Rattle.tclscript.specs.Pieces.{IsEndOf}
+use Rattle.tclscript.specs.Pieces.{IsSuffixOf}
 
 -- a number is some bytes
-decimal_shorter : (b : ℕ) (bs rest : Text) → after_decimal (b ∷ bs) ≡ Some rest → IsEndOf bs rest
+decimal_shorter : (b : ℕ) (bs rest : Text) → after_decimal (b ∷ bs) ≡ Some rest → IsSuffixOf bs rest
 decimal_shorter b bs rest h = go (is_digit Decimal b) refl (b == 46) refl h where
-  ends : (middle : Text) → IsEndOf bs middle → after_exponent middle ≡ rest → IsEndOf bs rest
-  ends middle e same = subst (IsEndOf bs) same (end_through bs middle (after_exponent middle) e (exponent_end middle))
+  ends : (middle : Text) → IsSuffixOf bs middle → after_exponent middle ≡ rest → IsSuffixOf bs rest
+  ends middle e same = subst (IsSuffixOf bs) same (end_through bs middle (after_exponent middle) e (exponent_end middle))
 
-  go : (s : Bool) → is_digit Decimal b ≡ s → (t : Bool) → (b == 46) ≡ t → cond (s || (t && begins_digit Decimal bs)) (Some (after_exponent (after_fraction (after_digits Decimal (b ∷ bs))))) None ≡ Some rest → IsEndOf bs rest
+  go : (s : Bool) → is_digit Decimal b ≡ s → (t : Bool) → (b == 46) ≡ t → cond (s || (t && begins_digit Decimal bs)) (Some (after_exponent (after_fraction (after_digits Decimal (b ∷ bs))))) None ≡ Some rest → IsSuffixOf bs rest
   go true s t' t h =
       let same : after_exponent (after_fraction (after_digits Decimal (b ∷ bs))) ≡ rest = cc in
       let on : after_digits Decimal (b ∷ bs) ≡ after_digits Decimal bs = digits_more Decimal (b ∷ bs) s in
       ends (after_fraction (after_digits Decimal bs)) (end_through bs (after_digits Decimal bs) (after_fraction (after_digits Decimal bs)) (digits_end Decimal bs) (fraction_end (after_digits Decimal bs)))
       (ap (λ ys. after_exponent (after_fraction ys)) (sym on) ∙ same)
   go false s true t h = pointed (begins_digit Decimal bs) h where
-    pointed : (u : Bool) → cond u (Some (after_exponent (after_fraction (after_digits Decimal (b ∷ bs))))) None ≡ Some rest → IsEndOf bs rest
+    pointed : (u : Bool) → cond u (Some (after_exponent (after_fraction (after_digits Decimal (b ∷ bs))))) None ≡ Some rest → IsSuffixOf bs rest
     pointed true h =
         let same : after_exponent (after_fraction (after_digits Decimal (b ∷ bs))) ≡ rest = cc in
         let stays : after_digits Decimal (b ∷ bs) ≡ b ∷ bs = mark_lemmas.digits_end Decimal (b ∷ bs) s in
@@ -54,10 +54,10 @@ decimal_shorter b bs rest h = go (is_digit Decimal b) refl (b == 46) refl h wher
     pointed false h = cc
   go false s false t h = cc
 
-based_shorter : (b : ℕ) (bs rest : Text) → after_based (b ∷ bs) ≡ Some rest → IsEndOf bs rest
+based_shorter : (b : ℕ) (bs rest : Text) → after_based (b ∷ bs) ≡ Some rest → IsSuffixOf bs rest
 based_shorter b [] rest h = cc
 based_shorter b (c ∷ bs) rest h = go (b == 48) h where
-  go : (t : Bool) → cond t (after_announced bs (announced c)) None ≡ Some rest → IsEndOf (c ∷ bs) rest
+  go : (t : Bool) → cond t (after_announced bs (announced c)) None ≡ Some rest → IsSuffixOf (c ∷ bs) rest
   go true h = (let e = announced_end bs rest (announced c) h in (c ∷ e.0, ap (λ xs. c ∷ xs) e.1))
   go false h = cc
 
@@ -65,7 +65,7 @@ number_shorter : (bs rest : Text) → after_number bs ≡ Some rest → length r
 unfolding after_number
 number_shorter [] rest h = cc
 number_shorter (b ∷ bs) rest h = (let e = both (after_based (b ∷ bs)) (after_decimal (b ∷ bs)) (based_shorter b bs) (decimal_shorter b bs) h in omega (arith, end_no_longer bs rest e)) where
-  both : (one two : Option Text) → ((r : Text) → one ≡ Some r → IsEndOf bs r) → ((r : Text) → two ≡ Some r → IsEndOf bs r) → first_of_both one two ≡ Some rest → IsEndOf bs rest
+  both : (one two : Option Text) → ((r : Text) → one ≡ Some r → IsSuffixOf bs r) → ((r : Text) → two ≡ Some r → IsSuffixOf bs r) → first_of_both one two ≡ Some rest → IsSuffixOf bs rest
   both None two x y h = y rest h
   both (Some r) two x y h = x rest h
 
@@ -105,32 +105,32 @@ unique = complete_operators.unique Operand IsOperand operand_at (λ d bs rest o 
 
 -- The place of a fault lies within the text
 
-left_after : (bs after : Text) → length after ≤ length bs → left_of (marks.BadExpression (length (after_white after))) ≤ length bs
+left_after : (bs after : Text) → length after ≤ length bs → remaining_of (marks.BadExpression (length (after_white after))) ≤ length bs
 left_after bs after h = omega (arith, after_white_no_longer after)
 
 mutual
-  expr_within : {d : ℕ} {bs : Text} {f : Fault} → ExprFault Operand IsOperand OperandFault d bs f → left_of f ≤ length bs
+  expr_within : {d : ℕ} {bs : Text} {f : Fault} → ExprFault Operand IsOperand OperandFault d bs f → remaining_of f ≤ length bs
   expr_within (in_condition h) = chain_within h
-  expr_within (deep_choice cs c after is row) = omega arith
-  expr_within (in_yes {d} {bs} {f} cs c h after is deep row fault) = omega (arith, row_no_longer Operand IsOperand operand_shorter (cs ++ mark marks_of.Question ∷ []) bs after row, expr_within fault)
-  expr_within (no_colon {d} {bs} cs c h ys y i after is deep is' deep' row none) = left_after bs after (row_no_longer Operand IsOperand operand_shorter (cs ++ mark marks_of.Question ∷ ys) bs after row)
-  expr_within (in_no {d} {bs} {f} cs c h ys y i after is deep is' deep' row fault) = omega (arith, row_no_longer Operand IsOperand operand_shorter (cs ++ mark marks_of.Question ∷ (ys ++ mark marks_of.Colon ∷ [])) bs after row, expr_within fault)
+  expr_within (deep_choice cs c after is are_tokens) = omega arith
+  expr_within (in_yes {d} {bs} {f} cs c h after is deep are_tokens fault) = omega (arith, row_no_longer Operand IsOperand operand_shorter (cs ++ mark marks_of.Question ∷ []) bs after are_tokens, expr_within fault)
+  expr_within (no_colon {d} {bs} cs c h ys y i after is deep is' deep' are_tokens none) = left_after bs after (row_no_longer Operand IsOperand operand_shorter (cs ++ mark marks_of.Question ∷ ys) bs after are_tokens)
+  expr_within (in_no {d} {bs} {f} cs c h ys y i after is deep is' deep' are_tokens fault) = omega (arith, row_no_longer Operand IsOperand operand_shorter (cs ++ mark marks_of.Question ∷ (ys ++ mark marks_of.Colon ∷ [])) bs after are_tokens, expr_within fault)
 
-  chain_within : {d n : ℕ} {bs : Text} {f : Fault} → ChainFault Operand IsOperand OperandFault d n bs f → left_of f ≤ length bs
+  chain_within : {d n : ℕ} {bs : Text} {f : Fault} → ChainFault Operand IsOperand OperandFault d n bs f → remaining_of f ≤ length bs
   chain_within (in_operand {d} {n} {bs} none h) = omega (arith, after_white_no_longer bs, operand_within h)
   chain_within (no_operand {d} {n} {bs} m after is none) = omega (arith, after_white_no_longer bs)
   chain_within (deep_prefix m after is begins) = omega arith
   chain_within (in_signed {d} {n} {bs} m u after is s h) = omega (arith, after_white_no_longer bs, mark_shorter (after_white bs) m after is, chain_within h)
   chain_within (in_open {d} {n} {bs} after is h) = omega (arith, after_white_no_longer bs, mark_shorter (after_white bs) marks_of.Open after is, expr_within h)
-  chain_within (no_close {d} {n} {bs} ts e h after is deep row none) = left_after bs after (row_no_longer Operand IsOperand operand_shorter (mark marks_of.Open ∷ ts) bs after row)
-  chain_within (deep_operator i ls l after within is row) = omega arith
-  chain_within (in_right {d} {n} {bs} i ls l h after within is deep row fault) = omega (arith, row_no_longer Operand IsOperand operand_shorter (ls ++ mark (marks_of.Infix i) ∷ []) bs after row, chain_within fault)
+  chain_within (no_close {d} {n} {bs} ts e h after is deep are_tokens none) = left_after bs after (row_no_longer Operand IsOperand operand_shorter (mark marks_of.Open ∷ ts) bs after are_tokens)
+  chain_within (deep_operator i ls l after within is are_tokens) = omega arith
+  chain_within (in_right {d} {n} {bs} i ls l h after within is deep are_tokens fault) = omega (arith, row_no_longer Operand IsOperand operand_shorter (ls ++ mark (marks_of.Infix i) ∷ []) bs after are_tokens, chain_within fault)
 
-fault_within : {d : ℕ} {bs : Text} {f : Fault} → IsFault d bs f → left_of f ≤ length bs
+fault_within : {d : ℕ} {bs : Text} {f : Fault} → IsFault d bs f → remaining_of f ≤ length bs
 fault_within (inside h) = expr_within h
-fault_within (left_over {d} {bs} ts e h after is deep row ends some) = left_after bs after (row_no_longer Operand IsOperand operand_shorter ts bs after row)
+fault_within (trailing {d} {bs} ts e h after is deep are_tokens ends some) = left_after bs after (row_no_longer Operand IsOperand operand_shorter ts bs after are_tokens)
 
-pub within : (d : ℕ) (bs : Text) (f : Fault) → expr_at operand_at d bs ≡ Err f → left_of f ≤ length bs
+pub within : (d : ℕ) (bs : Text) (f : Fault) → expr_at operand_at d bs ≡ Err f → remaining_of f ≤ length bs
 within d bs f h = fault_within (faulty d bs f h)
 
 -- The code's last step

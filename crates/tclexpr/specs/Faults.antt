@@ -11,7 +11,7 @@ use Rattle.tclexpr.specs.declared.operators.Mark.TheVariants as marks
 use Rattle.tclexpr.specs.Tree.{Expr, Token, mark}
 use Rattle.tclexpr.specs.Grammar.{level, sign_of, IsExpr, IsChain}
 use Rattle.tclexpr.specs.Marks.{after_white, mark_at}
-use Rattle.tclexpr.specs.Row.{IsRow}
+use Rattle.tclexpr.specs.TokenList.{AreTokens}
 
 -- the next token is no mark of that kind
 abbrev pub NextIsNot : (Mark → Type 0) → Text → Type 0
@@ -29,7 +29,7 @@ MayFollow m = ⊥
 
 -- such a mark, or the one that is expected
 abbrev pub MayFollowOr : Mark → Mark → Type 0
-MayFollowOr wanted m = MayFollow m ⊎ (m ≡ wanted)
+MayFollowOr expected m = MayFollow m ⊎ (m ≡ expected)
 
 -- what an operand may begin with besides its own bytes: a unary operator, or a parenthesis
 abbrev pub BeginsOperand : Mark → Type 0
@@ -48,18 +48,18 @@ mutual
     in_condition : {d : ℕ} {bs : Text} {f : Fault} → ChainFault O IsOperand OperandFault d 13 bs f
         → ExprFault O IsOperand OperandFault d bs f
     deep_choice : {d : ℕ} {bs : Text} (cs : List (Token O)) (c : Expr O) (after : Text) → IsChain O d 13 cs c
-        → IsRow O IsOperand bs after (cs ++ mark marks.Question ∷ [])
+        → AreTokens O IsOperand bs after (cs ++ mark marks.Question ∷ [])
         → ExprFault O IsOperand OperandFault d bs TooDeep
     in_yes : {d : ℕ} {bs : Text} {f : Fault} (cs : List (Token O)) (c : Expr O) (h : ℕ) (after : Text)
-        → IsChain O h 13 cs c → h ≤ d → IsRow O IsOperand bs after (cs ++ mark marks.Question ∷ [])
+        → IsChain O h 13 cs c → h ≤ d → AreTokens O IsOperand bs after (cs ++ mark marks.Question ∷ [])
         → ExprFault O IsOperand OperandFault d after f → ExprFault O IsOperand OperandFault (suc d) bs f
     no_colon : {d : ℕ} {bs : Text} (cs : List (Token O)) (c : Expr O) (h : ℕ) (ys : List (Token O)) (y : Expr O) (i : ℕ)
         (after : Text) → IsChain O h 13 cs c → h ≤ d → IsExpr O i ys y → i ≤ d
-        → IsRow O IsOperand bs after (cs ++ mark marks.Question ∷ ys) → NextIsNot (MayFollowOr marks.Colon) after
+        → AreTokens O IsOperand bs after (cs ++ mark marks.Question ∷ ys) → NextIsNot (MayFollowOr marks.Colon) after
         → ExprFault O IsOperand OperandFault (suc d) bs (bad_next after)
     in_no : {d : ℕ} {bs : Text} {f : Fault} (cs : List (Token O)) (c : Expr O) (h : ℕ) (ys : List (Token O))
         (y : Expr O) (i : ℕ) (after : Text) → IsChain O h 13 cs c → h ≤ d → IsExpr O i ys y → i ≤ d
-        → IsRow O IsOperand bs after (cs ++ mark marks.Question ∷ (ys ++ mark marks.Colon ∷ []))
+        → AreTokens O IsOperand bs after (cs ++ mark marks.Question ∷ (ys ++ mark marks.Colon ∷ []))
         → ExprFault O IsOperand OperandFault d after f → ExprFault O IsOperand OperandFault (suc d) bs f
 
   -- in a chain of operands, by operators of the level of the second number at most
@@ -78,14 +78,14 @@ mutual
     in_open : {d n : ℕ} {bs : Text} {f : Fault} (after : Text) → mark_at (after_white bs) ≡ Some (marks.Open, after)
         → ExprFault O IsOperand OperandFault d after f → ChainFault O IsOperand OperandFault (suc d) n bs f
     no_close : {d n : ℕ} {bs : Text} (ts : List (Token O)) (e : Expr O) (h : ℕ) (after : Text) → IsExpr O h ts e → h ≤ d
-        → IsRow O IsOperand bs after (mark marks.Open ∷ ts) → NextIsNot (MayFollowOr marks.Close) after
+        → AreTokens O IsOperand bs after (mark marks.Open ∷ ts) → NextIsNot (MayFollowOr marks.Close) after
         → ChainFault O IsOperand OperandFault (suc d) n bs (bad_next after)
     deep_operator : {d n : ℕ} {bs : Text} (i : Infix) (ls : List (Token O)) (l : Expr O) (after : Text) → level i ≤ n
-        → IsChain O d (level i) ls l → IsRow O IsOperand bs after (ls ++ mark (marks.Infix i) ∷ [])
+        → IsChain O d (level i) ls l → AreTokens O IsOperand bs after (ls ++ mark (marks.Infix i) ∷ [])
         → ChainFault O IsOperand OperandFault d n bs TooDeep
     in_right : {d n : ℕ} {bs : Text} {f : Fault} (i : Infix) (ls : List (Token O)) (l : Expr O) (h : ℕ) (after : Text)
         → level i ≤ n → IsChain O h (level i) ls l → h ≤ d
-        → IsRow O IsOperand bs after (ls ++ mark (marks.Infix i) ∷ [])
+        → AreTokens O IsOperand bs after (ls ++ mark (marks.Infix i) ∷ [])
         → ChainFault O IsOperand OperandFault d (level i - 1) after f
         → ChainFault O IsOperand OperandFault (suc d) n bs f
 
@@ -94,6 +94,6 @@ pub data ExprTextFault (O : Type 0) (IsOperand : Text → Text → O → ℕ →
     (OperandFault : ℕ → Text → Fault → Type 0) : ℕ → Text → Fault → Type 0 where
   inside : {d : ℕ} {bs : Text} {f : Fault} → ExprFault O IsOperand OperandFault d bs f
       → ExprTextFault O IsOperand OperandFault d bs f
-  left_over : {d : ℕ} {bs : Text} (ts : List (Token O)) (e : Expr O) (h : ℕ) (after : Text) → IsExpr O h ts e → h ≤ d
-      → IsRow O IsOperand bs after ts → NextIsNot MayFollow after → after_white after ≢ []
+  trailing : {d : ℕ} {bs : Text} (ts : List (Token O)) (e : Expr O) (h : ℕ) (after : Text) → IsExpr O h ts e → h ≤ d
+      → AreTokens O IsOperand bs after ts → NextIsNot MayFollow after → after_white after ≢ []
       → ExprTextFault O IsOperand OperandFault d bs (bad_next after)

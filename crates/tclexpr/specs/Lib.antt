@@ -2,13 +2,13 @@ pub mod Symbols
 pub mod Tree
 pub mod Grammar
 pub mod Marks
-pub mod Row
+pub mod TokenList
 pub mod Faults
 pub mod Reading
 pub mod Operands
 pub mod OperandGrammar
 pub mod Text
 pub mod View
-pub mod Offending
-pub mod Omitted
+pub mod ViablePrefixes
+pub mod UnsupportedSyntax
 pub mod Owned

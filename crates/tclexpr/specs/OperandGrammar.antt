@@ -9,7 +9,7 @@ use Rattle.tclchars.specs.declared.fault.Fault.TheVariants.{OpenBrace, OpenQuote
 use Rattle.tclscript.specs.declared.context.Context.TheVariants.{InQuotes}
 use Rattle.tclscript.specs.Tree as tree
 use Rattle.tclscript.specs.Tree.{Part, Parts, part_nesting, parts_nesting}
-use Rattle.tclscript.specs.Grammar.{IsPart, IsParts, IsDollar}
+use Rattle.tclscript.specs.Grammar.{IsPart, IsParts, IsLiteralDollar}
 use Rattle.tclscript.specs.Faults.{PartFault, PartsFault, NeverCloses}
 use Rattle.tclexpr.specs.Operands.{Operand, number, word, variable, indexed, bracket, quoted, braced, after_number, is_truth}
 
@@ -43,7 +43,7 @@ is_opening b = b == dollar || b == left_bracket || b == quote || b == left_brace
 pub data OperandFault : ℕ → Text → Fault → Type 0 where
   in_substitution : {d : ℕ} {bs : Text} {f : Fault} → DoesBegin (λ b. b == dollar || b == left_bracket) bs
       → PartFault d bs f → OperandFault d bs f
-  lone_dollar : {d : ℕ} {bs : Text} → IsDollar (dollar ∷ []) bs
+  lone_dollar : {d : ℕ} {bs : Text} → IsLiteralDollar (dollar ∷ []) bs
       → OperandFault d (dollar ∷ bs) (BadExpression (suc (length bs)))
   open_brace : {d : ℕ} {bs : Text} → NeverCloses bs → OperandFault d (left_brace ∷ bs) (OpenBrace (suc (length bs)))
   in_quotes : {d : ℕ} {bs : Text} {f : Fault} → PartsFault d InQuotes bs f → OperandFault d (quote ∷ bs) f

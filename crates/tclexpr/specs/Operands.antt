@@ -110,17 +110,17 @@ is_prefix (a ∷ xs) [] = false
 is_prefix (a ∷ xs) (b ∷ bs) = (lower a == b) && is_prefix xs bs
 
 -- a prefix of true, false, yes or no
-abbrev pub begins_truth : Text → Bool
-begins_truth bs =
+abbrev pub is_truth_prefix : Text → Bool
+is_truth_prefix bs =
     is_prefix bs (116 ∷ (114 ∷ (117 ∷ (101 ∷ [])))) || is_prefix bs (102 ∷ (97 ∷ (108 ∷ (115 ∷ (101 ∷ [])))))
     || is_prefix bs (121 ∷ (101 ∷ (115 ∷ []))) || is_prefix bs (110 ∷ (111 ∷ []))
 
 -- a prefix of on or off
-abbrev pub begins_switch : Text → Bool
-begins_switch bs = is_prefix bs (111 ∷ (110 ∷ [])) || is_prefix bs (111 ∷ (102 ∷ (102 ∷ [])))
+abbrev pub is_switch_prefix : Text → Bool
+is_switch_prefix bs = is_prefix bs (111 ∷ (110 ∷ [])) || is_prefix bs (111 ∷ (102 ∷ (102 ∷ [])))
 
 unfoldable pub is_truth : Text → Bool
-is_truth bs = (nat_le 1 (length bs) && begins_truth bs) || (nat_le 2 (length bs) && begins_switch bs)
+is_truth bs = (nat_le 1 (length bs) && is_truth_prefix bs) || (nat_le 2 (length bs) && is_switch_prefix bs)
 
 -- Operands
 

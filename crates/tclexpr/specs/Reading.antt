@@ -39,12 +39,12 @@ infix_of (marks.Infix i) = Some i
 infix_of m = None
 
 -- the rest after a mark that must come next
-abbrev pub expected : (Mark → Bool) → ℕ → Option (Mark × Text) → Result Text Fault
-expected wanted remaining None = Err (BadExpression remaining)
-expected wanted remaining (Some p) = if wanted p.0 then Ok p.1 else Err (BadExpression remaining)
+abbrev pub after_expected : (Mark → Bool) → ℕ → Option (Mark × Text) → Result Text Fault
+after_expected expected remaining None = Err (BadExpression remaining)
+after_expected expected remaining (Some p) = if expected p.0 then Ok p.1 else Err (BadExpression remaining)
 
 abbrev pub expect : (Mark → Bool) → Text → Result Text Fault
-expect wanted bs = expected wanted (length (after_white bs)) (mark_at (after_white bs))
+expect expected bs = after_expected expected (length (after_white bs)) (mark_at (after_white bs))
 
 -- an expression, with how deep operators, parentheses and brackets nest in it
 abbrev pub WithHeight : Type 0 → Type 0

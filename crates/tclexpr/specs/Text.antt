@@ -6,7 +6,7 @@ use Rattle.tclchars.specs.declared.fault.Fault.{Fault}
 use Rattle.tclchars.specs.declared.fault.TextFault.{TextFault}
 use Rattle.tclchars.specs.Whole.{IsFaultOf, whole_of}
 use Rattle.tclexpr.specs.Tree.{Expr}
-use Rattle.tclexpr.specs.Row.{IsExprText}
+use Rattle.tclexpr.specs.TokenList.{IsExprText}
 use Rattle.tclexpr.specs.Faults.{ExprTextFault}
 use Rattle.tclexpr.specs.Operands.{Operand, operand_at}
 use Rattle.tclexpr.specs.OperandGrammar.{IsOperand, OperandFault}

@@ -6,7 +6,7 @@ ghost use Rattle.tclchars.specs.declared.fault.TextFault.{TextFault};
 ghost use Rattle.tclchars.specs.declared.fault.TextFault.TheVariants.{BadExpression, OutOfMemory};
 ghost use Rattle.tclexpr.specs.Tree.{Expr};
 ghost use Rattle.tclexpr.specs.Operands.{Operand};
-ghost use Rattle.tclexpr.specs.Offending.{HasFrontBefore, IsBehindFront};
+ghost use Rattle.tclexpr.specs.ViablePrefixes.{HasViablePrefixBefore, FollowsViablePrefix};
 ghost use Rattle.tclexpr.specs.Text.{IsExpression, IsFault, IsWithin, IsTextFault, expr_of};
 
 /// A text is an expression with one tree at most, however deep it nests.
@@ -33,7 +33,7 @@ pub fn expr_of_grammar()
 /// Faults are found at the first token that shows them (the correct-prefix property). The tokens before a fault are the
 /// beginning of some expression. After them and white space comes what is wrong: an operand, a token that may not
 /// follow, or the end of the text; that is the offset of a wrong expression.
-pub fn first_offending()
-    ensures prefix { (d : ℕ) (bs : Text) (f : Fault) → IsFault d bs f → IsBehindFront bs f }
-    ensures offset { (bs : Text) (at : ℕ) → IsTextFault bs (BadExpression at) → HasFrontBefore bs at }
+pub fn correct_prefix()
+    ensures prefix { (d : ℕ) (bs : Text) (f : Fault) → IsFault d bs f → FollowsViablePrefix bs f }
+    ensures offset { (bs : Text) (at : ℕ) → IsTextFault bs (BadExpression at) → HasViablePrefixBefore bs at }
 {}

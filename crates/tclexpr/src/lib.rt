@@ -14,7 +14,7 @@ mod reading;
 mod text;
 mod tree;
 
-pub use laws::{expr_of_grammar, first_offending, one_expression, one_fault};
+pub use laws::{correct_prefix, expr_of_grammar, one_expression, one_fault};
 pub use numbers::Digits;
 pub use operators::{BinaryOperator, Infix, Mark, UnaryOperator};
 pub use owned::{OwnedExpr, own_expr};

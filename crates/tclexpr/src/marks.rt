@@ -4,7 +4,7 @@ ghost use Rattle.tclexpr.specs.Grammar.{operator_level, level, sign_of};
 ghost use Rattle.tclexpr.specs.Marks.{after_white, two_bytes, one_byte, word_mark, symbol_at, mark_at, begins_white};
 
 use crate::operators::{BinaryOperator, Infix, Mark, UnaryOperator};
-use tclchars::{Class, begins_class, split_front};
+use tclchars::{Class, begins_class, split_run};
 
 /// The text without its first byte, which is ASCII.
 pub(crate) fn after_first(text: &str) -> &str
@@ -110,7 +110,7 @@ fn read_symbol(text: &str) -> Option<(Mark, &str)>
 pub(crate) fn read_mark(text: &str) -> Option<(Mark, &str)>
     ensures { option_map (λ p. (p.0, p.1.now)) result ≡ mark_at text.now }
 {
-    let (word, rest) = split_front(text, Class::Name);
+    let (word, rest) = split_run(text, Class::Name);
     match word_mark(word) {
         Some(mark) => Some((mark, rest)),
         None => read_symbol(text),

@@ -72,9 +72,9 @@ fn after_based(text: &str) -> Option<&str>
         return None;
     };
     let digits = announced(*c)?;
-    let behind = after_first(after_first(text));
-    if begins_digit(behind, digits) {
-        Some(after_digits(behind, digits))
+    let following = after_first(after_first(text));
+    if begins_digit(following, digits) {
+        Some(after_digits(following, digits))
     } else {
         None
     }

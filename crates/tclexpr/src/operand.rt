@@ -3,18 +3,18 @@ ghost use Rattle.std.specs.Prelude.{◌≡◌, ◌≤◌, ◌<◌, ◌∷◌, le
 ghost use Rattle.tclchars.specs.Runs.{Text};
 ghost use Rattle.tclchars.specs.Answers.{Gives};
 ghost use Rattle.tclchars.specs.Reading.{stopped_by};
-ghost use Rattle.tclscript.specs.Pieces.{IsEndOf};
+ghost use Rattle.tclscript.specs.Pieces.{IsSuffixOf};
 ghost use Rattle.tclscript.specs.Tree.{part_nesting};
 ghost use Rattle.tclscript.specs.Reading.{taken};
 ghost use Rattle.tclscript.specs.View.{part_view};
-ghost use Rattle.tclexpr.specs.Operands.{after_number, lower, is_prefix, begins_truth, begins_switch, is_truth, operand_of, variable_operand_at, bracket_operand_at, quoted_at, braced_text_at, word_at, numeric, operand_at};
+ghost use Rattle.tclexpr.specs.Operands.{after_number, lower, is_prefix, is_truth_prefix, is_switch_prefix, is_truth, operand_of, variable_operand_at, bracket_operand_at, quoted_at, braced_text_at, word_at, numeric, operand_at};
 ghost use Rattle.tclexpr.specs.View.{operand_view};
 
 use crate::nesting::{parts_nesting, script_nesting};
 use crate::numbers::after_number;
 use crate::tree::Operand;
 use std::alloc::Global;
-use tclchars::{Class, Fault, ReadError, after_mark, split_close, split_front};
+use tclchars::{Class, Fault, ReadError, after_mark, split_close, split_run};
 use tclscript::{Part, Source, read_bracket, read_dollar, read_quotes};
 
 /// The byte in lower case.
@@ -38,8 +38,8 @@ fn is_prefix(word: &[u8], whole: &[u8]) -> bool
 }
 
 /// Whether the word is a prefix of `true`, `false`, `yes` or `no`.
-fn begins_truth(word: &[u8]) -> bool
-    ensures { result ≡ begins_truth word.now }
+fn is_truth_prefix(word: &[u8]) -> bool
+    ensures { result ≡ is_truth_prefix word.now }
 {
     is_prefix(word, b"true")
         || is_prefix(word, b"false")
@@ -48,8 +48,8 @@ fn begins_truth(word: &[u8]) -> bool
 }
 
 /// Whether the word is a prefix of `on` or `off`.
-fn begins_switch(word: &[u8]) -> bool
-    ensures { result ≡ begins_switch word.now }
+fn is_switch_prefix(word: &[u8]) -> bool
+    ensures { result ≡ is_switch_prefix word.now }
 {
     is_prefix(word, b"on") || is_prefix(word, b"off")
 }
@@ -59,27 +59,27 @@ fn begins_switch(word: &[u8]) -> bool
 fn is_truth(word: &[u8]) -> bool
     ensures { result ≡ is_truth word.now }
 {
-    (word.len() >= 1 && begins_truth(word)) || (word.len() >= 2 && begins_switch(word))
+    (word.len() >= 1 && is_truth_prefix(word)) || (word.len() >= 2 && is_switch_prefix(word))
 }
 
-/// How many bytes remain from a mark of one byte on, of which `behind` is what follows it.
-fn left_with_mark(behind: &str) -> usize
-    ensures { result ≡ suc (length behind.now) }
+/// How many bytes remain from a mark of one byte on, of which `following` is what follows it.
+fn remaining_with_mark(following: &str) -> usize
+    ensures { result ≡ suc (length following.now) }
 {
-    behind.len() + 1
+    following.len() + 1
 }
 
 /// The piece of the source from the text up to the rest.
 fn taken<'a, S: Source<P>, P: Drop>(source: &S, text: &'a str, rest: &'a str) -> P
-    requires text { IsEndOf (S.text source.now) text.now }
-    requires rest { IsEndOf text.now rest.now }
+    requires text { IsSuffixOf (S.text source.now) text.now }
+    requires rest { IsSuffixOf text.now rest.now }
     ensures { S.shown source.now result ≡ taken text.now rest.now }
 {
     source.cut(text, text.split_at(text.len() - rest.len()).0)
 }
 
 /// The height of what nests one deeper.
-fn one_more(height: usize) -> usize
+fn one_deeper(height: usize) -> usize
     ensures { height < usize.MAX → result ≡ suc height }
 {
     height.saturating_add(1)
@@ -94,51 +94,51 @@ fn operand_of<P: Drop>(part: Part<P>, remaining: usize) -> Result<(Operand<P>, u
     match part {
         Part::Variable(name) => Ok((Operand::Variable(name), 0)),
         Part::Indexed(name, parts) => {
-            let height = one_more(parts_nesting(&parts));
+            let height = one_deeper(parts_nesting(&parts));
             Ok((Operand::Indexed(name, parts), height))
         }
         Part::Bracket(script) => {
-            let height = one_more(script_nesting(&script));
+            let height = one_deeper(script_nesting(&script));
             Ok((Operand::Bracket(script), height))
         }
         _ => Err(ReadError::Fault(Fault::BadExpression(remaining))),
     }
 }
 
-/// A variable, with how deep it nests, and the rest; the text begins with its dollar, and `behind` is what follows
+/// A variable, with how deep it nests, and the rest; the text begins with its dollar, and `following` is what follows
 /// that.
 fn read_variable<'a, S: Source<P>, P: Drop>(
     alloc: Global,
     source: &S,
     text: &'a str,
-    behind: &'a str,
+    following: &'a str,
     depth: usize,
 ) -> Result<(Operand<P>, usize, &'a str), ReadError>
-    requires text { IsEndOf (S.text source.now) text.now }
-    requires dollar { text.now ≡ 36 ∷ behind.now }
+    requires text { IsSuffixOf (S.text source.now) text.now }
+    requires dollar { text.now ≡ 36 ∷ following.now }
     ensures { Gives stopped_by (λ x. ((operand_view (S.shown source.now) x.0, x.1), x.2.now)) result
-        (variable_operand_at depth (length text.now) behind.now) }
+        (variable_operand_at depth (length text.now) following.now) }
 {
-    let (part, rest) = read_dollar(alloc, source, text, behind, depth)?;
+    let (part, rest) = read_dollar(alloc, source, text, following, depth)?;
     let (operand, height) = operand_of(part, text.len())?;
     Ok((operand, height, rest))
 }
 
-/// A script in brackets, with how deep it nests, and the rest; the text begins with its bracket, and `behind`
+/// A script in brackets, with how deep it nests, and the rest; the text begins with its bracket, and `following`
 /// is what follows that.
 fn read_script<'a, S: Source<P>, P: Drop>(
     alloc: Global,
     source: &S,
     text: &'a str,
-    behind: &'a str,
+    following: &'a str,
     depth: usize,
 ) -> Result<(Operand<P>, usize, &'a str), ReadError>
-    requires text { IsEndOf (S.text source.now) text.now }
-    requires bracket { text.now ≡ 91 ∷ behind.now }
+    requires text { IsSuffixOf (S.text source.now) text.now }
+    requires bracket { text.now ≡ 91 ∷ following.now }
     ensures { Gives stopped_by (λ x. ((operand_view (S.shown source.now) x.0, x.1), x.2.now)) result
-        (bracket_operand_at depth (length text.now) behind.now) }
+        (bracket_operand_at depth (length text.now) following.now) }
 {
-    let (part, rest) = read_bracket(alloc, source, behind, depth)?;
+    let (part, rest) = read_bracket(alloc, source, following, depth)?;
     let (operand, height) = operand_of(part, text.len())?;
     Ok((operand, height, rest))
 }
@@ -150,7 +150,7 @@ fn read_quoted<'a, S: Source<P>, P: Drop>(
     text: &'a str,
     depth: usize,
 ) -> Result<(Operand<P>, usize, &'a str), ReadError>
-    requires { IsEndOf (S.text source.now) text.now }
+    requires { IsSuffixOf (S.text source.now) text.now }
     ensures { Gives stopped_by (λ x. ((operand_view (S.shown source.now) x.0, x.1), x.2.now)) result
         (quoted_at depth text.now) }
 {
@@ -164,13 +164,13 @@ fn read_braced<'a, S: Source<P>, P: Drop>(
     source: &S,
     text: &'a str,
 ) -> Result<(Operand<P>, usize, &'a str), ReadError>
-    requires { IsEndOf (S.text source.now) text.now }
+    requires { IsSuffixOf (S.text source.now) text.now }
     ensures { Gives stopped_by (λ x. ((operand_view (S.shown source.now) x.0, x.1), x.2.now)) result
         (braced_text_at text.now) }
 {
     match split_close(text) {
         Some((inner, rest)) => Ok((Operand::Braced(source.cut(text, inner)), 0, rest)),
-        None => Err(ReadError::Fault(Fault::OpenBrace(left_with_mark(text)))),
+        None => Err(ReadError::Fault(Fault::OpenBrace(remaining_with_mark(text)))),
     }
 }
 
@@ -179,11 +179,11 @@ fn read_word<'a, S: Source<P>, P: Drop>(
     source: &S,
     text: &'a str,
 ) -> Result<(Operand<P>, usize, &'a str), ReadError>
-    requires { IsEndOf (S.text source.now) text.now }
+    requires { IsSuffixOf (S.text source.now) text.now }
     ensures { Gives stopped_by (λ x. ((operand_view (S.shown source.now) x.0, x.1), x.2.now)) result
         (word_at text.now) }
 {
-    let (word, rest) = split_front(text, Class::Name);
+    let (word, rest) = split_run(text, Class::Name);
     if !is_truth(word.as_bytes()) {
         return Err(ReadError::Fault(Fault::BadExpression(text.len())));
     }
@@ -198,7 +198,7 @@ fn read_numeric<'a, S: Source<P>, P: Drop>(
     source: &S,
     text: &'a str,
 ) -> Result<(Operand<P>, usize, &'a str), ReadError>
-    requires { IsEndOf (S.text source.now) text.now }
+    requires { IsSuffixOf (S.text source.now) text.now }
     ensures { Gives stopped_by (λ x. ((operand_view (S.shown source.now) x.0, x.1), x.2.now)) result
         (numeric text.now (after_number text.now)) }
 {
@@ -215,21 +215,21 @@ pub(crate) fn read_operand<'a, S: Source<P>, P: Drop>(
     text: &'a str,
     depth: usize,
 ) -> Result<(Operand<P>, usize, &'a str), ReadError>
-    requires { IsEndOf (S.text source.now) text.now }
+    requires { IsSuffixOf (S.text source.now) text.now }
     ensures { Gives stopped_by (λ x. ((operand_view (S.shown source.now) x.0, x.1), x.2.now)) result
         (operand_at depth text.now) }
 {
-    if let Some(behind) = after_mark(text, b'$') {
-        return read_variable(alloc, source, text, behind, depth);
+    if let Some(following) = after_mark(text, b'$') {
+        return read_variable(alloc, source, text, following, depth);
     }
-    if let Some(behind) = after_mark(text, b'[') {
-        return read_script(alloc, source, text, behind, depth);
+    if let Some(following) = after_mark(text, b'[') {
+        return read_script(alloc, source, text, following, depth);
     }
-    if let Some(behind) = after_mark(text, b'"') {
-        return read_quoted(alloc, source, behind, depth);
+    if let Some(following) = after_mark(text, b'"') {
+        return read_quoted(alloc, source, following, depth);
     }
     match after_mark(text, b'{') {
-        Some(behind) => read_braced(source, behind),
+        Some(following) => read_braced(source, following),
         None => read_numeric(source, text),
     }
 }

@@ -5,7 +5,7 @@ ghost use Rattle.tclchars.specs.Runs.{Text};
 ghost use Rattle.tclchars.specs.Answers.{Gives};
 ghost use Rattle.tclchars.specs.Reading.{stopped_by, read_map};
 ghost use Rattle.tclchars.specs.declared.fault.Fault.TheVariants.{TooDeep};
-ghost use Rattle.tclscript.specs.Pieces.{IsEndOf};
+ghost use Rattle.tclscript.specs.Pieces.{IsSuffixOf};
 ghost use Rattle.tclexpr.specs.declared.operators.Mark.TheVariants as marks;
 ghost use Rattle.tclexpr.specs.Grammar.{level};
 ghost use Rattle.tclexpr.specs.Marks.{mark_at, after_white};
@@ -165,16 +165,16 @@ pub(crate) fn read_whole<'a, S: Source<P>, P: Drop>(
     text: &'a str,
     depth: usize,
 ) -> Result<(WithHeight<P>, &'a str), ReadError>
-    requires { IsEndOf (S.text source.now) text.now }
+    requires { IsSuffixOf (S.text source.now) text.now }
     ensures { Gives stopped_by (λ x. (with_height_view (S.shown source.now) x.0, x.1.now)) result
         (whole_at operand_at depth (below_at operand_at depth) text.now) }
 {
     let (condition, rest) = read_chain(alloc, source, text, depth, LOOSEST)?;
-    let Some((mark, behind)) = read_mark(skip_white(rest)) else {
+    let Some((mark, following)) = read_mark(skip_white(rest)) else {
         return Ok((condition, rest));
     };
     if is_question(mark) {
-        read_branches(alloc, source, condition, behind, depth)
+        read_branches(alloc, source, condition, following, depth)
     } else {
         Ok((condition, rest))
     }
@@ -189,7 +189,7 @@ fn read_branches<'a, S: Source<P>, P: Drop>(
     text: &'a str,
     depth: usize,
 ) -> Result<(WithHeight<P>, &'a str), ReadError>
-    requires { IsEndOf (S.text source.now) text.now }
+    requires { IsSuffixOf (S.text source.now) text.now }
     ensures { Gives stopped_by (λ x. (with_height_view (S.shown source.now) x.0, x.1.now)) result
         (if nat_lt condition.height depth
         then branches_at operand_at (below_at operand_at depth)
@@ -200,8 +200,8 @@ fn read_branches<'a, S: Source<P>, P: Drop>(
         return Err(ReadError::Fault(Fault::TooDeep));
     }
     let (yes, rest) = read_whole(alloc, source, text, depth - 1)?;
-    let behind = after_colon(rest)?;
-    let (no, end) = read_whole(alloc, source, behind, depth - 1)?;
+    let following = after_colon(rest)?;
+    let (no, end) = read_whole(alloc, source, following, depth - 1)?;
     Ok((choice(alloc, condition, yes, no)?, end))
 }
 
@@ -214,16 +214,16 @@ fn read_chain<'a, S: Source<P>, P: Drop>(
     depth: usize,
     limit: usize,
 ) -> Result<(WithHeight<P>, &'a str), ReadError>
-    requires { IsEndOf (S.text source.now) text.now }
+    requires { IsSuffixOf (S.text source.now) text.now }
     ensures { Gives stopped_by (λ x. (with_height_view (S.shown source.now) x.0, x.1.now)) result
         (chain_at operand_at depth (below_at operand_at depth) limit text.now) }
 {
     let (mut left, mut rest) = read_prefix(alloc, source, text, depth)?;
     loop {
-        let Some((between, behind)) = read_infix(rest, limit) else {
+        let Some((between, following)) = read_infix(rest, limit) else {
             return Ok((left, rest));
         };
-        let (right, end) = read_right(alloc, source, behind, depth, left.height, between)?;
+        let (right, end) = read_right(alloc, source, following, depth, left.height, between)?;
         left = join(alloc, between, left, right)?;
         rest = end;
     }
@@ -239,7 +239,7 @@ fn read_right<'a, S: Source<P>, P: Drop>(
     height: usize,
     between: Infix,
 ) -> Result<(WithHeight<P>, &'a str), ReadError>
-    requires { IsEndOf (S.text source.now) text.now }
+    requires { IsSuffixOf (S.text source.now) text.now }
     ensures { Gives stopped_by (λ x. (with_height_view (S.shown source.now) x.0, x.1.now)) result
         (if nat_lt height depth then below_at operand_at depth (chain (level between - 1)) text.now else Err TooDeep) }
 {
@@ -257,19 +257,19 @@ fn read_prefix<'a, S: Source<P>, P: Drop>(
     text: &'a str,
     depth: usize,
 ) -> Result<(WithHeight<P>, &'a str), ReadError>
-    requires { IsEndOf (S.text source.now) text.now }
+    requires { IsSuffixOf (S.text source.now) text.now }
     ensures { Gives stopped_by (λ x. (with_height_view (S.shown source.now) x.0, x.1.now)) result
         (prefix_at operand_at depth (below_at operand_at depth) text.now) }
 {
     let start = skip_white(text);
-    let Some((mark, behind)) = read_mark(start) else {
+    let Some((mark, following)) = read_mark(start) else {
         return read_leaf(alloc, source, start, depth);
     };
     if is_open(mark) {
-        return read_enclosed(alloc, source, behind, depth);
+        return read_enclosed(alloc, source, following, depth);
     }
     match sign_of(mark) {
-        Some(operator) => read_signed(alloc, source, operator, behind, depth),
+        Some(operator) => read_signed(alloc, source, operator, following, depth),
         None => Err(ReadError::Fault(Fault::BadExpression(start.len()))),
     }
 }
@@ -281,7 +281,7 @@ fn read_leaf<'a, S: Source<P>, P: Drop>(
     text: &'a str,
     depth: usize,
 ) -> Result<(WithHeight<P>, &'a str), ReadError>
-    requires { IsEndOf (S.text source.now) text.now }
+    requires { IsSuffixOf (S.text source.now) text.now }
     ensures { Gives stopped_by (λ x. (with_height_view (S.shown source.now) x.0, x.1.now)) result
         (read_map leaf_of (operand_at depth text.now)) }
 {
@@ -303,7 +303,7 @@ fn read_enclosed<'a, S: Source<P>, P: Drop>(
     text: &'a str,
     depth: usize,
 ) -> Result<(WithHeight<P>, &'a str), ReadError>
-    requires { IsEndOf (S.text source.now) text.now }
+    requires { IsSuffixOf (S.text source.now) text.now }
     ensures { Gives stopped_by (λ x. (with_height_view (S.shown source.now) x.0, x.1.now)) result
         (enclosed_at operand_at (below_at operand_at depth) text.now) }
 {
@@ -311,8 +311,8 @@ fn read_enclosed<'a, S: Source<P>, P: Drop>(
         return Err(ReadError::Fault(Fault::TooDeep));
     }
     let (inner, rest) = read_whole(alloc, source, text, depth - 1)?;
-    let behind = after_close(rest)?;
-    Ok((enclosed(inner), behind))
+    let following = after_close(rest)?;
+    Ok((enclosed(inner), following))
 }
 
 /// A unary operator with its operand, and the rest; `text` follows the operator.
@@ -324,7 +324,7 @@ fn read_signed<'a, S: Source<P>, P: Drop>(
     text: &'a str,
     depth: usize,
 ) -> Result<(WithHeight<P>, &'a str), ReadError>
-    requires { IsEndOf (S.text source.now) text.now }
+    requires { IsSuffixOf (S.text source.now) text.now }
     ensures { Gives stopped_by (λ x. (with_height_view (S.shown source.now) x.0, x.1.now)) result
         (read_map (unary_of operator) (below_at operand_at depth (chain 1) text.now)) }
 {

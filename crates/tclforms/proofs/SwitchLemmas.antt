@@ -2,9 +2,9 @@
 use Rattle.std.proofs.Common.{◌≡◌, ◌%◌, List, [], ◌∷◌, Some, None, map, length, String, Global, refl, arith}
 use Rattle.std.specs.Prelude.{string_bytes}
 use Rattle.tclrules.specs.Forms.{paired}
-use Rattle.tclforms.specs.Views.{in_twos}
+use Rattle.tclforms.specs.Views.{in_pairs}
 
-pub words_even : (ws : List (String Global)) → length ws % 2 ≡ 0 → paired (map string_bytes ws) ≡ Some (in_twos (map string_bytes ws))
+pub words_even : (ws : List (String Global)) → length ws % 2 ≡ 0 → paired (map string_bytes ws) ≡ Some (in_pairs (map string_bytes ws))
 words_even [] h = refl
 words_even (a ∷ []) h = absurd (omega arith)
 words_even (a ∷ b ∷ ws) h =

@@ -9,8 +9,8 @@ use Rattle.tcloperators.specs.Faults.{Answer, ◌>>=◌}
 use Rattle.tclrules.specs.Plans.{Items}
 use Rattle.tcloperators.specs.Elements.{elements_of}
 use Rattle.tclrules.specs.Rules.{loops, named, shortened}
-use Rattle.tclforms.specs.Views.{texts_of, in_twos, pair_texts}
-use Rattle.tclforms.specs.ArgumentViews.{left_after}
+use Rattle.tclforms.specs.Views.{texts_of, in_pairs, pair_texts}
+use Rattle.tclforms.specs.ArgumentViews.{remaining_after}
 use Rattle.tclforms.specs.Lists.{prefixed, one_loop}
 use Rattle.tclforms.specs.declared.items.Items as program
 
@@ -45,15 +45,15 @@ items_more ts n turns more p s e = go (nat_lt (turns + 1) (2 ^ 64)) refl ∙ sym
         let k : turns ≤ turns * n = at_least turns n p in
         drop_both ts (more * n) (turns * n + n) (omega arith) (omega arith)
 
-one_more : (l : program.Items) (turns more : ℕ) → more ≡ min (turns + 1) (2 ^ 64 - 1) → left_after more l ≡ (texts_of l.names.items, drop (length (texts_of l.names.items)) (left_after turns l).1)
+one_more : (l : program.Items) (turns more : ℕ) → more ≡ min (turns + 1) (2 ^ 64 - 1) → remaining_after more l ≡ (texts_of l.names.items, drop (length (texts_of l.names.items)) (remaining_after turns l).1)
 one_more l turns more e =
     rw (length_texts l.names.items) (ap (λ (ts : List Text). (texts_of l.names.items, ts)) (items_more (texts_of l.items.items) (length l.names.items) turns more l.named (rw (length_texts l.items.items) l.few) e))
 
-pub shortened_more : (ls : List program.Items) (turns more : ℕ) → more ≡ min (turns + 1) (2 ^ 64 - 1) → map (left_after more) ls ≡ shortened (map (left_after turns) ls)
+pub shortened_more : (ls : List program.Items) (turns more : ℕ) → more ≡ min (turns + 1) (2 ^ 64 - 1) → map (remaining_after more) ls ≡ shortened (map (remaining_after turns) ls)
 shortened_more [] turns more e = refl
 shortened_more (l ∷ ls) turns more e = rw (one_more l turns more e, shortened_more ls turns more e) refl
 
-pub left_before : (l : program.Items) (turns passed : ℕ) (ts : List (String Global)) → passed ≡ min (turns * length l.names.items) (2 ^ 64 - 1) → ts ≡ l.items.items → length l.items.items < 2 ^ 64 → passed < length l.items.items → (texts_of l.names.items, texts_of (take (length ts - passed) (drop passed ts))) ≡ left_after turns l
+pub left_before : (l : program.Items) (turns passed : ℕ) (ts : List (String Global)) → passed ≡ min (turns * length l.names.items) (2 ^ 64 - 1) → ts ≡ l.items.items → length l.items.items < 2 ^ 64 → passed < length l.items.items → (texts_of l.names.items, texts_of (take (length ts - passed) (drop passed ts))) ≡ remaining_after turns l
 left_before l turns passed ts e t s h =
     let f : passed ≡ turns * length l.names.items = omega arith in
     let g : take (length ts - passed) (drop passed ts) ≡ drop passed l.items.items = ap (λ us. take (length us - passed) (drop passed us)) t ∙ take_all (length l.items.items - passed) (drop passed l.items.items) (omega (arith, length-drop passed l.items.items)) in
@@ -71,22 +71,22 @@ loops_first p ps = go (elements_of p.0 >>= named)
     go (Ok vs) = goes vs (elements_of p.1)
     go (Err f) = refl
 
-loops_behind : (done : List Items) (p : Text × Text) (ps : List (Text × Text)) (l : Items) → one_loop p ≡ Ok l → prefixed done (loops (p ∷ ps)) ≡ prefixed (done ++ l ∷ []) (loops ps)
-loops_behind done p ps l e = ap (prefixed done) (loops_first p ps ∙ rw e refl) ∙ go (loops ps)
+loops_prefixed : (done : List Items) (p : Text × Text) (ps : List (Text × Text)) (l : Items) → one_loop p ≡ Ok l → prefixed done (loops (p ∷ ps)) ≡ prefixed (done ++ l ∷ []) (loops ps)
+loops_prefixed done p ps l e = ap (prefixed done) (loops_first p ps ∙ rw e refl) ∙ go (loops ps)
   where
     go : (a : Answer (List Items)) → prefixed done (a >>= (λ ls. Ok (l ∷ ls))) ≡ prefixed (done ++ l ∷ []) a
     go (Ok ls) = ap Ok (sym (append_assoc done (l ∷ []) ls))
     go (Err f) = refl
 
 -- a step over the lists
-pub loops_step : (all rest : List (Bor (List ℕ) × Bor (List ℕ))) (read new : List program.Items) (d : Bor (List ℕ) × Bor (List ℕ)) (l : program.Items) → loops (pair_texts all) ≡ prefixed (map (left_after 0) read) (loops (pair_texts rest)) → 1 ≤ length rest → one_loop ((get_or rest 0 d).0.now, (get_or rest 0 d).1.now) ≡ Ok (left_after 0 l) → new ≡ read ++ l ∷ []
-    → loops (pair_texts all) ≡ prefixed (map (left_after 0) new) (loops (pair_texts (take (length rest - 1) (drop 1 rest))))
+pub loops_step : (all rest : List (Bor (List ℕ) × Bor (List ℕ))) (read new : List program.Items) (d : Bor (List ℕ) × Bor (List ℕ)) (l : program.Items) → loops (pair_texts all) ≡ prefixed (map (remaining_after 0) read) (loops (pair_texts rest)) → 1 ≤ length rest → one_loop ((get_or rest 0 d).0.now, (get_or rest 0 d).1.now) ≡ Ok (remaining_after 0 l) → new ≡ read ++ l ∷ []
+    → loops (pair_texts all) ≡ prefixed (map (remaining_after 0) new) (loops (pair_texts (take (length rest - 1) (drop 1 rest))))
 loops_step all [] read new d l i n e f = absurd (omega arith)
 loops_step all (p ∷ ps) read new d l i n e f =
     let t : take (length (p ∷ ps) - 1) ps ≡ ps = take_all (length (p ∷ ps) - 1) ps (omega arith) in
-    rw (t, f, map-append (left_after 0) read (l ∷ [])) (i ∙ loops_behind (map (left_after 0) read) (p.0.now, p.1.now) (pair_texts ps) (left_after 0 l) e)
+    rw (t, f, map-append (remaining_after 0) read (l ∷ [])) (i ∙ loops_prefixed (map (remaining_after 0) read) (p.0.now, p.1.now) (pair_texts ps) (remaining_after 0 l) e)
 
-pub short_twos : (ws : List (String Global)) → length ws < 2 → in_twos (map string_bytes ws) ≡ []
+pub short_twos : (ws : List (String Global)) → length ws < 2 → in_pairs (map string_bytes ws) ≡ []
 short_twos [] h = refl
 short_twos (a ∷ []) h = refl
 short_twos (a ∷ b ∷ ws) h = absurd (omega arith)

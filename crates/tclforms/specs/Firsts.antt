@@ -17,10 +17,10 @@ abbrev pub with_first : Variables → Text → Text → Variables
 with_first vs name value = if list_any (bytes_eq name) (map (λ v. v.0) vs) then vs else vs ++ (name, value) ∷ []
 
 -- without the names of these
-abbrev pub but_for : Variables → Variables → Variables
-but_for [] vs = vs
-but_for (d ∷ ds) vs = but_for ds (without vs d.0)
+abbrev pub except : Variables → Variables → Variables
+except [] vs = vs
+except (d ∷ ds) vs = except ds (without vs d.0)
 
 -- these values, and those of an answer whose names are none of theirs
-abbrev pub firsts_behind : Variables → Answer Variables → Answer Variables
-firsts_behind done more = more >>= (λ rest. Ok (done ++ but_for done rest))
+abbrev pub prefixed_firsts : Variables → Answer Variables → Answer Variables
+prefixed_firsts done more = more >>= (λ rest. Ok (done ++ except done rest))

@@ -18,10 +18,10 @@ abbrev pub texts_of : List (String Global) → List Text
 texts_of ws = map string_bytes ws
 
 -- texts by turns as pairs; a last one without a partner is dropped
-abbrev pub in_twos : List Text → List (Text × Text)
-in_twos [] = []
-in_twos (a ∷ []) = []
-in_twos (a ∷ b ∷ ts) = (a, b) ∷ in_twos ts
+abbrev pub in_pairs : List Text → List (Text × Text)
+in_pairs [] = []
+in_pairs (a ∷ []) = []
+in_pairs (a ∷ b ∷ ts) = (a, b) ∷ in_pairs ts
 
 -- pairs of borrowed texts
 abbrev pub pair_texts : List (Bor (List ℕ) × Bor (List ℕ)) → List (Text × Text)
@@ -58,11 +58,11 @@ form_view (form.If ps other) = forms.If (pair_texts ps.items) (option_map (λ b.
 form_view (form.While c b) = forms.While c.now b.now
 form_view (form.For s c n b) = forms.For s.now c.now n.now b.now
 form_view (form.Foreach ps b) = forms.Foreach (pair_texts ps.items) b.now
-form_view (form.Switch by_glob t ps) = forms.Switch by_glob t.now (in_twos (pattern_texts ps))
+form_view (form.Switch by_glob t ps) = forms.Switch by_glob t.now (in_pairs (pattern_texts ps))
 form_view (form.Catch s v) = forms.Catch s.now (option_map (λ v. v.now) v)
 
 -- an optional answer as the answer of an option
-abbrev pub turned : {A : Type 0} → Option (Answer A) → Answer (Option A)
-turned None = Ok None
-turned (Some (Ok x)) = Ok (Some x)
-turned (Some (Err f)) = Err f
+abbrev pub transposed : {A : Type 0} → Option (Answer A) → Answer (Option A)
+transposed None = Ok None
+transposed (Some (Ok x)) = Ok (Some x)
+transposed (Some (Err f)) = Err f

@@ -2,9 +2,9 @@
 ghost use Rattle.std.specs.Prelude.{◌≡◌, OnOk, map, string_bytes};
 ghost use Rattle.tclchars.specs.Answers.{Gives};
 ghost use Rattle.tcloperators.specs.Faults.{reason_of};
-ghost use Rattle.tclrules.specs.Rules.{argument, taken, allotted};
+ghost use Rattle.tclrules.specs.Rules.{argument, parameter_value, parameter_values};
 ghost use Rattle.tclvariables.specs.Views.{parameter_view};
-ghost use Rattle.tclforms.specs.ArgumentViews.{named_values, allotment_view};
+ghost use Rattle.tclforms.specs.ArgumentViews.{named_values, parameter_value_view};
 ghost use Rattle.tclforms.specs.Firsts.{AreNamesOf, with_first};
 
 use indexmap::IndexSet;
@@ -15,7 +15,7 @@ use tclvariables::Parameter;
 
 /// The value of a parameter, and the words that remain for the others.
 #[derive(Drop)]
-struct Allotment<'w> {
+struct ParameterValue<'w> {
     value: String,
     rest: &'w [String],
 }
@@ -26,17 +26,17 @@ fn argument<'w>(
     name: &str,
     parameter: &Parameter,
     words: &'w [String],
-) -> Result<Allotment<'w>, ValueFault>
-    ensures { Gives reason_of allotment_view result
+) -> Result<ParameterValue<'w>, ValueFault>
+    ensures { Gives reason_of parameter_value_view result
         (argument name.now (parameter_view parameter.now) (map string_bytes words.entry.now)) }
 {
     match words {
-        [word, rest @ ..] => Ok(Allotment {
+        [word, rest @ ..] => Ok(ParameterValue {
             value: word.clone()?,
             rest,
         }),
         [] => match &parameter.default {
-            Some(default) => Ok(Allotment {
+            Some(default) => Ok(ParameterValue {
                 value: default.clone()?,
                 rest: words,
             }),
@@ -46,19 +46,19 @@ fn argument<'w>(
 }
 
 /// The value of a parameter with these after it; `args`, where it is the last, takes all words that remain as a list.
-fn taken<'w>(
+fn parameter_value<'w>(
     alloc: Global,
     name: &str,
     parameter: &Parameter,
-    behind: &[Parameter],
+    following: &[Parameter],
     words: &'w [String],
-) -> Result<Allotment<'w>, ValueFault>
-    ensures { Gives reason_of allotment_view result
-        (taken name.now (parameter_view parameter.now) (map parameter_view behind.now)
+) -> Result<ParameterValue<'w>, ValueFault>
+    ensures { Gives reason_of parameter_value_view result
+        (parameter_value name.now (parameter_view parameter.now) (map parameter_view following.now)
         (map string_bytes words.entry.now)) }
 {
-    if parameter.name.as_str() == "args" && behind.is_empty() {
-        return Ok(Allotment {
+    if parameter.name.as_str() == "args" && following.is_empty() {
+        return Ok(ParameterValue {
             value: list_text(alloc, words)?,
             rest: &[],
         });
@@ -67,7 +67,7 @@ fn taken<'w>(
 }
 
 /// Adds the value of a name, unless the name has one already.
-fn keep_first<'a>(
+fn push_first<'a>(
     names: &mut IndexSet<&'a str>,
     values: &mut Vec<(&'a str, String)>,
     name: &'a str,
@@ -88,29 +88,29 @@ fn keep_first<'a>(
 /// first value counts.
 ///
 /// Errors: `TclError` (13) where the words are too few or too many; `OutOfMemory` (11).
-pub fn allotted<'a>(
+pub fn parameter_values<'a>(
     alloc: Global,
     name: &str,
     parameters: &'a [Parameter],
     words: &[String],
 ) -> Result<Vec<(&'a str, String)>, ValueFault>
     ensures { Gives reason_of (λ vs. named_values vs.items) result
-        (allotted name.now (map parameter_view parameters.entry.now) (map string_bytes words.now)) }
+        (parameter_values name.now (map parameter_view parameters.entry.now) (map string_bytes words.now)) }
 {
     let mut names = IndexSet::new(alloc);
     let mut values = Vec::new(alloc);
     let mut rest = words;
     let mut parameters = parameters;
-    while let [parameter, behind @ ..] = parameters {
-        let allotment = taken(alloc, name, parameter, behind, rest)?;
-        keep_first(
+    while let [parameter, following @ ..] = parameters {
+        let bound = parameter_value(alloc, name, parameter, following, rest)?;
+        push_first(
             &mut names,
             &mut values,
             parameter.name.as_str(),
-            allotment.value,
+            bound.value,
         )?;
-        rest = allotment.rest;
-        parameters = behind;
+        rest = bound.rest;
+        parameters = following;
     }
     if rest.is_empty() {
         Ok(values)

@@ -1,15 +1,15 @@
 //! The body that switch(n) chooses.
 ghost use Rattle.std.specs.Prelude.{◌≡◌, map, string_bytes, option_map};
-ghost use Rattle.tclforms.specs.Views.{in_twos};
-ghost use Rattle.tclrules.specs.Rules.{is_default, fits, falls, chosen};
+ghost use Rattle.tclforms.specs.Views.{in_pairs};
+ghost use Rattle.tclrules.specs.Rules.{is_default, fits, fall_through, chosen};
 
 use tclvalue::glob;
 
 /// Whether a pattern is the default: it is `default`, and no pattern follows.
-fn is_default(pattern: &str, behind: &[String]) -> bool
-    ensures { result ≡ is_default pattern.now (in_twos (map string_bytes behind.now)) }
+fn is_default(pattern: &str, following: &[String]) -> bool
+    ensures { result ≡ is_default pattern.now (in_pairs (map string_bytes following.now)) }
 {
-    pattern == "default" && behind.len() < 2
+    pattern == "default" && following.len() < 2
 }
 
 /// Whether a text matches a pattern: by glob, or as it is.
@@ -24,11 +24,11 @@ fn fits(by_glob: bool, text: &str, pattern: &str) -> bool
 }
 
 /// The body that is evaluated for a body with these patterns and bodies after it: `-` stands for the next.
-fn falls<'a>(body: &'a str, behind: &'a [String]) -> &'a str
-    ensures { result.now ≡ falls body.entry.now (in_twos (map string_bytes behind.entry.now)) }
+fn fall_through<'a>(body: &'a str, following: &'a [String]) -> &'a str
+    ensures { result.now ≡ fall_through body.entry.now (in_pairs (map string_bytes following.entry.now)) }
 {
     let mut body = body;
-    let mut rest = behind;
+    let mut rest = following;
     while let [_, next, after @ ..] = rest {
         if body != "-" {
             break;
@@ -43,7 +43,7 @@ fn falls<'a>(body: &'a str, behind: &'a [String]) -> &'a str
 /// bodies are given by turns.
 pub fn chosen<'a>(by_glob: bool, text: &str, patterns: &'a [String]) -> Option<&'a str>
     ensures { option_map (λ body. body.now) result
-        ≡ chosen by_glob text.now (in_twos (map string_bytes patterns.entry.now)) }
+        ≡ chosen by_glob text.now (in_pairs (map string_bytes patterns.entry.now)) }
 {
     let mut rest = patterns;
     while let [pattern, body, after @ ..] = rest {
@@ -51,7 +51,7 @@ pub fn chosen<'a>(by_glob: bool, text: &str, patterns: &'a [String]) -> Option<&
             return Some(body);
         }
         if fits(by_glob, text, pattern) {
-            return Some(falls(body, after));
+            return Some(fall_through(body, after));
         }
         rest = after;
     }

@@ -4,15 +4,16 @@ ghost use Rattle.std.specs.Option.{option_map};
 ghost use Rattle.tclchars.specs.Answers.{Gives};
 ghost use Rattle.tcloperators.specs.Faults.{reason_of};
 ghost use Rattle.tclrules.specs.Forms.{core_form};
-ghost use Rattle.tclforms.specs.Views.{form_view, turned};
+ghost use Rattle.tclforms.specs.Views.{form_view, transposed};
 
 use crate::conditional::if_form;
 use crate::foreach::foreach_form;
 use crate::form::{Form, Simple};
 use crate::switch::switch_form;
 use crate::words::{
-    alone, append_form, catch_form, error_form, exit_form, expr_form, for_form, incr_form,
-    info_form, lappend_form, proc_form, puts_form, return_form, set_form, unset_form, while_form,
+    append_form, catch_form, error_form, exit_form, expr_form, for_form, incr_form, info_form,
+    lappend_form, proc_form, puts_form, return_form, set_form, unset_form, while_form,
+    without_words,
 };
 use std::alloc::Global;
 use tcloperators::ValueFault;
@@ -29,7 +30,7 @@ pub fn core_form<'a>(
     words: &'a [String],
 ) -> Result<Option<Form<'a>>, ValueFault>
     ensures { Gives reason_of (option_map form_view) result
-        (turned (core_form name.now (map string_bytes words.entry.now))) }
+        (transposed (core_form name.now (map string_bytes words.entry.now))) }
 {
     match name {
         "set" => set_form(alloc, words).map(Some),
@@ -45,8 +46,10 @@ pub fn core_form<'a>(
         "switch" => switch_form(alloc, words).map(Some),
         "proc" => proc_form(alloc, words).map(Some),
         "return" => return_form(alloc, words).map(Some),
-        "break" => alone(alloc, "break", Form::Simple(Simple::Break), words).map(Some),
-        "continue" => alone(alloc, "continue", Form::Simple(Simple::Continue), words).map(Some),
+        "break" => without_words(alloc, "break", Form::Simple(Simple::Break), words).map(Some),
+        "continue" => without_words(alloc, "continue", Form::Simple(Simple::Continue), words).map(
+            Some,
+        ),
         "exit" => exit_form(alloc, words).map(Some),
         "error" => error_form(alloc, words).map(Some),
         "catch" => catch_form(alloc, words).map(Some),

@@ -5,7 +5,7 @@ ghost use Rattle.tclchars.specs.Answers.{Gives};
 ghost use Rattle.tcloperators.specs.Faults.{reason_of};
 ghost use Rattle.tclrules.specs.Forms.{last_body, last_words, if_form};
 ghost use Rattle.tclforms.specs.Views.{form_view, pair_texts, texts_of};
-ghost use Rattle.tclforms.specs.Branches.{behind_then, first_branch, branch_view, behind_elseif, behind_pairs, if_of};
+ghost use Rattle.tclforms.specs.Branches.{after_then, first_branch, branch_view, after_elseif, prefixed_pairs, if_of};
 
 use crate::form::Form;
 use std::alloc::Global;
@@ -20,9 +20,9 @@ struct Branch<'a> {
 }
 
 /// The branch with this condition, from the words after `then` on.
-fn behind_then<'a>(condition: &'a str, words: &'a [String]) -> Option<Branch<'a>>
+fn after_then<'a>(condition: &'a str, words: &'a [String]) -> Option<Branch<'a>>
     ensures branch { option_map branch_view result
-        ≡ behind_then condition.entry.now (map string_bytes words.entry.now) }
+        ≡ after_then condition.entry.now (map string_bytes words.entry.now) }
     ensures shorter { IfSome result (λ b. length b.rest.now < length words.entry.now) }
 {
     match words {
@@ -41,7 +41,7 @@ fn first_branch(words: &[String]) -> Option<Branch<'_>>
     ensures shorter { IfSome result (λ b. length b.rest.now < length words.entry.now) }
 {
     match words {
-        [condition, then, rest @ ..] if then.as_str() == "then" => behind_then(condition, rest),
+        [condition, then, rest @ ..] if then.as_str() == "then" => after_then(condition, rest),
         [condition, body, rest @ ..] => Some(Branch {
             condition,
             body,
@@ -58,7 +58,7 @@ fn last_body<'a>(
     words: &'a [String],
 ) -> Result<Form<'a>, ValueFault>
     ensures { Gives reason_of form_view result
-        (if_of (behind_pairs (pair_texts branches.entry.items) (last_body (map string_bytes words.entry.now)))) }
+        (if_of (prefixed_pairs (pair_texts branches.entry.items) (last_body (map string_bytes words.entry.now)))) }
 {
     match words {
         [body] => Ok(Form::If(branches, Some(body))),
@@ -73,7 +73,7 @@ fn last_words<'a>(
     words: &'a [String],
 ) -> Result<Form<'a>, ValueFault>
     ensures { Gives reason_of form_view result
-        (if_of (behind_pairs (pair_texts branches.entry.items) (last_words (map string_bytes words.entry.now)))) }
+        (if_of (prefixed_pairs (pair_texts branches.entry.items) (last_words (map string_bytes words.entry.now)))) }
 {
     match words {
         [] => Ok(Form::If(branches, None)),
@@ -83,8 +83,8 @@ fn last_words<'a>(
 }
 
 /// The words after `elseif`, where they begin with it.
-fn behind_elseif(words: &[String]) -> Option<&[String]>
-    ensures rest { option_map (λ ws. texts_of ws.now) result ≡ behind_elseif (map string_bytes words.entry.now) }
+fn after_elseif(words: &[String]) -> Option<&[String]>
+    ensures rest { option_map (λ ws. texts_of ws.now) result ≡ after_elseif (map string_bytes words.entry.now) }
     ensures shorter { IfSome result (λ ws. length ws.now < length words.entry.now) }
 {
     match words {
@@ -101,7 +101,7 @@ pub(crate) fn if_form(alloc: Global, words: &[String]) -> Result<Form<'_>, Value
     let mut rest = words;
     while let Some(branch) = first_branch(rest) {
         branches.push((branch.condition, branch.body))?;
-        match behind_elseif(branch.rest) {
+        match after_elseif(branch.rest) {
             Some(more) => rest = more,
             None => return last_words(alloc, branches, branch.rest),
         }

@@ -17,12 +17,12 @@ mod procedures;
 mod switch;
 mod words;
 
-pub use calls::allotted;
+pub use calls::parameter_values;
 pub use choice::chosen;
 pub use commands::core_form;
 pub use form::{Form, Patterns, Simple};
 pub use loops::Loops;
-pub use messages::{no_command, not_to_unset, outside_loop};
-pub use names::{is_left_out, is_left_out_of_modules, is_reserved};
+pub use messages::{cannot_unset, no_command, outside_loop};
+pub use names::{is_reserved, is_unsupported, is_unsupported_in_modulefiles};
 pub use procedures::parameters;
 pub use words::increase_of;

@@ -5,7 +5,7 @@ ghost use Rattle.tcloperators.specs.Faults.{reason_of};
 ghost use Rattle.tclrules.specs.Rules.{loops, turn_pairs, shortened, are_done};
 ghost use Rattle.tclrules.specs.Rules as rules;
 ghost use Rattle.tclforms.specs.Views.{pair_texts, texts_of};
-ghost use Rattle.tclforms.specs.ArgumentViews.{named_values, left_after};
+ghost use Rattle.tclforms.specs.ArgumentViews.{named_values, remaining_after};
 ghost use Rattle.tclforms.specs.Lists.{one_loop};
 
 use crate::items::Items;
@@ -16,7 +16,7 @@ use tcloperators::{ValueFault, elements};
 
 /// The variables and the items in two lists; the first must name one variable at least.
 fn items_of(alloc: Global, names: &str, items: &str) -> Result<Items, ValueFault>
-    ensures { Gives reason_of (left_after 0) result (one_loop (names.now, items.now)) }
+    ensures { Gives reason_of (remaining_after 0) result (one_loop (names.now, items.now)) }
 {
     let names = elements(alloc, names)?;
     if names.is_empty() {
@@ -27,8 +27,8 @@ fn items_of(alloc: Global, names: &str, items: &str) -> Result<Items, ValueFault
 }
 
 /// The items that remain after so many turns.
-fn left(list: &Items, turns: usize) -> &[String]
-    ensures { (texts_of list.entry.now.names.items, texts_of result.now) ≡ left_after turns list.entry.now }
+fn remaining(list: &Items, turns: usize) -> &[String]
+    ensures { (texts_of list.entry.now.names.items, texts_of result.now) ≡ remaining_after turns list.entry.now }
 {
     let passed = turns.saturating_mul(list.names.len());
     if passed < list.items.len() {
@@ -106,7 +106,7 @@ impl Loops {
         ensures { result ≡ are_done self.now }
     {
         for list in &self.lists {
-            if !left(list, self.turns).is_empty() {
+            if !remaining(list, self.turns).is_empty() {
                 return false;
             }
         }
@@ -119,7 +119,7 @@ impl Loops {
     {
         let mut pairs = Vec::new(alloc);
         for list in &self.lists {
-            push_pairs(alloc, &mut pairs, &list.names, left(list, self.turns))?;
+            push_pairs(alloc, &mut pairs, &list.names, remaining(list, self.turns))?;
         }
         Ok(pairs)
     }

@@ -1,8 +1,8 @@
 //! The errors of core commands that catch(n) sees, and the fault of an option or subcommand that is unsupported.
 ghost use Rattle.std.specs.Prelude.{◌≡◌, ◌++◌, codes, IfOk, string_bytes};
-ghost use Rattle.tcloperators.specs.Faults.{HasReason, error, left_out};
+ghost use Rattle.tcloperators.specs.Faults.{HasReason, error, unsupported};
 ghost use Rattle.tclrules.specs.Messages.{bad_option, no_body};
-ghost use Rattle.tclrules.specs.Messages.{in_quotes, no_command, outside_loop, not_to_unset, no_loop_variable, is_taken};
+ghost use Rattle.tclrules.specs.Messages.{in_quotes, no_command, outside_loop, cannot_unset, no_loop_variable, cannot_redefine};
 
 use std::alloc::{AllocError, Global};
 use tcloperators::{ValueFault, tcl_error};
@@ -24,8 +24,8 @@ pub(crate) fn no_body(alloc: Global, pattern: &str) -> ValueFault
 }
 
 /// The fault of a command or an option of this name that is unsupported.
-pub(crate) fn left_out(alloc: Global, name: &str) -> ValueFault
-    ensures { HasReason (left_out name.now) result }
+pub(crate) fn unsupported(alloc: Global, name: &str) -> ValueFault
+    ensures { HasReason (unsupported name.now) result }
 {
     match String::from_str(alloc, name) {
         Ok(name) => ValueFault::LeftOut(name),
@@ -34,8 +34,8 @@ pub(crate) fn left_out(alloc: Global, name: &str) -> ValueFault
 }
 
 /// The fault of a subcommand of info(n) that is unsupported.
-pub(crate) fn left_out_info(alloc: Global, word: &str) -> ValueFault
-    ensures { HasReason (left_out (codes "info " ++ word.now)) result }
+pub(crate) fn unsupported_info(alloc: Global, word: &str) -> ValueFault
+    ensures { HasReason (unsupported (codes "info " ++ word.now)) result }
 {
     match format!(in alloc; "info {word}") {
         Ok(name) => ValueFault::LeftOut(name),
@@ -75,16 +75,16 @@ fn outside_loop_message(alloc: Global, command: &str) -> Result<String, AllocErr
 }
 
 /// unset(n) names a variable that isn't set.
-pub fn not_to_unset(alloc: Global, name: &str) -> ValueFault
-    ensures { HasReason (error (not_to_unset name.now)) result }
+pub fn cannot_unset(alloc: Global, name: &str) -> ValueFault
+    ensures { HasReason (error (cannot_unset name.now)) result }
 {
     tcl_error(not_to_unset_message(alloc, name))
 }
 
-/// The message of `not_to_unset`.
-#[tactic(auto, unfolding(tclrules::specs::Messages::not_to_unset))]
+/// The message of `cannot_unset`.
+#[tactic(auto, unfolding(tclrules::specs::Messages::cannot_unset))]
 fn not_to_unset_message(alloc: Global, name: &str) -> Result<String, AllocError>
-    ensures { IfOk result (λ t. string_bytes t ≡ not_to_unset name.now) }
+    ensures { IfOk result (λ t. string_bytes t ≡ cannot_unset name.now) }
 {
     let quoted = in_quotes(alloc, name)?;
     format!(in alloc; "can't unset {quoted}: no such variable")
@@ -99,9 +99,9 @@ pub(crate) fn no_loop_variable(alloc: Global) -> ValueFault
 }
 
 /// proc(n) names a command that is reserved.
-#[tactic(auto, unfolding(tclrules::specs::Messages::is_taken))]
-pub(crate) fn is_taken(alloc: Global, name: &str) -> ValueFault
-    ensures { HasReason (error (is_taken name.now)) result }
+#[tactic(auto, unfolding(tclrules::specs::Messages::cannot_redefine))]
+pub(crate) fn cannot_redefine(alloc: Global, name: &str) -> ValueFault
+    ensures { HasReason (error (cannot_redefine name.now)) result }
 {
     tcl_error(format!(in alloc; "can't redefine \"{name}\""))
 }

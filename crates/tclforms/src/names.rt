@@ -1,10 +1,10 @@
 //! The names of commands that are reserved: no procedure may have them.
 ghost use Rattle.std.specs.Prelude.{◌≡◌, map, is_some};
 ghost use Rattle.tclvalue.specs.Commands.{command_named};
-ghost use Rattle.tclrules.specs.Names.{is_among, is_reserved, core_commands, left_out_commands, module_commands, left_out_module_commands};
+ghost use Rattle.tclrules.specs.Names.{is_among, is_reserved, core_commands, unsupported_commands, module_commands, unsupported_module_commands};
 
 /// Commands of Tcl that are unsupported.
-const LEFT_OUT: [&str; 57] = [
+const UNSUPPORTED: [&str; 57] = [
     "after",
     "apply",
     "array",
@@ -93,7 +93,7 @@ const MODULES: [&str; 13] = [
 ];
 
 /// Commands of modulefiles that are unsupported.
-const LEFT_OUT_MODULES: [&str; 28] = [
+const UNSUPPORTED_IN_MODULEFILES: [&str; 28] = [
     "module",
     "depends-on",
     "set-alias",
@@ -139,11 +139,11 @@ fn is_in(names: &[&str], name: &str) -> bool
 }
 
 /// Whether Tcl has a command of this name that is unsupported.
-#[tactic(auto, unfolding(tclrules::specs::Names::left_out_commands))]
-pub fn is_left_out(name: &str) -> bool
-    ensures { result ≡ is_among left_out_commands name.now }
+#[tactic(auto, unfolding(tclrules::specs::Names::unsupported_commands))]
+pub fn is_unsupported(name: &str) -> bool
+    ensures { result ≡ is_among unsupported_commands name.now }
 {
-    is_in(&LEFT_OUT, name)
+    is_in(&UNSUPPORTED, name)
 }
 
 /// Whether a core command has this name that is none of values.
@@ -170,11 +170,11 @@ fn is_of_modules(name: &str) -> bool
 }
 
 /// Whether modulefile(5) has a command of this name that is unsupported.
-#[tactic(auto, unfolding(tclrules::specs::Names::left_out_module_commands))]
-pub fn is_left_out_of_modules(name: &str) -> bool
-    ensures { result ≡ is_among left_out_module_commands name.now }
+#[tactic(auto, unfolding(tclrules::specs::Names::unsupported_module_commands))]
+pub fn is_unsupported_in_modulefiles(name: &str) -> bool
+    ensures { result ≡ is_among unsupported_module_commands name.now }
 {
-    is_in(&LEFT_OUT_MODULES, name)
+    is_in(&UNSUPPORTED_IN_MODULEFILES, name)
 }
 
 /// Whether no procedure may have this name: that of any command of Tcl or modulefiles, supported or not.
@@ -183,7 +183,7 @@ pub fn is_reserved(name: &str) -> bool
 {
     is_core(name)
         || is_of_values(name)
-        || is_left_out(name)
+        || is_unsupported(name)
         || is_of_modules(name)
-        || is_left_out_of_modules(name)
+        || is_unsupported_in_modulefiles(name)
 }

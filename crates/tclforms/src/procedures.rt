@@ -6,7 +6,7 @@ ghost use Rattle.tclrules.specs.Rules.{parameter, parameters};
 ghost use Rattle.tclvariables.specs.Views.{parameter_view};
 ghost use Rattle.tclforms.specs.Lists.{defined};
 
-use crate::messages::is_taken;
+use crate::messages::cannot_redefine;
 use crate::names::is_reserved;
 use std::alloc::Global;
 use tcloperators::{ValueFault, elements, not_a_list};
@@ -50,7 +50,7 @@ pub fn parameters(alloc: Global, name: &str, lists: &str) -> Result<Vec<Paramete
     ensures { Gives reason_of (λ ps. map parameter_view ps.items) result (defined name.now lists.now) }
 {
     if is_reserved(name) {
-        return Err(is_taken(alloc, name));
+        return Err(cannot_redefine(alloc, name));
     }
     let lists = elements(alloc, lists)?;
     parameters_of(alloc, &lists)

@@ -4,18 +4,18 @@ ghost use Rattle.std.specs.Option.{option_map};
 ghost use Rattle.tclchars.specs.Answers.{Gives};
 ghost use Rattle.tcloperators.specs.Faults.{reason_of};
 ghost use Rattle.tclrules.specs.Forms.{is_option, options, glob_option, by_glob, paired, patterns_in, bodiless, with_patterns, switch_with, even_pairs, switch_form};
-ghost use Rattle.tclforms.specs.Views.{texts_of, in_twos, pattern_texts, form_view};
+ghost use Rattle.tclforms.specs.Views.{texts_of, in_pairs, pattern_texts, form_view};
 
 use crate::form::{Form, Patterns};
-use crate::messages::{bad_option, left_out, no_body};
+use crate::messages::{bad_option, no_body, unsupported};
 use std::alloc::Global;
 use tcloperators::{ValueFault, elements, not_a_list, wrong_words};
 
 /// Whether a word is an option: it begins with `-`, and more than one word follows it.
-fn is_option(word: &str, behind: &[String]) -> bool
-    ensures { result ≡ is_option word.now (map string_bytes behind.now) }
+fn is_option(word: &str, following: &[String]) -> bool
+    ensures { result ≡ is_option word.now (map string_bytes following.now) }
 {
-    word.as_bytes().first() == Some(&b'-') && behind.len() > 1
+    word.as_bytes().first() == Some(&b'-') && following.len() > 1
 }
 
 /// The options of a switch, and the words after them.
@@ -26,21 +26,21 @@ struct Split<'a> {
 }
 
 /// The options that words begin with, and the words after them; `--` ends the options.
-fn parted(words: &[String]) -> Split<'_>
+fn split_options(words: &[String]) -> Split<'_>
     ensures { (texts_of result.options.now, texts_of result.rest.now) ≡ options (map string_bytes words.entry.now) }
 {
     let mut rest = words;
-    while let [word, behind @ ..] = rest {
-        if !is_option(word, behind) {
+    while let [word, following @ ..] = rest {
+        if !is_option(word, following) {
             break;
         }
         if word.as_str() == "--" {
             return Split {
                 options: &words[..words.len() - rest.len()],
-                rest: behind,
+                rest: following,
             };
         }
-        rest = behind;
+        rest = following;
     }
     Split {
         options: &words[..words.len() - rest.len()],
@@ -55,7 +55,7 @@ fn glob_option(alloc: Global, option: &str) -> Result<bool, ValueFault>
     match option {
         "-exact" => Ok(false),
         "-glob" => Ok(true),
-        "-regexp" => Err(left_out(alloc, option)),
+        "-regexp" => Err(unsupported(alloc, option)),
         _ => Err(bad_option(alloc, option)),
     }
 }
@@ -73,7 +73,7 @@ fn by_glob(alloc: Global, options: &[String]) -> Result<bool, ValueFault>
 
 /// The last pattern, where its body is `-`, which would be that of the next.
 fn bodiless(patterns: &[String]) -> Option<&str>
-    ensures { option_map (λ p. p.now) result ≡ bodiless (in_twos (map string_bytes patterns.entry.now)) }
+    ensures { option_map (λ p. p.now) result ≡ bodiless (in_pairs (map string_bytes patterns.entry.now)) }
 {
     let mut rest = patterns;
     while let [pattern, body, after @ ..] = rest {
@@ -100,7 +100,7 @@ fn with_patterns<'a>(
     patterns: Patterns<'a>,
 ) -> Result<Form<'a>, ValueFault>
     ensures { Gives reason_of form_view result
-        (with_patterns by_glob text.entry.now (in_twos (pattern_texts patterns.entry))) }
+        (with_patterns by_glob text.entry.now (in_pairs (pattern_texts patterns.entry))) }
 {
     match bodiless(patterns.as_slice()) {
         Some(pattern) => Err(no_body(alloc, pattern)),
@@ -149,7 +149,7 @@ fn of_list<'a>(
 pub(crate) fn switch_form(alloc: Global, words: &[String]) -> Result<Form<'_>, ValueFault>
     ensures { Gives reason_of form_view result (switch_form (map string_bytes words.entry.now)) }
 {
-    let split = parted(words);
+    let split = split_options(words);
     match split.rest {
         [text, list] => of_list(alloc, split.options, text, list),
         [text, patterns @ ..] if patterns.len() > 1 => {

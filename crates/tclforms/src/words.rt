@@ -2,12 +2,12 @@
 ghost use Rattle.std.specs.Prelude.{map, string_bytes};
 ghost use Rattle.tclchars.specs.Answers.{Gives};
 ghost use Rattle.tcloperators.specs.Faults.{reason_of};
-ghost use Rattle.tclrules.specs.Forms.{set_form, after_dashes, unset_form, append_form, lappend_form, incr_form, increase_of, expr_form, while_form, for_form, proc_form, return_form, exit_form, error_form, catch_form, exists_form, info_form, to_stderr, without_newline, puts_form, alone};
+ghost use Rattle.tclrules.specs.Forms.{set_form, after_dashes, unset_form, append_form, lappend_form, incr_form, increase_of, expr_form, while_form, for_form, proc_form, return_form, exit_form, error_form, catch_form, exists_form, info_form, to_stderr, without_newline, puts_form, without_words};
 ghost use Rattle.tclforms.specs.Views.{form_view, texts_of};
 ghost use Rattle.std.specs.Prelude.{◌≡◌};
 
 use crate::form::{Form, Simple};
-use crate::messages::{left_out, left_out_info};
+use crate::messages::{unsupported, unsupported_info};
 use std::alloc::Global;
 use tcloperators::{ValueFault, wrong_words};
 
@@ -121,7 +121,7 @@ pub(crate) fn return_form(alloc: Global, words: &[String]) -> Result<Form<'_>, V
     match words {
         [] => Ok(Form::Simple(Simple::Return(""))),
         [value] => Ok(Form::Simple(Simple::Return(value))),
-        _ => Err(left_out(alloc, "return")),
+        _ => Err(unsupported(alloc, "return")),
     }
 }
 
@@ -175,7 +175,7 @@ pub(crate) fn info_form(alloc: Global, words: &[String]) -> Result<Form<'_>, Val
         [subcommand, operands @ ..] if subcommand.as_str() == "exists" => {
             exists_form(alloc, operands)
         }
-        [subcommand, ..] => Err(left_out_info(alloc, subcommand)),
+        [subcommand, ..] => Err(unsupported_info(alloc, subcommand)),
     }
 }
 
@@ -184,7 +184,7 @@ pub(crate) fn puts_form(alloc: Global, words: &[String]) -> Result<Form<'_>, Val
     ensures { Gives reason_of form_view result (puts_form (map string_bytes words.entry.now)) }
 {
     match words {
-        [_] => Err(left_out(alloc, "puts")),
+        [_] => Err(unsupported(alloc, "puts")),
         [channel, _] => to_stderr(alloc, channel, words),
         [option, channel, _] => without_newline(alloc, option, channel, words),
         _ => Err(wrong_words(alloc, "puts")),
@@ -215,18 +215,19 @@ fn to_stderr<'a>(alloc: Global, channel: &str, words: &'a [String]) -> Result<Fo
     if channel == "stderr" {
         Ok(Form::Simple(Simple::Put(words)))
     } else {
-        Err(left_out(alloc, "puts"))
+        Err(unsupported(alloc, "puts"))
     }
 }
 
 /// The form of `break` or `continue`, which take no words.
-pub(crate) fn alone<'a>(
+pub(crate) fn without_words<'a>(
     alloc: Global,
     name: &str,
     form: Form<'a>,
     words: &[String],
 ) -> Result<Form<'a>, ValueFault>
-    ensures { Gives reason_of form_view result (alone name.now (form_view form.entry) (map string_bytes words.now)) }
+    ensures { Gives reason_of form_view result (without_words name.now (form_view form.entry)
+        (map string_bytes words.now)) }
 {
     if words.is_empty() {
         Ok(form)

@@ -2,12 +2,12 @@
 use Rattle.std.proofs.Common.{◌≡◌, ℕ, Bool, List, [], ◌∷◌, ◌++◌, length, refl, sym, ap, ap₂, subst, ◌∙◌, arith, append_assoc, append-nil, length-append}
 use Rattle.tclchars.specs.Bytes.{backslash, is_space, AllPass, MayBegin}
 use Rattle.tclchars.specs.Runs.{Text}
-use Rattle.tclchars.specs.Reading.{left_of}
+use Rattle.tclchars.specs.Reading.{remaining_of}
 use Rattle.tclchars.specs.declared.fault.Fault.{Fault}
 use Rattle.tcllist.specs.ListGrammar as grammar
-use Rattle.tcllist.specs.ListGrammar.{ElementPiece, begins_element, IsElement, IsList, BeginsList}
+use Rattle.tcllist.specs.ListGrammar.{ElementPiece, begins_element, IsElement, IsList, IsListPrefix}
 use Rattle.tcllist.specs.ListFaults as faults
-use Rattle.tcllist.specs.ListFaults.{IsWrong, IsFaulty, here, behind}
+use Rattle.tcllist.specs.ListFaults.{ElementFault, IsFault, here, following}
 use Rattle.tcllist.proofs.Cuts.{piece_cut}
 use Rattle.tcllist.proofs.FaultCuts.{same_start, element_cut, some_text}
 
@@ -18,20 +18,20 @@ record Begins (bs : Text) (f : Fault) : Type 0 where
   pub more : Text
   pub elements : List Text
   pub whole : bs ≡ before ++ rest
-  pub long : length rest ≡ left_of f
+  pub long : length rest ≡ remaining_of f
   pub is : IsList (before ++ more) elements
 
 piece_through : {ends : ℕ → Bool} {bs e mid : Text} → ElementPiece ends bs e mid → {t rest : Text} → ElementPiece ends mid t rest → ElementPiece ends bs (e ++ t) rest
 piece_through grammar.ElementPiece.nothing k = k
-piece_through (grammar.ElementPiece.plain h g m) k = grammar.ElementPiece.plain h g (piece_through m k)
+piece_through (grammar.ElementPiece.literal h g m) k = grammar.ElementPiece.literal h g (piece_through m k)
 piece_through {ends} (grammar.ElementPiece.substituted {bs} {ts} v r h m) {t} {rest} k =
     subst (λ (x : Text). ElementPiece ends (backslash ∷ bs) x rest) (sym (append_assoc v ts t)) (grammar.ElementPiece.substituted v r h (piece_through m k))
 
 only : (spaces body e : Text) → AllPass is_space spaces → IsElement body e [] → IsList (spaces ++ body) (e ∷ [])
-only spaces body e pass is = record { spaces = spaces; body = body; rest = []; whole = refl; are_spaces = pass; is_element = is; is_parted = tt; more = tt }
+only spaces body e pass is = record { spaces = spaces; body = body; rest = []; whole = refl; are_spaces = pass; is_element = is; is_separated = tt; more = tt }
 
 -- at the mark that is open
-at_mark : (spaces body : Text) (f : Fault) → AllPass is_space spaces → length body ≡ left_of f → Begins (spaces ++ body) f
+at_mark : (spaces body : Text) (f : Fault) → AllPass is_space spaces → length body ≡ remaining_of f → Begins (spaces ++ body) f
 at_mark spaces body f pass long = record {
   before = spaces;
   rest = body;
@@ -43,7 +43,7 @@ at_mark spaces body f pass long = record {
 }
 
 -- behind a whole element
-behind_close : (spaces body taken rest e : Text) (f : Fault) → AllPass is_space spaces → body ≡ taken ++ rest → IsElement taken e [] → length rest ≡ left_of f → Begins (spaces ++ body) f
+behind_close : (spaces body taken rest e : Text) (f : Fault) → AllPass is_space spaces → body ≡ taken ++ rest → IsElement taken e [] → length rest ≡ remaining_of f → Begins (spaces ++ body) f
 behind_close spaces body taken rest e f pass w is long = record {
   before = spaces ++ taken;
   rest = rest;
@@ -55,7 +55,7 @@ behind_close spaces body taken rest e f pass w is long = record {
 }
 
 -- in an element that goes on
-in_element : (spaces body taken rest more e : Text) (f : Fault) → AllPass is_space spaces → body ≡ taken ++ rest → IsElement (taken ++ more) e [] → length rest ≡ left_of f → Begins (spaces ++ body) f
+in_element : (spaces body taken rest more e : Text) (f : Fault) → AllPass is_space spaces → body ≡ taken ++ rest → IsElement (taken ++ more) e [] → length rest ≡ remaining_of f → Begins (spaces ++ body) f
 in_element spaces body taken rest more e f pass w is long = record {
   before = spaces ++ taken;
   rest = rest;
@@ -66,24 +66,24 @@ in_element spaces body taken rest more e f pass w is long = record {
   is = subst (λ ys. IsList ys (e ∷ [])) (sym (append_assoc spaces taken more)) (only spaces (taken ++ more) e pass is);
 }
 
-wrong_begins : (spaces : Text) {body : Text} {f : Fault} → AllPass is_space spaces → IsWrong body f → Begins (spaces ++ body) f
-wrong_begins spaces pass (faults.IsWrong.open_brace {bs} none) = at_mark spaces (123 ∷ bs) _ pass (omega arith)
-wrong_begins spaces pass (faults.IsWrong.joined_to_brace {bs} inside rest w is joined) =
+wrong_begins : (spaces : Text) {body : Text} {f : Fault} → AllPass is_space spaces → ElementFault body f → Begins (spaces ++ body) f
+wrong_begins spaces pass (faults.ElementFault.open_brace {bs} none) = at_mark spaces (123 ∷ bs) _ pass (omega arith)
+wrong_begins spaces pass (faults.ElementFault.joined_to_brace {bs} inside rest w is joined) =
     behind_close spaces (123 ∷ bs) (123 ∷ (inside ++ 125 ∷ [])) rest inside _ pass (ap (λ ys. 123 ∷ ys) (w ∙ sym (append_assoc inside (125 ∷ []) rest))) (grammar.IsElement.in_braces [] refl is) refl
-wrong_begins spaces pass (faults.IsWrong.open_quote {bs} m last) = at_mark spaces (34 ∷ bs) _ pass (omega arith)
-wrong_begins spaces pass (faults.IsWrong.joined_to_quote {bs} {e = el} {rest} m joined) =
+wrong_begins spaces pass (faults.ElementFault.open_quote {bs} m last) = at_mark spaces (34 ∷ bs) _ pass (omega arith)
+wrong_begins spaces pass (faults.ElementFault.joined_to_quote {bs} {e = el} {rest} m joined) =
     let k = piece_cut m 34 rest refl in
     behind_close spaces (34 ∷ bs) (34 ∷ (k.taken ++ 34 ∷ [])) rest el _ pass (ap (λ ys. 34 ∷ ys) (k.whole ∙ sym (append_assoc k.taken (34 ∷ []) rest))) (grammar.IsElement.in_quotes (k.again [])) refl
-wrong_begins spaces pass (faults.IsWrong.bad_in_quotes {bs} {e = el} {rest} m nothing) =
+wrong_begins spaces pass (faults.ElementFault.bad_in_quotes {bs} {e = el} {rest} m nothing) =
     let k = piece_cut m backslash rest refl in
     let bell : ElementPiece grammar.is_quote (backslash ∷ (97 ∷ (34 ∷ []))) (7 ∷ []) (34 ∷ []) = grammar.ElementPiece.substituted (7 ∷ []) (34 ∷ []) refl grammar.ElementPiece.nothing in
     in_element spaces (34 ∷ bs) (34 ∷ k.taken) (backslash ∷ rest) (backslash ∷ (97 ∷ (34 ∷ []))) (el ++ 7 ∷ []) _ pass (ap (λ ys. 34 ∷ ys) k.whole)
     (grammar.IsElement.in_quotes (piece_through (k.again (97 ∷ (34 ∷ []))) bell)) (omega arith)
-wrong_begins spaces pass (faults.IsWrong.bad_in_bare {bs} {e = el} {rest} starts m nothing) =
+wrong_begins spaces pass (faults.ElementFault.bad_in_bare {bs} {e = el} {rest} starts m nothing) =
     let k = piece_cut m backslash rest refl in
     let bell : ElementPiece is_space (backslash ∷ (97 ∷ [])) (7 ∷ []) [] = grammar.ElementPiece.substituted (7 ∷ []) [] refl grammar.ElementPiece.nothing in
     in_element spaces bs k.taken (backslash ∷ rest) (backslash ∷ (97 ∷ [])) (el ++ 7 ∷ []) _ pass k.whole
-    (grammar.IsElement.bare (same_start begins_element k.taken bs backslash rest (97 ∷ []) k.whole starts) (grammar.Bare.parted (piece_through (k.again (97 ∷ [])) bell) tt)) (omega arith)
+    (grammar.IsElement.bare (same_start begins_element k.taken bs backslash rest (97 ∷ []) k.whole starts) (grammar.Bare.separated (piece_through (k.again (97 ∷ [])) bell) tt)) (omega arith)
 
 first : (b y : ℕ) (bs rest : Text) → b ∷ bs ≡ y ∷ rest → b ≡ y
 first b y bs rest h = cc
@@ -108,7 +108,7 @@ behind_begins spaces body e (z ∷ tail) f pass is h some m = go m.before m.whol
           whole = append_assoc spaces c.taken (z ∷ []);
           are_spaces = pass;
           is_element = c.again [];
-          is_parted = h;
+          is_separated = h;
           more = (h, tt);
         };
       }
@@ -130,14 +130,14 @@ behind_begins spaces body e (z ∷ tail) f pass is h some m = go m.before m.whol
           whole = append_assoc spaces (c.taken ++ y ∷ b) m.more ∙ ap (λ ys. spaces ++ ys) (append_assoc c.taken (y ∷ b) m.more);
           are_spaces = pass;
           is_element = subst (λ x. IsElement (c.taken ++ x ∷ (b ++ m.more)) e (x ∷ (b ++ m.more))) same (c.again (b ++ m.more));
-          is_parted = subst (λ x. MayBegin is_space (x ∷ tail)) same h;
+          is_separated = subst (λ x. MayBegin is_space (x ∷ tail)) same h;
           more = l;
         };
       }
 
-faulty_begins : {bs : Text} {f : Fault} → IsFaulty bs f → Begins bs f
+faulty_begins : {bs : Text} {f : Fault} → IsFault bs f → Begins bs f
 faulty_begins (here spaces body pass wrong) = wrong_begins spaces pass wrong
-faulty_begins (behind spaces body {e = el} {rest} {f} pass is h more) = behind_begins spaces body el rest f pass is h (some_text more) (faulty_begins more)
+faulty_begins (following spaces body {e = el} {rest} {f} pass is h more) = behind_begins spaces body el rest f pass is h (some_text more) (faulty_begins more)
 
 front_same : (x y a b : Text) → x ++ a ≡ y ++ b → length a ≡ length b → x ≡ y
 front_same [] [] a b h k = refl
@@ -148,7 +148,7 @@ front_same (c ∷ x) (d ∷ y) a b h k =
     let rest : x ++ a ≡ y ++ b = cc in
     ap₂ (λ (n : ℕ) (xs : Text). n ∷ xs) one (front_same x y a b rest k)
 
-pub begins_before : (before rest : Text) (f : Fault) → IsFaulty (before ++ rest) f → left_of f ≡ length rest → BeginsList before
+pub begins_before : (before rest : Text) (f : Fault) → IsFault (before ++ rest) f → remaining_of f ≡ length rest → IsListPrefix before
 begins_before before rest f h long =
     let m = faulty_begins h in
     let same : m.before ≡ before = front_same m.before before m.rest rest (sym m.whole) (m.long ∙ long) in

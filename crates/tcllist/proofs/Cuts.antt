@@ -18,7 +18,7 @@ pub record Cut {A : Type 0} (f : Text → A) (made : Text → A) (bs : Text) (y 
 abbrev NumberCut : (Text → ℕ × Text) → ℕ → Text → ℕ → Text → Type 0
 NumberCut f v bs y rest = Cut f (λ r. (v, r)) bs y rest
 
-pair_of : (v w : ℕ) (r s : Text) → (let left : ℕ × Text = (v, r) in left ≡ (w, s)) → (v ≡ w) × (r ≡ s)
+pair_of : (v w : ℕ) (r s : Text) → (let remaining : ℕ × Text = (v, r) in remaining ≡ (w, s)) → (v ≡ w) × (r ≡ s)
 pair_of v w r s h = (ap (λ (p : ℕ × Text). p.0) h, ap (λ (p : ℕ × Text). p.1) h)
 
 -- the number that goes on with digits of a base, by steps that look at one digit
@@ -49,7 +49,7 @@ octal_cases n v w b y bs rest false u t' u' more h =
     let p = pair_of v w (b ∷ bs) (y ∷ rest) (sym (octal-digit n v b bs false u t' u') ∙ h) in
     record { taken = []; whole = p.1; again = λ other. subst (λ x. octal_at (suc n) v (x ∷ other) ≡ (w, x ∷ other)) (first b y bs rest p.1) (octal-digit n v b other false u t' u' ∙ ap (λ m. (m, b ∷ other)) p.0) }
 
-no_more : (v w y : ℕ) (rest : Text) → (let left : ℕ × Text = (v, []) in left ≡ (w, y ∷ rest)) → ⊥
+no_more : (v w y : ℕ) (rest : Text) → (let remaining : ℕ × Text = (v, []) in remaining ≡ (w, y ∷ rest)) → ⊥
 no_more v w y rest h = empty (pair_of v w [] (y ∷ rest) h).1 where
   empty : [] ≡ y ∷ rest → ⊥
   empty h = cc
@@ -82,15 +82,15 @@ hexadecimal_cut (suc n) v w y (b ∷ bs) rest h = hexadecimal_cases n v w b y bs
 abbrev pub MarkCut : (Text → Option (Text × Text)) → Text → Text → ℕ → Text → Type 0
 MarkCut f v bs y rest = Cut f (λ r. Some (v, r)) bs y rest
 
-some_parts : (a v r s : Text) → (let left : Option (Text × Text) = Some (a, r) in left ≡ Some (v, s)) → (a ≡ v) × (r ≡ s)
+some_parts : (a v r s : Text) → (let remaining : Option (Text × Text) = Some (a, r) in remaining ≡ Some (v, s)) → (a ≡ v) × (r ≡ s)
 some_parts a v r s h =
     let e : (let p : Text × Text = (a, r) in p) ≡ (v, s) = cc in
     (ap (λ (p : Text × Text). p.0) e, ap (λ (p : Text × Text). p.1) e)
 
-none_parts : (v s : Text) → (let left : Option (Text × Text) = None in left ≡ Some (v, s)) → ⊥
+none_parts : (v s : Text) → (let remaining : Option (Text × Text) = None in remaining ≡ Some (v, s)) → ⊥
 none_parts v s h = cc
 
-letter_cut : (l v : Text) (y : ℕ) (bs rest : Text) → (let left : Option (Text × Text) = Some (l, bs) in left ≡ Some (v, y ∷ rest)) → MarkCut (λ xs. Some (l, xs)) v bs y rest
+letter_cut : (l v : Text) (y : ℕ) (bs rest : Text) → (let remaining : Option (Text × Text) = Some (l, bs) in remaining ≡ Some (v, y ∷ rest)) → MarkCut (λ xs. Some (l, xs)) v bs y rest
 letter_cut l v y bs rest h =
     let p = some_parts l v bs (y ∷ rest) h in
     record { taken = []; whole = p.1; again = λ other. ap (λ t. Some (t, y ∷ other)) p.0 }
@@ -101,7 +101,7 @@ stops_there p bs y rest e = subst (MayBegin (λ b. not (p b))) e (back_fails p b
 run_whole : (p : ℕ → Bool) (bs : Text) (y : ℕ) (rest : Text) → drop_while p bs ≡ y ∷ rest → bs ≡ take_while p bs ++ y ∷ rest
 run_whole p bs y rest e = front_back p bs ∙ ap (λ xs. take_while p bs ++ xs) e
 
-back_cut : (l v : Text) (p : ℕ → Bool) (y : ℕ) (bs rest : Text) → (let left : Option (Text × Text) = Some (l, drop_while p bs) in left ≡ Some (v, y ∷ rest)) → MarkCut (λ xs. Some (l, drop_while p xs)) v bs y rest
+back_cut : (l v : Text) (p : ℕ → Bool) (y : ℕ) (bs rest : Text) → (let remaining : Option (Text × Text) = Some (l, drop_while p bs) in remaining ≡ Some (v, y ∷ rest)) → MarkCut (λ xs. Some (l, drop_while p xs)) v bs y rest
 back_cut l v p y bs rest h =
     let q = some_parts l v (drop_while p bs) (y ∷ rest) h in
     record {
@@ -110,7 +110,7 @@ back_cut l v p y bs rest h =
       again = λ other. ap (λ xs. Some (l, xs)) (back_run p (take_while p bs) (y ∷ other) (front_passes p bs) (stops_there p bs y rest q.1)) ∙ ap (λ t. Some (t, y ∷ other)) q.0;
     }
 
-run_cut : (b : ℕ) (v : Text) (p : ℕ → Bool) (y : ℕ) (bs rest : Text) → (let left : Option (Text × Text) = Some (b ∷ take_while p bs, drop_while p bs) in left ≡ Some (v, y ∷ rest)) → MarkCut (λ xs. Some (b ∷ take_while p xs, drop_while p xs)) v bs y rest
+run_cut : (b : ℕ) (v : Text) (p : ℕ → Bool) (y : ℕ) (bs rest : Text) → (let remaining : Option (Text × Text) = Some (b ∷ take_while p bs, drop_while p bs) in remaining ≡ Some (v, y ∷ rest)) → MarkCut (λ xs. Some (b ∷ take_while p xs, drop_while p xs)) v bs y rest
 run_cut b v p y bs rest h =
     let q = some_parts (b ∷ take_while p bs) v (drop_while p bs) (y ∷ rest) h in
     let stop = stops_there p bs y rest q.1 in
@@ -166,7 +166,7 @@ code_cases n b v y h bs rest false t e =
     let p = some_parts (b ∷ []) v (h ∷ bs) (y ∷ rest) (sym (code-none (suc n) b h bs t) ∙ e) in
     record { taken = []; whole = p.1; again = λ other. subst (λ x. code_at (suc n) b (x ∷ other) ≡ Some (v, x ∷ other)) (first h y bs rest p.1) (code-none (suc n) b h other t ∙ ap (λ s. Some (s, h ∷ other)) p.0) }
 
-nothing_left : (l v : Text) (y : ℕ) (rest : Text) → (let left : Option (Text × Text) = Some (l, []) in left ≡ Some (v, y ∷ rest)) → ⊥
+nothing_left : (l v : Text) (y : ℕ) (rest : Text) → (let remaining : Option (Text × Text) = Some (l, []) in remaining ≡ Some (v, y ∷ rest)) → ⊥
 nothing_left l v y rest h = empty (some_parts l v [] (y ∷ rest) h).1 where
   empty : [] ≡ y ∷ rest → ⊥
   empty h = cc
@@ -250,9 +250,9 @@ joined_cut ends bs v r ts stands y rest (z ∷ taken) w again =
 
 pub piece_cut : {ends : ℕ → Bool} {bs e tail : Text} → ElementPiece ends bs e tail → (y : ℕ) (rest : Text) → tail ≡ y ∷ rest → PieceCut ends bs e y rest
 piece_cut grammar.ElementPiece.nothing y rest e = record { taken = []; whole = e; again = λ other. grammar.ElementPiece.nothing }
-piece_cut (grammar.ElementPiece.plain {b} {bs} {ts} h k m) y rest e =
+piece_cut (grammar.ElementPiece.literal {b} {bs} {ts} h k m) y rest e =
     let more = piece_cut m y rest e in
-    record { taken = b ∷ more.taken; whole = ap (λ xs. b ∷ xs) more.whole; again = λ other. grammar.ElementPiece.plain h k (more.again other) }
+    record { taken = b ∷ more.taken; whole = ap (λ xs. b ∷ xs) more.whole; again = λ other. grammar.ElementPiece.literal h k (more.again other) }
 piece_cut {ends} (grammar.ElementPiece.substituted {bs} {ts} v r stands m) y rest e =
     let more = piece_cut m y rest e in
     joined_cut ends bs v r ts stands y rest more.taken more.whole more.again

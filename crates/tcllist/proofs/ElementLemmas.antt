@@ -12,15 +12,15 @@ use Rattle.tclchars.specs.declared.fault.Fault.TheVariants as marks
 use Rattle.tcllist.specs.ListGrammar as grammar
 use Rattle.tcllist.specs.ListGrammar.{ElementPiece, Bare, is_quote, begins_element, IsElement}
 use Rattle.tcllist.specs.ListFaults as faults
-use Rattle.tcllist.specs.ListFaults.{IsJoined, IsLast, StandsForNothing, IsWrong}
-use Rattle.tcllist.specs.ListReading.{escaped_at, piece_at, piece_of, parted_at, parted, element_in_braces, element_in_quotes, quoted_at, element_at}
+use Rattle.tcllist.specs.ListFaults.{IsJoined, IsLast, StandsForNothing, ElementFault}
+use Rattle.tcllist.specs.ListReading.{escaped_at, piece_at, piece_of, element_end, separated, element_in_braces, element_in_quotes, quoted_at, element_at}
 use Rattle.tcllist.proofs.Runs.{is_byte, true_false, not_true}
 use Rattle.tcllist.proofs.Pieces.{PieceGives, PieceLeft, piece_left, piece_gives, piece-end, piece-none, piece-backslash, to_end}
 
 -- what reading an element gives of a text
 abbrev pub ElementGives : Text → Read Text → Type 0
 ElementGives bs (Ok p) = IsElement bs p.0 p.1 × MayBegin is_space p.1
-ElementGives bs (Err f) = IsWrong bs f
+ElementGives bs (Err f) = ElementFault bs f
 
 space_off : is_space backslash ≡ false
 space_off = refl
@@ -33,15 +33,15 @@ pub piece_of-gives : (ends : ℕ → Bool) → ends backslash ≡ false → (bs 
 unfolding piece_of
 piece_of-gives ends off bs = piece_gives ends off (suc (length bs)) bs (omega arith)
 
-piece_of-left : (ends : ℕ → Bool) (off : ends backslash ≡ false) {bs e rest : Text} → ElementPiece ends bs e rest → PieceLeft ends (suc (length bs)) bs e rest
-piece_of-left ends off {bs} m = piece_left ends off m (suc (length bs)) (omega arith)
+piece_of-remaining : (ends : ℕ → Bool) (off : ends backslash ≡ false) {bs e rest : Text} → ElementPiece ends bs e rest → PieceLeft ends (suc (length bs)) bs e rest
+piece_of-remaining ends off {bs} m = piece_left ends off m (suc (length bs)) (omega arith)
 
 pub piece_of-end : (ends : ℕ → Bool) → ends backslash ≡ false → (bs e rest : Text) → ElementPiece ends bs e rest → MayBegin ends rest → piece_of ends bs ≡ Ok (e, rest)
-piece_of-end ends off bs e [] m h = to_end ends off bs e [] [] [] (piece_of-left ends off m) (λ n. piece-none ends off n) ∙ ap (λ t. Ok (t, [])) (append-nil e)
-piece_of-end ends off bs e (b ∷ rest) m h = to_end ends off bs e (b ∷ rest) [] (b ∷ rest) (piece_of-left ends off m) (λ n. piece-end ends off n b rest h) ∙ ap (λ t. Ok (t, b ∷ rest)) (append-nil e)
+piece_of-end ends off bs e [] m h = to_end ends off bs e [] [] [] (piece_of-remaining ends off m) (λ n. piece-none ends off n) ∙ ap (λ t. Ok (t, [])) (append-nil e)
+piece_of-end ends off bs e (b ∷ rest) m h = to_end ends off bs e (b ∷ rest) [] (b ∷ rest) (piece_of-remaining ends off m) (λ n. piece-end ends off n b rest h) ∙ ap (λ t. Ok (t, b ∷ rest)) (append-nil e)
 
 pub piece_of-backslash : (ends : ℕ → Bool) → ends backslash ≡ false → (bs e : Text) → ElementPiece ends bs e (backslash ∷ []) → piece_of ends bs ≡ Ok (e ++ backslash ∷ [], [])
-piece_of-backslash ends off bs e m = to_end ends off bs e (backslash ∷ []) (backslash ∷ []) [] (piece_of-left ends off m) (λ n. piece-backslash ends off n [])
+piece_of-backslash ends off bs e m = to_end ends off bs e (backslash ∷ []) (backslash ∷ []) [] (piece_of-remaining ends off m) (λ n. piece-backslash ends off n [])
 
 nothing_mark : (more : Text → Read Text) (rest : Text) → StandsForNothing rest → escaped_at more rest (after_backslash rest) ≡ Err (marks.BadCharacter (suc (length rest)))
 nothing_mark more [] h = absurd h
@@ -49,9 +49,9 @@ nothing_mark more (b ∷ rest) h = ap (escaped_at more (b ∷ rest)) h
 
 pub piece_of-bad : (ends : ℕ → Bool) → ends backslash ≡ false → (bs e rest : Text) → ElementPiece ends bs e (backslash ∷ rest) → StandsForNothing rest → piece_of ends bs ≡ Err (marks.BadCharacter (suc (length rest)))
 unfolding piece_of
-piece_of-bad ends off bs e rest m h = go (piece_of-left ends off m) where
+piece_of-bad ends off bs e rest m h = go (piece_of-remaining ends off m) where
   go : PieceLeft ends (suc (length bs)) bs e (backslash ∷ rest) → piece_at ends (suc (length bs)) bs ≡ Err (marks.BadCharacter (suc (length rest)))
-  go left = turn left.turns left.enough left.whole where
+  go remaining = turn remaining.turns remaining.enough remaining.whole where
     turn : (turns : ℕ) → length (backslash ∷ rest) < turns → piece_at ends (suc (length bs)) bs ≡ read_map (λ t. e ++ t) (piece_at ends turns (backslash ∷ rest)) → piece_at ends (suc (length bs)) bs ≡ Err (marks.BadCharacter (suc (length rest)))
     turn zero lt w = absurd (omega arith)
     turn (suc n) lt w = w ∙ ap (read_map (λ t. e ++ t)) (piece-backslash ends off n rest ∙ nothing_mark (piece_at ends n) rest h)
@@ -61,61 +61,61 @@ abbrev Parted : Text → Result Text Fault → Type 0
 Parted rest (Ok r) = (r ≡ rest) × MayBegin is_space rest
 Parted rest (Err f) = (f ≡ marks.JoinedToClose (length rest)) × IsJoined rest
 
-parted_cases : (b : ℕ) (bs : Text) (t : Bool) → is_space b ≡ t → Parted (b ∷ bs) (parted_at (b ∷ bs))
+parted_cases : (b : ℕ) (bs : Text) (t : Bool) → is_space b ≡ t → Parted (b ∷ bs) (element_end (b ∷ bs))
 parted_cases b bs true t = rw t (refl, t)
 parted_cases b bs false t = rw t (refl, ap not t)
 
-pub parts : (rest : Text) → Parted rest (parted_at rest)
+pub parts : (rest : Text) → Parted rest (element_end rest)
 parts [] = (refl, tt)
 parts (b ∷ bs) = parted_cases b bs (is_space b) refl
 
-pub parted-on : (e rest : Text) → MayBegin is_space rest → parted e rest ≡ Ok (e, rest)
-parted-on e [] h = refl
-parted-on e (b ∷ rest) h = rw h refl
+pub separated-on : (e rest : Text) → MayBegin is_space rest → separated e rest ≡ Ok (e, rest)
+separated-on e [] h = refl
+separated-on e (b ∷ rest) h = rw h refl
 
-pub parted-joined : (e rest : Text) → IsJoined rest → parted e rest ≡ Err (marks.JoinedToClose (length rest))
-parted-joined e [] h = absurd h
-parted-joined e (b ∷ rest) h = let byte : is_space b ≡ false = not_true (is_space b) h in rw byte refl
+pub separated-joined : (e rest : Text) → IsJoined rest → separated e rest ≡ Err (marks.JoinedToClose (length rest))
+separated-joined e [] h = absurd h
+separated-joined e (b ∷ rest) h = let byte : is_space b ≡ false = not_true (is_space b) h in rw byte refl
 
 -- a close with what follows it, where that is in place
-after_close : (bs e rest : Text) (r : Result Text Fault) → Parted rest r → IsElement bs e rest → (IsJoined rest → IsWrong bs (marks.JoinedToClose (length rest))) → ElementGives bs (r >>= (λ q. Ok (e, q)))
+after_close : (bs e rest : Text) (r : Result Text Fault) → Parted rest r → IsElement bs e rest → (IsJoined rest → ElementFault bs (marks.JoinedToClose (length rest))) → ElementGives bs (r >>= (λ q. Ok (e, q)))
 after_close bs e rest (Ok q) p is wrong = (subst (IsElement bs e) (sym p.0) is, subst (MayBegin is_space) (sym p.0) p.1)
-after_close bs e rest (Err f) p is wrong = subst (IsWrong bs) (sym p.0) (wrong p.1)
+after_close bs e rest (Err f) p is wrong = subst (ElementFault bs) (sym p.0) (wrong p.1)
 
 -- Elements in braces
 unclosed : (bs inside rest : Text) → braced_at false 0 bs ≡ None → bs ≡ inside ++ 125 ∷ rest → Balanced inside → ⊥
 unclosed bs inside rest h w is = none_some (inside, rest) (sym h ∙ ap (braced_at false 0) w ∙ found_close inside rest is) where
-  none_some : (p : Text × Text) → (let left : Option (Text × Text) = None in left ≡ Some p) → ⊥
+  none_some : (p : Text × Text) → (let remaining : Option (Text × Text) = None in remaining ≡ Some p) → ⊥
   none_some p h = cc
 
 braces_give : (bs : Text) (found : Option (Text × Text)) → braced_at false 0 bs ≡ found → ElementGives (123 ∷ bs) (element_in_braces (suc (length bs)) found)
-braces_give bs None e = faults.IsWrong.open_brace (λ inside rest w is. unclosed bs inside rest e w is)
+braces_give bs None e = faults.ElementFault.open_brace (λ inside rest w is. unclosed bs inside rest e w is)
 braces_give bs (Some p) e =
     let closed = close_sound bs false 0 p.0 p.1 e in
-    after_close (123 ∷ bs) p.0 p.1 (parted_at p.1) (parts p.1) (grammar.IsElement.in_braces p.1 closed.0 closed.1) (λ joined. faults.IsWrong.joined_to_brace p.0 p.1 closed.0 closed.1 joined)
+    after_close (123 ∷ bs) p.0 p.1 (element_end p.1) (parts p.1) (grammar.IsElement.in_braces p.1 closed.0 closed.1) (λ joined. faults.ElementFault.joined_to_brace p.0 p.1 closed.0 closed.1 joined)
 
 -- Elements in quotes
 quote_cases : (bs e : Text) (b : ℕ) (rest : Text) (t : Bool) → is_quote b ≡ t → ElementPiece is_quote bs e (b ∷ rest) → MayBegin is_quote (b ∷ rest) → ElementGives (34 ∷ bs) (element_in_quotes (suc (length bs)) e (b ∷ rest))
 quote_cases bs e b rest true t m h =
     let closed : ElementPiece is_quote bs e (34 ∷ rest) = subst (λ x. ElementPiece is_quote bs e (x ∷ rest)) (is_byte b 34 t) m in
-    rw t (after_close (34 ∷ bs) e rest (parted_at rest) (parts rest) (grammar.IsElement.in_quotes closed) (λ joined. faults.IsWrong.joined_to_quote closed joined))
+    rw t (after_close (34 ∷ bs) e rest (element_end rest) (parts rest) (grammar.IsElement.in_quotes closed) (λ joined. faults.ElementFault.joined_to_quote closed joined))
 quote_cases bs e b rest false t m h = absurd (true_false (sym h ∙ t))
 
 quote_closes : (bs e rest : Text) → ElementPiece is_quote bs e rest → MayBegin is_quote rest → ElementGives (34 ∷ bs) (element_in_quotes (suc (length bs)) e rest)
-quote_closes bs e [] m h = faults.IsWrong.open_quote m (inl refl)
+quote_closes bs e [] m h = faults.ElementFault.open_quote m (inl refl)
 quote_closes bs e (b ∷ rest) m h = quote_cases bs e b rest (is_quote b) refl m h
 
 quotes_give : (bs : Text) (r : Read Text) → PieceGives is_quote bs r → ElementGives (34 ∷ bs) (r >>= (λ p. element_in_quotes (suc (length bs)) p.0 p.1))
 quotes_give bs (Ok p) (inl g) = quote_closes bs p.0 p.1 g.0 g.1
-quotes_give bs (Ok p) (inr g) = subst (λ r. ElementGives (34 ∷ bs) (element_in_quotes (suc (length bs)) p.0 r)) (sym g.3) (faults.IsWrong.open_quote g.1 (inr refl))
-quotes_give bs (Err f) g = subst (IsWrong (34 ∷ bs)) (sym g.4) (faults.IsWrong.bad_in_quotes g.2 g.3)
+quotes_give bs (Ok p) (inr g) = subst (λ r. ElementGives (34 ∷ bs) (element_in_quotes (suc (length bs)) p.0 r)) (sym g.3) (faults.ElementFault.open_quote g.1 (inr refl))
+quotes_give bs (Err f) g = subst (ElementFault (34 ∷ bs)) (sym g.4) (faults.ElementFault.bad_in_quotes g.2 g.3)
 
 -- Bare elements
 bare_gives : (bs : Text) (r : Read Text) → DoesBegin begins_element bs → PieceGives is_space bs r → ElementGives bs r
-bare_gives bs (Ok p) starts (inl g) = (grammar.IsElement.bare starts (grammar.Bare.parted g.0 g.1), g.1)
+bare_gives bs (Ok p) starts (inl g) = (grammar.IsElement.bare starts (grammar.Bare.separated g.0 g.1), g.1)
 bare_gives bs (Ok p) starts (inr g) =
     (subst (λ r. IsElement bs p.0 r) (sym g.3) (subst (λ e. IsElement bs e []) (sym g.2) (grammar.IsElement.bare starts (grammar.Bare.backslash_last g.1))), subst (MayBegin is_space) (sym g.3) tt)
-bare_gives bs (Err f) starts g = subst (IsWrong bs) (sym g.4) (faults.IsWrong.bad_in_bare starts g.2 g.3)
+bare_gives bs (Err f) starts g = subst (ElementFault bs) (sym g.4) (faults.ElementFault.bad_in_bare starts g.2 g.3)
 
 -- Elements
 element_begins : (b : ℕ) → not (is_space b) ≡ true → (b == 123) ≡ false → (b == 34) ≡ false → begins_element b ≡ true
@@ -151,14 +151,14 @@ element-quote : (bs : Text) → element_at (34 ∷ bs) ≡ quoted_at bs
 unfolding element_at
 element-quote bs = refl
 
-quoted-close : (bs e rest : Text) → ElementPiece is_quote bs e (34 ∷ rest) → quoted_at bs ≡ parted e rest
+quoted-close : (bs e rest : Text) → ElementPiece is_quote bs e (34 ∷ rest) → quoted_at bs ≡ separated e rest
 quoted-close bs e rest m = ap (λ r. r >>= (λ p. element_in_quotes (suc (length bs)) p.0 p.1)) (piece_of-end is_quote quote_off bs e (34 ∷ rest) m refl)
 
 pub element_read : {bs e rest : Text} → IsElement bs e rest → MayBegin is_space rest → element_at bs ≡ Ok (e, rest)
 element_read (grammar.IsElement.in_braces {bs} {e} rest w is) h =
-    element-brace bs ∙ ap (element_in_braces (suc (length bs))) (ap (braced_at false 0) w ∙ found_close e rest is) ∙ parted-on e rest h
-element_read (grammar.IsElement.in_quotes {bs} {e} {rest} m) h = element-quote bs ∙ quoted-close bs e rest m ∙ parted-on e rest h
-element_read (grammar.IsElement.bare {bs} starts (grammar.Bare.parted {e} {rest} m k)) h = element-bare bs starts ∙ piece_of-end is_space space_off bs e rest m k
+    element-brace bs ∙ ap (element_in_braces (suc (length bs))) (ap (braced_at false 0) w ∙ found_close e rest is) ∙ separated-on e rest h
+element_read (grammar.IsElement.in_quotes {bs} {e} {rest} m) h = element-quote bs ∙ quoted-close bs e rest m ∙ separated-on e rest h
+element_read (grammar.IsElement.bare {bs} starts (grammar.Bare.separated {e} {rest} m k)) h = element-bare bs starts ∙ piece_of-end is_space space_off bs e rest m k
 element_read (grammar.IsElement.bare {bs} starts (grammar.Bare.backslash_last {e} m)) h = element-bare bs starts ∙ piece_of-backslash is_space space_off bs e m
 
 never_closes : (bs : Text) → ((inside rest : Text) → bs ≡ inside ++ 125 ∷ rest → Balanced inside → ⊥) → (found : Option (Text × Text)) → braced_at false 0 bs ≡ found → found ≡ None
@@ -169,14 +169,14 @@ quoted-open : (bs e rest : Text) → ElementPiece is_quote bs e rest → IsLast 
 quoted-open bs e rest m (inl h) = ap (λ r. r >>= (λ p. element_in_quotes (suc (length bs)) p.0 p.1)) (piece_of-end is_quote quote_off bs e [] (subst (ElementPiece is_quote bs e) h m) tt)
 quoted-open bs e rest m (inr h) = ap (λ r. r >>= (λ p. element_in_quotes (suc (length bs)) p.0 p.1)) (piece_of-backslash is_quote quote_off bs e (subst (ElementPiece is_quote bs e) h m))
 
-pub element_wrong : {bs : Text} {f : Fault} → IsWrong bs f → element_at bs ≡ Err f
-element_wrong (faults.IsWrong.open_brace {bs} none_closes) = element-brace bs ∙ ap (element_in_braces (suc (length bs))) (never_closes bs none_closes (braced_at false 0 bs) refl)
-element_wrong (faults.IsWrong.joined_to_brace {bs} inside rest w is joined) =
-    element-brace bs ∙ ap (element_in_braces (suc (length bs))) (ap (braced_at false 0) w ∙ found_close inside rest is) ∙ parted-joined inside rest joined
-element_wrong (faults.IsWrong.open_quote {bs} {e} {rest} m last) = element-quote bs ∙ quoted-open bs e rest m last
-element_wrong (faults.IsWrong.joined_to_quote {bs} {e} {rest} m joined) = element-quote bs ∙ quoted-close bs e rest m ∙ parted-joined e rest joined
-element_wrong (faults.IsWrong.bad_in_quotes {bs} {e} {rest} m nothing) = element-quote bs ∙ ap (λ r. r >>= (λ p. element_in_quotes (suc (length bs)) p.0 p.1)) (piece_of-bad is_quote quote_off bs e rest m nothing)
-element_wrong (faults.IsWrong.bad_in_bare {bs} {e} {rest} starts m nothing) = element-bare bs starts ∙ piece_of-bad is_space space_off bs e rest m nothing
+pub element_wrong : {bs : Text} {f : Fault} → ElementFault bs f → element_at bs ≡ Err f
+element_wrong (faults.ElementFault.open_brace {bs} none_closes) = element-brace bs ∙ ap (element_in_braces (suc (length bs))) (never_closes bs none_closes (braced_at false 0 bs) refl)
+element_wrong (faults.ElementFault.joined_to_brace {bs} inside rest w is joined) =
+    element-brace bs ∙ ap (element_in_braces (suc (length bs))) (ap (braced_at false 0) w ∙ found_close inside rest is) ∙ separated-joined inside rest joined
+element_wrong (faults.ElementFault.open_quote {bs} {e} {rest} m last) = element-quote bs ∙ quoted-open bs e rest m last
+element_wrong (faults.ElementFault.joined_to_quote {bs} {e} {rest} m joined) = element-quote bs ∙ quoted-close bs e rest m ∙ separated-joined e rest joined
+element_wrong (faults.ElementFault.bad_in_quotes {bs} {e} {rest} m nothing) = element-quote bs ∙ ap (λ r. r >>= (λ p. element_in_quotes (suc (length bs)) p.0 p.1)) (piece_of-bad is_quote quote_off bs e rest m nothing)
+element_wrong (faults.ElementFault.bad_in_bare {bs} {e} {rest} starts m nothing) = element-bare bs starts ∙ piece_of-bad is_space space_off bs e rest m nothing
 
 -- What stands in front of white space
 brace_free : (b : ℕ) → begins_element b ≡ true → not (is_space b) ≡ true
@@ -191,13 +191,13 @@ element_starts (grammar.IsElement.in_braces rest w is) = refl
 element_starts (grammar.IsElement.in_quotes m) = refl
 element_starts (grammar.IsElement.bare {bs} starts m) = free_start bs starts
 
-pub wrong_starts : {bs : Text} {f : Fault} → IsWrong bs f → DoesBegin (λ b. not (is_space b)) bs
-wrong_starts (faults.IsWrong.open_brace none_closes) = refl
-wrong_starts (faults.IsWrong.joined_to_brace inside rest w is joined) = refl
-wrong_starts (faults.IsWrong.open_quote m last) = refl
-wrong_starts (faults.IsWrong.joined_to_quote m joined) = refl
-wrong_starts (faults.IsWrong.bad_in_quotes m nothing) = refl
-wrong_starts (faults.IsWrong.bad_in_bare {bs} starts m nothing) = free_start bs starts
+pub wrong_starts : {bs : Text} {f : Fault} → ElementFault bs f → DoesBegin (λ b. not (is_space b)) bs
+wrong_starts (faults.ElementFault.open_brace none_closes) = refl
+wrong_starts (faults.ElementFault.joined_to_brace inside rest w is joined) = refl
+wrong_starts (faults.ElementFault.open_quote m last) = refl
+wrong_starts (faults.ElementFault.joined_to_quote m joined) = refl
+wrong_starts (faults.ElementFault.bad_in_quotes m nothing) = refl
+wrong_starts (faults.ElementFault.bad_in_bare {bs} starts m nothing) = free_start bs starts
 
 -- What reading an element does at each mark
 pub at_brace : (bs inside : Text) → bs ≡ 123 ∷ inside → element_at bs ≡ element_in_braces (suc (length inside)) (braced_at false 0 inside)

@@ -10,7 +10,7 @@ use Rattle.tclchars.specs.declared.fault.TextFault.TheVariants.{JoinedToClose, B
 use Rattle.tcllist.specs.ListGrammar as grammar
 use Rattle.tcllist.specs.ListGrammar.{ElementPiece, Bare, is_quote, begins_element, IsElement, IsList}
 use Rattle.tcllist.specs.ListFaults as faults
-use Rattle.tcllist.specs.ListFaults.{IsJoined, IsWrong, IsFaulty, here, behind, IsListFault}
+use Rattle.tcllist.specs.ListFaults.{IsJoined, ElementFault, IsFault, here, following, IsListFault}
 use Rattle.tcllist.proofs.Cuts.{piece_cut}
 use Rattle.tcllist.proofs.Nothing.{nothing_more}
 use Rattle.tcllist.proofs.ReadLemmas.{no_list}
@@ -44,41 +44,41 @@ element_cut (grammar.IsElement.in_quotes {bs} {e} {rest = tail} m) y rest t h =
       whole = ap (λ xs. 34 ∷ xs) (k.whole ∙ ap (λ xs. k.taken ++ 34 ∷ xs) t ∙ sym (close_after k.taken 34 (y ∷ rest)));
       again = λ other. grammar.IsElement.in_quotes (subst (λ xs. ElementPiece is_quote xs e (34 ∷ (y ∷ other))) (sym (close_after k.taken 34 (y ∷ other))) (k.again (y ∷ other)));
     }
-element_cut (grammar.IsElement.bare {bs} starts (grammar.Bare.parted {e} {rest = tail} m k)) y rest t h =
+element_cut (grammar.IsElement.bare {bs} starts (grammar.Bare.separated {e} {rest = tail} m k)) y rest t h =
     let c = piece_cut m y rest t in
     record {
       taken = c.taken;
       whole = c.whole;
-      again = λ other. grammar.IsElement.bare (same_start begins_element c.taken bs y rest other c.whole starts) (grammar.Bare.parted (c.again other) (subst (MayBegin is_space) t h));
+      again = λ other. grammar.IsElement.bare (same_start begins_element c.taken bs y rest other c.whole starts) (grammar.Bare.separated (c.again other) (subst (MayBegin is_space) t h));
     }
 element_cut (grammar.IsElement.bare starts (grammar.Bare.backslash_last m)) y rest t h = absurd (not_empty y rest t)
 
 -- what is wrong up to y is wrong whatever follows y
-record WrongCut (Wrong : Text → Fault → Type 0) (bs : Text) (left : ℕ) : Type 0 where
+record WrongCut (Wrong : Text → Fault → Type 0) (bs : Text) (remaining : ℕ) : Type 0 where
   pub taken : Text
   pub y : ℕ
   pub rest : Text
   pub whole : bs ≡ taken ++ y ∷ rest
-  pub place : left ≡ suc (length rest)
+  pub place : remaining ≡ suc (length rest)
   pub again : (other : Text) → (f : Fault) × Wrong (taken ++ y ∷ other) f
 
 joined_same : (m n : ℕ) → marks.JoinedToClose m ≡ marks.JoinedToClose n → m ≡ n
 joined_same m n h = cc
 
-joined_braces : (bs inside rest : Text) (left : ℕ) → bs ≡ inside ++ 125 ∷ rest → Balanced inside → IsJoined rest → length rest ≡ left → WrongCut IsWrong (123 ∷ bs) left
-joined_braces bs inside [] left w is joined e = absurd joined
-joined_braces bs inside (y ∷ rest) left w is joined e = record {
+joined_braces : (bs inside rest : Text) (remaining : ℕ) → bs ≡ inside ++ 125 ∷ rest → Balanced inside → IsJoined rest → length rest ≡ remaining → WrongCut ElementFault (123 ∷ bs) remaining
+joined_braces bs inside [] remaining w is joined e = absurd joined
+joined_braces bs inside (y ∷ rest) remaining w is joined e = record {
   taken = 123 ∷ (inside ++ 125 ∷ []);
   y = y;
   rest = rest;
   whole = ap (λ xs. 123 ∷ xs) (w ∙ sym (close_after inside 125 (y ∷ rest)));
   place = omega arith;
-  again = λ other. (marks.JoinedToClose (length (y ∷ other)), faults.IsWrong.joined_to_brace inside (y ∷ other) (close_after inside 125 (y ∷ other)) is joined);
+  again = λ other. (marks.JoinedToClose (length (y ∷ other)), faults.ElementFault.joined_to_brace inside (y ∷ other) (close_after inside 125 (y ∷ other)) is joined);
 }
 
-joined_quotes : (bs e rest : Text) (left : ℕ) → ElementPiece is_quote bs e (34 ∷ rest) → IsJoined rest → length rest ≡ left → WrongCut IsWrong (34 ∷ bs) left
-joined_quotes bs e [] left m joined h = absurd joined
-joined_quotes bs e (y ∷ rest) left m joined h =
+joined_quotes : (bs e rest : Text) (remaining : ℕ) → ElementPiece is_quote bs e (34 ∷ rest) → IsJoined rest → length rest ≡ remaining → WrongCut ElementFault (34 ∷ bs) remaining
+joined_quotes bs e [] remaining m joined h = absurd joined
+joined_quotes bs e (y ∷ rest) remaining m joined h =
     let k = piece_cut m 34 (y ∷ rest) refl in
     record {
       taken = 34 ∷ (k.taken ++ 34 ∷ []);
@@ -88,21 +88,21 @@ joined_quotes bs e (y ∷ rest) left m joined h =
       place = omega arith;
       again = λ other. (
         marks.JoinedToClose (length (y ∷ other)),
-        faults.IsWrong.joined_to_quote (subst (λ xs. ElementPiece is_quote xs e (34 ∷ (y ∷ other))) (sym (close_after k.taken 34 (y ∷ other))) (k.again (y ∷ other))) joined,
+        faults.ElementFault.joined_to_quote (subst (λ xs. ElementPiece is_quote xs e (34 ∷ (y ∷ other))) (sym (close_after k.taken 34 (y ∷ other))) (k.again (y ∷ other))) joined,
       );
     }
 
-wrong_cut : {bs : Text} {f : Fault} → IsWrong bs f → (left : ℕ) → f ≡ marks.JoinedToClose left → WrongCut IsWrong bs left
-wrong_cut (faults.IsWrong.open_brace none) left e = cc
-wrong_cut (faults.IsWrong.joined_to_brace {bs} inside rest w is joined) left e = joined_braces bs inside rest left w is joined (joined_same (length rest) left e)
-wrong_cut (faults.IsWrong.open_quote m last) left e = cc
-wrong_cut (faults.IsWrong.joined_to_quote {bs} {e = el} {rest} m joined) left e = joined_quotes bs el rest left m joined (joined_same (length rest) left e)
-wrong_cut (faults.IsWrong.bad_in_quotes m nothing) left e = cc
-wrong_cut (faults.IsWrong.bad_in_bare starts m nothing) left e = cc
+wrong_cut : {bs : Text} {f : Fault} → ElementFault bs f → (remaining : ℕ) → f ≡ marks.JoinedToClose remaining → WrongCut ElementFault bs remaining
+wrong_cut (faults.ElementFault.open_brace none) remaining e = cc
+wrong_cut (faults.ElementFault.joined_to_brace {bs} inside rest w is joined) remaining e = joined_braces bs inside rest remaining w is joined (joined_same (length rest) remaining e)
+wrong_cut (faults.ElementFault.open_quote m last) remaining e = cc
+wrong_cut (faults.ElementFault.joined_to_quote {bs} {e = el} {rest} m joined) remaining e = joined_quotes bs el rest remaining m joined (joined_same (length rest) remaining e)
+wrong_cut (faults.ElementFault.bad_in_quotes m nothing) remaining e = cc
+wrong_cut (faults.ElementFault.bad_in_bare starts m nothing) remaining e = cc
 
-behind_cut : (spaces body e tail : Text) (left : ℕ) → AllPass is_space spaces → IsElement body e tail → MayBegin is_space tail → (k : WrongCut IsFaulty tail left) → WrongCut IsFaulty (spaces ++ body) left
-behind_cut spaces body e tail left pass is h k = go k.taken k.whole k.again where
-  go : (taken : Text) → tail ≡ taken ++ k.y ∷ k.rest → ((other : Text) → (f : Fault) × IsFaulty (taken ++ k.y ∷ other) f) → WrongCut IsFaulty (spaces ++ body) left
+behind_cut : (spaces body e tail : Text) (remaining : ℕ) → AllPass is_space spaces → IsElement body e tail → MayBegin is_space tail → (k : WrongCut IsFault tail remaining) → WrongCut IsFault (spaces ++ body) remaining
+behind_cut spaces body e tail remaining pass is h k = go k.taken k.whole k.again where
+  go : (taken : Text) → tail ≡ taken ++ k.y ∷ k.rest → ((other : Text) → (f : Fault) × IsFault (taken ++ k.y ∷ other) f) → WrongCut IsFault (spaces ++ body) remaining
   go [] w again =
       let c = element_cut is k.y k.rest w h in
       record {
@@ -113,7 +113,7 @@ behind_cut spaces body e tail left pass is h k = go k.taken k.whole k.again wher
         place = k.place;
         again = λ other. (
           (again other).0,
-          subst (λ xs. IsFaulty xs (again other).0) (sym (append_assoc spaces c.taken (k.y ∷ other))) (behind spaces (c.taken ++ k.y ∷ other) pass (c.again other) (subst (MayBegin is_space) w h) (again other).1),
+          subst (λ xs. IsFault xs (again other).0) (sym (append_assoc spaces c.taken (k.y ∷ other))) (following spaces (c.taken ++ k.y ∷ other) pass (c.again other) (subst (MayBegin is_space) w h) (again other).1),
         );
       }
   go (z ∷ taken) w again =
@@ -126,24 +126,24 @@ behind_cut spaces body e tail left pass is h k = go k.taken k.whole k.again wher
         place = k.place;
         again = λ other. (
           (again other).0,
-          subst (λ xs. IsFaulty xs (again other).0)
+          subst (λ xs. IsFault xs (again other).0)
               (sym (append_assoc spaces (c.taken ++ z ∷ taken) (k.y ∷ other) ∙ ap (λ xs. spaces ++ xs) (append_assoc c.taken (z ∷ taken) (k.y ∷ other))))
-              (behind spaces (c.taken ++ z ∷ (taken ++ k.y ∷ other)) pass (c.again (taken ++ k.y ∷ other)) (subst (MayBegin is_space) w h) (again other).1),
+              (following spaces (c.taken ++ z ∷ (taken ++ k.y ∷ other)) pass (c.again (taken ++ k.y ∷ other)) (subst (MayBegin is_space) w h) (again other).1),
         );
       }
 
-faulty_cut : {bs : Text} {f : Fault} → IsFaulty bs f → (left : ℕ) → f ≡ marks.JoinedToClose left → WrongCut IsFaulty bs left
-faulty_cut (here spaces body pass wrong) left e =
-    let k = wrong_cut wrong left e in
+faulty_cut : {bs : Text} {f : Fault} → IsFault bs f → (remaining : ℕ) → f ≡ marks.JoinedToClose remaining → WrongCut IsFault bs remaining
+faulty_cut (here spaces body pass wrong) remaining e =
+    let k = wrong_cut wrong remaining e in
     record {
       taken = spaces ++ k.taken;
       y = k.y;
       rest = k.rest;
       whole = ap (λ xs. spaces ++ xs) k.whole ∙ sym (append_assoc spaces k.taken (k.y ∷ k.rest));
       place = k.place;
-      again = λ other. ((k.again other).0, subst (λ xs. IsFaulty xs (k.again other).0) (sym (append_assoc spaces k.taken (k.y ∷ other))) (here spaces (k.taken ++ k.y ∷ other) pass (k.again other).1));
+      again = λ other. ((k.again other).0, subst (λ xs. IsFault xs (k.again other).0) (sym (append_assoc spaces k.taken (k.y ∷ other))) (here spaces (k.taken ++ k.y ∷ other) pass (k.again other).1));
     }
-faulty_cut (behind spaces body {e = el} {rest} pass is h more) left e = behind_cut spaces body el rest left pass is h (faulty_cut more left e)
+faulty_cut (following spaces body {e = el} {rest} pass is h more) remaining e = behind_cut spaces body el rest remaining pass is h (faulty_cut more remaining e)
 
 up_to : (taken : Text) (y : ℕ) (rest more : Text) → take (length taken + 1) (taken ++ y ∷ rest) ++ more ≡ taken ++ y ∷ more
 up_to taken y rest more = ap (λ xs. xs ++ more) (take-append-add taken (y ∷ rest) 1) ∙ append_assoc taken (y ∷ []) more
@@ -171,33 +171,33 @@ piece_more ends bs e rest more m =
 abbrev StaysWrong : (Text → Fault → Type 0) → Text → Type 0
 StaysWrong Wrong bs = (f : Fault) × Wrong bs f
 
-wrong_more : {bs : Text} {f : Fault} → IsWrong bs f → (left : ℕ) → f ≡ marks.BadCharacter left → (more : Text) → StaysWrong IsWrong (bs ++ more)
-wrong_more (faults.IsWrong.open_brace none) left e more = cc
-wrong_more (faults.IsWrong.joined_to_brace inside rest w is joined) left e more = cc
-wrong_more (faults.IsWrong.open_quote m last) left e more = cc
-wrong_more (faults.IsWrong.joined_to_quote m joined) left e more = cc
-wrong_more (faults.IsWrong.bad_in_quotes {bs} {e = el} {rest} m nothing) left e more =
-    (marks.BadCharacter (suc (length (rest ++ more))), faults.IsWrong.bad_in_quotes (piece_more is_quote bs el rest more m) (nothing_more rest more nothing))
-wrong_more (faults.IsWrong.bad_in_bare {bs} {e = el} {rest} starts m nothing) left e more =
-    (marks.BadCharacter (suc (length (rest ++ more))), faults.IsWrong.bad_in_bare (begins_more begins_element bs more starts) (piece_more is_space bs el rest more m) (nothing_more rest more nothing))
+wrong_more : {bs : Text} {f : Fault} → ElementFault bs f → (remaining : ℕ) → f ≡ marks.BadCharacter remaining → (more : Text) → StaysWrong ElementFault (bs ++ more)
+wrong_more (faults.ElementFault.open_brace none) remaining e more = cc
+wrong_more (faults.ElementFault.joined_to_brace inside rest w is joined) remaining e more = cc
+wrong_more (faults.ElementFault.open_quote m last) remaining e more = cc
+wrong_more (faults.ElementFault.joined_to_quote m joined) remaining e more = cc
+wrong_more (faults.ElementFault.bad_in_quotes {bs} {e = el} {rest} m nothing) remaining e more =
+    (marks.BadCharacter (suc (length (rest ++ more))), faults.ElementFault.bad_in_quotes (piece_more is_quote bs el rest more m) (nothing_more rest more nothing))
+wrong_more (faults.ElementFault.bad_in_bare {bs} {e = el} {rest} starts m nothing) remaining e more =
+    (marks.BadCharacter (suc (length (rest ++ more))), faults.ElementFault.bad_in_bare (begins_more begins_element bs more starts) (piece_more is_space bs el rest more m) (nothing_more rest more nothing))
 
-behind_more : (spaces body e tail more : Text) → AllPass is_space spaces → IsElement body e tail → MayBegin is_space tail → (tail ≡ [] → ⊥) → StaysWrong IsFaulty (tail ++ more) → StaysWrong IsFaulty ((spaces ++ body) ++ more)
+behind_more : (spaces body e tail more : Text) → AllPass is_space spaces → IsElement body e tail → MayBegin is_space tail → (tail ≡ [] → ⊥) → StaysWrong IsFault (tail ++ more) → StaysWrong IsFault ((spaces ++ body) ++ more)
 behind_more spaces body e [] more pass is h some k = absurd (some refl)
 behind_more spaces body e (z ∷ tail) more pass is h some k =
     let c = element_cut is z tail refl h in
     let whole : (spaces ++ body) ++ more ≡ spaces ++ (c.taken ++ z ∷ (tail ++ more)) =
     append_assoc spaces body more ∙ ap (λ xs. spaces ++ xs) (ap (λ xs. xs ++ more) c.whole ∙ append_assoc c.taken (z ∷ tail) more)
     in
-    (k.0, subst (λ xs. IsFaulty xs k.0) (sym whole) (behind spaces (c.taken ++ z ∷ (tail ++ more)) pass (c.again (tail ++ more)) h k.1))
+    (k.0, subst (λ xs. IsFault xs k.0) (sym whole) (following spaces (c.taken ++ z ∷ (tail ++ more)) pass (c.again (tail ++ more)) h k.1))
 
-pub some_text : {bs : Text} {f : Fault} → IsFaulty bs f → bs ≡ [] → ⊥
-some_text {bs} {f} h e = no_list [] f [] (subst (λ xs. IsFaulty xs f) e h) tt
+pub some_text : {bs : Text} {f : Fault} → IsFault bs f → bs ≡ [] → ⊥
+some_text {bs} {f} h e = no_list [] f [] (subst (λ xs. IsFault xs f) e h) tt
 
-faulty_more : {bs : Text} {f : Fault} → IsFaulty bs f → (left : ℕ) → f ≡ marks.BadCharacter left → (more : Text) → StaysWrong IsFaulty (bs ++ more)
-faulty_more (here spaces body pass wrong) left e more =
-    let k = wrong_more wrong left e more in
-    (k.0, subst (λ xs. IsFaulty xs k.0) (sym (append_assoc spaces body more)) (here spaces (body ++ more) pass k.1))
-faulty_more (behind spaces body {e = el} {rest} pass is h next) left e more = behind_more spaces body el rest more pass is h (some_text next) (faulty_more next left e more)
+faulty_more : {bs : Text} {f : Fault} → IsFault bs f → (remaining : ℕ) → f ≡ marks.BadCharacter remaining → (more : Text) → StaysWrong IsFault (bs ++ more)
+faulty_more (here spaces body pass wrong) remaining e more =
+    let k = wrong_more wrong remaining e more in
+    (k.0, subst (λ xs. IsFault xs k.0) (sym (append_assoc spaces body more)) (here spaces (body ++ more) pass k.1))
+faulty_more (following spaces body {e = el} {rest} pass is h next) remaining e more = behind_more spaces body el rest more pass is h (some_text next) (faulty_more next remaining e more)
 
 pub no_more : (bs more : Text) (at : ℕ) (es : List Text) → IsListFault bs (BadCharacter at) → IsList (bs ++ more) es → ⊥
 no_more bs more at es h is = let k = faulty_more h.3 h.1 refl more in no_list (bs ++ more) k.0 es k.1 is

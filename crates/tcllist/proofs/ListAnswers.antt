@@ -6,30 +6,30 @@ use Rattle.std.specs.declared.string.String.{String}
 use Rattle.std.specs.declared.alloc.Global.{Global}
 use Rattle.tclchars.specs.Runs.{Text}
 use Rattle.tclchars.specs.Faults.{max_bytes}
-use Rattle.tclchars.specs.Reading.{left_of}
+use Rattle.tclchars.specs.Reading.{remaining_of}
 use Rattle.tclchars.specs.declared.fault.Fault.{Fault}
 use Rattle.tclchars.specs.declared.fault.TextFault.{TextFault}
 use Rattle.tclchars.specs.declared.fault.TextFault.TheVariants.{OutOfMemory}
 use Rattle.tclchars.proofs.Whole as whole
 use Rattle.tcllist.specs.ListGrammar.{IsList}
 use Rattle.tcllist.specs.ListFaults as faults
-use Rattle.tcllist.specs.ListFaults.{IsFaulty, IsWrong, here, behind, IsListFault}
+use Rattle.tcllist.specs.ListFaults.{IsFault, ElementFault, here, following, IsListFault}
 use Rattle.tcllist.specs.ListReading.{list_at, list_of, ReadsList}
 use Rattle.tcllist.proofs.ReadLemmas.{piece_length, element_length, list_at-sound, list_at-faulty, list_at-read, list_at-wrong}
 
-wrong_left : {bs : Text} {f : Fault} → IsWrong bs f → left_of f ≤ length bs
-wrong_left (faults.IsWrong.open_brace none) = omega arith
-wrong_left (faults.IsWrong.joined_to_brace inside rest w is joined) = omega (arith, ap length w, length-append inside (125 ∷ rest))
-wrong_left (faults.IsWrong.open_quote m last) = omega arith
-wrong_left (faults.IsWrong.joined_to_quote m joined) = omega (arith, piece_length m)
-wrong_left (faults.IsWrong.bad_in_quotes m nothing) = omega (arith, piece_length m)
-wrong_left (faults.IsWrong.bad_in_bare starts m nothing) = omega (arith, piece_length m)
+wrong_left : {bs : Text} {f : Fault} → ElementFault bs f → remaining_of f ≤ length bs
+wrong_left (faults.ElementFault.open_brace none) = omega arith
+wrong_left (faults.ElementFault.joined_to_brace inside rest w is joined) = omega (arith, ap length w, length-append inside (125 ∷ rest))
+wrong_left (faults.ElementFault.open_quote m last) = omega arith
+wrong_left (faults.ElementFault.joined_to_quote m joined) = omega (arith, piece_length m)
+wrong_left (faults.ElementFault.bad_in_quotes m nothing) = omega (arith, piece_length m)
+wrong_left (faults.ElementFault.bad_in_bare starts m nothing) = omega (arith, piece_length m)
 
-mark_left : {bs : Text} {f : Fault} → IsFaulty bs f → left_of f ≤ length bs
+mark_left : {bs : Text} {f : Fault} → IsFault bs f → remaining_of f ≤ length bs
 mark_left (here spaces body pass wrong) = omega (arith, wrong_left wrong, length-append spaces body)
-mark_left (behind spaces body pass is h more) = omega (arith, mark_left more, element_length is, length-append spaces body)
+mark_left (following spaces body pass is h more) = omega (arith, mark_left more, element_length is, length-append spaces body)
 
-pub within : (bs : Text) (f : Fault) → list_at bs ≡ Err f → left_of f ≤ length bs
+pub within : (bs : Text) (f : Fault) → list_at bs ≡ Err f → remaining_of f ≤ length bs
 within bs f h = mark_left (list_at-faulty bs f h)
 
 abbrev Found : Type 0
@@ -50,7 +50,7 @@ reads_only bs r h es is short = whole.reads_only list_at elements bs r h es (who
 
 pub reads_fault : (bs : Text) (r : Result Found TextFault) → ReadsList r (list_of bs) → IfErr r (IsListFault bs)
 unfolding list_of
-reads_fault bs r h = whole.reads_fault list_at IsFaulty list_at-faulty list_at-wrong within elements bs r h
+reads_fault bs r h = whole.reads_fault list_at IsFault list_at-faulty list_at-wrong within elements bs r h
 
 -- The laws
 
@@ -60,14 +60,14 @@ elements_law bs es short = (λ h. list_at-sound bs es (whole.value_is list_at bs
 
 pub fault_law : (bs : Text) (f : TextFault) → f ≢ OutOfMemory → (list_of bs ≡ Err f) ↔ IsListFault bs f
 unfolding list_of
-fault_law bs f some = (λ h. (whole.fault_is list_at IsFaulty list_at-faulty list_at-wrong within bs f h).0, λ h. whole.fault_met list_at IsFaulty list_at-faulty list_at-wrong within bs f some h)
+fault_law bs f some = (λ h. (whole.fault_is list_at IsFault list_at-faulty list_at-wrong within bs f h).0, λ h. whole.fault_met list_at IsFault list_at-faulty list_at-wrong within bs f some h)
 
 pub no_memory : (bs : Text) → list_of bs ≢ Err OutOfMemory
 unfolding list_of
-no_memory = whole.no_memory list_at IsFaulty list_at-faulty list_at-wrong within
+no_memory = whole.no_memory list_at IsFault list_at-faulty list_at-wrong within
 
 pub one_fault : (bs : Text) (f g : TextFault) → f ≢ OutOfMemory → g ≢ OutOfMemory → IsListFault bs f → IsListFault bs g → f ≡ g
-one_fault = whole.one_fault list_at IsFaulty list_at-faulty list_at-wrong within
+one_fault = whole.one_fault list_at IsFault list_at-faulty list_at-wrong within
 
 pub no_list : (bs : Text) (f : TextFault) (es : List Text) → f ≢ OutOfMemory → length bs ≤ max_bytes → IsListFault bs f → IsList bs es → ⊥
-no_list bs f es some short h k = whole.no_value list_at IsFaulty list_at-faulty list_at-wrong within bs f es some h (whole.value_met list_at bs es short (list_at-read bs es k))
+no_list bs f es some short h k = whole.no_value list_at IsFault list_at-faulty list_at-wrong within bs f es some h (whole.value_met list_at bs es short (list_at-read bs es k))

@@ -11,7 +11,7 @@ use Rattle.tcllist.specs.ListReading.{text_ends, element_at, list_at}
 use Rattle.tcllist.proofs.Runs.{back_fails, back_no_longer}
 use Rattle.tcllist.proofs.Loops.{SoFar, so_far-more, so_far-end, so_far-fail}
 use Rattle.tcllist.proofs.ElementLemmas.{ElementGives, element_gives}
-use Rattle.tcllist.proofs.ReadLemmas.{element_length, goes_on}
+use Rattle.tcllist.proofs.ReadLemmas.{element_length, holds_of_depth}
 
 abbrev pub ListSoFar : Text → List Text → Text → Type 0
 ListSoFar = SoFar (drop_while is_space) text_ends element_at
@@ -30,7 +30,7 @@ list-fails bs found rest start (errors.Fault f) e t was s =
 pub list-shorter : (rest start element after : Text) → start ≡ drop_while is_space rest → text_ends start ≡ false → element_at start ≡ Ok (element, after) → length after < length rest
 list-shorter rest start element after e t was =
     let x = drop_while is_space rest in
-    let starts = goes_on x (back_fails is_space rest) (subst (λ ys. text_ends ys ≡ false) e t) in
+    let starts = holds_of_depth x (back_fails is_space rest) (subst (λ ys. text_ends ys ≡ false) e t) in
     let is : IsElement x element after = (subst (ElementGives x) (subst (λ ys. element_at ys ≡ Ok (element, after)) e was) (element_gives x starts)).0 in
     omega (arith, back_no_longer is_space rest, element_length is)
 

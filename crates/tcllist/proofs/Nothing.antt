@@ -8,7 +8,7 @@ use Rattle.tclchars.specs.Backslash.{after_backslash, is_octal, is_hexadecimal, 
 use Rattle.tcllist.specs.ListFaults.{StandsForNothing}
 use Rattle.tcllist.proofs.Cuts.{octal-digit, hexadecimal-digit, code-digit, code-none, wide-none, is_half, character-whole, character-half, same_mark}
 
-some_none : (p : Text × Text) → (let left : Option (Text × Text) = Some p in left ≡ None) → ⊥
+some_none : (p : Text × Text) → (let remaining : Option (Text × Text) = Some p in remaining ≡ None) → ⊥
 some_none p h = cc
 
 not_half : (w : ℕ) → w < 55296 → is_half w ≡ false

@@ -12,7 +12,7 @@ use Rattle.tcllist.specs.declared.read.End.TheVariants.{Space, Quote}
 use Rattle.tcllist.specs.ListGrammar as grammar
 use Rattle.tcllist.specs.ListGrammar.{ElementPiece}
 use Rattle.tcllist.specs.ListReading.{escaped_at, piece_at, piece_of}
-use Rattle.tcllist.specs.Ends.{ends_piece, is_plain_before}
+use Rattle.tcllist.specs.Ends.{ends_piece, is_literal_before}
 use Rattle.tcllist.proofs.Runs.{front_back, front_passes, back_fails, back_no_longer}
 use Rattle.tcllist.proofs.BackslashTaken.{taken_length}
 use Rattle.tcllist.proofs.Pieces.{piece_left, piece-end, piece-none, piece-backslash, read_map-none, read_map-append}
@@ -36,23 +36,23 @@ plain_parts true t h = cc
 plain_parts false true h = cc
 plain_parts false false h = (refl, refl)
 
-run_piece : (end : End) (run rest : Text) → AllPass (is_plain_before end) run → ElementPiece (ends_piece end) (run ++ rest) run rest
+run_piece : (end : End) (run rest : Text) → AllPass (is_literal_before end) run → ElementPiece (ends_piece end) (run ++ rest) run rest
 run_piece end [] rest h = grammar.ElementPiece.nothing
 run_piece end (b ∷ run) rest h =
     let two = plain_parts (ends_piece end b) (b == backslash) h.0 in
-    grammar.ElementPiece.plain two.0 two.1 (run_piece end run rest h.1)
+    grammar.ElementPiece.literal two.0 two.1 (run_piece end run rest h.1)
 
 -- a run in front is read
-so_far-run : (end : End) (bs value rest run marked : Text) → run ≡ take_while (is_plain_before end) rest → marked ≡ drop_while (is_plain_before end) rest → PieceSoFar end bs value rest → PieceSoFar end bs (value ++ run) marked
+so_far-run : (end : End) (bs value rest run marked : Text) → run ≡ take_while (is_literal_before end) rest → marked ≡ drop_while (is_literal_before end) rest → PieceSoFar end bs value rest → PieceSoFar end bs (value ++ run) marked
 so_far-run end bs value rest run marked r m s =
-    let whole : rest ≡ run ++ marked = front_back (is_plain_before end) rest ∙ ap (λ xs. xs ++ drop_while (is_plain_before end) rest) (sym r) ∙ ap (λ xs. run ++ xs) (sym m) in
-    let piece = run_piece end run marked (subst (AllPass (is_plain_before end)) (sym r) (front_passes (is_plain_before end) rest)) in
+    let whole : rest ≡ run ++ marked = front_back (is_literal_before end) rest ∙ ap (λ xs. xs ++ drop_while (is_literal_before end) rest) (sym r) ∙ ap (λ xs. run ++ xs) (sym m) in
+    let piece = run_piece end run marked (subst (AllPass (is_literal_before end)) (sym r) (front_passes (is_literal_before end) rest)) in
     let enough = s.enough in
-    let left = piece_left (ends_piece end) (backslash_off end) piece s.turns (subst (λ (xs : Text). length xs < s.turns) whole enough) in
+    let remaining = piece_left (ends_piece end) (backslash_off end) piece s.turns (subst (λ (xs : Text). length xs < s.turns) whole enough) in
     record {
-      turns = left.turns;
-      enough = left.enough;
-      whole = s.whole ∙ ap (λ xs. read_map (λ t. value ++ t) (piece_at (ends_piece end) s.turns xs)) whole ∙ ap (read_map (λ t. value ++ t)) left.whole ∙ read_map-append value run (piece_at (ends_piece end) left.turns marked);
+      turns = remaining.turns;
+      enough = remaining.enough;
+      whole = s.whole ∙ ap (λ xs. read_map (λ t. value ++ t) (piece_at (ends_piece end) s.turns xs)) whole ∙ ap (read_map (λ t. value ++ t)) remaining.whole ∙ read_map-append value run (piece_at (ends_piece end) remaining.turns marked);
     }
 
 -- where a piece goes on with the rest so, so goes the whole
@@ -66,7 +66,7 @@ ends_rest : (end : End) (bs value rest : Text) → MayBegin (ends_piece end) res
 ends_rest end bs value [] h s = on_rest end bs value [] [] [] s (λ n. piece-none (ends_piece end) (backslash_off end) n) ∙ ap (λ t. Ok (t, [])) (append-nil value)
 ends_rest end bs value (b ∷ rest) h s = on_rest end bs value (b ∷ rest) [] (b ∷ rest) s (λ n. piece-end (ends_piece end) (backslash_off end) n b rest h) ∙ ap (λ t. Ok (t, b ∷ rest)) (append-nil value)
 
-no_backslash : (end : End) (rest : Text) → MayBegin (λ b. not (is_plain_before end b)) rest → begins backslash rest ≡ false → MayBegin (ends_piece end) rest
+no_backslash : (end : End) (rest : Text) → MayBegin (λ b. not (is_literal_before end b)) rest → begins backslash rest ≡ false → MayBegin (ends_piece end) rest
 no_backslash end [] h k = tt
 no_backslash end (b ∷ rest) h k = cases (ends_piece end b) (b == backslash) h k where
   cases : (s t : Bool) → not (not (s || t)) ≡ true → t ≡ false → s ≡ true
@@ -74,24 +74,24 @@ no_backslash end (b ∷ rest) h k = cases (ends_piece end b) (b == backslash) h 
   cases false true h k = cc
   cases false false h k = cc
 
-pub piece-ends : (end : End) (bs value rest run marked value' : Text) → run ≡ take_while (is_plain_before end) rest → marked ≡ drop_while (is_plain_before end) rest → value' ≡ value ++ run → begins backslash marked ≡ false → PieceSoFar end bs value rest
+pub piece-ends : (end : End) (bs value rest run marked value' : Text) → run ≡ take_while (is_literal_before end) rest → marked ≡ drop_while (is_literal_before end) rest → value' ≡ value ++ run → begins backslash marked ≡ false → PieceSoFar end bs value rest
     → piece_of (ends_piece end) bs ≡ Ok (value', marked)
 piece-ends end bs value rest run marked value' r m v none s =
-    ends_rest end bs (value ++ run) marked (no_backslash end marked (subst (MayBegin (λ b. not (is_plain_before end b))) (sym m) (back_fails (is_plain_before end) rest)) none) (so_far-run end bs value rest run marked r m s)
+    ends_rest end bs (value ++ run) marked (no_backslash end marked (subst (MayBegin (λ b. not (is_literal_before end b))) (sym m) (back_fails (is_literal_before end) rest)) none) (so_far-run end bs value rest run marked r m s)
     ∙ ap (λ t. Ok (t, marked)) (sym v)
 
-at_backslash : (end : End) (bs value rest run marked behind : Text) → run ≡ take_while (is_plain_before end) rest → marked ≡ drop_while (is_plain_before end) rest → marked ≡ backslash ∷ behind → PieceSoFar end bs value rest → PieceSoFar end bs (value ++ run) (backslash ∷ behind)
-at_backslash end bs value rest run marked behind r m is s = subst (PieceSoFar end bs (value ++ run)) is (so_far-run end bs value rest run marked r m s)
+at_backslash : (end : End) (bs value rest run marked following : Text) → run ≡ take_while (is_literal_before end) rest → marked ≡ drop_while (is_literal_before end) rest → marked ≡ backslash ∷ following → PieceSoFar end bs value rest → PieceSoFar end bs (value ++ run) (backslash ∷ following)
+at_backslash end bs value rest run marked following r m is s = subst (PieceSoFar end bs (value ++ run)) is (so_far-run end bs value rest run marked r m s)
 
 empty : (bs : Text) → length bs ≡ 0 → bs ≡ []
 empty [] h = refl
 empty (b ∷ bs) h = absurd (omega arith)
 
-pub piece-last : (end : End) (bs value rest run marked behind value' : Text) → run ≡ take_while (is_plain_before end) rest → marked ≡ drop_while (is_plain_before end) rest → marked ≡ backslash ∷ behind → length behind ≡ 0
-    → value' ≡ (value ++ run) ++ backslash ∷ [] → PieceSoFar end bs value rest → piece_of (ends_piece end) bs ≡ Ok (value', behind)
-piece-last end bs value rest run marked behind value' r m is len v s =
-    let none : behind ≡ [] = empty behind len in
-    let here = subst (λ x. PieceSoFar end bs (value ++ run) (backslash ∷ x)) none (at_backslash end bs value rest run marked behind r m is s) in
+pub piece-last : (end : End) (bs value rest run marked following value' : Text) → run ≡ take_while (is_literal_before end) rest → marked ≡ drop_while (is_literal_before end) rest → marked ≡ backslash ∷ following → length following ≡ 0
+    → value' ≡ (value ++ run) ++ backslash ∷ [] → PieceSoFar end bs value rest → piece_of (ends_piece end) bs ≡ Ok (value', following)
+piece-last end bs value rest run marked following value' r m is len v s =
+    let none : following ≡ [] = empty following len in
+    let here = subst (λ x. PieceSoFar end bs (value ++ run) (backslash ∷ x)) none (at_backslash end bs value rest run marked following r m is s) in
     on_rest end bs (value ++ run) (backslash ∷ []) (backslash ∷ []) [] here (λ n. piece-backslash (ends_piece end) (backslash_off end) n [])
     ∙ ap (λ t. Ok (t, [])) (sym v) ∙ ap (λ t. Ok (value', t)) (sym none)
 
@@ -99,38 +99,38 @@ nothing_mark : (more : Text → Read Text) (rest : Text) → 0 < length rest →
 nothing_mark more [] some h = absurd (omega arith)
 nothing_mark more (b ∷ rest) some h = ap (escaped_at more (b ∷ rest)) h
 
-pub piece-bad : (end : End) (bs value rest run marked behind : Text) (left : ℕ) → run ≡ take_while (is_plain_before end) rest → marked ≡ drop_while (is_plain_before end) rest → marked ≡ backslash ∷ behind → 0 < length behind
-    → after_backslash behind ≡ None → left ≡ length marked → PieceSoFar end bs value rest → piece_of (ends_piece end) bs ≡ Err (marks.BadCharacter left)
-piece-bad end bs value rest run marked behind left r m is some none l s = go here.turns here.enough here.whole ∙ ap (λ n. Err (marks.BadCharacter n)) (ap length (sym is) ∙ sym l) where
-  here : PieceSoFar end bs (value ++ run) (backslash ∷ behind)
-  here = at_backslash end bs value rest run marked behind r m is s
+pub piece-bad : (end : End) (bs value rest run marked following : Text) (remaining : ℕ) → run ≡ take_while (is_literal_before end) rest → marked ≡ drop_while (is_literal_before end) rest → marked ≡ backslash ∷ following → 0 < length following
+    → after_backslash following ≡ None → remaining ≡ length marked → PieceSoFar end bs value rest → piece_of (ends_piece end) bs ≡ Err (marks.BadCharacter remaining)
+piece-bad end bs value rest run marked following remaining r m is some none l s = go here.turns here.enough here.whole ∙ ap (λ n. Err (marks.BadCharacter n)) (ap length (sym is) ∙ sym l) where
+  here : PieceSoFar end bs (value ++ run) (backslash ∷ following)
+  here = at_backslash end bs value rest run marked following r m is s
 
-  go : (turns : ℕ) → length (backslash ∷ behind) < turns → piece_of (ends_piece end) bs ≡ read_map (λ t. (value ++ run) ++ t) (piece_at (ends_piece end) turns (backslash ∷ behind)) → piece_of (ends_piece end) bs ≡ Err (marks.BadCharacter (suc (length behind)))
+  go : (turns : ℕ) → length (backslash ∷ following) < turns → piece_of (ends_piece end) bs ≡ read_map (λ t. (value ++ run) ++ t) (piece_at (ends_piece end) turns (backslash ∷ following)) → piece_of (ends_piece end) bs ≡ Err (marks.BadCharacter (suc (length following)))
   go zero lt w = absurd (omega arith)
-  go (suc n) lt w = w ∙ ap (read_map (λ t. (value ++ run) ++ t)) (piece-backslash (ends_piece end) (backslash_off end) n behind ∙ nothing_mark (piece_at (ends_piece end) n) behind some none)
+  go (suc n) lt w = w ∙ ap (read_map (λ t. (value ++ run) ++ t)) (piece-backslash (ends_piece end) (backslash_off end) n following ∙ nothing_mark (piece_at (ends_piece end) n) following some none)
 
-pub piece-more : (end : End) (bs value rest run marked behind v after value' : Text) → run ≡ take_while (is_plain_before end) rest → marked ≡ drop_while (is_plain_before end) rest → marked ≡ backslash ∷ behind → after_backslash behind ≡ Some (v, after)
+pub piece-more : (end : End) (bs value rest run marked following v after value' : Text) → run ≡ take_while (is_literal_before end) rest → marked ≡ drop_while (is_literal_before end) rest → marked ≡ backslash ∷ following → after_backslash following ≡ Some (v, after)
     → value' ≡ (value ++ run) ++ v → PieceSoFar end bs value rest → PieceSoFar end bs value' after
-piece-more end bs value rest run marked behind v after value' r m is stands made s = go here.turns here.enough here.whole where
-  here : PieceSoFar end bs (value ++ run) (backslash ∷ behind)
-  here = at_backslash end bs value rest run marked behind r m is s
+piece-more end bs value rest run marked following v after value' r m is stands made s = go here.turns here.enough here.whole where
+  here : PieceSoFar end bs (value ++ run) (backslash ∷ following)
+  here = at_backslash end bs value rest run marked following r m is s
 
-  go : (turns : ℕ) → length (backslash ∷ behind) < turns → piece_of (ends_piece end) bs ≡ read_map (λ t. (value ++ run) ++ t) (piece_at (ends_piece end) turns (backslash ∷ behind)) → PieceSoFar end bs value' after
+  go : (turns : ℕ) → length (backslash ∷ following) < turns → piece_of (ends_piece end) bs ≡ read_map (λ t. (value ++ run) ++ t) (piece_at (ends_piece end) turns (backslash ∷ following)) → PieceSoFar end bs value' after
   go zero lt w = absurd (omega arith)
   go (suc n) lt w = record {
     turns = n;
-    enough = omega (arith, taken_length behind v after stands);
+    enough = omega (arith, taken_length following v after stands);
     whole =
-        w ∙ ap (read_map (λ t. (value ++ run) ++ t)) (piece-backslash (ends_piece end) (backslash_off end) n behind ∙ ap (escaped_at (piece_at (ends_piece end) n) behind) stands)
+        w ∙ ap (read_map (λ t. (value ++ run) ++ t)) (piece-backslash (ends_piece end) (backslash_off end) n following ∙ ap (escaped_at (piece_at (ends_piece end) n) following) stands)
         ∙ read_map-append (value ++ run) v (piece_at (ends_piece end) n after) ∙ ap (λ x. read_map (λ t. x ++ t) (piece_at (ends_piece end) n after)) (sym made);
   }
 
-pub piece-shorter : (end : End) (rest marked behind v after : Text) → marked ≡ drop_while (is_plain_before end) rest → marked ≡ backslash ∷ behind → after_backslash behind ≡ Some (v, after) → length after < length rest
-piece-shorter end rest marked behind v after m is stands = omega (arith, taken_length behind v after stands, ap length m, ap length is, back_no_longer (is_plain_before end) rest)
+pub piece-shorter : (end : End) (rest marked following v after : Text) → marked ≡ drop_while (is_literal_before end) rest → marked ≡ backslash ∷ following → after_backslash following ≡ Some (v, after) → length after < length rest
+piece-shorter end rest marked following v after m is stands = omega (arith, taken_length following v after stands, ap length m, ap length is, back_no_longer (is_literal_before end) rest)
 
 -- Cuts
-quote_ascii : (b : ℕ) → is_plain_before Quote b ≡ false → b < 128
+quote_ascii : (b : ℕ) → is_literal_before Quote b ≡ false → b < 128
 quote_ascii b h = grind (arith, nat_tests)
 
-pub quote_cut : (bs : Text) (n : ℕ) → n ≤ length bs → (n < length bs → is_plain_before Quote (get_or bs n 0) ≡ false) → IsCharBoundary bs n
+pub quote_cut : (bs : Text) (n : ℕ) → n ≤ length bs → (n < length bs → is_literal_before Quote (get_or bs n 0) ≡ false) → IsCharBoundary bs n
 quote_cut bs n le stop = (le, λ lt big. let small : get_or bs n 0 < 128 = quote_ascii _ (stop lt) in absurd (omega arith))

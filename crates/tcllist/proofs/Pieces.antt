@@ -48,8 +48,8 @@ module _ (ends : ℕ → Bool) (backslash_on : ends backslash ≡ false) where
   unfolding piece_at
   piece-suc n bs = refl
 
-  pub piece-plain : (n b : ℕ) (bs : Text) → ends b ≡ false → (b == backslash) ≡ false → piece_at ends (suc n) (b ∷ bs) ≡ read_map (λ t. b ∷ t) (piece_at ends n bs)
-  piece-plain n b bs h k = piece-suc n (b ∷ bs) ∙ rw (h, k) refl
+  pub piece-literal : (n b : ℕ) (bs : Text) → ends b ≡ false → (b == backslash) ≡ false → piece_at ends (suc n) (b ∷ bs) ≡ read_map (λ t. b ∷ t) (piece_at ends n bs)
+  piece-literal n b bs h k = piece-suc n (b ∷ bs) ∙ rw (h, k) refl
 
   pub piece-end : (n b : ℕ) (bs : Text) → ends b ≡ true → piece_at ends (suc n) (b ∷ bs) ≡ Ok ([], b ∷ bs)
   piece-end n b bs h = piece-suc n (b ∷ bs) ∙ rw h refl
@@ -63,13 +63,13 @@ module _ (ends : ℕ → Bool) (backslash_on : ends backslash ≡ false) where
   -- a piece is read
   pub piece_left : {bs e rest : Text} → ElementPiece ends bs e rest → (n : ℕ) → length bs < n → PieceLeft ends n bs e rest
   piece_left (grammar.ElementPiece.nothing {rest}) n lt = record { turns = n; enough = lt; whole = read_map-none (piece_at ends n rest) }
-  piece_left (grammar.ElementPiece.plain {b} {bs} {ts} {rest} x y m) zero lt = absurd (omega arith)
-  piece_left (grammar.ElementPiece.plain {b} {bs} {ts} {rest} x y m) (suc n) lt =
+  piece_left (grammar.ElementPiece.literal {b} {bs} {ts} {rest} x y m) zero lt = absurd (omega arith)
+  piece_left (grammar.ElementPiece.literal {b} {bs} {ts} {rest} x y m) (suc n) lt =
       let more = piece_left m n (omega arith) in
       record {
         turns = more.turns;
         enough = more.enough;
-        whole = piece-plain n b bs x y ∙ ap (read_map (λ t. b ∷ t)) more.whole ∙ read_map-cons b ts (piece_at ends more.turns rest);
+        whole = piece-literal n b bs x y ∙ ap (read_map (λ t. b ∷ t)) more.whole ∙ read_map-cons b ts (piece_at ends more.turns rest);
       }
   piece_left (grammar.ElementPiece.substituted {bs} {ts} {rest} v r e m) zero lt = absurd (omega arith)
   piece_left (grammar.ElementPiece.substituted {bs} {ts} {rest} v r e m) (suc n) lt =
@@ -82,9 +82,9 @@ module _ (ends : ℕ → Bool) (backslash_on : ends backslash ≡ false) where
 
   -- what is read is a piece
   gives_plain : (b : ℕ) (bs : Text) → ends b ≡ false → (b == backslash) ≡ false → (r : Read Text) → PieceGives ends bs r → PieceGives ends (b ∷ bs) (read_map (λ t. b ∷ t) r)
-  gives_plain b bs h k (Ok p) (inl g) = inl (grammar.ElementPiece.plain h k g.0, g.1)
-  gives_plain b bs h k (Ok p) (inr g) = inr (b ∷ g.0, grammar.ElementPiece.plain h k g.1, ap (λ t. b ∷ t) g.2, g.3)
-  gives_plain b bs h k (Err f) g = (b ∷ g.0, g.1, grammar.ElementPiece.plain h k g.2, g.3, g.4)
+  gives_plain b bs h k (Ok p) (inl g) = inl (grammar.ElementPiece.literal h k g.0, g.1)
+  gives_plain b bs h k (Ok p) (inr g) = inr (b ∷ g.0, grammar.ElementPiece.literal h k g.1, ap (λ t. b ∷ t) g.2, g.3)
+  gives_plain b bs h k (Err f) g = (b ∷ g.0, g.1, grammar.ElementPiece.literal h k g.2, g.3, g.4)
 
   gives_substituted : (bs v q : Text) → after_backslash bs ≡ Some (v, q) → (r : Read Text) → PieceGives ends q r → PieceGives ends (backslash ∷ bs) (read_map (λ t. v ++ t) r)
   gives_substituted bs v q e (Ok p) (inl g) = inl (grammar.ElementPiece.substituted v q e g.0, g.1)
@@ -112,7 +112,7 @@ module _ (ends : ℕ → Bool) (backslash_on : ends backslash ≡ false) where
   -- what a piece that is read to its end gives
   pub to_end : (bs e rest : Text) (t : Text) (r : Text) → PieceLeft ends (suc (length bs)) bs e rest → ((n : ℕ) → piece_at ends (suc n) rest ≡ Ok (t, r)) → piece_of ends bs ≡ Ok (e ++ t, r)
   unfolding piece_of
-  to_end bs e rest t r left h = go left.turns left.enough left.whole where
+  to_end bs e rest t r remaining h = go remaining.turns remaining.enough remaining.whole where
     go : (turns : ℕ) → length rest < turns → piece_at ends (suc (length bs)) bs ≡ read_map (λ t. e ++ t) (piece_at ends turns rest) → piece_at ends (suc (length bs)) bs ≡ Ok (e ++ t, r)
     go zero lt w = absurd (omega arith)
     go (suc n) lt w = w ∙ ap (read_map (λ t. e ++ t)) (h n)

@@ -2,14 +2,14 @@
 use Rattle.std.proofs.Common.{◌≡◌, ◌≢◌, ℕ, zero, suc, List, [], ◌∷◌, ◌++◌, Bool, true, false, not, ◌&&◌, ◌==◌, Option, Some, None, flat_map, refl, sym, ap, subst, ◌∙◌, arith, append_assoc, ◌⊎◌, inl, inr}
 use Rattle.std.proofs.lemmas.Bool.Decides.{nat_tests}
 use Rattle.std.specs.List.{list_all}
-use Rattle.tclchars.specs.Bytes.{is_plain, backslash, hash, MayBegin, DoesBegin}
+use Rattle.tclchars.specs.Bytes.{is_literal, backslash, hash, MayBegin, DoesBegin}
 use Rattle.tclchars.specs.Runs.{Text}
 use Rattle.tclchars.specs.Bytes.{is_space}
 use Rattle.tclchars.specs.Backslash.{after_backslash}
 use Rattle.tclchars.specs.Braces.{Balanced, nothing, other, inner}
 use Rattle.tcllist.specs.ListGrammar as grammar
 use Rattle.tcllist.specs.ListGrammar.{ElementPiece, Bare, begins_element, IsElement, IsList}
-use Rattle.tcllist.specs.Lists.{is_marked, begins_bare, is_bare, closed_one, depth_after, goes_on, balances, letter_of, escape, escaped, element_text, list_rest, list_text}
+use Rattle.tcllist.specs.Lists.{needs_escape, begins_bare, is_bare, closed_one, depth_after, holds_of_depth, balances, letter_of, escape, escaped, element_text, list_rest, list_text}
 use Rattle.tcllist.proofs.Runs.{is_byte, is_no_byte, true_false}
 
 -- Braces: what closes behind so many more
@@ -29,7 +29,7 @@ closes_inner (suc d) inside bs i h =
 closes_open : (d : ℕ) (bs : Text) → Closes (suc d) bs → Closes d (123 ∷ bs)
 closes_open d bs h = rw (h.2) (closes_inner d h.0 h.1 h.3 h.4)
 
-goes : (more : ℕ → Bool) (step : Option ℕ) → goes_on more step ≡ true → (d : ℕ) × (step ≡ Some d) × (more d ≡ true)
+goes : (more : ℕ → Bool) (step : Option ℕ) → holds_of_depth more step ≡ true → (d : ℕ) × (step ≡ Some d) × (more d ≡ true)
 goes more None h = cc
 goes more (Some d) h = (d, refl, h)
 
@@ -64,10 +64,10 @@ closes (b ∷ bs) d h =
     step_cases d g.0 b bs (b == 92) (b == 123) (b == 125) refl refl refl g.1 (closes bs g.0 g.2)
 
 -- Backslashes
-plain_byte : (b : ℕ) → is_plain b ≡ true → (is_space b ≡ false) × ((b == backslash) ≡ false)
+plain_byte : (b : ℕ) → is_literal b ≡ true → (is_space b ≡ false) × ((b == backslash) ≡ false)
 plain_byte b h = (grind (arith, nat_tests), grind (arith, nat_tests))
 
-marked_or_plain : (b : ℕ) (t : Bool) → is_marked b ≡ t → (is_marked b ≡ true) ⊎ (is_plain b ≡ true)
+marked_or_plain : (b : ℕ) (t : Bool) → needs_escape b ≡ t → (needs_escape b ≡ true) ⊎ (is_literal b ≡ true)
 marked_or_plain b true h = inl h
 marked_or_plain b false h = inr (ap not h)
 
@@ -77,7 +77,7 @@ unmarked false h = refl
 
 -- a marked byte that is no white space but the blank stands for itself
 itself_cases : (b : ℕ) (bs : Text) (a c d e g i j k l : Bool) → (b == 32) ≡ a → (b == 59) ≡ c → (b == 34) ≡ d → (b == 36) ≡ e → (b == 91) ≡ g → (b == 93) ≡ i → (b == 123) ≡ j → (b == 125) ≡ k → (b == 92) ≡ l
-    → is_marked b ≡ true → (b == 10) ≡ false → (b == 9) ≡ false → (b == 13) ≡ false → (b == 11) ≡ false → (b == 12) ≡ false → after_backslash (b ∷ bs) ≡ Some (b ∷ [], bs)
+    → needs_escape b ≡ true → (b == 10) ≡ false → (b == 9) ≡ false → (b == 13) ≡ false → (b == 11) ≡ false → (b == 12) ≡ false → after_backslash (b ∷ bs) ≡ Some (b ∷ [], bs)
 itself_cases b bs true c d e g i j k l a' c' d' e' g' i' j' k' l' h n t r v f = subst (λ x. after_backslash (x ∷ bs) ≡ Some (x ∷ [], bs)) (sym (is_byte b 32 a')) refl
 itself_cases b bs false true d e g i j k l a' c' d' e' g' i' j' k' l' h n t r v f = subst (λ x. after_backslash (x ∷ bs) ≡ Some (x ∷ [], bs)) (sym (is_byte b 59 c')) refl
 itself_cases b bs false false true e g i j k l a' c' d' e' g' i' j' k' l' h n t r v f = subst (λ x. after_backslash (x ∷ bs) ≡ Some (x ∷ [], bs)) (sym (is_byte b 34 d')) refl
@@ -89,10 +89,10 @@ itself_cases b bs false false false false false false false true l a' c' d' e' g
 itself_cases b bs false false false false false false false false true a' c' d' e' g' i' j' k' l' h n t r v f = subst (λ x. after_backslash (x ∷ bs) ≡ Some (x ∷ [], bs)) (sym (is_byte b 92 l')) refl
 itself_cases b bs false false false false false false false false false a' c' d' e' g' i' j' k' l' h n t r v f = absurd (true_false (sym (rw (n, t, r, v, f, a', c', d', e', g', i', j', k', l') at h)))
 
-marked_itself : (b : ℕ) (bs : Text) → is_marked b ≡ true → (b == 10) ≡ false → (b == 9) ≡ false → (b == 13) ≡ false → (b == 11) ≡ false → (b == 12) ≡ false → after_backslash (b ∷ bs) ≡ Some (b ∷ [], bs)
+marked_itself : (b : ℕ) (bs : Text) → needs_escape b ≡ true → (b == 10) ≡ false → (b == 9) ≡ false → (b == 13) ≡ false → (b == 11) ≡ false → (b == 12) ≡ false → after_backslash (b ∷ bs) ≡ Some (b ∷ [], bs)
 marked_itself b bs h n t r v f = itself_cases b bs (b == 32) (b == 59) (b == 34) (b == 36) (b == 91) (b == 93) (b == 123) (b == 125) (b == 92) refl refl refl refl refl refl refl refl refl h n t r v f
 
-letter_cases : (b : ℕ) (bs : Text) (n t r v f : Bool) → (b == 10) ≡ n → (b == 9) ≡ t → (b == 13) ≡ r → (b == 11) ≡ v → (b == 12) ≡ f → is_marked b ≡ true
+letter_cases : (b : ℕ) (bs : Text) (n t r v f : Bool) → (b == 10) ≡ n → (b == 9) ≡ t → (b == 13) ≡ r → (b == 11) ≡ v → (b == 12) ≡ f → needs_escape b ≡ true
     → after_backslash (letter_of b ∷ bs) ≡ Some (b ∷ [], bs)
 letter_cases b bs true t r v f n' t' r' v' f' m = subst (λ x. after_backslash (letter_of x ∷ bs) ≡ Some (x ∷ [], bs)) (sym (is_byte b 10 n')) refl
 letter_cases b bs false true r v f n' t' r' v' f' m = subst (λ x. after_backslash (letter_of x ∷ bs) ≡ Some (x ∷ [], bs)) (sym (is_byte b 9 t')) refl
@@ -104,9 +104,9 @@ letter_cases b bs false false false false false n' t' r' v' f' m = ap (λ x. aft
   same_letter b n t r v f = rw (n, t, r, v, f) refl
 
 escape_means : (b : ℕ) (bs ts rest : Text) → ElementPiece is_space bs ts rest → ElementPiece is_space (escape b ++ bs) (b ∷ ts) rest
-escape_means b bs ts rest s = elim (marked_or_plain b (is_marked b) refl) [
+escape_means b bs ts rest s = elim (marked_or_plain b (needs_escape b) refl) [
   | inl m ↦ rw m (grammar.ElementPiece.substituted (b ∷ []) bs (letter_cases b bs (b == 10) (b == 9) (b == 13) (b == 11) (b == 12) refl refl refl refl refl m) s)
-  | inr h ↦ (let u = unmarked (is_marked b) h in let two = plain_byte b h in rw u (grammar.ElementPiece.plain two.0 two.1 s))
+  | inr h ↦ (let u = unmarked (needs_escape b) h in let two = plain_byte b h in rw u (grammar.ElementPiece.literal two.0 two.1 s))
 ]
 
 escapes_mean : (e rest : Text) → ElementPiece is_space (flat_map escape e ++ rest) e rest
@@ -117,34 +117,34 @@ both_hold : (s t : Bool) → (s && t) ≡ true → (s ≡ true) × (t ≡ true)
 both_hold true t h = (refl, h)
 both_hold false t h = cc
 
-plain_means : (e rest : Text) → list_all is_plain e ≡ true → ElementPiece is_space (e ++ rest) e rest
+plain_means : (e rest : Text) → list_all is_literal e ≡ true → ElementPiece is_space (e ++ rest) e rest
 plain_means [] rest h = grammar.ElementPiece.nothing
 plain_means (b ∷ e) rest h =
-    let two = both_hold (is_plain b) (list_all is_plain e) h in
+    let two = both_hold (is_literal b) (list_all is_literal e) h in
     let one = plain_byte b two.0 in
-    grammar.ElementPiece.plain one.0 one.1 (plain_means e rest two.1)
+    grammar.ElementPiece.literal one.0 one.1 (plain_means e rest two.1)
 
 -- Elements
-plain_begins : (b : ℕ) → is_plain b ≡ true → begins_element b ≡ true
+plain_begins : (b : ℕ) → is_literal b ≡ true → begins_element b ≡ true
 plain_begins b h = grind (arith, nat_tests)
 
 bare_element : (e rest : Text) → is_bare e ≡ true → MayBegin is_space rest → IsElement (e ++ rest) e rest
 bare_element [] rest h k = cc
 bare_element (b ∷ e) rest h k =
-    let two = both_hold (begins_bare (b ∷ e)) (list_all is_plain (b ∷ e)) h in
-    grammar.IsElement.bare (plain_begins b (both_hold (is_plain b) (list_all is_plain e) two.1).0) (grammar.Bare.parted (plain_means (b ∷ e) rest two.1) k)
+    let two = both_hold (begins_bare (b ∷ e)) (list_all is_literal (b ∷ e)) h in
+    grammar.IsElement.bare (plain_begins b (both_hold (is_literal b) (list_all is_literal e) two.1).0) (grammar.Bare.separated (plain_means (b ∷ e) rest two.1) k)
 
 escape_begins : (b : ℕ) (bs : Text) → DoesBegin begins_element (escape b ++ bs)
-escape_begins b bs = elim (marked_or_plain b (is_marked b) refl) [
+escape_begins b bs = elim (marked_or_plain b (needs_escape b) refl) [
   | inl m ↦ rw m refl
-  | inr h ↦ (let u = unmarked (is_marked b) h in rw u (plain_begins b h))
+  | inr h ↦ (let u = unmarked (needs_escape b) h in rw u (plain_begins b h))
 ]
 
 escaped_cases : (b : ℕ) (e rest : Text) (t : Bool) → (b == hash) ≡ t → MayBegin is_space rest → IsElement (escaped (b ∷ e) ++ rest) (b ∷ e) rest
 escaped_cases b e rest true t k =
-    rw t (grammar.IsElement.bare refl (grammar.Bare.parted (subst (λ x. ElementPiece is_space (backslash ∷ (hash ∷ (flat_map escape e ++ rest))) (x ∷ e) rest) (sym (is_byte b hash t)) (grammar.ElementPiece.substituted (hash ∷ []) (flat_map escape e ++ rest) refl (escapes_mean e rest))) k))
+    rw t (grammar.IsElement.bare refl (grammar.Bare.separated (subst (λ x. ElementPiece is_space (backslash ∷ (hash ∷ (flat_map escape e ++ rest))) (x ∷ e) rest) (sym (is_byte b hash t)) (grammar.ElementPiece.substituted (hash ∷ []) (flat_map escape e ++ rest) refl (escapes_mean e rest))) k))
 escaped_cases b e rest false t k =
-    rw t (grammar.IsElement.bare (subst (DoesBegin begins_element) (sym (append_assoc (escape b) (flat_map escape e) rest)) (escape_begins b (flat_map escape e ++ rest))) (grammar.Bare.parted (escapes_mean (b ∷ e) rest) k))
+    rw t (grammar.IsElement.bare (subst (DoesBegin begins_element) (sym (append_assoc (escape b) (flat_map escape e) rest)) (escape_begins b (flat_map escape e ++ rest))) (grammar.Bare.separated (escapes_mean (b ∷ e) rest) k))
 
 escaped_element : (e rest : Text) → balances 0 e ≡ false → MayBegin is_space rest → IsElement (escaped e ++ rest) e rest
 escaped_element [] rest h k = cc
@@ -172,7 +172,7 @@ rest_is (e ∷ es) = record {
   whole = refl;
   are_spaces = (refl, tt);
   is_element = element_is e (list_rest es) (rest_begins es);
-  is_parted = rest_begins es;
+  is_separated = rest_begins es;
   more = rest_is es;
 }
 
@@ -186,6 +186,6 @@ list_is (e ∷ es) = record {
   whole = refl;
   are_spaces = tt;
   is_element = element_is e (list_rest es) (rest_begins es);
-  is_parted = rest_begins es;
+  is_separated = rest_begins es;
   more = rest_is es;
 }

@@ -11,5 +11,5 @@ ends_piece Space b = is_space b
 ends_piece Quote b = is_quote b
 
 -- the byte is literal before that end
-abbrev pub is_plain_before : End → ℕ → Bool
-is_plain_before end b = not (ends_piece end b || b == backslash)
+abbrev pub is_literal_before : End → ℕ → Bool
+is_literal_before end b = not (ends_piece end b || b == backslash)

@@ -25,26 +25,26 @@ StandsForNothing (b ∷ bs) = after_backslash (b ∷ bs) ≡ None
 
 -- The text begins with an element that is wrong. The fault has the number of bytes that remain from its mark on: the
 -- mark that nothing closes, the character that is joined to what closes, or the backslash that stands for nothing.
-pub data IsWrong : Text → Fault → Type 0 where
+pub data ElementFault : Text → Fault → Type 0 where
   open_brace : {bs : Text} → ((inside rest : Text) → bs ≡ inside ++ right_brace ∷ rest → Balanced inside → ⊥)
-      → IsWrong (left_brace ∷ bs) (marks.OpenBrace (suc (length bs)))
+      → ElementFault (left_brace ∷ bs) (marks.OpenBrace (suc (length bs)))
   joined_to_brace : {bs : Text} (inside rest : Text) → bs ≡ inside ++ right_brace ∷ rest → Balanced inside
-      → IsJoined rest → IsWrong (left_brace ∷ bs) (marks.JoinedToClose (length rest))
+      → IsJoined rest → ElementFault (left_brace ∷ bs) (marks.JoinedToClose (length rest))
   open_quote : {bs e rest : Text} → ElementPiece is_quote bs e rest → IsLast rest
-      → IsWrong (quote ∷ bs) (marks.OpenQuote (suc (length bs)))
+      → ElementFault (quote ∷ bs) (marks.OpenQuote (suc (length bs)))
   joined_to_quote : {bs e rest : Text} → ElementPiece is_quote bs e (quote ∷ rest) → IsJoined rest
-      → IsWrong (quote ∷ bs) (marks.JoinedToClose (length rest))
+      → ElementFault (quote ∷ bs) (marks.JoinedToClose (length rest))
   bad_in_quotes : {bs e rest : Text} → ElementPiece is_quote bs e (backslash ∷ rest) → StandsForNothing rest
-      → IsWrong (quote ∷ bs) (marks.BadCharacter (suc (length rest)))
+      → ElementFault (quote ∷ bs) (marks.BadCharacter (suc (length rest)))
   bad_in_bare : {bs e rest : Text} → DoesBegin begins_element bs → ElementPiece is_space bs e (backslash ∷ rest)
-      → StandsForNothing rest → IsWrong bs (marks.BadCharacter (suc (length rest)))
+      → StandsForNothing rest → ElementFault bs (marks.BadCharacter (suc (length rest)))
 
 -- white space and elements, as in a list, and then an element that is wrong
-pub data IsFaulty : Text → Fault → Type 0 where
-  here : (spaces body : Text) {f : Fault} → AllPass is_space spaces → IsWrong body f → IsFaulty (spaces ++ body) f
-  behind : (spaces body : Text) {e rest : Text} {f : Fault} → AllPass is_space spaces → IsElement body e rest
-      → MayBegin is_space rest → IsFaulty rest f → IsFaulty (spaces ++ body) f
+pub data IsFault : Text → Fault → Type 0 where
+  here : (spaces body : Text) {f : Fault} → AllPass is_space spaces → ElementFault body f → IsFault (spaces ++ body) f
+  following : (spaces body : Text) {e rest : Text} {f : Fault} → AllPass is_space spaces → IsElement body e rest
+      → MayBegin is_space rest → IsFault rest f → IsFault (spaces ++ body) f
 
 -- what is wrong with a text: it is too long, or its fault with the offset
 abbrev pub IsListFault : Text → TextFault → Type 0
-IsListFault bs f = IsFaultOf IsFaulty bs f
+IsListFault bs f = IsFaultOf IsFault bs f

@@ -10,7 +10,7 @@ use Rattle.tclchars.specs.Braces.{Balanced}
 -- a backslash is literal; a backslash and what it takes with it stand for what Tcl(n) says.
 pub data ElementPiece (ends : ℕ → Bool) : Text → Text → Text → Type 0 where
   nothing : {rest : Text} → ElementPiece ends rest [] rest
-  plain : {b : ℕ} {bs ts rest : Text} → ends b ≡ false → (b == backslash) ≡ false → ElementPiece ends bs ts rest
+  literal : {b : ℕ} {bs ts rest : Text} → ends b ≡ false → (b == backslash) ≡ false → ElementPiece ends bs ts rest
       → ElementPiece ends (b ∷ bs) (b ∷ ts) rest
   substituted : {bs ts rest : Text} (v r : Text) → after_backslash bs ≡ Some (v, r) → ElementPiece ends r ts rest
       → ElementPiece ends (backslash ∷ bs) (v ++ ts) rest
@@ -21,7 +21,7 @@ is_quote b = b == quote
 -- The text begins with an element without braces and quotes, up to white space or the end. A backslash at the end of
 -- the text is literal.
 pub data Bare : Text → Text → Text → Type 0 where
-  parted : {bs e rest : Text} → ElementPiece is_space bs e rest → MayBegin is_space rest → Bare bs e rest
+  separated : {bs e rest : Text} → ElementPiece is_space bs e rest → MayBegin is_space rest → Bare bs e rest
   backslash_last : {bs e : Text} → ElementPiece is_space bs e (backslash ∷ []) → Bare bs (e ++ backslash ∷ []) []
 
 -- what an element without braces and quotes begins with
@@ -43,7 +43,7 @@ pub record Elements (bs e : Text) (More : Text → Type 0) : Type 0 where
   pub whole : bs ≡ spaces ++ body
   pub are_spaces : AllPass is_space spaces
   pub is_element : IsElement body e rest
-  pub is_parted : MayBegin is_space rest
+  pub is_separated : MayBegin is_space rest
   pub more : More rest
 
 -- the text is a list with these elements
@@ -52,5 +52,5 @@ IsList bs [] = AllPass is_space bs
 IsList bs (e ∷ es) = Elements bs e (λ rest. IsList rest es)
 
 -- the text is the beginning of some list
-abbrev pub BeginsList : Text → Type 0
-BeginsList bs = (more : Text) × (es : List Text) × IsList (bs ++ more) es
+abbrev pub IsListPrefix : Text → Type 0
+IsListPrefix bs = (more : Text) × (es : List Text) × IsList (bs ++ more) es

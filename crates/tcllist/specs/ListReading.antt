@@ -38,23 +38,23 @@ unfoldable pub piece_of : (ℕ → Bool) → Text → Read Text
 piece_of ends bs = piece_at ends (suc (length bs)) bs
 
 -- after an element there is white space or the end of the text
-abbrev pub parted_at : Text → Result Text Fault
-parted_at [] = Ok []
-parted_at (b ∷ bs) = if is_space b then Ok (b ∷ bs) else Err (marks.JoinedToClose (suc (length bs)))
+abbrev pub element_end : Text → Result Text Fault
+element_end [] = Ok []
+element_end (b ∷ bs) = if is_space b then Ok (b ∷ bs) else Err (marks.JoinedToClose (suc (length bs)))
 
 -- the element and the rest, where the element ends there
-abbrev pub parted : Text → Text → Read Text
-parted e rest = parted_at rest >>= (λ r. Ok (e, r))
+abbrev pub separated : Text → Text → Read Text
+separated e rest = element_end rest >>= (λ r. Ok (e, r))
 
 -- an element in braces, by the text that they enclose
 abbrev pub element_in_braces : ℕ → Option (Text × Text) → Read Text
-element_in_braces left None = Err (marks.OpenBrace left)
-element_in_braces left (Some p) = parted p.0 p.1
+element_in_braces remaining None = Err (marks.OpenBrace remaining)
+element_in_braces remaining (Some p) = separated p.0 p.1
 
 -- an element in quotes, by its value and the rest from the closing quote on
 abbrev pub element_in_quotes : ℕ → Text → Text → Read Text
-element_in_quotes left e [] = Err (marks.OpenQuote left)
-element_in_quotes left e (b ∷ rest) = if b == quote then parted e rest else Err (marks.OpenQuote left)
+element_in_quotes remaining e [] = Err (marks.OpenQuote remaining)
+element_in_quotes remaining e (b ∷ rest) = if b == quote then separated e rest else Err (marks.OpenQuote remaining)
 
 -- an element in quotes, after the opening quote
 abbrev pub quoted_at : Text → Read Text

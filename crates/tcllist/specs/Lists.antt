@@ -1,16 +1,16 @@
 -- The text that is written for a list of elements (own in its choice of spelling; it is read as list(n) says).
 use Rattle.std.specs.Prelude.{ℕ, zero, suc, List, [], ◌∷◌, ◌++◌, Bool, false, not, ◌||◌, ◌&&◌, ◌==◌, if◌then◌else◌, Option, Some, None, flat_map}
 use Rattle.std.specs.List.{list_all}
-use Rattle.tclchars.specs.Bytes.{is_gap, is_special, is_plain, backslash, hash, space, tab, newline, vertical_tab, form_feed, carriage_return, left_brace, right_brace}
+use Rattle.tclchars.specs.Bytes.{is_gap, is_special, is_literal, backslash, hash, space, tab, newline, vertical_tab, form_feed, carriage_return, left_brace, right_brace}
 use Rattle.tclchars.specs.Runs.{Text}
 
 -- what has a meaning in a list or a script: white space, " $ ; [ ] { } \
-abbrev pub is_marked : ℕ → Bool
-is_marked b = is_gap b || is_special b
+abbrev pub needs_escape : ℕ → Bool
+needs_escape b = is_gap b || is_special b
 
-abbrev pub begins_marked : Text → Bool
-begins_marked [] = false
-begins_marked (b ∷ bs) = is_marked b
+abbrev pub begins_needing_escape : Text → Bool
+begins_needing_escape [] = false
+begins_needing_escape (b ∷ bs) = needs_escape b
 
 abbrev pub begins_bare : Text → Bool
 begins_bare [] = false
@@ -18,7 +18,7 @@ begins_bare (b ∷ bs) = not (b == hash)
 
 -- an element that is written as it is
 abbrev pub is_bare : Text → Bool
-is_bare e = begins_bare e && list_all is_plain e
+is_bare e = begins_bare e && list_all is_literal e
 
 -- how many braces are open after a closing one; None where none was
 abbrev pub closed_one : ℕ → Option ℕ
@@ -34,15 +34,15 @@ depth_after depth b =
     else Some depth
 
 -- there is such a depth, and more holds of it
-abbrev pub goes_on : (ℕ → Bool) → Option ℕ → Bool
-goes_on more None = false
-goes_on more (Some depth) = more depth
+abbrev pub holds_of_depth : (ℕ → Bool) → Option ℕ → Bool
+holds_of_depth more None = false
+holds_of_depth more (Some depth) = more depth
 
 -- An element that may be written in braces, where so many are open before it: it has no backslash, no prefix of it
 -- closes more than are open, and the whole leaves none open.
 abbrev pub balances : ℕ → Text → Bool
 balances depth [] = depth == 0
-balances depth (b ∷ bs) = goes_on (λ d. balances d bs) (depth_after depth b)
+balances depth (b ∷ bs) = holds_of_depth (λ d. balances d bs) (depth_after depth b)
 
 -- what is written after a backslash for a byte with a meaning: a letter for newline, tab, carriage return, vertical tab
 -- and form feed, else the byte
@@ -56,7 +56,7 @@ letter_of b =
 
 -- a byte, after a backslash where it has a meaning
 abbrev pub escape : ℕ → Text
-escape b = if is_marked b then backslash ∷ (letter_of b ∷ []) else b ∷ []
+escape b = if needs_escape b then backslash ∷ (letter_of b ∷ []) else b ∷ []
 
 -- an element with backslashes; a # at its beginning has one too
 abbrev pub escaped : Text → Text

@@ -2,12 +2,12 @@
 ghost use Rattle.std.specs.Prelude.{◌≡◌, ◌≢◌, ◌↔◌, ◌≤◌, ◌+◌, ◌++◌, ℕ, List, length, take, Ok, Err};
 ghost use Rattle.tclchars.specs.Runs.{Text};
 ghost use Rattle.tclchars.specs.Faults.{max_bytes};
-ghost use Rattle.tclchars.specs.Reading.{left_of};
+ghost use Rattle.tclchars.specs.Reading.{remaining_of};
 ghost use Rattle.tclchars.specs.declared.fault.Fault.{Fault};
 ghost use Rattle.tclchars.specs.declared.fault.TextFault.{TextFault};
 ghost use Rattle.tclchars.specs.declared.fault.TextFault.TheVariants.{OutOfMemory, JoinedToClose, BadCharacter};
-ghost use Rattle.tcllist.specs.ListGrammar.{IsList, BeginsList};
-ghost use Rattle.tcllist.specs.ListFaults.{IsFaulty, IsListFault};
+ghost use Rattle.tcllist.specs.ListGrammar.{IsList, IsListPrefix};
+ghost use Rattle.tcllist.specs.ListFaults.{IsFault, IsListFault};
 ghost use Rattle.tcllist.specs.ListReading.{list_of};
 ghost use Rattle.tcllist.specs.Lists.{list_text};
 
@@ -33,14 +33,14 @@ pub fn list_of_grammar()
 {}
 
 /// The text before the offset of a fault is the beginning of some list.
-pub fn before_list_fault()
-    ensures { (before rest : Text) (f : Fault) → IsFaulty (before ++ rest) f → left_of f ≡ length rest
-        → BeginsList before }
+pub fn prefix_before_fault()
+    ensures { (before rest : Text) (f : Fault) → IsFault (before ++ rest) f → remaining_of f ≡ length rest
+        → IsListPrefix before }
 {}
 
 /// No list begins with a text up to and with the character that is joined to a closing brace or quote, and none with a
 /// text that has a backslash that stands for nothing.
-pub fn no_list_begins_so()
+pub fn no_list_prefix()
     ensures joined { (bs more : Text) (at : ℕ) (es : List Text) → IsListFault bs (JoinedToClose at)
         → IsList (take (at + 1) bs ++ more) es → ⊥ }
     ensures bad { (bs more : Text) (at : ℕ) (es : List Text) → IsListFault bs (BadCharacter at)

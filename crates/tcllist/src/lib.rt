@@ -8,8 +8,7 @@ mod read;
 mod write;
 
 pub use laws::{
-    before_list_fault, list_of_grammar, list_round_trip, no_list_begins_so, one_list,
-    one_list_fault,
+    list_of_grammar, list_round_trip, no_list_prefix, one_list, one_list_fault, prefix_before_fault,
 };
 pub use read::parse_list;
 pub use write::write_list;

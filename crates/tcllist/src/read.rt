@@ -8,14 +8,14 @@ ghost use Rattle.tclchars.specs.Reading.{stopped_by};
 ghost use Rattle.tclchars.specs.declared.fault.TextFault.TheVariants.{OutOfMemory};
 ghost use Rattle.tcllist.specs.ListGrammar.{IsList};
 ghost use Rattle.tcllist.specs.ListFaults.{IsListFault};
-ghost use Rattle.tcllist.specs.ListReading.{piece_of, parted_at, element_in_braces, quoted_at, element_at, list_at, list_of, ReadsList};
+ghost use Rattle.tcllist.specs.ListReading.{piece_of, element_end, element_in_braces, quoted_at, element_at, list_at, list_of, ReadsList};
 ghost use Rattle.tcllist.specs.declared.read.End.TheVariants.{Quote};
-ghost use Rattle.tcllist.specs.Ends.{ends_piece, is_plain_before};
+ghost use Rattle.tcllist.specs.Ends.{ends_piece, is_literal_before};
 
 use std::alloc::Global;
 use tclchars::{
     Class, Fault, MAX_BYTES, ReadError, TextFault, after_mark, begins_class, read_backslash,
-    split_close, split_front, with_offset,
+    split_close, split_run, with_offset,
 };
 
 /// The elements of a list (Tcl(n), lindex(n)), which white space separates. One in braces is taken as it is; in one in
@@ -66,7 +66,7 @@ fn read_elements(alloc: Global, text: &str) -> Result<Vec<String>, ReadError>
     let mut elements = Vec::new(alloc);
     let mut rest = text;
     loop {
-        let start = split_front(rest, Class::Space).1;
+        let start = split_run(rest, Class::Space).1;
         if start.is_empty() {
             return Ok(elements);
         }
@@ -97,7 +97,7 @@ fn read_braced(alloc: Global, text: &str) -> Result<(String, &str), ReadError>
     let Some((inside, rest)) = split_close(text) else {
         return Err(ReadError::Fault(Fault::OpenBrace(text.len() + 1)));
     };
-    part(rest)?;
+    require_element_end(rest)?;
     Ok((String::from_str(alloc, inside)?, rest))
 }
 
@@ -105,17 +105,17 @@ fn read_braced(alloc: Global, text: &str) -> Result<(String, &str), ReadError>
 fn read_quoted(alloc: Global, text: &str) -> Result<(String, &str), ReadError>
     ensures { Gives stopped_by (λ x. (string_bytes x.0, x.1.now)) result (quoted_at text.now) }
 {
-    let (value, behind) = read_piece(alloc, text, End::Quote)?;
-    let Some(rest) = after_mark(behind, b'"') else {
+    let (value, following) = read_piece(alloc, text, End::Quote)?;
+    let Some(rest) = after_mark(following, b'"') else {
         return Err(ReadError::Fault(Fault::OpenQuote(text.len() + 1)));
     };
-    part(rest)?;
+    require_element_end(rest)?;
     Ok((value, rest))
 }
 
 /// Checks that an element ends before the text: nothing follows, or white space.
-fn part(rest: &str) -> Result<(), ReadError>
-    ensures { Gives stopped_by (λ _. rest.now) result (parted_at rest.now) }
+fn require_element_end(rest: &str) -> Result<(), ReadError>
+    ensures { Gives stopped_by (λ _. rest.now) result (element_end rest.now) }
 {
     if rest.is_empty() || begins_class(rest, Class::Space) {
         return Ok(());
@@ -133,31 +133,31 @@ enum End {
 }
 
 /// The run of literal bytes that the text begins with, in an element with that end, and the rest.
-fn split_plain(text: &str, end: End) -> (&str, &str)
-    ensures run { result.0.now ≡ take_while (is_plain_before end) text.now }
-    ensures rest { result.1.now ≡ drop_while (is_plain_before end) text.now }
+fn split_literal(text: &str, end: End) -> (&str, &str)
+    ensures run { result.0.now ≡ take_while (is_literal_before end) text.now }
+    ensures rest { result.1.now ≡ drop_while (is_literal_before end) text.now }
 {
     match end {
-        End::Space => split_front(text, Class::BareElement),
+        End::Space => split_run(text, Class::BareElement),
         End::Quote => split_quoted(text),
     }
 }
 
 /// Whether the byte is literal in quotes.
-fn is_plain_in_quotes(b: u8) -> bool
-    ensures { result ≡ is_plain_before Quote b }
+fn is_literal_in_quotes(b: u8) -> bool
+    ensures { result ≡ is_literal_before Quote b }
 {
     b != b'"' && b != b'\\'
 }
 
 /// The run of bytes that are literal in quotes, with which the text begins, and the rest.
 fn split_quoted(text: &str) -> (&str, &str)
-    ensures run { result.0.now ≡ take_while (is_plain_before Quote) text.now }
-    ensures rest { result.1.now ≡ drop_while (is_plain_before Quote) text.now }
+    ensures run { result.0.now ≡ take_while (is_literal_before Quote) text.now }
+    ensures rest { result.1.now ≡ drop_while (is_literal_before Quote) text.now }
 {
     let bytes = text.as_bytes();
     let mut n = 0;
-    while n < bytes.len() && is_plain_in_quotes(bytes[n]) {
+    while n < bytes.len() && is_literal_in_quotes(bytes[n]) {
         n += 1;
     }
     text.split_at(n)
@@ -170,16 +170,16 @@ fn read_piece(alloc: Global, text: &str, end: End) -> Result<(String, &str), Rea
     let mut value = String::new(alloc);
     let mut rest = text;
     loop {
-        let (run, marked) = split_plain(rest, end);
+        let (run, marked) = split_literal(rest, end);
         value.push_str(run)?;
-        let Some(behind) = after_mark(marked, b'\\') else {
+        let Some(following) = after_mark(marked, b'\\') else {
             return Ok((value, marked));
         };
-        if behind.is_empty() {
+        if following.is_empty() {
             value.push('\\')?;
-            return Ok((value, behind));
+            return Ok((value, following));
         }
-        let Some((c, after)) = read_backslash(behind) else {
+        let Some((c, after)) = read_backslash(following) else {
             return Err(ReadError::Fault(Fault::BadCharacter(marked.len())));
         };
         value.push(c)?;

@@ -1,12 +1,12 @@
 //! Elements as the text of a list (list(n)).
 ghost use Rattle.std.specs.Prelude.{◌≡◌, ◌++◌, ◌≤◌, ◌<◌, ◌∷◌, [], length, map, flat_map, false, true, IfOk, OnOk, MatchOption, string_bytes};
 ghost use Rattle.std.specs.List.{list_all};
-ghost use Rattle.tclchars.specs.Bytes.{is_plain, is_gap, is_special};
+ghost use Rattle.tclchars.specs.Bytes.{is_literal, is_gap, is_special};
 ghost use Rattle.tcllist.specs.ListGrammar.{IsList};
-ghost use Rattle.tcllist.specs.Lists.{is_marked, begins_marked, begins_bare, is_bare, depth_after, balances, letter_of, escape, escaped, braced, element_text, list_rest, list_text};
+ghost use Rattle.tcllist.specs.Lists.{needs_escape, begins_needing_escape, begins_bare, is_bare, depth_after, balances, letter_of, escape, escaped, braced, element_text, list_rest, list_text};
 
 use std::alloc::{AllocError, Global};
-use tclchars::{Class, after_mark, split_front};
+use tclchars::{Class, after_mark, split_run};
 
 /// The text of a list with these elements, with one space between them. An element is written as it is, in braces, or
 /// with backslashes, whichever comes first of those that are read again. The error is that a growth was refused.
@@ -73,7 +73,7 @@ fn push_braced(text: &mut String, element: &str) -> Result<(), AllocError>
 fn is_bare(element: &str) -> bool
     ensures { result ≡ is_bare element.now }
 {
-    begins_bare(element) && are_plain(element)
+    begins_bare(element) && are_literal(element)
 }
 
 /// Whether an element is not empty and begins with no `#`, which would begin a comment where the list is a command.
@@ -87,10 +87,10 @@ fn begins_bare(element: &str) -> bool
 }
 
 /// Whether no byte of the element has a meaning of its own.
-fn are_plain(element: &str) -> bool
-    ensures { result ≡ list_all is_plain element.now }
+fn are_literal(element: &str) -> bool
+    ensures { result ≡ list_all is_literal element.now }
 {
-    split_front(element, Class::Plain).1.is_empty()
+    split_run(element, Class::Literal).1.is_empty()
 }
 
 /// How many braces are open after a byte. None where it is a backslash, or closes one more than are open.
@@ -149,14 +149,14 @@ fn push_escaped(text: &mut String, element: &str) -> Result<(), AllocError>
 }
 
 /// Adds a text with a backslash before each byte that has a meaning of its own.
-fn push_escapes(text: &mut String, plain: &str) -> Result<(), AllocError>
-    ensures { OnOk result (string_bytes text.new ≡ string_bytes text.old ++ flat_map escape plain.now) }
+fn push_escapes(text: &mut String, literal: &str) -> Result<(), AllocError>
+    ensures { OnOk result (string_bytes text.new ≡ string_bytes text.old ++ flat_map escape literal.now) }
 {
-    let mut rest = plain;
+    let mut rest = literal;
     loop {
-        let (run, marked) = split_front(rest, Class::Plain);
+        let (run, marked) = split_run(rest, Class::Literal);
         text.push_str(run)?;
-        let Some((b, after)) = split_marked(marked) else {
+        let Some((b, after)) = split_needing_escape(marked) else {
             return Ok(());
         };
         text.push('\\')?;
@@ -180,19 +180,19 @@ fn is_special(b: u8) -> bool
 }
 
 /// Whether the byte has a meaning in a list or a script.
-fn is_marked(b: u8) -> bool
-    ensures { result ≡ is_marked b }
+fn needs_escape(b: u8) -> bool
+    ensures { result ≡ needs_escape b }
 {
     is_gap(b) || is_special(b)
 }
 
 /// The first byte, if it has a meaning in a list or a script, and the rest.
-fn split_marked(text: &str) -> Option<(u8, &str)>
-    ensures { MatchOption result (begins_marked text.now ≡ false)
-        (λ p. (text.now ≡ p.0 ∷ p.1.now) × (is_marked p.0 ≡ true)) }
+fn split_needing_escape(text: &str) -> Option<(u8, &str)>
+    ensures { MatchOption result (begins_needing_escape text.now ≡ false)
+        (λ p. (text.now ≡ p.0 ∷ p.1.now) × (needs_escape p.0 ≡ true)) }
 {
     match text.as_bytes() {
-        [b, ..] if is_marked(*b) => Some((*b, text.split_at(1).1)),
+        [b, ..] if needs_escape(*b) => Some((*b, text.split_at(1).1)),
         _ => None,
     }
 }

@@ -9,7 +9,7 @@ use Rattle.std.specs.Str.Parse.{AllDigits}
 use Rattle.tclchars.specs.Bytes.{is_space, AllPass}
 use Rattle.tclchars.specs.Runs.{Text, take_while, drop_while}
 use Rattle.tclnumber.specs.declared.number.Numeral.TheVariants as numerals
-use Rattle.tclnumber.specs.Numerals.{trimmed, is_minus, is_sign, without_sign, base_of, magnitude, is_digit, begins_digit, is_nil, are_digits, whole_of, is_exponent, may_be_exponent, is_fraction_end, is_word, is_fraction, class_of, numeral_of, numeral}
+use Rattle.tclnumber.specs.Numerals.{trimmed, is_minus, is_sign, without_sign, base_of, magnitude, is_digit, begins_digit, is_nil, are_digits, whole_of, is_exponent, may_be_exponent, is_fraction_end, is_number_name, is_fraction, class_of, numeral_of, numeral}
 use Rattle.tclnumber.specs.Numbers as numbers
 use Rattle.tclnumber.specs.Numbers.{IsMagnitude, IsSigned, IsExponent, IsFraction, IsFractional}
 use Rattle.tclnumber.proofs.WholeNumbers.{not_true, either, no_sign, magnitude_read, magnitude_found, Unspaced, signed_found, trimmed_is, spaced}
@@ -227,7 +227,7 @@ named_by (c ∷ t) w l none h small =
     let k = head_same (to_ascii_lowercase c) l (map to_ascii_lowercase t) w h in
     record { c = c; rest = t; whole = refl; begins = none c k.0; no_spaces = letters_no_space (c ∷ t) (l ∷ w) h small }
 
-pub named_is : (t : Text) → is_word t ≡ true → Named t
+pub named_is : (t : Text) → is_number_name t ≡ true → Named t
 named_is t h = go (bytes_eq (map to_ascii_lowercase t) (codes "inf")) (bytes_eq (map to_ascii_lowercase t) (codes "infinity")) (bytes_eq (map to_ascii_lowercase t) (codes "nan")) refl refl refl where
   equal : (w : Text) → bytes_eq (map to_ascii_lowercase t) w ≡ true → map to_ascii_lowercase t ≡ w
   equal w e = (bytes_eq-Decides (map to_ascii_lowercase t) w).0 e
@@ -255,7 +255,7 @@ fraction_no_magnitude (numbers.IsFraction.scaled whole exponent some all exp) = 
   go : (exponent : Text) → IsExponent exponent → magnitude (whole ++ exponent) ≡ None
   go [] exp = absurd exp
   go (b ∷ bs) exp = let k = (exponent_letter b exp.0).0 in no_number (whole ++ b ∷ bs) (λ n m. no_magnitude whole b bs (whole ++ b ∷ bs) n m refl all k.0 k.1)
-fraction_no_magnitude (numbers.IsFraction.behind_zero ds all none) = no_number (48 ∷ ds) none
+fraction_no_magnitude (numbers.IsFraction.after_zero ds all none) = no_number (48 ∷ ds) none
 fraction_no_magnitude (numbers.IsFraction.named {t} h) = let k = named_is t h in no_number t (λ n m. no_magnitude [] k.c k.rest t n m k.whole tt k.begins.0 k.begins.1)
 
 by_end : (t r : Text) → drop_while is_digit t ≡ r → is_fraction_end t r ≡ true → is_fraction t ≡ true
@@ -278,7 +278,7 @@ fraction_test (numbers.IsFraction.scaled whole exponent some all exp) = go expon
       let test : is_exponent (b ∷ bs) ≡ true = exponent_test (b ∷ bs) exp in
       let begun : begins_digit (whole ++ b ∷ bs) ≡ true = begins_here whole (b ∷ bs) some all in
       by_end (whole ++ b ∷ bs) (b ∷ bs) (over_digits whole (b ∷ bs) all ∙ stops b bs k.1) (rw (k.2, begun, test) refl)
-fraction_test (numbers.IsFraction.behind_zero ds all none) = by_end (48 ∷ ds) [] (end ds all) refl where
+fraction_test (numbers.IsFraction.after_zero ds all none) = by_end (48 ∷ ds) [] (end ds all) refl where
   end : (ds : Text) → AllPass is_digit ds → drop_while is_digit ds ≡ []
   end [] all = refl
   end (d ∷ ds) all = rw all.0 (end ds all.1)
@@ -297,7 +297,7 @@ end_found t [] whole all none h = led t (subst (AllPass is_digit) (sym (whole �
   led [] all none h = absurd (true_false (sym h))
   led (b ∷ bs) all none h =
       let same : b ≡ 48 = grind (arith, nat_tests) in
-      subst (λ c. IsFraction (c ∷ bs)) (sym same) (numbers.IsFraction.behind_zero bs all.1 (λ n m. none_some (sym none ∙ ap (λ c. magnitude (c ∷ bs)) same ∙ magnitude_read m)))
+      subst (λ c. IsFraction (c ∷ bs)) (sym same) (numbers.IsFraction.after_zero bs all.1 (λ n m. none_some (sym none ∙ ap (λ c. magnitude (c ∷ bs)) same ∙ magnitude_read m)))
 end_found t (b ∷ bs) whole all none h = go (b == 46) refl where
   nonempty : (x y : Text) → (x ≢ []) ⊎ (y ≢ []) → x ++ y ≢ []
   nonempty [] y (inl k) = absurd (k refl)
@@ -352,7 +352,7 @@ fraction_no_space : {t : Text} → IsFraction t → NoSpaces t
 fraction_no_space (numbers.IsFraction.pointed whole part exponent all also some exp) =
     spaces_append whole (46 ∷ (part ++ exponent)) (digits_no_space whole all) (refl, spaces_append part exponent (digits_no_space part also) (exponent_no_space exponent exp))
 fraction_no_space (numbers.IsFraction.scaled whole exponent some all exp) = spaces_append whole exponent (digits_no_space whole all) (exponent_no_space exponent (inr exp))
-fraction_no_space (numbers.IsFraction.behind_zero ds all none) = (refl, digits_no_space ds all)
+fraction_no_space (numbers.IsFraction.after_zero ds all none) = (refl, digits_no_space ds all)
 fraction_no_space (numbers.IsFraction.named {t} h) = (named_is t h).no_spaces
 
 -- a first byte that is no sign
@@ -375,7 +375,7 @@ fraction_begun (numbers.IsFraction.scaled whole exponent some all exp) = go whol
   go : (whole : Text) → whole ≢ [] → AllPass is_digit whole → Begun (whole ++ exponent)
   go [] some all = absurd (some refl)
   go (w ∷ whole) some all = digit_begun w (whole ++ exponent) all.0
-fraction_begun (numbers.IsFraction.behind_zero ds all none) = digit_begun 48 ds refl
+fraction_begun (numbers.IsFraction.after_zero ds all none) = digit_begun 48 ds refl
 fraction_begun (numbers.IsFraction.named {t} h) = (let k = named_is t h in record { b = k.c; bs = k.rest; whole = k.whole; no_sign = k.begins.2; no_minus = k.begins.3 })
 
 signed_begun : {core : Text} {m : Bool} {digits : Text} → IsSigned core m digits → Begun digits → (is_minus core ≡ m) × (without_sign core ≡ digits) × (core ≢ [])

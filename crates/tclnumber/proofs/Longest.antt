@@ -202,7 +202,7 @@ begins_any : (ds rest : Text) → ds ≢ [] → AllPass (operands.is_digit Decim
 begins_any [] rest some all = absurd (some refl)
 begins_any (d ∷ ds) rest some all = all.0
 
-fraction_shorter : (u other : Text) → IsFraction u → numerals.is_word u ≡ false → DecimalShorter u other
+fraction_shorter : (u other : Text) → IsFraction u → numerals.is_number_name u ≡ false → DecimalShorter u other
 unfolding after_digits
 fraction_shorter u other (numbers.IsFraction.pointed whole part exponent all also some exp) word = (begun whole all some, shorter) where
   assoc : (whole : Text) → (whole ++ 46 ∷ (part ++ exponent)) ++ other ≡ whole ++ 46 ∷ ((part ++ exponent) ++ other)
@@ -225,7 +225,7 @@ fraction_shorter u other (numbers.IsFraction.scaled whole exponent some all exp)
   stopped =
       let k = letter_stops exponent other exp in
       omega (arith, ap (λ t. length (after_exponent (after_fraction t))) k.0, ap (λ t. length (after_exponent t)) k.1, exponent_shorter exponent other (inr exp))
-fraction_shorter u other (numbers.IsFraction.behind_zero ds all none) word = decimal_digits (48 ∷ ds) other (λ e. cc) (refl, all)
+fraction_shorter u other (numbers.IsFraction.after_zero ds all none) word = decimal_digits (48 ∷ ds) other (λ e. cc) (refl, all)
 fraction_shorter u other (numbers.IsFraction.named h) word = absurd (apart (sym h ∙ word)) where
   apart : true ≡ false → ⊥
   apart e = cc
@@ -299,7 +299,7 @@ second_after : (d : ℕ) (ds : Text) (c : ℕ) (rest : Text) → AllPass (operan
 second_after d [] c rest all h = h
 second_after d (e ∷ ds) c rest all h = digit_plain e all.1.0
 
-fraction_second : {u : Text} → IsFraction u → numerals.is_word u ≡ false → SecondPlain u
+fraction_second : {u : Text} → IsFraction u → numerals.is_number_name u ≡ false → SecondPlain u
 fraction_second (numbers.IsFraction.pointed whole part exponent all also some exp) word = go whole part all also some where
   go : (whole part : Text) → AllPass (operands.is_digit Decimal) whole → AllPass (operands.is_digit Decimal) part → whole ++ part ≢ [] → SecondPlain (whole ++ 46 ∷ (part ++ exponent))
   go [] [] all also some = absurd (some refl)
@@ -310,7 +310,7 @@ fraction_second (numbers.IsFraction.scaled whole exponent some all exp) word = g
   go [] exponent some all exp = absurd (some refl)
   go (w ∷ whole) [] some all exp = absurd exp
   go (w ∷ whole) (b ∷ bs) some all exp = second_after w whole b bs all (letter_plain b exp.0)
-fraction_second (numbers.IsFraction.behind_zero ds all none) word = second_all (48 ∷ ds) (refl, all)
+fraction_second (numbers.IsFraction.after_zero ds all none) word = second_all (48 ∷ ds) (refl, all)
 fraction_second (numbers.IsFraction.named h) word = absurd (apart (sym h ∙ word)) where
   apart : true ≡ false → ⊥
   apart e = cc
@@ -320,10 +320,10 @@ unfolding after_digits
 based_no_longer [] other some plain rest h = absurd (some refl)
 based_no_longer (x ∷ []) other some plain rest h =
     let k = based_at (x ∷ other) rest h in
-    let tail : other ≡ k.0 ∷ k.1 = behind k.3 in
+    let tail : other ≡ k.0 ∷ k.1 = following k.3 in
     omega (arith, ap length tail, ap length k.6, back_shorter (operands.is_digit k.2) k.1) where
-      behind : {c : ℕ} {bs : Text} → x ∷ other ≡ 48 ∷ (c ∷ bs) → other ≡ c ∷ bs
-      behind e = cc
+      following : {c : ℕ} {bs : Text} → x ∷ other ≡ 48 ∷ (c ∷ bs) → other ≡ c ∷ bs
+      following e = cc
 based_no_longer (x ∷ (y ∷ ys)) other some plain rest h =
     let k = based_at (x ∷ (y ∷ (ys ++ other))) rest h in
     absurd (none_some (sym plain ∙ ap announced (second k.3) ∙ k.4)) where
@@ -393,13 +393,13 @@ exponent_split (b ∷ bs) = go ((b == 101 || b == 69) && begins_digit Decimal (a
         inr (either b 101 69 k.0, m.0, ds, m.1, front_some (after_sign bs) k.1, run.1),
       )
 
-no_name : (t : Text) → ((k : Named t) → ⊥) → numerals.is_word t ≡ false
-no_name t none = go (numerals.is_word t) refl where
-  go : (u : Bool) → numerals.is_word t ≡ u → numerals.is_word t ≡ false
+no_name : (t : Text) → ((k : Named t) → ⊥) → numerals.is_number_name t ≡ false
+no_name t none = go (numerals.is_number_name t) refl where
+  go : (u : Bool) → numerals.is_number_name t ≡ u → numerals.is_number_name t ≡ false
   go true e = absurd (none (named_is t e))
   go false e = e
 
-digit_no_name : (d : ℕ) (ds : Text) → operands.is_digit Decimal d ≡ true → numerals.is_word (d ∷ ds) ≡ false
+digit_no_name : (d : ℕ) (ds : Text) → operands.is_digit Decimal d ≡ true → numerals.is_number_name (d ∷ ds) ≡ false
 digit_no_name d ds h = no_name (d ∷ ds) (λ k. small (first k.whole) k.begins.0) where
   first : {c : ℕ} {rest : Text} → d ∷ ds ≡ c ∷ rest → d ≡ c
   first e = cc
@@ -407,7 +407,7 @@ digit_no_name d ds h = no_name (d ∷ ds) (λ k. small (first k.whole) k.begins.
   small : {c : ℕ} → d ≡ c → 10 ≤ digit_value c → ⊥
   small e large = let less = (digit_is Decimal d).0 h in omega (arith, ap digit_value e, less, large)
 
-point_no_name : (ds : Text) → numerals.is_word (46 ∷ ds) ≡ false
+point_no_name : (ds : Text) → numerals.is_number_name (46 ∷ ds) ≡ false
 point_no_name ds = refl
 
 digits_number : (ds : Text) → ds ≢ [] → AllPass (operands.is_digit Decimal) ds → IsNumber ds
@@ -420,7 +420,7 @@ digits_number (d ∷ ds) some all = go (numerals.magnitude (d ∷ ds)) refl wher
     on true x =
         let same : d ≡ 48 = grind (arith, nat_tests) in
         let none : (n : ℕ) → IsMagnitude (48 ∷ ds) n → ⊥ = λ n m. none_some (sym e ∙ ap (λ c. numerals.magnitude (c ∷ ds)) same ∙ magnitude_read m) in
-        inr (subst (λ c. IsFraction (c ∷ ds)) (sym same) (numbers.IsFraction.behind_zero ds all.1 none), digit_no_name d ds all.0)
+        inr (subst (λ c. IsFraction (c ∷ ds)) (sym same) (numbers.IsFraction.after_zero ds all.1 none), digit_no_name d ds all.0)
     on false x = absurd (none_some (sym e ∙ magnitude_read (numbers.IsMagnitude.decimal (ap not x) (some, all_digits Decimal (d ∷ ds) all, refl))))
 
 abbrev Found : Text → Text → Type 0
@@ -444,7 +444,7 @@ decimal_found bs begun = (let run = run_split (operands.is_digit Decimal) bs in 
   pointed_some [] x e (inr h) = front_some x (point_digit x (subst (λ t. begins_point t ≡ true) e h))
   pointed_some (w ∷ whole) x e some = λ k. cc
 
-  pointed_word : (whole rest : Text) → AllPass (operands.is_digit Decimal) whole → numerals.is_word (whole ++ 46 ∷ rest) ≡ false
+  pointed_word : (whole rest : Text) → AllPass (operands.is_digit Decimal) whole → numerals.is_number_name (whole ++ 46 ∷ rest) ≡ false
   pointed_word [] rest all = point_no_name rest
   pointed_word (w ∷ whole) rest all = digit_no_name w (whole ++ 46 ∷ rest) all.0
 
@@ -455,7 +455,7 @@ decimal_found bs begun = (let run = run_split (operands.is_digit Decimal) bs in 
     apart k = cc
   plain_some (w ∷ whole) r e no_point some = λ k. cc
 
-  scaled_word : (whole rest : Text) → whole ≢ [] → AllPass (operands.is_digit Decimal) whole → numerals.is_word (whole ++ rest) ≡ false
+  scaled_word : (whole rest : Text) → whole ≢ [] → AllPass (operands.is_digit Decimal) whole → numerals.is_number_name (whole ++ rest) ≡ false
   scaled_word [] rest some all = absurd (some refl)
   scaled_word (w ∷ whole) rest some all = digit_no_name w (whole ++ rest) all.0
 
@@ -463,16 +463,16 @@ decimal_found bs begun = (let run = run_split (operands.is_digit Decimal) bs in 
   number whole e some all (inl none) = subst IsNumber (sym (ap (λ xs. whole ++ xs) none ∙ append-nil whole)) (digits_number whole some all)
   number whole e some all (inr h) = inr (numbers.IsFraction.scaled whole e some all h, scaled_word whole e some all)
 
-  behind : (whole r : Text) → bs ≡ whole ++ r → AllPass (operands.is_digit Decimal) whole → whole ≢ [] → Found bs (after_exponent r)
-  behind whole r e all some =
+  following : (whole r : Text) → bs ≡ whole ++ r → AllPass (operands.is_digit Decimal) whole → whole ≢ [] → Found bs (after_exponent r)
+  following whole r e all some =
       let x = exponent_split r in
       (whole ++ x.0, e ∙ ap (λ xs. whole ++ xs) x.1 ∙ sym (append_assoc whole x.0 (after_exponent r)), number whole x.0 some all x.2)
 
   go : (whole r : Text) → bs ≡ whole ++ r → AllPass (operands.is_digit Decimal) whole → (whole ≢ []) ⊎ (begins_point bs ≡ true) → Found bs (after_exponent (after_fraction r))
-  go whole [] e all some = behind whole [] e all (plain_some whole [] e refl some)
+  go whole [] e all some = following whole [] e all (plain_some whole [] e refl some)
   go whole (b ∷ x) e all some = on (b == 46) refl where
     on : (u : Bool) → (b == 46) ≡ u → Found bs (after_exponent (after_fraction (b ∷ x)))
-    on false k = let no_point : begins_point (b ∷ x) ≡ false = rw k refl in rw k (behind whole (b ∷ x) e all (plain_some whole (b ∷ x) e no_point some))
+    on false k = let no_point : begins_point (b ∷ x) ≡ false = rw k refl in rw k (following whole (b ∷ x) e all (plain_some whole (b ∷ x) e no_point some))
     on true k =
         let same : b ≡ 46 = grind (arith, nat_tests) in
         let run = run_split (operands.is_digit Decimal) x in

@@ -8,20 +8,20 @@ use Rattle.std.proofs.lemmas.Bool.Decides.{nat_tests}
 use Rattle.std.specs.Char.{digit_value}
 use Rattle.tclnumber.specs.declared.number.Numeral.{Numeral}
 use Rattle.tclnumber.specs.declared.number.Numeral.TheVariants.{TooLarge, Fraction, Text}
-use Rattle.tclnumber.specs.Numerals.{before_space, without_end, trimmed, digits_from, digits_in, is_minus, without_sign, magnitude, is_fraction, whole_of, class_of, numeral_of, numeral}
+use Rattle.tclnumber.specs.Numerals.{before_trimmed, trimmed_end, trimmed, digits_from, digits_in, is_minus, without_sign, magnitude, is_fraction, whole_of, class_of, numeral_of, numeral}
 use Rattle.tclchars.specs.Bytes.{is_space}
 
-pub without_end-space : (xs : List ℕ) (b : ℕ) → is_space b ≡ true → without_end (xs ++ b ∷ []) ≡ without_end xs
-without_end-space [] b h = rw h refl
-without_end-space (x ∷ xs) b h = ap (before_space x) (without_end-space xs b h)
+pub trimmed_end-space : (xs : List ℕ) (b : ℕ) → is_space b ≡ true → trimmed_end (xs ++ b ∷ []) ≡ trimmed_end xs
+trimmed_end-space [] b h = rw h refl
+trimmed_end-space (x ∷ xs) b h = ap (before_trimmed x) (trimmed_end-space xs b h)
 
-before_some : (x : ℕ) (xs : List ℕ) (b : ℕ) → before_space x (xs ++ b ∷ []) ≡ x ∷ (xs ++ b ∷ [])
+before_some : (x : ℕ) (xs : List ℕ) (b : ℕ) → before_trimmed x (xs ++ b ∷ []) ≡ x ∷ (xs ++ b ∷ [])
 before_some x [] b = refl
 before_some x (y ∷ xs) b = refl
 
-pub without_end-other : (xs : List ℕ) (b : ℕ) → is_space b ≡ false → without_end (xs ++ b ∷ []) ≡ xs ++ b ∷ []
-without_end-other [] b h = rw h refl
-without_end-other (x ∷ xs) b h = ap (before_space x) (without_end-other xs b h) ∙ before_some x xs b
+pub trimmed_end-other : (xs : List ℕ) (b : ℕ) → is_space b ≡ false → trimmed_end (xs ++ b ∷ []) ≡ xs ++ b ∷ []
+trimmed_end-other [] b h = rw h refl
+trimmed_end-other (x ∷ xs) b h = ap (before_trimmed x) (trimmed_end-other xs b h) ∙ before_some x xs b
 
 -- a sum that stops at the greatest number, digit by digit, is the whole sum stopped there
 saturated-small : (v b d m : ℕ) → v ≤ m → min (min (min v m * b) m + d) m ≡ min (v * b + d) m
@@ -83,11 +83,11 @@ last_cut bs h =
     let whole : i + 1 ≡ length bs = omega arith in
     sym (sym (take_more bs i 0 lt) ∙ ap (λ n. take n bs) whole ∙ take-length bs)
 
-pub trim-more : (bs : List ℕ) → 0 < length bs → is_space (get_or bs (length bs - 1) 0) ≡ true → without_end bs ≡ without_end (take (length bs - 1) bs)
-trim-more bs h s = ap without_end (last_cut bs h) ∙ without_end-space (take (length bs - 1) bs) (get_or bs (length bs - 1) 0) s
+pub trim-more : (bs : List ℕ) → 0 < length bs → is_space (get_or bs (length bs - 1) 0) ≡ true → trimmed_end bs ≡ trimmed_end (take (length bs - 1) bs)
+trim-more bs h s = ap trimmed_end (last_cut bs h) ∙ trimmed_end-space (take (length bs - 1) bs) (get_or bs (length bs - 1) 0) s
 
-pub trim-stop : (bs : List ℕ) → 0 < length bs → is_space (get_or bs (length bs - 1) 0) ≡ false → without_end bs ≡ bs
-trim-stop bs h s = ap without_end (last_cut bs h) ∙ without_end-other (take (length bs - 1) bs) (get_or bs (length bs - 1) 0) s ∙ sym (last_cut bs h)
+pub trim-stop : (bs : List ℕ) → 0 < length bs → is_space (get_or bs (length bs - 1) 0) ≡ false → trimmed_end bs ≡ bs
+trim-stop bs h s = ap trimmed_end (last_cut bs h) ∙ trimmed_end-other (take (length bs - 1) bs) (get_or bs (length bs - 1) 0) s ∙ sym (last_cut bs h)
 
 large_is : (minus : Bool) (k : ℕ) → 2 ^ 64 - 1 ≤ k → whole_of minus k ≡ TooLarge
 large_is false k h = let t : nat_lt k (2 ^ 63) ≡ false = grind (arith, nat_tests) in rw t refl

@@ -8,10 +8,10 @@ use Rattle.std.specs.Str.Parse.{AllDigits, digits_value_after}
 use Rattle.tclchars.specs.Bytes.{is_space, AllPass, DoesBegin}
 use Rattle.tclchars.specs.Runs.{Text, take_while, drop_while}
 use Rattle.tclnumber.specs.declared.number.Numeral.TheVariants as numerals
-use Rattle.tclnumber.specs.Numerals.{before_space, without_end, trimmed, is_minus, is_sign, without_sign, digits_from, digits_in, base_of, prefixed, behind_zero, magnitude, is_fraction, whole_of, class_of, numeral_of, numeral}
+use Rattle.tclnumber.specs.Numerals.{before_trimmed, trimmed_end, trimmed, is_minus, is_sign, without_sign, digits_from, digits_in, base_of, prefixed, after_zero, magnitude, is_fraction, whole_of, class_of, numeral_of, numeral}
 use Rattle.tclnumber.specs.Numbers as numbers
 use Rattle.tclnumber.specs.Numbers.{IsDigits, IsMagnitude, IsSigned, IsSpaced, IsWhole}
-use Rattle.tclnumber.proofs.NumberLemmas.{without_end-space, without_end-other}
+use Rattle.tclnumber.proofs.NumberLemmas.{trimmed_end-space, trimmed_end-other}
 
 pub not_true : (t : Bool) → not t ≡ true → t ≡ false
 not_true true h = cc
@@ -102,17 +102,17 @@ magnitude_found [] n h = absurd (none_some h) where
   none_some : (let none : Option ℕ = None in none) ≡ Some n → ⊥
   none_some h = cc
 magnitude_found (b ∷ bs) n h = go (b == 48) refl where
-  behind : (bs : Text) → behind_zero bs ≡ Some n → IsMagnitude (48 ∷ bs) n
-  behind [] h = subst (IsMagnitude (48 ∷ [])) (some_same h) numbers.IsMagnitude.zero where
+  following : (bs : Text) → after_zero bs ≡ Some n → IsMagnitude (48 ∷ bs) n
+  following [] h = subst (IsMagnitude (48 ∷ [])) (some_same h) numbers.IsMagnitude.zero where
     some_same : (let some : Option ℕ = Some 0 in some) ≡ Some n → 0 ≡ n
     some_same h = cc
-  behind (c ∷ cs) h = on_base (base_of c) refl where
+  following (c ∷ cs) h = on_base (base_of c) refl where
     on_base : (found : Option ℕ) → base_of c ≡ found → IsMagnitude (48 ∷ (c ∷ cs)) n
     on_base None e = numbers.IsMagnitude.octal (digits_found 8 n (c ∷ cs) (sym (ap (prefixed c cs) e) ∙ h))
     on_base (Some base) e = numbers.IsMagnitude.based e (digits_found base n cs (sym (ap (prefixed c cs) e) ∙ h))
 
   go : (t : Bool) → (b == 48) ≡ t → IsMagnitude (b ∷ bs) n
-  go true e = let same : b ≡ 48 = grind (arith, nat_tests) in subst (λ x. IsMagnitude (x ∷ bs) n) (sym same) (behind bs (rw e at h))
+  go true e = let same : b ≡ 48 = grind (arith, nat_tests) in subst (λ x. IsMagnitude (x ∷ bs) n) (sym same) (following bs (rw e at h))
   go false e = numbers.IsMagnitude.decimal (ap not e) (digits_found 10 n (b ∷ bs) (rw e at h))
 
 -- Signs
@@ -222,18 +222,18 @@ pub back_over : (before x : Text) → AllPass is_space before → drop_while is_
 back_over [] x all = refl
 back_over (b ∷ before) x all = rw all.0 (back_over before x all.1)
 
-without_after : (xs after : Text) → AllPass is_space after → without_end (xs ++ after) ≡ without_end xs
-without_after xs [] all = ap without_end (append-nil xs)
-without_after xs (b ∷ after) all = ap without_end (sym (append_assoc xs (b ∷ []) after)) ∙ without_after (xs ++ b ∷ []) after all.1 ∙ without_end-space xs b all.0
+without_after : (xs after : Text) → AllPass is_space after → trimmed_end (xs ++ after) ≡ trimmed_end xs
+without_after xs [] all = ap trimmed_end (append-nil xs)
+without_after xs (b ∷ after) all = ap trimmed_end (sym (append_assoc xs (b ∷ []) after)) ∙ without_after (xs ++ b ∷ []) after all.1 ∙ trimmed_end-space xs b all.0
 
 pub trimmed_is : (t core : Text) → IsSpaced t core → Unspaced core → trimmed t ≡ core
 trimmed_is t core s k =
     let after = s.1 in
     let begun : drop_while is_space (core ++ after) ≡ core ++ after = ap (λ xs. drop_while is_space (xs ++ after)) k.begins ∙ stop k.c (k.cs ++ after) k.no_space_first ∙ ap (λ xs. xs ++ after) (sym k.begins) in
-    ap (λ xs. without_end (drop_while is_space xs)) s.2
-    ∙ ap without_end (back_over s.0 (core ++ after) s.3 ∙ begun)
+    ap (λ xs. trimmed_end (drop_while is_space xs)) s.2
+    ∙ ap trimmed_end (back_over s.0 (core ++ after) s.3 ∙ begun)
     ∙ without_after core after s.4
-    ∙ ap without_end k.finishes ∙ without_end-other k.initial k.last k.no_space_last ∙ sym k.finishes where
+    ∙ ap trimmed_end k.finishes ∙ trimmed_end-other k.initial k.last k.no_space_last ∙ sym k.finishes where
       stop : (c : ℕ) (xs : Text) → is_space c ≡ false → drop_while is_space (c ∷ xs) ≡ c ∷ xs
       stop c xs h = rw h refl
 
@@ -245,10 +245,10 @@ front_spaces (b ∷ t) = go (front_spaces t) (is_space b) refl where
   go k true e = rw e (ap (λ xs. b ∷ xs) k.0, (e, k.1))
   go k false e = rw e (refl, tt)
 
-end_spaces : (t : Text) → (after : Text) × (t ≡ without_end t ++ after) × AllPass is_space after
+end_spaces : (t : Text) → (after : Text) × (t ≡ trimmed_end t ++ after) × AllPass is_space after
 end_spaces [] = ([], refl, tt)
-end_spaces (b ∷ t) = (let k = end_spaces t in go k.0 (without_end t) k.1 k.2 (is_space b) refl) where
-  go : (after w : Text) → t ≡ w ++ after → AllPass is_space after → (u : Bool) → is_space b ≡ u → (after : Text) × (b ∷ t ≡ before_space b w ++ after) × AllPass is_space after
+end_spaces (b ∷ t) = (let k = end_spaces t in go k.0 (trimmed_end t) k.1 k.2 (is_space b) refl) where
+  go : (after w : Text) → t ≡ w ++ after → AllPass is_space after → (u : Bool) → is_space b ≡ u → (after : Text) × (b ∷ t ≡ before_trimmed b w ++ after) × AllPass is_space after
   go after [] e all true h = (b ∷ after, rw h (ap (λ xs. b ∷ xs) e), (h, all))
   go after [] e all false h = (after, rw h (ap (λ xs. b ∷ xs) e), all)
   go after (x ∷ w) e all u h = (after, ap (λ xs. b ∷ xs) e, all)

@@ -4,7 +4,7 @@ use Rattle.std.specs.Prelude.{◌≡◌, ◌≢◌, ◌≤◌, ℕ, length, [], 
 use Rattle.std.specs.Str.Parse.{AllDigits, digits_value}
 use Rattle.tclchars.specs.Bytes.{is_space, AllPass, DoesBegin}
 use Rattle.tclchars.specs.Runs.{Text}
-use Rattle.tclnumber.specs.Numerals.{base_of, is_digit, is_word}
+use Rattle.tclnumber.specs.Numerals.{base_of, is_digit, is_number_name}
 
 -- digits of the base, one at least, and the number that they spell
 abbrev pub IsDigits : ℕ → Text → ℕ → Type 0
@@ -48,8 +48,8 @@ pub data IsFraction : Text → Type 0 where
       → IsFraction (whole ++ 46 ∷ (part ++ exponent))
   scaled : (whole exponent : Text) → whole ≢ [] → AllPass is_digit whole → IsExponent exponent
       → IsFraction (whole ++ exponent)
-  behind_zero : (ds : Text) → AllPass is_digit ds → ((n : ℕ) → IsMagnitude (48 ∷ ds) n → ⊥) → IsFraction (48 ∷ ds)
-  named : {t : Text} → is_word t ≡ true → IsFraction t
+  after_zero : (ds : Text) → AllPass is_digit ds → ((n : ℕ) → IsMagnitude (48 ∷ ds) n → ⊥) → IsFraction (48 ∷ ds)
+  named : {t : Text} → is_number_name t ≡ true → IsFraction t
 
 -- the text is a number with a fraction, after a sign or none
 abbrev pub IsFractional : Text → Type 0
@@ -58,7 +58,7 @@ IsFractional t =
 
 -- a number without a sign, whole or with a fraction, but not by name
 abbrev pub IsNumber : Text → Type 0
-IsNumber t = ((n : ℕ) × IsMagnitude t n) ⊎ (IsFraction t × (is_word t ≡ false))
+IsNumber t = ((n : ℕ) × IsMagnitude t n) ⊎ (IsFraction t × (is_number_name t ≡ false))
 
 -- the text begins with a number, and then comes the rest; no longer prefix of it is a number
 abbrev pub IsNumberIn : Text → Text → Type 0

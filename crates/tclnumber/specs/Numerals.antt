@@ -8,18 +8,18 @@ use Rattle.tclnumber.specs.declared.number.Numeral.{Numeral}
 use Rattle.tclnumber.specs.declared.number.Numeral.TheVariants as numerals
 
 -- a byte before a text, unless it is white space and nothing follows it
-abbrev pub before_space : ℕ → Text → Text
-before_space b [] = if is_space b then [] else b ∷ []
-before_space b (x ∷ xs) = b ∷ (x ∷ xs)
+abbrev pub before_trimmed : ℕ → Text → Text
+before_trimmed b [] = if is_space b then [] else b ∷ []
+before_trimmed b (x ∷ xs) = b ∷ (x ∷ xs)
 
 -- the text without the white space that it ends with
-abbrev pub without_end : Text → Text
-without_end [] = []
-without_end (b ∷ bs) = before_space b (without_end bs)
+abbrev pub trimmed_end : Text → Text
+trimmed_end [] = []
+trimmed_end (b ∷ bs) = before_trimmed b (trimmed_end bs)
 
 -- the text without white space around it
 abbrev pub trimmed : Text → Text
-trimmed t = without_end (drop_while is_space t)
+trimmed t = trimmed_end (drop_while is_space t)
 
 abbrev pub is_minus : Text → Bool
 is_minus t = begins 45 t
@@ -57,14 +57,14 @@ prefixed b bs None = digits_in 8 (b ∷ bs)
 prefixed b bs (Some base) = digits_in base bs
 
 -- the number after a leading 0
-abbrev pub behind_zero : Text → Option ℕ
-behind_zero [] = Some 0
-behind_zero (b ∷ bs) = prefixed b bs (base_of b)
+abbrev pub after_zero : Text → Option ℕ
+after_zero [] = Some 0
+after_zero (b ∷ bs) = prefixed b bs (base_of b)
 
 -- the value of a whole number without a sign
 abbrev pub magnitude : Text → Option ℕ
 magnitude [] = None
-magnitude (b ∷ bs) = if b == 48 then behind_zero bs else digits_in 10 (b ∷ bs)
+magnitude (b ∷ bs) = if b == 48 then after_zero bs else digits_in 10 (b ∷ bs)
 
 abbrev pub is_digit : ℕ → Bool
 is_digit b = nat_le 48 b && nat_le b 57
@@ -100,14 +100,14 @@ is_fraction_end t (b ∷ bs) =
     else begins_digit t && is_exponent (b ∷ bs)
 
 -- inf, infinity or nan in any case
-abbrev pub is_word : Text → Bool
-is_word t =
+abbrev pub is_number_name : Text → Bool
+is_number_name t =
     bytes_eq (map to_ascii_lowercase t) (codes "inf") || bytes_eq (map to_ascii_lowercase t) (codes "infinity")
     || bytes_eq (map to_ascii_lowercase t) (codes "nan")
 
 -- a number with a fraction, without a sign; asked where the text is no whole number
 abbrev pub is_fraction : Text → Bool
-is_fraction t = is_fraction_end t (drop_while is_digit t) || is_word t
+is_fraction t = is_fraction_end t (drop_while is_digit t) || is_number_name t
 
 -- a whole number with this sign, within 64 bits
 abbrev pub whole_of : Bool → ℕ → Numeral

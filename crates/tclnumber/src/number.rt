@@ -2,7 +2,7 @@
 ghost use Rattle.std.specs.Prelude.{◌≡◌, ◌≤◌, ◌<◌, ◌-◌, ◌^◌, min, option_map, IfSome, Some};
 ghost use Rattle.std.specs.Char.{digit_value};
 ghost use Rattle.tclchars.specs.Runs.{drop_while};
-ghost use Rattle.tclnumber.specs.Numerals.{trimmed, without_end, is_minus, without_sign, digits_in, base_of, magnitude, digits_from, behind_zero, is_digit, begins_digit, are_digits, is_exponent, may_be_exponent, is_fraction_end, is_word, is_fraction, whole_of, numeral};
+ghost use Rattle.tclnumber.specs.Numerals.{trimmed, trimmed_end, is_minus, without_sign, digits_in, base_of, magnitude, digits_from, after_zero, is_digit, begins_digit, are_digits, is_exponent, may_be_exponent, is_fraction_end, is_number_name, is_fraction, whole_of, numeral};
 ghost use Rattle.tclchars.specs.Bytes.{is_space};
 ghost use Rattle.tclnumber.specs.declared.number.Numeral.TheVariants.{Whole};
 
@@ -31,7 +31,7 @@ pub enum Numeral {
 pub fn read_number(text: &str) -> Numeral
     ensures { result ≡ numeral text.now }
 {
-    if let Some(number) = plain_decimal(text.as_bytes()) {
+    if let Some(number) = short_decimal(text.as_bytes()) {
         return Numeral::Whole(number);
     }
     any_number(text.as_bytes())
@@ -52,7 +52,7 @@ fn few_digits(digits: &[u8]) -> Option<u64>
 }
 
 /// The number of a few decimal digits alone, the first of which is no 0: what most numbers are, read at once.
-fn plain_decimal(text: &[u8]) -> Option<i64>
+fn short_decimal(text: &[u8]) -> Option<i64>
     ensures { IfSome result (λ n. numeral text.now ≡ Whole n) }
 {
     match text {
@@ -109,7 +109,7 @@ fn trim_start(bytes: &[u8]) -> &[u8]
 
 /// The bytes without the white space that they end with.
 fn trim_end(bytes: &[u8]) -> &[u8]
-    ensures { result.now ≡ without_end bytes.now }
+    ensures { result.now ≡ trimmed_end bytes.now }
 {
     let mut rest = bytes;
     while let [before @ .., b] = rest {
@@ -194,14 +194,14 @@ fn magnitude(bytes: &[u8]) -> Option<u64>
     match bytes {
         [] => None,
         [b'0'] => Some(0),
-        [b'0', rest @ ..] => behind_zero(rest),
+        [b'0', rest @ ..] => after_zero(rest),
         _ => digits_in(10, bytes),
     }
 }
 
 /// The same for the bytes after a leading 0.
-fn behind_zero(bytes: &[u8]) -> Option<u64>
-    ensures { result ≡ option_map (λ n. min n (2 ^ 64 - 1)) (behind_zero bytes.now) }
+fn after_zero(bytes: &[u8]) -> Option<u64>
+    ensures { result ≡ option_map (λ n. min n (2 ^ 64 - 1)) (after_zero bytes.now) }
 {
     match bytes {
         [] => Some(0),
@@ -281,7 +281,7 @@ fn is_exponent(bytes: &[u8]) -> bool
 fn is_fraction(bytes: &[u8]) -> bool
     ensures { result ≡ is_fraction bytes.now }
 {
-    is_fraction_end(bytes, after_digits(bytes)) || is_word(bytes)
+    is_fraction_end(bytes, after_digits(bytes)) || is_number_name(bytes)
 }
 
 /// Whether the bytes are a number with a fraction, by the rest after their leading digits.
@@ -305,8 +305,8 @@ fn may_be_exponent(bytes: &[u8]) -> bool
 }
 
 /// Whether the bytes are `inf`, `infinity` or `nan` in any case.
-fn is_word(bytes: &[u8]) -> bool
-    ensures { result ≡ is_word bytes.now }
+fn is_number_name(bytes: &[u8]) -> bool
+    ensures { result ≡ is_number_name bytes.now }
 {
     bytes.eq_ignore_ascii_case(b"inf")
         || bytes.eq_ignore_ascii_case(b"infinity")

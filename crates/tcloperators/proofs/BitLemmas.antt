@@ -10,7 +10,7 @@ use Rattle.std.proofs.lemmas.Grind.{div_ceil_times}
 use Rattle.std.proofs.lemmas.Nat.{pow_pos, and_le_l, or_lt, xor_lt}
 use mir.Val.{sel}
 use Rattle.std.proofs.lemmas.Nat.Bits.{bit_at-lt, bit_at_not, bit_at_and, bit_at_or, bit_at_xor, same_from_bits_below}
-use Rattle.tcloperators.specs.Numbers.{quotient, remainder, is_zero, fits, has_bit, just_one, other_bits, bits_of_both, bits_of_either, bits_of_one, MakesEachBit, IsGivenByBits}
+use Rattle.tcloperators.specs.Numbers.{quotient, remainder, is_zero, fits, has_bit, exactly_one, bitwise_not, bitwise_and, bitwise_or, bitwise_xor, MakesEachBit, IsDeterminedByBits}
 
 -- a number between two multiples
 one_multiple : (c q d n m : ℕ) → d * q + m ≡ n → m < d → suc n ≤ c * d → c * d < suc n + d → c ≡ suc q
@@ -78,10 +78,10 @@ word_fits n = chosen (nat_lt n (2 ^ 63)) refl
     chosen false h = lt-ltb (2 ^ 64 - suc n) (2 ^ 63) (let p : 2 ^ 63 ≤ n = grind (arith, nat_tests) in omega arith)
 
 -- ~ of a number
-others_above : (n : ℕ) → other_bits (pos n) ≡ negsuc n
+others_above : (n : ℕ) → bitwise_not (pos n) ≡ negsuc n
 others_above n = omega (arith, ints)
 
-others_below : (n : ℕ) → other_bits (negsuc n) ≡ pos n
+others_below : (n : ℕ) → bitwise_not (negsuc n) ≡ pos n
 others_below n = omega (arith, ints)
 
 turned : (m : ℕ) → m < 2 → (1 - m == 1) ≡ not (m == 1)
@@ -94,7 +94,7 @@ turned_back zero h = refl
 turned_back (suc zero) h = refl
 turned_back (suc (suc m)) h = absurd (omega arith)
 
-pub others_bit : (a : ℤ) (k : ℕ) → has_bit (other_bits a) k ≡ not (has_bit a k)
+pub others_bit : (a : ℤ) (k : ℕ) → has_bit (bitwise_not a) k ≡ not (has_bit a k)
 others_bit (pos n) k =
     ap (λ z. has_bit z k) (others_above n) ∙ bit_below n k ∙ turned (bit_at n k) (bit_at-lt n k) ∙ ap not (sym (bit_above n k))
 others_bit (negsuc n) k =
@@ -106,7 +106,7 @@ both_test x y h k = grind (arith, nat_tests)
 either_test : (x y : ℕ) → x < 2 → y < 2 → (max x y == 1) ≡ ((x == 1) || (y == 1))
 either_test x y h k = grind (arith, nat_tests)
 
-one_test : (x y : ℕ) → x < 2 → y < 2 → ((x + y) % 2 == 1) ≡ just_one (x == 1) (y == 1)
+one_test : (x y : ℕ) → x < 2 → y < 2 → ((x + y) % 2 == 1) ≡ exactly_one (x == 1) (y == 1)
 one_test zero zero h k = refl
 one_test zero (suc zero) h k = refl
 one_test (suc zero) zero h k = refl
@@ -140,19 +140,19 @@ each_bit op f test below bits tests a b fa fb = (word_fits made, at)
         ∙ ap (λ t. test t (bit_at y k == 1)) (sym (bit_in_word a k (fitting a fa) h))
         ∙ ap (test (has_bit a k)) (sym (bit_in_word b k (fitting b fb) h))
 
-pub both_bits : MakesEachBit (λ x y. x && y) bits_of_both
+pub both_bits : MakesEachBit (λ x y. x && y) bitwise_and
 both_bits = each_bit bit_and min (λ x y. x && y) (λ x y h k. let p : bit_and x y ≤ x = and_le_l x y in omega arith) bit_at_and both_test
 
-pub either_bits : MakesEachBit (λ x y. x || y) bits_of_either
+pub either_bits : MakesEachBit (λ x y. x || y) bitwise_or
 either_bits = each_bit bit_or max (λ x y. x || y) (or_lt 64) bit_at_or either_test
 
-pub one_bits : MakesEachBit just_one bits_of_one
-one_bits = each_bit bit_xor (λ x y. (x + y) % 2) just_one (xor_lt 64) bit_at_xor one_test
+pub one_bits : MakesEachBit exactly_one bitwise_xor
+one_bits = each_bit bit_xor (λ x y. (x + y) % 2) exactly_one (xor_lt 64) bit_at_xor one_test
 
 one_or_none : (x y : ℕ) → x < 2 → y < 2 → (x == 1) ≡ (y == 1) → x ≡ y
 one_or_none x y h k e = grind (arith, nat_tests)
 
-pub given_by_bits : IsGivenByBits
+pub given_by_bits : IsDeterminedByBits
 given_by_bits a b fa fb same =
     sym (to_z-of_z w64 a (fitting a fa))
     ∙ ap (to_z w64) (same_from_bits_below 64 (of_z w64 a) (of_z w64 b) (small a (fitting a fa)) (small b (fitting b fb)) at)

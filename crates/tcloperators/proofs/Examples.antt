@@ -2,11 +2,11 @@
 use Rattle.std.specs.Prelude.{◌≡◌, refl, codes, Ok, Err, true}
 use Rattle.std.specs.Str.{chars}
 use Rattle.std.specs.Fmt.{digits}
-use Rattle.tcltext.specs.Numerals.{numeral}
+use Rattle.tclnumber.specs.Numerals.{numeral}
 use Rattle.tclexpr.specs.declared.operators.UnaryOperator.TheVariants.{Minus, Complement}
 use Rattle.tclexpr.specs.declared.operators.BinaryOperator.TheVariants as binary
 use Rattle.tcloperators.specs.Faults.{error, fraction, number_too_large}
-use Rattle.tcloperators.specs.Messages.{divide_by_zero, negative_shift, not_numeric, no_boolean}
+use Rattle.tcloperators.specs.Messages.{divide_by_zero, negative_shift, not_numeric, not_a_boolean}
 use Rattle.tcloperators.specs.Operators.{unary_value, binary_value, truth}
 
 quotient_down : binary_value binary.Divide (codes "-7") (codes "2") ≡ Ok (codes "-4")
@@ -101,6 +101,6 @@ front_of_truth : truth (codes "tR") ≡ Ok true
 unfolding numeral
 front_of_truth = refl
 
-no_truth : truth (codes " true ") ≡ Err (error (no_boolean (codes " true ")))
+no_truth : truth (codes " true ") ≡ Err (error (not_a_boolean (codes " true ")))
 unfolding numeral
 no_truth = refl

@@ -14,7 +14,7 @@ pub data Reason : Type 0 where
   value_too_long : Reason
   number_too_large : Reason
   fraction : Reason
-  left_out : (name : Text) → Reason
+  unsupported : (name : Text) → Reason
 
 -- a value, or the reason why there is none
 abbrev pub Answer : Type 0 → Type 0
@@ -34,7 +34,7 @@ reason_of (faults.TclError message) = Some (error (string_bytes message))
 reason_of faults.ValueTooLong = Some value_too_long
 reason_of faults.NumberTooLarge = Some number_too_large
 reason_of faults.FractionOperand = Some fraction
-reason_of (faults.LeftOut name) = Some (left_out (string_bytes name))
+reason_of (faults.LeftOut name) = Some (unsupported (string_bytes name))
 
 -- the number of a fault in the table of refusals
 abbrev pub number_of : ValueFault → ℕ

@@ -15,11 +15,11 @@ not_a_list = codes "not a list"
 unfoldable pub not_numeric : Text → Text
 not_numeric symbol = codes "can't use non-numeric text as operand of \"" ++ (symbol ++ codes "\"")
 
-unfoldable pub no_boolean : Text → Text
-no_boolean word = codes "expected boolean value but got \"" ++ (word ++ codes "\"")
+unfoldable pub not_a_boolean : Text → Text
+not_a_boolean word = codes "expected boolean value but got \"" ++ (word ++ codes "\"")
 
-unfoldable pub no_whole_number : Text → Text
-no_whole_number word = codes "expected whole number but got \"" ++ (word ++ codes "\"")
+unfoldable pub not_a_whole_number : Text → Text
+not_a_whole_number word = codes "expected whole number but got \"" ++ (word ++ codes "\"")
 
 unfoldable pub bad_index : Text → Text
 bad_index word = codes "bad index \"" ++ (word ++ codes "\"")

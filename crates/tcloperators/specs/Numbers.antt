@@ -54,11 +54,11 @@ difference a b = within_64_bits (a -ℤ b)
 abbrev pub product : ℤ → ℤ → Answer ℤ
 product a b = within_64_bits (a *ℤ b)
 
-abbrev pub divided : ℤ → ℤ → Answer ℤ
-divided a b = unless_zero b (quotient a b)
+abbrev pub quotient_value : ℤ → ℤ → Answer ℤ
+quotient_value a b = unless_zero b (quotient a b)
 
-abbrev pub remaining : ℤ → ℤ → Answer ℤ
-remaining a b = unless_zero b (remainder a b)
+abbrev pub remainder_value : ℤ → ℤ → Answer ℤ
+remainder_value a b = unless_zero b (remainder a b)
 
 -- the values of << and >>: times a power of two, and divided by it, rounded down
 abbrev pub shifted_left : ℤ → ℤ → Answer ℤ
@@ -70,25 +70,25 @@ shifted_right a (pos k) = within_64_bits (quotient a (pos (2 ^ k)))
 shifted_right a (negsuc k) = Err (error negative_shift)
 
 -- the values of & ^ | ~ on two's complement of 64 bits; the law bits has what each makes of one bit
-abbrev pub bits_of_both : ℤ → ℤ → ℤ
-bits_of_both a b = int_bit_and w64 a b
+abbrev pub bitwise_and : ℤ → ℤ → ℤ
+bitwise_and a b = int_bit_and w64 a b
 
-abbrev pub bits_of_one : ℤ → ℤ → ℤ
-bits_of_one a b = int_bit_xor w64 a b
+abbrev pub bitwise_xor : ℤ → ℤ → ℤ
+bitwise_xor a b = int_bit_xor w64 a b
 
-abbrev pub bits_of_either : ℤ → ℤ → ℤ
-bits_of_either a b = int_bit_or w64 a b
+abbrev pub bitwise_or : ℤ → ℤ → ℤ
+bitwise_or a b = int_bit_or w64 a b
 
-abbrev pub other_bits : ℤ → ℤ
-other_bits a = neg_ℤ a -ℤ pos 1
+abbrev pub bitwise_not : ℤ → ℤ
+bitwise_not a = neg_ℤ a -ℤ pos 1
 
 -- the bit of a number for 2 ^ k: whether the number divided by that power of two, rounded down, is odd
 abbrev pub has_bit : ℤ → ℕ → Bool
 has_bit a k = not (is_zero (remainder (quotient a (pos (2 ^ k))) (pos 2)))
 
 -- one of the two, and not both
-abbrev pub just_one : Bool → Bool → Bool
-just_one x y = x && not y || not x && y
+abbrev pub exactly_one : Bool → Bool → Bool
+exactly_one x y = x && not y || not x && y
 
 -- of two numbers of 64 bits the operator makes one whose bits this test makes of theirs
 abbrev pub MakesEachBit : (Bool → Bool → Bool) → (ℤ → ℤ → ℤ) → Type 0
@@ -96,5 +96,5 @@ MakesEachBit test op = (a b : ℤ) → fits a ≡ true → fits b ≡ true
     → (fits (op a b) ≡ true) × ((k : ℕ) → k < 64 → has_bit (op a b) k ≡ test (has_bit a k) (has_bit b k))
 
 -- numbers of 64 bits with the same bits are equal
-abbrev pub IsGivenByBits : Type 0
-IsGivenByBits = (a b : ℤ) → fits a ≡ true → fits b ≡ true → ((k : ℕ) → k < 64 → has_bit a k ≡ has_bit b k) → a ≡ b
+abbrev pub IsDeterminedByBits : Type 0
+IsDeterminedByBits = (a b : ℤ) → fits a ≡ true → fits b ≡ true → ((k : ℕ) → k < 64 → has_bit a k ≡ has_bit b k) → a ≡ b

@@ -8,19 +8,19 @@ use Rattle.std.specs.declared.cmp.Ordering.{Ordering}
 use Rattle.std.specs.Ordering.{nat_cmp, int_cmp, is_lt, is_gt, is_le, is_ge, is_eq, is_ne}
 use Rattle.std.specs.Cmp.Lexicographic.{slice_cmp}
 use Rattle.tclchars.specs.Runs.{Text}
-use Rattle.tcltext.specs.Numerals.{numeral}
+use Rattle.tclnumber.specs.Numerals.{numeral}
 use Rattle.tclexpr.specs.Symbols.{unary_symbol, binary_symbol}
-use Rattle.tcltext.specs.declared.number.Numeral.{Numeral}
-use Rattle.tcltext.specs.declared.number.Numeral.TheVariants as numerals
+use Rattle.tclnumber.specs.declared.number.Numeral.{Numeral}
+use Rattle.tclnumber.specs.declared.number.Numeral.TheVariants as numerals
 use Rattle.tclexpr.specs.declared.operators.UnaryOperator.{UnaryOperator}
 use Rattle.tclexpr.specs.declared.operators.UnaryOperator.TheVariants.{Minus, Plus, Complement, Not}
 use Rattle.tclexpr.specs.declared.operators.BinaryOperator.{BinaryOperator}
 use Rattle.tclexpr.specs.declared.operators.BinaryOperator.TheVariants as binary
 use Rattle.tcloperators.specs.Faults.{Answer, error, number_too_large, fraction, ◌>>=◌}
 use Rattle.tcloperators.specs.Elements.{elements_of}
-use Rattle.tcloperators.specs.Messages.{not_numeric, no_boolean}
-use Rattle.tcloperators.specs.Numbers.{within_64_bits, is_zero, sum, difference, product, divided, remaining, shifted_left, shifted_right}
-use Rattle.tcloperators.specs.Numbers.{bits_of_both, bits_of_one, bits_of_either, other_bits}
+use Rattle.tcloperators.specs.Messages.{not_numeric, not_a_boolean}
+use Rattle.tcloperators.specs.Numbers.{within_64_bits, is_zero, sum, difference, product, quotient_value, remainder_value, shifted_left, shifted_right}
+use Rattle.tcloperators.specs.Numbers.{bitwise_and, bitwise_xor, bitwise_or, bitwise_not}
 
 -- the number of an operand that has to be whole; the symbol is that of the operator, for the message
 abbrev pub whole_of : Text → Numeral → Answer ℤ
@@ -50,19 +50,20 @@ is_nil (c ∷ cs) = false
 -- truth: a whole number is true unless it is 0. Of words, in any case of their letters, true and yes, or their first
 -- letters, and on are true; false and no, or their first letters, and of and off are false. First: a text is the first
 -- letters of a word, one at least
-abbrev pub is_front : Text → Text → Bool
-is_front word t = not (is_nil t) && str_eq_ignore_ascii_case (take (length t) word) t
+abbrev pub has_abbreviation : Text → Text → Bool
+has_abbreviation word t = not (is_nil t) && str_eq_ignore_ascii_case (take (length t) word) t
 
 abbrev pub is_true_word : Text → Bool
-is_true_word t = is_front (codes "true") t || is_front (codes "yes") t || str_eq_ignore_ascii_case t (codes "on")
+is_true_word t = has_abbreviation (codes "true") t || has_abbreviation (codes "yes") t || str_eq_ignore_ascii_case t
+    (codes "on")
 
 abbrev pub is_false_word : Text → Bool
 is_false_word t =
-    is_front (codes "false") t || is_front (codes "no") t
+    has_abbreviation (codes "false") t || has_abbreviation (codes "no") t
     || str_eq_ignore_ascii_case t (codes "of") || str_eq_ignore_ascii_case t (codes "off")
 
 abbrev pub word_truth : Text → Answer Bool
-word_truth t = if is_true_word t then Ok true else if is_false_word t then Ok false else Err (error (no_boolean t))
+word_truth t = if is_true_word t then Ok true else if is_false_word t then Ok false else Err (error (not_a_boolean t))
 
 abbrev pub truth_of : Text → Numeral → Answer Bool
 truth_of t (numerals.Whole z) = Ok (not (is_zero z))
@@ -85,7 +86,7 @@ decimal_text z = Ok (signed_decimal z)
 abbrev pub unary_value : UnaryOperator → Text → Answer Text
 unary_value Minus t = whole_operand (unary_symbol Minus) t >>= (λ z. within_64_bits (neg_ℤ z)) >>= decimal_text
 unary_value Plus t = whole_operand (unary_symbol Plus) t >>= decimal_text
-unary_value Complement t = whole_operand (unary_symbol Complement) t >>= (λ z. decimal_text (other_bits z))
+unary_value Complement t = whole_operand (unary_symbol Complement) t >>= (λ z. decimal_text (bitwise_not z))
 unary_value Not t = truth t >>= (λ b. Ok (truth_text (not b)))
 
 -- two operands that have to be whole numbers, and the value that an operator computes of them
@@ -118,8 +119,8 @@ found_in sought l = elements_of l >>= (λ es. Ok (list_any (bytes_eq sought) es)
 -- the value of an operator between its operands
 abbrev pub binary_value : BinaryOperator → Text → Text → Answer Text
 binary_value binary.Multiply a b = computed binary.Multiply product a b
-binary_value binary.Divide a b = computed binary.Divide divided a b
-binary_value binary.Remainder a b = computed binary.Remainder remaining a b
+binary_value binary.Divide a b = computed binary.Divide quotient_value a b
+binary_value binary.Remainder a b = computed binary.Remainder remainder_value a b
 binary_value binary.Add a b = computed binary.Add sum a b
 binary_value binary.Subtract a b = computed binary.Subtract difference a b
 binary_value binary.ShiftLeft a b = computed binary.ShiftLeft shifted_left a b
@@ -134,6 +135,6 @@ binary_value binary.TextEqual a b = Ok (truth_text (bytes_eq a b))
 binary_value binary.TextNotEqual a b = Ok (truth_text (not (bytes_eq a b)))
 binary_value binary.In a b = found_in a b >>= (λ found. Ok (truth_text found))
 binary_value binary.NotIn a b = found_in a b >>= (λ found. Ok (truth_text (not found)))
-binary_value binary.BitAnd a b = computed binary.BitAnd (λ x y. Ok (bits_of_both x y)) a b
-binary_value binary.BitXor a b = computed binary.BitXor (λ x y. Ok (bits_of_one x y)) a b
-binary_value binary.BitOr a b = computed binary.BitOr (λ x y. Ok (bits_of_either x y)) a b
+binary_value binary.BitAnd a b = computed binary.BitAnd (λ x y. Ok (bitwise_and x y)) a b
+binary_value binary.BitXor a b = computed binary.BitXor (λ x y. Ok (bitwise_xor x y)) a b
+binary_value binary.BitOr a b = computed binary.BitOr (λ x y. Ok (bitwise_or x y)) a b

@@ -1,8 +1,8 @@
 //! Theorems of integer arithmetic: quotient and remainder, and the operators of bits (expr(n), OPERATORS).
 ghost use Rattle.std.specs.Prelude.{◌≡◌, ◌&&◌, ◌||◌, ℕ, ℤ, ◌+ℤ◌, ◌*ℤ◌, false, not};
 ghost use Rattle.tcloperators.specs.Numbers.{quotient, remainder, IsRemainder, is_zero};
-ghost use Rattle.tcloperators.specs.Numbers.{bits_of_both, bits_of_either, bits_of_one, other_bits};
-ghost use Rattle.tcloperators.specs.Numbers.{has_bit, just_one, MakesEachBit, IsGivenByBits};
+ghost use Rattle.tcloperators.specs.Numbers.{bitwise_and, bitwise_or, bitwise_xor, bitwise_not};
+ghost use Rattle.tcloperators.specs.Numbers.{has_bit, exactly_one, MakesEachBit, IsDeterminedByBits};
 
 /// A quotient and its remainder make up the dividend, and the remainder has the divisor's sign and is nearer to 0. So
 /// the quotient is rounded down.
@@ -14,9 +14,9 @@ pub fn division()
 /// `&`, `|` and `^` of two numbers of 64 bits make a number of 64 bits, bit by bit: a bit is set where it is in both,
 /// in either, in just one. `~` sets the bits that a number doesn't have. A number of 64 bits is given by its bits.
 pub fn bits()
-    ensures both { MakesEachBit (λ x y. x && y) bits_of_both }
-    ensures either { MakesEachBit (λ x y. x || y) bits_of_either }
-    ensures one { MakesEachBit just_one bits_of_one }
-    ensures others { (a : ℤ) (k : ℕ) → has_bit (other_bits a) k ≡ not (has_bit a k) }
-    ensures given { IsGivenByBits }
+    ensures both { MakesEachBit (λ x y. x && y) bitwise_and }
+    ensures either { MakesEachBit (λ x y. x || y) bitwise_or }
+    ensures one { MakesEachBit exactly_one bitwise_xor }
+    ensures others { (a : ℤ) (k : ℕ) → has_bit (bitwise_not a) k ≡ not (has_bit a k) }
+    ensures given { IsDeterminedByBits }
 {}

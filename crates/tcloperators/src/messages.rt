@@ -1,7 +1,7 @@
 //! The errors of values that catch(n) catches, each with its message.
 ghost use Rattle.std.specs.Prelude.{◌≡◌, ◌++◌, Some, MatchResult, codes, string_bytes};
-ghost use Rattle.tcloperators.specs.Faults.{HasReason, reason_of, error, left_out};
-ghost use Rattle.tcloperators.specs.Messages.{not_numeric, no_boolean, no_whole_number, bad_index, wrong_words};
+ghost use Rattle.tcloperators.specs.Faults.{HasReason, reason_of, error, unsupported};
+ghost use Rattle.tcloperators.specs.Messages.{not_numeric, not_a_boolean, not_a_whole_number, bad_index, wrong_words};
 ghost use Rattle.tcloperators.specs.Messages.{divide_by_zero, negative_shift, not_a_list};
 ghost use Rattle.tcloperators.specs.declared.fault.ValueFault.TheVariants.{OutOfMemory};
 
@@ -27,9 +27,9 @@ pub fn not_numeric(alloc: Global, symbol: &str) -> ValueFault
 }
 
 /// A word is no truth value.
-#[tactic(auto, unfolding(crate::specs::Messages::no_boolean))]
-pub fn no_boolean(alloc: Global, word: &str) -> ValueFault
-    ensures { HasReason (error (no_boolean word.now)) result }
+#[tactic(auto, unfolding(crate::specs::Messages::not_a_boolean))]
+pub fn not_a_boolean(alloc: Global, word: &str) -> ValueFault
+    ensures { HasReason (error (not_a_boolean word.now)) result }
 {
     tcl_error(format!(in alloc; "expected boolean value but got \"{word}\""))
 }
@@ -59,9 +59,9 @@ pub fn bad_index(alloc: Global, word: &str) -> ValueFault
 }
 
 /// A word is no whole number.
-#[tactic(auto, unfolding(crate::specs::Messages::no_whole_number))]
-pub fn no_whole_number(alloc: Global, word: &str) -> ValueFault
-    ensures { HasReason (error (no_whole_number word.now)) result }
+#[tactic(auto, unfolding(crate::specs::Messages::not_a_whole_number))]
+pub fn not_a_whole_number(alloc: Global, word: &str) -> ValueFault
+    ensures { HasReason (error (not_a_whole_number word.now)) result }
 {
     tcl_error(format!(in alloc; "expected whole number but got \"{word}\""))
 }
@@ -83,8 +83,8 @@ pub fn not_a_list(alloc: Global) -> ValueFault
 }
 
 /// The fault of a subcommand or an option of string(n) that is unsupported.
-pub fn left_out(alloc: Global, word: &str) -> ValueFault
-    ensures { HasReason (left_out (codes "string " ++ word.now)) result }
+pub fn unsupported(alloc: Global, word: &str) -> ValueFault
+    ensures { HasReason (unsupported (codes "string " ++ word.now)) result }
 {
     match format!(in alloc; "string {word}") {
         Ok(name) => ValueFault::LeftOut(name),

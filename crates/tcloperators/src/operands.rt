@@ -47,7 +47,7 @@ impl Operands {
 
     /// `left / right`, rounded down; the error for a divisor 0 is one of Tcl.
     pub(crate) fn quotient(self, alloc: Global) -> Result<i64, ValueFault>
-        ensures { Gives reason_of (λ z. z) result (numbers.divided self.left self.right) }
+        ensures { Gives reason_of (λ z. z) result (numbers.quotient_value self.left self.right) }
     {
         if self.right == 0 {
             return Err(divide_by_zero(alloc));
@@ -63,7 +63,7 @@ impl Operands {
 
     /// `left % right`, with the sign of the divisor; the error for a divisor 0 is one of Tcl.
     pub(crate) fn remainder(self, alloc: Global) -> Result<i64, ValueFault>
-        ensures { Gives reason_of (λ z. z) result (numbers.remaining self.left self.right) }
+        ensures { Gives reason_of (λ z. z) result (numbers.remainder_value self.left self.right) }
     {
         if self.right == 0 {
             return Err(divide_by_zero(alloc));
@@ -100,22 +100,22 @@ impl Operands {
     }
 
     /// `left & right`.
-    pub(crate) fn bits_of_both(self) -> i64
-        ensures { result ≡ numbers.bits_of_both self.left self.right }
+    pub(crate) fn bitwise_and(self) -> i64
+        ensures { result ≡ numbers.bitwise_and self.left self.right }
     {
         self.left & self.right
     }
 
     /// `left ^ right`.
-    pub(crate) fn bits_of_one(self) -> i64
-        ensures { result ≡ numbers.bits_of_one self.left self.right }
+    pub(crate) fn bitwise_xor(self) -> i64
+        ensures { result ≡ numbers.bitwise_xor self.left self.right }
     {
         self.left ^ self.right
     }
 
     /// `left | right`.
-    pub(crate) fn bits_of_either(self) -> i64
-        ensures { result ≡ numbers.bits_of_either self.left self.right }
+    pub(crate) fn bitwise_or(self) -> i64
+        ensures { result ≡ numbers.bitwise_or self.left self.right }
     {
         self.left | self.right
     }

@@ -3,7 +3,7 @@ ghost use Rattle.std.specs.Prelude.{◌≡◌, neg_ℤ, Ok};
 ghost use Rattle.tclexpr.specs.Symbols.{binary_symbol};
 ghost use Rattle.tclchars.specs.Answers.{Gives};
 ghost use Rattle.tcloperators.specs.Faults.{reason_of, GivesText};
-ghost use Rattle.tcloperators.specs.Numbers.{within_64_bits, other_bits};
+ghost use Rattle.tcloperators.specs.Numbers.{within_64_bits, bitwise_not};
 ghost use Rattle.tcloperators.specs.Operators.{unary_value, binary_value, truth_text, text_order, order_of, decimal_text};
 ghost use Rattle.tcloperators.specs.Operators.{whole_operand, whole_operands, number_operand, found_in};
 ghost use Rattle.tcloperators.specs.Values.{computed_text};
@@ -16,7 +16,8 @@ use crate::operands::Operands;
 use crate::truth_values::truth;
 use std::alloc::Global;
 use std::cmp::Ordering;
-use tcltext::{BinaryOperator, Numeral, UnaryOperator, read_number};
+use tclexpr::{BinaryOperator, UnaryOperator};
+use tclnumber::{Numeral, read_number};
 
 /// The value of an operator between two operands, before its text is made.
 #[derive(Clone, Copy, Debug, PartialEq, Eq)]
@@ -56,7 +57,7 @@ pub fn unary(alloc: Global, op: UnaryOperator, operand: &str) -> Result<String, 
         UnaryOperator::Plus => decimal_text(alloc, whole_operand(alloc, op.symbol(), operand)?),
         UnaryOperator::Complement => {
             let number = whole_operand(alloc, op.symbol(), operand)?;
-            decimal_text(alloc, other_bits(number))
+            decimal_text(alloc, bitwise_not(number))
         }
         UnaryOperator::Not => truth_text(alloc, !truth(alloc, operand)?),
     }
@@ -109,9 +110,9 @@ pub fn compute(
         BinaryOperator::Subtract => whole_operands(alloc, op, left, right)?.difference()?,
         BinaryOperator::ShiftLeft => whole_operands(alloc, op, left, right)?.shifted_left(alloc)?,
         BinaryOperator::ShiftRight => whole_operands(alloc, op, left, right)?.shifted_right(alloc)?,
-        BinaryOperator::BitAnd => whole_operands(alloc, op, left, right)?.bits_of_both(),
-        BinaryOperator::BitXor => whole_operands(alloc, op, left, right)?.bits_of_one(),
-        BinaryOperator::BitOr => whole_operands(alloc, op, left, right)?.bits_of_either(),
+        BinaryOperator::BitAnd => whole_operands(alloc, op, left, right)?.bitwise_and(),
+        BinaryOperator::BitXor => whole_operands(alloc, op, left, right)?.bitwise_xor(),
+        BinaryOperator::BitOr => whole_operands(alloc, op, left, right)?.bitwise_or(),
     };
     Ok(Computed::Whole(number))
 }
@@ -157,8 +158,8 @@ fn negated(number: i64) -> Result<i64, ValueFault>
 }
 
 /// `~number`.
-fn other_bits(number: i64) -> i64
-    ensures { result ≡ other_bits number }
+fn bitwise_not(number: i64) -> i64
+    ensures { result ≡ bitwise_not number }
 {
     !number
 }

@@ -2,12 +2,12 @@
 ghost use Rattle.std.specs.Prelude.{◌≡◌};
 ghost use Rattle.tclchars.specs.Answers.{Gives};
 ghost use Rattle.tcloperators.specs.Faults.{reason_of};
-ghost use Rattle.tcloperators.specs.Operators.{is_front, is_true_word, is_false_word, word_truth, truth};
+ghost use Rattle.tcloperators.specs.Operators.{has_abbreviation, is_true_word, is_false_word, word_truth, truth};
 
 use crate::fault::ValueFault;
-use crate::messages::no_boolean;
+use crate::messages::not_a_boolean;
 use std::alloc::Global;
-use tcltext::{Numeral, read_number};
+use tclnumber::{Numeral, read_number};
 
 /// Whether a value is true. A whole number is unless it is 0. Of words, in any case of their letters, `true` and `yes`,
 /// or their first letters, and `on` are true; `false` and `no`, or their first letters, and `of` and `off` are false.
@@ -34,7 +34,7 @@ fn word_truth(alloc: Global, word: &str) -> Result<bool, ValueFault>
     } else if is_false_word(word) {
         Ok(false)
     } else {
-        Err(no_boolean(alloc, word))
+        Err(not_a_boolean(alloc, word))
     }
 }
 
@@ -42,22 +42,24 @@ fn word_truth(alloc: Global, word: &str) -> Result<bool, ValueFault>
 fn is_true_word(text: &str) -> bool
     ensures { result ≡ is_true_word text.now }
 {
-    is_front("true", text) || is_front("yes", text) || text.eq_ignore_ascii_case("on")
+    has_abbreviation("true", text)
+        || has_abbreviation("yes", text)
+        || text.eq_ignore_ascii_case("on")
 }
 
 /// Whether a word names the truth value false.
 fn is_false_word(text: &str) -> bool
     ensures { result ≡ is_false_word text.now }
 {
-    is_front("false", text)
-        || is_front("no", text)
+    has_abbreviation("false", text)
+        || has_abbreviation("no", text)
         || text.eq_ignore_ascii_case("of")
         || text.eq_ignore_ascii_case("off")
 }
 
 /// Whether the text is some first letters of a word, one at least, in any case.
-fn is_front(word: &str, text: &str) -> bool
-    ensures { result ≡ is_front word.now text.now }
+fn has_abbreviation(word: &str, text: &str) -> bool
+    ensures { result ≡ has_abbreviation word.now text.now }
 {
     let length = text.len().min(word.len());
     !text.is_empty() && word.as_bytes()[..length].eq_ignore_ascii_case(text.as_bytes())

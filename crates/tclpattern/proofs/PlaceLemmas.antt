@@ -6,7 +6,7 @@ use Rattle.std.proofs.lemmas.Str.{chars-nil, encodes-chars}
 use Rattle.std.proofs.lemmas.Bool.Decides.{nat_tests}
 use Rattle.tclpattern.specs.Patterns.{star, IsMatch}
 use Rattle.tclpattern.specs.Search.Steps as steps
-use Rattle.tclpattern.specs.Search.Steps.{OneStep, StepsOnly, StepsNowhere, LeadsToStar}
+use Rattle.tclpattern.specs.Search.Steps.{OneStep, StepsOnly, StepsNowhere, StepsToStar}
 use Rattle.tclpattern.proofs.PatternLemmas.{pattern_ends}
 use Rattle.tclpattern.proofs.StepLemmas.{steps_go, match_steps}
 use Rattle.tclpattern.proofs.TakeLemmas.{not_so}
@@ -31,8 +31,8 @@ none_left bs false e u = (λ h. absurd (false_true h), λ h. sym e ∙ ap (λ (x
 pub run-ends : (pattern text : List ℕ) (goal : Type 0) (t : Bool) → t ≡ (length text == 0) → IsUtf8 text → chars pattern ≡ [] → IsMatch (chars pattern) (chars text) ↔ goal → IsTrue t ↔ goal
 run-ends pattern text goal t e u none same =
     let here : IsMatch (chars pattern) (chars text) ↔ (chars text ≡ []) = subst (λ ps. IsMatch ps (chars text) ↔ (chars text ≡ [])) (sym none) (pattern_ends (chars text)) in
-    let left = none_left text t (sym e) u in
-    (λ h. same.0 (here.1 (left.0 h)), λ h. left.1 (here.0 (same.1 h)))
+    let remaining = none_left text t (sym e) u in
+    (λ h. same.0 (here.1 (remaining.0 h)), λ h. remaining.1 (here.0 (same.1 h)))
 
 -- a character of the pattern, and one of the text
 pub run-more : (ps cs : List ℕ) (p : ℕ) (ps' : List ℕ) (c : ℕ) (cs' rest : List ℕ) (goal : Type 0) → ps ≡ p ∷ ps' → cs ≡ c ∷ cs' → p ≢ star → StepsOnly p ps' c rest → IsMatch ps cs ↔ goal → IsMatch rest cs' ↔ goal
@@ -41,14 +41,14 @@ run-more ps cs p ps' c cs' rest goal e k n only same =
     let goes = steps_go p c ps' rest n only cs' in
     (λ m. here.0 (goes.1 m), λ g. goes.0 (here.1 g))
 
-pub leads-more : (ps cs : List ℕ) (p : ℕ) (ps' : List ℕ) (c : ℕ) (cs' rest whole text : List ℕ) → ps ≡ p ∷ ps' → cs ≡ c ∷ cs' → OneStep p ps' c rest → ((qs ds : List ℕ) → LeadsToStar ps cs qs ds → LeadsToStar whole text qs ds)
-    → (qs ds : List ℕ) → LeadsToStar rest cs' qs ds → LeadsToStar whole text qs ds
-leads-more ps cs p ps' c cs' rest whole text e k one same qs ds l =
-    same qs ds (subst (λ x. LeadsToStar x cs qs ds) (sym e) (subst (λ x. LeadsToStar (p ∷ ps') x qs ds) (sym k) (steps.LeadsToStar.step rest one l)))
+pub steps_to_star-more : (ps cs : List ℕ) (p : ℕ) (ps' : List ℕ) (c : ℕ) (cs' rest whole text : List ℕ) → ps ≡ p ∷ ps' → cs ≡ c ∷ cs' → OneStep p ps' c rest → ((qs ds : List ℕ) → StepsToStar ps cs qs ds → StepsToStar whole text qs ds)
+    → (qs ds : List ℕ) → StepsToStar rest cs' qs ds → StepsToStar whole text qs ds
+steps_to_star-more ps cs p ps' c cs' rest whole text e k one same qs ds l =
+    same qs ds (subst (λ x. StepsToStar x cs qs ds) (sym e) (subst (λ x. StepsToStar (p ∷ ps') x qs ds) (sym k) (steps.StepsToStar.step rest one l)))
 
-pub leads-star : (ps cs : List ℕ) (p : ℕ) (ps' whole text : List ℕ) → ps ≡ p ∷ ps' → p ≡ star → ((qs ds : List ℕ) → LeadsToStar ps cs qs ds → LeadsToStar whole text qs ds) → LeadsToStar whole text ps' cs
-leads-star ps cs p ps' whole text e k same =
-    same ps' cs (subst (λ x. LeadsToStar x cs ps' cs) (sym e) (subst (λ x. LeadsToStar (x ∷ ps') cs ps' cs) (sym k) steps.LeadsToStar.at_star))
+pub steps_to_star-star : (ps cs : List ℕ) (p : ℕ) (ps' whole text : List ℕ) → ps ≡ p ∷ ps' → p ≡ star → ((qs ds : List ℕ) → StepsToStar ps cs qs ds → StepsToStar whole text qs ds) → StepsToStar whole text ps' cs
+steps_to_star-star ps cs p ps' whole text e k same =
+    same ps' cs (subst (λ x. StepsToStar x cs ps' cs) (sym e) (subst (λ x. StepsToStar (x ∷ ps') cs ps' cs) (sym k) steps.StepsToStar.at_star))
 
 pub run-none : (ps cs : List ℕ) (p : ℕ) (ps' : List ℕ) (c : ℕ) (cs' : List ℕ) (goal : Type 0) → ps ≡ p ∷ ps' → cs ≡ c ∷ cs' → p ≢ star → StepsNowhere p ps' c → IsMatch ps cs ↔ goal → IsTrue false ↔ goal
 run-none ps cs p ps' c cs' goal e k n nowhere same = not_so (λ g.

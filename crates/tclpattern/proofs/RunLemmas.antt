@@ -8,13 +8,13 @@ use Rattle.tclpattern.specs.Search.Steps as steps
 use Rattle.tclpattern.specs.Search.Steps.{OneStep, StepsOnly, Run, RunsBy}
 use Rattle.tclpattern.proofs.SetLemmas.{tail-itself, tail-more, tail-under, holds_tail}
 use Rattle.tclpattern.proofs.StepLemmas.{step_matches, step_no_star}
-use Rattle.tclpattern.proofs.TextLemmas.{AreLeft, left-end, chars_length}
+use Rattle.tclpattern.proofs.TextLemmas.{AreLeft, remaining-end, chars_length}
 use Rattle.tclpattern.proofs.TakeLemmas.{not_so, star_takes}
 
 -- Runs and matches
 pub run_matches : {ps cs qs : List ℕ} → Run ps cs qs → qs ≡ [] → IsMatch ps cs
 run_matches (steps.Run.stay {ps}) e = subst (λ xs. IsMatch xs []) (sym e) pattern.IsMatch.both_end
-run_matches (steps.Run.behind_star r) e = pattern.IsMatch.any_text [] (run_matches r e)
+run_matches (steps.Run.after_star r) e = pattern.IsMatch.any_text [] (run_matches r e)
 run_matches (steps.Run.in_star {c} {ps} {cs} r) e = star_takes c ps cs (run_matches r e)
 run_matches (steps.Run.step rest s r) e = step_matches s (run_matches r e)
 
@@ -24,7 +24,7 @@ run_under ps (c ∷ taken) cs qs r = steps.Run.in_star (run_under ps taken cs qs
 
 pub matches_run : {ps cs : List ℕ} → IsMatch ps cs → Run ps cs []
 matches_run pattern.IsMatch.both_end = steps.Run.stay
-matches_run (pattern.IsMatch.any_text {ps} {rest} taken m) = run_under ps taken rest [] (steps.Run.behind_star (matches_run m))
+matches_run (pattern.IsMatch.any_text {ps} {rest} taken m) = run_under ps taken rest [] (steps.Run.after_star (matches_run m))
 matches_run (pattern.IsMatch.any_character {c} {ps} {cs} m) = steps.Run.step ps steps.OneStep.any (matches_run m)
 matches_run (pattern.IsMatch.in_set {c} {ps} {rest} {cs} h m) = steps.Run.step rest (steps.OneStep.set h) (matches_run m)
 matches_run (pattern.IsMatch.escaped {c} {ps} {cs} m) = steps.Run.step ps steps.OneStep.escaped (matches_run m)
@@ -38,14 +38,14 @@ step_tail (steps.OneStep.itself {c} {ps} h) = (c ∷ [], refl)
 
 pub run_tail : {ps cs qs : List ℕ} → Run ps cs qs → IsTail ps qs
 run_tail (steps.Run.stay {ps}) = tail-itself ps
-run_tail (steps.Run.behind_star {ps} {cs} {qs} r) = tail-under star ps qs (run_tail r)
+run_tail (steps.Run.after_star {ps} {cs} {qs} r) = tail-under star ps qs (run_tail r)
 run_tail (steps.Run.in_star r) = run_tail r
 run_tail (steps.Run.step {p} {c} {ps} {cs} {qs} rest s r) = tail-more (p ∷ ps) rest qs (step_tail s) (run_tail r)
 
 -- Joining and splitting
 pub run_join : {ps cs ms : List ℕ} → Run ps cs ms → (ds qs : List ℕ) → Run ms ds qs → Run ps (cs ++ ds) qs
 run_join steps.Run.stay ds qs k = k
-run_join (steps.Run.behind_star r) ds qs k = steps.Run.behind_star (run_join r ds qs k)
+run_join (steps.Run.after_star r) ds qs k = steps.Run.after_star (run_join r ds qs k)
 run_join (steps.Run.in_star r) ds qs k = steps.Run.in_star (run_join r ds qs k)
 run_join (steps.Run.step rest s r) ds qs k = steps.Run.step rest s (run_join r ds qs k)
 
@@ -60,7 +60,7 @@ split_stay ps (c ∷ cs) ds e = absurd (nothing e) where
 
 pub run_split : {ps xs qs : List ℕ} → Run ps xs qs → (cs ds : List ℕ) → xs ≡ cs ++ ds → (ms : List ℕ) × (Run ps cs ms × Run ms ds qs)
 run_split (steps.Run.stay {ps}) cs ds e = split_stay ps cs ds e
-run_split (steps.Run.behind_star r) cs ds e = let s = run_split r cs ds e in (s.0, (steps.Run.behind_star s.1.0, s.1.1))
+run_split (steps.Run.after_star r) cs ds e = let s = run_split r cs ds e in (s.0, (steps.Run.after_star s.1.0, s.1.1))
 run_split (steps.Run.in_star {c = x} {ps = ps} {cs = xs} {qs = qs} r) [] ds e = (star ∷ ps, (steps.Run.stay, subst (λ ys. Run (star ∷ ps) ys qs) e (steps.Run.in_star r)))
 run_split (steps.Run.in_star {c = x} {ps = ps} {cs = xs} r) (c ∷ cs) ds e =
     let same = first_same x c xs (cs ++ ds) e in
@@ -79,10 +79,10 @@ pub halves-found : (ps cs ms : List ℕ) (count : ℕ) (qs : List ℕ) → RunsB
 halves-found ps cs ms count qs h =
     (λ t. subst (λ xs. Run ps xs qs) (sym (take_halves count cs)) (run_join h.0 (take (count - count / 2) (drop (count / 2) cs)) qs h.1), λ r. refl)
 
-pub halves-none : (ps cs left : List ℕ) (count : ℕ) (qs : List ℕ) → left ≡ [] → (RunsBy ps cs left count qs → ⊥) → AreLeft (λ ms. RunsBy ps cs ms count qs) ps left → IsTrue false ↔ Run ps (take count cs) qs
-halves-none ps cs left count qs e none all = not_so (λ r.
+pub halves-none : (ps cs remaining : List ℕ) (count : ℕ) (qs : List ℕ) → remaining ≡ [] → (RunsBy ps cs remaining count qs → ⊥) → AreLeft (λ ms. RunsBy ps cs ms count qs) ps remaining → IsTrue false ↔ Run ps (take count cs) qs
+halves-none ps cs remaining count qs e none all = not_so (λ r.
     (let s = run_split r (take (count / 2) cs) (take (count - count / 2) (drop (count / 2) cs)) (take_halves count cs) in
-    left-end (λ ms. RunsBy ps cs ms count qs) ps left e none all s.0 (run_tail s.1.0) s.1))
+    remaining-end (λ ms. RunsBy ps cs ms count qs) ps remaining e none all s.0 (run_tail s.1.0) s.1))
 
 -- How a run begins
 RunParts : List ℕ → List ℕ → List ℕ → Type 0
@@ -104,7 +104,7 @@ behind_parts ps (c ∷ cs) qs r = inl (refl, inl r)
 run_parts : {ps cs qs : List ℕ} → Run ps cs qs → RunParts ps cs qs
 unfolding RunParts
 run_parts (steps.Run.stay {ps}) = stay_parts ps
-run_parts (steps.Run.behind_star {ps} {cs} {qs} r) = behind_parts ps cs qs r
+run_parts (steps.Run.after_star {ps} {cs} {qs} r) = behind_parts ps cs qs r
 run_parts (steps.Run.in_star r) = inl (refl, inr r)
 run_parts (steps.Run.step rest s r) = inr (rest, (s, r))
 
@@ -121,7 +121,7 @@ none-same ps qs goal e same = (λ t. same.0 (subst (Run ps []) e steps.Run.stay)
 
 pub none-more : (ps : List ℕ) (p : ℕ) (rest qs : List ℕ) (goal : Type 0) → ps ≡ p ∷ rest → p ≡ star → (ps ≡ qs → ⊥) → Run ps [] qs ↔ goal → Run rest [] qs ↔ goal
 none-more ps p rest qs goal e s n same = (
-  λ r. same.0 (subst (λ xs. Run xs [] qs) (sym e) (subst (λ x. Run (x ∷ rest) [] qs) (sym s) (steps.Run.behind_star r))),
+  λ r. same.0 (subst (λ xs. Run xs [] qs) (sym e) (subst (λ x. Run (x ∷ rest) [] qs) (sym s) (steps.Run.after_star r))),
   λ g. (none_parts p rest qs (λ f. n (e ∙ f)) (subst (λ xs. Run xs [] qs) e (same.1 g))).1,
 )
 
@@ -156,7 +156,7 @@ star_run c ps qs n r = cases (run_parts r) where
 
 pub one-more : (ps : List ℕ) (p : ℕ) (rest : List ℕ) (c : ℕ) (qs : List ℕ) (goal : Type 0) → ps ≡ p ∷ rest → p ≡ star → (Run ps [] qs → ⊥) → Run ps (c ∷ []) qs ↔ goal → Run rest (c ∷ []) qs ↔ goal
 one-more ps p rest c qs goal e s n same = (
-  λ r. same.0 (subst (λ xs. Run xs (c ∷ []) qs) (sym (e ∙ ap (λ x. x ∷ rest) s)) (steps.Run.behind_star r)),
+  λ r. same.0 (subst (λ xs. Run xs (c ∷ []) qs) (sym (e ∙ ap (λ x. x ∷ rest) s)) (steps.Run.after_star r)),
   λ g. star_run c rest qs (λ r. n (subst (λ xs. Run xs [] qs) (sym (e ∙ ap (λ x. x ∷ rest) s)) r)) (subst (λ xs. Run xs (c ∷ []) qs) (e ∙ ap (λ x. x ∷ rest) s) (same.1 g)),
 )
 

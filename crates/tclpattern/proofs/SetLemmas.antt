@@ -3,10 +3,10 @@ use Rattle.std.proofs.Common.{◌≡◌, ◌↔◌, ℕ, List, [], ◌∷◌, �
 use Rattle.std.specs.Prelude.{MatchOption, MatchBool}
 use Rattle.std.proofs.lemmas.Bool.Decides.{nat_tests}
 use Rattle.tclpattern.specs.Patterns as pattern
-use Rattle.tclpattern.specs.Patterns.{dash, close_bracket, is_between, no_dash, behind_close, HoldsIn, IsMatch}
+use Rattle.tclpattern.specs.Patterns.{dash, close_bracket, is_between, no_dash, after_close, HoldsIn, IsMatch}
 use Rattle.tclpattern.specs.Search.Items.{Item, range_at, item_from, item_at}
 use Rattle.tclpattern.specs.Search.Tails.{IsTail, HoldsOnly, SetMatches}
-use Rattle.tclpattern.specs.Search.Windows.{first_of, behind_first}
+use Rattle.tclpattern.specs.Search.Windows.{first_of, without_first}
 
 abbrev pub item : ℕ → ℕ → List ℕ → Item
 item low high rest = record { low = low; high = high; rest = rest }
@@ -39,20 +39,20 @@ item-range low high ps h = rw h refl
 
 -- what a set that holds the character does with its first item
 abbrev pub ItemHolds : ℕ → List ℕ → Item → Type 0
-ItemHolds c rest i = MatchBool (is_between i.low i.high c) (rest ≡ behind_close i.rest) (HoldsIn c i.rest rest)
+ItemHolds c rest i = MatchBool (is_between i.low i.high c) (rest ≡ after_close i.rest) (HoldsIn c i.rest rest)
 
 abbrev pub FirstHolds : ℕ → List ℕ → Option Item → Type 0
 FirstHolds c rest found = MatchOption found ⊥ (ItemHolds c rest)
 
-here : (c : ℕ) (rest : List ℕ) (i : Item) → is_between i.low i.high c ≡ true → rest ≡ behind_close i.rest → ItemHolds c rest i
+here : (c : ℕ) (rest : List ℕ) (i : Item) → is_between i.low i.high c ≡ true → rest ≡ after_close i.rest → ItemHolds c rest i
 here c rest i h e = rw h e
 
 later : (c : ℕ) (rest : List ℕ) (i : Item) → is_between i.low i.high c ≡ false → HoldsIn c i.rest rest → ItemHolds c rest i
 later c rest i h e = rw h e
 
 holds_first : {c : ℕ} {ps rest : List ℕ} → HoldsIn c ps rest → FirstHolds c rest (item_at ps)
-holds_first {c} (pattern.HoldsIn.as_item {ps} h k) = rw (item-one c ps h k) (here c (behind_close ps) (item c c ps) (between_itself c) refl)
-holds_first {c} (pattern.HoldsIn.in_range {low} {high} {ps} h k) = rw (item-range low high ps h) (here c (behind_close ps) (item low high ps) k refl)
+holds_first {c} (pattern.HoldsIn.as_item {ps} h k) = rw (item-one c ps h k) (here c (after_close ps) (item c c ps) (between_itself c) refl)
+holds_first {c} (pattern.HoldsIn.in_range {low} {high} {ps} h k) = rw (item-range low high ps h) (here c (after_close ps) (item low high ps) k refl)
 holds_first {c} (pattern.HoldsIn.past_item {b} {ps} {rest} h k l m) = rw (item-one b ps h l) (later c rest (item b b ps) (not_between b c k) m)
 holds_first {c} (pattern.HoldsIn.past_range {low} {high} {ps} {rest} h k m) = rw (item-range low high ps h) (later c rest (item low high ps) k m)
 
@@ -86,11 +86,11 @@ item_of (low ∷ ps) = from_low low ps (low == close_bracket) refl
 item_is : (ps : List ℕ) (i : Item) → item_at ps ≡ Some i → IsItemOf ps i
 item_is ps i h = subst (IfItemOf ps) h (item_of ps)
 
-holds_here : (c : ℕ) (ps : List ℕ) (i : Item) → IsItemOf ps i → is_between i.low i.high c ≡ true → HoldsIn c ps (behind_close i.rest)
+holds_here : (c : ℕ) (ps : List ℕ) (i : Item) → IsItemOf ps i → is_between i.low i.high c ≡ true → HoldsIn c ps (after_close i.rest)
 holds_here c ps i (inl h) k =
     let same : i.low ≡ c = between_one i.low c (subst (λ x. is_between i.low x c ≡ true) h.1 k) in
-    subst (λ xs. HoldsIn c xs (behind_close i.rest)) (sym (h.0 ∙ ap (λ x. x ∷ i.rest) same)) (pattern.HoldsIn.as_item (subst (λ x. (x == close_bracket) ≡ false) same h.2) h.3)
-holds_here c ps i (inr h) k = subst (λ xs. HoldsIn c xs (behind_close i.rest)) (sym h.0) (pattern.HoldsIn.in_range h.1 k)
+    subst (λ xs. HoldsIn c xs (after_close i.rest)) (sym (h.0 ∙ ap (λ x. x ∷ i.rest) same)) (pattern.HoldsIn.as_item (subst (λ x. (x == close_bracket) ≡ false) same h.2) h.3)
+holds_here c ps i (inr h) k = subst (λ xs. HoldsIn c xs (after_close i.rest)) (sym h.0) (pattern.HoldsIn.in_range h.1 k)
 
 holds_later : (c : ℕ) (ps rest : List ℕ) (i : Item) → IsItemOf ps i → is_between i.low i.high c ≡ false → HoldsIn c i.rest rest → HoldsIn c ps rest
 holds_later c ps rest i (inl h) k m =
@@ -104,7 +104,7 @@ HoldsAs c xs ys = (rest : List ℕ) → HoldsIn c xs rest ↔ HoldsIn c ys rest
 first_later : (c : ℕ) (rest : List ℕ) (i : Item) → is_between i.low i.high c ≡ false → ItemHolds c rest i → HoldsIn c i.rest rest
 first_later c rest i k h = rw k at h
 
-first_here : (c : ℕ) (rest : List ℕ) (i : Item) → is_between i.low i.high c ≡ true → ItemHolds c rest i → rest ≡ behind_close i.rest
+first_here : (c : ℕ) (rest : List ℕ) (i : Item) → is_between i.low i.high c ≡ true → ItemHolds c rest i → rest ≡ after_close i.rest
 first_here c rest i k h = rw k at h
 
 of_first : (c : ℕ) (xs rest : List ℕ) (i : Item) → item_at xs ≡ Some i → HoldsIn c xs rest → ItemHolds c rest i
@@ -116,7 +116,7 @@ holds_as-more c set xs i e k same = λ rest. (
   λ h. first_later c rest i k (of_first c xs rest i e ((same rest).1 h)),
 )
 
-pub holds_as-here : (c : ℕ) (set xs rest : List ℕ) (i : Item) → item_at xs ≡ Some i → is_between i.low i.high c ≡ true → rest ≡ behind_close i.rest → HoldsAs c xs set → HoldsOnly c set rest
+pub holds_as-here : (c : ℕ) (set xs rest : List ℕ) (i : Item) → item_at xs ≡ Some i → is_between i.low i.high c ≡ true → rest ≡ after_close i.rest → HoldsAs c xs set → HoldsOnly c set rest
 holds_as-here c set xs rest i e k is same = (
   (same rest).0 (subst (HoldsIn c xs) (sym is) (holds_here c xs i (item_is xs i e) k)),
   λ other h. first_here c other i k (of_first c xs other i e ((same other).1 h)) ∙ sym is,
@@ -136,8 +136,8 @@ tail-cons xs ys y e = (y ∷ [], e)
 no_close : (c : ℕ) → (c ≡ close_bracket → ⊥) → (c == close_bracket) ≡ false
 no_close c h = grind (arith, nat_tests)
 
-pub behind_close-more : (xs ys : List ℕ) (c : ℕ) → xs ≡ c ∷ ys → (c ≡ close_bracket → ⊥) → behind_close xs ≡ behind_close ys
-behind_close-more xs ys c e h = ap behind_close e ∙ rw (no_close c h) refl
+pub after_close-more : (xs ys : List ℕ) (c : ℕ) → xs ≡ c ∷ ys → (c ≡ close_bracket → ⊥) → after_close xs ≡ after_close ys
+after_close-more xs ys c e h = ap after_close e ∙ rw (no_close c h) refl
 
 -- A set that holds a character goes on in one way
 pub holds_one : {c : ℕ} {ps rest : List ℕ} → HoldsIn c ps rest → (other : List ℕ) → HoldsIn c ps other → other ≡ rest
@@ -150,11 +150,11 @@ holds_one {c} (pattern.HoldsIn.past_item {b} {ps} {rest} h k l n) other m =
 holds_one {c} (pattern.HoldsIn.past_range {low} {high} {ps} {rest} h k n) other m =
     holds_one n other (first_later c other (item low high ps) k (of_first c (low ∷ (dash ∷ (high ∷ ps))) other (item low high ps) (item-range low high ps h) m))
 
-close_cases : (c : ℕ) (ps : List ℕ) (t : Bool) → (c == close_bracket) ≡ t → IsTail ps (behind_close ps) → IsTail (c ∷ ps) (behind_close (c ∷ ps))
+close_cases : (c : ℕ) (ps : List ℕ) (t : Bool) → (c == close_bracket) ≡ t → IsTail ps (after_close ps) → IsTail (c ∷ ps) (after_close (c ∷ ps))
 close_cases c ps true t tail = rw t (c ∷ [], refl)
 close_cases c ps false t tail = rw t (c ∷ tail.0, ap (λ xs. c ∷ xs) tail.1)
 
-close_tail : (ps : List ℕ) → IsTail ps (behind_close ps)
+close_tail : (ps : List ℕ) → IsTail ps (after_close ps)
 close_tail [] = ([], refl)
 close_tail (c ∷ ps) = close_cases c ps (c == close_bracket) refl (close_tail ps)
 
@@ -162,16 +162,16 @@ pub tail-under : (x : ℕ) (xs ys : List ℕ) → IsTail xs ys → IsTail (x ∷
 tail-under x xs ys h = (x ∷ h.0, ap (λ zs. x ∷ zs) h.1)
 
 pub holds_tail : {c : ℕ} {ps rest : List ℕ} → HoldsIn c ps rest → IsTail ps rest
-holds_tail {c} (pattern.HoldsIn.as_item {ps} h k) = tail-under c ps (behind_close ps) (close_tail ps)
+holds_tail {c} (pattern.HoldsIn.as_item {ps} h k) = tail-under c ps (after_close ps) (close_tail ps)
 holds_tail (pattern.HoldsIn.in_range {low} {high} {ps} h k) =
-    tail-under low (dash ∷ (high ∷ ps)) (behind_close ps) (tail-under dash (high ∷ ps) (behind_close ps) (tail-under high ps (behind_close ps) (close_tail ps)))
+    tail-under low (dash ∷ (high ∷ ps)) (after_close ps) (tail-under dash (high ∷ ps) (after_close ps) (tail-under high ps (after_close ps) (close_tail ps)))
 holds_tail (pattern.HoldsIn.past_item {b} {ps} {rest} h k l m) = tail-under b ps rest (holds_tail m)
 holds_tail (pattern.HoldsIn.past_range {low} {high} {ps} {rest} h k m) = tail-under low (dash ∷ (high ∷ ps)) rest (tail-under dash (high ∷ ps) rest (tail-under high ps rest (holds_tail m)))
 
 -- A set of which what follows it matches
-pub set_here : (c : ℕ) (set cs : List ℕ) (i : Item) → item_at set ≡ Some i → is_between i.low i.high c ≡ true → IsMatch (behind_close i.rest) cs ↔ SetMatches c set cs
+pub set_here : (c : ℕ) (set cs : List ℕ) (i : Item) → item_at set ≡ Some i → is_between i.low i.high c ≡ true → IsMatch (after_close i.rest) cs ↔ SetMatches c set cs
 set_here c set cs i e b = (
-  λ m. (behind_close i.rest, holds_here c set i (item_is set i e) b, m),
+  λ m. (after_close i.rest, holds_here c set i (item_is set i e) b, m),
   λ h. subst (λ xs. IsMatch xs cs) (first_here c h.0 i b (of_first c set h.0 i e h.1)) h.2,
 )
 
@@ -201,7 +201,7 @@ pub item_at-one : (p : ℕ) (xs : List ℕ) → (p ≡ close_bracket → ⊥) �
 item_at-one p [] n m = item-one p [] (no_close p n) refl
 item_at-one p (d ∷ xs) n m = item-one p (d ∷ xs) (no_close p n) (ap not (not_dash d m))
 
-pub item_at-range : (p high : ℕ) (xs : List ℕ) → (p ≡ close_bracket → ⊥) → first_of xs ≡ Some dash → first_of (behind_first xs) ≡ Some high → item_at (p ∷ xs) ≡ Some (item p high (behind_first (behind_first xs)))
+pub item_at-range : (p high : ℕ) (xs : List ℕ) → (p ≡ close_bracket → ⊥) → first_of xs ≡ Some dash → first_of (without_first xs) ≡ Some high → item_at (p ∷ xs) ≡ Some (item p high (without_first (without_first xs)))
 item_at-range p high [] n e k = absurd (nothing e) where
   nothing : None ≡ Some dash → ⊥
   nothing e = cc
@@ -212,7 +212,7 @@ item_at-range p high (d ∷ (h ∷ xs)) n e k =
     let same : h ≡ high = cc in
     ap (λ x. item_at (p ∷ (x ∷ (h ∷ xs)))) (dash_first d e) ∙ item-range p h xs (no_close p n) ∙ ap (λ x. Some (item p x xs)) same
 
-pub item_at-open : (p : ℕ) (xs : List ℕ) → (p ≡ close_bracket → ⊥) → first_of xs ≡ Some dash → first_of (behind_first xs) ≡ None → item_at (p ∷ xs) ≡ None
+pub item_at-open : (p : ℕ) (xs : List ℕ) → (p ≡ close_bracket → ⊥) → first_of xs ≡ Some dash → first_of (without_first xs) ≡ None → item_at (p ∷ xs) ≡ None
 item_at-open p [] n e k = absurd (nothing e) where
   nothing : None ≡ Some dash → ⊥
   nothing e = cc

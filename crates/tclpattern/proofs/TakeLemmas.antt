@@ -3,7 +3,7 @@ use Rattle.std.proofs.Common.{◌≡◌, ◌≢◌, ◌↔◌, ℕ, List, [], �
 use Rattle.tclpattern.specs.Patterns as pattern
 use Rattle.tclpattern.specs.Patterns.{star, question, open_bracket, backslash, IsMatch}
 use Rattle.tclpattern.specs.Search.Tails.{SetMatches}
-use Rattle.tclpattern.specs.Search.Windows.{first_of, behind_first}
+use Rattle.tclpattern.specs.Search.Windows.{first_of, without_first}
 use Rattle.tclpattern.proofs.PatternLemmas as parts
 use Rattle.tclpattern.proofs.PatternLemmas.{Parts, IfOneParts, match_parts}
 use Rattle.tclpattern.proofs.StepLemmas.{step_parts, set_step, escape_step, itself_step, itself_steps, any_steps, ordinary_star, match_steps, steps_go}
@@ -77,7 +77,7 @@ set_takes p c xs cs e = (
 )
 
 -- behind a backslash
-first_split : (xs : List ℕ) (c : ℕ) → first_of xs ≡ Some c → xs ≡ c ∷ behind_first xs
+first_split : (xs : List ℕ) (c : ℕ) → first_of xs ≡ Some c → xs ≡ c ∷ without_first xs
 first_split [] c e = absurd (nothing e) where
   nothing : None ≡ Some c → ⊥
   nothing e = cc
@@ -85,11 +85,11 @@ first_split (x ∷ xs) c e = ap (λ y. y ∷ xs) (same e) where
   same : Some x ≡ Some c → x ≡ c
   same e = cc
 
-pub escape_takes : (p c : ℕ) (xs cs : List ℕ) → p ≡ backslash → first_of xs ≡ Some c → IsMatch (behind_first xs) cs ↔ IsMatch (p ∷ xs) (c ∷ cs)
+pub escape_takes : (p c : ℕ) (xs cs : List ℕ) → p ≡ backslash → first_of xs ≡ Some c → IsMatch (without_first xs) cs ↔ IsMatch (p ∷ xs) (c ∷ cs)
 escape_takes p c xs cs e f = (
   λ m. subst (λ x. IsMatch (x ∷ xs) (c ∷ cs)) (sym e) (subst (λ ys. IsMatch (backslash ∷ ys) (c ∷ cs)) (sym (first_split xs c f)) (pattern.IsMatch.escaped m)),
   λ m. (let s = match_steps p c xs cs (λ k. omega arith) m in
-      subst (λ ys. IsMatch ys cs) (sym (ap behind_first (escape_step p c xs s.0 e (step_parts s.1.0)))) s.1.1),
+      subst (λ ys. IsMatch ys cs) (sym (ap without_first (escape_step p c xs s.0 e (step_parts s.1.0)))) s.1.1),
 )
 
 pub escape_none : (p c : ℕ) (xs cs : List ℕ) → p ≡ backslash → (first_of xs ≡ Some c → ⊥) → IsTrue false ↔ IsMatch (p ∷ xs) (c ∷ cs)

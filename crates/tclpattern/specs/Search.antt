@@ -2,8 +2,8 @@
 pub mod Items
 pub mod View
 pub mod Tails
-pub mod Rows
+pub mod States
 pub mod Windows
-pub mod Plain
-pub mod Places
+pub mod Uniform
+pub mod Positions
 pub mod Steps

@@ -4,7 +4,7 @@ ghost use Rattle.std.specs.Str.{chars};
 ghost use Rattle.tclpattern.specs.Patterns.{star, IsMatch};
 ghost use Rattle.tclpattern.specs.Search.Steps.{Run, RunsBy};
 
-use crate::reading::{behind_one, split_char};
+use crate::reading::{after_char, split_char};
 
 /// Whether a star and then the pattern match the text. The search guesses which rest of the pattern is reached at the
 /// middle of the text, and does the same for each half: the stack is small for every text, but the time grows fast with
@@ -60,13 +60,13 @@ fn skip(text: &str, count: usize) -> &str
     ensures { chars result.now ≡ drop count (chars text.now) }
 {
     let mut rest = text;
-    let mut left = count;
-    while left > 0 {
+    let mut remaining = count;
+    while remaining > 0 {
         let Some((_, after)) = split_char(rest) else {
             return rest;
         };
         rest = after;
-        left -= 1;
+        remaining -= 1;
     }
     rest
 }
@@ -107,7 +107,7 @@ fn steps_to(first: char, rest: &str, c: char, to: &str) -> bool
     requires { first ≢ star }
     ensures { IsTrue result ↔ Run (first ∷ chars rest.now) (c ∷ []) (chars to.now) }
 {
-    match behind_one(first, rest, c) {
+    match after_char(first, rest, c) {
         Some(more) => runs_none(more, to),
         None => false,
     }

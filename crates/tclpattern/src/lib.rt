@@ -4,10 +4,10 @@
 #![tactic(auto)]
 
 mod halves;
-mod place;
+mod position;
 mod reading;
-mod row;
 mod star;
+mod states;
 mod sweep;
 mod tail;
 
@@ -15,7 +15,7 @@ ghost use Rattle.std.specs.Prelude.{◌↔◌, IsTrue};
 ghost use Rattle.std.specs.Str.{chars};
 ghost use Rattle.tclpattern.specs.Patterns.{IsMatch};
 
-use place::{Outcome, read_to_star};
+use position::{UpToStar, read_to_star};
 use star::matches_from;
 
 /// Whether the text matches the pattern, as `string match` of Tcl without options has it (string(n)): `*` matches any
@@ -34,7 +34,7 @@ pub fn glob_match(pattern: &str, text: &str) -> bool
     ensures { IsTrue result ↔ IsMatch (chars pattern.now) (chars text.now) }
 {
     match read_to_star(pattern, text) {
-        Outcome::Ended(matches) => matches,
-        Outcome::Star(place) => matches_from(place),
+        UpToStar::Ended(matches) => matches,
+        UpToStar::Star(position) => matches_from(position),
     }
 }

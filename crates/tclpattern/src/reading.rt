@@ -1,7 +1,7 @@
 //! One step of a pattern other than a star, over one character of the text (string(n), match).
 ghost use Rattle.std.specs.Prelude.{◌≡◌, ℕ, List, ◌∷◌, [], ◌++◌, ◌≤◌, ◌<◌, ◌≢◌, length, option_map, MatchOption, IfSome};
 ghost use Rattle.std.specs.Str.{chars};
-ghost use Rattle.tclpattern.specs.Patterns.{star, is_between, behind_close};
+ghost use Rattle.tclpattern.specs.Patterns.{star, is_between, after_close};
 ghost use Rattle.tclpattern.specs.Search.Items.{item_at};
 ghost use Rattle.tclpattern.specs.Search.View.{item_view};
 ghost use Rattle.tclpattern.specs.Search.Tails.{HoldsNowhere, HoldsOnly};
@@ -70,8 +70,8 @@ fn split_item(set: &str) -> Option<Item<'_>>
 }
 
 /// The pattern after the next closing bracket; the empty one where none follows.
-fn behind_close(pattern: &str) -> &str
-    ensures rest { chars result.now ≡ behind_close (chars pattern.now) }
+fn after_close(pattern: &str) -> &str
+    ensures rest { chars result.now ≡ after_close (chars pattern.now) }
     ensures no_longer { length result.now ≤ length pattern.now }
 {
     let mut rest = pattern;
@@ -87,7 +87,7 @@ fn behind_close(pattern: &str) -> &str
 /// What the pattern continues with after a set that holds the character; `set` follows the opening bracket. None where
 /// the set does not hold it.
 #[inline(always)]
-fn behind_set(set: &str, c: char) -> Option<&str>
+fn after_set(set: &str, c: char) -> Option<&str>
     ensures holds { MatchOption result (HoldsNowhere c (chars set.now))
         (λ rest. HoldsOnly c (chars set.now) (chars rest.now)) }
     ensures no_longer { IfSome result (λ rest. length rest.now ≤ length set.now) }
@@ -95,7 +95,7 @@ fn behind_set(set: &str, c: char) -> Option<&str>
     let mut rest = set;
     while let Some(item) = split_item(rest) {
         if is_between(item.low, item.high, c) {
-            return Some(behind_close(item.rest));
+            return Some(after_close(item.rest));
         }
         rest = item.rest;
     }
@@ -103,7 +103,7 @@ fn behind_set(set: &str, c: char) -> Option<&str>
 }
 
 /// What the pattern continues with after a backslash and that character; `pattern` follows the backslash.
-fn behind_escaped(pattern: &str, c: char) -> Option<&str>
+fn after_escaped(pattern: &str, c: char) -> Option<&str>
     ensures is { MatchOption result ((rest : List ℕ) → chars pattern.now ≢ c ∷ rest)
         (λ rest. chars pattern.now ≡ c ∷ chars rest.now) }
     ensures no_longer { IfSome result (λ rest. length rest.now ≤ length pattern.now) }
@@ -117,7 +117,7 @@ fn behind_escaped(pattern: &str, c: char) -> Option<&str>
 /// What the pattern continues with after one character of the text; it begins with `first`, which is no star, and then
 /// `rest`. None where the character does not match.
 #[inline(always)]
-pub(crate) fn behind_one(first: char, rest: &str, c: char) -> Option<&str>
+pub(crate) fn after_char(first: char, rest: &str, c: char) -> Option<&str>
     requires { first ≢ star }
     ensures steps { MatchOption result (StepsNowhere first (chars rest.now) c)
         (λ more. StepsOnly first (chars rest.now) c (chars more.now)) }
@@ -125,8 +125,8 @@ pub(crate) fn behind_one(first: char, rest: &str, c: char) -> Option<&str>
 {
     match first {
         '?' => Some(rest),
-        '[' => behind_set(rest, c),
-        '\\' => behind_escaped(rest, c),
+        '[' => after_set(rest, c),
+        '\\' => after_escaped(rest, c),
         _ if first == c => Some(rest),
         _ => None,
     }

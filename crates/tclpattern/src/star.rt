@@ -1,13 +1,13 @@
 //! The search for a match from a star on: which search is used depends on the shape and length of the pattern.
 ghost use Rattle.std.specs.Prelude.{◌≡◌, ◌↔◌, true, IsTrue};
 ghost use Rattle.std.specs.Str.{chars};
-ghost use Rattle.tclpattern.specs.Search.Plain as plain;
-ghost use Rattle.tclpattern.specs.Search.Places.{StarMatches, IsUtf8Place};
+ghost use Rattle.tclpattern.specs.Search.Uniform as uniform;
+ghost use Rattle.tclpattern.specs.Search.Positions.{StarMatches, IsUtf8Position};
 
 use crate::halves;
-use crate::place::{Outcome, Place, read_to_star};
+use crate::position::{Position, UpToStar, read_to_star};
 use crate::reading::split_char;
-use crate::sweep::matches_by_row;
+use crate::sweep::matches_by_states;
 
 /// How many words of 64 bits the smallest table has: enough for patterns up to 1,087 bytes.
 const SMALL: usize = 17;
@@ -19,18 +19,18 @@ const MIDDLE: usize = 513;
 const LARGE: usize = 16_385;
 
 /// Whether the pattern matches from that star on.
-pub(crate) fn matches_from(star: Place<'_>) -> bool
-    requires { IsUtf8Place star }
+pub(crate) fn matches_from(star: Position<'_>) -> bool
+    requires { IsUtf8Position star }
     ensures { IsTrue result ↔ StarMatches star.entry }
 {
-    if is_plain(star.pattern) {
-        matches_plain(star)
+    if is_uniform(star.pattern) {
+        matches_uniform(star)
     } else if star.pattern.len() < 64 * SMALL {
-        matches_by_row::<SMALL>(star.pattern, star.text)
+        matches_by_states::<SMALL>(star.pattern, star.text)
     } else if star.pattern.len() < 64 * MIDDLE {
-        matches_by_row::<MIDDLE>(star.pattern, star.text)
+        matches_by_states::<MIDDLE>(star.pattern, star.text)
     } else if star.pattern.len() < 64 * LARGE {
-        matches_by_row::<LARGE>(star.pattern, star.text)
+        matches_by_states::<LARGE>(star.pattern, star.text)
     } else {
         halves::matches(star.pattern, star.text)
     }
@@ -46,59 +46,59 @@ enum Reading {
     /// In a set, where an item begins or the set ends.
     AtItem,
     /// In a set, after the first character of an item.
-    BehindLow,
+    AfterLow,
     /// In a set, after the dash of a range.
-    AtEnd,
+    AfterDash,
     /// After a range up to a closing bracket: the pattern has such a range.
-    Open,
+    RangeToClose,
 }
 
 /// The state after the character.
-fn reading_behind(reading: Reading, c: char) -> Reading
-    ensures { result ≡ plain.reading_behind reading c }
+fn reading_after(reading: Reading, c: char) -> Reading
+    ensures { result ≡ uniform.reading_after reading c }
 {
     match reading {
         Reading::Outside if c == '\\' => Reading::Escaped,
         Reading::Outside if c == '[' => Reading::AtItem,
         Reading::Outside | Reading::Escaped => Reading::Outside,
-        Reading::AtItem | Reading::BehindLow if c == ']' => Reading::Outside,
-        Reading::BehindLow if c == '-' => Reading::AtEnd,
-        Reading::AtItem | Reading::BehindLow => Reading::BehindLow,
-        Reading::AtEnd if c != ']' => Reading::AtItem,
-        Reading::AtEnd | Reading::Open => Reading::Open,
+        Reading::AtItem | Reading::AfterLow if c == ']' => Reading::Outside,
+        Reading::AfterLow if c == '-' => Reading::AfterDash,
+        Reading::AtItem | Reading::AfterLow => Reading::AfterLow,
+        Reading::AfterDash if c != ']' => Reading::AtItem,
+        Reading::AfterDash | Reading::RangeToClose => Reading::RangeToClose,
     }
 }
 
 /// Whether no range of a set ends at a closing bracket: then what follows a set is the same for each character that the
 /// set holds.
-fn is_plain(pattern: &str) -> bool
-    ensures { result ≡ plain.is_plain (chars pattern.now) }
+fn is_uniform(pattern: &str) -> bool
+    ensures { result ≡ uniform.is_uniform (chars pattern.now) }
 {
     let mut rest = pattern;
     let mut reading = Reading::Outside;
     while let Some((c, after)) = split_char(rest) {
-        reading = reading_behind(reading, c);
+        reading = reading_after(reading, c);
         rest = after;
     }
-    !matches!(reading, Reading::Open)
+    !matches!(reading, Reading::RangeToClose)
 }
 
 /// The same as `matches_from` for a pattern without a range up to a closing bracket: there the first match up to the
 /// next star is as good as any, since a later one only leaves less of the text.
-fn matches_plain(first: Place<'_>) -> bool
-    requires text { IsUtf8Place first }
-    requires plain { plain.is_plain (chars first.pattern.now) ≡ true }
+fn matches_uniform(first: Position<'_>) -> bool
+    requires text { IsUtf8Position first }
+    requires uniform { uniform.is_uniform (chars first.pattern.now) ≡ true }
     ensures { IsTrue result ↔ StarMatches first.entry }
 {
     let mut star = first;
     while !star.pattern.is_empty() {
         match read_to_star(star.pattern, star.text) {
-            Outcome::Ended(true) => return true,
-            Outcome::Ended(false) => match split_char(star.text) {
+            UpToStar::Ended(true) => return true,
+            UpToStar::Ended(false) => match split_char(star.text) {
                 Some((_, text)) => star.text = text,
                 None => return false,
             },
-            Outcome::Star(next) => star = next,
+            UpToStar::Star(next) => star = next,
         }
     }
     true

@@ -4,10 +4,10 @@
 ghost use Rattle.std.specs.Prelude.{◌≡◌, ◌↔◌, ℕ, List, [], ◌∷◌, ◌*◌, ◌^◌, ◌<◌, length, IsTrue};
 ghost use Rattle.std.specs.Str.{chars};
 ghost use Rattle.tclpattern.specs.Patterns.{star, IsMatch};
-ghost use Rattle.tclpattern.specs.Search.Rows.{RowOf};
+ghost use Rattle.tclpattern.specs.Search.States.{StatesOf};
 
 use crate::reading::split_last;
-use crate::row::{has, put};
+use crate::states::{has, put};
 use crate::tail::Window;
 
 /// Whether a rest of the pattern is nothing but stars, by its first character and by whether what follows is nothing
@@ -19,72 +19,72 @@ fn are_stars(p: char, stars: bool) -> bool
 }
 
 /// Makes the set for the end of the text, and answers whether the whole pattern matches there.
-fn fill(pattern: &str, row: &mut [u64]) -> bool
-    requires { length pattern.now < 64 * length row.old }
-    ensures len { length row.new ≡ length row.old }
-    ensures row { RowOf (chars pattern.now) [] row.new }
+fn fill(pattern: &str, states: &mut [u64]) -> bool
+    requires { length pattern.now < 64 * length states.old }
+    ensures len { length states.new ≡ length states.old }
+    ensures states { StatesOf (chars pattern.now) [] states.new }
     ensures whole { IsTrue result ↔ IsMatch (chars pattern.now) [] }
 {
-    let mut front = pattern;
+    let mut prefix = pattern;
     let mut at = 0;
     let mut stars = true;
-    put(row, 0, true);
-    while let Some((rest, p)) = split_last(front) {
+    put(states, 0, true);
+    while let Some((rest, p)) = split_last(prefix) {
         at += 1;
         stars = are_stars(p, stars);
-        put(row, at, stars);
-        front = rest;
+        put(states, at, stars);
+        prefix = rest;
     }
     stars
 }
 
 /// Makes the set for the text with one more character before it, and answers whether the whole pattern matches that.
-fn sweep(pattern: &str, c: char, row: &mut [u64]) -> bool
-    requires { length pattern.now < 64 * length row.old }
-    ensures len { length row.new ≡ length row.old }
-    ensures row { (cs : List ℕ) → RowOf (chars pattern.now) cs row.old
-        → RowOf (chars pattern.now) (c ∷ cs) row.new }
-    ensures whole { (cs : List ℕ) → RowOf (chars pattern.now) cs row.old
+fn sweep(pattern: &str, c: char, states: &mut [u64]) -> bool
+    requires { length pattern.now < 64 * length states.old }
+    ensures len { length states.new ≡ length states.old }
+    ensures states { (cs : List ℕ) → StatesOf (chars pattern.now) cs states.old
+        → StatesOf (chars pattern.now) (c ∷ cs) states.new }
+    ensures whole { (cs : List ℕ) → StatesOf (chars pattern.now) cs states.old
         → IsTrue result ↔ IsMatch (chars pattern.now) (c ∷ cs) }
 {
-    let mut front = pattern;
+    let mut prefix = pattern;
     let mut at = 0;
-    let mut window = Window::at_end(has(row, 0));
-    put(row, 0, false);
-    while let Some((rest, p)) = split_last(front) {
+    let mut window = Window::at_end(has(states, 0));
+    put(states, 0, false);
+    while let Some((rest, p)) = split_last(prefix) {
         at += 1;
-        window = window.before(p, c, has(row, at));
-        put(row, at, window.takes);
-        front = rest;
+        window = window.before(p, c, has(states, at));
+        put(states, at, window.takes);
+        prefix = rest;
     }
     window.takes
 }
 
 /// Whether a star and then the pattern match the text, with room for a bit for each rest of the pattern.
-fn search(pattern: &str, text: &str, row: &mut [u64]) -> bool
-    requires { length pattern.now < 64 * length row.old }
+fn search(pattern: &str, text: &str, states: &mut [u64]) -> bool
+    requires { length pattern.now < 64 * length states.old }
     ensures { IsTrue result ↔ IsMatch (star ∷ chars pattern.now) (chars text.now) }
 {
-    if fill(pattern, row) {
+    if fill(pattern, states) {
         return true;
     }
     let mut rest = text;
-    while let Some((front, c)) = split_last(rest) {
-        if sweep(pattern, c, row) {
+    while let Some((prefix, c)) = split_last(rest) {
+        if sweep(pattern, c, states) {
             return true;
         }
-        rest = front;
+        rest = prefix;
     }
     false
 }
 
 /// Whether a star and then the pattern match the text, with a set of `WORDS` words.
 #[inline(never)]
-pub(crate) fn matches_by_row<const WORDS: usize>(pattern: &str, text: &str) -> bool
+pub(crate) fn matches_by_states<const WORDS: usize>(pattern: &str, text: &str) -> bool
     requires len { length pattern.now < 64 * WORDS }
     requires small { WORDS < 2 ^ 32 }
     ensures { IsTrue result ↔ IsMatch (star ∷ chars pattern.now) (chars text.now) }
 {
-    let mut row = [0u64; WORDS];
-    search(pattern, text, &mut row)
+    let mut states = [0u64; WORDS];
+    search(pattern, text, &mut states)
 }

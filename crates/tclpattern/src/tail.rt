@@ -1,6 +1,6 @@
 //! What the search knows of the rests of a pattern, at one character of the text.
 ghost use Rattle.std.specs.Prelude.{◌≡◌, ◌↔◌, ℕ, List, [], ◌∷◌, Some, IsTrue};
-ghost use Rattle.tclpattern.specs.Patterns.{behind_close, IsMatch};
+ghost use Rattle.tclpattern.specs.Patterns.{after_close, IsMatch};
 ghost use Rattle.tclpattern.specs.Search.Items.{Item, item_at};
 ghost use Rattle.tclpattern.specs.Search.Tails.{SetMatches};
 ghost use Rattle.tclpattern.specs.Search.Windows.{KnowsTail, Knows};
@@ -15,7 +15,7 @@ struct Tail {
     /// Whether the rest matches the text after the character.
     matches: bool,
     /// Whether what follows its next closing bracket does.
-    matches_behind_close: bool,
+    matches_after_close: bool,
     /// Whether the rest, as the remainder of a set, holds the character, and what follows the set matches the text
     /// after the character.
     holds: bool,
@@ -52,7 +52,7 @@ impl Tail {
             → KnowsTail rest c cs self.now → IsTrue result ↔ SetMatches c set cs }
     {
         if is_between(low, high, c) {
-            self.matches_behind_close
+            self.matches_after_close
         } else {
             self.holds
         }
@@ -61,12 +61,12 @@ impl Tail {
     /// Whether what follows the next closing bracket matches, where `p` comes before this rest.
     fn closes(&self, p: char) -> bool
         ensures { (c : ℕ) (xs cs : List ℕ) → KnowsTail xs c cs self.now
-            → IsTrue result ↔ IsMatch (behind_close (p ∷ xs)) cs }
+            → IsTrue result ↔ IsMatch (after_close (p ∷ xs)) cs }
     {
         if p == ']' {
             self.matches
         } else {
-            self.matches_behind_close
+            self.matches_after_close
         }
     }
 }
@@ -79,7 +79,7 @@ impl Window {
         let tail = Tail {
             first: None,
             matches: ends,
-            matches_behind_close: ends,
+            matches_after_close: ends,
             holds: false,
         };
         Window {
@@ -107,14 +107,14 @@ impl Window {
         }
     }
 
-    /// Whether `p` and then the rest match the text from the character `c` on; `keeps` is whether they
+    /// Whether `p` and then the rest match the text from the character `c` on; `matches_without` is whether they
     /// match the text after it.
-    fn takes(&self, p: char, c: char, keeps: bool) -> bool
-        ensures { (xs cs : List ℕ) → Knows xs c cs self.now → IsTrue keeps ↔ IsMatch (p ∷ xs) cs
+    fn takes(&self, p: char, c: char, matches_without: bool) -> bool
+        ensures { (xs cs : List ℕ) → Knows xs c cs self.now → IsTrue matches_without ↔ IsMatch (p ∷ xs) cs
             → IsTrue result ↔ IsMatch (p ∷ xs) (c ∷ cs) }
     {
         match p {
-            '*' => self.takes || keeps,
+            '*' => self.takes || matches_without,
             '?' => self.here.matches,
             '[' => self.here.holds,
             '\\' => self.here.begins_with(c) && self.next.matches,
@@ -122,22 +122,22 @@ impl Window {
         }
     }
 
-    /// What is known of the rest with `p` before it; `keeps` is whether that matches the text after the
+    /// What is known of the rest with `p` before it; `matches_without` is whether that matches the text after the
     /// character `c`.
-    pub(crate) fn before(&self, p: char, c: char, keeps: bool) -> Window
-        ensures { (xs cs : List ℕ) → Knows xs c cs self.now → IsTrue keeps ↔ IsMatch (p ∷ xs) cs
+    pub(crate) fn before(&self, p: char, c: char, matches_without: bool) -> Window
+        ensures { (xs cs : List ℕ) → Knows xs c cs self.now → IsTrue matches_without ↔ IsMatch (p ∷ xs) cs
             → Knows (p ∷ xs) c cs result }
     {
         Window {
             here: Tail {
                 first: Some(p),
-                matches: keeps,
-                matches_behind_close: self.here.closes(p),
+                matches: matches_without,
+                matches_after_close: self.here.closes(p),
                 holds: self.holds(p, c),
             },
             next: self.here,
             after_next: self.next,
-            takes: self.takes(p, c, keeps),
+            takes: self.takes(p, c, matches_without),
         }
     }
 }

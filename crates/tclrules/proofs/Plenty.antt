@@ -3,8 +3,8 @@ use Rattle.std.proofs.Common.{◌≡◌, ℕ, zero, suc, ◌+◌, Bool, true, fa
 use Rattle.std.proofs.lemmas.Bool.{lt-ltb, le-ltb}
 use Rattle.std.specs.Prelude.{nat_lt}
 use Rattle.tclrules.specs.Oracle.{Oracle}
-use Rattle.tclrules.specs.Derivation.{TooManyCommands, Outcome, Ended, Halted, Plan, Ends, Counts, Consults, Reads, Runs, World, count, hear, ask, replied, Eval, ends, counts, over, consults, reads, runs, halts, starves}
-use Rattle.tclrules.specs.Playing.{Played, go_on, play}
+use Rattle.tclrules.specs.Derivation.{TooManyCommands, Outcome, Ended, Halted, Plan, Ends, Counts, Consults, Reads, Runs, World, count, world_after, ask, replied, Eval, ends, counts, meets_limit, consults, reads, runs, halts, lacks_memory}
+use Rattle.tclrules.specs.Playing.{Played, continue_with, play}
 
 abbrev to : {R : Type 0} → Outcome R → World → Played R
 to o w = Some (o, w)
@@ -22,7 +22,7 @@ on_branch oracle most rule n p w o w' true h e = h e
 on_branch oracle most rule n p w o w' false h e = e
 
 on_run : {J R : Type 0} (oracle : Oracle) (most : ℕ) (rule : J → Plan J R) (n : ℕ) (k : R → Plan J R) (o : Outcome R) (w' : World) (r r' : Played R) → ((a : Outcome R) (v : World) → r ≡ to a v → r' ≡ to a v) → ((a : R) (v : World) → PlaysTo oracle most rule n (k a) v o w' → PlaysTo oracle most rule (suc n) (k a) v o w')
-    → go_on (λ a v. play oracle most rule n (k a) v) r ≡ to o w' → go_on (λ a v. play oracle most rule (suc n) (k a) v) r' ≡ to o w'
+    → continue_with (λ a v. play oracle most rule n (k a) v) r ≡ to o w' → continue_with (λ a v. play oracle most rule (suc n) (k a) v) r' ≡ to o w'
 on_run oracle most rule n k o w' None r' first next e = absurd (cc)
 on_run oracle most rule n k o w' (Some (Ended a, v)) r' first next e = rw (first (Ended a) v refl) (next a v e)
 on_run oracle most rule n k o w' (Some (Halted f, v)) r' first next e = rw (first (Halted f) v refl) e
@@ -32,8 +32,8 @@ more : {J R : Type 0} (oracle : Oracle) (most : ℕ) (rule : J → Plan J R) (n 
 more oracle most rule zero p w o w' e = absurd (cc)
 more oracle most rule (suc n) (Ends q) w o w' e = e
 more oracle most rule (suc n) (Counts p) w o w' e = on_branch oracle most rule n p w o w' (nat_lt w.used most) (more oracle most rule n p (count w) o w') e
-more oracle most rule (suc n) (Consults words k) w o w' e = more oracle most rule n (replied k (oracle.command w.told.records words)) (hear w (oracle.command w.told.records words)) o w' e
-more oracle most rule (suc n) (Reads name k) w o w' e = more oracle most rule n (k (oracle.variable w.told.records name)) (ask w) o w' e
+more oracle most rule (suc n) (Consults words k) w o w' e = more oracle most rule n (replied k (oracle.command w.trace.records words)) (world_after w (oracle.command w.trace.records words)) o w' e
+more oracle most rule (suc n) (Reads name k) w o w' e = more oracle most rule n (k (oracle.variable w.trace.records name)) (ask w) o w' e
 more oracle most rule (suc n) (Runs j k) w o w' e =
     on_run oracle most rule n k o w' (play oracle most rule n (rule j) w) (play oracle most rule (suc n) (rule j) w) (λ a v. more oracle most rule n (rule j) w a v) (λ a v. more oracle most rule n (k a) v o w') e
 
@@ -50,8 +50,8 @@ rise oracle most rule zero n p w o w' e = e
 rise oracle most rule (suc d) n p w o w' e = more oracle most rule (raised d n) p w o w' (rise oracle most rule d n p w o w' e)
 
 -- two evaluations each need no more steps than both together
-left : {J R : Type 0} (oracle : Oracle) (most : ℕ) (rule : J → Plan J R) (n m : ℕ) (p : Plan J R) (w : World) (o : Outcome R) (w' : World) → PlaysTo oracle most rule n p w o w' → PlaysTo oracle most rule (n + m) p w o w'
-left oracle most rule n m p w o w' e =
+remaining : {J R : Type 0} (oracle : Oracle) (most : ℕ) (rule : J → Plan J R) (n m : ℕ) (p : Plan J R) (w : World) (o : Outcome R) (w' : World) → PlaysTo oracle most rule n p w o w' → PlaysTo oracle most rule (n + m) p w o w'
+remaining oracle most rule n m p w o w' e =
     let s : raised m n ≡ n + m = omega (arith, is_sum m n) in
     subst (λ i. PlaysTo oracle most rule i p w o w') s (rise oracle most rule m n p w o w' e)
 
@@ -70,13 +70,13 @@ pub enough : {J R : Type 0} {oracle : Oracle} {most : ℕ} {rule : J → Plan J 
 enough ends = (suc zero, refl)
 enough {oracle = oracle} {most = most} {rule = rule} {o = o} {w' = w'} (counts {p = p} {w = w} h d) =
     let i = enough d in (suc i.0, below oracle most rule i.0 p w o w' (nat_lt w.used most) (lt-ltb w.used most h) i.1)
-enough {oracle = oracle} {most = most} {rule = rule} (over {p = p} {w = w} h) = (suc zero, past oracle most rule zero p w (nat_lt w.used most) (le-ltb w.used most h))
+enough {oracle = oracle} {most = most} {rule = rule} (meets_limit {p = p} {w = w} h) = (suc zero, past oracle most rule zero p w (nat_lt w.used most) (le-ltb w.used most h))
 enough (consults d) = let i = enough d in (suc i.0, i.1)
 enough (reads d) = let i = enough d in (suc i.0, i.1)
 enough {oracle = oracle} {most = most} {rule = rule} (runs {j = j} {k = k} {w = w} {w' = v} {w'' = u} {r = r} {o = o} d c) =
     let i = enough d in
     let l = enough c in
-    (suc (i.0 + l.0), rw (left oracle most rule i.0 l.0 (rule j) w (Ended r) v i.1) (right oracle most rule i.0 l.0 (k r) v o u l.1))
+    (suc (i.0 + l.0), rw (remaining oracle most rule i.0 l.0 (rule j) w (Ended r) v i.1) (right oracle most rule i.0 l.0 (k r) v o u l.1))
 enough {oracle = oracle} {most = most} {rule = rule} (halts {j = j} {k = k} {w = w} {w' = v} {f = f} d) =
     let i = enough d in (suc i.0, rw i.1 refl)
-enough (starves a h) = absurd (cc)
+enough (lacks_memory a h) = absurd (cc)

@@ -7,19 +7,19 @@ use Rattle.tclchars.specs.declared.fault.TextFault.{TextFault}
 use Rattle.tclscript.specs.Tree as tree
 use Rattle.tclscript.specs.Tree.{Commands, no_commands, command, Parts, no_parts, part, Part}
 use Rattle.tclscript.specs.Text.{script_of}
-use Rattle.tcltext.specs.Numerals.{numeral}
+use Rattle.tclnumber.specs.Numerals.{numeral}
 use Rattle.tclexpr.specs.Tree.{Expr, operand, unary, binary, conjunction, disjunction, choice}
 use Rattle.tclexpr.specs.Operands as operands
 use Rattle.tclexpr.specs.Operands.{Operand}
 use Rattle.tclexpr.specs.Text.{expr_of}
 use Rattle.tclvalue.specs.Faults as value
-use Rattle.tclvalue.specs.Faults.{Answer, text, error, value_too_long, number_too_large, fraction, left_out}
+use Rattle.tclvalue.specs.Faults.{Answer, text, error, value_too_long, number_too_large, fraction, unsupported}
 use Rattle.tclvalue.specs.Operators.{truth, truth_text, unary_value, binary_value}
 use Rattle.tclrules.specs.Messages.{no_variable}
-use Rattle.tclrules.specs.Variables.{State, Place, Plain, Element, place_of, place_named, with_value, writable, env}
+use Rattle.tclrules.specs.Variables.{State, Location, Scalar, Element, location_of, location_named, with_value, writable, env}
 use Rattle.tclrules.specs.Plans as plans
-use Rattle.tclrules.specs.Plans.{Ending, Normal, Raised, Returned, Broken, Continued, Job, File, Script, Bracket, Step, Next, Bounds, fault, given, sized, inside, on_normal}
-use Rattle.tclrules.specs.Words.{found, read_plain, read_place, read, read_element, parts, one}
+use Rattle.tclrules.specs.Plans.{Completion, Normal, Raised, Returned, Broken, Continued, Job, File, Script, Bracket, Step, Next, Bounds, fault, given, sized, inside, on_normal}
+use Rattle.tclrules.specs.Words.{found, read_scalar, read_location, read, read_element, parts, one}
 use Rattle.tclrules.specs.Expressions as expressions
 use Rattle.tclrules.specs.Expressions.{operand_value, expr, decide, normal}
 use Rattle.tclrules.specs.Rules.{assign, turn_pairs, are_done, commands, file_commands, parsed, rule}
@@ -27,12 +27,12 @@ use Rattle.tclrules.proofs.Totals.{Shrinks}
 
 -- a loop weighs more than a script
 abbrev pub weight : Job → ℕ
-weight (File left t s) = 0
-weight (Script left t s) = 0
-weight (Bracket left cs s) = 0
-weight (plans.While left c t s) = 1
-weight (plans.For left c n t s) = 1
-weight (plans.Foreach left ls t s) = 1
+weight (File remaining t s) = 0
+weight (Script remaining t s) = 0
+weight (Bracket remaining cs s) = 0
+weight (plans.While remaining c t s) = 1
+weight (plans.For remaining c n t s) = 1
+weight (plans.Foreach remaining ls t s) = 1
 
 -- before the next count scripts alone are run
 abbrev Light : Step → Type 0
@@ -48,7 +48,7 @@ of_fault (error m) s = tt
 of_fault value_too_long s = tt
 of_fault number_too_large s = tt
 of_fault fraction s = tt
-of_fault (left_out name) s = tt
+of_fault (unsupported name) s = tt
 
 of_given : {A : Type 0} (a : Answer A) (s : State) (k : A → Step) → ((x : A) → Light (k x)) → Light (given a s k)
 of_given (Ok x) s k h = h x
@@ -64,22 +64,22 @@ of_found : (m : Text) (s : State) (k : Next) (v : Option Text) → Goes k → Li
 of_found m s k None h = tt
 of_found m s k (Some v) h = h v s
 
-of_plain : (x : Text) (global : Bool) (name : Text) (s : State) (k : Next) → Goes k → Light (read_plain x global name s k)
+of_plain : (x : Text) (global : Bool) (name : Text) (s : State) (k : Next) → Goes k → Light (read_scalar x global name s k)
 of_plain x true name s k h = of_choice (bytes_eq name env) _ _ tt (of_found _ s k _ h)
 of_plain x false name s k h = of_found _ s k _ h
 
-of_place : (x : Text) (s : State) (k : Next) (p : Place) → Goes k → Light (read_place x s k p)
-of_place x s k (Plain global name) h = of_plain x global name s k h
+of_place : (x : Text) (s : State) (k : Next) (p : Location) → Goes k → Light (read_location x s k p)
+of_place x s k (Scalar global name) h = of_plain x global name s k h
 of_place x s k (Element true i) h = λ v. of_found (no_variable x) s k v h
 of_place x s k (Element false i) h = tt
 
 of_read : (name : Text) (s : State) (k : Next) → Goes k → Light (read name s k)
-of_read name s k h = of_given (place_named s name) s (read_place name s k) (λ p. of_place name s k p h)
+of_read name s k h = of_given (location_named s name) s (read_location name s k) (λ p. of_place name s k p h)
 
 of_element : (name index : Text) (s : State) (k : Next) → Goes k → Light (read_element name index s k)
-of_element name index s k h = of_given (place_of s name (Some index)) s _ (λ p. of_place _ s k p h)
+of_element name index s k h = of_given (location_of s name (Some index)) s _ (λ p. of_place _ s k p h)
 
-of_normal : (k : Next) → Goes k → (e : Ending) → Light (on_normal k e)
+of_normal : (k : Next) → Goes k → (e : Completion) → Light (on_normal k e)
 of_normal k h (Normal t s) = h t s
 of_normal k h (Raised m s) = tt
 of_normal k h (Returned t s) = tt
@@ -129,11 +129,11 @@ of_assign b (p ∷ ps) s k h = of_given (writable s p.0) s _ (λ q. of_sized b.b
 
 of_commands : (b : Bounds) (cs : Commands) (t : Text) (s : State) → Shrinks weight 0 (commands b cs t s)
 of_commands b no_commands t s = tt
-of_commands b (command place source ws cs) t s = tt
+of_commands b (command offset source ws cs) t s = tt
 
 of_file : (b : Bounds) (cs : Commands) (t : Text) (s : State) → Shrinks weight 0 (file_commands b cs t s)
 of_file b no_commands t s = tt
-of_file b (command place source ws cs) t s = tt
+of_file b (command offset source ws cs) t s = tt
 
 of_parsed : (r : Result Commands TextFault) (k : Commands → Step) → ((cs : Commands) → Shrinks weight 0 (k cs)) → Shrinks weight 0 (parsed r k)
 of_parsed (Ok cs) k h = h cs
@@ -145,9 +145,9 @@ of_begin false p q h g = g
 
 -- each job runs lighter ones before the next count
 pub shrinks : (bytes : ℕ) (j : Job) → Shrinks weight (weight j) (rule bytes j)
-shrinks bytes (File left t s) = of_begin (nat_eq left 0) _ _ tt (of_parsed (script_of t) _ (λ cs. of_file (inside bytes left) cs [] s))
-shrinks bytes (Script left t s) = of_begin (nat_eq left 0) _ _ tt (of_parsed (script_of t) _ (λ cs. of_commands (inside bytes left) cs [] s))
-shrinks bytes (Bracket left cs s) = of_begin (nat_eq left 0) _ _ tt (of_commands (inside bytes left) cs [] s)
-shrinks bytes (plans.While left c t s) = of_decide (record { bytes = bytes; left = left }) c s _ (elim [ true ↦ (λ s'. tt) | false ↦ (λ s'. tt) ])
-shrinks bytes (plans.For left c n t s) = of_decide (record { bytes = bytes; left = left }) c s _ (elim [ true ↦ (λ s'. tt) | false ↦ (λ s'. tt) ])
-shrinks bytes (plans.Foreach left ls t s) = of_choice (are_done ls) _ _ tt (of_assign (record { bytes = bytes; left = left }) (turn_pairs ls) s _ (λ s'. tt))
+shrinks bytes (File remaining t s) = of_begin (nat_eq remaining 0) _ _ tt (of_parsed (script_of t) _ (λ cs. of_file (inside bytes remaining) cs [] s))
+shrinks bytes (Script remaining t s) = of_begin (nat_eq remaining 0) _ _ tt (of_parsed (script_of t) _ (λ cs. of_commands (inside bytes remaining) cs [] s))
+shrinks bytes (Bracket remaining cs s) = of_begin (nat_eq remaining 0) _ _ tt (of_commands (inside bytes remaining) cs [] s)
+shrinks bytes (plans.While remaining c t s) = of_decide (record { bytes = bytes; remaining = remaining }) c s _ (elim [ true ↦ (λ s'. tt) | false ↦ (λ s'. tt) ])
+shrinks bytes (plans.For remaining c n t s) = of_decide (record { bytes = bytes; remaining = remaining }) c s _ (elim [ true ↦ (λ s'. tt) | false ↦ (λ s'. tt) ])
+shrinks bytes (plans.Foreach remaining ls t s) = of_choice (are_done ls) _ _ tt (of_assign (record { bytes = bytes; remaining = remaining }) (turn_pairs ls) s _ (λ s'. tt))

@@ -4,7 +4,7 @@ use Rattle.std.specs.Prelude.{◌≡◌, ℕ, ◌+◌, ◌<◌, ◌≤◌, ◌�
 use Rattle.tclchars.specs.Runs.{Text}
 use Rattle.tclchars.specs.declared.fault.TextFault.{TextFault}
 use Rattle.tclrules.specs.Oracle as host
-use Rattle.tclrules.specs.Oracle.{CommandWords, Told, OracleAnswer, Done, Unknown, Refused, Oracle, tell, is_question, is_refusal, records_with, addition}
+use Rattle.tclrules.specs.Oracle.{CommandWords, Trace, OracleAnswer, Done, Unknown, Refused, Oracle, trace_after, is_question, is_refusal, records_with, addition}
 
 -- why an evaluation is halted, which catch(n) doesn't catch
 pub data Halt : Type 0 where
@@ -25,9 +25,9 @@ pub data Outcome (R : Type 0) : Type 0 where
   Halted : Halt → Outcome R
 
 -- how a host replies to a command that is neither unsupported nor refused
-pub data Reply : Type 0 where
-  Says : Text → Reply
-  NotKnown : Reply
+pub data HostReply : Type 0 where
+  WithResult : Text → HostReply
+  NoSuchCommand : HostReply
 
 -- what is still to be evaluated, with jobs J and results R
 pub data Plan (J R : Type 0) : Type 0 where
@@ -36,7 +36,7 @@ pub data Plan (J R : Type 0) : Type 0 where
   -- a command or a turn is counted first
   Counts : Plan J R → Plan J R
   -- the words of a command go to the host, whose reply decides
-  Consults : List Text → (Reply → Plan J R) → Plan J R
+  Consults : List Text → (HostReply → Plan J R) → Plan J R
   -- an environment variable is read, whose value decides
   Reads : Text → (Option Text → Plan J R) → Plan J R
   -- a job runs, whose result decides
@@ -45,61 +45,65 @@ pub data Plan (J R : Type 0) : Type 0 where
 -- how many commands and turns were counted so far, and the trace of the host
 pub record World : Type 0 where
   pub used : ℕ
-  pub told : Told
+  pub trace : Trace
 
 -- one command or turn more
 abbrev pub count : World → World
-count w = record { used = w.used + 1; told = w.told }
+count w = record { used = w.used + 1; trace = w.trace }
 
 -- the world after an answer of the host
-abbrev pub hear : World → OracleAnswer → World
-hear w a = record { used = w.used; told = tell w.told a }
+abbrev pub world_after : World → OracleAnswer → World
+world_after w a = record { used = w.used; trace = trace_after w.trace a }
 
 -- the trace after a question, as reading the environment is
-abbrev pub ask_told : Told → Told
-ask_told t = record { records = t.records; messages = t.messages; asked = true; refused = t.refused }
+abbrev pub asked_trace : Trace → Trace
+asked_trace t = record { records = t.records; messages = t.messages; asked = true; refused = t.refused }
 
 -- the trace where something was perhaps asked, and nothing else happened
-abbrev pub perhaps_asked : Bool → Told → Told
+abbrev pub perhaps_asked : Bool → Trace → Trace
 perhaps_asked asked t =
     record { records = t.records; messages = t.messages; asked = asked || t.asked; refused = t.refused }
 
 -- the world after a question
 abbrev pub ask : World → World
-ask w = record { used = w.used; told = ask_told w.told }
+ask w = record { used = w.used; trace = asked_trace w.trace }
 
 abbrev pub perhaps_ask : Bool → World → World
-perhaps_ask asked w = record { used = w.used; told = perhaps_asked asked w.told }
+perhaps_ask asked w = record { used = w.used; trace = perhaps_asked asked w.trace }
 
 -- the plan after an answer of the host
-abbrev pub replied : {J R : Type 0} → (Reply → Plan J R) → OracleAnswer → Plan J R
-replied k (Done text adds asks) = k (Says text)
-replied k (Unknown asks) = k NotKnown
+abbrev pub replied : {J R : Type 0} → (HostReply → Plan J R) → OracleAnswer → Plan J R
+replied k (Done text adds asks) = k (WithResult text)
+replied k (Unknown asks) = k NoSuchCommand
 replied k (host.LeftOut name asks) = Ends (Halted (LeftOut name))
 replied k (Refused n name asks) = Ends (Halted (ByHost n))
 
 -- derivations: a plan evaluates from one world to an outcome and another world. Where memory may run out (the flag),
 -- that can end it anywhere; a host that had no memory may have marked the trace as asked before
-pub data Eval {J R : Type 0} (starving : Bool) (oracle : Oracle) (most : ℕ) (rule : J → Plan J R) : Plan J R → World
+pub data Eval {J R : Type 0} (may_lack_memory : Bool) (oracle : Oracle) (most : ℕ) (rule : J → Plan J R) : Plan J R
+    → World
     → Outcome R → World → Type 0 where
-  ends : {o : Outcome R} {w : World} → Eval starving oracle most rule (Ends o) w o w
+  ends : {o : Outcome R} {w : World} → Eval may_lack_memory oracle most rule (Ends o) w o w
   counts : {p : Plan J R} {w w' : World} {o : Outcome R} → w.used < most
-      → Eval starving oracle most rule p (count w) o w' → Eval starving oracle most rule (Counts p) w o w'
-  over : {p : Plan J R} {w : World} → most ≤ w.used
-      → Eval starving oracle most rule (Counts p) w (Halted TooManyCommands) w
-  consults : {words : List Text} {k : Reply → Plan J R} {w w' : World} {o : Outcome R}
-      → Eval starving oracle most rule (replied k (oracle.command w.told.records words))
-      (hear w (oracle.command w.told.records words)) o w' → Eval starving oracle most rule (Consults words k) w o w'
+      → Eval may_lack_memory oracle most rule p (count w) o w' → Eval may_lack_memory oracle most rule (Counts p) w o w'
+  meets_limit : {p : Plan J R} {w : World} → most ≤ w.used
+      → Eval may_lack_memory oracle most rule (Counts p) w (Halted TooManyCommands) w
+  consults : {words : List Text} {k : HostReply → Plan J R} {w w' : World} {o : Outcome R}
+      → Eval may_lack_memory oracle most rule (replied k (oracle.command w.trace.records words))
+      (world_after w (oracle.command w.trace.records words)) o w' → Eval may_lack_memory oracle most rule
+      (Consults words k) w o w'
   reads : {name : Text} {k : Option Text → Plan J R} {w w' : World} {o : Outcome R}
-      → Eval starving oracle most rule (k (oracle.variable w.told.records name)) (ask w) o w'
-      → Eval starving oracle most rule (Reads name k) w o w'
+      → Eval may_lack_memory oracle most rule (k (oracle.variable w.trace.records name)) (ask w) o w'
+      → Eval may_lack_memory oracle most rule (Reads name k) w o w'
   runs : {j : J} {k : R → Plan J R} {w w' w'' : World} {r : R} {o : Outcome R}
-      → Eval starving oracle most rule (rule j) w (Ended r) w' → Eval starving oracle most rule (k r) w' o w''
-      → Eval starving oracle most rule (Runs j k) w o w''
-  halts : {j : J} {k : R → Plan J R} {w w' : World} {f : Halt} → Eval starving oracle most rule (rule j) w (Halted f) w'
-      → Eval starving oracle most rule (Runs j k) w (Halted f) w'
-  starves : {p : Plan J R} {w : World} (asked : Bool) → starving ≡ true
-      → Eval starving oracle most rule p w (Halted OutOfMemory) (perhaps_ask asked w)
+      → Eval may_lack_memory oracle most rule (rule j) w (Ended r) w' → Eval may_lack_memory oracle most rule
+      (k r) w' o w''
+      → Eval may_lack_memory oracle most rule (Runs j k) w o w''
+  halts : {j : J} {k : R → Plan J R} {w w' : World} {f : Halt} → Eval may_lack_memory oracle most rule (rule j) w
+      (Halted f) w'
+      → Eval may_lack_memory oracle most rule (Runs j k) w (Halted f) w'
+  lacks_memory : {p : Plan J R} {w : World} (asked : Bool) → may_lack_memory ≡ true
+      → Eval may_lack_memory oracle most rule p w (Halted OutOfMemory) (perhaps_ask asked w)
 
 -- a consultation of the host: a command, or an environment variable
 pub data Query : Type 0 where
@@ -107,17 +111,17 @@ pub data Query : Type 0 where
   Variable : Text → Query
 
 -- this holds of each consultation of a derivation and the records before it
-abbrev pub Throughout : {J R : Type 0} {starving : Bool} {oracle : Oracle} {most : ℕ} {rule : J → Plan J R}
+abbrev pub Throughout : {J R : Type 0} {may_lack_memory : Bool} {oracle : Oracle} {most : ℕ} {rule : J → Plan J R}
     {p : Plan J R} {w : World} {o : Outcome R} {w' : World} → (List CommandWords → Query → Type 0)
-    → Eval starving oracle most rule p w o w' → Type 0
+    → Eval may_lack_memory oracle most rule p w o w' → Type 0
 Throughout Holds ends = Unit {0}
 Throughout Holds (counts h d) = Throughout Holds d
-Throughout Holds (over h) = Unit {0}
-Throughout Holds (consults {words = words} {w = w} d) = Holds w.told.records (Command words) × Throughout Holds d
-Throughout Holds (reads {name = name} {w = w} d) = Holds w.told.records (Variable name) × Throughout Holds d
+Throughout Holds (meets_limit h) = Unit {0}
+Throughout Holds (consults {words = words} {w = w} d) = Holds w.trace.records (Command words) × Throughout Holds d
+Throughout Holds (reads {name = name} {w = w} d) = Holds w.trace.records (Variable name) × Throughout Holds d
 Throughout Holds (runs d c) = Throughout Holds d × Throughout Holds c
 Throughout Holds (halts d) = Throughout Holds d
-Throughout Holds (starves asked h) = Unit {0}
+Throughout Holds (lacks_memory asked h) = Unit {0}
 
 -- the second oracle answers as the first does, or refuses
 abbrev pub AnswersOrRefuses : Oracle → Oracle → List CommandWords → Query → Type 0

@@ -5,16 +5,16 @@ use Rattle.tclchars.specs.Runs.{Text}
 use Rattle.tclchars.specs.BracedText.{braced_text}
 use Rattle.tclchars.specs.declared.fault.TextFault.{TextFault}
 use Rattle.tclchars.specs.declared.fault.TextFault.TheVariants.{BadExpression}
-use Rattle.tcltext.specs.Numerals.{numeral}
-use Rattle.tcltext.specs.declared.number.Numeral.{Numeral}
-use Rattle.tcltext.specs.declared.number.Numeral.TheVariants as numerals
+use Rattle.tclnumber.specs.Numerals.{numeral}
+use Rattle.tclnumber.specs.declared.number.Numeral.{Numeral}
+use Rattle.tclnumber.specs.declared.number.Numeral.TheVariants as numerals
 use Rattle.tclexpr.specs.Tree.{Expr, operand, unary, binary, conjunction, disjunction, choice}
 use Rattle.tclexpr.specs.Operands as operands
 use Rattle.tclexpr.specs.Operands.{Operand}
 use Rattle.tclexpr.specs.Text.{expr_of}
-use Rattle.tclexpr.specs.Omitted.{omitted_at}
+use Rattle.tclexpr.specs.UnsupportedSyntax.{unsupported_at}
 use Rattle.tclvalue.specs.Faults as value
-use Rattle.tclvalue.specs.Faults.{Answer, number_too_large, fraction, left_out}
+use Rattle.tclvalue.specs.Faults.{Answer, number_too_large, fraction, unsupported}
 use Rattle.tclvalue.specs.Operators.{truth, truth_text, unary_value, binary_value}
 use Rattle.tclrules.specs.Derivation.{Runs}
 use Rattle.tclrules.specs.Variables.{State}
@@ -24,13 +24,13 @@ use Rattle.tclrules.specs.Words.{parts, read, read_element}
 -- Texts
 
 -- the reason of a fault at a name that is unsupported, else that of the fault
-abbrev pub or_omitted : TextFault → Option Text → value.Reason
-or_omitted f (Some name) = left_out name
-or_omitted f None = value.text f
+abbrev pub or_unsupported : TextFault → Option Text → value.Reason
+or_unsupported f (Some name) = unsupported name
+or_unsupported f None = value.text f
 
 -- the reason why a text is no expression
 abbrev pub fault_of : Text → TextFault → value.Reason
-fault_of t (BadExpression at) = or_omitted (BadExpression at) (omitted_at (drop at t))
+fault_of t (BadExpression at) = or_unsupported (BadExpression at) (unsupported_at (drop at t))
 fault_of t f = value.text f
 
 -- the tree of a text, or the reason why it has none
@@ -46,7 +46,7 @@ operand_value b (operands.number t) s k = k t s
 operand_value b (operands.word t) s k = k t s
 operand_value b (operands.variable name) s k = read name s k
 operand_value b (operands.indexed name ps) s k = parts b ps [] s (λ index s'. read_element name index s' k)
-operand_value b (operands.bracket cs) s k = Runs (Bracket b.left cs s) (on_normal k)
+operand_value b (operands.bracket cs) s k = Runs (Bracket b.remaining cs s) (on_normal k)
 operand_value b (operands.quoted ps) s k = parts b ps [] s k
 operand_value b (operands.braced t) s k = k (braced_text t) s
 

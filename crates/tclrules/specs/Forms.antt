@@ -3,7 +3,7 @@
 -- can't be written is refused before it.
 use Rattle.std.specs.Prelude.{List, [], ◌∷◌, ◌++◌, Bool, true, false, ◌&&◌, nat_lt, length, if◌then◌else◌, Option, Some, None, Ok, Err, codes, bytes_eq}
 use Rattle.tclchars.specs.Runs.{Text, begins}
-use Rattle.tclvalue.specs.Faults.{Answer, ◌>>=◌, error, left_out}
+use Rattle.tclvalue.specs.Faults.{Answer, ◌>>=◌, error, unsupported}
 use Rattle.tclvalue.specs.Messages.{wrong_words, not_a_list}
 use Rattle.tclvalue.specs.Elements.{elements_of}
 use Rattle.tclrules.specs.Messages.{bad_option, no_body}
@@ -100,19 +100,19 @@ abbrev mutual
   -- the branches that words are, from a condition on, after it, after then, and after a body
   pub branches : List Text → Answer Branches
   branches [] = wrong (codes "if")
-  branches (c ∷ ws) = behind_condition c ws
+  branches (c ∷ ws) = after_condition c ws
 
-  pub behind_condition : Text → List Text → Answer Branches
-  behind_condition c [] = wrong (codes "if")
-  behind_condition c (w ∷ ws) = if bytes_eq w (codes "then") then behind_then c ws else branch c w (behind_body ws)
+  pub after_condition : Text → List Text → Answer Branches
+  after_condition c [] = wrong (codes "if")
+  after_condition c (w ∷ ws) = if bytes_eq w (codes "then") then after_then c ws else branch c w (after_body ws)
 
-  pub behind_then : Text → List Text → Answer Branches
-  behind_then c [] = wrong (codes "if")
-  behind_then c (b ∷ ws) = branch c b (behind_body ws)
+  pub after_then : Text → List Text → Answer Branches
+  after_then c [] = wrong (codes "if")
+  after_then c (b ∷ ws) = branch c b (after_body ws)
 
-  pub behind_body : List Text → Answer Branches
-  behind_body [] = Ok ([], None)
-  behind_body (w ∷ ws) = if bytes_eq w (codes "elseif") then branches ws else last_words (w ∷ ws)
+  pub after_body : List Text → Answer Branches
+  after_body [] = Ok ([], None)
+  after_body (w ∷ ws) = if bytes_eq w (codes "elseif") then branches ws else last_words (w ∷ ws)
 
 abbrev pub if_form : List Text → Answer Form
 if_form ws = branches ws >>= (λ m. Ok (If m.0 m.1))
@@ -152,7 +152,7 @@ abbrev pub glob_option : Text → Answer Bool
 glob_option w =
     if bytes_eq w (codes "-exact") then Ok false
     else if bytes_eq w (codes "-glob") then Ok true
-    else if bytes_eq w (codes "-regexp") then Err (left_out w)
+    else if bytes_eq w (codes "-regexp") then Err (unsupported w)
     else Err (error (bad_option w))
 
 abbrev pub by_glob : Bool → List Text → Answer Bool
@@ -210,12 +210,12 @@ proc_form ws = wrong (codes "proc")
 abbrev pub return_form : List Text → Answer Form
 return_form [] = Ok (Return [])
 return_form (x ∷ []) = Ok (Return x)
-return_form ws = Err (left_out (codes "return"))
+return_form ws = Err (unsupported (codes "return"))
 
 -- break, continue
-abbrev pub alone : Text → Form → List Text → Answer Form
-alone name f [] = Ok f
-alone name f ws = wrong name
+abbrev pub without_words : Text → Form → List Text → Answer Form
+without_words name f [] = Ok f
+without_words name f ws = wrong name
 
 -- exit ?code?
 abbrev pub exit_form : List Text → Answer Form
@@ -243,18 +243,19 @@ exists_form ws = wrong (codes "info")
 
 abbrev pub info_form : List Text → Answer Form
 info_form [] = wrong (codes "info")
-info_form (sub ∷ ws) = if bytes_eq sub (codes "exists") then exists_form ws else Err (left_out (codes "info " ++ sub))
+info_form (sub ∷ ws) = if bytes_eq sub (codes "exists") then exists_form ws else Err
+    (unsupported (codes "info " ++ sub))
 
 -- puts ?-nonewline? stderr t
 abbrev pub to_stderr : Text → List Text → Answer Form
-to_stderr channel ws = if bytes_eq channel (codes "stderr") then Ok (Put ws) else Err (left_out (codes "puts"))
+to_stderr channel ws = if bytes_eq channel (codes "stderr") then Ok (Put ws) else Err (unsupported (codes "puts"))
 
 abbrev pub without_newline : Text → Text → List Text → Answer Form
 without_newline option channel ws = if bytes_eq option (codes "-nonewline") then to_stderr channel ws
     else wrong (codes "puts")
 
 abbrev pub puts_form : List Text → Answer Form
-puts_form (t ∷ []) = Err (left_out (codes "puts"))
+puts_form (t ∷ []) = Err (unsupported (codes "puts"))
 puts_form (channel ∷ t ∷ []) = to_stderr channel (channel ∷ t ∷ [])
 puts_form (option ∷ channel ∷ t ∷ []) = without_newline option channel (option ∷ channel ∷ t ∷ [])
 puts_form ws = wrong (codes "puts")
@@ -275,8 +276,8 @@ core_form name ws =
     else if bytes_eq name (codes "switch") then Some (switch_form ws)
     else if bytes_eq name (codes "proc") then Some (proc_form ws)
     else if bytes_eq name (codes "return") then Some (return_form ws)
-    else if bytes_eq name (codes "break") then Some (alone (codes "break") Break ws)
-    else if bytes_eq name (codes "continue") then Some (alone (codes "continue") Continue ws)
+    else if bytes_eq name (codes "break") then Some (without_words (codes "break") Break ws)
+    else if bytes_eq name (codes "continue") then Some (without_words (codes "continue") Continue ws)
     else if bytes_eq name (codes "exit") then Some (exit_form ws)
     else if bytes_eq name (codes "error") then Some (error_form ws)
     else if bytes_eq name (codes "catch") then Some (catch_form ws)

@@ -4,30 +4,30 @@ use Rattle.std.specs.declared.alloc.Global.{Global}
 use Rattle.std.specs.declared.alloc.AllocError.{AllocError}
 use Rattle.tclchars.specs.Runs.{Text}
 use Rattle.tclrules.specs.Oracle as host
-use Rattle.tclrules.specs.Oracle.{Addition, Oracle, Told, OracleAnswer, tell}
-use Rattle.tclrules.specs.Derivation.{ask_told, perhaps_asked}
+use Rattle.tclrules.specs.Oracle.{Addition, Oracle, Trace, OracleAnswer, trace_after}
+use Rattle.tclrules.specs.Derivation.{asked_trace, perhaps_asked}
 use Rattle.tclrules.specs.declared.host.HostAnswer.{HostAnswer}
 use Rattle.tclrules.specs.declared.host.HostAnswer.TheVariants.{Done, Unknown, LeftOut, Refused, OutOfMemory}
 
 -- the oracle's answer is this one, and the trace has it
-abbrev pub IsTold : OracleAnswer → OracleAnswer → Told → Told → Type 0
-IsTold answer given old new = (answer ≡ given) × (new ≡ tell old answer)
+abbrev pub TracesAnswer : OracleAnswer → OracleAnswer → Trace → Trace → Type 0
+TracesAnswer answer given old new = (answer ≡ given) × (new ≡ trace_after old answer)
 
 -- an answer to the words of a command. Without memory the records and messages stay, and the trace may be marked as
 -- asked
-abbrev pub Answers : Oracle → host.CommandWords → HostAnswer → Told → Told → Type 0
+abbrev pub Answers : Oracle → host.CommandWords → HostAnswer → Trace → Trace → Type 0
 Answers oracle words (Done t) old new = (adds : Addition) × (asks : Bool)
-    × IsTold (oracle.command old.records words) (host.Done (string_bytes t) adds asks) old new
+    × TracesAnswer (oracle.command old.records words) (host.Done (string_bytes t) adds asks) old new
 Answers oracle words Unknown old new = (asks : Bool)
-    × IsTold (oracle.command old.records words) (host.Unknown asks) old new
+    × TracesAnswer (oracle.command old.records words) (host.Unknown asks) old new
 Answers oracle words (LeftOut name) old new = (asks : Bool)
-    × IsTold (oracle.command old.records words) (host.LeftOut (string_bytes name) asks) old new
+    × TracesAnswer (oracle.command old.records words) (host.LeftOut (string_bytes name) asks) old new
 Answers oracle words (Refused n) old new = (name : Option Text) × (asks : Bool)
-    × IsTold (oracle.command old.records words) (host.Refused n name asks) old new
+    × TracesAnswer (oracle.command old.records words) (host.Refused n name asks) old new
 Answers oracle words OutOfMemory old new = (asked : Bool) × (new ≡ perhaps_asked asked old)
 
 -- the value of an environment variable
-abbrev pub ReadsVariable : Oracle → Text → Result (Option (String Global)) AllocError → Told → Told → Type 0
+abbrev pub ReadsVariable : Oracle → Text → Result (Option (String Global)) AllocError → Trace → Trace → Type 0
 ReadsVariable oracle name (Ok value) old new = (oracle.variable old.records name ≡ option_map string_bytes value)
-    × (new ≡ ask_told old)
+    × (new ≡ asked_trace old)
 ReadsVariable oracle name (Err e) old new = (asked : Bool) × (new ≡ perhaps_asked asked old)

@@ -16,5 +16,5 @@ pub mod Hosts
 pub mod Recording
 pub mod Meaning
 pub mod Promise
-pub mod Leads
+pub mod Simulates
 pub mod Shown

@@ -1,11 +1,11 @@
 -- What a script evaluates to. Own, over the rules.
 use Rattle.std.specs.Prelude.{◌≡◌, ℕ, ◌+◌, ◌==◌, ◌<◌, ◌⊎◌, Bool, true, false, List, min, count_by, take}
 use Rattle.tclchars.specs.Runs.{Text}
-use Rattle.tclrules.specs.Oracle.{CommandWords, Oracle, Told, records_with, addition}
+use Rattle.tclrules.specs.Oracle.{CommandWords, Oracle, Trace, records_with, addition}
 use Rattle.tclrules.specs.Derivation.{ByHost, Outcome, Halted, World, Eval}
 use Rattle.tclrules.specs.Playing.{Played, play}
 use Rattle.tclrules.specs.Variables.{Variables, start}
-use Rattle.tclrules.specs.Plans.{Ending, Step}
+use Rattle.tclrules.specs.Plans.{Completion, Step}
 use Rattle.tclrules.specs.Rules.{rule, file}
 use Rattle.tclrules.specs.declared.limits.Limits.{Limits}
 
@@ -14,18 +14,19 @@ abbrev pub plan_of : Limits → Text → Variables → Step
 plan_of l script globals = file (min l.depth 200) script (start globals)
 
 -- the world before a script: nothing is counted yet
-abbrev pub first : Told → World
-first told = record { used = 0; told = told }
+abbrev pub first : Trace → World
+first trace = record { used = 0; trace = trace }
 
 -- a script with these global variables evaluates to this outcome and world, from this trace of the host. Want of memory
 -- may end it early where the flag says so, and not else
-abbrev pub Comes : Bool → Limits → Text → Variables → Oracle → Told → Outcome Ending → World → Type 0
-Comes starving l script globals oracle told o w = Eval starving oracle l.commands (rule l.value_bytes)
-    (plan_of l script globals) (first told) o w
+abbrev pub HasOutcome : Bool → Limits → Text → Variables → Oracle → Trace → Outcome Completion → World → Type 0
+HasOutcome may_lack_memory l script globals oracle trace o w = Eval may_lack_memory oracle l.commands
+    (rule l.value_bytes)
+    (plan_of l script globals) (first trace) o w
 
 -- the line, from 1, of an offset in a script, which counts the bytes before it
 abbrev pub line_at : Text → ℕ → ℕ
-line_at script place = 1 + count_by (λ b. b == 10) (take place script)
+line_at script offset = 1 + count_by (λ b. b == 10) (take offset script)
 
 -- For laws
 
@@ -35,11 +36,11 @@ pub record Setting : Type 0 where
   pub script : Text
   pub globals : Variables
   pub oracle : Oracle
-  pub told : Told
+  pub trace : Trace
 
 -- the outcome of a setting with memory enough
-abbrev pub ComesTo : Setting → Outcome Ending → World → Type 0
-ComesTo s o w = Comes false s.limits s.script s.globals s.oracle s.told o w
+abbrev pub EvaluatesTo : Setting → Outcome Completion → World → Type 0
+EvaluatesTo s o w = HasOutcome false s.limits s.script s.globals s.oracle s.trace o w
 
 -- the setting with another limit on commands, and with another oracle
 abbrev pub limited_to : ℕ → Setting → Setting
@@ -50,18 +51,19 @@ with_oracle oracle s = record s { oracle = oracle }
 
 -- the script never ends: under some limit more than any number of commands and turns are counted
 abbrev pub HasNoEnd : Setting → Type 0
-HasNoEnd s = (n : ℕ) → (m : ℕ) × (o : Outcome Ending) × (w : World) × ComesTo (limited_to m s) o w × (n < w.used)
+HasNoEnd s = (n : ℕ) → (m : ℕ) × (o : Outcome Completion) × (w : World) × EvaluatesTo (limited_to m s) o w ×
+    (n < w.used)
 
 -- the second outcome is the first, or a refusal by the host
-abbrev pub IsSameOrRefused : Outcome Ending → World → Outcome Ending → World → Type 0
+abbrev pub IsSameOrRefused : Outcome Completion → World → Outcome Completion → World → Type 0
 IsSameOrRefused o w o2 w2 = ((o2 ≡ o) × (w2 ≡ w)) ⊎ ((n : ℕ) × (o2 ≡ Halted (ByHost n)))
 
 -- what holds of records still holds with what an answer adds
-abbrev pub KeepsRecords : Oracle → (List CommandWords → Bool) → Type 0
-KeepsRecords oracle holds = (rs : List CommandWords) (words : List Text) → holds rs ≡ true
+abbrev pub PreservedByAnswers : Oracle → (List CommandWords → Bool) → Type 0
+PreservedByAnswers oracle holds = (rs : List CommandWords) (words : List Text) → holds rs ≡ true
     → holds (records_with rs (addition (oracle.command rs words))) ≡ true
 
 -- a script evaluated by the function play, with at most so many steps one inside the other
-abbrev pub play_file : Setting → ℕ → Played Ending
+abbrev pub play_file : Setting → ℕ → Played Completion
 play_file s steps = play s.oracle s.limits.commands (rule s.limits.value_bytes) steps
-    (plan_of s.limits s.script s.globals) (first s.told)
+    (plan_of s.limits s.script s.globals) (first s.trace)

@@ -9,7 +9,7 @@ CommandWords = List Text
 -- what a command adds to the trace: at most one record or message
 pub data Addition : Type 0 where
   Nothing : Addition
-  Kept : CommandWords → Addition
+  NewRecord : CommandWords → Addition
   Message : Text → Addition
 
 -- an answer to the words of a command. Only a command that is done adds something. A refusal has a number, and the name
@@ -36,7 +36,7 @@ abbrev pub unnamed : ℕ → Refusal
 unnamed n = record { number = n; name = None }
 
 -- the records and messages so far, whether something was asked, and the refusal of a command
-pub record Told : Type 0 where
+pub record Trace : Type 0 where
   pub records : List CommandWords
   pub messages : List Text
   pub asked : Bool
@@ -63,12 +63,12 @@ is_refusal (Refused n name asks) = true
 
 abbrev pub records_with : List CommandWords → Addition → List CommandWords
 records_with records Nothing = records
-records_with records (Kept r) = records ++ r ∷ []
+records_with records (NewRecord r) = records ++ r ∷ []
 records_with records (Message m) = records
 
 abbrev pub messages_with : List Text → Addition → List Text
 messages_with messages Nothing = messages
-messages_with messages (Kept r) = messages
+messages_with messages (NewRecord r) = messages
 messages_with messages (Message m) = messages ++ m ∷ []
 
 -- the refusal is that of the last command that was refused
@@ -79,8 +79,8 @@ refused_with before (LeftOut name asks) = before
 refused_with before (Refused n name asks) = Some (record { number = n; name = name })
 
 -- the trace after an answer
-abbrev pub tell : Told → OracleAnswer → Told
-tell t a = record {
+abbrev pub trace_after : Trace → OracleAnswer → Trace
+trace_after t a = record {
   records = records_with t.records (addition a);
   messages = messages_with t.messages (addition a);
   asked = t.asked || is_question a;

@@ -3,17 +3,17 @@ use Rattle.std.specs.Prelude.{ℕ, ◌-◌, List, if◌then◌else◌, nat_eq, n
 use Rattle.tclchars.specs.Runs.{Text}
 use Rattle.tclscript.specs.Tree.{Commands}
 use Rattle.tclvalue.specs.Faults as value
-use Rattle.tclvalue.specs.Faults.{Answer, text, error, value_too_long, number_too_large, fraction, left_out}
+use Rattle.tclvalue.specs.Faults.{Answer, text, error, value_too_long, number_too_large, fraction, unsupported}
 use Rattle.tclrules.specs.Derivation.{Halt, BadText, TooDeep, ValueTooLong, NumberTooLarge, FractionOperand, LeftOut, Ended, Halted, Plan, Ends}
 use Rattle.tclrules.specs.Variables.{State}
 
 -- how a script completes that is not halted, by Tcl's codes: ok, error, return, break, continue (return(n))
-pub data Ending : Type 0 where
-  Normal : Text → State → Ending
-  Raised : Text → State → Ending
-  Returned : Text → State → Ending
-  Broken : State → Ending
-  Continued : State → Ending
+pub data Completion : Type 0 where
+  Normal : Text → State → Completion
+  Raised : Text → State → Completion
+  Returned : Text → State → Completion
+  Broken : State → Completion
+  Continued : State → Completion
 
 -- the variables of a list of foreach, with the items that remain
 abbrev pub Items : Type 0
@@ -22,18 +22,18 @@ Items = List Text × List Text
 -- what is run. The number counts the scripts that may still be nested
 pub data Job : Type 0 where
   -- the text of a whole file, and of any other script
-  File : (left : ℕ) → Text → State → Job
-  Script : (left : ℕ) → Text → State → Job
+  File : (remaining : ℕ) → Text → State → Job
+  Script : (remaining : ℕ) → Text → State → Job
   -- the script of a command substitution, which was parsed with the text around it
-  Bracket : (left : ℕ) → Commands → State → Job
+  Bracket : (remaining : ℕ) → Commands → State → Job
   -- the remaining turns of a loop
-  While : (left : ℕ) → (condition body : Text) → State → Job
-  For : (left : ℕ) → (condition next body : Text) → State → Job
-  Foreach : (left : ℕ) → List Items → (body : Text) → State → Job
+  While : (remaining : ℕ) → (condition body : Text) → State → Job
+  For : (remaining : ℕ) → (condition next body : Text) → State → Job
+  Foreach : (remaining : ℕ) → List Items → (body : Text) → State → Job
 
 -- a plan of the rules
 abbrev pub Step : Type 0
-Step = Plan Job Ending
+Step = Plan Job Completion
 
 -- the continuation: what goes on with a text and the state
 abbrev pub Next : Type 0
@@ -42,9 +42,9 @@ Next = Text → State → Step
 -- how many bytes a value may have, and how many scripts may still be nested
 pub record Bounds : Type 0 where
   pub bytes : ℕ
-  pub left : ℕ
+  pub remaining : ℕ
 
-abbrev pub ended : Ending → Step
+abbrev pub ended : Completion → Step
 ended e = Ends (Ended e)
 
 abbrev pub halt : Halt → Step
@@ -54,7 +54,7 @@ abbrev pub raise : Text → State → Step
 raise message s = ended (Raised message s)
 
 -- goes on after a script with its result; any other completion is that of the script around it
-abbrev pub on_normal : Next → Ending → Step
+abbrev pub on_normal : Next → Completion → Step
 on_normal k (Normal t s) = k t s
 on_normal k (Raised m s) = ended (Raised m s)
 on_normal k (Returned t s) = ended (Returned t s)
@@ -68,7 +68,7 @@ fault (error m) s = raise m s
 fault value_too_long s = halt ValueTooLong
 fault number_too_large s = halt NumberTooLarge
 fault fraction s = halt FractionOperand
-fault (left_out name) s = halt (LeftOut name)
+fault (unsupported name) s = halt (LeftOut name)
 
 -- goes on with the value of an answer, or with the plan of its fault
 abbrev pub given : {A : Type 0} → Answer A → State → (A → Step) → Step
@@ -81,8 +81,8 @@ sized most t p = if nat_lt most (length t) then halt ValueTooLong else p
 
 -- goes on where one more script may be nested
 abbrev pub begin : ℕ → Step → Step
-begin left p = if nat_eq left 0 then halt TooDeep else p
+begin remaining p = if nat_eq remaining 0 then halt TooDeep else p
 
 -- the bounds inside of a script
 abbrev pub inside : ℕ → ℕ → Bounds
-inside bytes left = record { bytes = bytes; left = left - 1 }
+inside bytes remaining = record { bytes = bytes; remaining = remaining - 1 }

@@ -3,7 +3,7 @@ use Rattle.std.specs.Prelude.{false, true, List, [], ◌∷◌, ◌++◌, if◌t
 use Rattle.std.specs.declared.vec.Vec.{Vec}
 use Rattle.std.specs.declared.alloc.Global.{Global}
 use Rattle.tclchars.specs.Runs.{Text}
-use Rattle.tclrules.specs.Oracle.{CommandWords, Nothing, Kept, Message, OracleAnswer, Done, Unknown, Refused}
+use Rattle.tclrules.specs.Oracle.{CommandWords, Nothing, NewRecord, Message, OracleAnswer, Done, Unknown, Refused}
 use Rattle.tclrules.specs.Variables.{Variables, lookup}
 
 abbrev pub record_texts : Vec (String Global) Global → CommandWords
@@ -19,15 +19,15 @@ message_in (name ∷ option ∷ channel ∷ t ∷ []) = Some t
 message_in words = None
 
 -- the answer to puts with this message
-abbrev pub said : Option Text → OracleAnswer
-said (Some t) = Done [] (Message t) false
-said None = Unknown false
+abbrev pub message_answer : Option Text → OracleAnswer
+message_answer (Some t) = Done [] (Message t) false
+message_answer None = Unknown false
 
 -- setenv is recorded, puts is a message, the mode is a question, conflict is refused, and no other command is there
 abbrev pub named_answer : Text → Text → CommandWords → OracleAnswer
 named_answer mode name words =
-    if bytes_eq name (codes "setenv") then Done [] (Kept words) false
-    else if bytes_eq name (codes "puts") then said (message_in words)
+    if bytes_eq name (codes "setenv") then Done [] (NewRecord words) false
+    else if bytes_eq name (codes "puts") then message_answer (message_in words)
     else if bytes_eq name (codes "mode") then Done mode Nothing true
     else if bytes_eq name (codes "conflict") then Refused 51 None false
     else Unknown false

@@ -16,13 +16,13 @@ use Rattle.tclvalue.specs.Numbers.{sum}
 use Rattle.tclvalue.specs.Characters.{joined, concatenated}
 use Rattle.tclvalue.specs.Globs.{glob}
 use Rattle.tclvalue.specs.Commands.{command_value}
-use Rattle.tclrules.specs.Derivation.{BadText, LeftOut, Stopped, Counts, Consults, Reads, Runs, Reply, Says, NotKnown}
-use Rattle.tclrules.specs.Messages.{no_command, not_to_unset, outside_loop, no_loop_variable, is_taken}
-use Rattle.tclrules.specs.Names.{is_among, left_out_commands, is_reserved}
-use Rattle.tclrules.specs.Variables.{Place, Plain, Element, Parameter, Procedure, Frame, State, in_frame, lookup, store, without, env, place_named, writable, value_at, with_value, without_value, sharable, shared_in}
+use Rattle.tclrules.specs.Derivation.{BadText, LeftOut, Stopped, Counts, Consults, Reads, Runs, HostReply, WithResult, NoSuchCommand}
+use Rattle.tclrules.specs.Messages.{no_command, cannot_unset, outside_loop, no_loop_variable, cannot_redefine}
+use Rattle.tclrules.specs.Names.{is_among, unsupported_commands, is_reserved}
+use Rattle.tclrules.specs.Variables.{Location, Scalar, Element, Parameter, Procedure, Frame, State, in_frame, lookup, store, without, env, location_named, writable, value_at, with_value, without_value, sharable, shared_in}
 use Rattle.tclrules.specs.Forms.{Form, Get, Set, Unset, Append, ListAppend, Increase, Express, If, While, For, Foreach, Switch, Define, Return, Break, Continue, Exit, Error, Catch, Exists, Global, Put, increase_of, core_form}
 use Rattle.tclrules.specs.Plans as job
-use Rattle.tclrules.specs.Plans.{Ending, Normal, Raised, Returned, Broken, Continued, Items, Job, File, Script, Bracket, Step, Next, Bounds, ended, halt, raise, on_normal, given, sized, begin, inside}
+use Rattle.tclrules.specs.Plans.{Completion, Normal, Raised, Returned, Broken, Continued, Items, Job, File, Script, Bracket, Step, Next, Bounds, ended, halt, raise, on_normal, given, sized, begin, inside}
 use Rattle.tclrules.specs.Words.{words, read}
 use Rattle.tclrules.specs.Expressions.{express, decide}
 
@@ -47,7 +47,7 @@ value_or default s p = unwrap_or (value_at s p) default
 abbrev pub unset_at : Bool → Text → State → Bool × Text → (State → Step) → Option Text → Step
 unset_at quiet name s p k (Some value) = k (without_value s p)
 unset_at true name s p k None = k s
-unset_at false name s p k None = raise (not_to_unset name) s
+unset_at false name s p k None = raise (cannot_unset name) s
 
 abbrev pub unset : Bool → List Text → State → (State → Step) → Step
 unset quiet [] s k = k s
@@ -56,7 +56,8 @@ unset quiet (v ∷ vs) s k = given (writable s v) s (λ p. unset_at quiet v s p 
 -- global: outside of a procedure it has no effect, and no name is judged
 abbrev pub share : List Text → State → (State → Step) → Step
 share [] s k = k s
-share (v ∷ vs) s k = given (place_named s v >>= sharable) s (λ name. share vs (in_frame s (shared_in s.frame name)) k)
+share (v ∷ vs) s k = given (location_named s v >>= sharable) s
+    (λ name. share vs (in_frame s (shared_in s.frame name)) k)
 
 abbrev pub share_from : Option Frame → List Text → State → (State → Step) → Step
 share_from None vs s k = k s
@@ -71,21 +72,21 @@ abbrev pub increased : Text → Text → Answer Text
 increased old n = count_of old >>= (λ a. count_of n >>= (λ b. sum a b >>= (λ z. Ok (signed_decimal z))))
 
 -- info exists: an element of env is read from the environment, where env denotes the global array
-abbrev pub is_there : State → Next → Option Text → Step
-is_there s k None = k (codes "0") s
-is_there s k (Some value) = k (codes "1") s
+abbrev pub is_set : State → Next → Option Text → Step
+is_set s k None = k (codes "0") s
+is_set s k (Some value) = k (codes "1") s
 
-abbrev pub exists_at : State → Next → Place → Step
-exists_at s k (Plain true name) = if bytes_eq name env then k (codes "1") s else is_there s k (value_at s (true, name))
-exists_at s k (Plain false name) = is_there s k (value_at s (false, name))
-exists_at s k (Element true x) = Reads x (is_there s k)
+abbrev pub exists_at : State → Next → Location → Step
+exists_at s k (Scalar true name) = if bytes_eq name env then k (codes "1") s else is_set s k (value_at s (true, name))
+exists_at s k (Scalar false name) = is_set s k (value_at s (false, name))
+exists_at s k (Element true x) = Reads x (is_set s k)
 exists_at s k (Element false x) = k (codes "0") s
 
 -- Bodies
 
 -- a text evaluated as a script, with what goes on after each completion
-abbrev pub body : Bounds → Text → State → (Ending → Step) → Step
-body b t s k = Runs (Script b.left t s) k
+abbrev pub body : Bounds → Text → State → (Completion → Step) → Step
+body b t s k = Runs (Script b.remaining t s) k
 
 -- if: the first body whose condition holds, or the last; without one the result is empty
 abbrev pub otherwise : Bounds → Option Text → State → Next → Step
@@ -98,7 +99,7 @@ branches b (p ∷ ps) other s k = decide b p.0 s
     (elim [ true ↦ (λ s'. body b p.1 s' (on_normal k)) | false ↦ (λ s'. branches b ps other s' k) ])
 
 -- what a turn of a loop goes on with: break ends the loop, continue the turn
-abbrev pub after_turn : (State → Step) → Ending → Step
+abbrev pub after_turn : (State → Step) → Completion → Step
 after_turn again (Normal t s) = again s
 after_turn again (Continued s) = again s
 after_turn again (Broken s) = ended (Normal [] s)
@@ -106,7 +107,7 @@ after_turn again (Raised m s) = ended (Raised m s)
 after_turn again (Returned t s) = ended (Returned t s)
 
 -- and the script between the turns of for: break ends the loop, continue is for a loop outside
-abbrev pub after_next : (State → Step) → Ending → Step
+abbrev pub after_next : (State → Step) → Completion → Step
 after_next again (Normal t s) = again s
 after_next again (Broken s) = ended (Normal [] s)
 after_next again (Continued s) = ended (Continued s)
@@ -121,7 +122,7 @@ turn b t s again = Counts (body b t s (after_turn again))
 abbrev pub while_turns : Bounds → Text → Text → State → Step
 while_turns b c t s = decide b c s
     (elim [
-      | true ↦ (λ s'. turn b t s' (λ s''. Runs (job.While b.left c t s'') ended))
+      | true ↦ (λ s'. turn b t s' (λ s''. Runs (job.While b.remaining c t s'') ended))
       | false ↦ (λ s'. ended (Normal [] s'))
     ])
 
@@ -129,7 +130,7 @@ abbrev pub for_turns : Bounds → Text → Text → Text → State → Step
 for_turns b c n t s =
     decide b c s
     (elim [
-      | true ↦ (λ s1. turn b t s1 (λ s2. body b n s2 (after_next (λ s3. Runs (job.For b.left c n t s3) ended))))
+      | true ↦ (λ s1. turn b t s1 (λ s2. body b n s2 (after_next (λ s3. Runs (job.For b.remaining c n t s3) ended))))
       | false ↦ (λ s1. ended (Normal [] s1))
     ])
 
@@ -171,7 +172,7 @@ assign b (p ∷ ps) s k = write b p.0 p.1 s (λ t s'. assign b ps s' k)
 abbrev pub foreach_turns : Bounds → List Items → Text → State → Step
 foreach_turns b ls t s =
     if are_done ls then ended (Normal [] s)
-    else assign b (turn_pairs ls) s (λ s1. turn b t s1 (λ s2. Runs (job.Foreach b.left (shortened ls) t s2) ended))
+    else assign b (turn_pairs ls) s (λ s1. turn b t s1 (λ s2. Runs (job.Foreach b.remaining (shortened ls) t s2) ended))
 
 -- switch: the first pattern that matches, default where it is the last; - stands for the next body
 abbrev pub is_default : Text → List (Text × Text) → Bool
@@ -181,13 +182,14 @@ abbrev pub fits : Bool → Text → Text → Bool
 fits true t p = glob p t
 fits false t p = bytes_eq p t
 
-abbrev pub falls : Text → List (Text × Text) → Text
-falls t [] = t
-falls t (p ∷ ps) = if bytes_eq t (codes "-") then falls p.1 ps else t
+abbrev pub fall_through : Text → List (Text × Text) → Text
+fall_through t [] = t
+fall_through t (p ∷ ps) = if bytes_eq t (codes "-") then fall_through p.1 ps else t
 
 abbrev pub chosen : Bool → Text → List (Text × Text) → Option Text
 chosen by_glob t [] = None
-chosen by_glob t (p ∷ ps) = if is_default p.0 ps then Some p.1 else if fits by_glob t p.0 then Some (falls p.1 ps)
+chosen by_glob t (p ∷ ps) = if is_default p.0 ps then Some p.1 else if fits by_glob t p.0 then Some
+    (fall_through p.1 ps)
     else chosen by_glob t ps
 
 -- catch: a code, and the result or the message in the variable
@@ -195,7 +197,7 @@ abbrev pub catch_into : Bounds → Option Text → Text → Text → State → N
 catch_into b None code value s k = k code s
 catch_into b (Some v) code value s k = write b v value s (λ t s'. k code s')
 
-abbrev pub caught : Bounds → Option Text → Next → Ending → Step
+abbrev pub caught : Bounds → Option Text → Next → Completion → Step
 caught b v k (Normal t s) = catch_into b v (codes "0") t s k
 caught b v k (Raised m s) = catch_into b v (codes "1") m s k
 caught b v k (Returned t s) = catch_into b v (codes "2") t s k
@@ -215,7 +217,7 @@ parameters [] = Ok []
 parameters (p ∷ ps) = elements_of p >>= parameter >>= (λ q. parameters ps >>= (λ qs. Ok (q ∷ qs)))
 
 abbrev pub unless_reserved : Text → Answer (List Parameter) → Answer (List Parameter)
-unless_reserved name ps = if is_reserved name then Err (error (is_taken name)) else ps
+unless_reserved name ps = if is_reserved name then Err (error (cannot_redefine name)) else ps
 
 abbrev pub with_procedure : State → Text → Procedure → State
 with_procedure s name p = record s { procedures = store s.procedures name p }
@@ -226,18 +228,20 @@ argument name p (w ∷ ws) = Ok (w, ws)
 argument name (p, Some default) [] = Ok (default, [])
 argument name (p, None) [] = Err (error (wrong_words name))
 
-abbrev pub taken : Text → Parameter → List Parameter → List Text → Answer (Text × List Text)
-taken name p ps ws = if bytes_eq p.0 (codes "args") && is_empty ps then Ok (list_text ws, []) else argument name p ws
+abbrev pub parameter_value : Text → Parameter → List Parameter → List Text → Answer (Text × List Text)
+parameter_value name p ps ws = if bytes_eq p.0 (codes "args") && is_empty ps then Ok
+    (list_text ws, []) else argument name p ws
 
 -- the parameters with their values. A wrong number of words is judged before any of them is bound; of a name that comes
 -- again the first value counts
-abbrev pub allotted : Text → List Parameter → List Text → Answer (List (Text × Text))
-allotted name [] [] = Ok []
-allotted name [] (w ∷ ws) = Err (error (wrong_words name))
-allotted name (p ∷ ps) ws = taken name p ps ws >>= (λ a. allotted name ps a.1 >>= (λ vs. Ok ((p.0, a.0) ∷ without vs p.0)))
+abbrev pub parameter_values : Text → List Parameter → List Text → Answer (List (Text × Text))
+parameter_values name [] [] = Ok []
+parameter_values name [] (w ∷ ws) = Err (error (wrong_words name))
+parameter_values name (p ∷ ps) ws = parameter_value name p ps ws >>=
+    (λ a. parameter_values name ps a.1 >>= (λ vs. Ok ((p.0, a.0) ∷ without vs p.0)))
 
 -- a procedure gives back the caller's variables; break and continue don't leave it
-abbrev pub after_call : Option Frame → Next → Ending → Step
+abbrev pub after_call : Option Frame → Next → Completion → Step
 after_call caller k (Normal t s) = k t (in_frame s caller)
 after_call caller k (Returned t s) = k t (in_frame s caller)
 after_call caller k (Raised m s) = raise m (in_frame s caller)
@@ -250,15 +254,15 @@ new_frame = Some (record { own = []; shared = [] })
 
 abbrev pub call : Bounds → Text → Procedure → List Text → State → Next → Step
 call b name p ws s k =
-    given (allotted name p.parameters ws) s
+    given (parameter_values name p.parameters ws) s
     (λ vs. assign b vs (in_frame s new_frame) (λ s'. body b p.body s' (after_call s.frame k)))
 
 -- Commands
 
 -- the host's reply to a command
-abbrev pub replied : Text → State → Next → Reply → Step
-replied name s k (Says t) = k t s
-replied name s k NotKnown = raise (no_command name) s
+abbrev pub replied : Text → State → Next → HostReply → Step
+replied name s k (WithResult t) = k t s
+replied name s k NoSuchCommand = raise (no_command name) s
 
 -- what each form does
 abbrev pub form : Bounds → Form → State → Next → Step
@@ -273,9 +277,9 @@ form b (Increase v ns) s k =
     (λ t. write_at b p t s k))
 form b (Express xs) s k = sized b.bytes (concatenated xs) (express b (concatenated xs) s k)
 form b (If ps other) s k = branches b ps other s k
-form b (While c t) s k = Runs (job.While b.left c t s) (on_normal k)
-form b (For t c n u) s k = body b t s (on_normal (λ v s'. Runs (job.For b.left c n u s') (on_normal k)))
-form b (Foreach ps t) s k = given (loops ps) s (λ ls. Runs (job.Foreach b.left ls t s) (on_normal k))
+form b (While c t) s k = Runs (job.While b.remaining c t s) (on_normal k)
+form b (For t c n u) s k = body b t s (on_normal (λ v s'. Runs (job.For b.remaining c n u s') (on_normal k)))
+form b (Foreach ps t) s k = given (loops ps) s (λ ls. Runs (job.Foreach b.remaining ls t s) (on_normal k))
 form b (Switch by_glob t ps) s k = otherwise b (chosen by_glob t ps) s k
 form b (Define name args t) s k = given (unless_reserved name (elements_of args >>= parameters)) s
     (λ ps. k [] (with_procedure s name (record { parameters = ps; body = t })))
@@ -285,7 +289,7 @@ form b Continue s k = ended (Continued s)
 form b Exit s k = halt Stopped
 form b (Error m) s k = raise m s
 form b (Catch t v) s k = body b t s (caught b v k)
-form b (Exists v) s k = given (place_named s v) s (exists_at s k)
+form b (Exists v) s k = given (location_named s v) s (exists_at s k)
 form b (Global vs) s k = share_from s.frame vs s (k [])
 form b (Put ws) s k = Consults (codes "puts" ∷ ws) (replied (codes "puts") s k)
 
@@ -293,7 +297,7 @@ form b (Put ws) s k = Consults (codes "puts" ∷ ws) (replied (codes "puts") s k
 abbrev pub other_command : Bounds → Text → List Text → State → Next → Option Procedure → Step
 other_command b name ws s k (Some p) = call b name p ws s k
 other_command b name ws s k None =
-    if is_among left_out_commands name then halt (LeftOut name) else Consults (name ∷ ws) (replied name s k)
+    if is_among unsupported_commands name then halt (LeftOut name) else Consults (name ∷ ws) (replied name s k)
 
 abbrev pub core_command : Bounds → Text → List Text → State → Next → Option (Answer Form) → Step
 core_command b name ws s k (Some f) = given f s (λ f. form b f s k)
@@ -313,14 +317,14 @@ called b (name ∷ ws) s k = given (command_value (name ∷ ws) b.bytes) s (valu
 -- the rest of a script, after a command with this result. A command is counted before its words are substituted
 abbrev pub commands : Bounds → Commands → Text → State → Step
 commands b no_commands t s = ended (Normal t s)
-commands b (command place source ws cs) t s = Counts
+commands b (command offset source ws cs) t s = Counts
     (words b ws [] s (λ texts s1. called b texts s1 (λ u s2. sized b.bytes u (commands b cs u s2))))
 
 -- the same of a file; the state has the offset of its current command
 abbrev pub file_commands : Bounds → Commands → Text → State → Step
 file_commands b no_commands t s = ended (Normal t s)
-file_commands b (command place source ws cs) t s =
-    Counts (words b ws [] (record s { place = place })
+file_commands b (command offset source ws cs) t s =
+    Counts (words b ws [] (record s { offset = offset })
     (λ texts s1. called b texts s1 (λ u s2. sized b.bytes u (file_commands b cs u s2))))
 
 -- goes on with the tree of a text; one that is no script halts
@@ -330,15 +334,17 @@ parsed (Err f) k = halt (BadText f)
 
 -- The plan of each job: the depth is judged before the text is parsed
 abbrev pub rule : ℕ → Job → Step
-rule bytes (File left t s) = begin left (parsed (script_of t) (λ cs. file_commands (inside bytes left) cs [] s))
-rule bytes (Script left t s) = begin left (parsed (script_of t) (λ cs. commands (inside bytes left) cs [] s))
-rule bytes (Bracket left cs s) = begin left (commands (inside bytes left) cs [] s)
-rule bytes (job.While left c t s) = while_turns (record { bytes = bytes; left = left }) c t s
-rule bytes (job.For left c n t s) = for_turns (record { bytes = bytes; left = left }) c n t s
-rule bytes (job.Foreach left ls t s) = foreach_turns (record { bytes = bytes; left = left }) ls t s
+rule bytes (File remaining t s) = begin remaining (parsed (script_of t)
+    (λ cs. file_commands (inside bytes remaining) cs [] s))
+rule bytes (Script remaining t s) = begin remaining (parsed (script_of t)
+    (λ cs. commands (inside bytes remaining) cs [] s))
+rule bytes (Bracket remaining cs s) = begin remaining (commands (inside bytes remaining) cs [] s)
+rule bytes (job.While remaining c t s) = while_turns (record { bytes = bytes; remaining = remaining }) c t s
+rule bytes (job.For remaining c n t s) = for_turns (record { bytes = bytes; remaining = remaining }) c n t s
+rule bytes (job.Foreach remaining ls t s) = foreach_turns (record { bytes = bytes; remaining = remaining }) ls t s
 
 -- how a file ends: return and continue end it, break stops it
-abbrev pub file_ended : Ending → Step
+abbrev pub file_ended : Completion → Step
 file_ended (Normal t s) = ended (Normal t s)
 file_ended (Raised m s) = ended (Raised m s)
 file_ended (Returned t s) = ended (Normal t s)
@@ -346,4 +352,4 @@ file_ended (Continued s) = ended (Normal [] s)
 file_ended (Broken s) = halt Stopped
 
 abbrev pub file : ℕ → Text → State → Step
-file left t s = Runs (File left t s) file_ended
+file remaining t s = Runs (File remaining t s) file_ended

@@ -1,11 +1,11 @@
 -- How the outcome of a small script is shown, for worked examples. Own.
 use Rattle.std.specs.Prelude.{◌≡◌, ℕ, Bool, false, List, [], ◌∷◌, None, codes}
 use Rattle.tclchars.specs.Runs.{Text}
-use Rattle.tclrules.specs.Oracle.{CommandWords, Oracle, Told, Unknown}
+use Rattle.tclrules.specs.Oracle.{CommandWords, Oracle, Trace, Unknown}
 use Rattle.tclrules.specs.Derivation.{Halt, Outcome, Ended, Halted, World}
 use Rattle.tclrules.specs.Recording.{answer_of, value_in}
-use Rattle.tclrules.specs.Plans.{Ending, Normal, Raised, Returned, Broken, Continued}
-use Rattle.tclrules.specs.Meaning.{Setting, ComesTo, line_at}
+use Rattle.tclrules.specs.Plans.{Completion, Normal, Raised, Returned, Broken, Continued}
+use Rattle.tclrules.specs.Meaning.{Setting, EvaluatesTo, line_at}
 use Rattle.tclrules.specs.declared.limits.Limits.{Limits}
 
 -- limits as those that modulefiles have, or with one of them changed
@@ -22,8 +22,8 @@ abbrev pub with_bytes : ℕ → Limits
 with_bytes n = record standard { value_bytes = n }
 
 -- the trace before a script
-abbrev pub untold : Told
-untold = record { records = []; messages = []; asked = false; refused = None }
+abbrev pub empty_trace : Trace
+empty_trace = record { records = []; messages = []; asked = false; refused = None }
 
 -- a host that has no command and no environment
 abbrev pub nobody : Oracle
@@ -35,7 +35,7 @@ recording = record { command = answer_of (codes "unload"); variable = value_in (
 
 -- a script without variables, within these limits
 abbrev pub within : Limits → Text → Setting
-within l script = record { limits = l; script = script; globals = []; oracle = nobody; told = untold }
+within l script = record { limits = l; script = script; globals = []; oracle = nobody; trace = empty_trace }
 
 -- the same with the example host
 abbrev pub recorded : Limits → Text → Setting
@@ -48,23 +48,23 @@ pub data Shown : Type 0 where
   Halts : Halt → Shown
   Else : Shown
 
-abbrev pub seen : Text → Outcome Ending → World → Shown
-seen script (Ended (Normal t s)) w = Result t w.used
-seen script (Ended (Raised m s)) w = Fails m (line_at script s.place)
-seen script (Ended (Returned t s)) w = Else
-seen script (Ended (Broken s)) w = Else
-seen script (Ended (Continued s)) w = Else
-seen script (Halted h) w = Halts h
+abbrev pub shown_of : Text → Outcome Completion → World → Shown
+shown_of script (Ended (Normal t s)) w = Result t w.used
+shown_of script (Ended (Raised m s)) w = Fails m (line_at script s.offset)
+shown_of script (Ended (Returned t s)) w = Else
+shown_of script (Ended (Broken s)) w = Else
+shown_of script (Ended (Continued s)) w = Else
+shown_of script (Halted h) w = Halts h
 
-abbrev pub told_to : Outcome Ending → World → Told
-told_to o w = w.told
+abbrev pub trace_of : Outcome Completion → World → Trace
+trace_of o w = w.trace
 
 -- this view of the outcome of a script is that
-abbrev pub Shows : {A : Type 0} → Setting → (Outcome Ending → World → A) → A → Type 0
-Shows s view a = (o : Outcome Ending) × (w : World) × ComesTo s o w × (view o w ≡ a)
+abbrev pub Shows : {A : Type 0} → Setting → (Outcome Completion → World → A) → A → Type 0
+Shows s view a = (o : Outcome Completion) × (w : World) × EvaluatesTo s o w × (view o w ≡ a)
 
 abbrev pub Sees : Setting → Shown → Type 0
-Sees s a = Shows s (seen s.script) a
+Sees s a = Shows s (shown_of s.script) a
 
 -- the script ends normally with this result, and so many commands and turns are counted
 abbrev pub Results : Text → Text → ℕ → Type 0
@@ -84,8 +84,8 @@ abbrev pub HostStops : Limits → Text → Halt → Type 0
 HostStops l script h = Sees (recorded l script) (Halts h)
 
 -- its trace has these records and messages, and is marked as asked or not
-abbrev pub HostIsTold : Text → List CommandWords → List Text → Bool → Type 0
-HostIsTold script records messages asked = Shows (recorded standard script) told_to
+abbrev pub HostTraces : Text → List CommandWords → List Text → Bool → Type 0
+HostTraces script records messages asked = Shows (recorded standard script) trace_of
     (record { records = records; messages = messages; asked = asked; refused = None })
 
 -- the words of a setenv

@@ -2,9 +2,9 @@
 -- stands for the environment, and no namespaces are supported.
 use Rattle.std.specs.Prelude.{ℕ, List, [], ◌∷◌, ◌++◌, Bool, true, false, not, ◌||◌, ◌&&◌, ◌==◌, ◌-◌, length, take, reverse, if◌then◌else◌, Option, Some, None, Ok, Err, codes, bytes_eq}
 use Rattle.std.specs.List.{list_any}
-use Rattle.tclchars.specs.Runs.{Text, front, back, begins}
-use Rattle.tclvalue.specs.Faults.{Answer, ◌>>=◌, left_out}
-use Rattle.tclvalue.specs.Indexes.{after_front}
+use Rattle.tclchars.specs.Runs.{Text, take_while, drop_while, begins}
+use Rattle.tclvalue.specs.Faults.{Answer, ◌>>=◌, unsupported}
+use Rattle.tclvalue.specs.Indexes.{after_prefix}
 
 -- Variables with their values, in the order of their making
 
@@ -47,11 +47,11 @@ pub record State : Type 0 where
   pub globals : Variables
   pub frame : Option Frame
   pub procedures : List (Text × Procedure)
-  pub place : ℕ
+  pub offset : ℕ
 
 -- the state before a script with these global variables
 abbrev pub start : Variables → State
-start globals = record { globals = store_all [] globals; frame = None; procedures = []; place = 0 }
+start globals = record { globals = store_all [] globals; frame = None; procedures = []; offset = 0 }
 
 abbrev pub in_frame : State → Option Frame → State
 in_frame s f = record s { frame = f }
@@ -60,12 +60,13 @@ in_frame s f = record s { frame = f }
 
 -- the parts of a name: n(i) is n with the index i, where the parenthesis is the first one and the name ends with the
 -- closing one
-abbrev pub parted : Text → Text → Text × Option Text
-parted n [] = (n, None)
-parted n (b ∷ bs) = (n, Some (take (length bs - 1) bs))
+abbrev pub with_index : Text → Text → Text × Option Text
+with_index n [] = (n, None)
+with_index n (b ∷ bs) = (n, Some (take (length bs - 1) bs))
 
-abbrev pub apart : Text → Text × Option Text
-apart name = if begins 41 (reverse name) then parted (front (λ b. not (b == 40)) name) (back (λ b. not (b == 40)) name)
+abbrev pub name_and_index : Text → Text × Option Text
+name_and_index name = if begins 41 (reverse name) then with_index (take_while (λ b. not (b == 40)) name)
+    (drop_while (λ b. not (b == 40)) name)
     else (name, None)
 
 -- two colons follow one another somewhere, which part namespaces
@@ -74,9 +75,9 @@ has_colons [] = false
 has_colons (b ∷ bs) = (b == 58 && begins 58 bs) || has_colons bs
 
 -- the location that a name denotes: a scalar variable, or an element of env. The flag is true of a global one
-pub data Place : Type 0 where
-  Plain : Bool → Text → Place
-  Element : Bool → Text → Place
+pub data Location : Type 0 where
+  Scalar : Bool → Text → Location
+  Element : Bool → Text → Location
 
 -- a name denotes a global variable: outside of procedures each does, in a procedure those that global named
 abbrev pub sees : Option Frame → Text → Bool
@@ -88,34 +89,34 @@ abbrev pub env : Text
 env = codes "env"
 
 -- only env is an array
-abbrev pub indexed : Bool → Text → Option Text → Answer Place
-indexed global name None = Ok (Plain global name)
-indexed global name (Some i) = if bytes_eq name env then Ok (Element global i) else Err (left_out (codes "array"))
+abbrev pub indexed : Bool → Text → Option Text → Answer Location
+indexed global name None = Ok (Scalar global name)
+indexed global name (Some i) = if bytes_eq name env then Ok (Element global i) else Err (unsupported (codes "array"))
 
 -- a name has no other colons than those that it begins with
-abbrev pub unqualified : Text → Answer Place → Answer Place
-unqualified name p = if has_colons name then Err (left_out (codes "namespace")) else p
+abbrev pub unqualified : Text → Answer Location → Answer Location
+unqualified name p = if has_colons name then Err (unsupported (codes "namespace")) else p
 
 -- the location of a name, by its rest after leading colons, where it has such
-abbrev pub led : Option Frame → Text → Option Text → Option Text → Answer Place
-led f name index (Some rest) = unqualified rest (indexed true rest index)
-led f name index None = unqualified name (indexed (sees f name) name index)
+abbrev pub qualified_location : Option Frame → Text → Option Text → Option Text → Answer Location
+qualified_location f name index (Some rest) = unqualified rest (indexed true rest index)
+qualified_location f name index None = unqualified name (indexed (sees f name) name index)
 
 -- the location of a name with an index, or without one
-abbrev pub place_of : State → Text → Option Text → Answer Place
-place_of s name index = led s.frame name index (after_front (codes "::") name)
+abbrev pub location_of : State → Text → Option Text → Answer Location
+location_of s name index = qualified_location s.frame name index (after_prefix (codes "::") name)
 
 -- the location of a name as it is spelled
-abbrev pub place_named : State → Text → Answer Place
-place_named s name = place_of s (apart name).0 (apart name).1
+abbrev pub location_named : State → Text → Answer Location
+location_named s name = location_of s (name_and_index name).0 (name_and_index name).1
 
 -- the scalar variable at a location; neither env nor an element of it may be written or unset
-abbrev pub writable_scalar : Place → Answer (Bool × Text)
-writable_scalar (Plain global name) = if bytes_eq name env then Err (left_out env) else Ok (global, name)
-writable_scalar (Element global i) = Err (left_out env)
+abbrev pub writable_scalar : Location → Answer (Bool × Text)
+writable_scalar (Scalar global name) = if bytes_eq name env then Err (unsupported env) else Ok (global, name)
+writable_scalar (Element global i) = Err (unsupported env)
 
 abbrev pub writable : State → Text → Answer (Bool × Text)
-writable s name = place_named s name >>= writable_scalar
+writable s name = location_named s name >>= writable_scalar
 
 -- Reading and changing
 
@@ -155,6 +156,6 @@ shared_in None name = None
 shared_in (Some f) name = Some (record { own = without f.own name; shared = with_name f.shared name })
 
 -- the name of the variable that global makes a procedure see: no element of env
-abbrev pub sharable : Place → Answer Text
-sharable (Plain global name) = Ok name
-sharable (Element global i) = Err (left_out env)
+abbrev pub sharable : Location → Answer Text
+sharable (Scalar global name) = Ok name
+sharable (Element global i) = Err (unsupported env)

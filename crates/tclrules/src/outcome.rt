@@ -75,18 +75,18 @@ impl EvalFault {
         ensures { text_of result ≡ message_of self.now }
     {
         match self {
-            EvalFault::OutOfMemory => Message::plain("Out of memory"),
+            EvalFault::OutOfMemory => Message::of_text("Out of memory"),
             EvalFault::Text(fault) => fault.message(),
             EvalFault::TclError(message, line) => Message::at_line(message.as_str(), *line),
-            EvalFault::TooManyCommands => Message::plain("Too many commands"),
-            EvalFault::TooDeep => Message::plain("Too many nested evaluations"),
-            EvalFault::ValueTooLong => Message::plain("A value is too long"),
-            EvalFault::NumberTooLarge => Message::plain("A number is too large"),
+            EvalFault::TooManyCommands => Message::of_text("Too many commands"),
+            EvalFault::TooDeep => Message::of_text("Too many nested evaluations"),
+            EvalFault::ValueTooLong => Message::of_text("A value is too long"),
+            EvalFault::NumberTooLarge => Message::of_text("A number is too large"),
             EvalFault::FractionOperand => {
-                Message::plain("A number with a fraction is not computed")
+                Message::of_text("A number with a fraction is not computed")
             }
             EvalFault::LeftOut(name) => Message::around("'", name.as_str(), "' is left out"),
-            EvalFault::Stopped => Message::plain("Stopped by the modulefile"),
+            EvalFault::Stopped => Message::of_text("Stopped by the modulefile"),
             EvalFault::Host(number) => Message::at_byte("Refused by ", usize::from(*number)),
         }
     }

@@ -39,7 +39,11 @@ fn copy_words(alloc: Global, words: &[String]) -> Result<Vec<String>, AllocError
 }
 
 /// Adds a copy of the words to the records.
-fn keep(records: &mut Vec<Vec<String>>, alloc: Global, words: &[String]) -> Result<(), AllocError>
+fn push_copy(
+    records: &mut Vec<Vec<String>>,
+    alloc: Global,
+    words: &[String],
+) -> Result<(), AllocError>
     ensures ok { OnOk result (map record_texts records.new.items
         ≡ map record_texts records.old.items ++ map string_bytes words.now ∷ []) }
     ensures err { OnErr result (records.new.items ≡ records.old.items) }
@@ -90,7 +94,7 @@ impl Host for Recorder {
     ghost use Rattle.tclrules.specs.Oracle.{unnamed};
     ghost use Rattle.tclrules.specs.Recording.{answer_of, record_texts, pair_texts, value_in};
 
-    ghost told = { λ r. record {
+    ghost trace = { λ r. record {
       records = map record_texts r.records.items;
       messages = map string_bytes r.messages.items;
       asked = r.asked;
@@ -107,7 +111,7 @@ impl Host for Recorder {
             return HostAnswer::Unknown;
         };
         if name.as_str() == "setenv" {
-            if keep(&mut self.records, self.alloc, words).is_err() {
+            if push_copy(&mut self.records, self.alloc, words).is_err() {
                 return HostAnswer::OutOfMemory;
             }
             HostAnswer::Done(String::new(self.alloc))

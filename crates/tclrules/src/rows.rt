@@ -2,7 +2,7 @@
 ghost use Rattle.std.specs.Prelude.{[], ◌∷◌, true, codes};
 ghost use Rattle.tclchars.specs.declared.fault.TextFault.TheVariants as text;
 ghost use Rattle.tclrules.specs.Derivation.{BadText, TooManyCommands, TooDeep, ValueTooLong, ByHost};
-ghost use Rattle.tclrules.specs.Shown.{standard, with_commands, with_depth, with_bytes, setenv_words, Results, RaisesOn, Stops, HostStops, HostIsTold};
+ghost use Rattle.tclrules.specs.Shown.{standard, with_commands, with_depth, with_bytes, setenv_words, Results, RaisesOn, Stops, HostStops, HostTraces};
 
 /// Worked examples of the rules, each named for what it shows.
 pub fn worked_rows()
@@ -17,7 +17,7 @@ pub fn worked_rows()
     ensures foreach { Results (codes "foreach {x y} {1 2 3} {append s $x-$y,}; set s") (codes "1-2,3-,") 6 }
     ensures proc { Results (codes "proc f {a {b 2} args} {return $a$b$args}; f 1") (codes "12") 3 }
     ensures shared_variable { Results (codes "set x 1; proc f {} {set x 3; global x; set x}; f") (codes "1") 6 }
-    ensures asked_mode { HostIsTold (codes "if {[mode] eq \"unload\"} {setenv A 1}")
+    ensures asked_mode { HostTraces (codes "if {[mode] eq \"unload\"} {setenv A 1}")
         (setenv_words (codes "A") (codes "1") ∷ []) [] true }
     ensures in_a_procedure { RaisesOn 4 (codes "proc f {} {\nset x\n}\nf")
         (codes "can't read \"x\": no such variable") }

@@ -5,7 +5,7 @@ use Rattle.std.specs.Char.{digit_value}
 use Rattle.std.proofs.lemmas.Bool.Decides.{nat_tests}
 use Rattle.tclchars.specs.Runs.{Text}
 use Rattle.tclchars.specs.Backslash.{is_hexadecimal, hexadecimal_at, character, begins_hexadecimal, code_at, wide_code_at, after_backslash}
-use Rattle.tclscript.specs.Offending.{IsBadEscape}
+use Rattle.tclscript.specs.ViablePrefixes.{IsBadEscape}
 use Rattle.tclscript.proofs.Prefixes.{escape_letter}
 
 some_none : {A : Type 0} (x : A) → Some x ≡ None → ⊥

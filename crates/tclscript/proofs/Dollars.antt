@@ -5,24 +5,24 @@ use Rattle.tclchars.specs.Runs.{Text, take_while, drop_while}
 use Rattle.tclchars.specs.Bytes.{AllPass, MayBegin}
 use Rattle.tclchars.specs.Classes.{in_class, is_name}
 use Rattle.tclchars.specs.Reading.{◌>>=◌, Read, read_map}
-use Rattle.tclchars.specs.declared.runs.Class.TheVariants.{InName}
+use Rattle.tclchars.specs.declared.runs.Class.TheVariants.{InBracedName}
 use Rattle.tclchars.specs.declared.fault.Fault.{Fault}
 use Rattle.tclchars.specs.declared.fault.Fault.TheVariants.{OpenBrace, TooDeep, BadCharacter}
 use Rattle.tclchars.proofs.Results.{bind_err, bind_ok, ok_err, ok_pair, read_map_err, read_map_ok}
 use Rattle.tclscript.specs.declared.context.Context.{Context}
 use Rattle.tclscript.specs.declared.context.Context.TheVariants.{InIndex}
-use Rattle.tclscript.specs.declared.runs.Passing.TheVariants.{Name}
+use Rattle.tclscript.specs.declared.runs.ScanState.TheVariants.{Name}
 use Rattle.tclscript.specs.Tree.{Parts, no_parts, part, Part, literal, variable, indexed, nesting, parts_nesting, part_nesting}
 use Rattle.tclscript.specs.Ends.{parts_end}
-use Rattle.tclscript.specs.Passing.{pass}
+use Rattle.tclscript.specs.ScanState.{scan}
 use Rattle.tclscript.specs.Grammar.{IsName, IsLongestName, IsCommands, IsParts, IsPart}
 use Rattle.tclscript.specs.Faults.{CommandsFault, PartsFault, PartFault}
 use Rattle.tclscript.specs.Faults as faults
-use Rattle.tclscript.specs.Reading.{Inner, closed, index_at, braced_name_at, plain_variable, after_name, dollar_at}
+use Rattle.tclscript.specs.Reading.{Inner, after_closing, index_at, braced_name_at, scalar_variable, after_name, dollar_at}
 use Rattle.tclscript.proofs.PassedOver.{pass_whole}
 use Rattle.tclscript.proofs.Names.{name_longest, name_again, longest_before}
 use Rattle.tclscript.proofs.Exact.{Took, Exact}
-use Rattle.tclscript.proofs.Marks.{Without, mark_or_none, on_mark-at, on_mark-not, closed_ok, closed_err, closed-at, none_before, run_taken, front_run, back_run}
+use Rattle.tclscript.proofs.Marks.{Without, mark_or_none, on_mark-at, on_mark-not, closed_ok, closed_err, after_closing-at, none_before, run_taken, front_run, back_run}
 
 abbrev pub Anywhere : Text → Type 0
 Anywhere bs = Unit {0}
@@ -54,10 +54,10 @@ two_parts name inside r mark = append_assoc name (mark ∷ (inside ++ 41 ∷ [])
 
 -- names
 
-in_name_end : (bs : Text) → MayBegin (λ b. not (in_class InName b)) bs → Without 125 bs → bs ≡ []
+in_name_end : (bs : Text) → MayBegin (λ b. not (in_class InBracedName b)) bs → Without 125 bs → bs ≡ []
 in_name_end [] h k = refl
 in_name_end (b ∷ bs) h k = absurd (apart b h k) where
-  apart : (b : ℕ) → not (in_class InName b) ≡ true → not (b == 125) ≡ true → ⊥
+  apart : (b : ℕ) → not (in_class InBracedName b) ≡ true → not (b == 125) ≡ true → ⊥
   apart b h k = grind (arith, nat_tests)
 
 either_mark : (b : ℕ) → not (b == 40) ≡ true → not (b == 123) ≡ true → not (b == 40 || b == 123) ≡ true
@@ -85,10 +85,10 @@ name_brace (IsName.colons run h is) after k = refl
 
 -- behind the parenthesis and the brace that close
 abbrev close_index : Fault → Parts → Text → Read Parts
-close_index mark ps r = closed 41 mark r >>= (λ rest. Ok (ps, rest))
+close_index mark ps r = after_closing 41 mark r >>= (λ rest. Ok (ps, rest))
 
 abbrev close_name : Fault → Text → Text → Read Part
-close_name mark name r = closed 125 mark r >>= (λ rest. Ok (variable name, rest))
+close_name mark name r = after_closing 125 mark r >>= (λ rest. Ok (variable name, rest))
 
 module _ (d : ℕ) (inner : Inner) (exact : IsExactInner d inner) where
   -- behind a name, the parenthesis of an index
@@ -97,7 +97,7 @@ module _ (d : ℕ) (inner : Inner) (exact : IsExactInner d inner) where
   index_sound c name bs ps r is h =
       let fault = BadCharacter (suc (length bs)) in
       let x = bind_ok (inner.index bs) (λ x. close_index fault x.0 x.1) (ps, r) h in
-      let y = bind_ok (closed 41 fault x.0.1) (λ rest. Ok (x.0.0, rest)) (ps, r) x.2 in
+      let y = bind_ok (after_closing 41 fault x.0.1) (λ rest. Ok (x.0.0, rest)) (ps, r) x.2 in
       let two = ok_pair (x.0.0, y.0) (ps, r) y.2 in
       let k = exact.index.sound bs x.0.0 x.0.1 tt x.1 in
       let after : x.0.1 ≡ 41 ∷ r = closed_ok 41 fault x.0.1 y.0 y.1 ∙ ap (λ xs. 41 ∷ xs) two.1 in
@@ -128,7 +128,7 @@ module _ (d : ℕ) (inner : Inner) (exact : IsExactInner d inner) where
         unclosed : (bs : Text) (f : Fault) → IsName name → (ps : Parts) (r : Text) → inner.index bs ≡ Ok (ps, r) → close_index (BadCharacter (suc (length bs))) ps r ≡ Err f → PartFault d (36 ∷ (name ++ 40 ∷ bs)) f
         unclosed bs f is ps r was h =
             let mark = BadCharacter (suc (length bs)) in
-            elim (bind_err (closed 41 mark r) (λ rest. Ok (ps, rest)) f h) [
+            elim (bind_err (after_closing 41 mark r) (λ rest. Ok (ps, rest)) f h) [
               | inl bad ↦ (
                   let e = closed_err 41 mark r f bad in
                   let k = exact.index.sound bs ps r tt was in
@@ -146,7 +146,7 @@ module _ (d : ℕ) (inner : Inner) (exact : IsExactInner d inner) where
       let bs = inside ++ 41 ∷ r in
       let mark = BadCharacter (suc (length bs)) in
       ap (λ x. x >>= (λ x. close_index mark x.0 x.1)) (exact.index.again ps inside (41 ∷ r) (h, less))
-      ∙ ap (λ (x : Result Text Fault). x >>= (λ rest. let found : Read Parts = Ok (ps, rest) in found)) (closed-at 41 mark r)
+      ∙ ap (λ (x : Result Text Fault). x >>= (λ rest. let found : Read Parts = Ok (ps, rest) in found)) (after_closing-at 41 mark r)
 
   index_met : (bs : Text) (f : Fault) → IndexFault d bs f → index_at inner bs ≡ Err f
   unfolding index_at
@@ -161,14 +161,14 @@ module _ (d : ℕ) (inner : Inner) (exact : IsExactInner d inner) where
 
   -- behind a dollar sign
 
-  plain_sound : (c : Context) (name rest : Text) → Without 40 rest → Without 123 (name ++ rest) → IsLongestName name rest → IsPart c (plain_variable name) (36 ∷ name) rest × (part_nesting (plain_variable name) ≤ d)
+  plain_sound : (c : Context) (name rest : Text) → Without 40 rest → Without 123 (name ++ rest) → IsLongestName name rest → IsPart c (scalar_variable name) (36 ∷ name) rest × (part_nesting (scalar_variable name) ≤ d)
   plain_sound c [] rest h k is = ((refl, inr (inl (refl, is, no_marks rest h k))), omega arith)
   plain_sound c (b ∷ name) rest h k is = (inl (refl, (λ e. cc), is, h), omega arith)
 
   name_sound : (c : Context) (name rest : Text) (p : Part) (r : Text) → Without 123 (name ++ rest) → IsLongestName name rest → after_name inner (name, rest) ≡ Ok (p, r) → Took (DollarIs d c) (36 ∷ (name ++ rest)) p r
   name_sound c name rest p r free is h =
       let found = λ (bs : Text). read_map (indexed name) (index_at inner bs) in
-      let other : Read Part = Ok (plain_variable name, rest) in
+      let other : Read Part = Ok (scalar_variable name, rest) in
       elim (mark_or_none 40 rest) [
         | inl k ↦ (
             let x = read_map_ok (indexed name) (index_at inner k.0) p r (sym (on_mark-at 40 rest k.0 found other k.1) ∙ h) in
@@ -176,30 +176,30 @@ module _ (d : ℕ) (inner : Inner) (exact : IsExactInner d inner) where
             subst (λ ys. Took (DollarIs d c) (36 ∷ (name ++ ys)) p r) (sym k.1) (subst (λ p. Took (DollarIs d c) (36 ∷ (name ++ 40 ∷ k.0)) p r) x.2 made)
             )
         | inr k ↦ (
-            let two = ok_pair (plain_variable name, rest) (p, r) (sym (on_mark-not 40 rest found other k) ∙ h) in
-            let made : Took (DollarIs d c) (36 ∷ (name ++ rest)) (plain_variable name) rest = record { taken = 36 ∷ name; whole = refl; is = plain_sound c name rest k free is } in
-            subst (λ p. Took (DollarIs d c) (36 ∷ (name ++ rest)) p r) two.0 (subst (λ ys. Took (DollarIs d c) (36 ∷ (name ++ rest)) (plain_variable name) ys) two.1 made)
+            let two = ok_pair (scalar_variable name, rest) (p, r) (sym (on_mark-not 40 rest found other k) ∙ h) in
+            let made : Took (DollarIs d c) (36 ∷ (name ++ rest)) (scalar_variable name) rest = record { taken = 36 ∷ name; whole = refl; is = plain_sound c name rest k free is } in
+            subst (λ p. Took (DollarIs d c) (36 ∷ (name ++ rest)) p r) two.0 (subst (λ ys. Took (DollarIs d c) (36 ∷ (name ++ rest)) (scalar_variable name) ys) two.1 made)
             )
       ]
 
   name_faulty : (name rest : Text) (f : Fault) → IsName name → after_name inner (name, rest) ≡ Err f → PartFault d (36 ∷ (name ++ rest)) f
   name_faulty name rest f is h =
       let found = λ (bs : Text). read_map (indexed name) (index_at inner bs) in
-      let other : Read Part = Ok (plain_variable name, rest) in
+      let other : Read Part = Ok (scalar_variable name, rest) in
       elim (mark_or_none 40 rest) [
         | inl k ↦ subst (λ ys. PartFault d (36 ∷ (name ++ ys)) f) (sym k.1) (index_faulty name k.0 f is (read_map_err (indexed name) (index_at inner k.0) f (sym (on_mark-at 40 rest k.0 found other k.1) ∙ h)))
-        | inr k ↦ absurd (ok_err (plain_variable name, rest) f (sym (on_mark-not 40 rest found other k) ∙ h))
+        | inr k ↦ absurd (ok_err (scalar_variable name, rest) f (sym (on_mark-not 40 rest found other k) ∙ h))
       ]
 
   braced_sound : (c : Context) (bs : Text) (p : Part) (r : Text) → braced_name_at bs ≡ Ok (p, r) → Took (DollarIs d c) (36 ∷ (123 ∷ bs)) p r
   unfolding braced_name_at
   braced_sound c bs p r h =
-      let name = take_while (in_class InName) bs in
-      let after = drop_while (in_class InName) bs in
+      let name = take_while (in_class InBracedName) bs in
+      let after = drop_while (in_class InBracedName) bs in
       let mark = OpenBrace (suc (length bs)) in
-      let x = bind_ok (closed 125 mark after) (λ rest. Ok (variable name, rest)) (p, r) h in
+      let x = bind_ok (after_closing 125 mark after) (λ rest. Ok (variable name, rest)) (p, r) h in
       let two = ok_pair (variable name, x.0) (p, r) x.2 in
-      let run = run_taken (in_class InName) bs in
+      let run = run_taken (in_class InBracedName) bs in
       let whole : bs ≡ name ++ 125 ∷ r = run.0 ∙ ap (λ ys. name ++ ys) (closed_ok 125 mark after x.0 x.1 ∙ ap (λ ys. 125 ∷ ys) two.1) in
       let made : Took (DollarIs d c) (36 ∷ (123 ∷ bs)) (variable name) r = record {
         taken = 36 ∷ (123 ∷ (name ++ 125 ∷ []));
@@ -211,16 +211,16 @@ module _ (d : ℕ) (inner : Inner) (exact : IsExactInner d inner) where
   braced_faulty : (bs : Text) (f : Fault) → braced_name_at bs ≡ Err f → PartFault d (36 ∷ (123 ∷ bs)) f
   unfolding braced_name_at
   braced_faulty bs f h =
-      let name = take_while (in_class InName) bs in
-      let after = drop_while (in_class InName) bs in
+      let name = take_while (in_class InBracedName) bs in
+      let after = drop_while (in_class InBracedName) bs in
       let mark = OpenBrace (suc (length bs)) in
-      let run = run_taken (in_class InName) bs in
-      elim (bind_err (closed 125 mark after) (λ rest. Ok (variable name, rest)) f h) [
+      let run = run_taken (in_class InBracedName) bs in
+      elim (bind_err (after_closing 125 mark after) (λ rest. Ok (variable name, rest)) f h) [
         | inl bad ↦ (
             let e = closed_err 125 mark after f bad in
             let none : after ≡ [] = in_name_end after run.2 e.1 in
             let all : name ≡ bs = sym (append-nil name) ∙ ap (λ ys. name ++ ys) (sym none) ∙ sym run.0 in
-            subst (PartFault d (36 ∷ (123 ∷ bs))) e.0 (faults.PartFault.open_name (subst (AllPass (in_class InName)) all run.1))
+            subst (PartFault d (36 ∷ (123 ∷ bs))) e.0 (faults.PartFault.open_name (subst (AllPass (in_class InBracedName)) all run.1))
             )
         | inr k ↦ absurd (ok_err (variable name, k.0) f k.2)
       ]
@@ -228,22 +228,22 @@ module _ (d : ℕ) (inner : Inner) (exact : IsExactInner d inner) where
   pub dollar_sound : (c : Context) (bs : Text) (p : Part) (r : Text) → dollar_at inner bs ≡ Ok (p, r) → Took (DollarIs d c) (36 ∷ bs) p r
   unfolding dollar_at
   dollar_sound c bs p r h = elim (mark_or_none 123 bs) [
-    | inl k ↦ subst (λ ys. Took (DollarIs d c) (36 ∷ ys) p r) (sym k.1) (braced_sound c k.0 p r (sym (on_mark-at 123 bs k.0 braced_name_at (after_name inner (pass Name bs)) k.1) ∙ h))
+    | inl k ↦ subst (λ ys. Took (DollarIs d c) (36 ∷ ys) p r) (sym k.1) (braced_sound c k.0 p r (sym (on_mark-at 123 bs k.0 braced_name_at (after_name inner (scan Name bs)) k.1) ∙ h))
     | inr k ↦ (
         let whole = pass_whole Name bs in
         subst (λ ys. Took (DollarIs d c) (36 ∷ ys) p r) (sym whole)
-        (name_sound c (pass Name bs).0 (pass Name bs).1 p r (subst (Without 123) whole k) (name_longest bs) (sym (on_mark-not 123 bs braced_name_at (after_name inner (pass Name bs)) k) ∙ h))
+        (name_sound c (scan Name bs).0 (scan Name bs).1 p r (subst (Without 123) whole k) (name_longest bs) (sym (on_mark-not 123 bs braced_name_at (after_name inner (scan Name bs)) k) ∙ h))
         )
   ]
 
   pub dollar_faulty : (bs : Text) (f : Fault) → dollar_at inner bs ≡ Err f → PartFault d (36 ∷ bs) f
   unfolding dollar_at
   dollar_faulty bs f h = elim (mark_or_none 123 bs) [
-    | inl k ↦ subst (λ ys. PartFault d (36 ∷ ys) f) (sym k.1) (braced_faulty k.0 f (sym (on_mark-at 123 bs k.0 braced_name_at (after_name inner (pass Name bs)) k.1) ∙ h))
+    | inl k ↦ subst (λ ys. PartFault d (36 ∷ ys) f) (sym k.1) (braced_faulty k.0 f (sym (on_mark-at 123 bs k.0 braced_name_at (after_name inner (scan Name bs)) k.1) ∙ h))
     | inr k ↦ (
         let whole = pass_whole Name bs in
         subst (λ ys. PartFault d (36 ∷ ys) f) (sym whole)
-        (name_faulty (pass Name bs).0 (pass Name bs).1 f (name_longest bs).0 (sym (on_mark-not 123 bs braced_name_at (after_name inner (pass Name bs)) k) ∙ h))
+        (name_faulty (scan Name bs).0 (scan Name bs).1 f (name_longest bs).0 (sym (on_mark-not 123 bs braced_name_at (after_name inner (scan Name bs)) k) ∙ h))
         )
   ]
 
@@ -252,36 +252,36 @@ module _ (d : ℕ) (inner : Inner) (exact : IsExactInner d inner) where
   to_name : (name rest : Text) → Without 123 (name ++ rest) → IsLongestName name rest → dollar_at inner (name ++ rest) ≡ after_name inner (name, rest)
   unfolding dollar_at
   to_name name rest free is =
-      on_mark-not 123 (name ++ rest) braced_name_at (after_name inner (pass Name (name ++ rest))) free ∙ ap (after_name inner) (name_again name rest is)
+      on_mark-not 123 (name ++ rest) braced_name_at (after_name inner (scan Name (name ++ rest))) free ∙ ap (after_name inner) (name_again name rest is)
 
   pub dollar_alone : (r : Text) → IsLongestName [] r → MayBegin (λ b. not (b == 40 || b == 123)) r → dollar_at inner r ≡ Ok (literal (36 ∷ []), r)
   dollar_alone r is h =
       let marks = both_marks r h in
-      to_name [] r marks.1 is ∙ on_mark-not 40 r (λ bs. read_map (indexed []) (index_at inner bs)) (Ok (plain_variable [], r)) marks.0
+      to_name [] r marks.1 is ∙ on_mark-not 40 r (λ bs. read_map (indexed []) (index_at inner bs)) (Ok (scalar_variable [], r)) marks.0
 
   pub variable_again : (name r : Text) → name ≢ [] → IsLongestName name r → Without 40 r → dollar_at inner (name ++ r) ≡ Ok (variable name, r)
   variable_again [] r some is h = absurd (some refl)
   variable_again (b ∷ name) r some is h =
-      to_name (b ∷ name) r (first_free b name r is.0) is ∙ on_mark-not 40 r (λ bs. read_map (indexed (b ∷ name)) (index_at inner bs)) (Ok (plain_variable (b ∷ name), r)) h where
+      to_name (b ∷ name) r (first_free b name r is.0) is ∙ on_mark-not 40 r (λ bs. read_map (indexed (b ∷ name)) (index_at inner bs)) (Ok (scalar_variable (b ∷ name), r)) h where
         first_free : (b : ℕ) (name r : Text) → IsName (b ∷ name) → Without 123 ((b ∷ name) ++ r)
         first_free b name r is = subst (λ xs. Without 123 xs) (append-nil (b ∷ name)) (name_brace is [] tt)
 
-  braced_again : (name r : Text) → AllPass (in_class InName) name → braced_name_at (name ++ 125 ∷ r) ≡ Ok (variable name, r)
+  braced_again : (name r : Text) → AllPass (in_class InBracedName) name → braced_name_at (name ++ 125 ∷ r) ≡ Ok (variable name, r)
   unfolding braced_name_at
   braced_again name r all =
       let bs = name ++ 125 ∷ r in
       let mark = OpenBrace (suc (length bs)) in
-      ap₂ (λ (f b : Text). close_name mark f b) (front_run (in_class InName) name (125 ∷ r) all refl) (back_run (in_class InName) name (125 ∷ r) all refl)
-      ∙ ap (λ (x : Result Text Fault). x >>= (λ rest. let found : Read Part = Ok (variable name, rest) in found)) (closed-at 125 mark r)
+      ap₂ (λ (f b : Text). close_name mark f b) (front_run (in_class InBracedName) name (125 ∷ r) all refl) (back_run (in_class InBracedName) name (125 ∷ r) all refl)
+      ∙ ap (λ (x : Result Text Fault). x >>= (λ rest. let found : Read Part = Ok (variable name, rest) in found)) (after_closing-at 125 mark r)
 
-  pub braced_variable_again : (name r : Text) → AllPass (in_class InName) name → dollar_at inner (123 ∷ (name ++ 125 ∷ r)) ≡ Ok (variable name, r)
+  pub braced_variable_again : (name r : Text) → AllPass (in_class InBracedName) name → dollar_at inner (123 ∷ (name ++ 125 ∷ r)) ≡ Ok (variable name, r)
   unfolding dollar_at
   braced_variable_again name r all = braced_again name r all
 
   to_index : (name bs : Text) → IsName name → dollar_at inner (name ++ 40 ∷ bs) ≡ read_map (indexed name) (index_at inner bs)
   to_index name bs is =
       to_name name (40 ∷ bs) (name_brace is (40 ∷ bs) refl) (longest_before name 40 bs refl is)
-      ∙ on_mark-at 40 (40 ∷ bs) bs (λ bs. read_map (indexed name) (index_at inner bs)) (Ok (plain_variable name, 40 ∷ bs)) refl
+      ∙ on_mark-at 40 (40 ∷ bs) bs (λ bs. read_map (indexed name) (index_at inner bs)) (Ok (scalar_variable name, 40 ∷ bs)) refl
 
   pub indexed_again : (name inside r : Text) (ps : Parts) → IsName name → IsParts InIndex ps inside (41 ∷ r) → parts_nesting ps < d → dollar_at inner (name ++ 40 ∷ (inside ++ 41 ∷ r)) ≡ Ok (indexed name ps, r)
   indexed_again name inside r ps is h less = to_index name (inside ++ 41 ∷ r) is ∙ ap (read_map (indexed name)) (index_again inside r ps h less)
@@ -292,13 +292,13 @@ module _ (d : ℕ) (inner : Inner) (exact : IsExactInner d inner) where
   pub indexed_open : (name bs : Text) (ps : Parts) → IsName name → IsParts InIndex ps bs [] → parts_nesting ps < d → dollar_at inner (name ++ 40 ∷ bs) ≡ Err (BadCharacter (suc (length bs)))
   indexed_open name bs ps is h less = to_index name bs is ∙ ap (read_map (indexed name)) (index_open bs ps h less)
 
-  name_open : (bs : Text) → AllPass (in_class InName) bs → braced_name_at bs ≡ Err (OpenBrace (suc (length bs)))
+  name_open : (bs : Text) → AllPass (in_class InBracedName) bs → braced_name_at bs ≡ Err (OpenBrace (suc (length bs)))
   unfolding braced_name_at
   name_open bs all =
       let mark = OpenBrace (suc (length bs)) in
-      let none : drop_while (in_class InName) bs ≡ [] = ap (drop_while (in_class InName)) (sym (append-nil bs)) ∙ back_run (in_class InName) bs [] all tt in
-      ap (close_name mark (take_while (in_class InName) bs)) none
+      let none : drop_while (in_class InBracedName) bs ≡ [] = ap (drop_while (in_class InBracedName)) (sym (append-nil bs)) ∙ back_run (in_class InBracedName) bs [] all tt in
+      ap (close_name mark (take_while (in_class InBracedName) bs)) none
 
-  pub braced_met : (bs : Text) → AllPass (in_class InName) bs → dollar_at inner (123 ∷ bs) ≡ Err (OpenBrace (suc (length bs)))
+  pub braced_met : (bs : Text) → AllPass (in_class InBracedName) bs → dollar_at inner (123 ∷ bs) ≡ Err (OpenBrace (suc (length bs)))
   unfolding dollar_at
   braced_met bs all = name_open bs all

@@ -7,15 +7,15 @@ use Rattle.tclchars.specs.Classes.{in_class}
 use Rattle.tclchars.specs.Backslash.{after_backslash}
 use Rattle.tclscript.specs.declared.context.Context.{Context}
 use Rattle.tclscript.specs.declared.context.Context.TheVariants.{InScript, InBracket, InIndex, InQuotes}
-use Rattle.tclscript.specs.declared.runs.Passing.{Passing}
-use Rattle.tclscript.specs.declared.runs.Passing.TheVariants.{Blanks, Joined, Gap, Comment, Escaped, Name, Colons}
-use Rattle.tclscript.specs.Passing.{step, put_before, pass_on, pass}
+use Rattle.tclscript.specs.declared.runs.ScanState.{ScanState}
+use Rattle.tclscript.specs.declared.runs.ScanState.TheVariants.{Blanks, AwaitsNewline, Gap, Comment, Escaped, Name, Colons}
+use Rattle.tclscript.specs.ScanState.{step, put_before, scan_on, scan}
 use Rattle.tclscript.specs.Tree as tree
 use Rattle.tclscript.specs.Tree.{Commands, no_commands, command, Words, no_words, word, Word, word_of, Parts, no_parts, part, Part, literal, variable, indexed, bracket}
-use Rattle.tclscript.specs.Ends.{script_ends, command_ends, word_ends, stands_before, parts_end, class_of, bare}
+use Rattle.tclscript.specs.Ends.{script_ends, command_ends, word_ends, ends_at, parts_end, class_of, bare}
 use Rattle.tclscript.specs.Grammar as grammar
-use Rattle.tclscript.specs.Grammar.{IsGap, IsLongestName, IsLiteral, IsPlainWord, IsCommands, IsCommand, IsWords, IsWord, IsParts, IsPart}
-use Rattle.tclscript.proofs.PassedOver.{pass-on, pass-stop}
+use Rattle.tclscript.specs.Grammar.{IsGap, IsLongestName, IsLiteral, IsUnexpandedWord, IsCommands, IsCommand, IsWords, IsWord, IsParts, IsPart}
+use Rattle.tclscript.proofs.PassedOver.{scan-on, scan-stop}
 use Rattle.tclscript.proofs.Names.{name_longest, name_again}
 use Rattle.tclscript.proofs.NextByte.{same_escape, shorter_escape}
 
@@ -69,15 +69,15 @@ pub script_ends-like : (nested : Bool) (p s t : Text) → Like p s t → script_
 script_ends-like nested [] s t h = absurd h
 script_ends-like nested (b ∷ p) s t h = refl
 
-stands_before-like : (mark : ℕ) (p s t : Text) → Like p s t → stands_before mark (p ++ s) ≡ stands_before mark (p ++ t)
-stands_before-like mark [] s t h = absurd h
-stands_before-like mark (b ∷ p) s t h = refl
+ends_at-like : (mark : ℕ) (p s t : Text) → Like p s t → ends_at mark (p ++ s) ≡ ends_at mark (p ++ t)
+ends_at-like mark [] s t h = absurd h
+ends_at-like mark (b ∷ p) s t h = refl
 
 pub parts_end-like : (c : Context) (p s t : Text) → Like p s t → parts_end c (p ++ s) ≡ parts_end c (p ++ t)
 parts_end-like InScript p s t h = word_ends-like false p s t h
 parts_end-like InBracket p s t h = word_ends-like true p s t h
-parts_end-like InIndex p s t h = stands_before-like 41 p s t h
-parts_end-like InQuotes p s t h = stands_before-like 34 p s t h
+parts_end-like InIndex p s t h = ends_at-like 41 p s t h
+parts_end-like InQuotes p s t h = ends_at-like 34 p s t h
 
 pub may_begin-like : (q : ℕ → Bool) (p s t : Text) → Like p s t → MayBegin q (p ++ s) → MayBegin q (p ++ t)
 may_begin-like q [] s t h k = absurd h
@@ -89,61 +89,61 @@ does_begin-like q (b ∷ p) s t h k = k
 
 -- What is passed over
 
-same_step : (p : Passing) (b : ℕ) (x y : Text) → begins newline x ≡ begins newline y → begins colon x ≡ begins colon y → step p b x ≡ step p b y
+same_step : (p : ScanState) (b : ℕ) (x y : Text) → begins newline x ≡ begins newline y → begins colon x ≡ begins colon y → step p b x ≡ step p b y
 same_step Blanks b x y h k = rw h refl
-same_step Joined b x y h k = refl
+same_step AwaitsNewline b x y h k = refl
 same_step Gap b x y h k = rw h refl
 same_step Comment b x y h k = refl
 same_step Escaped b x y h k = refl
 same_step Name b x y h k = rw k refl
 same_step Colons b x y h k = refl
 
-like_step : (p : Passing) (b : ℕ) (x y : Text) → (b == 92 && begins newline x) ≡ (b == 92 && begins newline y) → (b == 58 && begins colon x) ≡ (b == 58 && begins colon y) → step p b x ≡ step p b y
+like_step : (p : ScanState) (b : ℕ) (x y : Text) → (b == 92 && begins newline x) ≡ (b == 92 && begins newline y) → (b == 58 && begins colon x) ≡ (b == 58 && begins colon y) → step p b x ≡ step p b y
 like_step Blanks b x y h k = rw h refl
-like_step Joined b x y h k = refl
+like_step AwaitsNewline b x y h k = refl
 like_step Gap b x y h k = rw h refl
 like_step Comment b x y h k = refl
 like_step Escaped b x y h k = refl
 like_step Name b x y h k = rw k refl
 like_step Colons b x y h k = refl
 
-firm_step : (p : Passing) (b : ℕ) (bs s t : Text) → Like (b ∷ bs) s t → step p b (bs ++ s) ≡ step p b (bs ++ t)
+firm_step : (p : ScanState) (b : ℕ) (bs s t : Text) → Like (b ∷ bs) s t → step p b (bs ++ s) ≡ step p b (bs ++ t)
 firm_step p b [] s t h = like_step p b s t h.0 h.1
 firm_step p b (c ∷ bs) s t h = same_step p b (c ∷ (bs ++ s)) (c ∷ (bs ++ t)) refl refl
 
 -- the first byte of what was passed over
-stopped : (b : ℕ) (bs : Text) (next : Option Passing) → (pass_on b bs (λ p. pass p bs) next).0 ≡ [] → next ≡ None
+stopped : (b : ℕ) (bs : Text) (next : Option ScanState) → (scan_on b bs (λ p. scan p bs) next).0 ≡ [] → next ≡ None
 stopped b bs None h = refl
 stopped b bs (Some p) h = cc
 
-went_on : (b x : ℕ) (bs xs r : Text) (next : Option Passing) → pass_on b bs (λ p. pass p bs) next ≡ (x ∷ xs, r) → (p : Passing) × (next ≡ Some p) × (pass p bs ≡ (xs, r))
+went_on : (b x : ℕ) (bs xs r : Text) (next : Option ScanState) → scan_on b bs (λ p. scan p bs) next ≡ (x ∷ xs, r) → (p : ScanState) × (next ≡ Some p) × (scan p bs ≡ (xs, r))
 went_on b x bs xs r None h = absurd (apart (ap (λ (p : Text × Text). p.0) h)) where
   apart : [] ≡ x ∷ xs → ⊥
   apart h = cc
 went_on b x bs xs r (Some p) h =
-    let one : b ∷ (pass p bs).0 ≡ x ∷ xs = ap (λ (p : Text × Text). p.0) h in
-    let rest : (pass p bs).1 ≡ r = ap (λ (p : Text × Text). p.1) h in
-    let same : (pass p bs).0 ≡ xs = cc in
+    let one : b ∷ (scan p bs).0 ≡ x ∷ xs = ap (λ (p : Text × Text). p.0) h in
+    let rest : (scan p bs).1 ≡ r = ap (λ (p : Text × Text). p.1) h in
+    let same : (scan p bs).0 ≡ xs = cc in
     (p, refl, ap₂ (λ (x y : Text). (x, y)) same rest)
 
-pass-open : (p : Passing) (b : ℕ) (bs : Text) → pass p (b ∷ bs) ≡ pass_on b bs (λ p. pass p bs) (step p b bs)
-unfolding pass
-pass-open p b bs = refl
+scan-open : (p : ScanState) (b : ℕ) (bs : Text) → scan p (b ∷ bs) ≡ scan_on b bs (λ p. scan p bs) (step p b bs)
+unfolding scan
+scan-open p b bs = refl
 
-pass-like : (q : Passing) (x p s t : Text) → Like p s t → pass q (x ++ (p ++ s)) ≡ (x, p ++ s) → pass q (x ++ (p ++ t)) ≡ (x, p ++ t)
-pass-like q [] [] s t h k = absurd h
-pass-like q [] (b ∷ p) s t h k =
-    let none : step q b (p ++ s) ≡ None = stopped b (p ++ s) (step q b (p ++ s)) (ap (λ (p : Text × Text). p.0) (sym (pass-open q b (p ++ s)) ∙ k)) in
-    pass-stop q b (p ++ t) (sym (firm_step q b p s t h) ∙ none)
-pass-like q (b ∷ x) p s t h k =
-    let m = went_on b b (x ++ (p ++ s)) x (p ++ s) (step q b (x ++ (p ++ s))) (sym (pass-open q b (x ++ (p ++ s))) ∙ k) in
+scan-like : (q : ScanState) (x p s t : Text) → Like p s t → scan q (x ++ (p ++ s)) ≡ (x, p ++ s) → scan q (x ++ (p ++ t)) ≡ (x, p ++ t)
+scan-like q [] [] s t h k = absurd h
+scan-like q [] (b ∷ p) s t h k =
+    let none : step q b (p ++ s) ≡ None = stopped b (p ++ s) (step q b (p ++ s)) (ap (λ (p : Text × Text). p.0) (sym (scan-open q b (p ++ s)) ∙ k)) in
+    scan-stop q b (p ++ t) (sym (firm_step q b p s t h) ∙ none)
+scan-like q (b ∷ x) p s t h k =
+    let m = went_on b b (x ++ (p ++ s)) x (p ++ s) (step q b (x ++ (p ++ s))) (sym (scan-open q b (x ++ (p ++ s))) ∙ k) in
     let same : step q b (x ++ (p ++ s)) ≡ step q b (x ++ (p ++ t)) =
     ap (step q b) (sym (append_assoc x p s)) ∙ firm_step q b (x ++ p) s t (like_before (b ∷ x) p s t h) ∙ ap (step q b) (append_assoc x p t) in
-    pass-on q m.0 b (x ++ (p ++ t)) (sym same ∙ m.1) ∙ ap (put_before b) (pass-like m.0 x p s t h m.2)
+    scan-on q m.0 b (x ++ (p ++ t)) (sym same ∙ m.1) ∙ ap (put_before b) (scan-like m.0 x p s t h m.2)
 
 longest-like : (name p s t : Text) → Like p s t → IsLongestName name (p ++ s) → IsLongestName name (p ++ t)
 longest-like name p s t h k =
-    let e = pass-like Name name p s t h (name_again name (p ++ s) k) in
+    let e = scan-like Name name p s t h (name_again name (p ++ s) k) in
     subst (λ (x : Text × Text). IsLongestName x.0 x.1) e (name_longest (name ++ (p ++ t)))
 
 -- Gaps
@@ -175,16 +175,16 @@ literal-like c x p s t h (inr (inr last)) = absurd (like_some p s t h last.1)
 back_to : (x p s : Text) → (x ++ p) ++ s ≡ x ++ (p ++ s)
 back_to x p s = append_assoc x p s
 
-plain-like : (nested : Bool) (ps : Parts) (x p s t : Text) → Like p s t → ((c : Context) (y q : Text) → Like q s t → IsParts c ps y (q ++ s) → IsParts c ps y (q ++ t))
-    → IsPlainWord nested ps (λ c inside more. IsParts c ps inside more) x (p ++ s) → IsPlainWord nested ps (λ c inside more. IsParts c ps inside more) x (p ++ t)
-plain-like nested ps x p s t h all (e, inl k) = (sym (word_ends-like nested p s t h) ∙ e, inl k)
-plain-like nested ps x p s t h all (e, inr (inl k)) = (sym (word_ends-like nested p s t h) ∙ e, inr (inl (k.0, k.1, all InQuotes k.0 (34 ∷ p) (like_before (34 ∷ []) p s t h) k.2)))
-plain-like nested ps x p s t h all (e, inr (inr k)) = (sym (word_ends-like nested p s t h) ∙ e, inr (inr (k.0, all (bare nested) x p h k.1)))
+not_expanding-like : (nested : Bool) (ps : Parts) (x p s t : Text) → Like p s t → ((c : Context) (y q : Text) → Like q s t → IsParts c ps y (q ++ s) → IsParts c ps y (q ++ t))
+    → IsUnexpandedWord nested ps (λ c inside more. IsParts c ps inside more) x (p ++ s) → IsUnexpandedWord nested ps (λ c inside more. IsParts c ps inside more) x (p ++ t)
+not_expanding-like nested ps x p s t h all (e, inl k) = (sym (word_ends-like nested p s t h) ∙ e, inl k)
+not_expanding-like nested ps x p s t h all (e, inr (inl k)) = (sym (word_ends-like nested p s t h) ∙ e, inr (inl (k.0, k.1, all InQuotes k.0 (34 ∷ p) (like_before (34 ∷ []) p s t h) k.2)))
+not_expanding-like nested ps x p s t h all (e, inr (inr k)) = (sym (word_ends-like nested p s t h) ∙ e, inr (inr (k.0, all (bare nested) x p h k.1)))
 
 mutual
   pub commands-like : (size : ℕ) (nested : Bool) (cs : Commands) (x p s t : Text) → Like p s t → IsCommands size nested cs x (p ++ s) → IsCommands size nested cs x (p ++ t)
   commands-like size nested no_commands x p s t h k = (gap-any k.0 (like_some p s t h) (p ++ t), sym (script_ends-like nested p s t h) ∙ k.1)
-  commands-like size nested (command place source ws cs) x p s t h k =
+  commands-like size nested (command offset source ws cs) x p s t h k =
       let body = k.is_second.first in
       let rest = k.is_second.second in
       record {
@@ -236,12 +236,12 @@ mutual
       }
 
   pub word-like : (nested : Bool) (w : Word) (x p s t : Text) → Like p s t → IsWord nested w x (p ++ s) → IsWord nested w x (p ++ t)
-  word-like nested (word_of false ps) x p s t h k = plain-like nested ps x p s t h (λ c y q r. parts-like c ps y q s t r) k
+  word-like nested (word_of false ps) x p s t h k = not_expanding-like nested ps x p s t h (λ c y q r. parts-like c ps y q s t r) k
   word-like nested (word_of true ps) x p s t h k = (
     k.0,
     k.1,
     ap (word_ends nested) (sym (append_assoc k.0 p t)) ∙ sym (word_ends-like nested (k.0 ++ p) s t (like_before k.0 p s t h)) ∙ ap (word_ends nested) (append_assoc k.0 p s) ∙ k.2,
-    plain-like nested ps k.0 p s t h (λ c y q r. parts-like c ps y q s t r) k.3,
+    not_expanding-like nested ps k.0 p s t h (λ c y q r. parts-like c ps y q s t r) k.3,
   )
 
   pub parts-like : (c : Context) (ps : Parts) (x p s t : Text) → Like p s t → IsParts c ps x (p ++ s) → IsParts c ps x (p ++ t)

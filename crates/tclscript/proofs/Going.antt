@@ -3,8 +3,8 @@ use Rattle.std.proofs.Common.{◌≡◌, ℕ, [], ◌∷◌, Bool, true, false, 
 use Rattle.tclchars.specs.Bytes.{newline, backslash, is_gap, is_blank, is_end}
 use Rattle.tclchars.specs.Runs.{Text, begins}
 use Rattle.tclscript.specs.Ends.{script_ends, command_ends, word_ends}
-use Rattle.tclscript.specs.Passing.{step_blanks, step_gap, skip_blanks, skip_gap}
-use Rattle.tclscript.specs.declared.runs.Passing.TheVariants.{Blanks, Joined, Gap}
+use Rattle.tclscript.specs.ScanState.{step_blanks, step_gap, skip_blanks, skip_gap}
+use Rattle.tclscript.specs.declared.runs.ScanState.TheVariants.{Blanks, AwaitsNewline, Gap}
 use Rattle.tclscript.proofs.Passes.{StopsBlanks, StopsGap, blanks_stop, gap_stop}
 
 neither : (t u : Bool) → (t || u) ≡ false → (t ≡ false) × (u ≡ false)
@@ -21,7 +21,7 @@ blank_tests : (b : ℕ) (bs : Text) → step_blanks b bs ≡ None → (is_blank 
 blank_tests b bs h = go (is_blank b) (b == backslash && begins newline bs) refl refl where
   go : (t u : Bool) → is_blank b ≡ t → (b == backslash && begins newline bs) ≡ u → (is_blank b ≡ false) × ((b == backslash && begins newline bs) ≡ false)
   go true u k l = absurd (none_some Blanks (rw k at h))
-  go false true k l = absurd (none_some Joined (rw (k, l) at h))
+  go false true k l = absurd (none_some AwaitsNewline (rw (k, l) at h))
   go false false k l = (k, l)
 
 gap_tests : (b : ℕ) (bs : Text) → step_gap b bs ≡ None → (is_gap b || (b == backslash && begins newline bs)) ≡ false

@@ -23,7 +23,7 @@ pub mod Ranges
 pub mod Examples
 pub mod NextByte
 pub mod Firm
-pub mod Offending
+pub mod ViablePrefixes
 pub mod Operands
 pub mod Prefixes
 pub mod Viable

@@ -4,8 +4,8 @@ use Rattle.std.proofs.lemmas.Bool.Decides.{nat_tests}
 use Rattle.tclchars.specs.Runs.{Text, take_while, drop_while}
 use Rattle.tclchars.specs.Bytes.{AllPass, MayBegin}
 use Rattle.tclchars.specs.declared.fault.Fault.{Fault}
-use Rattle.tclscript.specs.Reading.{on_mark, closed, ended}
-use Rattle.tclscript.specs.Ends.{stands_before, word_ends}
+use Rattle.tclscript.specs.Reading.{on_mark, after_closing, require_word_end}
+use Rattle.tclscript.specs.Ends.{ends_at, word_ends}
 use Rattle.tclchars.specs.declared.fault.Fault.TheVariants.{JoinedToClose}
 
 pub true_false : false ≡ true → ⊥
@@ -39,7 +39,7 @@ pub on_mark-not : {A : Type 0} (mark : ℕ) (bs : Text) (f : Text → A) (other 
 on_mark-not mark [] f other h = refl
 on_mark-not mark (b ∷ bs) f other h = rw (not_true (b == mark) h) refl
 
-pub closed_ok : (mark : ℕ) (fault : Fault) (bs rest : Text) → closed mark fault bs ≡ Ok rest → bs ≡ mark ∷ rest
+pub closed_ok : (mark : ℕ) (fault : Fault) (bs rest : Text) → after_closing mark fault bs ≡ Ok rest → bs ≡ mark ∷ rest
 closed_ok mark fault bs rest h = elim (mark_or_none mark bs) [
   | inl k ↦ (
       let e : (let ok : Result Text Fault = Ok k.0 in ok) ≡ Ok rest = sym (on_mark-at mark bs k.0 (λ rest. Ok rest) (Err fault) k.1) ∙ h in
@@ -54,7 +54,7 @@ closed_ok mark fault bs rest h = elim (mark_or_none mark bs) [
   apart : (let err : Result Text Fault = Err fault in err) ≡ Ok rest → ⊥
   apart e = cc
 
-pub closed_err : (mark : ℕ) (fault : Fault) (bs : Text) (f : Fault) → closed mark fault bs ≡ Err f → (fault ≡ f) × Without mark bs
+pub closed_err : (mark : ℕ) (fault : Fault) (bs : Text) (f : Fault) → after_closing mark fault bs ≡ Err f → (fault ≡ f) × Without mark bs
 closed_err mark fault bs f h = elim (mark_or_none mark bs) [
   | inl k ↦ absurd (apart k.0 (sym (on_mark-at mark bs k.0 (λ rest. Ok rest) (Err fault) k.1) ∙ h))
   | inr k ↦ (
@@ -68,11 +68,11 @@ closed_err mark fault bs f h = elim (mark_or_none mark bs) [
   same : (let err : Result Text Fault = Err fault in err) ≡ Err f → fault ≡ f
   same e = cc
 
-pub closed-at : (mark : ℕ) (fault : Fault) (rest : Text) → closed mark fault (mark ∷ rest) ≡ Ok rest
-closed-at mark fault rest = on_mark-at mark (mark ∷ rest) rest (λ rest. Ok rest) (Err fault) refl
+pub after_closing-at : (mark : ℕ) (fault : Fault) (rest : Text) → after_closing mark fault (mark ∷ rest) ≡ Ok rest
+after_closing-at mark fault rest = on_mark-at mark (mark ∷ rest) rest (λ rest. Ok rest) (Err fault) refl
 
 -- what stands before a mark, or nothing
-pub none_before : (mark : ℕ) (bs : Text) → stands_before mark bs ≡ true → Without mark bs → bs ≡ []
+pub none_before : (mark : ℕ) (bs : Text) → ends_at mark bs ≡ true → Without mark bs → bs ≡ []
 none_before mark [] h k = refl
 none_before mark (b ∷ bs) h k = absurd (true_false (sym (not_true (b == mark) k) ∙ h))
 
@@ -80,11 +80,11 @@ none_before mark (b ∷ bs) h k = absurd (true_false (sym (not_true (b == mark) 
 abbrev ended_by : Bool → Text → Result Text Fault
 ended_by t bs = elim t as (λ t. Result Text Fault) [ true ↦ Ok bs | false ↦ Err (JoinedToClose (length bs)) ]
 
-ended_cases : (nested : Bool) (bs : Text) (t : Bool) → word_ends nested bs ≡ t → (t ≡ true) × (ended nested bs ≡ Ok bs) ⊎ (t ≡ false) × (ended nested bs ≡ Err (JoinedToClose (length bs)))
+ended_cases : (nested : Bool) (bs : Text) (t : Bool) → word_ends nested bs ≡ t → (t ≡ true) × (require_word_end nested bs ≡ Ok bs) ⊎ (t ≡ false) × (require_word_end nested bs ≡ Err (JoinedToClose (length bs)))
 ended_cases nested bs true h = inl (refl, rw h refl)
 ended_cases nested bs false h = inr (refl, rw h refl)
 
-pub ended_ok : (nested : Bool) (bs rest : Text) → ended nested bs ≡ Ok rest → (bs ≡ rest) × (word_ends nested bs ≡ true)
+pub ended_ok : (nested : Bool) (bs rest : Text) → require_word_end nested bs ≡ Ok rest → (bs ≡ rest) × (word_ends nested bs ≡ true)
 ended_ok nested bs rest h = elim (ended_cases nested bs (word_ends nested bs) refl) [
   | inl k ↦ (same (sym k.1 ∙ h), k.0)
   | inr k ↦ absurd (apart (sym k.1 ∙ h))
@@ -95,7 +95,7 @@ ended_ok nested bs rest h = elim (ended_cases nested bs (word_ends nested bs) re
   apart : (let err : Result Text Fault = Err (JoinedToClose (length bs)) in err) ≡ Ok rest → ⊥
   apart e = cc
 
-pub ended_err : (nested : Bool) (bs : Text) (f : Fault) → ended nested bs ≡ Err f → (JoinedToClose (length bs) ≡ f) × (word_ends nested bs ≡ false)
+pub ended_err : (nested : Bool) (bs : Text) (f : Fault) → require_word_end nested bs ≡ Err f → (JoinedToClose (length bs) ≡ f) × (word_ends nested bs ≡ false)
 ended_err nested bs f h = elim (ended_cases nested bs (word_ends nested bs) refl) [
   | inl k ↦ absurd (apart (sym k.1 ∙ h))
   | inr k ↦ (same (sym k.1 ∙ h), k.0)
@@ -106,11 +106,11 @@ ended_err nested bs f h = elim (ended_cases nested bs (word_ends nested bs) refl
   apart : (let ok : Result Text Fault = Ok bs in ok) ≡ Err f → ⊥
   apart e = cc
 
-pub ended-at : (nested : Bool) (bs : Text) → word_ends nested bs ≡ true → ended nested bs ≡ Ok bs
-ended-at nested bs h = rw h refl
+pub require_word_end-at : (nested : Bool) (bs : Text) → word_ends nested bs ≡ true → require_word_end nested bs ≡ Ok bs
+require_word_end-at nested bs h = rw h refl
 
-pub ended-not : (nested : Bool) (bs : Text) → word_ends nested bs ≡ false → ended nested bs ≡ Err (JoinedToClose (length bs))
-ended-not nested bs h = rw h refl
+pub require_word_end-not : (nested : Bool) (bs : Text) → word_ends nested bs ≡ false → require_word_end nested bs ≡ Err (JoinedToClose (length bs))
+require_word_end-not nested bs h = rw h refl
 
 -- Runs
 

@@ -6,7 +6,7 @@ use Rattle.std.specs.Char.{digit_value}
 use Rattle.tclchars.specs.Bytes.{newline, is_continuation}
 use Rattle.tclchars.specs.Runs.{Text, take_while, drop_while}
 use Rattle.tclchars.specs.Backslash.{is_octal, is_hexadecimal, is_blank_or_tab, digit_at, octal_on, octal_at, hexadecimal_on, hexadecimal_at, character, code_at, wide_code_at, letter_value, after_backslash}
-use Rattle.tclscript.specs.Pieces.{IsEndOf}
+use Rattle.tclscript.specs.Pieces.{IsSuffixOf}
 use Rattle.tclscript.proofs.Ends.{end_no_longer}
 use Rattle.tclscript.proofs.Escapes.{either, back_end, octal_end, hexadecimal_end, LeavesSome, character_leaves, code_leaves, wide_leaves}
 
@@ -44,7 +44,7 @@ module _ (c : ℕ) (a a' : Text) where
   along_here : {A : Type 0} (x : A) (z : Text) → Along (x, z ++ c ∷ a) (x, z ++ c ∷ a')
   along_here x z = inl (refl, z, refl, refl)
 
-  past : {A : Type 0} (r s : A × Text) → IsEndOf a r.1 → Along r s
+  past : {A : Type 0} (r s : A × Text) → IsSuffixOf a r.1 → Along r s
   past r s h = inr (end_no_longer a r.1 h)
 
   octal_along : (n v : ℕ) (e : Text) → Along (octal_at n v (e ++ c ∷ a)) (octal_at n v (e ++ c ∷ a'))
@@ -157,15 +157,15 @@ abbrev ShorterSome : {A : Type 0} → Text → Option (A × Text) → Type 0
 ShorterSome bs None = Unit {0}
 ShorterSome bs (Some r) = length r.1 ≤ length bs
 
-ended_some : {A : Type 0} (bs : Text) (x : Option (A × Text)) → LeavesSome (IsEndOf bs) x → ShorterSome bs x
+ended_some : {A : Type 0} (bs : Text) (x : Option (A × Text)) → LeavesSome (IsSuffixOf bs) x → ShorterSome bs x
 ended_some bs None h = tt
 ended_some bs (Some r) h = end_no_longer bs r.1 h
 
-octal_first : (b : ℕ) (bs : Text) → is_octal b ≡ true → IsEndOf bs (octal_at 3 0 (b ∷ bs)).1
+octal_first : (b : ℕ) (bs : Text) → is_octal b ≡ true → IsSuffixOf bs (octal_at 3 0 (b ∷ bs)).1
 octal_first b bs h =
     let small : nat_lt (0 * 8 + digit_value b) 256 ≡ true = below b h in
-    subst (λ (d : Option (ℕ × Text)). IsEndOf bs (octal_on (octal_at 2) 0 (b ∷ bs) d).1) (sym (digit b bs h))
-    (subst (λ t. IsEndOf bs (if t then octal_at 2 (0 * 8 + digit_value b) bs else (0, b ∷ bs)).1) (sym small) (octal_end 2 (0 * 8 + digit_value b) bs)) where
+    subst (λ (d : Option (ℕ × Text)). IsSuffixOf bs (octal_on (octal_at 2) 0 (b ∷ bs) d).1) (sym (digit b bs h))
+    (subst (λ t. IsSuffixOf bs (if t then octal_at 2 (0 * 8 + digit_value b) bs else (0, b ∷ bs)).1) (sym small) (octal_end 2 (0 * 8 + digit_value b) bs)) where
       below : (b : ℕ) → is_octal b ≡ true → nat_lt (0 * 8 + digit_value b) 256 ≡ true
       below b h = grind (arith, nat_tests)
 
@@ -176,7 +176,7 @@ pub shorter_escape : (b : ℕ) (bs v r : Text) → after_backslash (b ∷ bs) �
 shorter_escape b bs v r h = subst (ShorterSome bs) h (go (b == newline) (is_octal b) refl (b == 120) (b == 117) (b == 85) (nat_le 128 b)) where
   go : (t u : Bool) → is_octal b ≡ u → (v w x y : Bool) → ShorterSome bs (escape_of b t u v w x y bs)
   go true u e v w x y = end_no_longer bs (drop_while is_blank_or_tab bs) (back_end is_blank_or_tab bs)
-  go false true e v w x y = ended_some bs (character (octal_at 3 0 (b ∷ bs))) (character_leaves (IsEndOf bs) (octal_at 3 0 (b ∷ bs)) (octal_first b bs e))
+  go false true e v w x y = ended_some bs (character (octal_at 3 0 (b ∷ bs))) (character_leaves (IsSuffixOf bs) (octal_at 3 0 (b ∷ bs)) (octal_first b bs e))
   go false false e true w x y = ended_some bs (code_at 2 b bs) (code_leaves 2 b bs)
   go false false e false true x y = ended_some bs (code_at 4 b bs) (code_leaves 4 b bs)
   go false false e false false true y = ended_some bs (wide_code_at bs) (wide_leaves bs)

@@ -11,9 +11,9 @@ use Rattle.tclscript.specs.declared.context.Context.TheVariants.{InQuotes}
 use Rattle.tclscript.specs.Tree.{Parts, Part, parts_nesting, part_nesting}
 use Rattle.tclscript.specs.Grammar.{IsParts, IsPart}
 use Rattle.tclscript.specs.Faults.{PartsFault, PartFault}
-use Rattle.tclscript.specs.Reading.{Inner, closed, bracket_at, dollar_at, parts_with, quotes_at}
+use Rattle.tclscript.specs.Reading.{Inner, after_closing, bracket_at, dollar_at, parts_with, quotes_at}
 use Rattle.tclscript.proofs.Exact.{Took, Exact}
-use Rattle.tclscript.proofs.Marks.{closed_ok, closed_err, closed-at, none_before}
+use Rattle.tclscript.proofs.Marks.{closed_ok, closed_err, after_closing-at, none_before}
 use Rattle.tclscript.proofs.Dollars.{Anywhere, IsExactInner, DollarIs, parts_close, dollar_sound, dollar_faulty}
 use Rattle.tclscript.proofs.PartsExact.{part_some, at_dollar, at_bracket, part_again, bracket_sound, bracket_faulty}
 use Rattle.tclscript.proofs.PartFaults.{part_met, parts_sound, parts_faulty, parts_again, parts_met}
@@ -41,7 +41,7 @@ abbrev pub QuotedFault : ℕ → Text → Fault → Type 0
 QuotedFault d bs f = PartsFault d InQuotes bs f ⊎ ((ps : Parts) × IsParts InQuotes ps bs [] × (parts_nesting ps ≤ d) × (OpenQuote (suc (length bs)) ≡ f))
 
 abbrev close_quotes : Fault → Parts → Text → Read Parts
-close_quotes mark ps r = closed 34 mark r >>= (λ rest. Ok (ps, rest))
+close_quotes mark ps r = after_closing 34 mark r >>= (λ rest. Ok (ps, rest))
 
 module _ (d : ℕ) (inner : Inner) (exact : IsExactInner d inner) where
   pub dollar_exact : (c : Context) → Exact (dollar_at inner) Anywhere (Behind d 36 c) (λ bs f. PartFault d (36 ∷ bs) f)
@@ -65,7 +65,7 @@ module _ (d : ℕ) (inner : Inner) (exact : IsExactInner d inner) where
   quotes_sound bs ps r b h =
       let mark = OpenQuote (suc (length bs)) in
       let x = bind_ok (parts_with InQuotes inner bs) (λ x. close_quotes mark x.0 x.1) (ps, r) h in
-      let y = bind_ok (closed 34 mark x.0.1) (λ rest. let found : Read Parts = Ok (x.0.0, rest) in found) (ps, r) x.2 in
+      let y = bind_ok (after_closing 34 mark x.0.1) (λ rest. let found : Read Parts = Ok (x.0.0, rest) in found) (ps, r) x.2 in
       let two = ok_pair (x.0.0, y.0) (ps, r) y.2 in
       let k = parts_sound d inner exact InQuotes bs x.0.0 x.0.1 tt x.1 in
       let after : x.0.1 ≡ 34 ∷ r = closed_ok 34 mark x.0.1 y.0 y.1 ∙ ap (λ xs. 34 ∷ xs) two.1 in
@@ -87,7 +87,7 @@ module _ (d : ℕ) (inner : Inner) (exact : IsExactInner d inner) where
         unclosed : (ps : Parts) (r : Text) → parts_with InQuotes inner bs ≡ Ok (ps, r) → close_quotes (OpenQuote (suc (length bs))) ps r ≡ Err f → QuotedFault d bs f
         unclosed ps r was h =
             let mark = OpenQuote (suc (length bs)) in
-            elim (bind_err (closed 34 mark r) (λ rest. let found : Read Parts = Ok (ps, rest) in found) f h) [
+            elim (bind_err (after_closing 34 mark r) (λ rest. let found : Read Parts = Ok (ps, rest) in found) f h) [
               | inl bad ↦ (
                   let e = closed_err 34 mark r f bad in
                   let k = parts_sound d inner exact InQuotes bs ps r tt was in
@@ -104,7 +104,7 @@ module _ (d : ℕ) (inner : Inner) (exact : IsExactInner d inner) where
       let whole : t ++ r ≡ h.0 ++ 34 ∷ r = ap (λ xs. xs ++ r) h.1 ∙ append_assoc h.0 (34 ∷ []) r in
       let mark = OpenQuote (suc (length (t ++ r))) in
       ap (λ x. x >>= (λ x. close_quotes mark x.0 x.1)) (ap (parts_with InQuotes inner) whole ∙ parts_again d inner exact InQuotes ps h.0 (34 ∷ r) (h.2, h.3))
-      ∙ ap (λ (x : Result Text Fault). x >>= (λ rest. let found : Read Parts = Ok (ps, rest) in found)) (closed-at 34 mark r)
+      ∙ ap (λ (x : Result Text Fault). x >>= (λ rest. let found : Read Parts = Ok (ps, rest) in found)) (after_closing-at 34 mark r)
 
   quotes_met : (bs : Text) (f : Fault) → QuotedFault d bs f → quotes_at inner bs ≡ Err f
   unfolding quotes_at

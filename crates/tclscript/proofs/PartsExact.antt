@@ -13,28 +13,28 @@ use Rattle.tclscript.specs.declared.context.Context.{Context}
 use Rattle.tclscript.specs.declared.context.Context.TheVariants.{InScript, InBracket, InIndex, InQuotes}
 use Rattle.tclscript.specs.Tree as tree
 use Rattle.tclscript.specs.Tree.{Commands, no_commands, command, Parts, part, Part, literal, variable, indexed, bracket, nesting}
-use Rattle.tclscript.specs.Ends.{script_ends, stands_before, parts_end, class_of}
+use Rattle.tclscript.specs.Ends.{script_ends, ends_at, parts_end, class_of}
 use Rattle.tclscript.specs.Grammar.{IsRun, IsLiteral, IsCommands, IsPart}
 use Rattle.tclscript.specs.Faults as faults
 use Rattle.tclscript.specs.Faults.{PartFault}
-use Rattle.tclscript.specs.Reading.{Inner, on_mark, closed, bracket_at, dollar_at, escaped, backslash_at, literal_at, part_at}
-use Rattle.tclscript.specs.Pieces.{IsEndOf}
+use Rattle.tclscript.specs.Reading.{Inner, on_mark, after_closing, bracket_at, dollar_at, escaped, backslash_at, literal_at, part_at}
+use Rattle.tclscript.specs.Pieces.{IsSuffixOf}
 use Rattle.tclscript.proofs.Escapes.{LeavesSome, backslash_end}
 use Rattle.tclscript.proofs.Exact.{Took}
-use Rattle.tclscript.proofs.Marks.{true_false, Without, mark_or_none, on_mark-not, closed_ok, closed_err, closed-at, none_before, run_taken, front_run, back_run}
+use Rattle.tclscript.proofs.Marks.{true_false, Without, mark_or_none, on_mark-not, closed_ok, closed_err, after_closing-at, none_before, run_taken, front_run, back_run}
 use Rattle.tclscript.proofs.Dollars.{ScriptFault, IsExactInner, DollarIs, dollar_sound, dollar_faulty, dollar_alone, variable_again, braced_variable_again, indexed_again}
 
 -- commands go on up to their end
 pub commands_close : (size : ℕ) (nested : Bool) (s : Commands) (t r : Text) → IsCommands size nested s t r → script_ends nested r ≡ true
 commands_close size nested no_commands t r h = h.1
-commands_close size nested (command place source ws cs) t r h = commands_close size nested cs h.is_second.second r h.is_second.is_second
+commands_close size nested (command offset source ws cs) t r h = commands_close size nested cs h.is_second.second r h.is_second.is_second
 
-bracket_or_end : (r : Text) → script_ends true r ≡ true → stands_before 93 r ≡ true
+bracket_or_end : (r : Text) → script_ends true r ≡ true → ends_at 93 r ≡ true
 bracket_or_end [] h = refl
 bracket_or_end (b ∷ r) h = h
 
 abbrev close_bracket : Fault → Commands → Text → Read Part
-close_bracket mark s r = closed 93 mark r >>= (λ rest. Ok (bracket s, rest))
+close_bracket mark s r = after_closing 93 mark r >>= (λ rest. Ok (bracket s, rest))
 
 -- Backslashes
 
@@ -51,7 +51,7 @@ escaped_faulty (b ∷ bs) None f h = ((λ e. cc), refl, err_same _ f h)
 
 -- what follows an escape is an end of the text
 escape_end : (bs v r : Text) → after_backslash bs ≡ Some (v, r) → (escape : Text) × (bs ≡ escape ++ r)
-escape_end bs v r h = subst (LeavesSome (IsEndOf bs)) h (backslash_end bs)
+escape_end bs v r h = subst (LeavesSome (IsSuffixOf bs)) h (backslash_end bs)
 
 -- Bytes
 
@@ -134,7 +134,7 @@ module _ (d : ℕ) (inner : Inner) (exact : IsExactInner d inner) where
   bracket_sound c bs p r h =
       let mark = OpenBracket (suc (length bs)) in
       let x = bind_ok (inner.script bs) (λ x. close_bracket mark x.0 x.1) (p, r) h in
-      let y = bind_ok (closed 93 mark x.0.1) (λ rest. let found : Read Part = Ok (bracket x.0.0, rest) in found) (p, r) x.2 in
+      let y = bind_ok (after_closing 93 mark x.0.1) (λ rest. let found : Read Part = Ok (bracket x.0.0, rest) in found) (p, r) x.2 in
       let two = ok_pair (bracket x.0.0, y.0) (p, r) y.2 in
       let k = exact.script.sound bs x.0.0 x.0.1 tt x.1 in
       let after : x.0.1 ≡ 93 ∷ r = closed_ok 93 mark x.0.1 y.0 y.1 ∙ ap (λ xs. 93 ∷ xs) two.1 in
@@ -164,7 +164,7 @@ module _ (d : ℕ) (inner : Inner) (exact : IsExactInner d inner) where
         unclosed : (s : Commands) (r : Text) → inner.script bs ≡ Ok (s, r) → close_bracket (OpenBracket (suc (length bs))) s r ≡ Err f → PartFault d (91 ∷ bs) f
         unclosed s r was h =
             let mark = OpenBracket (suc (length bs)) in
-            elim (bind_err (closed 93 mark r) (λ rest. let found : Read Part = Ok (bracket s, rest) in found) f h) [
+            elim (bind_err (after_closing 93 mark r) (λ rest. let found : Read Part = Ok (bracket s, rest) in found) f h) [
               | inl bad ↦ (
                   let e = closed_err 93 mark r f bad in
                   let k = exact.script.sound bs s r tt was in
@@ -182,7 +182,7 @@ module _ (d : ℕ) (inner : Inner) (exact : IsExactInner d inner) where
       let bs = inside ++ 93 ∷ r in
       let mark = OpenBracket (suc (length bs)) in
       ap (λ x. x >>= (λ x. close_bracket mark x.0 x.1)) (exact.script.again s inside (93 ∷ r) (h, less))
-      ∙ ap (λ (x : Result Text Fault). x >>= (λ rest. let found : Read Part = Ok (bracket s, rest) in found)) (closed-at 93 mark r)
+      ∙ ap (λ (x : Result Text Fault). x >>= (λ rest. let found : Read Part = Ok (bracket s, rest) in found)) (after_closing-at 93 mark r)
 
   pub bracket_met : (bs : Text) (f : Fault) → ScriptFault d bs f → bracket_at inner bs ≡ Err f
   unfolding bracket_at

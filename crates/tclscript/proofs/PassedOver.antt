@@ -3,32 +3,32 @@ use Rattle.std.proofs.Common.{◌≡◌, ◌≢◌, ℕ, zero, suc, ◌<◌, [],
 use Rattle.std.proofs.lemmas.Bool.Decides.{nat_tests}
 use Rattle.tclchars.specs.Runs.{Text, begins}
 use Rattle.tclchars.specs.Bytes.{newline, hash, backslash, is_blank, is_gap}
-use Rattle.tclscript.specs.declared.runs.Passing.{Passing}
-use Rattle.tclscript.specs.declared.runs.Passing.TheVariants.{Blanks, Joined, Gap, Comment, Escaped}
-use Rattle.tclscript.specs.Passing.{step, put_before, pass_on, pass, skip_blanks, skip_gap}
+use Rattle.tclscript.specs.declared.runs.ScanState.{ScanState}
+use Rattle.tclscript.specs.declared.runs.ScanState.TheVariants.{Blanks, AwaitsNewline, Gap, Comment, Escaped}
+use Rattle.tclscript.specs.ScanState.{step, put_before, scan_on, scan, skip_blanks, skip_gap}
 use Rattle.tclscript.specs.Grammar as grammar
 use Rattle.tclscript.specs.Grammar.{IsBlanks, IsComment, IsGap}
 
-whole_on : (b : ℕ) (bs : Text) (next : Option Passing) → ((p : Passing) → bs ≡ (pass p bs).0 ++ (pass p bs).1) → b ∷ bs ≡ (pass_on b bs (λ p. pass p bs) next).0 ++ (pass_on b bs (λ p. pass p bs) next).1
+whole_on : (b : ℕ) (bs : Text) (next : Option ScanState) → ((p : ScanState) → bs ≡ (scan p bs).0 ++ (scan p bs).1) → b ∷ bs ≡ (scan_on b bs (λ p. scan p bs) next).0 ++ (scan_on b bs (λ p. scan p bs) next).1
 whole_on b bs None all = refl
 whole_on b bs (Some p) all = ap (λ xs. b ∷ xs) (all p)
 
-pub pass_whole : (p : Passing) (bs : Text) → bs ≡ (pass p bs).0 ++ (pass p bs).1
-unfolding pass
+pub pass_whole : (p : ScanState) (bs : Text) → bs ≡ (scan p bs).0 ++ (scan p bs).1
+unfolding scan
 pass_whole p [] = refl
 pass_whole p (b ∷ bs) = whole_on b bs (step p b bs) (λ q. pass_whole q bs)
 
-pub pass-nil : (p : Passing) → pass p [] ≡ ([], [])
-unfolding pass
-pass-nil p = refl
+pub scan-nil : (p : ScanState) → scan p [] ≡ ([], [])
+unfolding scan
+scan-nil p = refl
 
-pub pass-on : (p q : Passing) (b : ℕ) (bs : Text) → step p b bs ≡ Some q → pass p (b ∷ bs) ≡ put_before b (pass q bs)
-unfolding pass
-pass-on p q b bs h = ap (pass_on b bs (λ p. pass p bs)) h
+pub scan-on : (p q : ScanState) (b : ℕ) (bs : Text) → step p b bs ≡ Some q → scan p (b ∷ bs) ≡ put_before b (scan q bs)
+unfolding scan
+scan-on p q b bs h = ap (scan_on b bs (λ p. scan p bs)) h
 
-pub pass-stop : (p : Passing) (b : ℕ) (bs : Text) → step p b bs ≡ None → pass p (b ∷ bs) ≡ ([], b ∷ bs)
-unfolding pass
-pass-stop p b bs h = ap (pass_on b bs (λ p. pass p bs)) h
+pub scan-stop : (p : ScanState) (b : ℕ) (bs : Text) → step p b bs ≡ None → scan p (b ∷ bs) ≡ ([], b ∷ bs)
+unfolding scan
+scan-stop p b bs h = ap (scan_on b bs (λ p. scan p bs)) h
 
 -- Blanks
 
@@ -38,7 +38,7 @@ begins_line b bs = b == backslash && begins newline bs
 blank_step : (b : ℕ) (bs : Text) → is_blank b ≡ true → step Blanks b bs ≡ Some Blanks
 blank_step b bs h = rw h refl
 
-line_step : (b : ℕ) (bs : Text) → is_blank b ≡ false → begins_line b bs ≡ true → step Blanks b bs ≡ Some Joined
+line_step : (b : ℕ) (bs : Text) → is_blank b ≡ false → begins_line b bs ≡ true → step Blanks b bs ≡ Some AwaitsNewline
 line_step b bs h k = rw (h, k) refl
 
 blanks_stop : (b : ℕ) (bs : Text) → is_blank b ≡ false → begins_line b bs ≡ false → step Blanks b bs ≡ None
@@ -58,43 +58,43 @@ LineTaken p = IsBlanks (backslash ∷ p.0) × NoBlank p.1
 line_byte : (b : ℕ) (bs : Text) → begins_line b bs ≡ true → (b ≡ backslash) × (begins newline bs ≡ true)
 line_byte b bs h = (grind (arith, nat_tests), grind (arith, nat_tests))
 
-joined_taken : (bs : Text) → begins newline bs ≡ true → ((more : Text) → length more < length bs → BlanksTaken (pass Blanks more)) → LineTaken (pass Joined bs)
+joined_taken : (bs : Text) → begins newline bs ≡ true → ((more : Text) → length more < length bs → BlanksTaken (scan Blanks more)) → LineTaken (scan AwaitsNewline bs)
 joined_taken [] h all = cc
 joined_taken (b ∷ bs) h all =
     let is : b ≡ newline = grind (arith, nat_tests) in
     let k = all bs (omega arith) in
-    let e : pass Joined (b ∷ bs) ≡ put_before newline (pass Blanks bs) = ap (λ b. pass Joined (b ∷ bs)) is ∙ pass-on Joined Blanks newline bs refl in
+    let e : scan AwaitsNewline (b ∷ bs) ≡ put_before newline (scan Blanks bs) = ap (λ b. scan AwaitsNewline (b ∷ bs)) is ∙ scan-on AwaitsNewline Blanks newline bs refl in
     subst LineTaken (sym e) (grammar.IsBlanks.line k.0, k.1)
 
-blanks_cases : (b : ℕ) (bs : Text) (t u : Bool) → is_blank b ≡ t → begins_line b bs ≡ u → ((more : Text) → length more < length (b ∷ bs) → BlanksTaken (pass Blanks more)) → BlanksTaken (pass Blanks (b ∷ bs))
+blanks_cases : (b : ℕ) (bs : Text) (t u : Bool) → is_blank b ≡ t → begins_line b bs ≡ u → ((more : Text) → length more < length (b ∷ bs) → BlanksTaken (scan Blanks more)) → BlanksTaken (scan Blanks (b ∷ bs))
 blanks_cases b bs true u h k all =
     let m = all bs (omega arith) in
-    subst BlanksTaken (sym (pass-on Blanks Blanks b bs (blank_step b bs h))) (grammar.IsBlanks.blank h m.0, m.1)
+    subst BlanksTaken (sym (scan-on Blanks Blanks b bs (blank_step b bs h))) (grammar.IsBlanks.blank h m.0, m.1)
 blanks_cases b bs false true h k all =
     let is = line_byte b bs k in
     let m = joined_taken bs is.1 (λ more less. all more (omega arith)) in
-    subst BlanksTaken (sym (pass-on Blanks Joined b bs (line_step b bs h k))) (rw (is.0) m.0, m.1)
-blanks_cases b bs false false h k all = subst BlanksTaken (sym (pass-stop Blanks b bs (blanks_stop b bs h k))) (grammar.IsBlanks.nothing, (h, k))
+    subst BlanksTaken (sym (scan-on Blanks AwaitsNewline b bs (line_step b bs h k))) (rw (is.0) m.0, m.1)
+blanks_cases b bs false false h k all = subst BlanksTaken (sym (scan-stop Blanks b bs (blanks_stop b bs h k))) (grammar.IsBlanks.nothing, (h, k))
 
-blanks_below : (n : ℕ) (bs : Text) → length bs < n → BlanksTaken (pass Blanks bs)
+blanks_below : (n : ℕ) (bs : Text) → length bs < n → BlanksTaken (scan Blanks bs)
 blanks_below zero bs less = absurd (omega arith)
-blanks_below (suc n) [] less = subst BlanksTaken (sym (pass-nil Blanks)) (grammar.IsBlanks.nothing, tt)
+blanks_below (suc n) [] less = subst BlanksTaken (sym (scan-nil Blanks)) (grammar.IsBlanks.nothing, tt)
 blanks_below (suc n) (b ∷ bs) less = blanks_cases b bs (is_blank b) (begins_line b bs) refl refl (λ more shorter. blanks_below n more (omega arith))
 
 -- what is passed over is blanks, and no blank follows
-pub blanks_taken : (bs : Text) → BlanksTaken (pass Blanks bs)
+pub blanks_taken : (bs : Text) → BlanksTaken (scan Blanks bs)
 blanks_taken bs = blanks_below (suc (length bs)) bs (omega arith)
 
 -- blanks are passed over
 pub blanks_over : {gap : Text} → IsBlanks gap → (start : Text) → skip_blanks (gap ++ start) ≡ skip_blanks start
 blanks_over grammar.IsBlanks.nothing start = refl
-blanks_over (grammar.IsBlanks.blank {b} {bs} h k) start = ap (λ p. p.1) (pass-on Blanks Blanks b (bs ++ start) (blank_step b (bs ++ start) h)) ∙ blanks_over k start
+blanks_over (grammar.IsBlanks.blank {b} {bs} h k) start = ap (λ p. p.1) (scan-on Blanks Blanks b (bs ++ start) (blank_step b (bs ++ start) h)) ∙ blanks_over k start
 blanks_over (grammar.IsBlanks.line {bs} k) start =
-    ap (λ p. p.1) (pass-on Blanks Joined backslash (newline ∷ (bs ++ start)) refl) ∙ ap (λ p. p.1) (pass-on Joined Blanks newline (bs ++ start) refl) ∙ blanks_over k start
+    ap (λ p. p.1) (scan-on Blanks AwaitsNewline backslash (newline ∷ (bs ++ start)) refl) ∙ ap (λ p. p.1) (scan-on AwaitsNewline Blanks newline (bs ++ start) refl) ∙ blanks_over k start
 
 pub blanks_stay : (start : Text) → NoBlank start → skip_blanks start ≡ start
-blanks_stay [] h = ap (λ p. p.1) (pass-nil Blanks)
-blanks_stay (b ∷ bs) h = ap (λ p. p.1) (pass-stop Blanks b bs (blanks_stop b bs h.0 h.1))
+blanks_stay [] h = ap (λ p. p.1) (scan-nil Blanks)
+blanks_stay (b ∷ bs) h = ap (λ p. p.1) (scan-stop Blanks b bs (blanks_stop b bs h.0 h.1))
 
 -- Gaps
 
@@ -123,22 +123,22 @@ NoGap (b ∷ bs) = ((is_gap b || begins_line b bs) ≡ false) × ((b == hash) �
 
 -- what is left of a comment and of the gap behind it
 data InComment : Text → Text → Type 0 where
-  closed : (inside bs : Text) {after : Text} → IsComment inside → IsGap bs after → InComment (inside ++ newline ∷ bs) after
+  after_closing : (inside bs : Text) {after : Text} → IsComment inside → IsGap bs after → InComment (inside ++ newline ∷ bs) after
   opened : {inside : Text} → IsComment inside → InComment inside []
   escape : (inside : Text) → IsComment inside → InComment (inside ++ backslash ∷ []) []
 
 from_hash : {bs after : Text} → InComment bs after → IsGap (hash ∷ bs) after
-from_hash (closed inside bs h k) = grammar.IsGap.comment h k
+from_hash (after_closing inside bs h k) = grammar.IsGap.comment h k
 from_hash (opened h) = grammar.IsGap.open_comment h
 from_hash (escape inside h) = grammar.IsGap.open_escape h
 
 comment_more : (b : ℕ) {bs after : Text} → b ≢ backslash → b ≢ newline → InComment bs after → InComment (b ∷ bs) after
-comment_more b x y (closed inside bs h k) = closed (b ∷ inside) bs (grammar.IsComment.other x y h) k
+comment_more b x y (after_closing inside bs h k) = after_closing (b ∷ inside) bs (grammar.IsComment.other x y h) k
 comment_more b x y (opened h) = opened (grammar.IsComment.other x y h)
 comment_more b x y (escape inside h) = escape (b ∷ inside) (grammar.IsComment.other x y h)
 
 comment_escaped : (b : ℕ) {bs after : Text} → InComment bs after → InComment (backslash ∷ (b ∷ bs)) after
-comment_escaped b (closed inside bs h k) = closed (backslash ∷ (b ∷ inside)) bs (grammar.IsComment.escaped h) k
+comment_escaped b (after_closing inside bs h k) = after_closing (backslash ∷ (b ∷ inside)) bs (grammar.IsComment.escaped h) k
 comment_escaped b (opened h) = opened (grammar.IsComment.escaped h)
 comment_escaped b (escape inside h) = escape (backslash ∷ (b ∷ inside)) (grammar.IsComment.escaped h)
 
@@ -167,70 +167,70 @@ newline_gap [] h = cc
 newline_gap (b ∷ bs) h = (bs, ap (λ b. b ∷ bs) (is_byte b newline h))
 
 abbrev AllBelow : Text → Type 0
-AllBelow bs = (more : Text) → length more < length bs → GapTaken (pass Gap more) × CommentTaken (pass Comment more) × EscapeTaken (pass Escaped more)
+AllBelow bs = (more : Text) → length more < length bs → GapTaken (scan Gap more) × CommentTaken (scan Comment more) × EscapeTaken (scan Escaped more)
 
-line_taken : (b : ℕ) (bs : Text) → begins_line b bs ≡ true → AllBelow (b ∷ bs) → GapTaken (put_before b (pass Gap bs))
+line_taken : (b : ℕ) (bs : Text) → begins_line b bs ≡ true → AllBelow (b ∷ bs) → GapTaken (put_before b (scan Gap bs))
 line_taken b bs h all =
     let is = line_byte b bs h in
     let more = newline_gap bs is.1 in
-    let e : pass Gap bs ≡ put_before newline (pass Gap more.0) = ap (pass Gap) more.1 ∙ pass-on Gap Gap newline more.0 refl in
+    let e : scan Gap bs ≡ put_before newline (scan Gap more.0) = ap (scan Gap) more.1 ∙ scan-on Gap Gap newline more.0 refl in
     let k = (all more.0 (omega (arith, ap length more.1))).0 in
-    let made : GapTaken (put_before backslash (put_before newline (pass Gap more.0))) = (grammar.IsGap.line k.0, k.1) in
+    let made : GapTaken (put_before backslash (put_before newline (scan Gap more.0))) = (grammar.IsGap.line k.0, k.1) in
     rw (is.0) (subst (λ p. GapTaken (put_before backslash p)) (sym e) made)
 
-gap_cases : (b : ℕ) (bs : Text) (t u : Bool) → (is_gap b || begins_line b bs) ≡ t → (b == hash) ≡ u → AllBelow (b ∷ bs) → GapTaken (pass Gap (b ∷ bs))
+gap_cases : (b : ℕ) (bs : Text) (t u : Bool) → (is_gap b || begins_line b bs) ≡ t → (b == hash) ≡ u → AllBelow (b ∷ bs) → GapTaken (scan Gap (b ∷ bs))
 gap_cases b bs true u h k all =
-    subst GapTaken (sym (pass-on Gap Gap b bs (gap_step b bs h)))
+    subst GapTaken (sym (scan-on Gap Gap b bs (gap_step b bs h)))
     (elim (space_or_line b bs h (is_gap b) refl) [
       | inl space ↦ (let m = (all bs (omega arith)).0 in (grammar.IsGap.space space m.0, m.1))
       | inr line ↦ line_taken b bs line all
     ])
 gap_cases b bs false true h k all =
     let m = (all bs (omega arith)).1 in
-    let made : GapTaken (put_before hash (pass Comment bs)) = (from_hash m.0, m.1) in
-    subst GapTaken (sym (pass-on Gap Comment b bs (hash_step b bs h k))) (rw (is_byte b hash k) made)
-gap_cases b bs false false h k all = subst GapTaken (sym (pass-stop Gap b bs (gap_stop b bs h k))) (grammar.IsGap.nothing, (h, k))
+    let made : GapTaken (put_before hash (scan Comment bs)) = (from_hash m.0, m.1) in
+    subst GapTaken (sym (scan-on Gap Comment b bs (hash_step b bs h k))) (rw (is_byte b hash k) made)
+gap_cases b bs false false h k all = subst GapTaken (sym (scan-stop Gap b bs (gap_stop b bs h k))) (grammar.IsGap.nothing, (h, k))
 
-comment_cases : (b : ℕ) (bs : Text) (t u : Bool) → (b == newline) ≡ t → (b == backslash) ≡ u → AllBelow (b ∷ bs) → CommentTaken (pass Comment (b ∷ bs))
+comment_cases : (b : ℕ) (bs : Text) (t u : Bool) → (b == newline) ≡ t → (b == backslash) ≡ u → AllBelow (b ∷ bs) → CommentTaken (scan Comment (b ∷ bs))
 comment_cases b bs true u h k all =
     let m = (all bs (omega arith)).0 in
-    let made : CommentTaken (put_before newline (pass Gap bs)) = (closed [] (pass Gap bs).0 grammar.IsComment.nothing m.0, m.1) in
-    subst CommentTaken (sym (pass-on Comment Gap b bs (newline_step b bs h))) (rw (is_byte b newline h) made)
+    let made : CommentTaken (put_before newline (scan Gap bs)) = (after_closing [] (scan Gap bs).0 grammar.IsComment.nothing m.0, m.1) in
+    subst CommentTaken (sym (scan-on Comment Gap b bs (newline_step b bs h))) (rw (is_byte b newline h) made)
 comment_cases b bs false true h k all =
     let m = (all bs (omega arith)).2 in
-    subst CommentTaken (sym (pass-on Comment Escaped b bs (escape_step b bs h k))) (rw (is_byte b backslash k) m)
+    subst CommentTaken (sym (scan-on Comment Escaped b bs (escape_step b bs h k))) (rw (is_byte b backslash k) m)
 comment_cases b bs false false h k all =
     let m = (all bs (omega arith)).1 in
-    subst CommentTaken (sym (pass-on Comment Comment b bs (comment_step b bs h k))) (comment_more b (is_no_byte b backslash k) (is_no_byte b newline h) m.0, m.1)
+    subst CommentTaken (sym (scan-on Comment Comment b bs (comment_step b bs h k))) (comment_more b (is_no_byte b backslash k) (is_no_byte b newline h) m.0, m.1)
 
-escaped_cases : (b : ℕ) (bs : Text) → AllBelow (b ∷ bs) → EscapeTaken (pass Escaped (b ∷ bs))
+escaped_cases : (b : ℕ) (bs : Text) → AllBelow (b ∷ bs) → EscapeTaken (scan Escaped (b ∷ bs))
 escaped_cases b bs all =
     let m = (all bs (omega arith)).1 in
-    subst EscapeTaken (sym (pass-on Escaped Comment b bs refl)) (comment_escaped b m.0, m.1)
+    subst EscapeTaken (sym (scan-on Escaped Comment b bs refl)) (comment_escaped b m.0, m.1)
 
-gap_below : (n : ℕ) (bs : Text) → length bs < n → GapTaken (pass Gap bs) × CommentTaken (pass Comment bs) × EscapeTaken (pass Escaped bs)
+gap_below : (n : ℕ) (bs : Text) → length bs < n → GapTaken (scan Gap bs) × CommentTaken (scan Comment bs) × EscapeTaken (scan Escaped bs)
 gap_below zero bs less = absurd (omega arith)
 gap_below (suc n) [] less = (
-  subst GapTaken (sym (pass-nil Gap)) (grammar.IsGap.nothing, tt),
-  subst CommentTaken (sym (pass-nil Comment)) (opened grammar.IsComment.nothing, tt),
-  subst EscapeTaken (sym (pass-nil Escaped)) (escape [] grammar.IsComment.nothing, tt),
+  subst GapTaken (sym (scan-nil Gap)) (grammar.IsGap.nothing, tt),
+  subst CommentTaken (sym (scan-nil Comment)) (opened grammar.IsComment.nothing, tt),
+  subst EscapeTaken (sym (scan-nil Escaped)) (escape [] grammar.IsComment.nothing, tt),
 )
 gap_below (suc n) (b ∷ bs) less =
     let all : AllBelow (b ∷ bs) = λ more shorter. gap_below n more (omega arith) in
     (gap_cases b bs (is_gap b || begins_line b bs) (b == hash) refl refl all, comment_cases b bs (b == newline) (b == backslash) refl refl all, escaped_cases b bs all)
 
 -- what is passed over is a gap, and none follows
-pub gap_taken : (bs : Text) → GapTaken (pass Gap bs)
+pub gap_taken : (bs : Text) → GapTaken (scan Gap bs)
 gap_taken bs = (gap_below (suc (length bs)) bs (omega arith)).0
 
 no_test : (b c : ℕ) → b ≢ c → (b == c) ≡ false
 no_test b c h = grind (arith, nat_tests)
 
-abbrev rest_of : Passing → Text → Text
-rest_of p bs = (pass p bs).1
+abbrev rest_of : ScanState → Text → Text
+rest_of p bs = (scan p bs).1
 
-rest-on : (p q : Passing) (b : ℕ) (bs : Text) → step p b bs ≡ Some q → rest_of p (b ∷ bs) ≡ rest_of q bs
-rest-on p q b bs h = ap (λ p. p.1) (pass-on p q b bs h)
+rest-on : (p q : ScanState) (b : ℕ) (bs : Text) → step p b bs ≡ Some q → rest_of p (b ∷ bs) ≡ rest_of q bs
+rest-on p q b bs h = ap (λ p. p.1) (scan-on p q b bs h)
 
 comment_over : {inside : Text} → IsComment inside → (xs : Text) → rest_of Comment (inside ++ xs) ≡ rest_of Comment xs
 comment_over grammar.IsComment.nothing xs = refl
@@ -249,11 +249,11 @@ gap_over (grammar.IsGap.line {bs} {after} k) = rest-on Gap Gap backslash (newlin
 gap_over (grammar.IsGap.comment {inside} {bs} {after} h k) =
     rest-on Gap Comment hash ((inside ++ newline ∷ bs) ++ after) refl
     ∙ ap (rest_of Comment) (append_assoc inside (newline ∷ bs) after) ∙ comment_over h (newline ∷ (bs ++ after)) ∙ rest-on Comment Gap newline (bs ++ after) refl ∙ gap_over k
-gap_over (grammar.IsGap.open_comment {inside} h) = rest-on Gap Comment hash (inside ++ []) refl ∙ comment_over h [] ∙ ap (λ p. p.1) (pass-nil Comment) ∙ sym (ap (λ p. p.1) (pass-nil Gap))
+gap_over (grammar.IsGap.open_comment {inside} h) = rest-on Gap Comment hash (inside ++ []) refl ∙ comment_over h [] ∙ ap (λ p. p.1) (scan-nil Comment) ∙ sym (ap (λ p. p.1) (scan-nil Gap))
 gap_over (grammar.IsGap.open_escape {inside} h) =
     rest-on Gap Comment hash ((inside ++ backslash ∷ []) ++ []) refl ∙ ap (rest_of Comment) (append_assoc inside (backslash ∷ []) [])
-    ∙ comment_over h (backslash ∷ []) ∙ rest-on Comment Escaped backslash [] refl ∙ ap (λ p. p.1) (pass-nil Escaped) ∙ sym (ap (λ p. p.1) (pass-nil Gap))
+    ∙ comment_over h (backslash ∷ []) ∙ rest-on Comment Escaped backslash [] refl ∙ ap (λ p. p.1) (scan-nil Escaped) ∙ sym (ap (λ p. p.1) (scan-nil Gap))
 
 pub gap_stay : (start : Text) → NoGap start → skip_gap start ≡ start
-gap_stay [] h = ap (λ p. p.1) (pass-nil Gap)
-gap_stay (b ∷ bs) h = ap (λ p. p.1) (pass-stop Gap b bs (gap_stop b bs h.0 h.1))
+gap_stay [] h = ap (λ p. p.1) (scan-nil Gap)
+gap_stay (b ∷ bs) h = ap (λ p. p.1) (scan-stop Gap b bs (gap_stop b bs h.0 h.1))

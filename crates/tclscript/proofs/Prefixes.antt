@@ -12,9 +12,9 @@ use Rattle.tclscript.specs.declared.context.Context.{Context}
 use Rattle.tclscript.specs.Tree.{Commands, nesting}
 use Rattle.tclscript.specs.Grammar.{IsScript}
 use Rattle.tclscript.specs.Faults as faults
-use Rattle.tclscript.specs.Faults.{CommandsFault, CommandFault, WordsFault, WordFault, PlainFault, PartsFault, PartFault, IsFault}
+use Rattle.tclscript.specs.Faults.{CommandsFault, CommandFault, WordsFault, WordFault, UnexpandedWordFault, PartsFault, PartFault, IsFault}
 use Rattle.tclscript.proofs.Whole.{no_tree}
-use Rattle.tclscript.proofs.Offending.{Kind, joined, escape, mark, Kept, same_cut, commands_move}
+use Rattle.tclscript.proofs.ViablePrefixes.{Kind, joined, escape, mark, Kept, same_cut, commands_move}
 
 -- Where more may nest
 
@@ -32,16 +32,16 @@ mutual
   words_deeper (faults.WordsFault.word_after blanks body w h k deep l) e more some = faults.WordsFault.word_after blanks body w h k (omega (arith, deep, more)) (words_deeper l e more some)
 
   word_deeper : {d : ℕ} {nested : Bool} {bs : Text} {f : Fault} → WordFault d nested bs f → (e : ℕ) → d ≤ e → f ≢ TooDeep → WordFault e nested bs f
-  word_deeper (faults.WordFault.plain none h) e more some = faults.WordFault.plain none (plain_deeper h e more some)
+  word_deeper (faults.WordFault.not_expanding none h) e more some = faults.WordFault.not_expanding none (plain_deeper h e more some)
   word_deeper (faults.WordFault.expanding h k) e more some = faults.WordFault.expanding h (plain_deeper k e more some)
 
-  plain_deeper : {d : ℕ} {nested : Bool} {bs : Text} {f : Fault} → PlainFault d nested bs f → (e : ℕ) → d ≤ e → f ≢ TooDeep → PlainFault e nested bs f
-  plain_deeper (faults.PlainFault.open_brace h) e more some = faults.PlainFault.open_brace h
-  plain_deeper (faults.PlainFault.joined_brace inside rest h k) e more some = faults.PlainFault.joined_brace inside rest h k
-  plain_deeper (faults.PlainFault.in_quotes h) e more some = faults.PlainFault.in_quotes (parts_deeper h e more some)
-  plain_deeper (faults.PlainFault.open_quote ps h deep) e more some = faults.PlainFault.open_quote ps h (omega (arith, deep, more))
-  plain_deeper (faults.PlainFault.joined_quote inside rest ps h deep l) e more some = faults.PlainFault.joined_quote inside rest ps h (omega (arith, deep, more)) l
-  plain_deeper (faults.PlainFault.in_bare h k) e more some = faults.PlainFault.in_bare h (parts_deeper k e more some)
+  plain_deeper : {d : ℕ} {nested : Bool} {bs : Text} {f : Fault} → UnexpandedWordFault d nested bs f → (e : ℕ) → d ≤ e → f ≢ TooDeep → UnexpandedWordFault e nested bs f
+  plain_deeper (faults.UnexpandedWordFault.open_brace h) e more some = faults.UnexpandedWordFault.open_brace h
+  plain_deeper (faults.UnexpandedWordFault.joined_brace inside rest h k) e more some = faults.UnexpandedWordFault.joined_brace inside rest h k
+  plain_deeper (faults.UnexpandedWordFault.in_quotes h) e more some = faults.UnexpandedWordFault.in_quotes (parts_deeper h e more some)
+  plain_deeper (faults.UnexpandedWordFault.open_quote ps h deep) e more some = faults.UnexpandedWordFault.open_quote ps h (omega (arith, deep, more))
+  plain_deeper (faults.UnexpandedWordFault.joined_quote inside rest ps h deep l) e more some = faults.UnexpandedWordFault.joined_quote inside rest ps h (omega (arith, deep, more)) l
+  plain_deeper (faults.UnexpandedWordFault.in_bare h k) e more some = faults.UnexpandedWordFault.in_bare h (parts_deeper k e more some)
 
   parts_deeper : {d : ℕ} {c : Context} {bs : Text} {f : Fault} → PartsFault d c bs f → (e : ℕ) → d ≤ e → f ≢ TooDeep → PartsFault e c bs f
   parts_deeper (faults.PartsFault.first_part h) e more some = faults.PartsFault.first_part (part_deeper h e more some)

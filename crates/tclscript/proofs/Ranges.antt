@@ -5,7 +5,7 @@ use Rattle.std.proofs.lemmas.Bool.Decides.{nat_tests}
 use Rattle.std.specs.Str.{IsUtf8, IsCharBoundary}
 use Rattle.std.proofs.lemmas.Str.{IsCharBoundary-from_rest}
 use Rattle.tclchars.specs.Runs.{Text}
-use Rattle.tclscript.specs.Pieces.{IsEndOf, IsFrontOf, is_boundary, between}
+use Rattle.tclscript.specs.Pieces.{IsSuffixOf, IsPrefixOf, is_boundary, between}
 use Rattle.tclscript.proofs.Ends.{end_cut, end_drop, front_cut, front_take}
 
 le_holds : (m n : ℕ) → nat_le m n ≡ true → m ≤ n
@@ -36,7 +36,7 @@ pub between_is : (bs : Text) (i j : ℕ) → i ≤ j → IsCharBoundary bs i →
 between_is bs i j le h k = let t : nat_le i j ≡ true = grind (arith, nat_tests) in rw (t, boundary_true bs i h, boundary_true bs j k) refl
 
 -- the range of a piece
-pub between_piece : (bs rest piece : Text) → IsUtf8 rest → IsUtf8 piece → IsEndOf bs rest → IsFrontOf rest piece
+pub between_piece : (bs rest piece : Text) → IsUtf8 rest → IsUtf8 piece → IsSuffixOf bs rest → IsPrefixOf rest piece
     → between bs (length bs - length rest) ((length bs - length rest) + length piece) ≡ piece
 between_piece bs rest piece u v e f =
     let n = length bs - length rest in
@@ -48,7 +48,7 @@ between_piece bs rest piece u v e f =
     between_is bs n (n + length piece) (omega arith) cut last ∙ ap₂ (λ (k : ℕ) (xs : Text). take k xs) long here ∙ front_take rest piece f
 
 -- the same, where the range begins so far from the front
-pub between_at : (bs rest piece : Text) (start : ℕ) → IsUtf8 rest → IsUtf8 piece → IsEndOf bs rest → IsFrontOf rest piece → start + length rest ≡ length bs → between bs start (start + length piece) ≡ piece
+pub between_at : (bs rest piece : Text) (start : ℕ) → IsUtf8 rest → IsUtf8 piece → IsSuffixOf bs rest → IsPrefixOf rest piece → start + length rest ≡ length bs → between bs start (start + length piece) ≡ piece
 between_at bs rest piece start u v e f at =
     let same : start ≡ length bs - length rest = omega (arith, at) in
     ap (λ (n : ℕ). between bs n (n + length piece)) same ∙ between_piece bs rest piece u v e f

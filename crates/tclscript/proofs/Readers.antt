@@ -7,17 +7,17 @@ use Rattle.tclchars.specs.Backslash.{after_backslash}
 use Rattle.tclchars.specs.Braces.{braced_at}
 use Rattle.tclchars.specs.Reading.{◌>>=◌, Read, read_map, items_at, items_step}
 use Rattle.tclchars.specs.declared.fault.Fault.{Fault}
-use Rattle.tclchars.specs.declared.runs.Class.TheVariants.{InName}
+use Rattle.tclchars.specs.declared.runs.Class.TheVariants.{InBracedName}
 use Rattle.tclchars.proofs.BraceClose.{close_sound}
 use Rattle.tclchars.proofs.RunLemmas.{drop_while-cons_true}
 use Rattle.tclscript.specs.declared.context.Context.{Context}
 use Rattle.tclscript.specs.declared.context.Context.TheVariants.{InScript, InBracket, InIndex, InQuotes}
-use Rattle.tclscript.specs.declared.runs.Passing.TheVariants.{Blanks, Gap, Name}
-use Rattle.tclscript.specs.Pieces.{IsEndOf}
+use Rattle.tclscript.specs.declared.runs.ScanState.TheVariants.{Blanks, Gap, Name}
+use Rattle.tclscript.specs.Pieces.{IsSuffixOf}
 use Rattle.tclscript.specs.Tree.{word_of, parts_of, commands_of, indexed}
 use Rattle.tclscript.specs.Ends.{script_ends, command_ends, word_ends, parts_end, class_of, bare}
-use Rattle.tclscript.specs.Passing.{pass, skip_blanks, skip_gap}
-use Rattle.tclscript.specs.Reading.{on_mark, closed, ended, Inner, bracket_at, index_at, braced_name_at, plain_variable, after_name, dollar_at, escaped, backslash_at, part_at, parts_with, word_in_braces, braced_word_at, quoted_word_at, plain_word_at, unless_word_ends, after_expansion, word_from, word_at, words_at, command_at, command_in, script_with, inner_at}
+use Rattle.tclscript.specs.ScanState.{scan, skip_blanks, skip_gap}
+use Rattle.tclscript.specs.Reading.{on_mark, after_closing, require_word_end, Inner, bracket_at, index_at, braced_name_at, scalar_variable, after_name, dollar_at, escaped, backslash_at, part_at, parts_with, word_in_braces, braced_word_at, quoted_word_at, unexpanded_word_at, unless_word_ends, after_expansion, word_from, word_at, words_at, command_at, command_in, script_with, inner_at}
 use Rattle.tclscript.proofs.Ends.{end_same, end_through, end_no_longer, IsBehind, behind_mark, behind_through, end_mark}
 use Rattle.tclscript.proofs.Escapes.{either, back_end, LeavesSome, backslash_end}
 use Rattle.tclscript.proofs.Passes.{pass_end}
@@ -32,29 +32,29 @@ pub leaves_read : {A : Type 0} (P : Text → Type 0) (r : Read A) (x : A) (rest 
 leaves_read P r x rest l is = subst (Leaves P) is l
 
 -- an end of a text behind a mark is behind the whole
-pub leaves_behind : {A : Type 0} (bs : Text) (mark : ℕ) (xs : Text) (r : Read A) → bs ≡ mark ∷ xs → Leaves (IsEndOf xs) r → Leaves (IsBehind bs) r
-leaves_behind bs mark xs r is l = leaves_also (IsEndOf xs) (IsBehind bs) r (λ rest e. behind_mark bs mark xs rest is e) l
+pub leaves_behind : {A : Type 0} (bs : Text) (mark : ℕ) (xs : Text) (r : Read A) → bs ≡ mark ∷ xs → Leaves (IsSuffixOf xs) r → Leaves (IsBehind bs) r
+leaves_behind bs mark xs r is l = leaves_also (IsSuffixOf xs) (IsBehind bs) r (λ rest e. behind_mark bs mark xs rest is e) l
 
-pub leaves_end : {A : Type 0} (bs : Text) (r : Read A) → Leaves (IsBehind bs) r → Leaves (IsEndOf bs) r
-leaves_end bs r l = leaves_also (IsBehind bs) (IsEndOf bs) r (λ rest b. b.0) l
+pub leaves_end : {A : Type 0} (bs : Text) (r : Read A) → Leaves (IsBehind bs) r → Leaves (IsSuffixOf bs) r
+leaves_end bs r l = leaves_also (IsBehind bs) (IsSuffixOf bs) r (λ rest b. b.0) l
 
 -- Items, where what is passed and what is read leave ends
 module _ {X : Type 0} (skip : Text → Text) (ends : Text → Bool) (one : Text → Read X)
-    (skips : (bs : Text) → IsEndOf bs (skip bs)) (ones : (bs : Text) → Leaves (IsEndOf bs) (one bs)) where
-  pub items_leave : (n : ℕ) (bs : Text) → Leaves (IsEndOf bs) (items_at skip ends one n bs)
+    (skips : (bs : Text) → IsSuffixOf bs (skip bs)) (ones : (bs : Text) → Leaves (IsSuffixOf bs) (one bs)) where
+  pub items_leave : (n : ℕ) (bs : Text) → Leaves (IsSuffixOf bs) (items_at skip ends one n bs)
   items_leave zero bs = tt
   items_leave (suc n) bs = go (items_leave n) (ends (skip bs)) where
-    go : ((xs : Text) → Leaves (IsEndOf xs) (items_at skip ends one n xs)) → (t : Bool) → Leaves (IsEndOf bs) (items_step one (items_at skip ends one n) (skip bs) t)
+    go : ((xs : Text) → Leaves (IsSuffixOf xs) (items_at skip ends one n xs)) → (t : Bool) → Leaves (IsSuffixOf bs) (items_step one (items_at skip ends one n) (skip bs) t)
     go more true = skips bs
-    go more false = leaves_then (IsEndOf (skip bs)) (IsEndOf bs) (one (skip bs)) _ (ones (skip bs))
-        (λ x rest e. leaves_map (IsEndOf bs) (λ xs. x ∷ xs) _ (leaves_also (IsEndOf rest) (IsEndOf bs) _ (λ last f. end_through bs rest last (end_through bs (skip bs) rest (skips bs) e) f) (more rest)))
+    go more false = leaves_then (IsSuffixOf (skip bs)) (IsSuffixOf bs) (one (skip bs)) _ (ones (skip bs))
+        (λ x rest e. leaves_map (IsSuffixOf bs) (λ xs. x ∷ xs) _ (leaves_also (IsSuffixOf rest) (IsSuffixOf bs) _ (λ last f. end_through bs rest last (end_through bs (skip bs) rest (skips bs) e) f) (more rest)))
 
   -- something was read where an item is there
   pub items_behind : (n : ℕ) (bs : Text) → ends (skip bs) ≡ false → Leaves (IsBehind (skip bs)) (one (skip bs)) → Leaves (IsBehind bs) (items_at skip ends one (suc n) bs)
   items_behind n bs e some = rw e (leaves_then (IsBehind (skip bs)) (IsBehind bs) (one (skip bs)) _ some
-      (λ x rest b. leaves_map (IsBehind bs) (λ xs. x ∷ xs) _ (leaves_also (IsEndOf rest) (IsBehind bs) _
+      (λ x rest b. leaves_map (IsBehind bs) (λ xs. x ∷ xs) _ (leaves_also (IsSuffixOf rest) (IsBehind bs) _
       (λ last f. behind_first rest last b f) (items_leave n rest)))) where
-        behind_first : (rest last : Text) → IsBehind (skip bs) rest → IsEndOf rest last → IsBehind bs last
+        behind_first : (rest last : Text) → IsBehind (skip bs) rest → IsSuffixOf rest last → IsBehind bs last
         behind_first rest last b f =
             let less : length last ≤ length rest = end_no_longer rest last f in
             let here : length (skip bs) ≤ length bs = end_no_longer bs (skip bs) (skips bs) in
@@ -63,45 +63,45 @@ module _ {X : Type 0} (skip : Text → Text) (ends : Text → Bool) (one : Text 
 
 -- the readers of what brackets and indexes hold leave ends
 pub record InnerLeaves (inner : Inner) : Type 0 where
-  pub script : (bs : Text) → Leaves (IsEndOf bs) (inner.script bs)
-  pub index : (bs : Text) → Leaves (IsEndOf bs) (inner.index bs)
+  pub script : (bs : Text) → Leaves (IsSuffixOf bs) (inner.script bs)
+  pub index : (bs : Text) → Leaves (IsSuffixOf bs) (inner.index bs)
 
 -- what follows a mark that closes
-closed_behind : {A B : Type 0} (bs : Text) (r : Read A) (mark : ℕ) (fault : Fault) (f : A → Text → Read B) → Leaves (IsEndOf bs) r → ((x : A) (rest : Text) → Leaves (IsEndOf rest) (f x rest))
-    → Leaves (IsEndOf bs) (r >>= (λ x. closed mark fault x.1 >>= (λ rest. f x.0 rest)))
-closed_behind bs r mark fault f l more = leaves_then (IsEndOf bs) (IsEndOf bs) r _ l
-    (λ x close e. text_then (IsEndOf close) (IsEndOf bs) (closed mark fault close) _ (closed_leaves mark fault close)
-    (λ rest g. leaves_also (IsEndOf rest) (IsEndOf bs) (f x rest) (λ last h. end_through bs rest last (end_through bs close rest e g) h) (more x rest)))
+closed_behind : {A B : Type 0} (bs : Text) (r : Read A) (mark : ℕ) (fault : Fault) (f : A → Text → Read B) → Leaves (IsSuffixOf bs) r → ((x : A) (rest : Text) → Leaves (IsSuffixOf rest) (f x rest))
+    → Leaves (IsSuffixOf bs) (r >>= (λ x. after_closing mark fault x.1 >>= (λ rest. f x.0 rest)))
+closed_behind bs r mark fault f l more = leaves_then (IsSuffixOf bs) (IsSuffixOf bs) r _ l
+    (λ x close e. text_then (IsSuffixOf close) (IsSuffixOf bs) (after_closing mark fault close) _ (closed_leaves mark fault close)
+    (λ rest g. leaves_also (IsSuffixOf rest) (IsSuffixOf bs) (f x rest) (λ last h. end_through bs rest last (end_through bs close rest e g) h) (more x rest)))
 
 module _ (inner : Inner) (inside : InnerLeaves inner) where
-  bracket_leaves : (bs : Text) → Leaves (IsEndOf bs) (bracket_at inner bs)
+  bracket_leaves : (bs : Text) → Leaves (IsSuffixOf bs) (bracket_at inner bs)
   unfolding bracket_at
   bracket_leaves bs = closed_behind bs (inner.script bs) 93 _ (λ x rest. Ok (_, rest)) (inside.script bs) (λ x rest. end_same rest)
 
-  index_leaves : (bs : Text) → Leaves (IsEndOf bs) (index_at inner bs)
+  index_leaves : (bs : Text) → Leaves (IsSuffixOf bs) (index_at inner bs)
   unfolding index_at
   index_leaves bs = closed_behind bs (inner.index bs) 41 _ (λ x rest. Ok (x, rest)) (inside.index bs) (λ x rest. end_same rest)
 
-braced_name_leaves : (bs : Text) → Leaves (IsEndOf bs) (braced_name_at bs)
+braced_name_leaves : (bs : Text) → Leaves (IsSuffixOf bs) (braced_name_at bs)
 unfolding braced_name_at
-braced_name_leaves bs = text_then (IsEndOf (drop_while (in_class InName) bs)) (IsEndOf bs) (closed 125 _ (drop_while (in_class InName) bs)) _ (closed_leaves 125 _ (drop_while (in_class InName) bs))
-    (λ rest e. end_through bs (drop_while (in_class InName) bs) rest (back_end (in_class InName) bs) e)
+braced_name_leaves bs = text_then (IsSuffixOf (drop_while (in_class InBracedName) bs)) (IsSuffixOf bs) (after_closing 125 _ (drop_while (in_class InBracedName) bs)) _ (closed_leaves 125 _ (drop_while (in_class InBracedName) bs))
+    (λ rest e. end_through bs (drop_while (in_class InBracedName) bs) rest (back_end (in_class InBracedName) bs) e)
 
-escaped_leaves : (bs : Text) (found : Option (Text × Text)) → LeavesSome (IsEndOf bs) found → Leaves (IsEndOf bs) (escaped bs found)
+escaped_leaves : (bs : Text) (found : Option (Text × Text)) → LeavesSome (IsSuffixOf bs) found → Leaves (IsSuffixOf bs) (escaped bs found)
 escaped_leaves bs (Some p) e = e
 escaped_leaves [] None e = end_same []
 escaped_leaves (b ∷ bs) None e = tt
 
-pub escape_leaves : (bs : Text) → Leaves (IsEndOf bs) (backslash_at bs)
+pub escape_leaves : (bs : Text) → Leaves (IsSuffixOf bs) (backslash_at bs)
 unfolding backslash_at
 escape_leaves bs = escaped_leaves bs (after_backslash bs) (backslash_end bs)
 
 -- a byte that ends no part and begins no substitution stands for itself
-stands : (context : Context) (b : ℕ) (bs : Text) → parts_end context (b ∷ bs) ≡ false → (b == 36) ≡ false → (b == 91) ≡ false → (b == 92) ≡ false → in_class (class_of context) b ≡ true
-stands InScript b bs h k l m = grind (arith, nat_tests)
-stands InBracket b bs h k l m = grind (arith, nat_tests)
-stands InIndex b bs h k l m = grind (arith, nat_tests)
-stands InQuotes b bs h k l m = grind (arith, nat_tests)
+spans : (context : Context) (b : ℕ) (bs : Text) → parts_end context (b ∷ bs) ≡ false → (b == 36) ≡ false → (b == 91) ≡ false → (b == 92) ≡ false → in_class (class_of context) b ≡ true
+spans InScript b bs h k l m = grind (arith, nat_tests)
+spans InBracket b bs h k l m = grind (arith, nat_tests)
+spans InIndex b bs h k l m = grind (arith, nat_tests)
+spans InQuotes b bs h k l m = grind (arith, nat_tests)
 
 no_mark : (mark b : ℕ) (bs : Text) → begins mark (b ∷ bs) ≡ false → (b == mark) ≡ false
 no_mark mark b bs h = h
@@ -112,20 +112,20 @@ literal_behind InBracket [] h k l m = cc
 literal_behind InIndex [] h k l m = cc
 literal_behind InQuotes [] h k l m = cc
 literal_behind context (b ∷ bs) h k l m =
-    let here : drop_while (in_class (class_of context)) (b ∷ bs) ≡ drop_while (in_class (class_of context)) bs = drop_while-cons_true (in_class (class_of context)) b bs (stands context b bs h k l m) in
+    let here : drop_while (in_class (class_of context)) (b ∷ bs) ≡ drop_while (in_class (class_of context)) bs = drop_while-cons_true (in_class (class_of context)) b bs (spans context b bs h k l m) in
     subst (IsBehind (b ∷ bs)) (sym here) (behind_mark (b ∷ bs) b bs _ refl (back_end (in_class (class_of context)) bs))
 
 module _ (inner : Inner) (inside : InnerLeaves inner) where
-  name_leaves : (bs : Text) (p : Text × Text) → IsEndOf bs p.1 → Leaves (IsEndOf bs) (after_name inner p)
-  name_leaves bs p e = at_mark (Leaves (IsEndOf bs)) 40 p.1 (λ xs. read_map (indexed p.0) (index_at inner xs)) (Ok (plain_variable p.0, p.1))
-      (λ xs is. leaves_map (IsEndOf bs) (indexed p.0) (index_at inner xs) (leaves_also (IsEndOf xs) (IsEndOf bs) (index_at inner xs) (λ rest f. end_through bs xs rest (end_through bs p.1 xs e (end_mark p.1 40 xs is)) f) (index_leaves inner inside xs)))
+  name_leaves : (bs : Text) (p : Text × Text) → IsSuffixOf bs p.1 → Leaves (IsSuffixOf bs) (after_name inner p)
+  name_leaves bs p e = at_mark (Leaves (IsSuffixOf bs)) 40 p.1 (λ xs. read_map (indexed p.0) (index_at inner xs)) (Ok (scalar_variable p.0, p.1))
+      (λ xs is. leaves_map (IsSuffixOf bs) (indexed p.0) (index_at inner xs) (leaves_also (IsSuffixOf xs) (IsSuffixOf bs) (index_at inner xs) (λ rest f. end_through bs xs rest (end_through bs p.1 xs e (end_mark p.1 40 xs is)) f) (index_leaves inner inside xs)))
       (λ h. e)
 
-  pub dollar_leaves : (bs : Text) → Leaves (IsEndOf bs) (dollar_at inner bs)
+  pub dollar_leaves : (bs : Text) → Leaves (IsSuffixOf bs) (dollar_at inner bs)
   unfolding dollar_at
-  dollar_leaves bs = at_mark (Leaves (IsEndOf bs)) 123 bs braced_name_at (after_name inner (pass Name bs))
-      (λ xs is. leaves_also (IsEndOf xs) (IsEndOf bs) (braced_name_at xs) (λ rest e. end_through bs xs rest (end_mark bs 123 xs is) e) (braced_name_leaves xs))
-      (λ h. name_leaves bs (pass Name bs) (pass_end Name bs))
+  dollar_leaves bs = at_mark (Leaves (IsSuffixOf bs)) 123 bs braced_name_at (after_name inner (scan Name bs))
+      (λ xs is. leaves_also (IsSuffixOf xs) (IsSuffixOf bs) (braced_name_at xs) (λ rest e. end_through bs xs rest (end_mark bs 123 xs is) e) (braced_name_leaves xs))
+      (λ h. name_leaves bs (scan Name bs) (pass_end Name bs))
 
   -- a part, where parts don't end
   pub part_behind : (context : Context) (bs : Text) → parts_end context bs ≡ false → Leaves (IsBehind bs) (part_at context inner bs)
@@ -138,19 +138,19 @@ module _ (inner : Inner) (inside : InnerLeaves inner) where
       (λ xs is. leaves_behind bs 92 xs (backslash_at xs) is (escape_leaves xs))
       (λ l. literal_behind context bs e h k l)))
 
-  pub part_leaves : (context : Context) (bs : Text) → Leaves (IsEndOf bs) (part_at context inner bs)
+  pub part_leaves : (context : Context) (bs : Text) → Leaves (IsSuffixOf bs) (part_at context inner bs)
   unfolding part_at
-  part_leaves context bs = at_mark (Leaves (IsEndOf bs)) 36 bs (dollar_at inner) _
+  part_leaves context bs = at_mark (Leaves (IsSuffixOf bs)) 36 bs (dollar_at inner) _
       (λ xs is. leaves_end bs _ (leaves_behind bs 36 xs (dollar_at inner xs) is (dollar_leaves xs)))
-      (λ h. at_mark (Leaves (IsEndOf bs)) 91 bs (bracket_at inner) _
+      (λ h. at_mark (Leaves (IsSuffixOf bs)) 91 bs (bracket_at inner) _
       (λ xs is. leaves_end bs _ (leaves_behind bs 91 xs (bracket_at inner xs) is (bracket_leaves inner inside xs)))
-      (λ k. at_mark (Leaves (IsEndOf bs)) 92 bs backslash_at _
+      (λ k. at_mark (Leaves (IsSuffixOf bs)) 92 bs backslash_at _
       (λ xs is. leaves_end bs _ (leaves_behind bs 92 xs (backslash_at xs) is (escape_leaves xs)))
       (λ l. back_end (in_class (class_of context)) bs)))
 
-  pub parts_leave : (context : Context) (bs : Text) → Leaves (IsEndOf bs) (parts_with context inner bs)
+  pub parts_leave : (context : Context) (bs : Text) → Leaves (IsSuffixOf bs) (parts_with context inner bs)
   unfolding parts_with
-  parts_leave context bs = leaves_map (IsEndOf bs) parts_of _ (items_leave (λ xs. xs) (parts_end context) (part_at context inner) end_same (part_leaves context) (suc (length bs)) bs)
+  parts_leave context bs = leaves_map (IsSuffixOf bs) parts_of _ (items_leave (λ xs. xs) (parts_end context) (part_at context inner) end_same (part_leaves context) (suc (length bs)) bs)
 
   pub parts_behind : (context : Context) (bs : Text) → parts_end context bs ≡ false → Leaves (IsBehind bs) (parts_with context inner bs)
   unfolding parts_with
@@ -158,23 +158,23 @@ module _ (inner : Inner) (inside : InnerLeaves inner) where
 
 -- Words
 
-in_braces_leave : (nested : Bool) (bs : Text) (left : ℕ) (found : Option (Text × Text)) → LeavesSome (IsEndOf bs) found → Leaves (IsEndOf bs) (word_in_braces nested left found)
-in_braces_leave nested bs left None e = tt
-in_braces_leave nested bs left (Some p) e = text_then (IsEndOf p.1) (IsEndOf bs) (ended nested p.1) _ (ended_leaves nested p.1) (λ rest f. end_through bs p.1 rest e f)
+in_braces_leave : (nested : Bool) (bs : Text) (remaining : ℕ) (found : Option (Text × Text)) → LeavesSome (IsSuffixOf bs) found → Leaves (IsSuffixOf bs) (word_in_braces nested remaining found)
+in_braces_leave nested bs remaining None e = tt
+in_braces_leave nested bs remaining (Some p) e = text_then (IsSuffixOf p.1) (IsSuffixOf bs) (require_word_end nested p.1) _ (ended_leaves nested p.1) (λ rest f. end_through bs p.1 rest e f)
 
-pub closing_end : (bs : Text) (found : Option (Text × Text)) → braced_at false 0 bs ≡ found → LeavesSome (IsEndOf bs) found
+pub closing_end : (bs : Text) (found : Option (Text × Text)) → braced_at false 0 bs ≡ found → LeavesSome (IsSuffixOf bs) found
 closing_end bs None is = tt
 closing_end bs (Some p) is = let c = close_sound bs false 0 p.0 p.1 is in (p.0 ++ 125 ∷ [], c.0 ∙ sym (append_assoc p.0 (125 ∷ []) p.1))
 
-braced_word_leaves : (nested : Bool) (bs : Text) → Leaves (IsEndOf bs) (braced_word_at nested bs)
+braced_word_leaves : (nested : Bool) (bs : Text) → Leaves (IsSuffixOf bs) (braced_word_at nested bs)
 unfolding braced_word_at
 braced_word_leaves nested bs = in_braces_leave nested bs _ (braced_at false 0 bs) (closing_end bs (braced_at false 0 bs) refl)
 
 module _ (inner : Inner) (inside : InnerLeaves inner) (nested : Bool) where
-  quoted_word_leaves : (bs : Text) → Leaves (IsEndOf bs) (quoted_word_at nested inner bs)
+  quoted_word_leaves : (bs : Text) → Leaves (IsSuffixOf bs) (quoted_word_at nested inner bs)
   unfolding quoted_word_at
-  quoted_word_leaves bs = closed_behind bs (parts_with InQuotes inner bs) 34 _ (λ x after. ended nested after >>= (λ rest. Ok (x, rest))) (parts_leave inner inside InQuotes bs)
-      (λ x after. text_then (IsEndOf after) (IsEndOf after) (ended nested after) _ (ended_leaves nested after) (λ rest e. e))
+  quoted_word_leaves bs = closed_behind bs (parts_with InQuotes inner bs) 34 _ (λ x after. require_word_end nested after >>= (λ rest. Ok (x, rest))) (parts_leave inner inside InQuotes bs)
+      (λ x after. text_then (IsSuffixOf after) (IsSuffixOf after) (require_word_end nested after) _ (ended_leaves nested after) (λ rest e. e))
 
   bare_going : (bs : Text) → word_ends nested bs ≡ false → parts_end (bare nested) bs ≡ false
   bare_going bs h = go nested h where
@@ -182,19 +182,19 @@ module _ (inner : Inner) (inside : InnerLeaves inner) (nested : Bool) where
     go true h = h
     go false h = h
 
-  plain_word_behind : (bs : Text) → word_ends nested bs ≡ false → Leaves (IsBehind bs) (plain_word_at nested inner bs)
-  unfolding plain_word_at
+  plain_word_behind : (bs : Text) → word_ends nested bs ≡ false → Leaves (IsBehind bs) (unexpanded_word_at nested inner bs)
+  unfolding unexpanded_word_at
   plain_word_behind bs e = at_mark (Leaves (IsBehind bs)) 123 bs (braced_word_at nested) _
       (λ xs is. leaves_behind bs 123 xs (braced_word_at nested xs) is (braced_word_leaves nested xs))
       (λ h. at_mark (Leaves (IsBehind bs)) 34 bs (quoted_word_at nested inner) _
       (λ xs is. leaves_behind bs 34 xs (quoted_word_at nested inner xs) is (quoted_word_leaves xs))
       (λ k. parts_behind inner inside (bare nested) bs (bare_going bs e)))
 
-  plain_word_leaves : (bs : Text) → Leaves (IsEndOf bs) (plain_word_at nested inner bs)
-  unfolding plain_word_at
-  plain_word_leaves bs = at_mark (Leaves (IsEndOf bs)) 123 bs (braced_word_at nested) _
+  plain_word_leaves : (bs : Text) → Leaves (IsSuffixOf bs) (unexpanded_word_at nested inner bs)
+  unfolding unexpanded_word_at
+  plain_word_leaves bs = at_mark (Leaves (IsSuffixOf bs)) 123 bs (braced_word_at nested) _
       (λ xs is. leaves_end bs _ (leaves_behind bs 123 xs (braced_word_at nested xs) is (braced_word_leaves nested xs)))
-      (λ h. at_mark (Leaves (IsEndOf bs)) 34 bs (quoted_word_at nested inner) _
+      (λ h. at_mark (Leaves (IsSuffixOf bs)) 34 bs (quoted_word_at nested inner) _
       (λ xs is. leaves_end bs _ (leaves_behind bs 34 xs (quoted_word_at nested inner xs) is (quoted_word_leaves xs)))
       (λ k. parts_leave inner inside (bare nested) bs))
 
@@ -216,50 +216,50 @@ module _ (inner : Inner) (inside : InnerLeaves inner) (nested : Bool) where
       (λ h. tt))
       (λ h. tt)
 
-  pub expanded_end : (bs rest : Text) → Some rest ≡ after_expansion nested bs → IsEndOf bs rest
+  pub expanded_end : (bs rest : Text) → Some rest ≡ after_expansion nested bs → IsSuffixOf bs rest
   expanded_end bs rest is = let b : IsBehind bs rest = subst (IsBehindSome bs) (sym is) (expansion_behind bs) in b.0
 
   from_behind : (bs : Text) (found : Option Text) → IsBehindSome bs found → word_ends nested bs ≡ false → Leaves (IsBehind bs) (word_from nested inner bs found)
   from_behind bs None b e = leaves_map (IsBehind bs) (word_of false) _ (plain_word_behind bs e)
-  from_behind bs (Some xs) b e = leaves_map (IsBehind bs) (word_of true) _ (leaves_also (IsEndOf xs) (IsBehind bs) _ (λ rest f. behind_through bs xs rest b f) (plain_word_leaves xs))
+  from_behind bs (Some xs) b e = leaves_map (IsBehind bs) (word_of true) _ (leaves_also (IsSuffixOf xs) (IsBehind bs) _ (λ rest f. behind_through bs xs rest b f) (plain_word_leaves xs))
 
-  from_leaves : (bs : Text) (found : Option Text) → IsBehindSome bs found → Leaves (IsEndOf bs) (word_from nested inner bs found)
-  from_leaves bs None b = leaves_map (IsEndOf bs) (word_of false) _ (plain_word_leaves bs)
-  from_leaves bs (Some xs) b = leaves_map (IsEndOf bs) (word_of true) _ (leaves_also (IsEndOf xs) (IsEndOf bs) _ (λ rest f. (behind_through bs xs rest b f).0) (plain_word_leaves xs))
+  from_leaves : (bs : Text) (found : Option Text) → IsBehindSome bs found → Leaves (IsSuffixOf bs) (word_from nested inner bs found)
+  from_leaves bs None b = leaves_map (IsSuffixOf bs) (word_of false) _ (plain_word_leaves bs)
+  from_leaves bs (Some xs) b = leaves_map (IsSuffixOf bs) (word_of true) _ (leaves_also (IsSuffixOf xs) (IsSuffixOf bs) _ (λ rest f. (behind_through bs xs rest b f).0) (plain_word_leaves xs))
 
   -- a word, where no word ends
   pub word_behind : (bs : Text) → word_ends nested bs ≡ false → Leaves (IsBehind bs) (word_at nested inner bs)
   unfolding word_at
   word_behind bs e = from_behind bs (after_expansion nested bs) (expansion_behind bs) e
 
-  pub word_leaves : (bs : Text) → Leaves (IsEndOf bs) (word_at nested inner bs)
+  pub word_leaves : (bs : Text) → Leaves (IsSuffixOf bs) (word_at nested inner bs)
   unfolding word_at
   word_leaves bs = from_leaves bs (after_expansion nested bs) (expansion_behind bs)
 
   -- Commands and scripts
 
-  pub blanks_end : (bs : Text) → IsEndOf bs (skip_blanks bs)
+  pub blanks_end : (bs : Text) → IsSuffixOf bs (skip_blanks bs)
   blanks_end bs = pass_end Blanks bs
 
-  pub gap_end : (bs : Text) → IsEndOf bs (skip_gap bs)
+  pub gap_end : (bs : Text) → IsSuffixOf bs (skip_gap bs)
   gap_end bs = pass_end Gap bs
 
-  words_leave : (bs : Text) → Leaves (IsEndOf bs) (words_at nested inner bs)
+  words_leave : (bs : Text) → Leaves (IsSuffixOf bs) (words_at nested inner bs)
   words_leave bs = items_leave skip_blanks (command_ends nested) (word_at nested inner) blanks_end word_leaves (suc (length bs)) bs
 
-  pub command_leaves : (place : ℕ) (bs : Text) → Leaves (IsEndOf bs) (command_at place nested inner bs)
+  pub command_leaves : (offset : ℕ) (bs : Text) → Leaves (IsSuffixOf bs) (command_at offset nested inner bs)
   unfolding command_at
-  command_leaves place bs = leaves_then (IsEndOf bs) (IsEndOf bs) (word_at nested inner bs) _ (word_leaves bs)
-      (λ w rest e. leaves_map (IsEndOf bs) _ (words_at nested inner rest) (leaves_also (IsEndOf rest) (IsEndOf bs) _ (λ last f. end_through bs rest last e f) (words_leave rest)))
+  command_leaves offset bs = leaves_then (IsSuffixOf bs) (IsSuffixOf bs) (word_at nested inner bs) _ (word_leaves bs)
+      (λ w rest e. leaves_map (IsSuffixOf bs) _ (words_at nested inner rest) (leaves_also (IsSuffixOf rest) (IsSuffixOf bs) _ (λ last f. end_through bs rest last e f) (words_leave rest)))
 
-  pub command_behind : (place : ℕ) (bs : Text) → word_ends nested bs ≡ false → Leaves (IsBehind bs) (command_at place nested inner bs)
+  pub command_behind : (offset : ℕ) (bs : Text) → word_ends nested bs ≡ false → Leaves (IsBehind bs) (command_at offset nested inner bs)
   unfolding command_at
-  command_behind place bs h = leaves_then (IsBehind bs) (IsBehind bs) (word_at nested inner bs) _ (word_behind bs h)
-      (λ w rest b. leaves_map (IsBehind bs) _ (words_at nested inner rest) (leaves_also (IsEndOf rest) (IsBehind bs) _ (λ last f. behind_through bs rest last b f) (words_leave rest)))
+  command_behind offset bs h = leaves_then (IsBehind bs) (IsBehind bs) (word_at nested inner bs) _ (word_behind bs h)
+      (λ w rest b. leaves_map (IsBehind bs) _ (words_at nested inner rest) (leaves_also (IsSuffixOf rest) (IsBehind bs) _ (λ last f. behind_through bs rest last b f) (words_leave rest)))
 
-  pub script_leaves : (bs : Text) → Leaves (IsEndOf bs) (script_with nested inner bs)
+  pub script_leaves : (bs : Text) → Leaves (IsSuffixOf bs) (script_with nested inner bs)
   unfolding script_with
-  script_leaves bs = leaves_map (IsEndOf bs) commands_of _ (items_leave skip_gap (script_ends nested) (command_in (length bs) nested inner) gap_end (λ xs. command_leaves (length bs - length xs) xs) (suc (length bs)) bs)
+  script_leaves bs = leaves_map (IsSuffixOf bs) commands_of _ (items_leave skip_gap (script_ends nested) (command_in (length bs) nested inner) gap_end (λ xs. command_leaves (length bs - length xs) xs) (suc (length bs)) bs)
 
 pub inner_leaves : (depth : ℕ) → InnerLeaves (inner_at depth)
 unfolding inner_at

@@ -4,9 +4,9 @@ use Rattle.std.proofs.lemmas.Bool.Decides.{nat_tests}
 use Rattle.tclchars.specs.Runs.{Text, begins}
 use Rattle.tclchars.specs.Reading.{◌>>=◌, Read, read_map}
 use Rattle.tclchars.specs.declared.fault.Fault.{Fault}
-use Rattle.tclscript.specs.Pieces.{IsEndOf}
+use Rattle.tclscript.specs.Pieces.{IsSuffixOf}
 use Rattle.tclscript.specs.Ends.{word_ends}
-use Rattle.tclscript.specs.Reading.{on_mark, closed, ended}
+use Rattle.tclscript.specs.Reading.{on_mark, after_closing, require_word_end}
 use Rattle.tclscript.proofs.Ends.{end_same, end_mark}
 
 -- Readers
@@ -32,19 +32,19 @@ pub text_then : {B : Type 0} (P Q : Text → Type 0) (r : Result Text Fault) (f 
 text_then P Q (Ok rest) f l more = more rest l
 text_then P Q (Err e) f l more = tt
 
-pub at_mark : {A : Type 0} (P : A → Type 0) (mark : ℕ) (bs : Text) (behind : Text → A) (other : A)
-    → ((rest : Text) → bs ≡ mark ∷ rest → P (behind rest)) → (begins mark bs ≡ false → P other) → P (on_mark mark bs behind other)
-at_mark P mark [] behind other here otherwise = otherwise refl
-at_mark P mark (b ∷ bs) behind other here otherwise = go (b == mark) refl where
-  go : (t : Bool) → (b == mark) ≡ t → P (on_mark mark (b ∷ bs) behind other)
+pub at_mark : {A : Type 0} (P : A → Type 0) (mark : ℕ) (bs : Text) (following : Text → A) (other : A)
+    → ((rest : Text) → bs ≡ mark ∷ rest → P (following rest)) → (begins mark bs ≡ false → P other) → P (on_mark mark bs following other)
+at_mark P mark [] following other here otherwise = otherwise refl
+at_mark P mark (b ∷ bs) following other here otherwise = go (b == mark) refl where
+  go : (t : Bool) → (b == mark) ≡ t → P (on_mark mark (b ∷ bs) following other)
   go true h = let is : b ≡ mark = grind (arith, nat_tests) in rw h (here bs (ap (λ c. c ∷ bs) is))
   go false h = rw h (otherwise h)
 
-pub closed_leaves : (mark : ℕ) (fault : Fault) (bs : Text) → LeavesText (IsEndOf bs) (closed mark fault bs)
-closed_leaves mark fault bs = at_mark (LeavesText (IsEndOf bs)) mark bs (λ rest. Ok rest) (Err fault) (λ rest is. end_mark bs mark rest is) (λ h. tt)
+pub closed_leaves : (mark : ℕ) (fault : Fault) (bs : Text) → LeavesText (IsSuffixOf bs) (after_closing mark fault bs)
+closed_leaves mark fault bs = at_mark (LeavesText (IsSuffixOf bs)) mark bs (λ rest. Ok rest) (Err fault) (λ rest is. end_mark bs mark rest is) (λ h. tt)
 
-pub ended_leaves : (nested : Bool) (bs : Text) → LeavesText (IsEndOf bs) (ended nested bs)
+pub ended_leaves : (nested : Bool) (bs : Text) → LeavesText (IsSuffixOf bs) (require_word_end nested bs)
 ended_leaves nested bs = go (word_ends nested bs) refl where
-  go : (t : Bool) → word_ends nested bs ≡ t → LeavesText (IsEndOf bs) (ended nested bs)
+  go : (t : Bool) → word_ends nested bs ≡ t → LeavesText (IsSuffixOf bs) (require_word_end nested bs)
   go true h = rw h (end_same bs)
   go false h = rw h tt

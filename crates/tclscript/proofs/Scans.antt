@@ -9,26 +9,26 @@ use Rattle.std.proofs.lemmas.Str.{IsCharBoundary-start, IsCharBoundary-after_asc
 use Rattle.tclchars.specs.Bytes.{newline, hash, backslash, is_gap, is_blank, colon}
 use Rattle.tclchars.specs.Classes.{is_name}
 use Rattle.tclchars.specs.Runs.{Text, begins}
-use Rattle.tclscript.specs.declared.runs.Passing.{Passing}
-use Rattle.tclscript.specs.declared.runs.Passing.TheVariants.{Blanks, Joined, Gap, Comment, Escaped, Name, Colons}
-use Rattle.tclscript.specs.Passing.{step, step_blanks, step_joined, step_gap, step_comment, step_name, pass, pass_on, put_before}
-use Rattle.tclscript.proofs.Passes.{pass-nil, pass-cons}
+use Rattle.tclscript.specs.declared.runs.ScanState.{ScanState}
+use Rattle.tclscript.specs.declared.runs.ScanState.TheVariants.{Blanks, AwaitsNewline, Gap, Comment, Escaped, Name, Colons}
+use Rattle.tclscript.specs.ScanState.{step, step_blanks, step_newline, step_gap, step_comment, step_name, scan, scan_on, put_before}
+use Rattle.tclscript.proofs.Passes.{scan-nil, scan-cons}
 
 -- what was passed over may end here
-abbrev pub CanEnd : Passing → Type 0
+abbrev pub CanEnd : ScanState → Type 0
 CanEnd Blanks = Unit {0}
-CanEnd Joined = Unit {0}
+CanEnd AwaitsNewline = Unit {0}
 CanEnd Gap = Unit {0}
 CanEnd Comment = ⊥
 CanEnd Escaped = ⊥
 CanEnd Name = Unit {0}
 CanEnd Colons = Unit {0}
 
-pub record Scanned (start : Passing) (bs : Text) (passing : Passing) (n : ℕ) : Type 0 where
-  pub run : pass start bs ≡ (take n bs ++ (pass passing (drop n bs)).0, (pass passing (drop n bs)).1)
-  pub cut : CanEnd passing → IsCharBoundary bs n
+pub record Scanned (start : ScanState) (bs : Text) (state : ScanState) (n : ℕ) : Type 0 where
+  pub run : scan start bs ≡ (take n bs ++ (scan state (drop n bs)).0, (scan state (drop n bs)).1)
+  pub cut : CanEnd state → IsCharBoundary bs n
 
-pub scanned-none : (start : Passing) (bs : Text) → IsUtf8 bs → Scanned start bs start 0
+pub scanned-none : (start : ScanState) (bs : Text) → IsUtf8 bs → Scanned start bs start 0
 scanned-none start bs u = record { run = refl; cut = λ e. IsCharBoundary-start bs u }
 
 -- what is passed over outside comments is ASCII
@@ -49,23 +49,23 @@ mark_small b mark false less h = grind (arith, nat_tests)
 none_some : {A : Type 0} (x : A) → None ≡ Some x → ⊥
 none_some x h = cc
 
-comment_some : (next : Passing) → Some Comment ≡ Some next → CanEnd next → ⊥
+comment_some : (next : ScanState) → Some Comment ≡ Some next → CanEnd next → ⊥
 comment_some next h e = let is : Comment ≡ next = cc in subst CanEnd (sym is) e
 
-blanks_small : (b : ℕ) (after : Text) (next : Passing) → step_blanks b after ≡ Some next → b < 128
+blanks_small : (b : ℕ) (after : Text) (next : ScanState) → step_blanks b after ≡ Some next → b < 128
 blanks_small b after next h = go (is_blank b) (b == backslash && begins newline after) refl refl where
   go : (t u : Bool) → is_blank b ≡ t → (b == backslash && begins newline after) ≡ u → b < 128
   go true u k l = blank_small b k
   go false true k l = mark_small b backslash (begins newline after) (omega arith) l
   go false false k l = absurd (none_some next (rw (k, l) at h))
 
-joined_small : (b : ℕ) (next : Passing) → step_joined b ≡ Some next → b < 128
+joined_small : (b : ℕ) (next : ScanState) → step_newline b ≡ Some next → b < 128
 joined_small b next h = go (b == newline) refl where
   go : (t : Bool) → (b == newline) ≡ t → b < 128
   go true k = grind (arith, nat_tests)
   go false k = absurd (none_some next (rw k at h))
 
-gaps_small : (b : ℕ) (after : Text) (next : Passing) → step_gap b after ≡ Some next → b < 128
+gaps_small : (b : ℕ) (after : Text) (next : ScanState) → step_gap b after ≡ Some next → b < 128
 gaps_small b after next h = go (is_gap b) (b == backslash && begins newline after) (b == hash) refl refl refl where
   go : (t u v : Bool) → is_gap b ≡ t → (b == backslash && begins newline after) ≡ u → (b == hash) ≡ v → b < 128
   go true u v k l m = gap_small b k
@@ -73,14 +73,14 @@ gaps_small b after next h = go (is_gap b) (b == backslash && begins newline afte
   go false false true k l m = grind (arith, nat_tests)
   go false false false k l m = absurd (none_some next (rw (k, l, m) at h))
 
-names_small : (colons : Bool) (b : ℕ) (after : Text) (next : Passing) → step_name colons b after ≡ Some next → b < 128
+names_small : (colons : Bool) (b : ℕ) (after : Text) (next : ScanState) → step_name colons b after ≡ Some next → b < 128
 names_small colons b after next h = go (is_name b) (b == colon && (colons || begins colon after)) refl refl where
   go : (t u : Bool) → is_name b ≡ t → (b == colon && (colons || begins colon after)) ≡ u → b < 128
   go true u k l = name_small b k
   go false true k l = mark_small b colon (colons || begins colon after) (omega arith) l
   go false false k l = absurd (none_some next (rw (k, l) at h))
 
-comment_small : (b : ℕ) (next : Passing) → step_comment b ≡ next → CanEnd next → b < 128
+comment_small : (b : ℕ) (next : ScanState) → step_comment b ≡ next → CanEnd next → b < 128
 comment_small b next h e = go (b == newline) (b == backslash) refl refl where
   go : (t u : Bool) → (b == newline) ≡ t → (b == backslash) ≡ u → b < 128
   go true u k l = grind (arith, nat_tests)
@@ -90,9 +90,9 @@ comment_small b next h e = go (b == newline) (b == backslash) refl refl where
 some_same : {A : Type 0} (x y : A) → Some x ≡ Some y → x ≡ y
 some_same x y h = cc
 
-ends_small : (passing : Passing) (b : ℕ) (after : Text) (next : Passing) → step passing b after ≡ Some next → CanEnd next → b < 128
+ends_small : (state : ScanState) (b : ℕ) (after : Text) (next : ScanState) → step state b after ≡ Some next → CanEnd next → b < 128
 ends_small Blanks b after next h e = blanks_small b after next h
-ends_small Joined b after next h e = joined_small b next h
+ends_small AwaitsNewline b after next h e = joined_small b next h
 ends_small Gap b after next h e = gaps_small b after next h
 ends_small Comment b after next h e = comment_small b next (some_same (step_comment b) next h) e
 ends_small Escaped b after next h e = absurd (comment_some next h e)
@@ -100,43 +100,43 @@ ends_small Name b after next h e = names_small false b after next h
 ends_small Colons b after next h e = names_small true b after next h
 
 -- a comment goes on
-stops_out : (passing : Passing) (b : ℕ) (after : Text) → step passing b after ≡ None → CanEnd passing
+stops_out : (state : ScanState) (b : ℕ) (after : Text) → step state b after ≡ None → CanEnd state
 stops_out Blanks b after h = tt
-stops_out Joined b after h = tt
+stops_out AwaitsNewline b after h = tt
 stops_out Gap b after h = tt
 stops_out Comment b after h = cc
 stops_out Escaped b after h = cc
 stops_out Name b after h = tt
 stops_out Colons b after h = tt
 
-pub scanned-more : (start passing next : Passing) (bs : Text) (n : ℕ) → IsUtf8 bs → n < length bs → step passing (get_or bs n 0) (drop (n + 1) bs) ≡ Some next → Scanned start bs passing n → Scanned start bs next (n + 1)
-scanned-more start passing next bs n u h is s =
+pub scanned-more : (start state next : ScanState) (bs : Text) (n : ℕ) → IsUtf8 bs → n < length bs → step state (get_or bs n 0) (drop (n + 1) bs) ≡ Some next → Scanned start bs state n → Scanned start bs next (n + 1)
+scanned-more start state next bs n u h is s =
     let x = get_or bs n 0 in
     let more = drop (n + 1) bs in
     let here : drop n bs ≡ x ∷ more = drop_more bs n 0 h in
-    let on : pass passing (drop n bs) ≡ put_before x (pass next more) = ap (pass passing) here ∙ pass-cons passing x more ∙ ap (pass_on x more (λ next. pass next more)) is in
+    let on : scan state (drop n bs) ≡ put_before x (scan next more) = ap (scan state) here ∙ scan-cons state x more ∙ ap (scan_on x more (λ next. scan next more)) is in
     record {
       run =
           s.run ∙ ap (λ (p : Text × Text). (take n bs ++ p.0, p.1)) on
-          ∙ ap (λ (xs : Text). (xs, (pass next more).1)) (sym (append_assoc (take n bs) (x ∷ []) (pass next more).0) ∙ ap (λ (ys : Text). ys ++ (pass next more).0) (sym (take_more bs n 0 h)));
-      cut = λ e. IsCharBoundary-after_ascii bs n u h (ends_small passing x more next is e);
+          ∙ ap (λ (xs : Text). (xs, (scan next more).1)) (sym (append_assoc (take n bs) (x ∷ []) (scan next more).0) ∙ ap (λ (ys : Text). ys ++ (scan next more).0) (sym (take_more bs n 0 h)));
+      cut = λ e. IsCharBoundary-after_ascii bs n u h (ends_small state x more next is e);
     }
 
 -- where the next byte isn't passed
-pub scanned-stop : (start passing : Passing) (bs : Text) (n : ℕ) → n < length bs → step passing (get_or bs n 0) (drop (n + 1) bs) ≡ None → Scanned start bs passing n → (pass start bs ≡ (take n bs, drop n bs)) × IsCharBoundary bs n
-scanned-stop start passing bs n h is s =
+pub scanned-stop : (start state : ScanState) (bs : Text) (n : ℕ) → n < length bs → step state (get_or bs n 0) (drop (n + 1) bs) ≡ None → Scanned start bs state n → (scan start bs ≡ (take n bs, drop n bs)) × IsCharBoundary bs n
+scanned-stop start state bs n h is s =
     let x = get_or bs n 0 in
     let more = drop (n + 1) bs in
     let here : drop n bs ≡ x ∷ more = drop_more bs n 0 h in
-    let on : pass passing (drop n bs) ≡ ([], drop n bs) = ap (pass passing) here ∙ pass-cons passing x more ∙ ap (pass_on x more (λ next. pass next more)) is ∙ ap (λ (ys : Text). ([], ys)) (sym here) in (
+    let on : scan state (drop n bs) ≡ ([], drop n bs) = ap (scan state) here ∙ scan-cons state x more ∙ ap (scan_on x more (λ next. scan next more)) is ∙ ap (λ (ys : Text). ([], ys)) (sym here) in (
       s.run ∙ ap (λ (p : Text × Text). (take n bs ++ p.0, p.1)) on ∙ ap (λ (xs : Text). (xs, drop n bs)) (append-nil (take n bs)),
-      s.cut (stops_out passing x more is),
+      s.cut (stops_out state x more is),
     )
 
-pub scanned-all : (start passing : Passing) (bs : Text) (n : ℕ) → length bs ≤ n → Scanned start bs passing n → pass start bs ≡ (take n bs, drop n bs)
-scanned-all start passing bs n h s =
+pub scanned-all : (start state : ScanState) (bs : Text) (n : ℕ) → length bs ≤ n → Scanned start bs state n → scan start bs ≡ (take n bs, drop n bs)
+scanned-all start state bs n h s =
     let none : drop n bs ≡ [] = drop_of_length-le bs h in
-    let on : pass passing (drop n bs) ≡ ([], drop n bs) = ap (pass passing) none ∙ pass-nil passing ∙ ap (λ (ys : Text). ([], ys)) (sym none) in
+    let on : scan state (drop n bs) ≡ ([], drop n bs) = ap (scan state) none ∙ scan-nil state ∙ ap (λ (ys : Text). ([], ys)) (sym none) in
     s.run ∙ ap (λ (p : Text × Text). (take n bs ++ p.0, p.1)) on ∙ ap (λ (xs : Text). (xs, drop n bs)) (append-nil (take n bs))
 
 pub all_after : (bs : Text) (n : ℕ) → drop n bs ≡ take (length bs - n) (drop n bs)

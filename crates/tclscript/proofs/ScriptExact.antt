@@ -7,10 +7,10 @@ use Rattle.tclchars.specs.Bytes.{hash, is_blank, is_end, is_gap, DoesBegin}
 use Rattle.tclchars.specs.Reading.{◌>>=◌, Read, read_map, items_at}
 use Rattle.tclchars.specs.declared.fault.Fault.{Fault}
 use Rattle.tclchars.proofs.Results.{bind_err, bind_ok, read_map_err, read_map_ok}
-use Rattle.tclscript.specs.declared.runs.Passing.TheVariants.{Blanks, Gap}
+use Rattle.tclscript.specs.declared.runs.ScanState.TheVariants.{Blanks, Gap}
 use Rattle.tclscript.specs.Tree.{Commands, no_commands, command, Command, Words, no_words, word, Word, words_of, commands_of, nesting, words_nesting}
 use Rattle.tclscript.specs.Ends.{script_ends, command_ends, word_ends}
-use Rattle.tclscript.specs.Passing.{pass, skip_blanks, skip_gap}
+use Rattle.tclscript.specs.ScanState.{scan, skip_blanks, skip_gap}
 use Rattle.tclscript.specs.Grammar.{IsBlanks, IsGap, IsCommands, IsCommand, IsWords, IsWord}
 use Rattle.tclscript.specs.Faults as faults
 use Rattle.tclscript.specs.Faults.{CommandsFault, CommandFault, WordsFault, WordFault}
@@ -105,7 +105,7 @@ module _ (d : ℕ) (inner : Inner) (exact : IsExactInner d inner) (nested : Bool
   word_items : Items skip_blanks (command_ends nested) (word_at nested inner) IsBlanksBefore Goes TheWord (WordFault d nested)
   word_items = record {
     exact = word_exact d inner exact nested;
-    skips = λ bs. ((pass Blanks bs).0, pass_whole Blanks bs, (blanks_taken bs).0);
+    skips = λ bs. ((scan Blanks bs).0, pass_whole Blanks bs, (blanks_taken bs).0);
     over = λ gap start h. blanks_over h start;
     begins = λ bs h. words_begin nested (skip_blanks bs) (blanks_taken bs).1 h;
     stays = λ start h. (let k = no_blank nested start h in (blanks_stay start k.0, k.1));
@@ -184,22 +184,22 @@ module _ (d : ℕ) (inner : Inner) (exact : IsExactInner d inner) (nested : Bool
     -- A command
 
     abbrev pub CommandIs : Command → Text → Text → Type 0
-    CommandIs c t r = NoComment t × IsCommand nested c.source c.words t r × (words_nesting c.words ≤ d) × (c.place ≡ total - length (t ++ r))
+    CommandIs c t r = NoComment t × IsCommand nested c.source c.words t r × (words_nesting c.words ≤ d) × (c.offset ≡ total - length (t ++ r))
 
     abbrev more_words : Text → Word × Text → Read Command
-    more_words bs w = read_map (λ ws. record { place = total - length bs; source = taken bs w.1; words = word w.0 (words_of ws) }) (words_at nested inner w.1)
+    more_words bs w = read_map (λ ws. record { offset = total - length bs; source = taken bs w.1; words = word w.0 (words_of ws) }) (words_at nested inner w.1)
 
     command_sound : (bs : Text) (c : Command) (r : Text) → CommandGoesOn bs → command_in total nested inner bs ≡ Ok (c, r) → Took CommandIs bs c r
     unfolding command_at
     command_sound bs c r b h =
         let x = bind_ok (word_at nested inner bs) (more_words bs) (c, r) h in
-        let y = read_map_ok (λ ws. record { place = total - length bs; source = taken bs x.0.1; words = word x.0.0 (words_of ws) }) (words_at nested inner x.0.1) c r x.2 in
+        let y = read_map_ok (λ ws. record { offset = total - length bs; source = taken bs x.0.1; words = word x.0.0 (words_of ws) }) (words_at nested inner x.0.1) c r x.2 in
         let w = (word_exact d inner exact nested).sound bs x.0.0 x.0.1 b.0 x.1 in
         let m = words_sound x.0.1 y.0 r y.1 in
         let whole : bs ≡ (w.taken ++ m.taken) ++ r = w.whole ∙ ap (λ ys. w.taken ++ ys) m.whole ∙ sym (append_assoc w.taken m.taken r) in
         let some = word_some nested x.0.0 w.taken x.0.1 w.is.0 in
         let source : taken bs x.0.1 ≡ w.taken = ap (λ xs. taken xs x.0.1) w.whole ∙ taken_is w.taken x.0.1 in
-        let made : Took CommandIs bs (record { place = total - length bs; source = w.taken; words = word x.0.0 (words_of y.0) }) r = record {
+        let made : Took CommandIs bs (record { offset = total - length bs; source = w.taken; words = word x.0.0 (words_of y.0) }) r = record {
           taken = w.taken ++ m.taken;
           whole = whole;
           is = (
@@ -209,7 +209,7 @@ module _ (d : ℕ) (inner : Inner) (exact : IsExactInner d inner) (nested : Bool
             ap (λ ys. total - length ys) whole,
           );
         } in
-        let named : Text → Command = λ s. record { place = total - length bs; source = s; words = word x.0.0 (words_of y.0) } in
+        let named : Text → Command = λ s. record { offset = total - length bs; source = s; words = word x.0.0 (words_of y.0) } in
         subst (λ c. Took CommandIs bs c r) (ap named (sym source) ∙ y.2) made
 
     command_faulty : (bs : Text) (f : Fault) → CommandGoesOn bs → command_in total nested inner bs ≡ Err f → CommandBad bs f
@@ -218,7 +218,7 @@ module _ (d : ℕ) (inner : Inner) (exact : IsExactInner d inner) (nested : Bool
       | inl bad ↦ (faults.CommandFault.first_word ((word_exact d inner exact nested).faulty bs f b.0 bad), b.1)
       | inr k ↦ (
           let w = (word_exact d inner exact nested).sound bs k.0.0 k.0.1 b.0 k.1 in
-          let bad = words_faulty k.0.1 f (read_map_err (λ ws. let c : Command = record { place = total - length bs; source = taken bs k.0.1; words = word k.0.0 (words_of ws) } in c) (words_at nested inner k.0.1) f k.2) in
+          let bad = words_faulty k.0.1 f (read_map_err (λ ws. let c : Command = record { offset = total - length bs; source = taken bs k.0.1; words = word k.0.0 (words_of ws) } in c) (words_at nested inner k.0.1) f k.2) in
           (subst (λ xs. CommandFault d nested xs f) (sym w.whole) (faults.CommandFault.later_word w.taken k.0.0 w.is.0 w.is.1 bad), b.1)
           )
     ]
@@ -226,18 +226,18 @@ module _ (d : ℕ) (inner : Inner) (exact : IsExactInner d inner) (nested : Bool
     command_again : (c : Command) (t r : Text) → CommandIs c t r → command_in total nested inner (t ++ r) ≡ Ok (c, r)
     unfolding command_at
     command_again c t r h = named c.source c.words h where
-      named : (source : Text) (ws : Words) → CommandIs (record { place = c.place; source = source; words = ws }) t r → command_in total nested inner (t ++ r) ≡ Ok (record { place = c.place; source = source; words = ws }, r)
+      named : (source : Text) (ws : Words) → CommandIs (record { offset = c.offset; source = source; words = ws }) t r → command_in total nested inner (t ++ r) ≡ Ok (record { offset = c.offset; source = source; words = ws }, r)
       named source no_words h = absurd h.1
       named source (word w ws) h =
           let rest = h.1.0 in
           let whole : t ++ r ≡ source ++ (rest ++ r) = ap (λ xs. xs ++ r) h.1.1 ∙ append_assoc source rest r in
           let first = (word_exact d inner exact nested).again w source (rest ++ r) (h.1.2, omega (arith, h.2)) in
           let k = words_list ws rest r (suc (length (rest ++ r))) h.1.3 (omega (arith, h.2)) (omega arith) in
-          let at : total - length (source ++ (rest ++ r)) ≡ c.place = ap (λ ys. total - length ys) (sym whole) ∙ sym h.3 in
-          let made : ℕ → Text → Words → Read Command = λ place s ws. Ok (record { place = place; source = s; words = word w ws }, r) in
+          let at : total - length (source ++ (rest ++ r)) ≡ c.offset = ap (λ ys. total - length ys) (sym whole) ∙ sym h.3 in
+          let made : ℕ → Text → Words → Read Command = λ offset s ws. Ok (record { offset = offset; source = s; words = word w ws }, r) in
           ap (λ (xs : Text). word_at nested inner xs >>= more_words xs) whole
           ∙ ap (λ (x : Read Word). x >>= more_words (source ++ (rest ++ r))) first
-          ∙ ap (λ (x : Read (List Word)). read_map (λ ws. let c : Command = record { place = total - length (source ++ (rest ++ r)); source = taken (source ++ (rest ++ r)) (rest ++ r); words = word w (words_of ws) } in c) x) k.1
+          ∙ ap (λ (x : Read (List Word)). read_map (λ ws. let c : Command = record { offset = total - length (source ++ (rest ++ r)); source = taken (source ++ (rest ++ r)) (rest ++ r); words = word w (words_of ws) } in c) x) k.1
           ∙ ap₂ (λ (s : Text) (ws : Words). made (total - length (source ++ (rest ++ r))) s ws) (taken_is source (rest ++ r)) k.2
           ∙ ap (λ (n : ℕ). made n source ws) at
 
@@ -246,7 +246,7 @@ module _ (d : ℕ) (inner : Inner) (exact : IsExactInner d inner) (nested : Bool
     command_met bs f (faults.CommandFault.first_word h) = ap (λ (x : Read Word). x >>= more_words bs) ((word_exact d inner exact nested).met bs f h)
     command_met _ f (faults.CommandFault.later_word body w {rest = rest} h deep l) =
         ap (λ (x : Read Word). x >>= more_words (body ++ rest)) ((word_exact d inner exact nested).again w body rest (h, deep))
-        ∙ ap (λ (x : Read (List Word)). read_map (λ ws. let c : Command = record { place = total - length (body ++ rest); source = taken (body ++ rest) rest; words = word w (words_of ws) } in c) x) (words_met l (suc (length rest)) (omega arith))
+        ∙ ap (λ (x : Read (List Word)). read_map (λ ws. let c : Command = record { offset = total - length (body ++ rest); source = taken (body ++ rest) rest; words = word w (words_of ws) } in c) x) (words_met l (suc (length rest)) (omega arith))
 
     command_exact : Exact (command_in total nested inner) CommandGoesOn CommandIs CommandBad
     command_exact = record { sound = command_sound; again = command_again; faulty = command_faulty; met = λ bs f h. command_met bs f h.0 }
@@ -262,7 +262,7 @@ module _ (d : ℕ) (inner : Inner) (exact : IsExactInner d inner) (nested : Bool
     command_items : Items skip_gap (script_ends nested) (command_in total nested inner) IsGap CommandGoesOn CommandIs CommandBad
     command_items = record {
       exact = command_exact;
-      skips = λ bs. ((pass Gap bs).0, pass_whole Gap bs, (gap_taken bs).0);
+      skips = λ bs. ((scan Gap bs).0, pass_whole Gap bs, (gap_taken bs).0);
       over = λ gap start h. gap_over h;
       begins = λ bs h. commands_begin nested (skip_gap bs) (gap_taken bs).1 h;
       stays = λ start h. (let k = no_gap nested start h.0 h.1 in (gap_stay start k.0, k.1));
@@ -314,8 +314,8 @@ module _ (d : ℕ) (inner : Inner) (exact : IsExactInner d inner) (nested : Bool
       (commands_nil (length bs)) (commands_cons (length bs)) (suc (length bs)) bs x.0 r x.1
       in
       let long : length (t.taken ++ r) ≡ length bs = ap length (sym t.whole) in
-      let left : length bs - length r ≡ length t.taken = ap (λ n. n - length r) (sym long) ∙ size_left t.taken r in
-      let is : IsCommands (length t.taken) nested (commands_of x.0) t.taken r = subst (λ n. IsCommands n nested (commands_of x.0) t.taken r) left (t.is.0 (omega (arith, long))) in
+      let remaining : length bs - length r ≡ length t.taken = ap (λ n. n - length r) (sym long) ∙ size_left t.taken r in
+      let is : IsCommands (length t.taken) nested (commands_of x.0) t.taken r = subst (λ n. IsCommands n nested (commands_of x.0) t.taken r) remaining (t.is.0 (omega (arith, long))) in
       subst (λ s. Took CommandsAre bs s r) x.2 (record { taken = t.taken; whole = t.whole; is = (is, t.is.1) })
 
   script_faulty : (bs : Text) (f : Fault) → Anywhere bs → script_with nested inner bs ≡ Err f → CommandsFault d nested bs f
@@ -327,11 +327,11 @@ module _ (d : ℕ) (inner : Inner) (exact : IsExactInner d inner) (nested : Bool
   commands_list : (total size : ℕ) (s : Commands) (t r : Text) (n : ℕ) → total ≡ size + length r → IsCommands size nested s t r → nesting s ≤ d → length (t ++ r) < n → (xs : List Command) × (read_commands total n (t ++ r) ≡ Ok (xs, r)) × (commands_of xs ≡ s)
   commands_list total size s t r zero all h deep less = absurd (omega arith)
   commands_list total size no_commands t r (suc n) all h deep less = ([], items-end skip_gap (script_ends nested) (command_in total nested inner) IsGap CommandGoesOn (CommandIs total) CommandBad (command_items total) n t r h.0 h.1, refl)
-  commands_list total size (command place source ws cs) t r (suc n) all h deep less =
+  commands_list total size (command offset source ws cs) t r (suc n) all h deep less =
       let gap = h.first in
       let body = h.is_second.first in
       let rest = h.is_second.second in
-      let c : Command = record { place = place; source = source; words = ws } in
+      let c : Command = record { offset = offset; source = source; words = ws } in
       let regrouped : (body ++ rest) ++ r ≡ body ++ (rest ++ r) = append_assoc body rest r in
       let from : length (body ++ (rest ++ r)) ≡ length h.second + length r = ap length (sym regrouped) ∙ length-append (body ++ rest) r ∙ ap (λ ys. length ys + length r) (sym h.is_second.whole) in
       let is : CommandIs total c body (rest ++ r) = (h.is_second.is_first.0, h.is_second.is_first.1, omega (arith, deep), omega (arith, from, all, h.is_first.1)) in
@@ -341,7 +341,7 @@ module _ (d : ℕ) (inner : Inner) (exact : IsExactInner d inner) (nested : Bool
       let k = commands_list total size cs rest r n all h.is_second.is_second (omega (arith, deep)) (omega (arith, ap length whole, length-append gap (body ++ (rest ++ r)), length-append body (rest ++ r))) in (
         c ∷ k.0,
         ap (read_commands total (suc n)) whole ∙ items-more skip_gap (script_ends nested) (command_in total nested inner) IsGap CommandGoesOn (CommandIs total) CommandBad (command_items total) n gap body (rest ++ r) c passed is ∙ ap (read_map (λ xs. c ∷ xs)) k.1,
-        ap (command place source ws) k.2,
+        ap (command offset source ws) k.2,
       )
 
   script_again : (s : Commands) (t r : Text) → CommandsAre s t r → script_with nested inner (t ++ r) ≡ Ok (s, r)
@@ -356,7 +356,7 @@ module _ (d : ℕ) (inner : Inner) (exact : IsExactInner d inner) (nested : Bool
       items-fail skip_gap (script_ends nested) (command_in total nested inner) IsGap CommandGoesOn (CommandIs total) CommandBad (command_items total) n gap body f h (k, free)
   commands_met total (faults.CommandsFault.later_command gap source body ws {rest = rest} {f = f} h free k deep l) (suc n) less =
       let some = front_some body rest free in
-      let c : Command = record { place = total - length (body ++ rest); source = source; words = ws } in
+      let c : Command = record { offset = total - length (body ++ rest); source = source; words = ws } in
       items-more skip_gap (script_ends nested) (command_in total nested inner) IsGap CommandGoesOn (CommandIs total) CommandBad (command_items total) n gap body rest c h (free, k, deep, refl)
       ∙ ap (read_map (λ xs. c ∷ xs)) (commands_met total l n (omega (arith, length-append gap (body ++ rest), length-append body rest)))
 

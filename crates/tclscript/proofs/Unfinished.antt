@@ -13,7 +13,7 @@ use Rattle.tclscript.specs.Tree.{Commands, no_commands, command, Words, no_words
 use Rattle.tclchars.specs.Classes.{in_class}
 use Rattle.tclscript.specs.Ends.{parts_end, class_of}
 use Rattle.tclscript.specs.Grammar as grammar
-use Rattle.tclscript.specs.Grammar.{IsLongestName, IsBlanks, IsComment, IsGap, IsLiteral, IsPlainWord, IsCommands, IsCommand, IsWords, IsWord, IsParts, IsPart}
+use Rattle.tclscript.specs.Grammar.{IsLongestName, IsBlanks, IsComment, IsGap, IsLiteral, IsUnexpandedWord, IsCommands, IsCommand, IsWords, IsWord, IsParts, IsPart}
 use Rattle.tclscript.proofs.Names.{longest_before}
 use Rattle.tclscript.proofs.PartsExact.{part_some, backslash_goes_on}
 use Rattle.tclscript.proofs.WordsExact.{plain_goes_on, word_some}
@@ -176,7 +176,7 @@ parts_finish c (part q ps) t h = go h (parts_finish c ps h.second h.is_second) (
 -- Words in brackets
 
 abbrev PlainHere : Parts → Text → Text → Type 0
-PlainHere ps t r = IsPlainWord true ps (λ c inside more. IsParts c ps inside more) t r
+PlainHere ps t r = IsUnexpandedWord true ps (λ c inside more. IsParts c ps inside more) t r
 
 still_begins : (p : ℕ → Bool) (t more : Text) → DoesBegin p t → DoesBegin p (t ++ more)
 still_begins p [] more h = absurd h
@@ -334,7 +334,7 @@ gap_finish (grammar.IsGap.open_escape {inside} h) = record {
 
 none_commands : (size : ℕ) (s : Commands) (r : Text) → IsCommands size true s [] r → s ≡ no_commands
 none_commands size no_commands r h = refl
-none_commands size (command place source ws cs) r h =
+none_commands size (command offset source ws cs) r h =
     let more : h.second ≡ [] = second_none h.first h.second h.whole in
     absurd (begun h.is_second.first (no_front h.is_second.first h.is_second.second (sym more ∙ h.is_second.whole)) h.is_second.is_first.0) where
       second_none : (x y : Text) → [] ≡ x ++ y → y ≡ []
@@ -354,12 +354,12 @@ CommandsFrom at nested s t r = (size : ℕ) → size ≡ at + length t → IsCom
 
 pub commands_finish : (size at : ℕ) (s : Commands) (t : Text) → size ≡ at + length t → IsCommands size true s t [] → Finished (CommandsFrom at true) 93 t
 commands_finish size at no_commands t long h = (let m = gap_finish h.0 in record { more = m.more; value = no_commands; like = λ r some. m.like (m.more ++ 93 ∷ r) some; is = λ r new e. (m.is r, refl) })
-commands_finish size at (command place source ws cs) t long h =
+commands_finish size at (command offset source ws cs) t long h =
     go h (commands_finish size (at + (length h.first + length h.is_second.first)) cs h.is_second.second (omega (arith, long, parts_long h)) h.is_second.is_second) (empty_or h.is_second.second) where
-      parts_long : (h : IsCommands size true (command place source ws cs) t []) → length t ≡ length h.first + (length h.is_second.first + length h.is_second.second)
+      parts_long : (h : IsCommands size true (command offset source ws cs) t []) → length t ≡ length h.first + (length h.is_second.first + length h.is_second.second)
       parts_long h = omega (arith, ap length h.whole, length-append h.first h.second, ap length h.is_second.whole, length-append h.is_second.first h.is_second.second)
 
-      go : (h : IsCommands size true (command place source ws cs) t []) → Finished (CommandsFrom (at + (length h.first + length h.is_second.first)) true) 93 h.is_second.second → (h.is_second.second ≡ []) ⊎ (h.is_second.second ≢ [])
+      go : (h : IsCommands size true (command offset source ws cs) t []) → Finished (CommandsFrom (at + (length h.first + length h.is_second.first)) true) 93 h.is_second.second → (h.is_second.second ≡ []) ⊎ (h.is_second.second ≢ [])
           → Finished (CommandsFrom at true) 93 t
       go h m (inl none) =
           let body = h.is_second.first in
@@ -371,7 +371,7 @@ commands_finish size at (command place source ws cs) t long h =
           let before : h.second ++ [] ≢ [] = subst (λ ys. ys ≢ []) (sym (append-nil h.second ∙ h.is_second.whole ∙ ap (λ ys. body ++ ys) none ∙ append-nil body)) some in
           record {
             more = f.more;
-            value = command place f.value.0 f.value.1 no_commands;
+            value = command offset f.value.0 f.value.1 no_commands;
             like = λ r _. subst (λ ys. Like ys [] (f.more ++ 93 ∷ r)) (sym same) (like_before gap body [] (f.more ++ 93 ∷ r) (f.like r some));
             is = λ r new e.
                 record {
@@ -400,7 +400,7 @@ commands_finish size at (command place source ws cs) t long h =
           let before : h.second ++ [] ≢ [] = subst (λ ys. ys ≢ []) (sym (append-nil h.second ∙ h.is_second.whole)) (body_some (λ b. not (b == hash)) (body ++ rest) (still_begins (λ b. not (b == hash)) body rest free)) in
           record {
             more = m.more;
-            value = command place source ws m.value;
+            value = command offset source ws m.value;
             like = λ r _. subst (λ ys. Like ys [] (m.more ++ 93 ∷ r)) (sym same) (like_before (gap ++ body) rest [] (m.more ++ 93 ∷ r) (m.like r some));
             is = λ r new e.
                 record {

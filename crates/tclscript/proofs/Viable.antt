@@ -6,8 +6,8 @@ use Rattle.tclchars.specs.Bytes.{newline, hash, AllPass, DoesBegin}
 use Rattle.tclchars.specs.Classes.{in_class}
 use Rattle.tclchars.specs.Backslash.{begins_hexadecimal, after_backslash}
 use Rattle.tclchars.specs.Braces.{Balanced, braced_at}
-use Rattle.tclchars.specs.Reading.{left_of}
-use Rattle.tclchars.specs.declared.runs.Class.TheVariants.{InName}
+use Rattle.tclchars.specs.Reading.{remaining_of}
+use Rattle.tclchars.specs.declared.runs.Class.TheVariants.{InBracedName}
 use Rattle.tclchars.specs.declared.fault.Fault.{Fault}
 use Rattle.tclchars.specs.declared.fault.Fault.TheVariants.{OpenBrace, OpenQuote, OpenBracket, JoinedToClose, TooDeep, BadCharacter, BadExpression}
 use Rattle.tclscript.specs.declared.context.Context.{Context}
@@ -16,15 +16,15 @@ use Rattle.tclscript.specs.Tree as tree
 use Rattle.tclscript.specs.Tree.{Commands, no_commands, command, Words, no_words, word, Word, word_of, Parts, no_parts, part, Part, braced, variable, indexed, bracket}
 use Rattle.tclscript.specs.Ends.{script_ends, command_ends, word_ends, parts_end, bare}
 use Rattle.tclscript.specs.Grammar as grammar
-use Rattle.tclscript.specs.Grammar.{IsBlanks, IsGap, IsName, IsPlainWord, IsCommands, IsCommand, IsWords, IsWord, IsParts, IsPart, IsScript}
+use Rattle.tclscript.specs.Grammar.{IsBlanks, IsGap, IsName, IsUnexpandedWord, IsCommands, IsCommand, IsWords, IsWord, IsParts, IsPart, IsScript}
 use Rattle.tclscript.specs.Faults as faults
-use Rattle.tclscript.specs.Offending.{GoesOn, IsOpenMark}
-use Rattle.tclscript.specs.Faults.{NeverCloses, CommandsFault, CommandFault, WordsFault, WordFault, PlainFault, PartsFault, PartFault, IsFault}
+use Rattle.tclscript.specs.ViablePrefixes.{IsViablePrefix, IsOpenMark}
+use Rattle.tclscript.specs.Faults.{NeverCloses, CommandsFault, CommandFault, WordsFault, WordFault, UnexpandedWordFault, PartsFault, PartFault, IsFault}
 use Rattle.tclscript.proofs.Firm.{Firm, firm_before, firm_some, does_begin-firm, gap-any, command-firm, word-firm, part-firm, parts_end-firm}
 use Rattle.tclscript.proofs.PassedOver.{is_no_byte}
 use Rattle.tclscript.proofs.PartsExact.{part_byte, backslash_goes_on}
 use Rattle.tclscript.proofs.WordsExact.{bare_end, plain_goes_on, none_found}
-use Rattle.tclscript.proofs.Offending.{long_firm, same_cut, parts_before_quote}
+use Rattle.tclscript.proofs.ViablePrefixes.{long_firm, same_cut, parts_before_quote}
 use Rattle.tclscript.proofs.Unfinished.{CommandsFrom, parts_finish, commands_finish, brace_finish}
 use Rattle.tclscript.proofs.Prefixes.{escape_letter}
 
@@ -46,7 +46,7 @@ pub record Completes {X : Type 0} (Ends : Text → Type 0) (Is : X → Text → 
   pub rest : Text
   pub more : Text
   pub whole : bs ≡ before ++ (keep ++ rest)
-  pub long : length (keep ++ rest) ≡ left_of fault
+  pub long : length (keep ++ rest) ≡ remaining_of fault
   pub all : IsWhole fault keep rest
   pub firm : Firm (before ++ keep)
   pub is : (after : Text) → Ends after → Is value (before ++ (keep ++ more)) after
@@ -74,10 +74,10 @@ between Ends Ends' Is Is' make x y bs fault step m =
           (step m.value p m.rest m.more m.firm (m.whole ∙ sym (regrouped m.rest)) (λ after ends. subst (λ ys. Is m.value ys after) (sym (regrouped m.more)) (m.is after ends)) after ends);
     }
 
-behind : {X Y : Type 0} (Ends Ends' : Text → Type 0) (Is : X → Text → Text → Type 0) (Is' : Y → Text → Text → Type 0) (make : X → Text → Y) (x bs : Text) (fault : Fault)
+following : {X Y : Type 0} (Ends Ends' : Text → Type 0) (Is : X → Text → Text → Type 0) (Is' : Y → Text → Text → Type 0) (make : X → Text → Y) (x bs : Text) (fault : Fault)
     → ((v : X) (p s t : Text) → Firm p → bs ≡ p ++ s → ((after : Text) → Ends after → Is v (p ++ t) after) → (after : Text) → Ends' after → Is' (make v (p ++ t)) (x ++ (p ++ t)) after)
     → Completes Ends Is bs fault → Completes Ends' Is' (x ++ bs) fault
-behind Ends Ends' Is Is' make x bs fault step m =
+following Ends Ends' Is Is' make x bs fault step m =
     between Ends Ends' Is Is' make x [] bs fault (λ v p s t firm same is after ends. subst (λ ys. Is' (make v (p ++ t)) (x ++ ys) after) (sym (append-nil (p ++ t))) (step v p s t firm same is after ends)) m
 
 -- ends
@@ -125,7 +125,7 @@ abbrev pub WordTo : Bool → Text → Fault → Type 0
 WordTo nested bs fault = Completes (λ r. word_ends nested r ≡ true) (λ w t r. IsWord nested w t r) bs fault
 
 abbrev pub PlainTo : Bool → Text → Fault → Type 0
-PlainTo nested bs fault = Completes (λ r. word_ends nested r ≡ true) (λ ps t r. IsPlainWord nested ps (λ c inside more. IsParts c ps inside more) t r) bs fault
+PlainTo nested bs fault = Completes (λ r. word_ends nested r ≡ true) (λ ps t r. IsUnexpandedWord nested ps (λ c inside more. IsParts c ps inside more) t r) bs fault
 
 abbrev pub PartsTo : Context → Text → Fault → Type 0
 PartsTo c bs fault = Completes (λ r. parts_end c r ≡ true) (λ ps t r. IsParts c ps t r) bs fault
@@ -135,7 +135,7 @@ PartTo c bs fault = Completes (λ r. parts_end c r ≡ true) (λ q t r. (parts_e
 
 first_command_to : (at : ℕ) (nested : Bool) (gap body : Text) (fault : Fault) → IsGap gap body → DoesBegin (λ b. not (b == hash)) body → CommandTo nested body fault → CommandsTo at nested (gap ++ body) fault
 first_command_to at nested gap body fault h free m =
-    behind (λ r. command_ends nested r ≡ true) (λ r. script_ends nested r ≡ true) (λ (c : Text × Words) t r. IsCommand nested c.0 c.1 t r) (CommandsFrom at nested) (λ c u. command (at + length gap) c.0 c.1 no_commands) gap body fault
+    following (λ r. command_ends nested r ≡ true) (λ r. script_ends nested r ≡ true) (λ (c : Text × Words) t r. IsCommand nested c.0 c.1 t r) (CommandsFrom at nested) (λ c u. command (at + length gap) c.0 c.1 no_commands) gap body fault
     (λ v p s t firm same is after ends size e.
     record {
       first = gap;
@@ -156,7 +156,7 @@ later_command_to : (at : ℕ) (nested : Bool) (gap source body : Text) (ws : Wor
     → CommandsTo (at + (length gap + length body)) nested rest fault → CommandsTo at nested (gap ++ (body ++ rest)) fault
 later_command_to at nested gap source body ws rest fault h free k m =
     subst (λ ys. CommandsTo at nested ys fault) (append_assoc gap body rest)
-    (behind (λ r. script_ends nested r ≡ true) (λ r. script_ends nested r ≡ true) (CommandsFrom (at + (length gap + length body)) nested) (CommandsFrom at nested) (λ cs u. command (at + length gap) source ws cs) (gap ++ body) rest fault
+    (following (λ r. script_ends nested r ≡ true) (λ r. script_ends nested r ≡ true) (CommandsFrom (at + (length gap + length body)) nested) (CommandsFrom at nested) (λ cs u. command (at + length gap) source ws cs) (gap ++ body) rest fault
     (λ v p s t firm same is after ends size e.
     record {
       first = gap;
@@ -181,12 +181,12 @@ later_command_to at nested gap source body ws rest fault h free k m =
 
 first_word_to : (nested : Bool) (bs : Text) (fault : Fault) → WordTo nested bs fault → CommandTo nested bs fault
 first_word_to nested bs fault m =
-    behind (λ r. word_ends nested r ≡ true) (λ r. command_ends nested r ≡ true) (λ w t r. IsWord nested w t r) (λ (c : Text × Words) t r. IsCommand nested c.0 c.1 t r) (λ w u. (u, word w no_words)) [] bs fault
+    following (λ r. word_ends nested r ≡ true) (λ r. command_ends nested r ≡ true) (λ w t r. IsWord nested w t r) (λ (c : Text × Words) t r. IsCommand nested c.0 c.1 t r) (λ w u. (u, word w no_words)) [] bs fault
     (λ v p s t firm same is after ends. ([], sym (append-nil (p ++ t)), is after (command_word nested after ends), (grammar.IsBlanks.nothing, ends))) m
 
 later_word_to : (nested : Bool) (body : Text) (w : Word) (rest : Text) (fault : Fault) → IsWord nested w body rest → WordsTo nested rest fault → CommandTo nested (body ++ rest) fault
 later_word_to nested body w rest fault h m =
-    behind (λ r. command_ends nested r ≡ true) (λ r. command_ends nested r ≡ true) (λ ws t r. IsWords nested ws t r) (λ (c : Text × Words) t r. IsCommand nested c.0 c.1 t r) (λ ws u. (body, word w ws)) body rest fault
+    following (λ r. command_ends nested r ≡ true) (λ r. command_ends nested r ≡ true) (λ ws t r. IsWords nested ws t r) (λ (c : Text × Words) t r. IsCommand nested c.0 c.1 t r) (λ ws u. (body, word w ws)) body rest fault
     (λ v p s t firm same is after ends. (
       p ++ t,
       refl,
@@ -197,7 +197,7 @@ later_word_to nested body w rest fault h m =
 
 next_word_to : (nested : Bool) (blanks body : Text) (fault : Fault) → IsBlanks blanks → WordTo nested body fault → WordsTo nested (blanks ++ body) fault
 next_word_to nested blanks body fault h m =
-    behind (λ r. word_ends nested r ≡ true) (λ r. command_ends nested r ≡ true) (λ w t r. IsWord nested w t r) (λ ws t r. IsWords nested ws t r) (λ w u. word w no_words) blanks body fault
+    following (λ r. word_ends nested r ≡ true) (λ r. command_ends nested r ≡ true) (λ w t r. IsWord nested w t r) (λ ws t r. IsWords nested ws t r) (λ w u. word w no_words) blanks body fault
     (λ v p s t firm same is after ends.
     record {
       first = blanks;
@@ -211,7 +211,7 @@ next_word_to nested blanks body fault h m =
 word_after_to : (nested : Bool) (blanks body : Text) (w : Word) (rest : Text) (fault : Fault) → IsBlanks blanks → IsWord nested w body rest → WordsTo nested rest fault → WordsTo nested (blanks ++ (body ++ rest)) fault
 word_after_to nested blanks body w rest fault h k m =
     subst (λ ys. WordsTo nested ys fault) (append_assoc blanks body rest)
-    (behind (λ r. command_ends nested r ≡ true) (λ r. command_ends nested r ≡ true) (λ ws t r. IsWords nested ws t r) (λ ws t r. IsWords nested ws t r) (λ ws u. word w ws) (blanks ++ body) rest fault
+    (following (λ r. command_ends nested r ≡ true) (λ r. command_ends nested r ≡ true) (λ ws t r. IsWords nested ws t r) (λ ws t r. IsWords nested ws t r) (λ ws u. word w ws) (blanks ++ body) rest fault
     (λ v p s t firm same is after ends.
     record {
       first = blanks;
@@ -230,64 +230,64 @@ word_after_to nested blanks body w rest fault h k m =
 
 plain_to : (nested : Bool) (bs : Text) (fault : Fault) → PlainTo nested bs fault → WordTo nested bs fault
 plain_to nested bs fault m =
-    behind (λ r. word_ends nested r ≡ true) (λ r. word_ends nested r ≡ true) (λ ps t r. IsPlainWord nested ps (λ c inside more. IsParts c ps inside more) t r) (λ w t r. IsWord nested w t r) (λ ps u. word_of false ps) [] bs fault
+    following (λ r. word_ends nested r ≡ true) (λ r. word_ends nested r ≡ true) (λ ps t r. IsUnexpandedWord nested ps (λ c inside more. IsParts c ps inside more) t r) (λ w t r. IsWord nested w t r) (λ ps u. word_of false ps) [] bs fault
     (λ v p s t firm same is after ends. is after ends) m
 
 expanding_to : (nested : Bool) (bs : Text) (fault : Fault) → PlainTo nested bs fault → WordTo nested (123 ∷ (42 ∷ (125 ∷ bs))) fault
 expanding_to nested bs fault m =
-    behind (λ r. word_ends nested r ≡ true) (λ r. word_ends nested r ≡ true) (λ ps t r. IsPlainWord nested ps (λ c inside more. IsParts c ps inside more) t r) (λ w t r. IsWord nested w t r) (λ ps u. word_of true ps) (123 ∷ (42 ∷ (125 ∷ []))) bs fault
+    following (λ r. word_ends nested r ≡ true) (λ r. word_ends nested r ≡ true) (λ ps t r. IsUnexpandedWord nested ps (λ c inside more. IsParts c ps inside more) t r) (λ w t r. IsWord nested w t r) (λ ps u. word_of true ps) (123 ∷ (42 ∷ (125 ∷ []))) bs fault
     (λ v p s t firm same is after ends. (p ++ t, refl, plain_goes_on nested v (p ++ t) after (is after ends), is after ends)) m
 
 quotes_to : (nested : Bool) (bs : Text) (fault : Fault) → PartsTo InQuotes bs fault → PlainTo nested (34 ∷ bs) fault
 quotes_to nested bs fault m =
-    between (λ r. parts_end InQuotes r ≡ true) (λ r. word_ends nested r ≡ true) (λ ps t r. IsParts InQuotes ps t r) (λ ps t r. IsPlainWord nested ps (λ c inside more. IsParts c ps inside more) t r) (λ ps u. ps) (34 ∷ []) (34 ∷ []) bs fault
+    between (λ r. parts_end InQuotes r ≡ true) (λ r. word_ends nested r ≡ true) (λ ps t r. IsParts InQuotes ps t r) (λ ps t r. IsUnexpandedWord nested ps (λ c inside more. IsParts c ps inside more) t r) (λ ps u. ps) (34 ∷ []) (34 ∷ []) bs fault
     (λ v p s t firm same is after ends. (ends, inr (inl (p ++ t, refl, is (34 ∷ after) refl)))) m
 
 bare_to : (nested : Bool) (bs : Text) (fault : Fault) → DoesBegin (λ b. not (b == 123 || b == 34)) bs → PartsTo (bare nested) bs fault → PlainTo nested bs fault
 bare_to nested bs fault h m =
-    behind (λ r. parts_end (bare nested) r ≡ true) (λ r. word_ends nested r ≡ true) (λ ps t r. IsParts (bare nested) ps t r) (λ ps t r. IsPlainWord nested ps (λ c inside more. IsParts c ps inside more) t r) (λ ps u. ps) [] bs fault
+    following (λ r. parts_end (bare nested) r ≡ true) (λ r. word_ends nested r ≡ true) (λ ps t r. IsParts (bare nested) ps t r) (λ ps t r. IsUnexpandedWord nested ps (λ c inside more. IsParts c ps inside more) t r) (λ ps u. ps) [] bs fault
     (λ v p s t firm same is after ends. (ends, inr (inr (does_begin-firm (λ b. not (b == 123 || b == 34)) p s t firm (subst (λ ys. DoesBegin (λ b. not (b == 123 || b == 34)) ys) same h), is after (bare_end nested after ∙ ends))))) m
 
 brace_to : (nested : Bool) (inside rest : Text) → Balanced inside → PlainTo nested (123 ∷ (inside ++ 125 ∷ rest)) (JoinedToClose (length rest))
 brace_to nested inside rest h =
-    let closed = 123 ∷ (inside ++ 125 ∷ []) in
+    let after_closing = 123 ∷ (inside ++ 125 ∷ []) in
     record {
       value = part (braced inside) no_parts;
-      before = closed;
+      before = after_closing;
       keep = [];
       rest = rest;
       more = [];
       whole = ap (λ ys. 123 ∷ ys) (sym (append_assoc inside (125 ∷ []) rest));
       long = refl;
       all = tt;
-      firm = subst Firm (sym (append-nil closed)) (long_firm closed (omega (arith, length-append inside (125 ∷ []))));
-      is = λ after ends. (ends, inl (inside, refl, append-nil closed, h));
+      firm = subst Firm (sym (append-nil after_closing)) (long_firm after_closing (omega (arith, length-append inside (125 ∷ []))));
+      is = λ after ends. (ends, inl (inside, refl, append-nil after_closing, h));
     }
 
 quote_to : (nested : Bool) (inside rest : Text) (ps : Parts) → ((r : Text) → IsParts InQuotes ps inside (34 ∷ r)) → PlainTo nested (34 ∷ (inside ++ 34 ∷ rest)) (JoinedToClose (length rest))
 quote_to nested inside rest ps h =
-    let closed = 34 ∷ (inside ++ 34 ∷ []) in
+    let after_closing = 34 ∷ (inside ++ 34 ∷ []) in
     record {
       value = ps;
-      before = closed;
+      before = after_closing;
       keep = [];
       rest = rest;
       more = [];
       whole = ap (λ ys. 34 ∷ ys) (sym (append_assoc inside (34 ∷ []) rest));
       long = refl;
       all = tt;
-      firm = subst Firm (sym (append-nil closed)) (long_firm closed (omega (arith, length-append inside (34 ∷ []))));
-      is = λ after ends. (ends, inr (inl (inside, append-nil closed, h after)));
+      firm = subst Firm (sym (append-nil after_closing)) (long_firm after_closing (omega (arith, length-append inside (34 ∷ []))));
+      is = λ after ends. (ends, inr (inl (inside, append-nil after_closing, h after)));
     }
 
 first_part_to : (c : Context) (bs : Text) (fault : Fault) → PartTo c bs fault → PartsTo c bs fault
 first_part_to c bs fault m =
-    behind (λ r. parts_end c r ≡ true) (λ r. parts_end c r ≡ true) (λ q t r. (parts_end c (t ++ r) ≡ false) × IsPart c q t r) (λ ps t r. IsParts c ps t r) (λ q u. part q no_parts) [] bs fault
+    following (λ r. parts_end c r ≡ true) (λ r. parts_end c r ≡ true) (λ q t r. (parts_end c (t ++ r) ≡ false) × IsPart c q t r) (λ ps t r. IsParts c ps t r) (λ q u. part q no_parts) [] bs fault
     (λ v p s t firm same is after ends. record { first = p ++ t; second = []; whole = sym (append-nil (p ++ t)); is_first = is after ends; is_second = (refl, ends) }) m
 
 later_part_to : (c : Context) (body : Text) (q : Part) (rest : Text) (fault : Fault) → parts_end c (body ++ rest) ≡ false → IsPart c q body rest → PartsTo c rest fault → PartsTo c (body ++ rest) fault
 later_part_to c body q rest fault goes h m =
-    behind (λ r. parts_end c r ≡ true) (λ r. parts_end c r ≡ true) (λ ps t r. IsParts c ps t r) (λ ps t r. IsParts c ps t r) (λ ps u. part q ps) body rest fault
+    following (λ r. parts_end c r ≡ true) (λ r. parts_end c r ≡ true) (λ ps t r. IsParts c ps t r) (λ ps t r. IsParts c ps t r) (λ ps u. part q ps) body rest fault
     (λ v p s t firm same is after ends.
     record {
       first = body;
@@ -381,7 +381,7 @@ open_quote_to nested bs ps h =
       is = λ after ends. (ends, inr (inl (bs ++ m.more, ap (λ ys. 34 ∷ ys) (sym (append_assoc bs m.more (34 ∷ []))), m.is after)));
     }
 
-open_name_to : (c : Context) (bs : Text) → AllPass (in_class InName) bs → PartTo c (36 ∷ (123 ∷ bs)) (OpenBrace (suc (length bs)))
+open_name_to : (c : Context) (bs : Text) → AllPass (in_class InBracedName) bs → PartTo c (36 ∷ (123 ∷ bs)) (OpenBrace (suc (length bs)))
 open_name_to c bs h = record {
   value = variable bs;
   before = 36 ∷ [];
@@ -448,16 +448,16 @@ mutual
   words_viable (faults.WordsFault.word_after {d} {nested} blanks body w {rest} {f} h k deep l) some = word_after_to nested blanks body w rest f h k (words_viable l some)
 
   word_viable : {d : ℕ} {nested : Bool} {bs : Text} {f : Fault} → WordFault d nested bs f → f ≢ TooDeep → WordTo nested bs f
-  word_viable (faults.WordFault.plain {d} {nested} {bs} {f} none h) some = plain_to nested bs f (plain_viable h some)
+  word_viable (faults.WordFault.not_expanding {d} {nested} {bs} {f} none h) some = plain_to nested bs f (plain_viable h some)
   word_viable (faults.WordFault.expanding {d} {nested} {body} {f} h k) some = expanding_to nested body f (plain_viable k some)
 
-  plain_viable : {d : ℕ} {nested : Bool} {bs : Text} {f : Fault} → PlainFault d nested bs f → f ≢ TooDeep → PlainTo nested bs f
-  plain_viable (faults.PlainFault.open_brace {d} {nested} {bs} h) some = open_brace_to nested bs h
-  plain_viable (faults.PlainFault.joined_brace {d} {nested} inside rest h k) some = brace_to nested inside rest h
-  plain_viable (faults.PlainFault.in_quotes {d} {nested} {bs} {f} h) some = quotes_to nested bs f (parts_viable h some)
-  plain_viable (faults.PlainFault.open_quote {d} {nested} {bs} ps h k) some = open_quote_to nested bs ps h
-  plain_viable (faults.PlainFault.joined_quote {d} {nested} inside rest ps h k l) some = quote_to nested inside rest ps (λ r. parts_before_quote ps inside rest r h)
-  plain_viable (faults.PlainFault.in_bare {d} {nested} {bs} {f} h k) some = bare_to nested bs f h (parts_viable k some)
+  plain_viable : {d : ℕ} {nested : Bool} {bs : Text} {f : Fault} → UnexpandedWordFault d nested bs f → f ≢ TooDeep → PlainTo nested bs f
+  plain_viable (faults.UnexpandedWordFault.open_brace {d} {nested} {bs} h) some = open_brace_to nested bs h
+  plain_viable (faults.UnexpandedWordFault.joined_brace {d} {nested} inside rest h k) some = brace_to nested inside rest h
+  plain_viable (faults.UnexpandedWordFault.in_quotes {d} {nested} {bs} {f} h) some = quotes_to nested bs f (parts_viable h some)
+  plain_viable (faults.UnexpandedWordFault.open_quote {d} {nested} {bs} ps h k) some = open_quote_to nested bs ps h
+  plain_viable (faults.UnexpandedWordFault.joined_quote {d} {nested} inside rest ps h k l) some = quote_to nested inside rest ps (λ r. parts_before_quote ps inside rest r h)
+  plain_viable (faults.UnexpandedWordFault.in_bare {d} {nested} {bs} {f} h k) some = bare_to nested bs f h (parts_viable k some)
 
   parts_viable : {d : ℕ} {c : Context} {bs : Text} {f : Fault} → PartsFault d c bs f → f ≢ TooDeep → PartsTo c bs f
   parts_viable (faults.PartsFault.first_part {d} {c} {bs} {f} h) some = first_part_to c bs f (part_viable h c some)
@@ -474,20 +474,20 @@ mutual
   part_viable (faults.PartFault.open_index {d} name bs ps h k less) c some = open_index_to c name bs ps h k
 
 -- Up to its mark, a text with a fault goes on to a script.
-pub before_mark : (d : ℕ) (before rest : Text) (f : Fault) → IsFault d (before ++ rest) f → f ≢ TooDeep → left_of f ≡ length rest → GoesOn before
+pub before_mark : (d : ℕ) (before rest : Text) (f : Fault) → IsFault d (before ++ rest) f → f ≢ TooDeep → remaining_of f ≡ length rest → IsViablePrefix before
 before_mark d before rest f h some long =
     let m = commands_viable h 0 some in
     let cut = same_cut before rest m.before (m.keep ++ m.rest) m.whole (sym (m.long ∙ long)) in
     (m.keep ++ m.more, m.value, subst (λ ys. IsScript (ys ++ (m.keep ++ m.more)) m.value) (sym cut.0) (m.is [] refl (length (m.before ++ (m.keep ++ m.more))) (omega arith)))
 
 -- Where a mark is open, the whole text does.
-whole_text : (d : ℕ) (bs : Text) (f : Fault) → (h : IsFault d bs f) (some : f ≢ TooDeep) → (commands_viable h 0 some).rest ≡ [] → GoesOn bs
+whole_text : (d : ℕ) (bs : Text) (f : Fault) → (h : IsFault d bs f) (some : f ≢ TooDeep) → (commands_viable h 0 some).rest ≡ [] → IsViablePrefix bs
 whole_text d bs f h some none =
     let m = commands_viable h 0 some in
     let whole : bs ≡ m.before ++ m.keep = m.whole ∙ ap (λ ys. m.before ++ ys) (ap (λ ys. m.keep ++ ys) none ∙ append-nil m.keep) in
     (m.more, m.value, subst (λ ys. IsScript ys m.value) (sym (append_assoc m.before m.keep m.more) ∙ ap (λ ys. ys ++ m.more) (sym whole)) (m.is [] refl (length (m.before ++ (m.keep ++ m.more))) (omega arith)))
 
-pub open_mark : (d : ℕ) (bs : Text) (f : Fault) → IsFault d bs f → IsOpenMark f → GoesOn bs
+pub open_mark : (d : ℕ) (bs : Text) (f : Fault) → IsFault d bs f → IsOpenMark f → IsViablePrefix bs
 open_mark d bs (OpenBrace n) h is = whole_text d bs (OpenBrace n) h (λ e. cc) (commands_viable h 0 (λ e. cc)).all
 open_mark d bs (OpenQuote n) h is = whole_text d bs (OpenQuote n) h (λ e. cc) (commands_viable h 0 (λ e. cc)).all
 open_mark d bs (OpenBracket n) h is = whole_text d bs (OpenBracket n) h (λ e. cc) (commands_viable h 0 (λ e. cc)).all
@@ -496,7 +496,7 @@ open_mark d bs (BadCharacter n) h is = absurd is
 open_mark d bs (BadExpression n) h is = absurd is
 open_mark d bs TooDeep h is = absurd is
 
-pub open_index : (d : ℕ) (before rest : Text) → IsFault d (before ++ 40 ∷ rest) (BadCharacter (suc (length rest))) → GoesOn (before ++ 40 ∷ rest)
+pub open_index : (d : ℕ) (before rest : Text) → IsFault d (before ++ 40 ∷ rest) (BadCharacter (suc (length rest))) → IsViablePrefix (before ++ 40 ∷ rest)
 open_index d before rest h =
     let some : BadCharacter (suc (length rest)) ≢ TooDeep = λ e. cc in
     let m = commands_viable h 0 some in

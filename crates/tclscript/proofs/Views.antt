@@ -10,9 +10,9 @@ use Rattle.tclscript.specs.declared.tree.Word.{Word, roll-Word}
 use Rattle.tclscript.specs.declared.tree.Part.{Part, Bracket, the_lemmas}
 
 module _ {P : Type 0} (shown : P → Text) where
-  pub view-Command : (place : ℕ) (source : P) (v : Vec (Word P) Global) → command_view shown (roll-Command P (record { place = place; source = source; words = v }))
-      ≡ record { place = place; source = shown source; words = words_of (map (word_view shown) v.items) }
-  view-Command place source v = search (rules, the_lemmas)
+  pub view-Command : (offset : ℕ) (source : P) (v : Vec (Word P) Global) → command_view shown (roll-Command P (record { offset = offset; source = source; words = v }))
+      ≡ record { offset = offset; source = shown source; words = words_of (map (word_view shown) v.items) }
+  view-Command offset source v = search (rules, the_lemmas)
 
   pub view-Script : (v : Vec (Command P) Global) → script_view shown (roll-Script P (record { commands = v })) ≡ commands_of (map (command_view shown) v.items)
   view-Script v = search (rules, the_lemmas)

@@ -3,7 +3,7 @@ use Rattle.std.proofs.Common.{◌≡◌, ◌≢◌, ℕ, zero, suc, ◌+◌, ◌
 use Rattle.std.specs.Prelude.{IfOk, IfErr, MatchResult}
 use Rattle.tclchars.specs.Runs.{Text}
 use Rattle.tclchars.specs.Faults.{max_nesting}
-use Rattle.tclchars.specs.Reading.{◌>>=◌, Read, left_of}
+use Rattle.tclchars.specs.Reading.{◌>>=◌, Read, remaining_of}
 use Rattle.tclchars.specs.declared.fault.Fault.{Fault}
 use Rattle.tclchars.specs.declared.fault.Fault.TheVariants as marks
 use Rattle.tclchars.specs.declared.fault.TextFault.{TextFault}
@@ -16,7 +16,7 @@ use Rattle.tclscript.specs.Tree.{Commands, nesting, parts_nesting}
 use Rattle.tclscript.specs.Ends.{script_ends}
 use Rattle.tclscript.specs.Grammar.{IsCommands, IsParts, IsScript}
 use Rattle.tclscript.specs.Faults as faults
-use Rattle.tclscript.specs.Faults.{CommandsFault, CommandFault, WordsFault, WordFault, PlainFault, PartsFault, PartFault, IsFault, IsTextFault}
+use Rattle.tclscript.specs.Faults.{CommandsFault, CommandFault, WordsFault, WordFault, UnexpandedWordFault, PartsFault, PartFault, IsFault, IsTextFault}
 use Rattle.tclscript.specs.Reading.{inner_at, script_with, parts_with, whole_script}
 use Rattle.tclscript.specs.Text.{IsWithin, script_of}
 use Rattle.tclchars.proofs.Whole as whole
@@ -106,35 +106,35 @@ no_tree d bs f s h k deep = err_ok s f (sym (met d bs f h) ∙ complete d bs s k
 -- The place of a fault lies within the text
 
 mutual
-  commands_within : {d : ℕ} {nested : Bool} {bs : Text} {f : Fault} → CommandsFault d nested bs f → left_of f ≤ length bs
+  commands_within : {d : ℕ} {nested : Bool} {bs : Text} {f : Fault} → CommandsFault d nested bs f → remaining_of f ≤ length bs
   commands_within (faults.CommandsFault.first_command gap {body = body} h free k) = omega (arith, length-append gap body, command_within k)
   commands_within (faults.CommandsFault.later_command gap source body ws {rest = rest} h free k deep l) = omega (arith, length-append gap (body ++ rest), length-append body rest, commands_within l)
 
-  command_within : {d : ℕ} {nested : Bool} {bs : Text} {f : Fault} → CommandFault d nested bs f → left_of f ≤ length bs
+  command_within : {d : ℕ} {nested : Bool} {bs : Text} {f : Fault} → CommandFault d nested bs f → remaining_of f ≤ length bs
   command_within (faults.CommandFault.first_word h) = word_within h
   command_within (faults.CommandFault.later_word body w {rest = rest} h deep l) = omega (arith, length-append body rest, words_within l)
 
-  words_within : {d : ℕ} {nested : Bool} {bs : Text} {f : Fault} → WordsFault d nested bs f → left_of f ≤ length bs
+  words_within : {d : ℕ} {nested : Bool} {bs : Text} {f : Fault} → WordsFault d nested bs f → remaining_of f ≤ length bs
   words_within (faults.WordsFault.next_word blanks {body = body} h k) = omega (arith, length-append blanks body, word_within k)
   words_within (faults.WordsFault.word_after blanks body w {rest = rest} h k deep l) = omega (arith, length-append blanks (body ++ rest), length-append body rest, words_within l)
 
-  word_within : {d : ℕ} {nested : Bool} {bs : Text} {f : Fault} → WordFault d nested bs f → left_of f ≤ length bs
-  word_within (faults.WordFault.plain h k) = plain_within k
+  word_within : {d : ℕ} {nested : Bool} {bs : Text} {f : Fault} → WordFault d nested bs f → remaining_of f ≤ length bs
+  word_within (faults.WordFault.not_expanding h k) = plain_within k
   word_within (faults.WordFault.expanding h k) = omega (arith, plain_within k)
 
-  plain_within : {d : ℕ} {nested : Bool} {bs : Text} {f : Fault} → PlainFault d nested bs f → left_of f ≤ length bs
-  plain_within (faults.PlainFault.open_brace h) = omega arith
-  plain_within (faults.PlainFault.joined_brace inside rest h k) = omega (arith, length-append inside (125 ∷ rest))
-  plain_within (faults.PlainFault.in_quotes h) = omega (arith, parts_within h)
-  plain_within (faults.PlainFault.open_quote ps h k) = omega arith
-  plain_within (faults.PlainFault.joined_quote inside rest ps h k l) = omega (arith, length-append inside (34 ∷ rest))
-  plain_within (faults.PlainFault.in_bare h k) = parts_within k
+  plain_within : {d : ℕ} {nested : Bool} {bs : Text} {f : Fault} → UnexpandedWordFault d nested bs f → remaining_of f ≤ length bs
+  plain_within (faults.UnexpandedWordFault.open_brace h) = omega arith
+  plain_within (faults.UnexpandedWordFault.joined_brace inside rest h k) = omega (arith, length-append inside (125 ∷ rest))
+  plain_within (faults.UnexpandedWordFault.in_quotes h) = omega (arith, parts_within h)
+  plain_within (faults.UnexpandedWordFault.open_quote ps h k) = omega arith
+  plain_within (faults.UnexpandedWordFault.joined_quote inside rest ps h k l) = omega (arith, length-append inside (34 ∷ rest))
+  plain_within (faults.UnexpandedWordFault.in_bare h k) = parts_within k
 
-  parts_within : {d : ℕ} {c : Context} {bs : Text} {f : Fault} → PartsFault d c bs f → left_of f ≤ length bs
+  parts_within : {d : ℕ} {c : Context} {bs : Text} {f : Fault} → PartsFault d c bs f → remaining_of f ≤ length bs
   parts_within (faults.PartsFault.first_part h) = part_within h
   parts_within (faults.PartsFault.later_part body p {rest = rest} goes h deep l) = omega (arith, length-append body rest, parts_within l)
 
-  part_within : {d : ℕ} {bs : Text} {f : Fault} → PartFault d bs f → left_of f ≤ length bs
+  part_within : {d : ℕ} {bs : Text} {f : Fault} → PartFault d bs f → remaining_of f ≤ length bs
   part_within (faults.PartFault.open_name h) = omega arith
   part_within (faults.PartFault.bad_character some h) = omega arith
   part_within faults.PartFault.bracket_too_deep = omega arith
@@ -144,7 +144,7 @@ mutual
   part_within (faults.PartFault.in_index name bs h k) = omega (arith, length-append name (40 ∷ bs), parts_within k)
   part_within (faults.PartFault.open_index name bs ps h k less) = omega (arith, length-append name (40 ∷ bs))
 
-pub within : (d : ℕ) (bs : Text) (f : Fault) → whole_script d bs ≡ Err f → left_of f ≤ length bs
+pub within : (d : ℕ) (bs : Text) (f : Fault) → whole_script d bs ≡ Err f → remaining_of f ≤ length bs
 within d bs f h = commands_within (faulty d bs f h)
 
 -- The answer of a whole text

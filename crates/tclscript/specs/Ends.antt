@@ -23,16 +23,16 @@ word_ends nested [] = true
 word_ends nested (b ∷ bs) = is_gap b || (nested && b == right_bracket) || (b == backslash && begins newline bs)
 
 -- the text is empty or begins with this mark
-abbrev pub stands_before : ℕ → Text → Bool
-stands_before mark [] = true
-stands_before mark (b ∷ bs) = b == mark
+abbrev pub ends_at : ℕ → Text → Bool
+ends_at mark [] = true
+ends_at mark (b ∷ bs) = b == mark
 
 -- the parts of a bare word end with it, those of an index at its parenthesis, and those of a quoted word at its quote
 abbrev pub parts_end : Context → Text → Bool
 parts_end InScript bs = word_ends false bs
 parts_end InBracket bs = word_ends true bs
-parts_end InIndex bs = stands_before right_parenthesis bs
-parts_end InQuotes bs = stands_before quote bs
+parts_end InIndex bs = ends_at right_parenthesis bs
+parts_end InQuotes bs = ends_at quote bs
 
 -- the bytes that are literal there
 abbrev pub class_of : Context → Class

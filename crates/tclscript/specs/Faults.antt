@@ -9,7 +9,7 @@ use Rattle.tclchars.specs.Backslash.{after_backslash}
 use Rattle.tclchars.specs.Braces.{Balanced}
 use Rattle.tclchars.specs.Faults.{max_nesting}
 use Rattle.tclchars.specs.Whole.{IsFaultOf}
-use Rattle.tclchars.specs.declared.runs.Class.TheVariants.{InName}
+use Rattle.tclchars.specs.declared.runs.Class.TheVariants.{InBracedName}
 use Rattle.tclchars.specs.declared.fault.Fault.{Fault}
 use Rattle.tclchars.specs.declared.fault.Fault.TheVariants.{OpenBrace, OpenQuote, OpenBracket, JoinedToClose, TooDeep, BadCharacter}
 use Rattle.tclchars.specs.declared.fault.TextFault.{TextFault}
@@ -56,27 +56,27 @@ mutual
 
   -- in a word, with the mark {*} before it or without
   pub data WordFault : ℕ → Bool → Text → Fault → Type 0 where
-    plain : {d : ℕ} {nested : Bool} {bs : Text} {f : Fault} → (Expands nested bs → ⊥)
-        → PlainFault d nested bs f → WordFault d nested bs f
+    not_expanding : {d : ℕ} {nested : Bool} {bs : Text} {f : Fault} → (Expands nested bs → ⊥)
+        → UnexpandedWordFault d nested bs f → WordFault d nested bs f
     expanding : {d : ℕ} {nested : Bool} {body : Text} {f : Fault} → word_ends nested body ≡ false
-        → PlainFault d nested body f
+        → UnexpandedWordFault d nested body f
         → WordFault d nested (left_brace ∷ (star ∷ (right_brace ∷ body))) f
 
   -- in a word in braces, in quotes or in neither
-  pub data PlainFault : ℕ → Bool → Text → Fault → Type 0 where
+  pub data UnexpandedWordFault : ℕ → Bool → Text → Fault → Type 0 where
     open_brace : {d : ℕ} {nested : Bool} {bs : Text} → NeverCloses bs
-        → PlainFault d nested (left_brace ∷ bs) (OpenBrace (suc (length bs)))
+        → UnexpandedWordFault d nested (left_brace ∷ bs) (OpenBrace (suc (length bs)))
     joined_brace : {d : ℕ} {nested : Bool} (inside rest : Text) → Balanced inside → word_ends nested rest ≡ false
-        → PlainFault d nested (left_brace ∷ (inside ++ right_brace ∷ rest)) (JoinedToClose (length rest))
+        → UnexpandedWordFault d nested (left_brace ∷ (inside ++ right_brace ∷ rest)) (JoinedToClose (length rest))
     in_quotes : {d : ℕ} {nested : Bool} {bs : Text} {f : Fault} → PartsFault d InQuotes bs f
-        → PlainFault d nested (quote ∷ bs) f
+        → UnexpandedWordFault d nested (quote ∷ bs) f
     open_quote : {d : ℕ} {nested : Bool} {bs : Text} (ps : Parts) → IsParts InQuotes ps bs [] → parts_nesting ps ≤ d
-        → PlainFault d nested (quote ∷ bs) (OpenQuote (suc (length bs)))
+        → UnexpandedWordFault d nested (quote ∷ bs) (OpenQuote (suc (length bs)))
     joined_quote : {d : ℕ} {nested : Bool} (inside rest : Text) (ps : Parts) → IsParts InQuotes ps inside (quote ∷ rest)
         → parts_nesting ps ≤ d → word_ends nested rest ≡ false
-        → PlainFault d nested (quote ∷ (inside ++ quote ∷ rest)) (JoinedToClose (length rest))
+        → UnexpandedWordFault d nested (quote ∷ (inside ++ quote ∷ rest)) (JoinedToClose (length rest))
     in_bare : {d : ℕ} {nested : Bool} {bs : Text} {f : Fault} → DoesBegin (λ b. not (b == left_brace || b == quote)) bs
-        → PartsFault d (bare nested) bs f → PlainFault d nested bs f
+        → PartsFault d (bare nested) bs f → UnexpandedWordFault d nested bs f
 
   -- in the first of several parts or a later one
   pub data PartsFault : ℕ → Context → Text → Fault → Type 0 where
@@ -87,7 +87,7 @@ mutual
 
   -- in a substitution
   pub data PartFault : ℕ → Text → Fault → Type 0 where
-    open_name : {d : ℕ} {bs : Text} → AllPass (in_class InName) bs
+    open_name : {d : ℕ} {bs : Text} → AllPass (in_class InBracedName) bs
         → PartFault d (dollar ∷ (left_brace ∷ bs)) (OpenBrace (suc (length bs)))
     bad_character : {d : ℕ} {bs : Text} → bs ≢ [] → after_backslash bs ≡ None
         → PartFault d (backslash ∷ bs) (BadCharacter (suc (length bs)))

@@ -6,7 +6,7 @@ use Rattle.tclchars.specs.Bytes.{newline, hash, backslash, is_blank, is_gap, All
 use Rattle.tclchars.specs.Classes.{in_class, is_name}
 use Rattle.tclchars.specs.Backslash.{after_backslash}
 use Rattle.tclchars.specs.Braces.{Balanced}
-use Rattle.tclchars.specs.declared.runs.Class.TheVariants.{InName}
+use Rattle.tclchars.specs.declared.runs.Class.TheVariants.{InBracedName}
 use Rattle.tclscript.specs.declared.context.Context.{Context}
 use Rattle.tclscript.specs.declared.context.Context.TheVariants.{InIndex, InQuotes}
 use Rattle.tclscript.specs.Tree as tree
@@ -55,25 +55,25 @@ IsRun c t after =
     DoesBegin (in_class (class_of c)) t × AllPass (in_class (class_of c)) t
     × MayBegin (λ b. not (in_class (class_of c) b)) after
 
-abbrev pub IsDollar : Text → Text → Type 0
-IsDollar t after =
+abbrev pub IsLiteralDollar : Text → Text → Type 0
+IsLiteralDollar t after =
     (t ≡ dollar ∷ []) × IsLongestName [] after × MayBegin (λ b. not (b == left_parenthesis || b == left_brace)) after
 
 abbrev pub IsLastBackslash : Text → Text → Type 0
 IsLastBackslash t after = (t ≡ backslash ∷ []) × (after ≡ [])
 
 abbrev pub IsLiteral : Context → Text → Text → Type 0
-IsLiteral c t after = IsRun c t after ⊎ (IsDollar t after ⊎ IsLastBackslash t after)
+IsLiteral c t after = IsRun c t after ⊎ (IsLiteralDollar t after ⊎ IsLastBackslash t after)
 
 -- $name, with no parenthesis after it
-abbrev pub IsPlainVariable : Text → Text → Text → Type 0
-IsPlainVariable name bs after =
+abbrev pub IsScalarVariable : Text → Text → Text → Type 0
+IsScalarVariable name bs after =
     (bs ≡ dollar ∷ name) × (name ≢ []) × IsLongestName name after × MayBegin (λ b. not (b == left_parenthesis)) after
 
 -- ${name}
 abbrev pub IsBracedVariable : Text → Text → Type 0
 IsBracedVariable name bs =
-    (bs ≡ dollar ∷ (left_brace ∷ (name ++ right_brace ∷ []))) × AllPass (in_class InName) name
+    (bs ≡ dollar ∷ (left_brace ∷ (name ++ right_brace ∷ []))) × AllPass (in_class InBracedName) name
 
 -- the text is a first part and a second one
 pub record Split (bs : Text) (First : Text → Text → Type 0) (Second : Text → Type 0) : Type 0 where
@@ -98,8 +98,8 @@ abbrev pub IsBareWord : Bool → (Context → Text → Text → Type 0) → Text
 IsBareWord nested ArePartsOf bs after =
     DoesBegin (λ b. not (b == left_brace || b == quote)) bs × ArePartsOf (bare nested) bs after
 
-abbrev pub IsPlainWord : Bool → Parts → (Context → Text → Text → Type 0) → Text → Text → Type 0
-IsPlainWord nested ps ArePartsOf bs after =
+abbrev pub IsUnexpandedWord : Bool → Parts → (Context → Text → Text → Type 0) → Text → Text → Type 0
+IsUnexpandedWord nested ps ArePartsOf bs after =
     (word_ends nested after ≡ true) × (IsBracedWord ps bs
     ⊎ (IsQuotedWord ArePartsOf bs after ⊎ IsBareWord nested ArePartsOf bs after))
 
@@ -115,8 +115,8 @@ abbrev mutual
   -- length of the whole script: the bytes before the offset of a command, and those from there on.
   pub IsCommands : ℕ → Bool → Commands → Text → Text → Type 0
   IsCommands size nested no_commands bs after = IsGap bs after × (script_ends nested after ≡ true)
-  IsCommands size nested (command place source ws cs) bs after =
-      Split bs (λ gap more. IsGap gap (more ++ after) × (place + length more ≡ size))
+  IsCommands size nested (command offset source ws cs) bs after =
+      Split bs (λ gap more. IsGap gap (more ++ after) × (offset + length more ≡ size))
       (λ more. Split more (λ body rest. DoesBegin (λ b. not (b == hash)) body
       × IsCommand nested source ws body (rest ++ after)) (λ rest. IsCommands size nested cs rest after))
 
@@ -135,10 +135,10 @@ abbrev mutual
 
   pub IsWord : Bool → Word → Text → Text → Type 0
   IsWord nested (word_of false ps) bs after =
-      IsPlainWord nested ps (λ c inside more. IsParts c ps inside more) bs after
+      IsUnexpandedWord nested ps (λ c inside more. IsParts c ps inside more) bs after
   IsWord nested (word_of true ps) bs after =
       IsExpanding nested
-      (λ body. IsPlainWord nested ps (λ c inside more. IsParts c ps inside more) body after) bs after
+      (λ body. IsUnexpandedWord nested ps (λ c inside more. IsParts c ps inside more) body after) bs after
 
   -- parts, up to where no more can follow
   pub IsParts : Context → Parts → Text → Text → Type 0
@@ -152,7 +152,7 @@ abbrev mutual
   IsPart c (braced t) bs after = ⊥
   IsPart c (tree.backslash value) bs after =
       (escape : Text) × (bs ≡ backslash ∷ escape) × (after_backslash (escape ++ after) ≡ Some (value, after))
-  IsPart c (variable name) bs after = IsPlainVariable name bs after ⊎ IsBracedVariable name bs
+  IsPart c (variable name) bs after = IsScalarVariable name bs after ⊎ IsBracedVariable name bs
   IsPart c (indexed name ps) bs after =
       (inside : Text) × (bs ≡ dollar ∷ (name ++ left_parenthesis ∷ (inside ++ right_parenthesis ∷ []))) × IsName name
       × IsParts InIndex ps inside (right_parenthesis ∷ after)

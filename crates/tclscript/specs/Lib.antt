@@ -1,11 +1,11 @@
 pub mod Tree
 pub mod Ends
-pub mod Passing
+pub mod ScanState
 pub mod Pieces
 pub mod Reading
 pub mod View
 pub mod Text
 pub mod Grammar
 pub mod Faults
-pub mod Offending
+pub mod ViablePrefixes
 pub mod Owned

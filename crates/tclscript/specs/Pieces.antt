@@ -3,12 +3,12 @@ use Rattle.std.specs.Prelude.{◌≡◌, ℕ, ◌-◌, [], ◌++◌, length, tak
 use Rattle.tclchars.specs.Runs.{Text}
 
 -- the whole text ends with the rest
-abbrev pub IsEndOf : Text → Text → Type 0
-IsEndOf whole rest = (before : Text) × (whole ≡ before ++ rest)
+abbrev pub IsSuffixOf : Text → Text → Type 0
+IsSuffixOf whole rest = (before : Text) × (whole ≡ before ++ rest)
 
 -- the whole text begins with the piece
-abbrev pub IsFrontOf : Text → Text → Type 0
-IsFrontOf whole piece = (after : Text) × (whole ≡ piece ++ after)
+abbrev pub IsPrefixOf : Text → Text → Type 0
+IsPrefixOf whole piece = (after : Text) × (whole ≡ piece ++ after)
 
 -- a character begins at the offset, or the text ends there
 abbrev pub is_boundary : Text → ℕ → Bool

@@ -11,28 +11,28 @@ use Rattle.tclchars.specs.Braces.{braced_at}
 use Rattle.tclchars.specs.Reading.{◌>>=◌, Read, read_map, items_at}
 use Rattle.tclchars.specs.declared.fault.Fault.{Fault}
 use Rattle.tclchars.specs.declared.fault.Fault.TheVariants.{OpenBrace, OpenQuote, OpenBracket, JoinedToClose, TooDeep, BadCharacter}
-use Rattle.tclchars.specs.declared.runs.Class.TheVariants.{InName}
+use Rattle.tclchars.specs.declared.runs.Class.TheVariants.{InBracedName}
 use Rattle.tclscript.specs.declared.context.Context.{Context}
 use Rattle.tclscript.specs.declared.context.Context.TheVariants.{InIndex, InQuotes}
-use Rattle.tclscript.specs.declared.runs.Passing.TheVariants.{Name}
+use Rattle.tclscript.specs.declared.runs.ScanState.TheVariants.{Name}
 use Rattle.tclscript.specs.Tree.{Commands, Command, word, Word, word_of, Parts, no_parts, part, Part, literal, braced, backslash, variable, indexed, bracket, parts_of, words_of, commands_of}
 use Rattle.tclscript.specs.Ends.{script_ends, command_ends, word_ends, parts_end, class_of, bare}
-use Rattle.tclscript.specs.Passing.{pass, skip_blanks, skip_gap}
+use Rattle.tclscript.specs.ScanState.{scan, skip_blanks, skip_gap}
 
 -- Marks
 
 -- what is read after this mark, where the text begins with it; else the other
 abbrev pub on_mark : {A : Type 0} → ℕ → Text → (Text → A) → A → A
-on_mark mark [] behind other = other
-on_mark mark (b ∷ bs) behind other = if b == mark then behind bs else other
+on_mark mark [] following other = other
+on_mark mark (b ∷ bs) following other = if b == mark then following bs else other
 
 -- the rest after the closing mark, or the fault where it is missing
-abbrev pub closed : ℕ → Fault → Text → Result Text Fault
-closed mark fault bs = on_mark mark bs (λ rest. Ok rest) (Err fault)
+abbrev pub after_closing : ℕ → Fault → Text → Result Text Fault
+after_closing mark fault bs = on_mark mark bs (λ rest. Ok rest) (Err fault)
 
 -- the text after a closing brace or quote, where the word ends there
-abbrev pub ended : Bool → Text → Result Text Fault
-ended nested bs = if word_ends nested bs then Ok bs else Err (JoinedToClose (length bs))
+abbrev pub require_word_end : Bool → Text → Result Text Fault
+require_word_end nested bs = if word_ends nested bs then Ok bs else Err (JoinedToClose (length bs))
 
 -- Parts
 
@@ -45,35 +45,35 @@ pub record Inner : Type 0 where
 unfoldable pub bracket_at : Inner → Text → Read Part
 bracket_at inner bs = do
   x ← inner.script bs
-  rest ← closed right_bracket (OpenBracket (suc (length bs))) x.1
+  rest ← after_closing right_bracket (OpenBracket (suc (length bs))) x.1
   Ok (bracket x.0, rest)
 
 -- the parts of an index, after its opening parenthesis
 unfoldable pub index_at : Inner → Text → Read Parts
 index_at inner bs = do
   x ← inner.index bs
-  rest ← closed right_parenthesis (BadCharacter (suc (length bs))) x.1
+  rest ← after_closing right_parenthesis (BadCharacter (suc (length bs))) x.1
   Ok (x.0, rest)
 
 -- after the opening brace of a name
 unfoldable pub braced_name_at : Text → Read Part
 braced_name_at bs = do
-  rest ← closed right_brace (OpenBrace (suc (length bs))) (drop_while (in_class InName) bs)
-  Ok (variable (take_while (in_class InName) bs), rest)
+  rest ← after_closing right_brace (OpenBrace (suc (length bs))) (drop_while (in_class InBracedName) bs)
+  Ok (variable (take_while (in_class InBracedName) bs), rest)
 
 -- a name without an index; without a name the dollar is literal
-abbrev pub plain_variable : Text → Part
-plain_variable [] = literal (dollar ∷ [])
-plain_variable (b ∷ bs) = variable (b ∷ bs)
+abbrev pub scalar_variable : Text → Part
+scalar_variable [] = literal (dollar ∷ [])
+scalar_variable (b ∷ bs) = variable (b ∷ bs)
 
 -- after a name
 abbrev pub after_name : Inner → Text × Text → Read Part
 after_name inner p =
-    on_mark left_parenthesis p.1 (λ bs. read_map (indexed p.0) (index_at inner bs)) (Ok (plain_variable p.0, p.1))
+    on_mark left_parenthesis p.1 (λ bs. read_map (indexed p.0) (index_at inner bs)) (Ok (scalar_variable p.0, p.1))
 
 -- after a dollar
 unfoldable pub dollar_at : Inner → Text → Read Part
-dollar_at inner bs = on_mark left_brace bs braced_name_at (after_name inner (pass Name bs))
+dollar_at inner bs = on_mark left_brace bs braced_name_at (after_name inner (scan Name bs))
 
 -- after a backslash, by what it stands for; at the end of the text a backslash is literal
 abbrev pub escaped : Text → Option (Text × Text) → Read Part
@@ -105,9 +105,9 @@ parts_with context inner bs =
 
 -- a word in braces, by the text that they enclose
 abbrev pub word_in_braces : Bool → ℕ → Option (Text × Text) → Read Parts
-word_in_braces nested left None = Err (OpenBrace left)
-word_in_braces nested left (Some p) =
-    ended nested p.1 >>= (λ rest. Ok (part (braced p.0) no_parts, rest))
+word_in_braces nested remaining None = Err (OpenBrace remaining)
+word_in_braces nested remaining (Some p) =
+    require_word_end nested p.1 >>= (λ rest. Ok (part (braced p.0) no_parts, rest))
 
 -- a word in braces, after the opening brace
 unfoldable pub braced_word_at : Bool → Text → Read Parts
@@ -117,20 +117,20 @@ braced_word_at nested bs = word_in_braces nested (suc (length bs)) (braced_at fa
 unfoldable pub quotes_at : Inner → Text → Read Parts
 quotes_at inner bs = do
   x ← parts_with InQuotes inner bs
-  rest ← closed quote (OpenQuote (suc (length bs))) x.1
+  rest ← after_closing quote (OpenQuote (suc (length bs))) x.1
   Ok (x.0, rest)
 
 -- a word in quotes, after the opening quote
 unfoldable pub quoted_word_at : Bool → Inner → Text → Read Parts
 quoted_word_at nested inner bs = do
   x ← parts_with InQuotes inner bs
-  after ← closed quote (OpenQuote (suc (length bs))) x.1
-  rest ← ended nested after
+  after ← after_closing quote (OpenQuote (suc (length bs))) x.1
+  rest ← require_word_end nested after
   Ok (x.0, rest)
 
 -- a word in braces, in quotes or in neither
-unfoldable pub plain_word_at : Bool → Inner → Text → Read Parts
-plain_word_at nested inner bs =
+unfoldable pub unexpanded_word_at : Bool → Inner → Text → Read Parts
+unexpanded_word_at nested inner bs =
     on_mark left_brace bs (braced_word_at nested)
     (on_mark quote bs (quoted_word_at nested inner) (parts_with (bare nested) inner bs))
 
@@ -146,8 +146,8 @@ after_expansion nested bs =
 
 -- a word, by the rest after its mark {*}
 abbrev pub word_from : Bool → Inner → Text → Option Text → Read Word
-word_from nested inner bs None = read_map (word_of false) (plain_word_at nested inner bs)
-word_from nested inner bs (Some rest) = read_map (word_of true) (plain_word_at nested inner rest)
+word_from nested inner bs None = read_map (word_of false) (unexpanded_word_at nested inner bs)
+word_from nested inner bs (Some rest) = read_map (word_of true) (unexpanded_word_at nested inner rest)
 
 -- a word, with the mark {*} before it or without
 unfoldable pub word_at : Bool → Inner → Text → Read Word
@@ -165,9 +165,9 @@ words_at nested inner bs = items_at skip_blanks (command_ends nested) (word_at n
 
 -- a command, whose first word has that offset
 unfoldable pub command_at : ℕ → Bool → Inner → Text → Read Command
-command_at place nested inner bs = do
+command_at offset nested inner bs = do
   w ← word_at nested inner bs
-  read_map (λ ws. record { place = place; source = taken bs w.1; words = word w.0 (words_of ws) })
+  read_map (λ ws. record { offset = offset; source = taken bs w.1; words = word w.0 (words_of ws) })
       (words_at nested inner w.1)
 
 -- a command of a script of so many bytes, with the rest of the script

@@ -34,7 +34,7 @@ mutual
 
 -- a command by itself
 pub record Command : Type 0 where
-  pub place : ℕ
+  pub offset : ℕ
   pub source : Text
   pub words : Words
 
@@ -42,7 +42,7 @@ pub record Command : Type 0 where
 
 abbrev pub commands_before : List Command → Commands → Commands
 commands_before [] more = more
-commands_before (c ∷ cs) more = command c.place c.source c.words (commands_before cs more)
+commands_before (c ∷ cs) more = command c.offset c.source c.words (commands_before cs more)
 
 abbrev pub words_before : List Word → Words → Words
 words_before [] more = more
@@ -66,7 +66,7 @@ parts_of ps = parts_before ps no_parts
 abbrev mutual
   pub nesting : Commands → ℕ
   nesting no_commands = 0
-  nesting (command place source ws cs) = max (words_nesting ws) (nesting cs)
+  nesting (command offset source ws cs) = max (words_nesting ws) (nesting cs)
 
   pub words_nesting : Words → ℕ
   words_nesting no_words = 0

@@ -22,7 +22,7 @@ abbrev pub word_step : {P : Type 0} → rust_word.Word-F P Part tree.Command Com
 word_step w = word_of w.expands (parts_of w.parts.items)
 
 abbrev pub command_step : {P : Type 0} → (P → Text) → Command-F P Part tree.Command Commands Word → tree.Command
-command_step shown c = record { place = c.place; source = shown c.source; words = words_of c.words.items }
+command_step shown c = record { offset = c.offset; source = shown c.source; words = words_of c.words.items }
 
 abbrev pub script_step : {P : Type 0} → Script-F P Part tree.Command Commands Word → Commands
 script_step s = commands_of s.commands.items

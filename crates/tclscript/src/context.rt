@@ -1,6 +1,6 @@
 //! Where the parts of a word are, and what ends words, commands and scripts there (Tcl(n), rules 1 to 6).
 ghost use Rattle.std.specs.Prelude.{◌≡◌};
-ghost use Rattle.tclscript.specs.Ends.{word_ends, command_ends, script_ends, stands_before, parts_end, bare, class_of};
+ghost use Rattle.tclscript.specs.Ends.{word_ends, command_ends, script_ends, ends_at, parts_end, bare, class_of};
 
 use tclchars::{Class, begins_class};
 
@@ -73,8 +73,8 @@ pub(crate) fn script_ends(text: &str, nested: bool) -> bool
 }
 
 /// Whether the text is empty or begins with that mark.
-fn stands_before(text: &str, mark: u8) -> bool
-    ensures { result ≡ stands_before mark text.now }
+fn ends_at(text: &str, mark: u8) -> bool
+    ensures { result ≡ ends_at mark text.now }
 {
     match text.as_bytes() {
         [] => true,
@@ -89,7 +89,7 @@ pub(crate) fn parts_end(text: &str, context: Context) -> bool
     match context {
         Context::InScript => word_ends(text, false),
         Context::InBracket => word_ends(text, true),
-        Context::InIndex => stands_before(text, b')'),
-        Context::InQuotes => stands_before(text, b'"'),
+        Context::InIndex => ends_at(text, b')'),
+        Context::InQuotes => ends_at(text, b'"'),
     }
 }

@@ -4,7 +4,7 @@ ghost use Rattle.tclchars.specs.Runs.{Text};
 ghost use Rattle.tclchars.specs.Bytes.{backslash, left_parenthesis};
 ghost use Rattle.tclchars.specs.Backslash.{after_backslash};
 ghost use Rattle.tclchars.specs.Faults.{max_bytes, max_nesting};
-ghost use Rattle.tclchars.specs.Reading.{left_of};
+ghost use Rattle.tclchars.specs.Reading.{remaining_of};
 ghost use Rattle.tclchars.specs.declared.fault.Fault.{Fault};
 ghost use Rattle.tclchars.specs.declared.fault.Fault.TheVariants.{JoinedToClose, TooDeep, BadCharacter};
 ghost use Rattle.tclchars.specs.declared.fault.TextFault.{TextFault};
@@ -12,7 +12,7 @@ ghost use Rattle.tclchars.specs.declared.fault.TextFault.TheVariants.{OutOfMemor
 ghost use Rattle.tclscript.specs.Tree.{Commands, nesting};
 ghost use Rattle.tclscript.specs.Grammar.{IsScript};
 ghost use Rattle.tclscript.specs.Faults.{IsFault, IsTextFault};
-ghost use Rattle.tclscript.specs.Offending.{GoesOn, IsOffender, IsBadEscape, IsOpenMark};
+ghost use Rattle.tclscript.specs.ViablePrefixes.{IsViablePrefix, ShowsFault, IsBadEscape, IsOpenMark};
 ghost use Rattle.tclscript.specs.Text.{IsWithin, script_of};
 
 /// A text is a script with one tree at most.
@@ -42,18 +42,18 @@ pub fn script_of_grammar()
 /// The text before the offset of a fault is the beginning of some script. What follows a closing brace or quote, and
 /// what a backslash begins, is not: no script begins with the text up to and with it, however deep that nests; of what
 /// a backslash begins five bytes show it at most. Where a mark is open, the whole text is the beginning of some script.
-pub fn first_offending()
+pub fn correct_prefix()
     ensures before_mark { (before rest : Text) (f : Fault) → IsFault max_nesting (before ++ rest) f → f ≢ TooDeep
-        → left_of f ≡ length rest → GoesOn before }
+        → remaining_of f ≡ length rest → IsViablePrefix before }
     ensures with_joined { (before bad rest : Text) → IsFault max_nesting (before ++ (bad ++ rest))
-        (JoinedToClose (length (bad ++ rest))) → IsOffender bad
-        → GoesOn (before ++ bad) → ⊥ }
+        (JoinedToClose (length (bad ++ rest))) → ShowsFault bad
+        → IsViablePrefix (before ++ bad) → ⊥ }
     ensures with_escape { (before bad rest : Text) → IsFault max_nesting (before ++ backslash ∷ (bad ++ rest))
         (BadCharacter (suc (length (bad ++ rest)))) → IsBadEscape bad
-        → GoesOn (before ++ backslash ∷ bad) → ⊥ }
+        → IsViablePrefix (before ++ backslash ∷ bad) → ⊥ }
     ensures escapes { (bs : Text) → bs ≢ [] → after_backslash bs ≡ None
         → (bad : Text) × (rest : Text) × (bs ≡ bad ++ rest) × (length bad ≤ 5) × IsBadEscape bad }
-    ensures open_marks { (bs : Text) (f : Fault) → IsFault max_nesting bs f → IsOpenMark f → GoesOn bs }
+    ensures open_marks { (bs : Text) (f : Fault) → IsFault max_nesting bs f → IsOpenMark f → IsViablePrefix bs }
     ensures open_index { (before rest : Text) → IsFault max_nesting (before ++ left_parenthesis ∷ rest)
-        (BadCharacter (suc (length rest))) → GoesOn (before ++ left_parenthesis ∷ rest) }
+        (BadCharacter (suc (length rest))) → IsViablePrefix (before ++ left_parenthesis ∷ rest) }
 {}

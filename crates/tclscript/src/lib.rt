@@ -12,7 +12,7 @@ mod runs;
 mod text;
 mod tree;
 
-pub use laws::{first_offending, one_fault, one_script, script_of_grammar};
+pub use laws::{correct_prefix, one_fault, one_script, script_of_grammar};
 pub use owned::{OwnedScript, own_script};
 pub use piece::{ByteRange, Source};
 pub use reading::{read_bracket, read_dollar, read_quotes};

@@ -1,18 +1,18 @@
 //! A source text, and the pieces of it that a tree holds: slices, or ranges of bytes.
 ghost use Rattle.std.specs.Prelude.{◌≡◌, ◌+◌, ℕ, length};
 ghost use Rattle.tclchars.specs.Runs.{Text};
-ghost use Rattle.tclscript.specs.Pieces.{IsEndOf, IsFrontOf, between};
+ghost use Rattle.tclscript.specs.Pieces.{IsSuffixOf, IsPrefixOf, between};
 
 /// A source text whose pieces are values of `P`.
 ///
-/// `text` is the whole text, `shown` the text of a piece, and `stands` holds of a piece and its two offsets: of its
+/// `text` is the whole text, `shown` the text of a piece, and `spans` holds of a piece and its two offsets: of its
 /// first byte, and of the byte after its last.
 pub trait Source<P> {
     ghost text: { Self → Text };
 
     ghost shown: { Self → P → Text };
 
-    ghost stands: { Self → P → ℕ → ℕ → Type 0 };
+    ghost spans: { Self → P → ℕ → ℕ → Type 0 };
 
     /// The whole text.
     fn as_str(&self) -> &str
@@ -20,11 +20,11 @@ pub trait Source<P> {
 
     /// The piece that `rest` begins with; `rest` is a suffix of the source.
     fn cut(&self, rest: &str, piece: &str) -> P
-        requires suffix { IsEndOf (text self.now) rest.now }
-        requires prefix { IsFrontOf rest.now piece.now }
+        requires suffix { IsSuffixOf (text self.now) rest.now }
+        requires prefix { IsPrefixOf rest.now piece.now }
         ensures text { shown self.now result ≡ piece.now }
         ensures offsets { (start : ℕ) → start + length rest.now ≡ length (text self.now)
-            → stands self.now result start (start + length piece.now) };
+            → spans self.now result start (start + length piece.now) };
 }
 
 impl<'a> Source<&'a str> for &'a str {
@@ -32,7 +32,7 @@ impl<'a> Source<&'a str> for &'a str {
 
     ghost shown = { λ source piece. piece.now };
 
-    ghost stands = { λ source piece start end. between source.now start end ≡ piece.now };
+    ghost spans = { λ source piece start end. between source.now start end ≡ piece.now };
 
     fn as_str(&self) -> &str {
         self
@@ -73,7 +73,7 @@ impl<'a> Source<ByteRange> for &'a str {
 
     ghost shown = { λ source range. between source.now range.start range.end };
 
-    ghost stands = { λ source range start end. (range.start ≡ start) × (range.end ≡ end) };
+    ghost spans = { λ source range start end. (range.start ≡ start) × (range.end ≡ end) };
 
     fn as_str(&self) -> &str {
         self

@@ -3,22 +3,22 @@ ghost use Rattle.std.specs.Prelude.{◌≡◌, ◌∷◌, ◌<◌, length, suc, 
 ghost use Rattle.tclchars.specs.Bytes.{dollar, backslash};
 ghost use Rattle.tclchars.specs.Answers.{Gives};
 ghost use Rattle.tclchars.specs.Reading.{stopped_by};
-ghost use Rattle.tclscript.specs.Pieces.{IsEndOf, IsFrontOf};
+ghost use Rattle.tclscript.specs.Pieces.{IsSuffixOf, IsPrefixOf};
 ghost use Rattle.tclscript.specs.Tree as tree;
-ghost use Rattle.tclscript.specs.Reading.{closed, ended, after_expansion, inner_at, script_with, command_at, word_at, plain_word_at, braced_word_at, quoted_word_at, quotes_at, parts_with, part_at, literal_at, dollar_at, braced_name_at, index_at, bracket_at, backslash_at, plain_variable, taken, whole_script};
+ghost use Rattle.tclscript.specs.Reading.{after_closing, require_word_end, after_expansion, inner_at, script_with, command_at, word_at, unexpanded_word_at, braced_word_at, quoted_word_at, quotes_at, parts_with, part_at, literal_at, dollar_at, braced_name_at, index_at, bracket_at, backslash_at, scalar_variable, taken, whole_script};
 ghost use Rattle.tclscript.specs.View.{script_view, command_view, word_view, part_view, parts_view};
 
 use crate::context::{Context, bare, class_of, command_ends, parts_end, script_ends, word_ends};
 use crate::piece::Source;
-use crate::runs::{Passing, skip_blanks, skip_gap, split_passed};
+use crate::runs::{ScanState, skip_blanks, skip_gap, split_scanned};
 use crate::tree::{Command, Part, Script, Word};
 use std::alloc::Global;
-use tclchars::{Class, Fault, ReadError, after_mark, read_backslash, split_close, split_front};
+use tclchars::{Class, Fault, ReadError, after_mark, read_backslash, split_close, split_run};
 
 /// The rest after the closing mark, or the fault where that is missing.
-fn closed(text: &str, mark: u8, fault: Fault) -> Result<&str, ReadError>
+fn after_closing(text: &str, mark: u8, fault: Fault) -> Result<&str, ReadError>
     requires { mark < 128 }
-    ensures { Gives stopped_by (λ rest. rest.now) result (closed mark fault text.now) }
+    ensures { Gives stopped_by (λ rest. rest.now) result (after_closing mark fault text.now) }
 {
     match after_mark(text, mark) {
         Some(rest) => Ok(rest),
@@ -27,8 +27,8 @@ fn closed(text: &str, mark: u8, fault: Fault) -> Result<&str, ReadError>
 }
 
 /// The text after a closing brace or quote, where the word ends there; else the fault that something is joined to it.
-fn ended(text: &str, nested: bool) -> Result<&str, ReadError>
-    ensures { Gives stopped_by (λ rest. rest.now) result (ended nested text.now) }
+fn require_word_end(text: &str, nested: bool) -> Result<&str, ReadError>
+    ensures { Gives stopped_by (λ rest. rest.now) result (require_word_end nested text.now) }
 {
     if word_ends(text, nested) {
         Ok(text)
@@ -37,11 +37,11 @@ fn ended(text: &str, nested: bool) -> Result<&str, ReadError>
     }
 }
 
-/// How many bytes remain from a mark of one byte on, of which `behind` is what follows it.
-fn left_with_mark(behind: &str) -> usize
-    ensures { result ≡ suc (length behind.now) }
+/// How many bytes remain from a mark of one byte on, of which `following` is what follows it.
+fn remaining_with_mark(following: &str) -> usize
+    ensures { result ≡ suc (length following.now) }
 {
-    behind.len() + 1
+    following.len() + 1
 }
 
 /// The rest after the mark `{*}`, unless a word ends there: then it is a word in braces.
@@ -59,8 +59,8 @@ fn after_expansion(text: &str, nested: bool) -> Option<&str>
 
 /// The piece of the source from the text up to the rest.
 fn taken<'a, S: Source<P>, P: Drop>(source: &S, text: &'a str, rest: &'a str) -> P
-    requires text { IsEndOf (S.text source.now) text.now }
-    requires rest { IsEndOf text.now rest.now }
+    requires text { IsSuffixOf (S.text source.now) text.now }
+    requires rest { IsSuffixOf text.now rest.now }
     ensures { S.shown source.now result ≡ taken text.now rest.now }
 {
     source.cut(text, text.split_at(text.len() - rest.len()).0)
@@ -72,29 +72,29 @@ fn read_literal<'a, S: Source<P>, P: Drop>(
     text: &'a str,
     context: Context,
 ) -> (Part<P>, &'a str)
-    requires { IsEndOf (S.text source.now) text.now }
+    requires { IsSuffixOf (S.text source.now) text.now }
     ensures { literal_at context text.now ≡ Ok (part_view (S.shown source.now) result.0, result.1.now) }
 {
-    let (run, rest) = split_front(text, class_of(context));
+    let (run, rest) = split_run(text, class_of(context));
     (Part::Literal(source.cut(text, run)), rest)
 }
 
 /// The part of a dollar and a name without an index; without a name the dollar is literal.
-fn plain_variable<'a, S: Source<P>, P: Drop>(
+fn scalar_variable<'a, S: Source<P>, P: Drop>(
     source: &S,
     text: &'a str,
-    behind: &'a str,
+    following: &'a str,
     name: &'a str,
 ) -> Part<P>
-    requires text { IsEndOf (S.text source.now) text.now }
-    requires dollar { text.now ≡ dollar ∷ behind.now }
-    requires name { IsFrontOf behind.now name.now }
-    ensures { part_view (S.shown source.now) result ≡ plain_variable name.now }
+    requires text { IsSuffixOf (S.text source.now) text.now }
+    requires dollar { text.now ≡ dollar ∷ following.now }
+    requires name { IsPrefixOf following.now name.now }
+    ensures { part_view (S.shown source.now) result ≡ scalar_variable name.now }
 {
     if name.is_empty() {
-        Part::Literal(taken(source, text, behind))
+        Part::Literal(taken(source, text, following))
     } else {
-        Part::Variable(source.cut(behind, name))
+        Part::Variable(source.cut(following, name))
     }
 }
 
@@ -103,18 +103,18 @@ fn plain_variable<'a, S: Source<P>, P: Drop>(
 fn read_escape<'a, S: Source<P>, P: Drop>(
     source: &S,
     text: &'a str,
-    behind: &'a str,
+    following: &'a str,
 ) -> Result<(Part<P>, &'a str), ReadError>
-    requires text { IsEndOf (S.text source.now) text.now }
-    requires mark { text.now ≡ backslash ∷ behind.now }
+    requires text { IsSuffixOf (S.text source.now) text.now }
+    requires mark { text.now ≡ backslash ∷ following.now }
     ensures { Gives stopped_by (λ x. (part_view (S.shown source.now) x.0, x.1.now)) result
-        (backslash_at behind.now) }
+        (backslash_at following.now) }
 {
-    match read_backslash(behind) {
+    match read_backslash(following) {
         Some((c, rest)) => Ok((Part::Backslash(c), rest)),
         None => {
-            if behind.is_empty() {
-                Ok((Part::Literal(taken(source, text, behind)), behind))
+            if following.is_empty() {
+                Ok((Part::Literal(taken(source, text, following)), following))
             } else {
                 Err(ReadError::Fault(Fault::BadCharacter(text.len())))
             }
@@ -128,11 +128,11 @@ fn read_braced_name<'a, S: Source<P>, P: Drop>(
     source: &S,
     text: &'a str,
 ) -> Result<(Part<P>, &'a str), ReadError>
-    requires { IsEndOf (S.text source.now) text.now }
+    requires { IsSuffixOf (S.text source.now) text.now }
     ensures { Gives stopped_by (λ x. (part_view (S.shown source.now) x.0, x.1.now)) result (braced_name_at text.now) }
 {
-    let (name, after) = split_front(text, Class::InName);
-    let rest = closed(after, b'}', Fault::OpenBrace(left_with_mark(text)))?;
+    let (name, after) = split_run(text, Class::InBracedName);
+    let rest = after_closing(after, b'}', Fault::OpenBrace(remaining_with_mark(text)))?;
     Ok((Part::Variable(source.cut(text, name)), rest))
 }
 
@@ -144,14 +144,14 @@ fn read_braced<'a, S: Source<P>, P: Drop>(
     text: &'a str,
     nested: bool,
 ) -> Result<(Vec<Part<P>>, &'a str), ReadError>
-    requires { IsEndOf (S.text source.now) text.now }
+    requires { IsSuffixOf (S.text source.now) text.now }
     ensures { Gives stopped_by (λ x. (parts_view (S.shown source.now) x.0.items, x.1.now)) result
         (braced_word_at nested text.now) }
 {
     let Some((inner, after)) = split_close(text) else {
-        return Err(ReadError::Fault(Fault::OpenBrace(left_with_mark(text))));
+        return Err(ReadError::Fault(Fault::OpenBrace(remaining_with_mark(text))));
     };
-    let rest = ended(after, nested)?;
+    let rest = require_word_end(after, nested)?;
     let mut parts = Vec::new(alloc);
     parts.push(Part::Braced(source.cut(text, inner)))?;
     Ok((parts, rest))
@@ -179,7 +179,7 @@ fn read_script<'a, S: Source<P>, P: Drop>(
     depth: usize,
     nested: bool,
 ) -> Result<(Script<P>, &'a str), ReadError>
-    requires { IsEndOf (S.text source.now) text.now }
+    requires { IsSuffixOf (S.text source.now) text.now }
     ensures { Gives stopped_by (λ x. (script_view (S.shown source.now) x.0, x.1.now)) result
         (script_with nested (inner_at depth) text.now) }
 {
@@ -190,38 +190,38 @@ fn read_script<'a, S: Source<P>, P: Drop>(
         if script_ends(start, nested) {
             return Ok((Script { commands }, start));
         }
-        let place = text.len() - start.len();
-        let (command, after) = read_command(alloc, source, start, place, depth, nested)?;
+        let offset = text.len() - start.len();
+        let (command, after) = read_command(alloc, source, start, offset, depth, nested)?;
         commands.push(command)?;
         rest = after;
     }
 }
 
-/// The command that the text begins with, and the rest; `place` is the offset of its first word in its script.
+/// The command that the text begins with, and the rest; `offset` is the offset of its first word in its script.
 #[cycle(read)]
 fn read_command<'a, S: Source<P>, P: Drop>(
     alloc: Global,
     source: &S,
     text: &'a str,
-    place: usize,
+    offset: usize,
     depth: usize,
     nested: bool,
 ) -> Result<(Command<P>, &'a str), ReadError>
-    requires { IsEndOf (S.text source.now) text.now }
+    requires { IsSuffixOf (S.text source.now) text.now }
     ensures { Gives stopped_by (λ x. (command_view (S.shown source.now) x.0, x.1.now)) result
-        (command_at place nested (inner_at depth) text.now) }
+        (command_at offset nested (inner_at depth) text.now) }
 {
-    let (first, behind) = read_word(alloc, source, text, depth, nested)?;
-    let first_text = taken(source, text, behind);
+    let (first, following) = read_word(alloc, source, text, depth, nested)?;
+    let first_text = taken(source, text, following);
     let mut words = Vec::new(alloc);
     words.push(first)?;
-    let mut rest = behind;
+    let mut rest = following;
     loop {
         let start = skip_blanks(rest);
         if command_ends(start, nested) {
             return Ok((
                 Command {
-                    place,
+                    offset,
                     source: first_text,
                     words,
                 },
@@ -244,13 +244,13 @@ fn read_word<'a, S: Source<P>, P: Drop>(
     depth: usize,
     nested: bool,
 ) -> Result<(Word<P>, &'a str), ReadError>
-    requires { IsEndOf (S.text source.now) text.now }
+    requires { IsSuffixOf (S.text source.now) text.now }
     ensures { Gives stopped_by (λ x. (word_view (S.shown source.now) x.0, x.1.now)) result
         (word_at nested (inner_at depth) text.now) }
 {
     match after_expansion(text, nested) {
-        Some(behind) => {
-            let (parts, rest) = read_plain_word(alloc, source, behind, depth, nested)?;
+        Some(following) => {
+            let (parts, rest) = read_unexpanded_word(alloc, source, following, depth, nested)?;
             Ok((
                 Word {
                     expands: true,
@@ -260,7 +260,7 @@ fn read_word<'a, S: Source<P>, P: Drop>(
             ))
         }
         None => {
-            let (parts, rest) = read_plain_word(alloc, source, text, depth, nested)?;
+            let (parts, rest) = read_unexpanded_word(alloc, source, text, depth, nested)?;
             Ok((
                 Word {
                     expands: false,
@@ -274,23 +274,23 @@ fn read_word<'a, S: Source<P>, P: Drop>(
 
 /// The parts of a word in braces, in quotes or in neither, and the rest.
 #[cycle(read)]
-#[tactic(auto, unfolding(crate::specs::Reading::plain_word_at))]
-fn read_plain_word<'a, S: Source<P>, P: Drop>(
+#[tactic(auto, unfolding(crate::specs::Reading::unexpanded_word_at))]
+fn read_unexpanded_word<'a, S: Source<P>, P: Drop>(
     alloc: Global,
     source: &S,
     text: &'a str,
     depth: usize,
     nested: bool,
 ) -> Result<(Vec<Part<P>>, &'a str), ReadError>
-    requires { IsEndOf (S.text source.now) text.now }
+    requires { IsSuffixOf (S.text source.now) text.now }
     ensures { Gives stopped_by (λ x. (parts_view (S.shown source.now) x.0.items, x.1.now)) result
-        (plain_word_at nested (inner_at depth) text.now) }
+        (unexpanded_word_at nested (inner_at depth) text.now) }
 {
-    if let Some(behind) = after_mark(text, b'{') {
-        return read_braced(alloc, source, behind, nested);
+    if let Some(following) = after_mark(text, b'{') {
+        return read_braced(alloc, source, following, nested);
     }
     match after_mark(text, b'"') {
-        Some(behind) => read_quoted(alloc, source, behind, depth, nested),
+        Some(following) => read_quoted(alloc, source, following, depth, nested),
         None => read_parts(alloc, source, text, depth, bare(nested)),
     }
 }
@@ -307,12 +307,12 @@ pub fn read_quotes<'a, S: Source<P>, P: Drop>(
     text: &'a str,
     depth: usize,
 ) -> Result<(Vec<Part<P>>, &'a str), ReadError>
-    requires { IsEndOf (S.text source.now) text.now }
+    requires { IsSuffixOf (S.text source.now) text.now }
     ensures { Gives stopped_by (λ x. (parts_view (S.shown source.now) x.0.items, x.1.now)) result
         (quotes_at (inner_at depth) text.now) }
 {
     let (parts, close) = read_parts(alloc, source, text, depth, Context::InQuotes)?;
-    let rest = closed(close, b'"', Fault::OpenQuote(left_with_mark(text)))?;
+    let rest = after_closing(close, b'"', Fault::OpenQuote(remaining_with_mark(text)))?;
     Ok((parts, rest))
 }
 
@@ -326,12 +326,12 @@ fn read_quoted<'a, S: Source<P>, P: Drop>(
     depth: usize,
     nested: bool,
 ) -> Result<(Vec<Part<P>>, &'a str), ReadError>
-    requires { IsEndOf (S.text source.now) text.now }
+    requires { IsSuffixOf (S.text source.now) text.now }
     ensures { Gives stopped_by (λ x. (parts_view (S.shown source.now) x.0.items, x.1.now)) result
         (quoted_word_at nested (inner_at depth) text.now) }
 {
     let (parts, after) = read_quotes(alloc, source, text, depth)?;
-    let rest = ended(after, nested)?;
+    let rest = require_word_end(after, nested)?;
     Ok((parts, rest))
 }
 
@@ -344,7 +344,7 @@ fn read_parts<'a, S: Source<P>, P: Drop>(
     depth: usize,
     context: Context,
 ) -> Result<(Vec<Part<P>>, &'a str), ReadError>
-    requires { IsEndOf (S.text source.now) text.now }
+    requires { IsSuffixOf (S.text source.now) text.now }
     ensures { Gives stopped_by (λ x. (parts_view (S.shown source.now) x.0.items, x.1.now)) result
         (parts_with context (inner_at depth) text.now) }
 {
@@ -370,24 +370,24 @@ fn read_part<'a, S: Source<P>, P: Drop>(
     depth: usize,
     context: Context,
 ) -> Result<(Part<P>, &'a str), ReadError>
-    requires { IsEndOf (S.text source.now) text.now }
+    requires { IsSuffixOf (S.text source.now) text.now }
     ensures { Gives stopped_by (λ x. (part_view (S.shown source.now) x.0, x.1.now)) result
         (part_at context (inner_at depth) text.now) }
 {
-    if let Some(behind) = after_mark(text, b'$') {
-        return read_dollar(alloc, source, text, behind, depth);
+    if let Some(following) = after_mark(text, b'$') {
+        return read_dollar(alloc, source, text, following, depth);
     }
-    if let Some(behind) = after_mark(text, b'[') {
-        return read_bracket(alloc, source, behind, depth);
+    if let Some(following) = after_mark(text, b'[') {
+        return read_bracket(alloc, source, following, depth);
     }
     match after_mark(text, b'\\') {
-        Some(behind) => read_escape(source, text, behind),
+        Some(following) => read_escape(source, text, following),
         None => Ok(read_literal(source, text, context)),
     }
 }
 
 /// The variable that the text begins with, and the rest (Tcl(n), rule 8): `$name`, `$name(index)` or `${name}`,
-/// of which `behind` is what follows the dollar. Before anything else the dollar is literal. At most `depth`
+/// of which `following` is what follows the dollar. Before anything else the dollar is literal. At most `depth`
 /// brackets and indexes may nest.
 ///
 /// The fault is `OpenBrace` at the brace of a name, `BadCharacter` at the parenthesis of an index, or the first
@@ -398,24 +398,24 @@ pub fn read_dollar<'a, S: Source<P>, P: Drop>(
     alloc: Global,
     source: &S,
     text: &'a str,
-    behind: &'a str,
+    following: &'a str,
     depth: usize,
 ) -> Result<(Part<P>, &'a str), ReadError>
-    requires text { IsEndOf (S.text source.now) text.now }
-    requires dollar { text.now ≡ dollar ∷ behind.now }
+    requires text { IsSuffixOf (S.text source.now) text.now }
+    requires dollar { text.now ≡ dollar ∷ following.now }
     ensures { Gives stopped_by (λ x. (part_view (S.shown source.now) x.0, x.1.now)) result
-        (dollar_at (inner_at depth) behind.now) }
+        (dollar_at (inner_at depth) following.now) }
 {
-    if let Some(inner) = after_mark(behind, b'{') {
+    if let Some(inner) = after_mark(following, b'{') {
         return read_braced_name(source, inner);
     }
-    let (name, after) = split_passed(behind, Passing::Name);
+    let (name, after) = split_scanned(following, ScanState::Name);
     match after_mark(after, b'(') {
         Some(index) => {
             let (parts, rest) = read_index(alloc, source, index, depth)?;
-            Ok((indexed(source, behind, name, parts), rest))
+            Ok((indexed(source, following, name, parts), rest))
         }
-        None => Ok((plain_variable(source, text, behind, name), after)),
+        None => Ok((scalar_variable(source, text, following, name), after)),
     }
 }
 
@@ -426,8 +426,8 @@ fn indexed<'a, S: Source<P>, P: Drop>(
     name: &'a str,
     parts: Vec<Part<P>>,
 ) -> Part<P>
-    requires text { IsEndOf (S.text source.now) text.now }
-    requires name { IsFrontOf text.now name.now }
+    requires text { IsSuffixOf (S.text source.now) text.now }
+    requires name { IsPrefixOf text.now name.now }
     ensures { part_view (S.shown source.now) result ≡ tree.indexed name.now
         (parts_view (S.shown source.now) parts.items) }
 {
@@ -443,7 +443,7 @@ fn read_index<'a, S: Source<P>, P: Drop>(
     text: &'a str,
     depth: usize,
 ) -> Result<(Vec<Part<P>>, &'a str), ReadError>
-    requires { IsEndOf (S.text source.now) text.now }
+    requires { IsSuffixOf (S.text source.now) text.now }
     ensures { Gives stopped_by (λ x. (parts_view (S.shown source.now) x.0.items, x.1.now)) result
         (index_at (inner_at depth) text.now) }
 {
@@ -451,7 +451,7 @@ fn read_index<'a, S: Source<P>, P: Drop>(
         return Err(ReadError::Fault(Fault::TooDeep));
     }
     let (parts, close) = read_parts(alloc, source, text, depth - 1, Context::InIndex)?;
-    let rest = closed(close, b')', Fault::BadCharacter(left_with_mark(text)))?;
+    let rest = after_closing(close, b')', Fault::BadCharacter(remaining_with_mark(text)))?;
     Ok((parts, rest))
 }
 
@@ -467,7 +467,7 @@ pub fn read_bracket<'a, S: Source<P>, P: Drop>(
     text: &'a str,
     depth: usize,
 ) -> Result<(Part<P>, &'a str), ReadError>
-    requires { IsEndOf (S.text source.now) text.now }
+    requires { IsSuffixOf (S.text source.now) text.now }
     ensures { Gives stopped_by (λ x. (part_view (S.shown source.now) x.0, x.1.now)) result
         (bracket_at (inner_at depth) text.now) }
 {
@@ -475,6 +475,6 @@ pub fn read_bracket<'a, S: Source<P>, P: Drop>(
         return Err(ReadError::Fault(Fault::TooDeep));
     }
     let (script, close) = read_script(alloc, source, text, depth - 1, true)?;
-    let rest = closed(close, b']', Fault::OpenBracket(left_with_mark(text)))?;
+    let rest = after_closing(close, b']', Fault::OpenBracket(remaining_with_mark(text)))?;
     Ok((Part::Bracket(script), rest))
 }

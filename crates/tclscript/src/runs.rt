@@ -4,15 +4,15 @@ ghost use Rattle.std.specs.Prelude.{◌≡◌};
 ghost use Rattle.tclchars.specs.Runs.{begins};
 ghost use Rattle.tclchars.specs.Bytes.{is_blank, is_gap};
 ghost use Rattle.tclchars.specs.Classes.{is_name};
-ghost use Rattle.tclscript.specs.Passing.{step_blanks, step_joined, step_gap, step_comment, step_name, step, pass, skip_blanks, skip_gap};
+ghost use Rattle.tclscript.specs.ScanState.{step_blanks, step_newline, step_gap, step_comment, step_name, step, scan, skip_blanks, skip_gap};
 
 /// The state of a scan over bytes: what is being skipped or taken, and what the last byte was.
 #[derive(Clone, Copy)]
-pub(crate) enum Passing {
+pub(crate) enum ScanState {
     /// Between words: blanks, and backslashes before newlines.
     Blanks,
     /// Between words, after a backslash: the next byte is its newline.
-    Joined,
+    AwaitsNewline,
     /// Between commands.
     Gap,
     /// In a comment.
@@ -57,92 +57,92 @@ fn begins(text: &[u8], mark: u8) -> bool
 }
 
 /// The state after a byte between words, or none.
-fn step_blanks(b: u8, after: &[u8]) -> Option<Passing>
+fn step_blanks(b: u8, after: &[u8]) -> Option<ScanState>
     ensures { result ≡ step_blanks b after.now }
 {
     if is_blank(b) {
-        Some(Passing::Blanks)
+        Some(ScanState::Blanks)
     } else if b == b'\\' && begins(after, b'\n') {
-        Some(Passing::Joined)
+        Some(ScanState::AwaitsNewline)
     } else {
         None
     }
 }
 
 /// The state after the newline that a backslash joins, or none.
-fn step_joined(b: u8) -> Option<Passing>
-    ensures { result ≡ step_joined b }
+fn step_newline(b: u8) -> Option<ScanState>
+    ensures { result ≡ step_newline b }
 {
     if b == b'\n' {
-        Some(Passing::Blanks)
+        Some(ScanState::Blanks)
     } else {
         None
     }
 }
 
 /// The state after a byte between commands, or none.
-fn step_gap(b: u8, after: &[u8]) -> Option<Passing>
+fn step_gap(b: u8, after: &[u8]) -> Option<ScanState>
     ensures { result ≡ step_gap b after.now }
 {
     if is_gap(b) || (b == b'\\' && begins(after, b'\n')) {
-        Some(Passing::Gap)
+        Some(ScanState::Gap)
     } else if b == b'#' {
-        Some(Passing::Comment)
+        Some(ScanState::Comment)
     } else {
         None
     }
 }
 
 /// The state after a byte of a comment, which a newline ends.
-fn step_comment(b: u8) -> Passing
+fn step_comment(b: u8) -> ScanState
     ensures { result ≡ step_comment b }
 {
     match b {
-        b'\n' => Passing::Gap,
-        b'\\' => Passing::Escaped,
-        _ => Passing::Comment,
+        b'\n' => ScanState::Gap,
+        b'\\' => ScanState::Escaped,
+        _ => ScanState::Comment,
     }
 }
 
 /// The state after a byte of a name, or none; `colons` is set after a colon of several.
-fn step_name(colons: bool, b: u8, after: &[u8]) -> Option<Passing>
+fn step_name(colons: bool, b: u8, after: &[u8]) -> Option<ScanState>
     ensures { result ≡ step_name colons b after.now }
 {
     if is_name(b) {
-        Some(Passing::Name)
+        Some(ScanState::Name)
     } else if b == b':' && (colons || begins(after, b':')) {
-        Some(Passing::Colons)
+        Some(ScanState::Colons)
     } else {
         None
     }
 }
 
 /// The state after the byte `b`, which the bytes `after` follow. None where the scan ends before this byte.
-fn step(passing: Passing, b: u8, after: &[u8]) -> Option<Passing>
-    ensures { result ≡ step passing b after.now }
+fn step(state: ScanState, b: u8, after: &[u8]) -> Option<ScanState>
+    ensures { result ≡ step state b after.now }
 {
-    match passing {
-        Passing::Blanks => step_blanks(b, after),
-        Passing::Joined => step_joined(b),
-        Passing::Gap => step_gap(b, after),
-        Passing::Comment => Some(step_comment(b)),
-        Passing::Escaped => Some(Passing::Comment),
-        Passing::Name => step_name(false, b, after),
-        Passing::Colons => step_name(true, b, after),
+    match state {
+        ScanState::Blanks => step_blanks(b, after),
+        ScanState::AwaitsNewline => step_newline(b),
+        ScanState::Gap => step_gap(b, after),
+        ScanState::Comment => Some(step_comment(b)),
+        ScanState::Escaped => Some(ScanState::Comment),
+        ScanState::Name => step_name(false, b, after),
+        ScanState::Colons => step_name(true, b, after),
     }
 }
 
 /// The bytes that a scan from that state takes, and the rest.
-pub(crate) fn split_passed(text: &str, start: Passing) -> (&str, &str)
-    ensures run { result.0.now ≡ (pass start text.now).0 }
-    ensures rest { result.1.now ≡ (pass start text.now).1 }
+pub(crate) fn split_scanned(text: &str, start: ScanState) -> (&str, &str)
+    ensures run { result.0.now ≡ (scan start text.now).0 }
+    ensures rest { result.1.now ≡ (scan start text.now).1 }
 {
     let bytes = text.as_bytes();
-    let mut passing = start;
+    let mut state = start;
     for (n, b) in bytes.iter().enumerate() {
-        match step(passing, *b, &bytes[n + 1..]) {
+        match step(state, *b, &bytes[n + 1..]) {
             None => return text.split_at(n),
-            Some(next) => passing = next,
+            Some(next) => state = next,
         }
     }
     text.split_at(text.len())
@@ -152,12 +152,12 @@ pub(crate) fn split_passed(text: &str, start: Passing) -> (&str, &str)
 pub(crate) fn skip_blanks(text: &str) -> &str
     ensures { result.now ≡ skip_blanks text.now }
 {
-    split_passed(text, Passing::Blanks).1
+    split_scanned(text, ScanState::Blanks).1
 }
 
 /// The text without the gap that it begins with: white space, semicolons and comments.
 pub(crate) fn skip_gap(text: &str) -> &str
     ensures { result.now ≡ skip_gap text.now }
 {
-    split_passed(text, Passing::Gap).1
+    split_scanned(text, ScanState::Gap).1
 }

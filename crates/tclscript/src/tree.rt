@@ -14,7 +14,7 @@ pub struct Script<P> {
 pub struct Command<P> {
     /// The byte offset of the first word in the script that the command is in: in the source, or in the text in
     /// brackets.
-    pub place: usize,
+    pub offset: usize,
     /// The source text of the first word.
     pub source: P,
     /// The words, of which there is one at least.

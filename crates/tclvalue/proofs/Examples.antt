@@ -3,9 +3,9 @@ use Rattle.std.specs.Prelude.{◌≡◌, refl, codes, [], ◌∷◌, Ok, Err, So
 use lib.Utf8.{encode}
 use Rattle.std.specs.Str.{chars}
 use Rattle.std.specs.Fmt.{digits}
-use Rattle.tcltext.specs.Numerals.{numeral}
+use Rattle.tclnumber.specs.Numerals.{numeral}
 use Rattle.tcllist.specs.ListReading.{list_of, list_at, element_at, piece_of, piece_at}
-use Rattle.tcloperators.specs.Faults.{error, left_out, value_too_long}
+use Rattle.tcloperators.specs.Faults.{error, unsupported, value_too_long}
 use Rattle.tcloperators.specs.Messages.{wrong_words, bad_index}
 use Rattle.tclvalue.specs.Characters.{white_space, split_space}
 use Rattle.tclvalue.specs.Commands.{command_value}
@@ -46,9 +46,9 @@ other_command : command_value (codes "set" ∷ codes "a" ∷ []) 100 ≡ Ok None
 unfolding numeral digits chars encode list_of list_at element_at piece_of piece_at white_space split_space
 other_command = refl
 
-option_left_out : command_value (codes "string" ∷ codes "equal" ∷ codes "-nocase" ∷ codes "a" ∷ codes "b" ∷ []) 100 ≡ Err (left_out (codes "string -nocase"))
+unsupported_option : command_value (codes "string" ∷ codes "equal" ∷ codes "-nocase" ∷ codes "a" ∷ codes "b" ∷ []) 100 ≡ Err (unsupported (codes "string -nocase"))
 unfolding numeral digits chars encode list_of list_at element_at piece_of piece_at white_space split_space
-option_left_out = refl
+unsupported_option = refl
 
 option_compared : command_value (codes "string" ∷ codes "equal" ∷ codes "-nocase" ∷ codes "a" ∷ []) 100 ≡ Ok (Some (codes "0"))
 unfolding numeral digits chars encode list_of list_at element_at piece_of piece_at white_space split_space

@@ -4,8 +4,8 @@ use Rattle.std.specs.Prelude.{◌==◌, ◌||◌, ◌&&◌, if◌then◌else◌}
 use Rattle.std.proofs.lemmas.Bool.{eqb-true, eq-eqb, or_cases, and_parts, not-true}
 use Rattle.std.proofs.lemmas.Bool.Decides.{nat_tests}
 use Rattle.tclchars.specs.Runs.{Text}
-use Rattle.tclpattern.specs.Patterns.{star, question, open_bracket, close_bracket, backslash, dash, is_between, is_ordinary, no_dash, behind_close, HoldsIn, as_item, in_range, past_item, past_range, IsMatch, both_end, any_text, any_character, in_set, escaped, itself}
-use Rattle.tclvalue.specs.Globs.{where_holds, behind_set, after_set, after_escape, matches_first, matches_from, matches_nothing, matches}
+use Rattle.tclpattern.specs.Patterns.{star, question, open_bracket, close_bracket, backslash, dash, is_between, is_ordinary, no_dash, after_close, HoldsIn, as_item, in_range, past_item, past_range, IsMatch, both_end, any_text, any_character, in_set, escaped, itself}
+use Rattle.tclvalue.specs.Globs.{where_holds, rest_after_set, after_set, after_escape, matches_first, matches_from, matches_nothing, matches}
 use Rattle.tclvalue.proofs.GlobLemmas.{item, behind_item, set_step}
 
 plain_item : (low : ℕ) (ps : Text) → no_dash ps ≡ true → item low ps ≡ Some (low, ps)
@@ -19,13 +19,13 @@ holds_self c = grind (arith, nat_tests)
 self_only : (b c : ℕ) → (b == c) ≡ false → is_between b b c ≡ false
 self_only b c h = grind (arith, nat_tests)
 
-set_found : (c : ℕ) (ps rest : Text) → HoldsIn c ps rest → behind_set c ps ≡ Some rest
-set_found c ps rest (as_item {ps = qs} open_item plain) = behind_item c c qs open_item ∙ ap (set_step c c) (plain_item c qs plain) ∙ ap (λ b. where_holds b qs (behind_set c qs)) (holds_self c)
-set_found c ps rest (in_range {low = low} {high = high} {ps = qs} open_item inside) = behind_item c low (dash ∷ (high ∷ qs)) open_item ∙ ap (λ b. where_holds b qs (behind_set c qs)) inside
+set_found : (c : ℕ) (ps rest : Text) → HoldsIn c ps rest → rest_after_set c ps ≡ Some rest
+set_found c ps rest (as_item {ps = qs} open_item plain) = behind_item c c qs open_item ∙ ap (set_step c c) (plain_item c qs plain) ∙ ap (λ b. where_holds b qs (rest_after_set c qs)) (holds_self c)
+set_found c ps rest (in_range {low = low} {high = high} {ps = qs} open_item inside) = behind_item c low (dash ∷ (high ∷ qs)) open_item ∙ ap (λ b. where_holds b qs (rest_after_set c qs)) inside
 set_found c ps rest (past_item {b = b} {ps = qs} open_item other plain more) =
-    behind_item c b qs open_item ∙ ap (set_step c b) (plain_item b qs plain) ∙ ap (λ t. where_holds t qs (behind_set c qs)) (self_only b c other) ∙ set_found c qs rest more
+    behind_item c b qs open_item ∙ ap (set_step c b) (plain_item b qs plain) ∙ ap (λ t. where_holds t qs (rest_after_set c qs)) (self_only b c other) ∙ set_found c qs rest more
 set_found c ps rest (past_range {low = low} {high = high} {ps = qs} open_item outside more) =
-    behind_item c low (dash ∷ (high ∷ qs)) open_item ∙ ap (λ t. where_holds t qs (behind_set c qs)) outside ∙ set_found c qs rest more
+    behind_item c low (dash ∷ (high ∷ qs)) open_item ∙ ap (λ t. where_holds t qs (rest_after_set c qs)) outside ∙ set_found c qs rest more
 
 star_takes : (ps taken rest : Text) → matches ps rest ≡ true → matches (star ∷ ps) (taken ++ rest) ≡ true
 star_takes ps [] [] h = h
@@ -54,8 +54,8 @@ match_passes ps cs (escaped {c = c} {ps = qs} {cs = ds} m) = ap (λ b. b && matc
 match_passes ps cs (itself {c = c} {ps = qs} {cs = ds} plain m) = first_itself (λ rs. matches rs ds) (matches_from (λ rs. matches rs ds) c qs) c qs plain ∙ match_passes qs ds m
 
 -- a set that holds the character is one of the relation
-close_of : (b : Bool) (ps rest : Text) (more : Option Text) (c : ℕ) (all : Text) → where_holds b ps more ≡ Some rest → (b ≡ true → HoldsIn c all (behind_close ps)) → (b ≡ false → more ≡ Some rest → HoldsIn c all rest) → HoldsIn c all rest
-close_of true ps rest more c all h f g = let e : behind_close ps ≡ rest = cc in subst (HoldsIn c all) e (f refl)
+close_of : (b : Bool) (ps rest : Text) (more : Option Text) (c : ℕ) (all : Text) → where_holds b ps more ≡ Some rest → (b ≡ true → HoldsIn c all (after_close ps)) → (b ≡ false → more ≡ Some rest → HoldsIn c all rest) → HoldsIn c all rest
+close_of true ps rest more c all h f g = let e : after_close ps ≡ rest = cc in subst (HoldsIn c all) e (f refl)
 close_of false ps rest more c all h f g = g refl h
 
 nothing_found : {P : Type 0} (rest : Text) → (let none : Option Text = None in none ≡ Some rest) → P
@@ -65,35 +65,35 @@ or_parts : (x y : Bool) → (x || y) ≡ false → (x ≡ false) × (y ≡ false
 or_parts true y h = absurd (let f : ⊥ = cc in f)
 or_parts false y h = (refl, h)
 
-is_item : (c low : ℕ) (ps : Text) → (low == c) ≡ true → (low == close_bracket) ≡ false → no_dash ps ≡ true → HoldsIn c (low ∷ ps) (behind_close ps)
+is_item : (c low : ℕ) (ps : Text) → (low == c) ≡ true → (low == close_bracket) ≡ false → no_dash ps ≡ true → HoldsIn c (low ∷ ps) (after_close ps)
 is_item c low ps e other plain =
     let same : low ≡ c = eqb-true low c e in
-    subst (λ x. HoldsIn c (x ∷ ps) (behind_close ps)) (sym same) (as_item (subst (λ x. (x == close_bracket) ≡ false) same other) plain)
+    subst (λ x. HoldsIn c (x ∷ ps) (after_close ps)) (sym same) (as_item (subst (λ x. (x == close_bracket) ≡ false) same other) plain)
 
-item_of : (c low : ℕ) (ps rest : Text) → (low == close_bracket) ≡ false → no_dash ps ≡ true → (behind_set c ps ≡ Some rest → HoldsIn c ps rest) → where_holds (low == c) ps (behind_set c ps) ≡ Some rest → HoldsIn c (low ∷ ps) rest
-item_of c low ps rest other plain more h = close_of (low == c) ps rest (behind_set c ps) c (low ∷ ps) h (λ e. is_item c low ps e other plain) (λ e m. past_item other e plain (more m))
+item_of : (c low : ℕ) (ps rest : Text) → (low == close_bracket) ≡ false → no_dash ps ≡ true → (rest_after_set c ps ≡ Some rest → HoldsIn c ps rest) → where_holds (low == c) ps (rest_after_set c ps) ≡ Some rest → HoldsIn c (low ∷ ps) rest
+item_of c low ps rest other plain more h = close_of (low == c) ps rest (rest_after_set c ps) c (low ∷ ps) h (λ e. is_item c low ps e other plain) (λ e m. past_item other e plain (more m))
 
-range_of : (c low high : ℕ) (ps rest : Text) → (low == close_bracket) ≡ false → (behind_set c ps ≡ Some rest → HoldsIn c ps rest) → where_holds (is_between low high c) ps (behind_set c ps) ≡ Some rest → HoldsIn c (low ∷ (dash ∷ (high ∷ ps))) rest
-range_of c low high ps rest other more h = close_of (is_between low high c) ps rest (behind_set c ps) c (low ∷ (dash ∷ (high ∷ ps))) h (λ e. in_range other e) (λ e m. past_range other e (more m))
+range_of : (c low high : ℕ) (ps rest : Text) → (low == close_bracket) ≡ false → (rest_after_set c ps ≡ Some rest → HoldsIn c ps rest) → where_holds (is_between low high c) ps (rest_after_set c ps) ≡ Some rest → HoldsIn c (low ∷ (dash ∷ (high ∷ ps))) rest
+range_of c low high ps rest other more h = close_of (is_between low high c) ps rest (rest_after_set c ps) c (low ∷ (dash ∷ (high ∷ ps))) h (λ e. in_range other e) (λ e m. past_range other e (more m))
 
-single_of : (c low : ℕ) (ps rest : Text) (t : Bool) → (t ≡ false → (low == close_bracket) ≡ false) → (t ≡ false → no_dash ps ≡ true) → (behind_set c ps ≡ Some rest → HoldsIn c ps rest)
-    → (if t then None else where_holds (low == c) ps (behind_set c ps)) ≡ Some rest → HoldsIn c (low ∷ ps) rest
+single_of : (c low : ℕ) (ps rest : Text) (t : Bool) → (t ≡ false → (low == close_bracket) ≡ false) → (t ≡ false → no_dash ps ≡ true) → (rest_after_set c ps ≡ Some rest → HoldsIn c ps rest)
+    → (if t then None else where_holds (low == c) ps (rest_after_set c ps)) ≡ Some rest → HoldsIn c (low ∷ ps) rest
 single_of c low ps rest true other plain more h = nothing_found rest h
 single_of c low ps rest false other plain more h = item_of c low ps rest (other refl) (plain refl) more h
 
-either_of : (c low d high : ℕ) (ps rest : Text) (t : Bool) → (d == dash) ≡ t → (low == close_bracket) ≡ false → (behind_set c ps ≡ Some rest → HoldsIn c ps rest)
-    → (behind_set c (d ∷ high ∷ ps) ≡ Some rest → HoldsIn c (d ∷ high ∷ ps) rest)
-    → (if t then where_holds (is_between low high c) ps (behind_set c ps) else where_holds (low == c) (d ∷ high ∷ ps) (behind_set c (d ∷ high ∷ ps))) ≡ Some rest → HoldsIn c (low ∷ d ∷ high ∷ ps) rest
+either_of : (c low d high : ℕ) (ps rest : Text) (t : Bool) → (d == dash) ≡ t → (low == close_bracket) ≡ false → (rest_after_set c ps ≡ Some rest → HoldsIn c ps rest)
+    → (rest_after_set c (d ∷ high ∷ ps) ≡ Some rest → HoldsIn c (d ∷ high ∷ ps) rest)
+    → (if t then where_holds (is_between low high c) ps (rest_after_set c ps) else where_holds (low == c) (d ∷ high ∷ ps) (rest_after_set c (d ∷ high ∷ ps))) ≡ Some rest → HoldsIn c (low ∷ d ∷ high ∷ ps) rest
 either_of c low d high ps rest true e other more next h = subst (λ x. HoldsIn c (low ∷ (x ∷ (high ∷ ps))) rest) (sym (eqb-true d dash e)) (range_of c low high ps rest other more h)
 either_of c low d high ps rest false e other more next h = item_of c low (d ∷ high ∷ ps) rest other (ap not e) next h
 
-long_of : (c low d high : ℕ) (ps rest : Text) (t : Bool) → (low == close_bracket) ≡ t → (behind_set c ps ≡ Some rest → HoldsIn c ps rest)
-    → (behind_set c (d ∷ high ∷ ps) ≡ Some rest → HoldsIn c (d ∷ high ∷ ps) rest)
-    → (if t then None else if d == dash then where_holds (is_between low high c) ps (behind_set c ps) else where_holds (low == c) (d ∷ high ∷ ps) (behind_set c (d ∷ high ∷ ps))) ≡ Some rest → HoldsIn c (low ∷ d ∷ high ∷ ps) rest
+long_of : (c low d high : ℕ) (ps rest : Text) (t : Bool) → (low == close_bracket) ≡ t → (rest_after_set c ps ≡ Some rest → HoldsIn c ps rest)
+    → (rest_after_set c (d ∷ high ∷ ps) ≡ Some rest → HoldsIn c (d ∷ high ∷ ps) rest)
+    → (if t then None else if d == dash then where_holds (is_between low high c) ps (rest_after_set c ps) else where_holds (low == c) (d ∷ high ∷ ps) (rest_after_set c (d ∷ high ∷ ps))) ≡ Some rest → HoldsIn c (low ∷ d ∷ high ∷ ps) rest
 long_of c low d high ps rest true e more next h = nothing_found rest h
 long_of c low d high ps rest false e more next h = either_of c low d high ps rest (d == dash) refl e more next h
 
-set_of : (c : ℕ) (ps rest : Text) → behind_set c ps ≡ Some rest → HoldsIn c ps rest
+set_of : (c : ℕ) (ps rest : Text) → rest_after_set c ps ≡ Some rest → HoldsIn c ps rest
 set_of c [] rest h = nothing_found rest h
 set_of c (low ∷ []) rest h = single_of c low [] rest (low == close_bracket) (λ e. e) (λ e. refl) (nothing_found rest) h
 set_of c (low ∷ d ∷ []) rest h =
@@ -118,7 +118,7 @@ pick : {P : Type 0} (t x y : Bool) → (if t then x else y) ≡ true → (t ≡ 
 pick true x y h f g = f refl h
 pick false x y h f g = g refl h
 
-set_case : (c : ℕ) (cs ps : Text) (o : Option Text) → ((qs : Text) → matches qs cs ≡ true → IsMatch qs cs) → behind_set c ps ≡ o → after_set (λ qs. matches qs cs) o ≡ true → IsMatch (open_bracket ∷ ps) (c ∷ cs)
+set_case : (c : ℕ) (cs ps : Text) (o : Option Text) → ((qs : Text) → matches qs cs ≡ true → IsMatch qs cs) → rest_after_set c ps ≡ o → after_set (λ qs. matches qs cs) o ≡ true → IsMatch (open_bracket ∷ ps) (c ∷ cs)
 set_case c cs ps None ih e h = absurd (let f : ⊥ = cc in f)
 set_case c cs ps (Some rest) ih e h = in_set (set_of c ps rest e) (ih rest h)
 
@@ -149,7 +149,7 @@ from_of c cs ih [] h = absurd (let f : ⊥ = cc in f)
 from_of c cs ih (p ∷ ps) h =
     pick (p == star) _ _ h (λ e k. star_case c p cs ps ih (eqb-true p star e) (from_of c cs ih ps) k)
     (λ e1 h1. pick (p == question) _ _ h1 (λ e k. subst (λ x. IsMatch (x ∷ ps) (c ∷ cs)) (sym (eqb-true p question e)) (any_character (ih ps k)))
-    (λ e2 h2. pick (p == open_bracket) _ _ h2 (λ e k. subst (λ x. IsMatch (x ∷ ps) (c ∷ cs)) (sym (eqb-true p open_bracket e)) (set_case c cs ps (behind_set c ps) ih refl k))
+    (λ e2 h2. pick (p == open_bracket) _ _ h2 (λ e k. subst (λ x. IsMatch (x ∷ ps) (c ∷ cs)) (sym (eqb-true p open_bracket e)) (set_case c cs ps (rest_after_set c ps) ih refl k))
     (λ e3 h3. pick (p == backslash) _ _ h3 (λ e k. subst (λ x. IsMatch (x ∷ ps) (c ∷ cs)) (sym (eqb-true p backslash e)) (escape_case c cs ps ih k))
     (λ e4 h4. plain_case c p cs ps ih (ordinary p e1 e2 e3 e4) h4))))
 

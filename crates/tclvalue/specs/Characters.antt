@@ -5,7 +5,7 @@ use Rattle.std.specs.Str.{chars, encode_utf8_all}
 use Rattle.tclchars.specs.Bytes.{newline}
 use Rattle.tclchars.specs.Runs.{Text}
 use Rattle.tcloperators.specs.Operators.{is_nil}
-use Rattle.tclvalue.specs.Indexes.{Index, place, items_between}
+use Rattle.tclvalue.specs.Indexes.{Index, position, items_between}
 
 -- a character is one of a set
 abbrev pub is_among : Text → ℕ → Bool
@@ -17,13 +17,13 @@ without_start set [] = []
 without_start set (c ∷ cs) = if is_among set c then without_start set cs else c ∷ cs
 
 -- a character and what is left of those after it; the last is dropped where it is one of the set
-abbrev pub kept_end : Text → ℕ → Text → Text
-kept_end set c [] = if is_among set c then [] else c ∷ []
-kept_end set c (d ∷ ds) = c ∷ (d ∷ ds)
+abbrev pub trim_last : Text → ℕ → Text → Text
+trim_last set c [] = if is_among set c then [] else c ∷ []
+trim_last set c (d ∷ ds) = c ∷ (d ∷ ds)
 
 abbrev pub without_end : Text → Text → Text
 without_end set [] = []
-without_end set (c ∷ cs) = kept_end set c (without_end set cs)
+without_end set (c ∷ cs) = trim_last set c (without_end set cs)
 
 -- the runs of characters between those of a set (split(n)); without a set each character, and of no text none
 abbrev pub pieces : Text → Text → List Text
@@ -42,7 +42,7 @@ joined separator (t ∷ ts) = t ++ joined_rest separator ts
 
 -- the texts of runs of characters
 abbrev pub encoded_all : List Text → List Text
-encoded_all rows = map encode_utf8_all rows
+encoded_all character_runs = map encode_utf8_all character_runs
 
 -- the text without the characters of a set at both its ends, at the start alone, and at the end alone
 abbrev pub trimmed : Text → Text → Text
@@ -57,7 +57,7 @@ trimmed_right set t = encode_utf8_all (without_end (chars set) (chars t))
 -- the characters of a text from one index to another, both included, as far as there are such characters
 abbrev pub characters_between : Index → Index → Text → Text
 characters_between i j t =
-    encode_utf8_all (items_between (place (length (chars t)) i) (place (length (chars t)) j) (chars t))
+    encode_utf8_all (items_between (position (length (chars t)) i) (position (length (chars t)) j) (chars t))
 
 -- the parts of a text between the characters of a set, as texts
 abbrev pub parts : Text → Text → List Text

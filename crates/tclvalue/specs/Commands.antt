@@ -8,13 +8,13 @@ use Rattle.std.specs.List.{repeat}
 use Rattle.std.specs.Str.{chars}
 use Rattle.tclchars.specs.Runs.{Text}
 use Rattle.tcllist.specs.Lists.{list_text}
-use Rattle.tcloperators.specs.Faults.{Answer, ◌>>=◌, error, left_out}
+use Rattle.tcloperators.specs.Faults.{Answer, ◌>>=◌, error, unsupported}
 use Rattle.tcloperators.specs.Messages.{wrong_words}
 use Rattle.tcloperators.specs.Operators.{truth_text, text_order, is_nil}
 use Rattle.tcloperators.specs.Elements.{elements_of}
 use Rattle.tclvalue.specs.Limits.{limited}
-use Rattle.tclvalue.specs.Indexes.{Index, index_of, place, item_at, items_between, count_of, at_least_0}
-use Rattle.tclvalue.specs.Searches.{first_place, last_place, pairs_of, mapped}
+use Rattle.tclvalue.specs.Indexes.{Index, index_of, position, item_at, items_between, count_of, at_least_0}
+use Rattle.tclvalue.specs.Searches.{first_position, last_position, pairs_of, mapped}
 use Rattle.tclvalue.specs.Globs.{glob}
 use Rattle.tclvalue.specs.Characters.{trimmed, trimmed_left, trimmed_right, characters_between, parts, joined, concatenated}
 use Rattle.tclvalue.specs.Characters.{white_space, split_space}
@@ -33,13 +33,13 @@ order_text Less = codes "-1"
 order_text Equal = codes "0"
 order_text Greater = codes "1"
 
-abbrev pub place_text : Option ℕ → Text
-place_text None = codes "-1"
-place_text (Some k) = decimal k
+abbrev pub position_text : Option ℕ → Text
+position_text None = codes "-1"
+position_text (Some k) = decimal k
 
 -- the position of a text in another by this search; the empty text is never found
-abbrev pub sought_place : (Text → Text → Option ℕ) → Text → Text → Option ℕ
-sought_place find sought t = if is_nil sought then None else find (chars sought) (chars t)
+abbrev pub sought_position : (Text → Text → Option ℕ) → Text → Text → Option ℕ
+sought_position find sought t = if is_nil sought then None else find (chars sought) (chars t)
 
 -- the subcommands of string, by the head of string(n)
 abbrev pub string_length : ValueFunction
@@ -67,11 +67,11 @@ string_match (pattern ∷ t ∷ []) = Ok (truth_text (glob pattern t))
 string_match words = wrong_number (codes "string")
 
 abbrev pub string_first : ValueFunction
-string_first (sought ∷ t ∷ []) = Ok (place_text (sought_place first_place sought t))
+string_first (sought ∷ t ∷ []) = Ok (position_text (sought_position first_position sought t))
 string_first words = wrong_number (codes "string")
 
 abbrev pub string_last : ValueFunction
-string_last (sought ∷ t ∷ []) = Ok (place_text (sought_place last_place sought t))
+string_last (sought ∷ t ∷ []) = Ok (position_text (sought_position last_position sought t))
 string_last words = wrong_number (codes "string")
 
 abbrev pub string_map : ValueFunction
@@ -108,7 +108,7 @@ option_in words = None
 -- an option is refused before a wrong number of words
 abbrev pub unless_option : Option Text → Answer Text → Answer Text
 unless_option None answer = answer
-unless_option (Some word) answer = Err (left_out (codes "string " ++ word))
+unless_option (Some word) answer = Err (unsupported (codes "string " ++ word))
 
 abbrev pub with_options : ValueFunction → ValueFunction
 with_options command words = unless_option (option_in words) (command words)
@@ -132,15 +132,15 @@ subcommand_named name =
     else None
 
 abbrev pub subcommand_value : Text → List Text → Option ValueFunction → Answer Text
-subcommand_value name words None = Err (left_out (codes "string " ++ name))
+subcommand_value name words None = Err (unsupported (codes "string " ++ name))
 subcommand_value name words (Some command) = command words
 
 -- the element of a list at an index, or the empty text outside of the list
 abbrev pub element_at : Index → List Text → Text
-element_at i es = unwrap_or (item_at (place (length es) i) es) []
+element_at i es = unwrap_or (item_at (position (length es) i) es) []
 
 abbrev pub elements_between : Index → Index → List Text → List Text
-elements_between i j es = items_between (place (length es) i) (place (length es) j) es
+elements_between i j es = items_between (position (length es) i) (position (length es) j) es
 
 -- the commands on lists, and string
 abbrev pub list_command : ValueFunction

@@ -3,25 +3,25 @@
 use Rattle.std.specs.Prelude.{◌≡◌, ◌↔◌, ℕ, [], ◌∷◌, Bool, true, false, ◌||◌, ◌&&◌, ◌==◌, if◌then◌else◌, Option, Some, None}
 use Rattle.std.specs.Str.{chars}
 use Rattle.tclchars.specs.Runs.{Text}
-use Rattle.tclpattern.specs.Patterns.{star, question, open_bracket, close_bracket, backslash, dash, is_between, behind_close, IsMatch}
+use Rattle.tclpattern.specs.Patterns.{star, question, open_bracket, close_bracket, backslash, dash, is_between, after_close, IsMatch}
 
 -- the pattern after the closing bracket, where the item has the character; else what more answers
 abbrev pub where_holds : Bool → Text → Option Text → Option Text
-where_holds true ps more = Some (behind_close ps)
+where_holds true ps more = Some (after_close ps)
 where_holds false ps more = more
 
 -- The rest of a pattern after a set that has the character. The set is given from after its opening bracket, and its
 -- items are read from the left: a range of two characters, or a character. None where it doesn't have the character:
 -- a closing bracket comes before an item with it, or the pattern ends, or ends directly after the dash of a range
-abbrev pub behind_set : ℕ → Text → Option Text
-behind_set c [] = None
-behind_set c (low ∷ []) = if low == close_bracket then None else where_holds (low == c) [] None
-behind_set c (low ∷ d ∷ []) =
-    if low == close_bracket || d == dash then None else where_holds (low == c) (d ∷ []) (behind_set c (d ∷ []))
-behind_set c (low ∷ d ∷ high ∷ ps) =
+abbrev pub rest_after_set : ℕ → Text → Option Text
+rest_after_set c [] = None
+rest_after_set c (low ∷ []) = if low == close_bracket then None else where_holds (low == c) [] None
+rest_after_set c (low ∷ d ∷ []) =
+    if low == close_bracket || d == dash then None else where_holds (low == c) (d ∷ []) (rest_after_set c (d ∷ []))
+rest_after_set c (low ∷ d ∷ high ∷ ps) =
     if low == close_bracket then None
-    else if d == dash then where_holds (is_between low high c) ps (behind_set c ps)
-    else where_holds (low == c) (d ∷ high ∷ ps) (behind_set c (d ∷ high ∷ ps))
+    else if d == dash then where_holds (is_between low high c) ps (rest_after_set c ps)
+    else where_holds (low == c) (d ∷ high ∷ ps) (rest_after_set c (d ∷ high ∷ ps))
 
 -- the rest of the pattern is judged by rest: after a set, and after a backslash with the character that it stands for
 abbrev pub after_set : (Text → Bool) → Option Text → Bool
@@ -38,7 +38,7 @@ abbrev pub matches_first : (Text → Bool) → Bool → ℕ → ℕ → Text →
 matches_first rest without c p ps =
     if p == star then without || rest (p ∷ ps)
     else if p == question then rest ps
-    else if p == open_bracket then after_set rest (behind_set c ps)
+    else if p == open_bracket then after_set rest (rest_after_set c ps)
     else if p == backslash then after_escape rest c ps
     else p == c && rest ps
 

@@ -1,23 +1,23 @@
 -- Indexes of lists and texts (lindex(n), string(n)): a whole number, end, or end-N.
 use Rattle.std.specs.Prelude.{ℕ, List, [], ◌∷◌, Bool, false, ◌==◌, nat_lt, if◌then◌else◌, ℤ, pos, negsuc, ◌+ℤ◌, ◌-ℤ◌, Option, Some, None, Ok, Err, take, drop, slice_get, bytes_eq, codes}
 use Rattle.tclchars.specs.Runs.{Text}
-use Rattle.tcltext.specs.Numerals.{numeral}
+use Rattle.tclnumber.specs.Numerals.{numeral}
 use Rattle.tclchars.specs.Bytes.{is_space}
-use Rattle.tcltext.specs.declared.number.Numeral.{Numeral}
-use Rattle.tcltext.specs.declared.number.Numeral.TheVariants as numerals
+use Rattle.tclnumber.specs.declared.number.Numeral.{Numeral}
+use Rattle.tclnumber.specs.declared.number.Numeral.TheVariants as numerals
 use Rattle.tclvalue.specs.Faults.{Answer, ◌>>=◌, error, number_too_large, fraction}
-use Rattle.tclvalue.specs.Messages.{bad_index, no_whole_number}
+use Rattle.tclvalue.specs.Messages.{bad_index, not_a_whole_number}
 
 -- an index as it is spelled: counted from 0, the first item, or back from the last
 pub data Index : Type 0 where
-  from_start : (place : ℤ) → Index
+  from_start : (position : ℤ) → Index
   from_end : (back : ℤ) → Index
 
 -- the rest of a text that begins with another; None where it doesn't
-abbrev pub after_front : Text → Text → Option Text
-after_front [] t = Some t
-after_front (c ∷ cs) [] = None
-after_front (c ∷ cs) (d ∷ ds) = if c == d then after_front cs ds else None
+abbrev pub after_prefix : Text → Text → Option Text
+after_prefix [] t = Some t
+after_prefix (c ∷ cs) [] = None
+after_prefix (c ∷ cs) (d ∷ ds) = if c == d then after_prefix cs ds else None
 
 -- the text begins with white space
 abbrev pub begins_space : Text → Bool
@@ -32,27 +32,27 @@ index_number word numerals.Fraction = Err fraction
 index_number word numerals.Text = Err (error (bad_index word))
 
 -- the index of a word, by its rest after end-, which begins with no white space; None where the word has no end-
-abbrev pub index_behind : Text → Option Text → Answer Index
-index_behind word (Some rest) =
+abbrev pub index_after_end : Text → Option Text → Answer Index
+index_after_end word (Some rest) =
     if begins_space rest then Err (error (bad_index word))
     else index_number word (numeral rest) >>= (λ z. Ok (from_end z))
-index_behind word None = index_number word (numeral word) >>= (λ z. Ok (from_start z))
+index_after_end word None = index_number word (numeral word) >>= (λ z. Ok (from_start z))
 
 -- the index that a word spells
 abbrev pub index_of : Text → Answer Index
 index_of word =
     if bytes_eq word (codes "end") then Ok (from_end (pos 0))
-    else index_behind word (after_front (codes "end-") word)
+    else index_after_end word (after_prefix (codes "end-") word)
 
 -- the position of an index among so many items, counted from 0; it may lie outside of them
-abbrev pub place : ℕ → Index → ℤ
-place n (from_start z) = z
-place n (from_end z) = pos n -ℤ pos 1 -ℤ z
+abbrev pub position : ℕ → Index → ℤ
+position n (from_start z) = z
+position n (from_end z) = pos n -ℤ pos 1 -ℤ z
 
 -- the position, where it is that of one of so many items
-abbrev pub place_among : ℕ → ℤ → Option ℕ
-place_among n (pos k) = if nat_lt k n then Some k else None
-place_among n (negsuc k) = None
+abbrev pub position_among : ℕ → ℤ → Option ℕ
+position_among n (pos k) = if nat_lt k n then Some k else None
+position_among n (negsuc k) = None
 
 -- the item at a position, if there is one
 abbrev pub item_at : {X : Type 0} → ℤ → List X → Option X
@@ -73,7 +73,7 @@ abbrev pub whole_number : Text → Numeral → Answer ℤ
 whole_number word (numerals.Whole z) = Ok z
 whole_number word numerals.TooLarge = Err number_too_large
 whole_number word numerals.Fraction = Err fraction
-whole_number word numerals.Text = Err (error (no_whole_number word))
+whole_number word numerals.Text = Err (error (not_a_whole_number word))
 
 abbrev pub count_of : Text → Answer ℤ
 count_of word = whole_number word (numeral word)

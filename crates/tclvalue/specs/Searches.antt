@@ -10,16 +10,16 @@ use Rattle.tcloperators.specs.Messages.{not_a_list}
 use Rattle.tcloperators.specs.Operators.{is_nil}
 
 -- the first position at which a text stands in another
-abbrev pub first_place : Text → Text → Option ℕ
-first_place sought [] = None
-first_place sought (c ∷ cs) =
-    if starts_with nat_eq (c ∷ cs) sought then Some 0 else option_map suc (first_place sought cs)
+abbrev pub first_position : Text → Text → Option ℕ
+first_position sought [] = None
+first_position sought (c ∷ cs) =
+    if starts_with nat_eq (c ∷ cs) sought then Some 0 else option_map suc (first_position sought cs)
 
 -- the last position at which a text stands in another
-abbrev pub last_place : Text → Text → Option ℕ
-last_place sought [] = None
-last_place sought (c ∷ cs) =
-    option_or (option_map suc (last_place sought cs)) (if starts_with nat_eq (c ∷ cs) sought then Some 0 else None)
+abbrev pub last_position : Text → Text → Option ℕ
+last_position sought [] = None
+last_position sought (c ∷ cs) =
+    option_or (option_map suc (last_position sought cs)) (if starts_with nat_eq (c ∷ cs) sought then Some 0 else None)
 
 -- a key and the text that replaces it
 abbrev pub Pair : Type 0

@@ -1,15 +1,15 @@
 //! Indexes of lists and texts (lindex(n), string(n)): a whole number, `end`, or `end-N`.
 ghost use Rattle.std.specs.Prelude.{◌≡◌, ◌+ℤ◌, ℤ, pos, min, length, Some, Ok};
-ghost use Rattle.tcltext.specs.Numerals.{numeral};
+ghost use Rattle.tclnumber.specs.Numerals.{numeral};
 ghost use Rattle.tclchars.specs.Answers.{Gives};
 ghost use Rattle.tcloperators.specs.Faults.{reason_of};
-ghost use Rattle.tclvalue.specs.Indexes.{index_of, index_behind, index_number, begins_space, count_of};
-ghost use Rattle.tclvalue.specs.Indexes.{place, place_among, at_least_0, items_between};
+ghost use Rattle.tclvalue.specs.Indexes.{index_of, index_after_end, index_number, begins_space, count_of};
+ghost use Rattle.tclvalue.specs.Indexes.{position, position_among, at_least_0, items_between};
 ghost use Rattle.tclvalue.specs.Views.{index_view};
 
 use std::alloc::Global;
-use tcloperators::{ValueFault, bad_index, no_whole_number};
-use tcltext::{Numeral, read_number};
+use tclnumber::{Numeral, read_number};
+use tcloperators::{ValueFault, bad_index, not_a_whole_number};
 
 /// The byte of a vertical tab.
 const VERTICAL_TAB: u8 = 11;
@@ -28,13 +28,13 @@ pub(crate) enum Index {
 
 impl Index {
     /// The position, from 0, among so many items; None outside of them.
-    pub(crate) fn place(self, length: usize) -> Option<usize>
-        ensures { result ≡ place_among length (place length (index_view self)) }
+    pub(crate) fn position(self, length: usize) -> Option<usize>
+        ensures { result ≡ position_among length (position length (index_view self)) }
     {
         match self {
             Index::FromStart(number) => usize::try_from(number)
                 .ok()
-                .filter(|place| *place < length),
+                .filter(|position| *position < length),
             Index::FromEnd(number) => match usize::try_from(number) {
                 Ok(back) if back < length => Some(length - 1 - back),
                 _ => None,
@@ -44,7 +44,7 @@ impl Index {
 
     /// How many of so many items are before the index.
     pub(crate) fn items_before(self, length: usize) -> usize
-        ensures { result ≡ min (at_least_0 (place length (index_view self))) length }
+        ensures { result ≡ min (at_least_0 (position length (index_view self))) length }
     {
         match self {
             Index::FromStart(number) => usize::try_from(number).unwrap_or(0).min(length),
@@ -57,11 +57,11 @@ impl Index {
 
     /// How many of so many items are before the index or at it.
     pub(crate) fn items_through(self, length: usize) -> usize
-        ensures { result ≡ min (at_least_0 (place length (index_view self) +ℤ pos 1)) length }
+        ensures { result ≡ min (at_least_0 (position length (index_view self) +ℤ pos 1)) length }
     {
         match self {
             Index::FromStart(number) => match usize::try_from(number) {
-                Ok(place) if place < length => place + 1,
+                Ok(position) if position < length => position + 1,
                 Ok(_) => length,
                 Err(_) => 0,
             },
@@ -81,14 +81,14 @@ pub(crate) fn index_of(alloc: Global, word: &str) -> Result<Index, ValueFault>
         return Ok(Index::FromEnd(0));
     }
     match word.strip_prefix("end-") {
-        Some(rest) => index_behind(alloc, word, rest),
+        Some(rest) => index_after_end(alloc, word, rest),
         None => number_in(alloc, word, word).map(Index::FromStart),
     }
 }
 
 /// The index of a word that is `end-` and the rest.
-fn index_behind(alloc: Global, word: &str, rest: &str) -> Result<Index, ValueFault>
-    ensures { Gives reason_of index_view result (index_behind word.now (Some rest.now)) }
+fn index_after_end(alloc: Global, word: &str, rest: &str) -> Result<Index, ValueFault>
+    ensures { Gives reason_of index_view result (index_after_end word.now (Some rest.now)) }
 {
     if begins_space(rest) {
         return Err(bad_index(alloc, word));
@@ -132,14 +132,14 @@ pub fn count_of(alloc: Global, word: &str) -> Result<i64, ValueFault>
         Numeral::Whole(number) => Ok(number),
         Numeral::TooLarge => Err(ValueFault::NumberTooLarge),
         Numeral::Fraction => Err(ValueFault::FractionOperand),
-        Numeral::Text => Err(no_whole_number(alloc, word)),
+        Numeral::Text => Err(not_a_whole_number(alloc, word)),
     }
 }
 
 /// The items from one index to another, both included, as far as there are such items.
 pub(crate) fn between<T>(items: &[T], first: Index, last: Index) -> &[T]
-    ensures { result.now ≡ items_between (place (length items.entry.now) (index_view first))
-        (place (length items.entry.now) (index_view last)) items.entry.now }
+    ensures { result.now ≡ items_between (position (length items.entry.now) (index_view first))
+        (position (length items.entry.now) (index_view last)) items.entry.now }
 {
     let start = first.items_before(items.len());
     let end = last.items_through(items.len());

@@ -80,8 +80,8 @@ fn indexed_element(
 fn element_at(elements: &[String], index: Index) -> &str
     ensures { result.now ≡ element_at (index_view index) (map string_bytes elements.entry.now) }
 {
-    match index.place(elements.len()) {
-        Some(place) => &elements[place],
+    match index.position(elements.len()) {
+        Some(position) => &elements[position],
         None => "",
     }
 }

@@ -57,12 +57,12 @@ fn push_joined_rest(out: &mut Bounded, separator: &str, texts: &[String]) -> Res
 }
 
 /// The texts of runs of characters.
-pub(crate) fn texts_of(alloc: Global, rows: &[&[char]]) -> Result<Vec<String>, AllocError>
-    ensures { IfOk result (λ v. map string_bytes v.items ≡ encoded_all (map (λ r. r.now) rows.now)) }
+pub(crate) fn texts_of(alloc: Global, character_runs: &[&[char]]) -> Result<Vec<String>, AllocError>
+    ensures { IfOk result (λ v. map string_bytes v.items ≡ encoded_all (map (λ r. r.now) character_runs.now)) }
 {
     let mut texts = Vec::new(alloc);
-    for row in rows {
-        texts.push(text_of(alloc, row)?)?;
+    for character_run in character_runs {
+        texts.push(text_of(alloc, character_run)?)?;
     }
     Ok(texts)
 }

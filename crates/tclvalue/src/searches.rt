@@ -6,7 +6,7 @@ ghost use Rattle.tclchars.specs.Answers.{Gives};
 ghost use Rattle.tcloperators.specs.Faults.{reason_of, GivesText};
 ghost use Rattle.tclvalue.specs.Limits.{limited};
 ghost use Rattle.tclvalue.specs.Growing.{Appends, Exceeds, StaysWithin};
-ghost use Rattle.tclvalue.specs.Searches.{first_place, last_place, fits, first_fit, pairs_of, mapped};
+ghost use Rattle.tclvalue.specs.Searches.{first_position, last_position, fits, first_fit, pairs_of, mapped};
 ghost use Rattle.tclvalue.specs.Views.{pair_view};
 
 use crate::bounded::{Bounded, limited};
@@ -15,8 +15,8 @@ use std::alloc::Global;
 use tcloperators::{ValueFault, not_a_list};
 
 /// The first position at which a text stands in another.
-pub(crate) fn first_place(sought: &[char], text: &[char]) -> Option<usize>
-    ensures { result ≡ first_place sought.now text.now }
+pub(crate) fn first_position(sought: &[char], text: &[char]) -> Option<usize>
+    ensures { result ≡ first_position sought.now text.now }
 {
     let mut rest = text;
     while let [_, after @ ..] = rest {
@@ -29,8 +29,8 @@ pub(crate) fn first_place(sought: &[char], text: &[char]) -> Option<usize>
 }
 
 /// The last position at which a text stands in another.
-pub(crate) fn last_place(sought: &[char], text: &[char]) -> Option<usize>
-    ensures { result ≡ last_place sought.now text.now }
+pub(crate) fn last_position(sought: &[char], text: &[char]) -> Option<usize>
+    ensures { result ≡ last_position sought.now text.now }
 {
     let mut rest = text;
     let mut last = None;
@@ -84,7 +84,7 @@ fn push_mapped(
 {
     let mut rest = text;
     while !rest.is_empty() {
-        rest = push_front(out, replacements, rest)?;
+        rest = push_next(out, replacements, rest)?;
     }
     Ok(())
 }
@@ -107,7 +107,7 @@ pub(crate) fn mapped(
 }
 
 /// Appends the first character of a text, or what replaces the key that it begins with. Gives the rest of the text.
-fn push_front<'a>(
+fn push_next<'a>(
     out: &mut Bounded,
     replacements: &[Replacement],
     text: &'a [char],

@@ -1,7 +1,7 @@
 //! The command `string` with its subcommands (string(n)).
 ghost use Rattle.std.specs.Prelude.{◌≡◌, map, option_map, string_bytes, IfOk};
-ghost use Rattle.tclvalue.specs.Searches.{first_place, last_place};
-ghost use Rattle.tclvalue.specs.Commands.{subcommand_value, subcommand_named, option_in, order_text, place_text, sought_place};
+ghost use Rattle.tclvalue.specs.Searches.{first_position, last_position};
+ghost use Rattle.tclvalue.specs.Commands.{subcommand_value, subcommand_named, option_in, order_text, position_text, sought_position};
 ghost use Rattle.tclvalue.specs.Commands.{string_length, string_index, string_range, string_equal, string_compare};
 ghost use Rattle.tclvalue.specs.Commands.{string_match, string_first, string_last, string_map, string_repeat};
 ghost use Rattle.tclvalue.specs.Commands.{string_trim, string_trimleft, string_trimright};
@@ -13,11 +13,11 @@ use crate::characters::{character_count, characters};
 use crate::index::{count_of, index_of};
 use crate::names::{Subcommand, is_option, subcommand_named, takes_options};
 use crate::pattern::glob;
-use crate::searches::{first_place, last_place, mapped, replacements};
+use crate::searches::{first_position, last_position, mapped, replacements};
 use crate::texts::{Ends, characters_between, repeated, trimmed_of_space_within, trimmed_within};
 use std::alloc::{AllocError, Global};
 use std::cmp::Ordering;
-use tcloperators::{ValueFault, elements, left_out, text_order, truth_text, wrong_words};
+use tcloperators::{ValueFault, elements, text_order, truth_text, unsupported, wrong_words};
 
 /// The answer of `string` to a subcommand and its operands, within a limit on its bytes.
 pub(crate) fn string_value(
@@ -30,10 +30,10 @@ pub(crate) fn string_value(
         (subcommand_named subcommand.now)) }
 {
     let Some(command) = subcommand_named(subcommand) else {
-        return Err(left_out(alloc, subcommand));
+        return Err(unsupported(alloc, subcommand));
     };
     if let Some(option) = option_of(command, operands) {
-        return Err(left_out(alloc, option));
+        return Err(unsupported(alloc, option));
     }
     operation_value(alloc, command, operands, limit)
 }
@@ -169,7 +169,7 @@ fn first_value(alloc: Global, operands: &[String], limit: usize) -> Result<Strin
     ensures { GivesWithin limit result (string_first (map string_bytes operands.now)) }
 {
     match operands {
-        [sought, text] => limited(place_text(alloc, first_of(alloc, sought, text)?)?, limit),
+        [sought, text] => limited(position_text(alloc, first_of(alloc, sought, text)?)?, limit),
         _ => Err(wrong_words(alloc, "string")),
     }
 }
@@ -179,42 +179,42 @@ fn last_value(alloc: Global, operands: &[String], limit: usize) -> Result<String
     ensures { GivesWithin limit result (string_last (map string_bytes operands.now)) }
 {
     match operands {
-        [sought, text] => limited(place_text(alloc, last_of(alloc, sought, text)?)?, limit),
+        [sought, text] => limited(position_text(alloc, last_of(alloc, sought, text)?)?, limit),
         _ => Err(wrong_words(alloc, "string")),
     }
 }
 
 /// The position of the first character of the first copy of a text in another; an empty one is never found.
 fn first_of(alloc: Global, sought: &str, text: &str) -> Result<Option<usize>, AllocError>
-    ensures { IfOk result (λ p. p ≡ sought_place first_place sought.now text.now) }
+    ensures { IfOk result (λ p. p ≡ sought_position first_position sought.now text.now) }
 {
     if sought.is_empty() {
         return Ok(None);
     }
     let sought = characters(alloc, sought)?;
     let text = characters(alloc, text)?;
-    Ok(first_place(&sought, &text))
+    Ok(first_position(&sought, &text))
 }
 
 /// The position of the first character of the last copy of a text in another; an empty one is never found.
 fn last_of(alloc: Global, sought: &str, text: &str) -> Result<Option<usize>, AllocError>
-    ensures { IfOk result (λ p. p ≡ sought_place last_place sought.now text.now) }
+    ensures { IfOk result (λ p. p ≡ sought_position last_position sought.now text.now) }
 {
     if sought.is_empty() {
         return Ok(None);
     }
     let sought = characters(alloc, sought)?;
     let text = characters(alloc, text)?;
-    Ok(last_place(&sought, &text))
+    Ok(last_position(&sought, &text))
 }
 
 /// A position as a number; -1 where there is none.
-fn place_text(alloc: Global, place: Option<usize>) -> Result<String, AllocError>
-    ensures { IfOk result (λ t. string_bytes t ≡ place_text place) }
+fn position_text(alloc: Global, position: Option<usize>) -> Result<String, AllocError>
+    ensures { IfOk result (λ t. string_bytes t ≡ position_text position) }
 {
-    match place {
+    match position {
         None => String::from_str(alloc, "-1"),
-        Some(place) => place.to_string(alloc),
+        Some(position) => position.to_string(alloc),
     }
 }
 

@@ -112,11 +112,15 @@ pub(crate) fn parts(alloc: Global, set: &str, text: &str) -> Result<Vec<String>,
     if set.is_empty() {
         return single_texts(alloc, &characters);
     }
-    texts_of(alloc, &rows(alloc, &set, &characters)?)
+    texts_of(alloc, &character_runs(alloc, &set, &characters)?)
 }
 
 /// The runs of characters between those of a set.
-fn rows<'a>(alloc: Global, set: &[char], text: &'a [char]) -> Result<Vec<&'a [char]>, AllocError>
+fn character_runs<'a>(
+    alloc: Global,
+    set: &[char],
+    text: &'a [char],
+) -> Result<Vec<&'a [char]>, AllocError>
     ensures { IfOk result (λ v. map (λ r. r.now) v.items ≡ slice_split (is_among set.now) text.entry.now) }
 {
     text.split(|c| is_among(set, *c)).collect(alloc)

@@ -3,9 +3,9 @@ use Rattle.std.proofs.Common.{◌≡◌, ℕ, ◌-◌, Bool, true, false, ◌==�
 use Rattle.std.proofs.lemmas.Bool.Decides.{nat_tests}
 use Rattle.std.proofs.lemmas.List.{reverse-append, reverse-reverse, take-append-le}
 use Rattle.std.proofs.Math.Seq.{take-length}
-use Rattle.tclchars.specs.Runs.{Text, front, back, begins}
-use Rattle.tclrules.specs.Variables.{apart}
-use Rattle.tclvariables.specs.Places.{no_opening}
+use Rattle.tclchars.specs.Runs.{Text, take_while, drop_while, begins}
+use Rattle.tclrules.specs.Variables.{name_and_index}
+use Rattle.tclvariables.specs.Locations.{is_no_opening_parenthesis}
 
 begins_last : (f : List ℕ) → begins 41 (reverse (f ++ 41 ∷ [])) ≡ true
 begins_last f = rw (reverse-append f (41 ∷ [])) refl
@@ -24,27 +24,27 @@ not_last name none = go (reverse name) refl
     go [] e = refl
     go (b ∷ bs) e = at b bs e (b == 41) refl
 
-cut_none : (f : List ℕ) → back no_opening f ≡ [] → (front no_opening (f ++ 41 ∷ []) ≡ f ++ 41 ∷ []) × (back no_opening (f ++ 41 ∷ []) ≡ [])
+cut_none : (f : List ℕ) → drop_while is_no_opening_parenthesis f ≡ [] → (take_while is_no_opening_parenthesis (f ++ 41 ∷ []) ≡ f ++ 41 ∷ []) × (drop_while is_no_opening_parenthesis (f ++ 41 ∷ []) ≡ [])
 cut_none [] h = (refl, refl)
-cut_none (c ∷ cs) h = go (cut_none cs) (no_opening c) refl
+cut_none (c ∷ cs) h = go (cut_none cs) (is_no_opening_parenthesis c) refl
   where
-    go : (back no_opening cs ≡ [] → (front no_opening (cs ++ 41 ∷ []) ≡ cs ++ 41 ∷ []) × (back no_opening (cs ++ 41 ∷ []) ≡ [])) → (t : Bool) → no_opening c ≡ t → (front no_opening (c ∷ cs ++ 41 ∷ []) ≡ c ∷ cs ++ 41 ∷ []) × (back no_opening (c ∷ cs ++ 41 ∷ []) ≡ [])
+    go : (drop_while is_no_opening_parenthesis cs ≡ [] → (take_while is_no_opening_parenthesis (cs ++ 41 ∷ []) ≡ cs ++ 41 ∷ []) × (drop_while is_no_opening_parenthesis (cs ++ 41 ∷ []) ≡ [])) → (t : Bool) → is_no_opening_parenthesis c ≡ t → (take_while is_no_opening_parenthesis (c ∷ cs ++ 41 ∷ []) ≡ c ∷ cs ++ 41 ∷ []) × (drop_while is_no_opening_parenthesis (c ∷ cs ++ 41 ∷ []) ≡ [])
     go k true e = let i = k (rw e at h) in (rw e (ap (λ r. c ∷ r) i.0), rw e i.1)
     go k false e = let d : c ∷ cs ≡ [] = rw e at h in cc
 
-cut_some : (f bs : List ℕ) (b : ℕ) → back no_opening f ≡ b ∷ bs → (front no_opening (f ++ 41 ∷ []) ≡ front no_opening f) × (back no_opening (f ++ 41 ∷ []) ≡ b ∷ bs ++ 41 ∷ [])
+cut_some : (f bs : List ℕ) (b : ℕ) → drop_while is_no_opening_parenthesis f ≡ b ∷ bs → (take_while is_no_opening_parenthesis (f ++ 41 ∷ []) ≡ take_while is_no_opening_parenthesis f) × (drop_while is_no_opening_parenthesis (f ++ 41 ∷ []) ≡ b ∷ bs ++ 41 ∷ [])
 cut_some [] bs b h = cc
-cut_some (c ∷ cs) bs b h = go (cut_some cs bs b) (no_opening c) refl
+cut_some (c ∷ cs) bs b h = go (cut_some cs bs b) (is_no_opening_parenthesis c) refl
   where
-    go : (back no_opening cs ≡ b ∷ bs → (front no_opening (cs ++ 41 ∷ []) ≡ front no_opening cs) × (back no_opening (cs ++ 41 ∷ []) ≡ b ∷ bs ++ 41 ∷ [])) → (t : Bool) → no_opening c ≡ t → (front no_opening (c ∷ cs ++ 41 ∷ []) ≡ front no_opening (c ∷ cs)) × (back no_opening (c ∷ cs ++ 41 ∷ []) ≡ b ∷ bs ++ 41 ∷ [])
+    go : (drop_while is_no_opening_parenthesis cs ≡ b ∷ bs → (take_while is_no_opening_parenthesis (cs ++ 41 ∷ []) ≡ take_while is_no_opening_parenthesis cs) × (drop_while is_no_opening_parenthesis (cs ++ 41 ∷ []) ≡ b ∷ bs ++ 41 ∷ [])) → (t : Bool) → is_no_opening_parenthesis c ≡ t → (take_while is_no_opening_parenthesis (c ∷ cs ++ 41 ∷ []) ≡ take_while is_no_opening_parenthesis (c ∷ cs)) × (drop_while is_no_opening_parenthesis (c ∷ cs ++ 41 ∷ []) ≡ b ∷ bs ++ 41 ∷ [])
     go k true e = let i = k (rw e at h) in (rw e (ap (λ r. c ∷ r) i.0), rw e i.1)
     go k false e = let d : c ∷ cs ≡ b ∷ bs = rw e at h in (rw e refl, rw e (ap (λ ys. ys ++ 41 ∷ []) d))
 
-back_closed : (f : List ℕ) → begins 40 (back no_opening f) ≡ false → back no_opening f ≡ []
+back_closed : (f : List ℕ) → begins 40 (drop_while is_no_opening_parenthesis f) ≡ false → drop_while is_no_opening_parenthesis f ≡ []
 back_closed [] h = refl
-back_closed (c ∷ cs) h = go (back_closed cs) (no_opening c) refl
+back_closed (c ∷ cs) h = go (back_closed cs) (is_no_opening_parenthesis c) refl
   where
-    go : (begins 40 (back no_opening cs) ≡ false → back no_opening cs ≡ []) → (t : Bool) → no_opening c ≡ t → back no_opening (c ∷ cs) ≡ []
+    go : (begins 40 (drop_while is_no_opening_parenthesis cs) ≡ false → drop_while is_no_opening_parenthesis cs ≡ []) → (t : Bool) → is_no_opening_parenthesis c ≡ t → drop_while is_no_opening_parenthesis (c ∷ cs) ≡ []
     go k true e = rw e (k (rw e at h))
     go k false e = let n : (c == 40) ≡ false = rw e at h in let m : true ≡ false = rw n at e in cc
 
@@ -54,13 +54,13 @@ take_last bs =
     rw e (take-append-le (length bs) bs (41 ∷ []) (omega arith) ∙ take-length bs)
 
 -- a name that ends with no parenthesis
-pub apart_none : (name : Text) → ((f : List ℕ) → name ≡ f ++ 41 ∷ [] → ⊥) → (name, None) ≡ apart name
+pub apart_none : (name : Text) → ((f : List ℕ) → name ≡ f ++ 41 ∷ [] → ⊥) → (name, None) ≡ name_and_index name
 apart_none name h = rw (not_last name h) refl
 
 -- one in which none opens
-pub apart_whole : (name f : Text) → name ≡ f ++ 41 ∷ [] → begins 40 (back no_opening f) ≡ false → (name, None) ≡ apart name
+pub apart_whole : (name f : Text) → name ≡ f ++ 41 ∷ [] → begins 40 (drop_while is_no_opening_parenthesis f) ≡ false → (name, None) ≡ name_and_index name
 apart_whole name f e h = let c = cut_none f (back_closed f h) in rw e (rw (begins_last f, c.0, c.1) refl)
 
 -- and an element
-pub apart_at : (name f i : Text) → name ≡ f ++ 41 ∷ [] → back no_opening f ≡ 40 ∷ i → (front no_opening f, Some i) ≡ apart name
+pub apart_at : (name f i : Text) → name ≡ f ++ 41 ∷ [] → drop_while is_no_opening_parenthesis f ≡ 40 ∷ i → (take_while is_no_opening_parenthesis f, Some i) ≡ name_and_index name
 apart_at name f i e h = let c = cut_some f i 40 h in rw e (rw (begins_last f, c.0, c.1, take_last i) refl)

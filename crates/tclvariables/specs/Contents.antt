@@ -4,10 +4,10 @@ use Rattle.tclchars.specs.Runs.{Text}
 use Rattle.tcllist.specs.Lists.{list_text}
 
 -- the text is what list(n) writes for some elements
-abbrev pub IsWritten : Text → Type 0
-IsWritten t = (es : List Text) × (t ≡ list_text es)
+abbrev pub IsListText : Text → Type 0
+IsListText t = (es : List Text) × (t ≡ list_text es)
 
 -- the variable is set, and its text is such a one
 abbrev pub HoldsList : Option Text → Type 0
 HoldsList None = ⊥
-HoldsList (Some t) = IsWritten t
+HoldsList (Some t) = IsListText t

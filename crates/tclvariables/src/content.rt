@@ -1,6 +1,6 @@
 //! What a variable holds: a text, of which may be known that it is a list.
 ghost use Rattle.std.specs.Prelude.{◌≡◌, string_bytes, true};
-ghost use Rattle.tclvariables.specs.Contents.{IsWritten};
+ghost use Rattle.tclvariables.specs.Contents.{IsListText};
 
 use std::marker::Model;
 
@@ -14,13 +14,13 @@ pub struct Content {
 
 impl Model for Content {
     ghost use Rattle.std.specs.Prelude.{◌≡◌, ℕ, List, string_bytes, true};
-    ghost use Rattle.tclvariables.specs.Contents.{IsWritten};
+    ghost use Rattle.tclvariables.specs.Contents.{IsListText};
 
     ghost Value = { List ℕ };
 
     ghost view = { λ c. string_bytes c.text };
 
-    ghost invariant = { λ c. c.is_list ≡ true → IsWritten (string_bytes c.text) };
+    ghost invariant = { λ c. c.is_list ≡ true → IsListText (string_bytes c.text) };
 }
 
 impl Content {
@@ -36,7 +36,7 @@ impl Content {
 
     /// The text of a list, as list(n) writes it.
     pub fn of_list(text: String) -> Content
-        requires { IsWritten (string_bytes text) }
+        requires { IsListText (string_bytes text) }
         ensures { result ≡ string_bytes text }
     {
         Content {
@@ -54,7 +54,7 @@ impl Content {
 
     /// Whether it is known to be the text of a list, as list(n) writes it.
     pub fn is_list(&self) -> bool
-        ensures { result ≡ true → IsWritten self.now }
+        ensures { result ≡ true → IsListText self.now }
     {
         self.is_list
     }

@@ -1,10 +1,10 @@
 //! The location that the name of a variable denotes (Tcl(n), rule 8; global(n)).
 ghost use Rattle.std.specs.Prelude.{◌≡◌, option_map};
 ghost use Rattle.tclchars.specs.Answers.{Gives};
-ghost use Rattle.tclvalue.specs.Faults.{reason_of, HasReason, left_out};
-ghost use Rattle.tclrules.specs.Variables.{apart, has_colons, unqualified, indexed, place_of, place_named, writable};
-ghost use Rattle.tclchars.specs.Runs.{front, back};
-ghost use Rattle.tclvariables.specs.Places.{place_view, no_opening, shared_name};
+ghost use Rattle.tclvalue.specs.Faults.{reason_of, HasReason, unsupported};
+ghost use Rattle.tclrules.specs.Variables.{name_and_index, has_colons, unqualified, indexed, location_of, location_named, writable};
+ghost use Rattle.tclchars.specs.Runs.{take_while, drop_while};
+ghost use Rattle.tclvariables.specs.Locations.{location_view, is_no_opening_parenthesis, shared_name};
 
 use crate::variables::Variables;
 use std::alloc::Global;
@@ -13,16 +13,16 @@ use tclvalue::ValueFault;
 
 /// The location of a variable: what its name denotes where the command is evaluated.
 #[derive(Drop)]
-pub enum Place<'a> {
+pub enum Location<'a> {
     /// The scalar variable of this name; the flag is true of a global one.
-    Plain(bool, &'a str),
+    Scalar(bool, &'a str),
     /// The element of `env` with this index; the flag is true where `env` denotes the global array.
     Element(bool, &'a str),
 }
 
 /// The fault of a kind of variable that is unsupported.
-fn left_out(alloc: Global, name: &str) -> ValueFault
-    ensures { HasReason (left_out name.now) result }
+fn unsupported(alloc: Global, name: &str) -> ValueFault
+    ensures { HasReason (unsupported name.now) result }
 {
     match String::from_str(alloc, name) {
         Ok(name) => ValueFault::LeftOut(name),
@@ -46,8 +46,8 @@ fn has_colons(name: &str) -> bool
 
 /// A name up to its first opening parenthesis, and from there on.
 fn split_array(name: &str) -> (&str, &str)
-    ensures array { result.0.now ≡ front no_opening name.now }
-    ensures rest { result.1.now ≡ back no_opening name.now }
+    ensures array { result.0.now ≡ take_while is_no_opening_parenthesis name.now }
+    ensures rest { result.1.now ≡ drop_while is_no_opening_parenthesis name.now }
 {
     let bytes = name.as_bytes();
     let mut n = 0;
@@ -58,8 +58,8 @@ fn split_array(name: &str) -> (&str, &str)
 }
 
 /// The parts of a name: that of its array and its index, where it has one.
-fn apart(name: &str) -> (&str, Option<&str>)
-    ensures { (result.0.now, option_map (λ i. i.now) result.1) ≡ apart name.now }
+fn name_and_index(name: &str) -> (&str, Option<&str>)
+    ensures { (result.0.now, option_map (λ i. i.now) result.1) ≡ name_and_index name.now }
 {
     let Some(inside) = name.strip_suffix(")") else {
         return (name, None);
@@ -72,25 +72,25 @@ fn apart(name: &str) -> (&str, Option<&str>)
 }
 
 /// The location of a name without leading colons, which must have no others.
-fn unqualified_place<'a>(
+fn unqualified_location<'a>(
     alloc: Global,
     global: bool,
     name: &'a str,
     index: Option<&'a str>,
-) -> Result<Place<'a>, ValueFault>
-    ensures { Gives reason_of place_view result
+) -> Result<Location<'a>, ValueFault>
+    ensures { Gives reason_of location_view result
         (unqualified name.now (indexed global name.now (option_map (λ i. i.now) index.entry))) }
 {
     if has_colons(name) {
-        return Err(left_out(alloc, "namespace"));
+        return Err(unsupported(alloc, "namespace"));
     }
     match index {
-        None => Ok(Place::Plain(global, name)),
+        None => Ok(Location::Scalar(global, name)),
         Some(index) => {
             if name == "env" {
-                Ok(Place::Element(global, index))
+                Ok(Location::Element(global, index))
             } else {
-                Err(left_out(alloc, "array"))
+                Err(unsupported(alloc, "array"))
             }
         }
     }
@@ -99,20 +99,20 @@ fn unqualified_place<'a>(
 /// The location of a name with an index, or without one.
 ///
 /// Errors: `LeftOut` for another array than `env` and for a namespace, `OutOfMemory`.
-pub fn place_of<'a>(
+pub fn location_of<'a>(
     variables: &Variables,
     alloc: Global,
     name: &'a str,
     index: Option<&'a str>,
-) -> Result<Place<'a>, ValueFault>
-    ensures { Gives reason_of place_view result
-        (place_of variables.now name.now (option_map (λ i. i.now) index.entry)) }
+) -> Result<Location<'a>, ValueFault>
+    ensures { Gives reason_of location_view result
+        (location_of variables.now name.now (option_map (λ i. i.now) index.entry)) }
 {
     match name.strip_prefix("::") {
-        Some(rest) => unqualified_place(alloc, true, rest, index),
+        Some(rest) => unqualified_location(alloc, true, rest, index),
         None => {
             let global = variables.sees(name);
-            unqualified_place(alloc, global, name, index)
+            unqualified_location(alloc, global, name, index)
         }
     }
 }
@@ -120,15 +120,15 @@ pub fn place_of<'a>(
 /// The location of a name as it is spelled, with its index in parentheses.
 ///
 /// Errors: `LeftOut` for another array than `env` and for a namespace, `OutOfMemory`.
-pub fn place_named<'a>(
+pub fn location_named<'a>(
     variables: &Variables,
     alloc: Global,
     name: &'a str,
-) -> Result<Place<'a>, ValueFault>
-    ensures { Gives reason_of place_view result (place_named variables.now name.now) }
+) -> Result<Location<'a>, ValueFault>
+    ensures { Gives reason_of location_view result (location_named variables.now name.now) }
 {
-    let (array, index) = apart(name);
-    place_of(variables, alloc, array, index)
+    let (array, index) = name_and_index(name);
+    location_of(variables, alloc, array, index)
 }
 
 /// The scalar variable that a name denotes, where it may be written: neither `env` nor an element of it. The flag says
@@ -142,14 +142,14 @@ pub fn writable<'a>(
 ) -> Result<(bool, &'a str), ValueFault>
     ensures { Gives reason_of (λ p. (p.0, p.1.now)) result (writable variables.now name.now) }
 {
-    match place_named(variables, alloc, name)? {
-        Place::Plain(global, name) => {
+    match location_named(variables, alloc, name)? {
+        Location::Scalar(global, name) => {
             if name == "env" {
-                return Err(left_out(alloc, "env"));
+                return Err(unsupported(alloc, "env"));
             }
             Ok((global, name))
         }
-        Place::Element(_, _) => Err(left_out(alloc, "env")),
+        Location::Element(_, _) => Err(unsupported(alloc, "env")),
     }
 }
 
@@ -163,8 +163,8 @@ pub fn sharable<'a>(
 ) -> Result<&'a str, ValueFault>
     ensures { Gives reason_of (λ n. n.now) result (shared_name variables.now name.now) }
 {
-    match place_named(variables, alloc, name)? {
-        Place::Plain(_, name) => Ok(name),
-        Place::Element(_, _) => Err(left_out(alloc, "env")),
+    match location_named(variables, alloc, name)? {
+        Location::Scalar(_, name) => Ok(name),
+        Location::Element(_, _) => Err(unsupported(alloc, "env")),
     }
 }

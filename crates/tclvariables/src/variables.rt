@@ -43,7 +43,7 @@ pub struct Variables {
     globals: Table,
     local: Option<Local>,
     procedures: IndexMap<String, Rc<Procedure>>,
-    place: usize,
+    offset: usize,
 }
 
 impl Model for Variables {
@@ -65,12 +65,12 @@ impl Variables {
             globals: IndexMap::new(alloc),
             local: None,
             procedures: IndexMap::new(alloc),
-            place: 0,
+            offset: 0,
         }
     }
 
     /// Whether a procedure runs.
-    pub fn is_inside(&self) -> bool
+    pub fn is_in_procedure(&self) -> bool
         ensures { result ≡ is_some self.now.frame }
     {
         self.local.is_some()
@@ -238,16 +238,16 @@ impl Variables {
     }
 
     /// The offset in the file, in bytes, at which its current command begins.
-    pub fn place(&self) -> usize
-        ensures { result ≡ self.now.place }
+    pub fn offset(&self) -> usize
+        ensures { result ≡ self.now.offset }
     {
-        self.place
+        self.offset
     }
 
     /// Records the offset in the file, in bytes, at which its current command begins.
-    pub fn at_place(&mut self, place: usize)
-        ensures { self.new ≡ record self.old { place = place } }
+    pub fn set_offset(&mut self, offset: usize)
+        ensures { self.new ≡ record self.old { offset = offset } }
     {
-        self.place = place;
+        self.offset = offset;
     }
 }

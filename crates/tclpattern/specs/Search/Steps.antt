@@ -18,15 +18,15 @@ abbrev pub StepsOnly : ℕ → List ℕ → ℕ → List ℕ → Type 0
 StepsOnly p ps c rest = OneStep p ps c rest × ((other : List ℕ) → OneStep p ps c other → other ≡ rest)
 
 -- a pattern and a text reach a star, with what follows it and what remains of the text
-pub data LeadsToStar : List ℕ → List ℕ → List ℕ → List ℕ → Type 0 where
-  at_star : {ps cs : List ℕ} → LeadsToStar (star ∷ ps) cs ps cs
-  step : {p c : ℕ} {ps cs qs ds : List ℕ} (rest : List ℕ) → OneStep p ps c rest → LeadsToStar rest cs qs ds
-      → LeadsToStar (p ∷ ps) (c ∷ cs) qs ds
+pub data StepsToStar : List ℕ → List ℕ → List ℕ → List ℕ → Type 0 where
+  at_star : {ps cs : List ℕ} → StepsToStar (star ∷ ps) cs ps cs
+  step : {p c : ℕ} {ps cs qs ds : List ℕ} (rest : List ℕ) → OneStep p ps c rest → StepsToStar rest cs qs ds
+      → StepsToStar (p ∷ ps) (c ∷ cs) qs ds
 
 -- a pattern reads the text, so that this remains of the pattern
 pub data Run : List ℕ → List ℕ → List ℕ → Type 0 where
   stay : {ps : List ℕ} → Run ps [] ps
-  behind_star : {ps cs qs : List ℕ} → Run ps cs qs → Run (star ∷ ps) cs qs
+  after_star : {ps cs qs : List ℕ} → Run ps cs qs → Run (star ∷ ps) cs qs
   in_star : {c : ℕ} {ps cs qs : List ℕ} → Run (star ∷ ps) cs qs → Run (star ∷ ps) (c ∷ cs) qs
   step : {p c : ℕ} {ps cs qs : List ℕ} (rest : List ℕ) → OneStep p ps c rest → Run rest cs qs → Run (p ∷ ps) (c ∷ cs) qs
 

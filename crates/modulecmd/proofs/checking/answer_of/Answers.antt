@@ -1,8 +1,8 @@
 use Rattle.std.proofs.Common.{map, string_bytes, String, inl}
 use Rattle.std.proofs.lemmas.Result.{err_from_is_err_and}
 use Rattle.std.specs.declared.alloc.Global.{Global}
-use Rattle.environment.specs.Changes.{new_values_in}
-use Rattle.modulecmd.specs.Checking.{IsUnnamed, IsUnsaidCheck}
+use Rattle.envvars.specs.Changes.{new_values_in}
+use Rattle.modulecmd.specs.Checking.{IsUnnamed, CheckLacksText}
 use Rattle.modulecmd.proofs.CommandLemmas.{unprinted}
 use Rattle.modulecmd.proofs.CheckingLemmas.{readable}
 use Rattle.modulecmd.proofs.checking.answer_of.Goals as goal
@@ -15,7 +15,7 @@ returns-in_err-text-clause-refused g c =
     let input' = g.R.Read.remaining c.read_input.new.input in
     let changes = new_values_in c.in_ok-difference.difference in
     rw (p.1, p.2) (inl (unprinted c.in_ok-shell.shell changes c.in_err-text.field-0.0 (IsUnnamed arguments input input')
-    (IsUnsaidCheck (g.T.Tree.agrees c.check.new.tree) (g.T.Tree.failures c.args.tree.now) (g.T.Tree.failures c.check.new.tree) c.args.env.now arguments input input') ⊥
+    (CheckLacksText (g.T.Tree.agrees c.check.new.tree) (g.T.Tree.failures c.args.tree.now) (g.T.Tree.failures c.check.new.tree) c.args.env.now arguments input input') ⊥
     (λ name unsayable. (
       c.in_ok-shell.shell,
       c.in_ok-found.found,

@@ -11,5 +11,5 @@ returns-in-Ok-clause-ended g c =
 
 pub returns-clause-ended : goal.returns-clause-ended
 returns-clause-ended g c =
-    rw c.exit_of-in-Err.ensures (refused c.tell.result (g.T.Tree.agrees c.answer_of.new.tree) (g.T.Tree.failures c.args.tree.now) (g.T.Tree.failures c.answer_of.new.tree) c.args.env
-    (map (λ (s : String Global). string_bytes s) c.args.args.now) _ _ _ _ _ c.in-Err.fault c.in-Err.ensures.refused c.tell.ensures)
+    rw c.exit_of-in-Err.ensures (refused c.report_fault.result (g.T.Tree.agrees c.answer_of.new.tree) (g.T.Tree.failures c.args.tree.now) (g.T.Tree.failures c.answer_of.new.tree) c.args.env
+    (map (λ (s : String Global). string_bytes s) c.args.args.now) _ _ _ _ _ c.in-Err.fault c.in-Err.ensures.refused c.report_fault.ensures)

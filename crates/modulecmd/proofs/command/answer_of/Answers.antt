@@ -1,11 +1,11 @@
 use Rattle.std.proofs.Common.{◌<◌, map, string_bytes, String, Ok, Err, refl}
 use Rattle.std.proofs.lemmas.Result.{err_from_is_err_and}
 use Rattle.std.specs.declared.alloc.Global.{Global}
-use Rattle.environment.specs.Changes.{new_values_in}
+use Rattle.envvars.specs.Changes.{new_values_in}
 use Rattle.requests.specs.RequestViews.{request_view}
 use Rattle.modules.specs.Replies.{changed_view}
-use Rattle.modulecmd.specs.Command.{CommandDoes}
-use Rattle.modulecmd.specs.Output.{ComesToInEachPair, IsUnsaid}
+use Rattle.modulecmd.specs.Command.{CommandHasResult}
+use Rattle.modulecmd.specs.Output.{HasResultInEachPair, ResultLacksText}
 use Rattle.modulecmd.proofs.CommandLemmas.{answers, does, unprinted}
 use Rattle.modulecmd.proofs.command.answer_of.Goals as goal
 
@@ -25,7 +25,7 @@ returns-in_err-text-clause-refused g c =
     let agrees = g.T.Tree.agrees c.run_changes.new.tree in
     let r = request_view c.in_ok-request.request in
     let changed = c.in_ok-changed.changed in
-    rw (p.1, p.2) (unprinted r.0 (new_values_in changed.changes) c.in_err-text.field-0.0 (λ reason. ComesToInEachPair agrees (CommandDoes arguments e) (Err reason)) (IsUnsaid agrees e (CommandDoes arguments e))
+    rw (p.1, p.2) (unprinted r.0 (new_values_in changed.changes) c.in_err-text.field-0.0 (λ reason. HasResultInEachPair agrees (CommandHasResult arguments e) (Err reason)) (ResultLacksText agrees e (CommandHasResult arguments e))
     (g.T.Tree.failures c.args.tree.now < g.T.Tree.failures c.run_changes.new.tree)
     (λ name unsayable. (
       (r.0, changed_view e changed),

@@ -1,6 +1,6 @@
 use Rattle.std.proofs.Common.{◌≡◌, map, string_bytes, length}
 use Rattle.std.specs.List.{list_all}
-use Rattle.pathstate.specs.PathVariables.{is_element}
+use Rattle.envpaths.specs.PathVariables.{is_element}
 use Rattle.modulefile.proofs.effects.are_elements.Given as goal
 
 -- what is left decides

@@ -1,12 +1,12 @@
 use Rattle.std.proofs.Common.{◌∙◌, ap}
 use Rattle.std.proofs.Common.{List}
 use Rattle.std.proofs.Common.{subst}
-use Rattle.environment.specs.Texts.{Text, shown}
-use Rattle.environment.specs.Reasons.{Edits}
-use Rattle.pathstate.specs.PathVariables.{dropped_path}
+use Rattle.envvars.specs.Texts.{Text, slice_texts}
+use Rattle.envvars.specs.Reasons.{Edits}
+use Rattle.envpaths.specs.PathVariables.{dropped_path}
 use Rattle.modulefile.proofs.effects.drop.Goals as goal
 
 pub returns-clause-edits : goal.returns-clause-edits
 returns-clause-edits g c =
     subst (λ (xs : List Text). Edits c.drop_path.result (g.V.Vars.vars c.args.env.now) (g.V.Vars.vars c.drop_path.new.env) (dropped_path (g.V.Vars.vars c.args.env.now) c.args.var.now c.args.delim.character xs))
-    (ap shown c.as_slice.ensures.value ∙ c.in_ok-slices.ensures) c.drop_path.ensures.edits
+    (ap slice_texts c.as_slice.ensures.value ∙ c.in_ok-slices.ensures) c.drop_path.ensures.edits

@@ -1,4 +1,4 @@
-use Rattle.environment.specs.Reasons.{reason_of}
+use Rattle.envvars.specs.Reasons.{reason_of}
 use Rattle.modulerecords.specs.Judgments.{record_reason}
 use Rattle.modulerecords.specs.Effects.{edited}
 use Rattle.modulefile.specs.RecordViews.{record_view, mode_view}

@@ -5,5 +5,5 @@ use Rattle.modulefile.proofs.rows.path_rows.Goals as goal
 pub returns-clause-delimiters : goal.returns-clause-delimiters
 returns-clause-delimiters c = λ e. comes _ _ 400 _ (computed.path_delimiters e)
 
-pub returns-clause-value_behind : goal.returns-clause-value_behind
-returns-clause-value_behind c = λ e. comes _ _ 400 _ (computed.path_value_behind e)
+pub returns-clause-value_after : goal.returns-clause-value_after
+returns-clause-value_after c = λ e. comes _ _ 400 _ (computed.path_value_behind e)

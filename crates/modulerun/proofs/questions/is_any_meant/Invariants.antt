@@ -1,6 +1,6 @@
 use Rattle.std.proofs.Common.{◌≡◌, length, map, string_bytes}
 use Rattle.std.specs.List.{list_any}
-use Rattle.environment.specs.Texts.{Text}
+use Rattle.envvars.specs.Texts.{Text}
 use Rattle.modulename.specs.ModuleName.{means}
 use Rattle.modulerun.proofs.questions.is_any_meant.Given as goal
 

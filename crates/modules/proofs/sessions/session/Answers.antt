@@ -2,7 +2,7 @@ use Rattle.std.proofs.Common.{◌≡◌, ◌+◌, ◌-◌, ◌≤◌, List, [], 
 use Rattle.shells.specs.declared.shell.Shell.TheVariants.{Sh}
 use Rattle.requests.specs.RequestViews.{request_view}
 use Rattle.requests.specs.Requests.{Request}
-use Rattle.requests.specs.Sessions.{Session, left_by}
+use Rattle.requests.specs.Sessions.{Session, end_environment}
 use Rattle.modules.specs.declared.sessions.Outcome.{Outcome}
 use Rattle.modules.specs.Replies.{site_in}
 use Rattle.modules.specs.Responses.{count_failed, response_of, responses}
@@ -19,13 +19,13 @@ loop-rest-preserved g c =
     let rest = c.loop-rest.rest.now in
     let items : c.push.new.self.items ≡ sofar ++ outcome ∷ [] = c.in_ok-push.ensures.items in
     let Counted : List Outcome → Type 0 = λ xs. g.T.Tree.failures c.args.tree.now + count_failed xs ≤ g.T.Tree.failures c.respond-outcome.new.tree in
-    let Left : List Outcome → Type 0 = λ xs. new ≡ left_by start (responses start xs) in
+    let End : List Outcome → Type 0 = λ xs. new ≡ end_environment start (responses start xs) in
     record {
       before = λ files listings agreed. c.loop-rest.invariant.before files listings (c.respond-outcome.ensures.before files listings agreed);
       failures = subst Counted (sym items) (failures_push _ _ _ sofar outcome c.loop-rest.invariant.failures c.respond-outcome.ensures.failures);
-      left = λ files listings agreed.
+      end = λ files listings agreed.
           let was = c.respond-outcome.ensures.before files listings agreed in
-          subst Left (sym items) (session_grows start before_it new sofar outcome (c.loop-rest.invariant.left files listings was) (c.respond-outcome.ensures.left files listings agreed)).0;
+          subst End (sym items) (session_grows start before_it new sofar outcome (c.loop-rest.invariant.end files listings was) (c.respond-outcome.ensures.end files listings agreed)).0;
       ran = λ files listings agreed shell os more.
           let was = c.respond-outcome.ensures.before files listings agreed in
           let site = site_in c.args.limits shell files listings in
@@ -35,8 +35,8 @@ loop-rest-preserved g c =
           subst Ran (sym items)
           (session_taken site start before_it new (request_view c.request-item.result) (map request_view (take (length rest - 1) (drop 1 rest))) all (responses start sofar) (responses start (sofar ++ outcome ∷ [])) (response_of before_it outcome) os
           (λ h. c.loop-rest.invariant.ran files listings was shell (response_of before_it outcome ∷ os) (subst From (sym (split_first request_view c.request-item.result rest c.in-len1-up.len_at_least c.request-item.is)) h))
-          (c.respond-outcome.ensures.answer files listings agreed) (c.respond-outcome.ensures.left files listings agreed)
-          (session_grows start before_it new sofar outcome (c.loop-rest.invariant.left files listings was) (c.respond-outcome.ensures.left files listings agreed)).1 more);
+          (c.respond-outcome.ensures.answer files listings agreed) (c.respond-outcome.ensures.end files listings agreed)
+          (session_grows start before_it new sofar outcome (c.loop-rest.invariant.end files listings was) (c.respond-outcome.ensures.end files listings agreed)).1 more);
     }
 
 pub returns-clause-ran : goal.returns-clause-ran

@@ -2,7 +2,7 @@ use Rattle.std.proofs.Common.{◌≡◌, ◌≤◌, ◌+◌, ◌++◌, List, len
 use Rattle.filetree.specs.Agreement.{InEachPair}
 use Rattle.shells.specs.declared.shell.Shell.{Shell}
 use Rattle.requests.specs.RequestViews.{request_view}
-use Rattle.requests.specs.Sessions.{Response, Session, left_by}
+use Rattle.requests.specs.Sessions.{Response, Session, end_environment}
 use Rattle.modules.specs.Replies.{site_in}
 use Rattle.modules.specs.Responses.{responses, count_failed}
 use Rattle.modules.proofs.sessions.session.Given as goal
@@ -11,7 +11,7 @@ abbrev pub invariant-loop-rest : goal.invariant-loop-rest
 invariant-loop-rest g l = record {
   before : InEachPair (g.T.Tree.agrees l.tree) (λ files listings. g.T.Tree.agrees l.initial.tree files listings);
   failures : g.T.Tree.failures l.initial.tree + count_failed l.outcomes.items ≤ g.T.Tree.failures l.tree;
-  left : InEachPair (g.T.Tree.agrees l.tree) (λ files listings. l.after ≡ left_by l.initial.after (responses l.initial.after l.outcomes.items));
+  end : InEachPair (g.T.Tree.agrees l.tree) (λ files listings. l.after ≡ end_environment l.initial.after (responses l.initial.after l.outcomes.items));
   ran : InEachPair (g.T.Tree.agrees l.tree) (λ files listings. (shell : Shell) (os : List Response)
       → Session (site_in l.limits shell files listings) l.after (map request_view l.rest) os
       → Session (site_in l.limits shell files listings) l.initial.after (map request_view l.requests) (responses l.initial.after l.outcomes.items ++ os));

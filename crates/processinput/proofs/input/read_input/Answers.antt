@@ -2,8 +2,8 @@ use Rattle.std.proofs.Common.{arith, inr}
 use Rattle.processinput.proofs.InputLemmas.{no_utf8}
 use Rattle.processinput.proofs.input.read_input.Goals as goal
 
-pub returns-clause-spoilt : goal.returns-clause-spoilt
-returns-clause-spoilt g c = (
+pub returns-clause-failed : goal.returns-clause-failed
+returns-clause-failed g c = (
   c.in_ok-bytes.bytes.items,
   c.in_ok-bytes.ensures.taken,
   c.in_ok-bytes.ensures.within,

@@ -1,39 +1,39 @@
 use Rattle.std.proofs.Common.{None, string_bytes, sym, subst}
-use Rattle.environment.specs.Environment.{Environment}
-use Rattle.environment.specs.Changes.{new_values_in}
+use Rattle.envvars.specs.Environment.{Environment}
+use Rattle.envvars.specs.Changes.{new_values_in}
 use Rattle.requests.specs.RequestViews.{request_view}
 use Rattle.modules.specs.Replies.{changed_view}
-use Rattle.rehearsal.specs.Parts.{Came}
+use Rattle.rehearsal.specs.Parts.{PrintsFor}
 use Rattle.rehearsal.proofs.TextLemmas.{accepted_came, refused_came, unsaid_came, wanting_came}
 use Rattle.rehearsal.proofs.texts.print_request.Goals as goal
 
-pub returns-in_default-clause-came : goal.returns-in_default-clause-came
-returns-in_default-clause-came g c =
+pub returns-in_default-clause-prints_for : goal.returns-in_default-clause-prints_for
+returns-in_default-clause-prints_for g c =
     refused_came (g.T.Tree.agrees c.run_changes.new.tree) c.args.limits (request_view c.args.request.now) c.args.env.now
     (g.T.Tree.failures c.args.tree.now) (g.T.Tree.failures c.run_changes.new.tree) c.run_changes.ensures.later
     c.in_default.field-0 c.in_default.ensures.answer
 
-pub returns-in_default-print_changes-clause-came : goal.returns-in_default-print_changes-clause-came
-returns-in_default-print_changes-clause-came g c =
+pub returns-in_default-print_changes-clause-prints_for : goal.returns-in_default-print_changes-clause-prints_for
+returns-in_default-print_changes-clause-prints_for g c =
     let changed = c.in-Ok.changed in
     unsaid_came (g.T.Tree.agrees c.run_changes.new.tree) c.args.limits (request_view c.args.request.now) c.args.env.now
     (g.T.Tree.failures c.args.tree.now) (g.T.Tree.failures c.run_changes.new.tree) c.run_changes.ensures.later
     (changed_view c.args.env.now changed) (new_values_in changed.changes) c.in-Ok.ensures.answer c.in-Ok.ensures.exact
     c.in_default-print_changes.field-0 (rw c.as_slice.ensures.value at c.in_default-print_changes.ensures.fault)
 
-pub returns-in-Ok-apply-clause-came : goal.returns-in-Ok-apply-clause-came
-returns-in-Ok-apply-clause-came g c =
+pub returns-in-Ok-apply-clause-prints_for : goal.returns-in-Ok-apply-clause-prints_for
+returns-in-Ok-apply-clause-prints_for g c =
     let changed = c.in-Ok.changed in
     accepted_came (g.T.Tree.agrees c.run_changes.new.tree) c.args.limits (request_view c.args.request.now) c.args.env.now
     (g.T.Tree.failures c.args.tree.now) (g.T.Tree.failures c.run_changes.new.tree) c.run_changes.ensures.later
     (changed_view c.args.env.now changed) (new_values_in changed.changes) c.in-Ok.ensures.answer c.in-Ok.ensures.exact
     c.apply.new.self (string_bytes c.in-Ok-print_changes.text) (rw c.as_slice.ensures.value at c.in-Ok-print_changes.ensures.text) c.in-Ok-apply.ensures.ok
 
-pub returns-clause-came : goal.returns-clause-came
-returns-clause-came g c =
+pub returns-clause-prints_for : goal.returns-clause-prints_for
+returns-clause-prints_for g c =
     let agrees = g.T.Tree.agrees c.run_changes.new.tree in
     let r = request_view c.args.request.now in
     let before = g.T.Tree.failures c.args.tree.now in
     let after = g.T.Tree.failures c.run_changes.new.tree in
-    subst (λ (x : Environment). Came agrees c.args.limits r c.args.env.now x None before after) (sym c.in-Err.ensures.err)
+    subst (λ (x : Environment). PrintsFor agrees c.args.limits r c.args.env.now x None before after) (sym c.in-Err.ensures.err)
     (wanting_came agrees c.args.limits r c.args.env.now before after c.run_changes.ensures.later)

@@ -1,7 +1,7 @@
 use Rattle.std.proofs.Common.{◌≡◌, ◌-◌, List, [], ◌∷◌, ◌++◌, Option, length, map, take, drop, ◌∙◌, ap, sym, subst, append-nil}
 use Rattle.std.specs.declared.alloc.Global.{Global}
 use Rattle.std.specs.declared.string.String.{String}
-use Rattle.environment.specs.Texts.{Text}
+use Rattle.envvars.specs.Texts.{Text}
 use Rattle.requests.specs.RequestViews.{request_view}
 use Rattle.requests.specs.Requests.{Request}
 use Rattle.modules.specs.Replies.{site_in}
@@ -25,18 +25,18 @@ loop-rest-preserved g c =
     let items : c.push.new.self.items ≡ sofar ++ text ∷ [] = c.in_ok-push.ensures.items in
     record {
       before = λ files listings agreed. c.loop-rest.invariant.before files listings (c.print_request-text.ensures.before files listings agreed);
-      rehearsed = λ files listings agreed shell ps left n h.
+      rehearsed = λ files listings agreed shell ps end n h.
           let site = site_in c.args.limits shell files listings in
           let p = print_view text in
-          let Whole : List (Option Text) → Type 0 = λ xs. Rehearsal site c.args.env all xs left first n in
-          let Rest : List Request → Type 0 = λ rs. Rehearsal site before_it rs (p ∷ ps) left was n in
+          let Whole : List (Option Text) → Type 0 = λ xs. Rehearsal site c.args.env all xs end first n in
+          let Rest : List Request → Type 0 = λ rs. Rehearsal site before_it rs (p ∷ ps) end was n in
           let more : prints sofar ++ p ∷ ps ≡ prints c.push.new.self.items ++ ps =
           prints_push sofar text ps ∙ ap (λ (ts : List (Option (String Global))). prints ts ++ ps) (sym items) in
           subst Whole more
-          (c.loop-rest.invariant.rehearsed files listings (c.print_request-text.ensures.before files listings agreed) shell (p ∷ ps) left n
+          (c.loop-rest.invariant.rehearsed files listings (c.print_request-text.ensures.before files listings agreed) shell (p ∷ ps) end n
           (subst Rest (sym (split_first request_view c.request-item.result rest c.in-len1-up.len_at_least c.request-item.is))
           (rehearsed_on (g.T.Tree.agrees c.print_request-text.new.tree) c.args.limits files listings shell agreed (request_view c.request-item.result) before_it new p
-          (map request_view (take (length rest - 1) (drop 1 rest))) ps left was is n c.print_request-text.ensures.came h)));
+          (map request_view (take (length rest - 1) (drop 1 rest))) ps end was is n c.print_request-text.ensures.prints_for h)));
     }
 
 pub returns-clause-rehearsed : goal.returns-clause-rehearsed
@@ -52,9 +52,9 @@ returns-clause-rehearsed g c =
 pub returns-clause-makes : goal.returns-clause-makes
 returns-clause-makes g c =
     λ files listings agreed shell.
-    c.make.ensures (site_in c.args.limits shell files listings) c.args.env (map request_view c.args.requests.now) (prints c.loop-rest.texts.items) c.loop-rest.after
+    c.texts_make_session.ensures (site_in c.args.limits shell files listings) c.args.env (map request_view c.args.requests.now) (prints c.loop-rest.texts.items) c.loop-rest.after
 
-pub returns-clause-comes_back : goal.returns-clause-comes_back
-returns-clause-comes_back g c =
+pub returns-clause-returns_to_start : goal.returns-clause-returns_to_start
+returns-clause-returns_to_start g c =
     λ files listings agreed shell.
-    c.come_back.ensures (site_in c.args.limits shell files listings) c.args.env (map request_view c.args.requests.now) (prints c.loop-rest.texts.items) c.loop-rest.after
+    c.texts_return_to_start.ensures (site_in c.args.limits shell files listings) c.args.env (map request_view c.args.requests.now) (prints c.loop-rest.texts.items) c.loop-rest.after

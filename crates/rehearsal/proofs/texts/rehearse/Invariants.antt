@@ -1,6 +1,6 @@
 use Rattle.std.proofs.Common.{ℕ, ◌++◌, List, Option, length, map}
-use Rattle.environment.specs.Texts.{Text}
-use Rattle.environment.specs.Environment.{Environment}
+use Rattle.envvars.specs.Texts.{Text}
+use Rattle.envvars.specs.Environment.{Environment}
 use Rattle.filetree.specs.Agreement.{InEachPair}
 use Rattle.shells.specs.declared.shell.Shell.{Shell}
 use Rattle.requests.specs.RequestViews.{request_view}
@@ -12,9 +12,9 @@ use Rattle.rehearsal.proofs.texts.rehearse.Given as goal
 abbrev pub invariant-loop-rest : goal.invariant-loop-rest
 invariant-loop-rest g l = record {
   before : InEachPair (g.T.Tree.agrees l.tree) (λ files listings. g.T.Tree.agrees l.initial.tree files listings);
-  rehearsed : InEachPair (g.T.Tree.agrees l.tree) (λ files listings. (shell : Shell) (ps : List (Option Text)) (left : Environment) (n : ℕ)
-      → Rehearsal (site_in l.limits shell files listings) l.after (map request_view l.rest) ps left (g.T.Tree.failures l.tree) n
-      → Rehearsal (site_in l.limits shell files listings) l.initial.after (map request_view l.requests) (prints l.texts.items ++ ps) left (g.T.Tree.failures l.initial.tree) n);
+  rehearsed : InEachPair (g.T.Tree.agrees l.tree) (λ files listings. (shell : Shell) (ps : List (Option Text)) (end : Environment) (n : ℕ)
+      → Rehearsal (site_in l.limits shell files listings) l.after (map request_view l.rest) ps end (g.T.Tree.failures l.tree) n
+      → Rehearsal (site_in l.limits shell files listings) l.initial.after (map request_view l.requests) (prints l.texts.items ++ ps) end (g.T.Tree.failures l.initial.tree) n);
 }
 
 abbrev pub decreases-loop-rest : goal.decreases-loop-rest

@@ -1,5 +1,5 @@
 use Rattle.std.proofs.Common.{◌≡◌, ◌++◌, length, map, string_bytes}
-use Rattle.modulelist.specs.Listings.{listing_view}
+use Rattle.search.specs.Listings.{listing_view}
 use Rattle.requests.specs.Reports.{avail_text}
 use Rattle.reports.proofs.avail.avail_report.Given as goal
 

@@ -3,10 +3,10 @@ use Rattle.requests.proofs.OneStep.{one_step}
 use Rattle.requests.proofs.laws.outcomes.Goals as goal
 
 pub returns-clause-one : goal.returns-clause-one
-returns-clause-one c = λ s e asked. one_step c.files.ensures.one c.one_left.ensures s e asked
+returns-clause-one c = λ s e asked. one_step c.files.ensures.one c.one_result.ensures s e asked
 
-pub returns-clause-lead : goal.returns-clause-lead
-returns-clause-lead c = led_by_moves
+pub returns-clause-reach : goal.returns-clause-reach
+returns-clause-reach c = led_by_moves
 
 pub returns-clause-made : goal.returns-clause-made
 returns-clause-made c = λ s e asked d h. c.moves.ensures.made d.moves e d.env (led_by_moves s e asked d h)

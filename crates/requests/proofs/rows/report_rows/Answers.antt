@@ -7,5 +7,5 @@ returns-clause-list c = refl
 pub returns-clause-avail : goal.returns-clause-avail
 returns-clause-avail c = refl
 
-pub returns-clause-wanted : goal.returns-clause-wanted
-returns-clause-wanted c = refl
+pub returns-clause-selected : goal.returns-clause-selected
+returns-clause-selected c = refl

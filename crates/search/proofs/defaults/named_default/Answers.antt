@@ -2,53 +2,53 @@ use Rattle.std.proofs.Common.{inl, inr, refl, subst}
 use Rattle.std.proofs.lemmas.Result.{IfOk-weaker, err_from_is_err_and}
 use Rattle.filetree.specs.Agreement.{InEachPair, is_device}
 use Rattle.search.specs.Found.{NamedDefault}
-use Rattle.search.specs.Looked.{LooksBy, LooksForNamed}
-use Rattle.search.specs.VersionsNamed.{file_name, says, named_view, NamedBy}
+use Rattle.search.specs.Looked.{LooksAtDefaultFile, LooksForNamed}
+use Rattle.search.specs.VersionsNamed.{file_name, says, named_candidate_view, NamedBy}
 use Rattle.search.specs.declared.version_named.DefaultFile.TheVariants.{Modulerc, Version}
 use Rattle.search.proofs.FailureLemmas.{fails_then, fails_last}
-use Rattle.search.proofs.NamedLemmas.{passes_on, named_second}
+use Rattle.search.proofs.NamedLemmas.{modulerc_names_no_candidate, named_second}
 use Rattle.search.proofs.defaults.named_default.Goals as goal
 
 pub returns-in-Nothing-clause-answer : goal.returns-in-Nothing-clause-answer
 returns-in-Nothing-clause-answer g c =
-    let leaves = g.D.DefaultFiles.leaves c.args.default_files.now in
+    let results = g.D.DefaultFiles.results c.args.default_files.now in
     let dir = c.args.dir.now in
     let name = c.args.name.now in
     let agrees = g.T.Tree.agrees c.named_by-in-Nothing.new.tree in
     IfOk-weaker c.named_by-in-Nothing.result
-    (λ n. InEachPair agrees (λ files listings. NamedBy leaves files listings dir name Version (named_view n)))
-    (λ n. InEachPair agrees (λ files listings. NamedDefault leaves files listings dir name (named_view n)))
-    (λ n h files listings agree. named_second leaves files listings dir name (named_view n)
-    (subst (λ m. NamedBy leaves files listings dir name Modulerc (named_view m)) c.in-Nothing.is (c.in_ok-named.ensures.answer files listings (c.named_by-in-Nothing.ensures.before files listings agree)))
+    (λ n. InEachPair agrees (λ files listings. NamedBy results files listings dir name Version (named_candidate_view n)))
+    (λ n. InEachPair agrees (λ files listings. NamedDefault results files listings dir name (named_candidate_view n)))
+    (λ n h files listings agree. named_second results files listings dir name (named_candidate_view n)
+    (subst (λ m. NamedBy results files listings dir name Modulerc (named_candidate_view m)) c.in-Nothing.is (c.in_ok-named.ensures.answer files listings (c.named_by-in-Nothing.ensures.before files listings agree)))
     (h files listings agree))
     c.named_by-in-Nothing.ensures.answer
 
 pub returns-in_err-named-clause-failed : goal.returns-in_err-named-clause-failed
 returns-in_err-named-clause-failed g c =
-    let leaves = g.D.DefaultFiles.leaves c.args.default_files.now in
+    let results = g.D.DefaultFiles.results c.args.default_files.now in
     let dir = c.args.dir.now in
     let name = c.args.name.now in
     let agrees = g.T.Tree.agrees c.named_by.new.tree in
     let fails = is_device c.in_err-named.field-0.0 in
     let p = err_from_is_err_and c.from_residual.result c.from_residual.ensures.1 in
     rw (p.1, p.2) (fails_then fails fails (g.T.Tree.failed c.args.tree.now) (g.T.Tree.failed c.args.tree.now) (g.T.Tree.failed c.named_by.new.tree)
-    (λ at. InEachPair agrees (λ files listings. LooksBy leaves files listings dir name (says Modulerc name) (file_name Modulerc) at))
-    (λ at. InEachPair agrees (λ files listings. LooksForNamed leaves files listings dir name at))
+    (λ at. InEachPair agrees (λ files listings. LooksAtDefaultFile results files listings dir name (says Modulerc name) (file_name Modulerc) at))
+    (λ at. InEachPair agrees (λ files listings. LooksForNamed results files listings dir name at))
     refl refl (λ at h files listings a. inl (h files listings a)) c.in_err-named.ensures.failed)
 
 pub returns-in-Nothing-clause-failed : goal.returns-in-Nothing-clause-failed
 returns-in-Nothing-clause-failed g c =
-    let leaves = g.D.DefaultFiles.leaves c.args.default_files.now in
+    let results = g.D.DefaultFiles.results c.args.default_files.now in
     let dir = c.args.dir.now in
     let name = c.args.name.now in
     let agrees = g.T.Tree.agrees c.named_by-in-Nothing.new.tree in
     fails_last is_device (g.T.Tree.failed c.args.tree.now) (g.T.Tree.failed c.named_by.new.tree) (g.T.Tree.failed c.named_by-in-Nothing.new.tree) c.named_by-in-Nothing.result
-    (λ at. InEachPair agrees (λ files listings. LooksBy leaves files listings dir name (says Version name) (file_name Version) at))
-    (λ at. InEachPair agrees (λ files listings. LooksForNamed leaves files listings dir name at))
+    (λ at. InEachPair agrees (λ files listings. LooksAtDefaultFile results files listings dir name (says Version name) (file_name Version) at))
+    (λ at. InEachPair agrees (λ files listings. LooksForNamed results files listings dir name at))
     c.in_ok-named.ensures.failed
     (λ at h files listings a. inr (
-      passes_on leaves files listings dir name
-          (subst (λ m. NamedBy leaves files listings dir name Modulerc (named_view m)) c.in-Nothing.is (c.in_ok-named.ensures.answer files listings (c.named_by-in-Nothing.ensures.before files listings a))),
+      modulerc_names_no_candidate results files listings dir name
+          (subst (λ m. NamedBy results files listings dir name Modulerc (named_candidate_view m)) c.in-Nothing.is (c.in_ok-named.ensures.answer files listings (c.named_by-in-Nothing.ensures.before files listings a))),
       h files listings a,
     ))
     c.named_by-in-Nothing.ensures.failed

@@ -8,11 +8,11 @@ use Rattle.search.proofs.found.default_in.Goals as goal
 
 pub returns-clause-failed : goal.returns-clause-failed
 returns-clause-failed g c =
-    let leaves = g.D.DefaultFiles.leaves c.args.default_files.now in
+    let results = g.D.DefaultFiles.results c.args.default_files.now in
     let dir = c.args.dir.now in
     let name = c.args.name.now in
     let agrees = g.T.Tree.agrees c.default_of.new.tree in
     fails_last is_failure (g.T.Tree.failed c.args.tree.now) (g.T.Tree.failed c.entries.new.self) (g.T.Tree.failed c.default_of.new.tree) c.default_of.result
-    (λ at. InEachPair agrees (λ files listings. LooksInFolder leaves files listings dir name at))
-    (λ at. InEachPair agrees (λ files listings. (at ≡ path_of dir name) ⊎ LooksInFolder leaves files listings dir name at))
+    (λ at. InEachPair agrees (λ files listings. LooksInFolder results files listings dir name at))
+    (λ at. InEachPair agrees (λ files listings. (at ≡ path_of dir name) ⊎ LooksInFolder results files listings dir name at))
     c.in_ok-entries.ensures.failed (λ at h files listings a. inr (h files listings a)) c.default_of.ensures.failed

@@ -7,50 +7,50 @@ use Rattle.search.specs.Reasons.{bad_default}
 use Rattle.search.specs.Found.{NamedDefault}
 use Rattle.search.specs.Looked.{LooksForNamed, LooksForGreatest, LooksInFolder}
 use Rattle.search.specs.Answers.{is_failure}
-use Rattle.search.specs.VersionsNamed.{named_view}
+use Rattle.search.specs.VersionsNamed.{named_candidate_view}
 use Rattle.search.specs.Versions.{IsGreatestOf, is_version}
 use Rattle.search.proofs.StepLemmas.{default_named, default_greatest, default_bad, default_none}
 use Rattle.search.proofs.FailureLemmas.{fails_then, same_failure}
 use Rattle.search.proofs.VersionLemmas.{no_candidates, some_version}
 use Rattle.search.proofs.found.default_of.Goals as goal
 
-pub returns-in-Candidate-clause-told : goal.returns-in-Candidate-clause-told
-returns-in-Candidate-clause-told g c = λ files listings agree.
-    let leaves = g.D.DefaultFiles.leaves c.args.default_files.now in
+pub returns-in-Candidate-clause-over_tree : goal.returns-in-Candidate-clause-over_tree
+returns-in-Candidate-clause-over_tree g c = λ files listings agree.
+    let results = g.D.DefaultFiles.results c.args.default_files.now in
     let dir = c.args.dir.now in
     let name = c.args.name.now in
-    default_named leaves files listings dir name (string_bytes c.in-Candidate.version)
-    (subst (λ m. NamedDefault leaves files listings dir name (named_view m)) c.in-Candidate.is (c.in_ok-version.ensures.answer files listings agree))
+    default_named results files listings dir name (string_bytes c.in-Candidate.version)
+    (subst (λ m. NamedDefault results files listings dir name (named_candidate_view m)) c.in-Candidate.is (c.in_ok-version.ensures.answer files listings agree))
 
-pub returns-in_ok-greatest_candidate-in-Nothing-clause-told : goal.returns-in_ok-greatest_candidate-in-Nothing-clause-told
-returns-in_ok-greatest_candidate-in-Nothing-clause-told g c = λ files listings agree.
-    let leaves = g.D.DefaultFiles.leaves c.args.default_files.now in
+pub returns-in_ok-greatest_candidate-in-Nothing-clause-over_tree : goal.returns-in_ok-greatest_candidate-in-Nothing-clause-over_tree
+returns-in_ok-greatest_candidate-in-Nothing-clause-over_tree g c = λ files listings agree.
+    let results = g.D.DefaultFiles.results c.args.default_files.now in
     let dir = c.args.dir.now in
     let name = c.args.name.now in
-    default_greatest leaves files listings dir name (option_map string_bytes c.in_ok-greatest_candidate-in-Nothing.field-0)
-    (subst (λ m. NamedDefault leaves files listings dir name (named_view m)) c.in-Nothing.is (c.in_ok-version.ensures.answer files listings (c.greatest_candidate.ensures.before files listings agree)))
+    default_greatest results files listings dir name (option_map string_bytes c.in_ok-greatest_candidate-in-Nothing.field-0)
+    (subst (λ m. NamedDefault results files listings dir name (named_candidate_view m)) c.in-Nothing.is (c.in_ok-version.ensures.answer files listings (c.greatest_candidate.ensures.before files listings agree)))
     (c.in_ok-greatest_candidate-in-Nothing.ensures.answer files listings agree)
 
-pub returns-in-Some-clause-told : goal.returns-in-Some-clause-told
-returns-in-Some-clause-told g c = λ files listings agree.
-    let leaves = g.D.DefaultFiles.leaves c.args.default_files.now in
+pub returns-in-Some-clause-over_tree : goal.returns-in-Some-clause-over_tree
+returns-in-Some-clause-over_tree g c = λ files listings agree.
+    let results = g.D.DefaultFiles.results c.args.default_files.now in
     let dir = c.args.dir.now in
     let name = c.args.name.now in
-    default_bad leaves files listings dir name (string_bytes c.in-Some.field-0) (bad_default (string_bytes c.in-BadFile.path))
-    (subst (λ m. NamedDefault leaves files listings dir name (named_view m)) c.in-BadFile.is (c.in_ok-version.ensures.answer files listings (c.greatest_candidate-in-BadFile.ensures.before files listings agree)))
+    default_bad results files listings dir name (string_bytes c.in-Some.field-0) (bad_default (string_bytes c.in-BadFile.path))
+    (subst (λ m. NamedDefault results files listings dir name (named_candidate_view m)) c.in-BadFile.is (c.in_ok-version.ensures.answer files listings (c.greatest_candidate-in-BadFile.ensures.before files listings agree)))
     (subst (λ o. IsGreatestOf files listings dir name (option_map string_bytes o)) c.in-Some.is (c.in_ok-greatest_candidate-in-BadFile.ensures.answer files listings agree))
 
-pub returns-then-not-branch-clause-told : goal.returns-then-not-branch-clause-told
-returns-then-not-branch-clause-told g c = λ files listings agree.
+pub returns-then-not-branch-clause-over_tree : goal.returns-then-not-branch-clause-over_tree
+returns-then-not-branch-clause-over_tree g c = λ files listings agree.
     let dir = c.args.dir.now in
     let name = c.args.name.now in
     let entries = map string_bytes c.args.entries.now in
     let none : list_any (is_version name) entries ≡ false = sym c.in_ok-has_version.ensures ∙ c.if-not-branch.true in
-    default_none (g.D.DefaultFiles.leaves c.args.default_files.now) files listings dir name (no_candidates files listings dir name entries (c.requires files listings agree) none)
+    default_none (g.D.DefaultFiles.results c.args.default_files.now) files listings dir name (no_candidates files listings dir name entries (c.requires files listings agree) none)
 
 pub returns-in_err-version-clause-failed : goal.returns-in_err-version-clause-failed
 returns-in_err-version-clause-failed g c =
-    let leaves = g.D.DefaultFiles.leaves c.args.default_files.now in
+    let results = g.D.DefaultFiles.results c.args.default_files.now in
     let dir = c.args.dir.now in
     let name = c.args.name.now in
     let entries = map string_bytes c.args.entries.now in
@@ -59,15 +59,15 @@ returns-in_err-version-clause-failed g c =
     let e = c.in_err-version.field-0.0 in
     let p = err_from_is_err_and c.from_residual-in_err-version.result c.from_residual-in_err-version.ensures.1 in
     rw (p.1, p.2) (fails_then (is_device e) (is_failure (fault_of_tree e)) (g.T.Tree.failed c.args.tree.now) (g.T.Tree.failed c.args.tree.now) (g.T.Tree.failed c.named_default.new.tree)
-    (λ at. InEachPair agrees (λ files listings. LooksForNamed leaves files listings dir name at))
-    (λ at. InEachPair agrees (λ files listings. LooksInFolder leaves files listings dir name at)) refl (same_failure e)
+    (λ at. InEachPair agrees (λ files listings. LooksForNamed results files listings dir name at))
+    (λ at. InEachPair agrees (λ files listings. LooksInFolder results files listings dir name at)) refl (same_failure e)
     (λ at h files listings a.
     (some_version files listings dir name entries (c.requires files listings (c.named_default.ensures.before files listings a)) some, inl (h files listings a)))
     c.in_err-version.ensures.failed)
 
 pub returns-in_err-greatest_candidate-in-Nothing-clause-failed : goal.returns-in_err-greatest_candidate-in-Nothing-clause-failed
 returns-in_err-greatest_candidate-in-Nothing-clause-failed g c =
-    let leaves = g.D.DefaultFiles.leaves c.args.default_files.now in
+    let results = g.D.DefaultFiles.results c.args.default_files.now in
     let dir = c.args.dir.now in
     let name = c.args.name.now in
     let entries = map string_bytes c.args.entries.now in
@@ -77,17 +77,17 @@ returns-in_err-greatest_candidate-in-Nothing-clause-failed g c =
     let p = err_from_is_err_and c.from_residual-in_err-greatest_candidate-in-Nothing.result c.from_residual-in_err-greatest_candidate-in-Nothing.ensures.1 in
     rw (p.1, p.2) (fails_then (is_device e) (is_failure (fault_of_tree e)) (g.T.Tree.failed c.args.tree.now) (g.T.Tree.failed c.named_default.new.tree) (g.T.Tree.failed c.greatest_candidate.new.tree)
     (λ at. InEachPair agrees (λ files listings. LooksForGreatest files listings dir name at))
-    (λ at. InEachPair agrees (λ files listings. LooksInFolder leaves files listings dir name at)) c.in_ok-version.ensures.failed (same_failure e)
+    (λ at. InEachPair agrees (λ files listings. LooksInFolder results files listings dir name at)) c.in_ok-version.ensures.failed (same_failure e)
     (λ at h files listings a.
     let b = c.greatest_candidate.ensures.before files listings a in (
       some_version files listings dir name entries (c.requires files listings (c.named_default.ensures.before files listings b)) some,
-      inr (inl (subst (λ m. NamedDefault leaves files listings dir name (named_view m)) c.in-Nothing.is (c.in_ok-version.ensures.answer files listings b)), h files listings a),
+      inr (inl (subst (λ m. NamedDefault results files listings dir name (named_candidate_view m)) c.in-Nothing.is (c.in_ok-version.ensures.answer files listings b)), h files listings a),
     ))
     c.in_err-greatest_candidate-in-Nothing.ensures.failed)
 
 pub returns-in_err-greatest_candidate-in-BadFile-clause-failed : goal.returns-in_err-greatest_candidate-in-BadFile-clause-failed
 returns-in_err-greatest_candidate-in-BadFile-clause-failed g c =
-    let leaves = g.D.DefaultFiles.leaves c.args.default_files.now in
+    let results = g.D.DefaultFiles.results c.args.default_files.now in
     let dir = c.args.dir.now in
     let name = c.args.name.now in
     let entries = map string_bytes c.args.entries.now in
@@ -97,10 +97,10 @@ returns-in_err-greatest_candidate-in-BadFile-clause-failed g c =
     let p = err_from_is_err_and c.from_residual-in_err-greatest_candidate-in-BadFile.result c.from_residual-in_err-greatest_candidate-in-BadFile.ensures.1 in
     rw (p.1, p.2) (fails_then (is_device e) (is_failure (fault_of_tree e)) (g.T.Tree.failed c.args.tree.now) (g.T.Tree.failed c.named_default.new.tree) (g.T.Tree.failed c.greatest_candidate-in-BadFile.new.tree)
     (λ at. InEachPair agrees (λ files listings. LooksForGreatest files listings dir name at))
-    (λ at. InEachPair agrees (λ files listings. LooksInFolder leaves files listings dir name at)) c.in_ok-version.ensures.failed (same_failure e)
+    (λ at. InEachPair agrees (λ files listings. LooksInFolder results files listings dir name at)) c.in_ok-version.ensures.failed (same_failure e)
     (λ at h files listings a.
     let b = c.greatest_candidate-in-BadFile.ensures.before files listings a in (
       some_version files listings dir name entries (c.requires files listings (c.named_default.ensures.before files listings b)) some,
-      inr (inr (bad_default (string_bytes c.in-BadFile.path), subst (λ m. NamedDefault leaves files listings dir name (named_view m)) c.in-BadFile.is (c.in_ok-version.ensures.answer files listings b)), h files listings a),
+      inr (inr (bad_default (string_bytes c.in-BadFile.path), subst (λ m. NamedDefault results files listings dir name (named_candidate_view m)) c.in-BadFile.is (c.in_ok-version.ensures.answer files listings b)), h files listings a),
     ))
     c.in_err-greatest_candidate-in-BadFile.ensures.failed)

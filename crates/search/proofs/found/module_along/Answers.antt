@@ -4,78 +4,78 @@ use Rattle.filetree.specs.Agreement.{InEachPair}
 use Rattle.search.specs.Found.{FoundAlong}
 use Rattle.search.specs.Looked.{LooksBelow, LooksAlong}
 use Rattle.search.specs.Answers.{found_view, is_failure}
-use Rattle.search.specs.Steps.{Below}
+use Rattle.search.specs.Steps.{FoundBelow}
 use Rattle.search.proofs.FailureLemmas.{fails_then}
-use Rattle.search.proofs.LookLemmas.{looks_here, looks_behind}
-use Rattle.search.proofs.StepLemmas.{tells_fault, Continues, along_rest}
+use Rattle.search.proofs.LookLemmas.{looks_here, looks_after}
+use Rattle.search.proofs.StepLemmas.{over_tree_fault, Continues, along_rest}
 use Rattle.search.proofs.found.module_along.Goals as goal
 
 nothing : Bor (List ℕ)
 nothing = record { ref_ptr = (0, 0); now = [] }
 
-pub returns-in_err-found-clause-told : goal.returns-in_err-found-clause-told
+pub returns-in_err-found-clause-over_tree : goal.returns-in_err-found-clause-over_tree
 unfolding nothing
-returns-in_err-found-clause-told g c =
-    let leaves = g.D.DefaultFiles.leaves c.args.default_files.now in
+returns-in_err-found-clause-over_tree g c =
+    let results = g.D.DefaultFiles.results c.args.default_files.now in
     let name = c.args.name.now in
     let rest = c.loop-rest.rest.now in
     let p = err_from_is_err_and c.from_residual.result c.from_residual.ensures.1 in
-    rw (p.1, p.2) (tells_fault (g.T.Tree.agrees c.module_below.new.tree)
+    rw (p.1, p.2) (over_tree_fault (g.T.Tree.agrees c.module_below.new.tree)
     (g.T.Tree.failures c.loop-rest.tree < g.T.Tree.failures c.module_below.new.tree) (g.T.Tree.failures c.args.tree.now < g.T.Tree.failures c.module_below.new.tree)
     (option_map found_view) found_view
-    (λ files listings. Below leaves files listings (get_or rest 0 nothing).now name)
-    (λ files listings. FoundAlong leaves files listings name (map (λ dir. dir.now) c.args.dirs.now)) c.in_err-found.field-0.0 (λ q. omega arith)
+    (λ files listings. FoundBelow results files listings (get_or rest 0 nothing).now name)
+    (λ files listings. FoundAlong results files listings name (map (λ dir. dir.now) c.args.dirs.now)) c.in_err-found.field-0.0 (λ q. omega arith)
     (λ files listings r a h. c.loop-rest.invariant.none_yet files listings (c.module_below.ensures.before files listings a) (Err r)
-    (along_rest leaves files listings name (λ dir. dir.now) nothing rest c.in-len1-up.len_at_least (Err r) (Err r) h refl))
-    c.in_err-found.ensures.told)
+    (along_rest results files listings name (λ dir. dir.now) nothing rest c.in-len1-up.len_at_least (Err r) (Err r) h refl))
+    c.in_err-found.ensures.over_tree)
 
-pub returns-in-Some-clause-told : goal.returns-in-Some-clause-told
+pub returns-in-Some-clause-over_tree : goal.returns-in-Some-clause-over_tree
 unfolding nothing
-returns-in-Some-clause-told g c = λ files listings a.
-    let leaves = g.D.DefaultFiles.leaves c.args.default_files.now in
+returns-in-Some-clause-over_tree g c = λ files listings a.
+    let results = g.D.DefaultFiles.results c.args.default_files.now in
     let name = c.args.name.now in
     let found = Ok (found_view c.in-Some.found) in
     c.loop-rest.invariant.none_yet files listings (c.module_below.ensures.before files listings a) found
-    (along_rest leaves files listings name (λ dir. dir.now) nothing c.loop-rest.rest.now c.in-len1-up.len_at_least (Ok (option_map found_view c.in_ok-found.field-0)) found
-    (c.in_ok-found.ensures.told files listings a)
-    (subst (λ m. Continues leaves files listings name (map (λ (dir : Bor (List ℕ)). dir.now) (take (length c.loop-rest.rest.now - 1) (drop 1 c.loop-rest.rest.now))) (Ok (option_map found_view m)) found) (sym c.in-Some.is) refl))
+    (along_rest results files listings name (λ dir. dir.now) nothing c.loop-rest.rest.now c.in-len1-up.len_at_least (Ok (option_map found_view c.in_ok-found.field-0)) found
+    (c.in_ok-found.ensures.over_tree files listings a)
+    (subst (λ m. Continues results files listings name (map (λ (dir : Bor (List ℕ)). dir.now) (take (length c.loop-rest.rest.now - 1) (drop 1 c.loop-rest.rest.now))) (Ok (option_map found_view m)) found) (sym c.in-Some.is) refl))
 
 pub loop-rest-preserved : goal.loop-rest-preserved
 unfolding nothing
 loop-rest-preserved g c = record {
   before = λ files listings a. c.loop-rest.invariant.before files listings (c.module_below.ensures.before files listings a);
   none_yet = λ files listings a o k.
-      let leaves = g.D.DefaultFiles.leaves c.args.default_files.now in
+      let results = g.D.DefaultFiles.results c.args.default_files.now in
       let name = c.args.name.now in
       c.loop-rest.invariant.none_yet files listings (c.module_below.ensures.before files listings a) o
-      (along_rest leaves files listings name (λ dir. dir.now) nothing c.loop-rest.rest.now c.in-len1-up.len_at_least (Ok (option_map found_view c.in_ok-found.field-0)) o
-      (c.in_ok-found.ensures.told files listings a)
-      (subst (λ m. Continues leaves files listings name (map (λ (dir : Bor (List ℕ)). dir.now) (take (length c.loop-rest.rest.now - 1) (drop 1 c.loop-rest.rest.now))) (Ok (option_map found_view m)) o) (sym c.in_default-2.is) k));
+      (along_rest results files listings name (λ dir. dir.now) nothing c.loop-rest.rest.now c.in-len1-up.len_at_least (Ok (option_map found_view c.in_ok-found.field-0)) o
+      (c.in_ok-found.ensures.over_tree files listings a)
+      (subst (λ m. Continues results files listings name (map (λ (dir : Bor (List ℕ)). dir.now) (take (length c.loop-rest.rest.now - 1) (drop 1 c.loop-rest.rest.now))) (Ok (option_map found_view m)) o) (sym c.in_default-2.is) k));
   later = omega arith;
   unfailed = c.in_ok-found.ensures.failed ∙ c.loop-rest.invariant.unfailed;
   looked = λ files listings a at h.
-      let leaves = g.D.DefaultFiles.leaves c.args.default_files.now in
+      let results = g.D.DefaultFiles.results c.args.default_files.now in
       let name = c.args.name.now in
       c.loop-rest.invariant.looked files listings (c.module_below.ensures.before files listings a) at
-      (looks_behind leaves files listings name (λ dir. dir.now) nothing c.loop-rest.rest.now c.in-len1-up.len_at_least at
-      (subst (λ m. Below leaves files listings (get_or c.loop-rest.rest.now 0 nothing).now name (Ok (option_map found_view m))) c.in_default-2.is (c.in_ok-found.ensures.told files listings a)) h);
+      (looks_after results files listings name (λ dir. dir.now) nothing c.loop-rest.rest.now c.in-len1-up.len_at_least at
+      (subst (λ m. FoundBelow results files listings (get_or c.loop-rest.rest.now 0 nothing).now name (Ok (option_map found_view m))) c.in_default-2.is (c.in_ok-found.ensures.over_tree files listings a)) h);
 }
 
 pub returns-in_err-found-clause-failed : goal.returns-in_err-found-clause-failed
 unfolding nothing
 returns-in_err-found-clause-failed g c =
-    let leaves = g.D.DefaultFiles.leaves c.args.default_files.now in
+    let results = g.D.DefaultFiles.results c.args.default_files.now in
     let name = c.args.name.now in
     let rest = c.loop-rest.rest.now in
     let agrees = g.T.Tree.agrees c.module_below.new.tree in
     let fails = is_failure c.in_err-found.field-0.0 in
     let p = err_from_is_err_and c.from_residual.result c.from_residual.ensures.1 in
     rw (p.1, p.2) (fails_then fails fails (g.T.Tree.failed c.args.tree.now) (g.T.Tree.failed c.loop-rest.tree) (g.T.Tree.failed c.module_below.new.tree)
-    (λ at. InEachPair agrees (λ files listings. LooksBelow leaves files listings (get_or rest 0 nothing).now name at))
-    (λ at. InEachPair agrees (λ files listings. LooksAlong leaves files listings name (map (λ dir. dir.now) c.args.dirs.now) at))
+    (λ at. InEachPair agrees (λ files listings. LooksBelow results files listings (get_or rest 0 nothing).now name at))
+    (λ at. InEachPair agrees (λ files listings. LooksAlong results files listings name (map (λ dir. dir.now) c.args.dirs.now) at))
     c.loop-rest.invariant.unfailed refl
     (λ at h files listings a. c.loop-rest.invariant.looked files listings (c.module_below.ensures.before files listings a) at
-    (looks_here leaves files listings name (λ dir. dir.now) nothing rest c.in-len1-up.len_at_least at (h files listings a)))
+    (looks_here results files listings name (λ dir. dir.now) nothing rest c.in-len1-up.len_at_least at (h files listings a)))
     c.in_err-found.ensures.failed)
 
 pub returns-in-Some-clause-failed : goal.returns-in-Some-clause-failed

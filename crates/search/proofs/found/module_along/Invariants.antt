@@ -9,13 +9,13 @@ abbrev pub invariant-loop-rest : goal.invariant-loop-rest
 invariant-loop-rest g l = record {
   before : InEachPair (g.T.Tree.agrees l.tree) (λ files listings. g.T.Tree.agrees l.initial.tree files listings);
   none_yet : InEachPair (g.T.Tree.agrees l.tree) (λ files listings. (o : Result FoundModule Reason)
-      → FoundAlong (g.D.DefaultFiles.leaves l.default_files) files listings l.name (map (λ dir. dir.now) l.rest) o
-      → FoundAlong (g.D.DefaultFiles.leaves l.default_files) files listings l.name (map (λ dir. dir.now) l.dirs) o);
+      → FoundAlong (g.D.DefaultFiles.results l.default_files) files listings l.name (map (λ dir. dir.now) l.rest) o
+      → FoundAlong (g.D.DefaultFiles.results l.default_files) files listings l.name (map (λ dir. dir.now) l.dirs) o);
   later : g.T.Tree.failures l.initial.tree ≤ g.T.Tree.failures l.tree;
   unfailed : g.T.Tree.failed l.tree ≡ g.T.Tree.failed l.initial.tree;
   looked : InEachPair (g.T.Tree.agrees l.tree) (λ files listings. (at : List ℕ)
-      → LooksAlong (g.D.DefaultFiles.leaves l.default_files) files listings l.name (map (λ dir. dir.now) l.rest) at
-      → LooksAlong (g.D.DefaultFiles.leaves l.default_files) files listings l.name (map (λ dir. dir.now) l.dirs) at);
+      → LooksAlong (g.D.DefaultFiles.results l.default_files) files listings l.name (map (λ dir. dir.now) l.rest) at
+      → LooksAlong (g.D.DefaultFiles.results l.default_files) files listings l.name (map (λ dir. dir.now) l.dirs) at);
 }
 
 abbrev pub decreases-loop-rest : goal.decreases-loop-rest

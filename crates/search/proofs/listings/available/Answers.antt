@@ -3,12 +3,12 @@ use Rattle.std.proofs.Common.{◌≡◌, ◌<◌, ◌≤◌, ◌-◌, ℕ, true,
 use Rattle.modulename.specs.ModuleName.{Text}
 use Rattle.filetree.specs.Agreement.{Files, Listings, InEachPair, is_device}
 use Rattle.filetree.specs.Modulefiles.{directories}
-use Rattle.search.specs.DefaultFiles.{Left}
+use Rattle.search.specs.DefaultFiles.{DefaultFileResult}
 use Rattle.search.specs.Listed.{Listing, IsListing, AreListings}
-use Rattle.search.specs.Looked.{LooksThrough, ListingLooksAt}
+use Rattle.search.specs.Looked.{LooksForListing, ListingLooksAt}
 use Rattle.search.proofs.FailureLemmas.{fails_then}
 use Rattle.search.proofs.VersionLemmas.{has, split_first}
-use Rattle.search.specs.Rows.{row_view}
+use Rattle.search.specs.ListingEntries.{listing_entry_view}
 use Rattle.search.specs.Listings.{listing_view}
 use Rattle.search.proofs.ListingLookLemmas.{first_has, later_has}
 use Rattle.search.proofs.listings.available.Goals as goal
@@ -16,17 +16,17 @@ use Rattle.search.proofs.listings.available.Goals as goal
 nothing : Bor (List ℕ)
 nothing = record { ref_ptr = (0, 0); now = [] }
 
-none_left : (leaves : Text → Text → Option Left → Type 0) (files : Files) (folders : Listings) {X : Type 0} (view : X → Text) (rest : List X) → length rest < 1
-    → AreListings leaves files folders (map view rest) []
-none_left leaves files folders view [] h = tt
-none_left leaves files folders view (x ∷ xs) h = absurd (omega arith)
+none_left : (results : Text → Text → Option DefaultFileResult → Type 0) (files : Files) (folders : Listings) {X : Type 0} (view : X → Text) (rest : List X) → length rest < 1
+    → AreListings results files folders (map view rest) []
+none_left results files folders view [] h = tt
+none_left results files folders view (x ∷ xs) h = absurd (omega arith)
 
 -- the listing of the first remaining directory, before those of the others
-listed_first : (leaves : Text → Text → Option Left → Type 0) (files : Files) (folders : Listings) {X : Type 0} (view : X → Text) (d : X) (rest : List X) → 1 ≤ length rest
-    → (l : Listing) → l.0 ≡ view (get_or rest 0 d) → IsListing leaves files folders (view (get_or rest 0 d)) l.1
-    → (more : List Listing) → AreListings leaves files folders (map view (take (length rest - 1) (drop 1 rest))) more → AreListings leaves files folders (map view rest) (l ∷ more)
-listed_first leaves files folders view d rest some l dir rows more h =
-    subst (λ dirs. AreListings leaves files folders dirs (l ∷ more)) (sym (split_first view d rest some)) (dir, rows, h)
+listed_first : (results : Text → Text → Option DefaultFileResult → Type 0) (files : Files) (folders : Listings) {X : Type 0} (view : X → Text) (d : X) (rest : List X) → 1 ≤ length rest
+    → (l : Listing) → l.0 ≡ view (get_or rest 0 d) → IsListing results files folders (view (get_or rest 0 d)) l.1
+    → (more : List Listing) → AreListings results files folders (map view (take (length rest - 1) (drop 1 rest))) more → AreListings results files folders (map view rest) (l ∷ more)
+listed_first results files folders view d rest some l dir listing_entries more h =
+    subst (λ dirs. AreListings results files folders dirs (l ∷ more)) (sym (split_first view d rest some)) (dir, listing_entries, h)
 
 pushed : {X Y : Type 0} (view : X → Y) (xs ys : List X) (x : X) → ys ≡ xs ++ x ∷ [] → (more : List Y) → map view xs ++ view x ∷ more ≡ map view ys ++ more
 pushed view xs ys x e more = sym (ap (λ zs. map view zs ++ more) e ∙ at xs)
@@ -37,11 +37,11 @@ pushed view xs ys x e more = sym (ap (λ zs. map view zs ++ more) e ∙ at xs)
 
 pub returns-clause-listed : goal.returns-clause-listed
 returns-clause-listed g c = λ files folders a.
-    let leaves = g.D.DefaultFiles.leaves c.args.default_files.now in
+    let results = g.D.DefaultFiles.results c.args.default_files.now in
     let listings = map listing_view c.loop-rest.listings.items in
-    subst (AreListings leaves files folders (directories c.args.modulepath.now)) (append-nil listings)
-    (subst (λ dirs. AreListings leaves files folders dirs (listings ++ [])) (ap (map (λ dir. dir.now)) c.as_slice-rest.ensures.value ∙ c.in_ok-dirs.ensures)
-    (c.loop-rest.invariant.so_far files folders a [] (none_left leaves files folders (λ dir. dir.now) c.loop-rest.rest.now c.in_default.len_below)))
+    subst (AreListings results files folders (directories c.args.modulepath.now)) (append-nil listings)
+    (subst (λ dirs. AreListings results files folders dirs (listings ++ [])) (ap (map (λ dir. dir.now)) c.as_slice-rest.ensures.value ∙ c.in_ok-dirs.ensures)
+    (c.loop-rest.invariant.so_far files folders a [] (none_left results files folders (λ dir. dir.now) c.loop-rest.rest.now c.in_default.len_below)))
 
 pub returns-clause-failed : goal.returns-clause-failed
 returns-clause-failed g c = c.loop-rest.invariant.unfailed
@@ -59,7 +59,7 @@ returns-in_err-push-clause-failed g c =
 pub returns-in_err-modules-clause-failed : goal.returns-in_err-modules-clause-failed
 unfolding nothing
 returns-in_err-modules-clause-failed g c =
-    let leaves = g.D.DefaultFiles.leaves c.args.default_files.now in
+    let results = g.D.DefaultFiles.results c.args.default_files.now in
     let modulepath = c.args.modulepath.now in
     let rest = c.loop-rest.rest.now in
     let dir = (get_or rest 0 nothing).now in
@@ -70,8 +70,8 @@ returns-in_err-modules-clause-failed g c =
     ap (has dir) (sym (ap (map (λ d. d.now)) c.as_slice-rest.ensures.value ∙ c.in_ok-dirs.ensures))
     ∙ c.loop-rest.invariant.among dir (first_has (λ d. d.now) nothing rest c.in-len1-up.len_at_least) in
     rw (p.1, p.2) (fails_then fails fails (g.T.Tree.failed c.args.tree.now) (g.T.Tree.failed c.loop-rest.tree) (g.T.Tree.failed c.modules_of.new.tree)
-    (λ at. InEachPair agrees (λ files folders. LooksThrough leaves files folders dir at))
-    (λ at. InEachPair agrees (λ files folders. ListingLooksAt leaves files folders modulepath at)) c.loop-rest.invariant.unfailed refl
+    (λ at. InEachPair agrees (λ files folders. LooksForListing results files folders dir at))
+    (λ at. InEachPair agrees (λ files folders. ListingLooksAt results files folders modulepath at)) c.loop-rest.invariant.unfailed refl
     (λ at h files folders a. (dir, among, h files folders a)) c.in_err-modules.ensures.failed)
 
 pub loop-rest-preserved : goal.loop-rest-preserved
@@ -79,13 +79,13 @@ unfolding nothing
 loop-rest-preserved g c = record {
   before = λ files folders a. c.loop-rest.invariant.before files folders (c.modules_of.ensures.before files folders a);
   so_far = λ files folders a more h.
-      let leaves = g.D.DefaultFiles.leaves c.args.default_files.now in
+      let results = g.D.DefaultFiles.results c.args.default_files.now in
       let b = c.modules_of.ensures.before files folders a in
-      let listing : Listing = (string_bytes c.in_ok-from_str.field-0, map row_view (vec_items c.in_ok-modules.modules)) in
-      subst (AreListings leaves files folders (map (λ d. d.now) c.as_slice-rest.result.now))
+      let listing : Listing = (string_bytes c.in_ok-from_str.field-0, map listing_entry_view (vec_items c.in_ok-modules.modules)) in
+      subst (AreListings results files folders (map (λ d. d.now) c.as_slice-rest.result.now))
       (pushed listing_view c.loop-rest.listings.items c.push.new.self.items _ c.in_ok-push.ensures.items more)
       (c.loop-rest.invariant.so_far files folders b (listing ∷ more)
-      (listed_first leaves files folders (λ d. d.now) nothing c.loop-rest.rest.now c.in-len1-up.len_at_least listing c.in_ok-from_str.ensures.ok
+      (listed_first results files folders (λ d. d.now) nothing c.loop-rest.rest.now c.in-len1-up.len_at_least listing c.in_ok-from_str.ensures.ok
       (c.in_ok-modules.ensures.answer files folders a) more h));
   later = omega arith;
   unfailed = c.in_ok-modules.ensures.failed ∙ c.loop-rest.invariant.unfailed;

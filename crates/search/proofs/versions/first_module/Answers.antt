@@ -2,7 +2,7 @@ use Rattle.std.proofs.Common.{◌≡◌, List, ℕ, Bor, [], get_or, map, refl, 
 use Rattle.std.proofs.lemmas.Result.{err_from_is_err_and}
 use Rattle.filetree.specs.Agreement.{InEachPair, is_device}
 use Rattle.filetree.specs.Modulefiles.{path_of}
-use Rattle.search.specs.Versions.{is_module_in, LooksDown}
+use Rattle.search.specs.Versions.{is_module_in, LooksFromGreatest}
 use Rattle.search.proofs.FailureLemmas.{fails_then}
 use Rattle.search.proofs.VersionLemmas.{find_later, looks_first, looks_later}
 use Rattle.search.proofs.versions.first_module.Goals as goal
@@ -36,7 +36,7 @@ returns-in_err-is_module_in-clause-failed g c =
     rw (p.1, p.2) (fails_then (is_device c.in_err-is_module_in.field-0.0) (is_device c.in_err-is_module_in.field-0.0)
     (g.T.Tree.failed c.args.tree.now) (g.T.Tree.failed c.loop-rest.tree) (g.T.Tree.failed c.is_module_in.new.tree)
     (λ at. at ≡ path_of dir (path_of name (get_or rest 0 nothing).now))
-    (λ at. InEachPair (g.T.Tree.agrees c.is_module_in.new.tree) (λ files listings. LooksDown files dir name (map (λ v. v.now) c.args.versions.now) at))
+    (λ at. InEachPair (g.T.Tree.agrees c.is_module_in.new.tree) (λ files listings. LooksFromGreatest files dir name (map (λ v. v.now) c.args.versions.now) at))
     c.loop-rest.invariant.unfailed refl
     (λ at e files listings a. c.loop-rest.invariant.looked files listings (c.is_module_in.ensures.before files listings a) at
     (looks_first (λ v. v.now) files dir name nothing rest c.in-len1-up.len_at_least at e))

@@ -1,6 +1,6 @@
 use Rattle.std.proofs.Common.{◌≡◌, ◌≤◌, List, ℕ, length, map, find}
 use Rattle.filetree.specs.Agreement.{InEachPair}
-use Rattle.search.specs.Versions.{is_module_in, LooksDown}
+use Rattle.search.specs.Versions.{is_module_in, LooksFromGreatest}
 use Rattle.search.proofs.versions.first_module.Given as goal
 
 abbrev pub invariant-loop-rest : goal.invariant-loop-rest
@@ -11,7 +11,7 @@ invariant-loop-rest g l = record {
   later : g.T.Tree.failures l.initial.tree ≤ g.T.Tree.failures l.tree;
   unfailed : g.T.Tree.failed l.tree ≡ g.T.Tree.failed l.initial.tree;
   looked : InEachPair (g.T.Tree.agrees l.tree) (λ files listings. (at : List ℕ)
-      → LooksDown files l.dir l.name (map (λ v. v.now) l.rest) at → LooksDown files l.dir l.name (map (λ v. v.now) l.versions) at);
+      → LooksFromGreatest files l.dir l.name (map (λ v. v.now) l.rest) at → LooksFromGreatest files l.dir l.name (map (λ v. v.now) l.versions) at);
 }
 
 abbrev pub decreases-loop-rest : goal.decreases-loop-rest

@@ -2,7 +2,7 @@ use Rattle.std.proofs.Common.{◌≡◌, map, find, string_bytes, option_map, re
 use Rattle.std.proofs.lemmas.Result.{IfOk-weaker}
 use Rattle.filetree.specs.Agreement.{InEachPair, is_device}
 use Rattle.search.specs.Looked.{LooksForGreatest}
-use Rattle.search.specs.Versions.{is_module_in, IsGreatestOf, LooksDown}
+use Rattle.search.specs.Versions.{is_module_in, IsGreatestOf, LooksFromGreatest}
 use Rattle.search.proofs.FailureLemmas.{fails_last}
 use Rattle.search.proofs.VersionLemmas.{greatest_is, greatest_looked}
 use Rattle.search.proofs.versions.greatest_candidate.Goals as goal
@@ -27,10 +27,10 @@ returns-clause-failed g c =
     let name = c.args.name.now in
     let agrees = g.T.Tree.agrees c.first_module.new.tree in
     fails_last is_device (g.T.Tree.failed c.args.tree.now) (g.T.Tree.failed c.args.tree.now) (g.T.Tree.failed c.first_module.new.tree) c.first_module.result
-    (λ at. InEachPair agrees (λ files listings. LooksDown files dir name (map (λ v. v.now) c.deref.result.now) at))
+    (λ at. InEachPair agrees (λ files listings. LooksFromGreatest files dir name (map (λ v. v.now) c.deref.result.now) at))
     (λ at. InEachPair agrees (λ files listings. LooksForGreatest files listings dir name at)) refl
     (λ at h files listings a.
     greatest_looked files listings dir name (map string_bytes c.args.entries.now) (c.requires files listings (c.first_module.ensures.before files listings a))
     (λ v. v.now) c.in_ok-versions.versions.items c.sort_down.new.versions.items c.in_ok-versions.ensures c.in_ok-sort_down.ensures.same c.in_ok-sort_down.ensures.sorted at
-    (subst (λ vs. LooksDown files dir name (map (λ v. v.now) vs) at) c.deref.ensures.value (h files listings a)))
+    (subst (λ vs. LooksFromGreatest files dir name (map (λ v. v.now) vs) at) c.deref.ensures.value (h files listings a)))
     c.first_module.ensures.failed

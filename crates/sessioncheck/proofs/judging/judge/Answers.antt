@@ -1,5 +1,5 @@
 use Rattle.std.proofs.Common.{◌≡◌, ◌+◌, ◌<◌, ◌≤◌, List, [], ◌∷◌, ◌++◌, string_bytes, arith, sym, subst}
-use Rattle.environment.specs.Texts.{shown}
+use Rattle.envvars.specs.Texts.{slice_texts}
 use Rattle.sessioncheck.specs.Judgments.{AreJudgments, count_failed_judgments}
 use Rattle.sessioncheck.specs.declared.judging.Judgment.{Judgment}
 use Rattle.sessioncheck.proofs.JudgmentLemmas.{below_more, failures_more, judged_name, judgments_narrowed, judgments_push, more_below, moves_on, verdict_counts}
@@ -25,7 +25,7 @@ loop-rest-preserved g c =
           (verdict_counts agrees was is c.verdict-answer.result _ c.verdict-answer.ensures.later c.verdict-answer.ensures.judged));
       judged = (
         done ++ name ∷ [],
-        moves_on done name _ c.loop-rest.rest.now (shown c.args.names.now) c.in-len1-up.len_at_least c.in_ok-full_name.ensures.ok c.loop-rest.invariant.judged.1,
+        moves_on done name _ c.loop-rest.rest.now (slice_texts c.args.names.now) c.in-len1-up.len_at_least c.in_ok-full_name.ensures.ok c.loop-rest.invariant.judged.1,
         subst Are (sym items) (judgments_push agrees (first < is) c.args.limits c.args.env.now done sofar name judgment
             (judgments_narrowed (g.T.Tree.agrees c.loop-rest.tree) agrees (first < was) (first < is) c.args.limits c.args.env.now done sofar c.verdict-answer.ensures.before
             (λ h. more_below first was is h c.verdict-answer.ensures.later) c.loop-rest.invariant.judged.2)

@@ -1,6 +1,6 @@
 use Rattle.std.proofs.Common.{◌≡◌, ◌++◌, length, map}
 use Rattle.std.specs.List.{flat_map}
-use Rattle.environment.specs.Texts.{texts_in}
+use Rattle.envvars.specs.Texts.{texts_in}
 use Rattle.sessioncheck.specs.Lines.{words_between_tabs, words_in}
 use Rattle.sessioncheck.proofs.lines.words_in.Given as goal
 

@@ -1,7 +1,7 @@
 use Rattle.std.proofs.Common.{◌≡◌, ◌≤◌, ◌+◌, ◌++◌, List, length, map}
-use Rattle.environment.specs.Texts.{texts_in}
+use Rattle.envvars.specs.Texts.{texts_in}
 use Rattle.filetree.specs.Agreement.{InEachPair}
-use Rattle.requests.specs.Sessions.{Response, left_by}
+use Rattle.requests.specs.Sessions.{Response, end_environment}
 use Rattle.modules.specs.Replies.{site_in}
 use Rattle.modules.specs.Responses.{responses, count_failed}
 use Rattle.sessioncheck.specs.Sessions.{LineSession}
@@ -11,7 +11,7 @@ abbrev pub invariant-loop-rest : goal.invariant-loop-rest
 invariant-loop-rest g l = record {
   before : InEachPair (g.T.Tree.agrees l.tree) (λ files listings. g.T.Tree.agrees l.initial.tree files listings);
   failures : g.T.Tree.failures l.initial.tree + count_failed l.outcomes.items ≤ g.T.Tree.failures l.tree;
-  left : InEachPair (g.T.Tree.agrees l.tree) (λ files listings. l.env ≡ left_by l.initial.env (responses l.initial.env l.outcomes.items));
+  end : InEachPair (g.T.Tree.agrees l.tree) (λ files listings. l.env ≡ end_environment l.initial.env (responses l.initial.env l.outcomes.items));
   ran : InEachPair (g.T.Tree.agrees l.tree) (λ files listings. (os : List Response)
       → LineSession (site_in l.limits l.shell files listings) l.env (map texts_in l.rest) os
       → LineSession (site_in l.limits l.shell files listings) l.initial.env (map texts_in l.lines) (responses l.initial.env l.outcomes.items ++ os));

@@ -1,5 +1,5 @@
 use Rattle.std.proofs.Common.{sym, ap, ◌∙◌}
-use Rattle.environment.specs.Changes.{applied}
+use Rattle.envvars.specs.Changes.{applied}
 use Rattle.shelltext.proofs.Reader.{one}
 use Rattle.shelltext.proofs.laws.one_effect.Goals as goal
 

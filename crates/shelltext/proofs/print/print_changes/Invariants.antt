@@ -1,6 +1,6 @@
 use Rattle.std.proofs.Common.{◌≡◌, true, string_bytes, take}
 use Rattle.std.specs.List.{flat_map, list_all}
-use Rattle.environment.specs.Changes.{new_value_of}
+use Rattle.envvars.specs.Changes.{new_value_of}
 use Rattle.shelltext.specs.Printing.{is_sayable, printed_line}
 use Rattle.shelltext.proofs.print.print_changes.Given as goal
 

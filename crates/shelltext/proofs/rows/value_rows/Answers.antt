@@ -1,5 +1,5 @@
 use Rattle.std.proofs.Common.{[], ◌∷◌, codes, refl, arith}
-use Rattle.shelltext.specs.Reading.{literal, mark}
+use Rattle.shelltext.specs.Reading.{literal, special}
 use Rattle.shelltext.proofs.rows.value_rows.Goals as goal
 
 pub returns-clause-sh : goal.returns-clause-sh
@@ -27,7 +27,7 @@ returns-clause-sh_quote c = (
   codes "Q='it'\\''s!'; export Q;\n",
   [],
   refl,
-  (codes "'it'\\''s!'", record { parts = literal (codes "it") ∷ mark 39 ∷ literal (codes "s!") ∷ []; some = omega arith; proper = (refl, (refl, (refl, tt))); spelled = refl; meant = refl }, refl),
+  (codes "'it'\\''s!'", record { parts = literal (codes "it") ∷ special 39 ∷ literal (codes "s!") ∷ []; some = omega arith; proper = (refl, (refl, (refl, tt))); spelled = refl; meant = refl }, refl),
   refl,
   refl,
 )
@@ -37,7 +37,7 @@ returns-clause-csh c = (
   codes "setenv N 'a'\\!'b\\';\n",
   [],
   refl,
-  (codes "'a'\\!'b\\'", record { parts = literal (codes "a") ∷ mark 33 ∷ literal (codes "b\\") ∷ []; some = omega arith; proper = (refl, (refl, (refl, tt))); spelled = refl; meant = refl }, refl),
+  (codes "'a'\\!'b\\'", record { parts = literal (codes "a") ∷ special 33 ∷ literal (codes "b\\") ∷ []; some = omega arith; proper = (refl, (refl, (refl, tt))); spelled = refl; meant = refl }, refl),
   refl,
   refl,
 )
@@ -47,7 +47,7 @@ returns-clause-csh_quote c = (
   codes "setenv Q 'it'\\''s';\n",
   [],
   refl,
-  (codes "'it'\\''s'", record { parts = literal (codes "it") ∷ mark 39 ∷ literal (codes "s") ∷ []; some = omega arith; proper = (refl, (refl, (refl, tt))); spelled = refl; meant = refl }, refl),
+  (codes "'it'\\''s'", record { parts = literal (codes "it") ∷ special 39 ∷ literal (codes "s") ∷ []; some = omega arith; proper = (refl, (refl, (refl, tt))); spelled = refl; meant = refl }, refl),
   refl,
   refl,
 )
@@ -57,7 +57,7 @@ returns-clause-fish c = (
   codes "set -xg N 'a!b\\\\';\n",
   [],
   refl,
-  (codes "'a!b\\\\'", record { parts = literal (codes "a!b") ∷ mark 92 ∷ []; some = omega arith; proper = (refl, (refl, tt)); spelled = refl; meant = refl }, refl),
+  (codes "'a!b\\\\'", record { parts = literal (codes "a!b") ∷ special 92 ∷ []; some = omega arith; proper = (refl, (refl, tt)); spelled = refl; meant = refl }, refl),
   refl,
   refl,
 )
@@ -67,7 +67,7 @@ returns-clause-fish_quote c = (
   codes "set -xg Q 'it\\'s';\n",
   [],
   refl,
-  (codes "'it\\'s'", record { parts = literal (codes "it") ∷ mark 39 ∷ literal (codes "s") ∷ []; some = omega arith; proper = (refl, (refl, (refl, tt))); spelled = refl; meant = refl }, refl),
+  (codes "'it\\'s'", record { parts = literal (codes "it") ∷ special 39 ∷ literal (codes "s") ∷ []; some = omega arith; proper = (refl, (refl, (refl, tt))); spelled = refl; meant = refl }, refl),
   refl,
   refl,
 )

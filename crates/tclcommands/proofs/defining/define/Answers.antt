@@ -1,6 +1,6 @@
 use Rattle.std.proofs.lemmas.Result.{err_from_is_err_and}
 use Rattle.tclrules.proofs.Leading.{starve}
-use Rattle.tclsteps.proofs.Leading.{given_stops, given_on}
+use Rattle.tclsubstitution.proofs.Leading.{given_stops, given_on}
 use Rattle.tclcommands.proofs.defining.define.Goals as goal
 
 pub returns-in_err-parameters : goal.returns-in_err-parameters

@@ -5,8 +5,8 @@ use Rattle.tclchars.specs.Faults.{max_bytes}
 use Rattle.tcllist.specs.Lists.{list_text}
 use Rattle.tclrules.specs.Variables.{value_at}
 use Rattle.tclrules.specs.Rules.{value_or, lengthened}
-use Rattle.tclrules.proofs.Leading.{go_on, starve}
-use Rattle.tclsteps.proofs.Leading.{given_on}
+use Rattle.tclrules.proofs.Leading.{continue_with, starve}
+use Rattle.tclsubstitution.proofs.Leading.{given_on}
 use Rattle.tclvariables.proofs.Stores.{written}
 use Rattle.tclcommands.proofs.ListTexts.{held, read_again}
 use Rattle.tclcommands.proofs.lists.extend_list.Goals as goal
@@ -14,13 +14,13 @@ use Rattle.tclcommands.proofs.lists.extend_list.Goals as goal
 pub returns-in_err-text : goal.returns-in_err-text
 returns-in_err-text c =
     let p = err_from_is_err_and c.from_residual.result c.from_residual.ensures.1 in
-    rw (p.1, p.2) (λ most left r k x. starve)
+    rw (p.1, p.2) (λ most remaining r k x. starve)
 
 pub of_list-requires : goal.of_list-requires
 of_list-requires c =
     let p : Bool × Text = (c.args.global, c.args.name.now) in
     let l = held c.args.variables.now p c.requires.list in
-    (l.0 ++ map string_bytes c.args.values.now, c.in_ok-text.ensures l.0 (c.taken-old.ensures.value ∙ l.1))
+    (l.0 ++ map string_bytes c.args.values.now, c.in_ok-text.ensures l.0 (c.take_text-old.ensures.value ∙ l.1))
 
 pub put_at-requires : goal.put_at-requires
 put_at-requires c = search rules
@@ -31,20 +31,20 @@ returns-in_err-put_at c =
     let p : Bool × Text = (c.args.global, c.args.name.now) in
     let l = held c.args.variables.now p c.requires.list in
     let xs = map string_bytes c.args.values.now in
-    let t = c.of_list.ensures ∙ c.in_ok-text.ensures l.0 (c.taken-old.ensures.value ∙ l.1) in
+    let t = c.of_list.ensures ∙ c.in_ok-text.ensures l.0 (c.take_text-old.ensures.value ∙ l.1) in
     let short : length (list_text l.0) ≤ max_bytes = rw l.1 at c.requires.read in
     let n : lengthened (value_or [] c.args.variables.now p) xs ≡ Ok (list_text (l.0 ++ xs)) = rw l.1 (read_again l.0 xs short) in
-    let g = c.taken-old.ensures.given_back c.of_list.result in
-    rw (q.1, q.2) (λ most left r k x. go_on (given_on _ _ _ _ n) (rw (← t, ← g) (c.in_err-put_at.ensures.leads most left r k x)))
+    let g = c.take_text-old.ensures.given_back c.of_list.result in
+    rw (q.1, q.2) (λ most remaining r k x. continue_with (given_on _ _ _ _ n) (rw (← t, ← g) (c.in_err-put_at.ensures.continues most remaining r k x)))
 
 pub returns : goal.returns
 returns c =
     let p : Bool × Text = (c.args.global, c.args.name.now) in
     let l = held c.args.variables.now p c.requires.list in
     let xs = map string_bytes c.args.values.now in
-    let t = c.of_list.ensures ∙ c.in_ok-text.ensures l.0 (c.taken-old.ensures.value ∙ l.1) in
+    let t = c.of_list.ensures ∙ c.in_ok-text.ensures l.0 (c.take_text-old.ensures.value ∙ l.1) in
     let short : length (list_text l.0) ≤ max_bytes = rw l.1 at c.requires.read in
     let n : lengthened (value_or [] c.args.variables.now p) xs ≡ Ok (list_text (l.0 ++ xs)) = rw l.1 (read_again l.0 xs short) in
-    let g = c.taken-old.ensures.given_back c.of_list.result in
-    let w = ap (λ s. value_at s p) (c.in_ok-put_at.ensures.written ∙ g) ∙ written c.args.variables.now c.requires.place.0 p c.of_list.result c.requires.place.1 in
-    λ most left r k x. rw w (go_on (given_on _ _ _ _ n) (rw (← t, ← g) (c.in_ok-put_at.ensures.leads most left r k x)))
+    let g = c.take_text-old.ensures.given_back c.of_list.result in
+    let w = ap (λ s. value_at s p) (c.in_ok-put_at.ensures.written ∙ g) ∙ written c.args.variables.now c.requires.location.0 p c.of_list.result c.requires.location.1 in
+    λ most remaining r k x. rw w (continue_with (given_on _ _ _ _ n) (rw (← t, ← g) (c.in_ok-put_at.ensures.continues most remaining r k x)))

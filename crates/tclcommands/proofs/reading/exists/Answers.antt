@@ -1,41 +1,41 @@
 use Rattle.std.proofs.Common.{rules}
 use Rattle.std.proofs.lemmas.Result.{err_from_is_err_and}
-use Rattle.tclrules.proofs.Leading.{go_on, want, read_on}
-use Rattle.tclsteps.proofs.Leading.{given_stops, given_on}
+use Rattle.tclrules.proofs.Leading.{continue_with, want, read_on}
+use Rattle.tclsubstitution.proofs.Leading.{given_stops, given_on}
 use Rattle.tclcommands.proofs.Insides.{seen}
 use Rattle.tclcommands.proofs.reading.exists.Goals as goal
 
-pub is_there-requires-text-name : goal.is_there-requires-text-name
-is_there-requires-text-name g c = search rules
+pub is_set-requires-text-name : goal.is_set-requires-text-name
+is_set-requires-text-name g c = search rules
 
 pub read_env-requires-text-name : goal.read_env-requires-text-name
 read_env-requires-text-name g c = search rules
 
-pub returns-in_err-place : goal.returns-in_err-place
-returns-in_err-place g c =
+pub returns-in_err-location : goal.returns-in_err-location
+returns-in_err-location g c =
     let p = err_from_is_err_and c.from_residual.result c.from_residual.ensures.1 in
-    rw (p.1, p.2) (λ most used b r k. given_stops _ _ _ _ c.in_err-place.ensures)
+    rw (p.1, p.2) (λ most used b r k. given_stops _ _ _ _ c.in_err-location.ensures)
 
-pub returns-in-Plain : goal.returns-in-Plain
-returns-in-Plain g c =
-    let e = rw c.in-Plain.is at c.in_ok-place.ensures in
-    λ most used b r k. rw (c.truth.ensures c.args.variables.now, ← c.is_there.ensures k) (given_on _ _ _ _ e)
+pub returns-in-Scalar : goal.returns-in-Scalar
+returns-in-Scalar g c =
+    let e = rw c.in-Scalar.is at c.in_ok-location.ensures in
+    λ most used b r k. rw (c.truth.ensures c.args.variables.now, ← c.is_set.ensures k) (given_on _ _ _ _ e)
 
 pub returns-in_err-value-in-Element : goal.returns-in_err-value-in-Element
 returns-in_err-value-in-Element g c =
     let p = err_from_is_err_and c.from_residual-in_err-value-in-Element.result c.from_residual-in_err-value-in-Element.ensures.1 in
-    let e = rw (c.in-Element.is, c.if-global.true) at c.in_ok-place.ensures in
+    let e = rw (c.in-Element.is, c.if-global.true) at c.in_ok-location.ensures in
     let h = c.in_err-value-in-Element.ensures in
-    rw (p.1, p.2) (λ most used b r k. go_on (given_on _ _ _ _ e) (want h.answer.0 h.answer.1 h.same))
+    rw (p.1, p.2) (λ most used b r k. continue_with (given_on _ _ _ _ e) (want h.answer.0 h.answer.1 h.same))
 
 pub returns-then-global : goal.returns-then-global
 returns-then-global g c =
-    let e = rw (c.in-Element.is, c.if-global.true) at c.in_ok-place.ensures in
+    let e = rw (c.in-Element.is, c.if-global.true) at c.in_ok-location.ensures in
     let h = c.in_ok-value-in-Element.ensures in
     let s = c.args.variables.now in
-    λ most used b r k. rw (c.truth-then-global.ensures s, ← seen s k c.in_ok-value-in-Element.value c.is_some.result c.is_some.ensures, h.answer.1) (go_on (given_on _ _ _ _ e) (read_on h.answer.0 h.same))
+    λ most used b r k. rw (c.truth-then-global.ensures s, ← seen s k c.in_ok-value-in-Element.value c.is_some.result c.is_some.ensures, h.answer.1) (continue_with (given_on _ _ _ _ e) (read_on h.answer.0 h.same))
 
 pub returns-else-global : goal.returns-else-global
 returns-else-global g c =
-    let e = rw (c.in-Element.is, c.if-global.false) at c.in_ok-place.ensures in
+    let e = rw (c.in-Element.is, c.if-global.false) at c.in_ok-location.ensures in
     λ most used b r k. rw (c.truth-in-Element.ensures c.args.variables.now) (given_on _ _ _ _ e)

@@ -1,7 +1,7 @@
 use Rattle.std.proofs.Common.{Bool, ◌≡◌, true, false, is_some, rules}
 use Rattle.std.proofs.lemmas.Result.{err_from_is_err_and}
-use Rattle.tclrules.proofs.Leading.{go_on}
-use Rattle.tclsteps.proofs.Leading.{given_stops, given_on}
+use Rattle.tclrules.proofs.Leading.{continue_with}
+use Rattle.tclsubstitution.proofs.Leading.{given_stops, given_on}
 use Rattle.tclcommands.proofs.Insides.{reason_stops}
 use Rattle.tclchars.specs.Runs.{Text}
 use Rattle.tclrules.specs.Variables.{value_at}
@@ -21,21 +21,21 @@ returns-in_err-global c =
 
 pub returns-then-is_some : goal.returns-then-is_some
 returns-then-is_some c =
-    let p : Bool × Text = (c.in_ok-global.global, c.in_ok-global.place.now) in
+    let p : Bool × Text = (c.in_ok-global.global, c.in_ok-global.location.now) in
     let s = c.args.variables.now in
     let v : is_some (value_at s p) ≡ true = search rules in
     λ most r k x. rw (c.unset.ensures, ← unset_there c.args.quiet c.args.name.now s p k (value_at s p) v) (given_on _ _ _ _ c.in_ok-global.ensures)
 
 pub returns-then-quiet : goal.returns-then-quiet
 returns-then-quiet c =
-    let p : Bool × Text = (c.in_ok-global.global, c.in_ok-global.place.now) in
+    let p : Bool × Text = (c.in_ok-global.global, c.in_ok-global.location.now) in
     let s = c.args.variables.now in
     let v : is_some (value_at s p) ≡ false = search rules in
     λ most r k x. rw (c.if-quiet.true, ← (unset_absent c.args.name.now s p k (value_at s p) v).0) (given_on _ _ _ _ c.in_ok-global.ensures)
 
 pub returns : goal.returns
 returns c =
-    let p : Bool × Text = (c.in_ok-global.global, c.in_ok-global.place.now) in
+    let p : Bool × Text = (c.in_ok-global.global, c.in_ok-global.location.now) in
     let s = c.args.variables.now in
     let v : is_some (value_at s p) ≡ false = search rules in
-    λ most r k x. rw (c.if-quiet.false, c.from.ensures) (go_on (given_on _ _ _ _ c.in_ok-global.ensures) (rw ((unset_absent c.args.name.now s p k (value_at s p) v).1) (reason_stops _ _ _ c.not_to_unset.ensures)))
+    λ most r k x. rw (c.if-quiet.false, c.from.ensures) (continue_with (given_on _ _ _ _ c.in_ok-global.ensures) (rw ((unset_absent c.args.name.now s p k (value_at s p) v).1) (reason_stops _ _ _ c.cannot_unset.ensures)))

@@ -3,11 +3,11 @@ use Rattle.std.specs.Vec.Iter.{into_iter_items}
 use Rattle.tclrules.specs.Variables.{State}
 use Rattle.tclrules.specs.Plans as plans
 use Rattle.tclrules.specs.Plans.{Job}
-use Rattle.tclrules.specs.Leads.{Leads, Point}
+use Rattle.tclrules.specs.Simulates.{Simulates, Point}
 use Rattle.tclrules.specs.Rules.{assign}
-use Rattle.tclsteps.specs.Machine.{bounds}
+use Rattle.tclsubstitution.specs.Machine.{bounds}
 use Rattle.tclcommands.specs.Continuations.{named_values}
 use Rattle.tclcommands.proofs.writing.assign.Given as goal
 
 abbrev pub invariant-loop-name : goal.invariant-loop-name
-invariant-loop-name l = (most left : ℕ) (r : Job → plans.Step) (k : State → plans.Step) (x : Point) → Leads most r (assign (bounds l.limit left) (named_values l.fn.pairs.items) l.fn.variables k) x (assign (bounds l.limit left) (named_values (into_iter_items l.name-iterator)) l.variables k) x
+invariant-loop-name l = (most remaining : ℕ) (r : Job → plans.Step) (k : State → plans.Step) (x : Point) → Simulates most r (assign (bounds l.limit remaining) (named_values l.fn.pairs.items) l.fn.variables k) x (assign (bounds l.limit remaining) (named_values (into_iter_items l.name-iterator)) l.variables k) x

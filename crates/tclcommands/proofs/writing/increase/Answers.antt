@@ -2,8 +2,8 @@ use Rattle.std.proofs.Common.{Bool, string_bytes, ap, ◌∙◌, rules}
 use Rattle.std.proofs.lemmas.Result.{err_from_is_err_and}
 use Rattle.tclchars.specs.Runs.{Text}
 use Rattle.tclrules.specs.Variables.{value_at}
-use Rattle.tclrules.proofs.Leading.{go_on}
-use Rattle.tclsteps.proofs.Leading.{given_stops, given_on}
+use Rattle.tclrules.proofs.Leading.{continue_with}
+use Rattle.tclsubstitution.proofs.Leading.{given_stops, given_on}
 use Rattle.tclvariables.proofs.Stores.{written}
 use Rattle.tclcommands.proofs.Limits.{first_stops}
 use Rattle.tclcommands.proofs.writing.increase.Goals as goal
@@ -23,28 +23,28 @@ fact_in-name c = search rules
 pub returns-in_err-global : goal.returns-in_err-global
 returns-in_err-global c =
     let p = err_from_is_err_and c.from_residual.result c.from_residual.ensures.1 in
-    rw (p.1, p.2) (λ most left r k x. given_stops _ _ _ _ c.in_err-global.ensures)
+    rw (p.1, p.2) (λ most remaining r k x. given_stops _ _ _ _ c.in_err-global.ensures)
 
 pub returns-in_err-increase : goal.returns-in_err-increase
 returns-in_err-increase c =
     let p = err_from_is_err_and c.from_residual-in_err-increase.result c.from_residual-in_err-increase.ensures.1 in
-    rw (p.1, p.2) (λ most left r k x. go_on (given_on _ _ _ _ c.in_ok-global.ensures) (given_stops _ _ _ _ (first_stops _ _ _ c.in_err-increase.ensures)))
+    rw (p.1, p.2) (λ most remaining r k x. continue_with (given_on _ _ _ _ c.in_ok-global.ensures) (given_stops _ _ _ _ (first_stops _ _ _ c.in_err-increase.ensures)))
 
 pub returns-in_err-value : goal.returns-in_err-value
 returns-in_err-value c =
     let p = err_from_is_err_and c.from_residual-in_err-value.result c.from_residual-in_err-value.ensures.1 in
     let h = rw c.value_or.ensures at c.in_err-value.ensures in
-    rw (p.1, p.2) (λ most left r k x. go_on (given_on _ _ _ _ c.in_ok-global.ensures) (rw c.in_ok-increase.ensures (given_stops _ _ _ _ h)))
+    rw (p.1, p.2) (λ most remaining r k x. continue_with (given_on _ _ _ _ c.in_ok-global.ensures) (rw c.in_ok-increase.ensures (given_stops _ _ _ _ h)))
 
 pub returns-in_err-write_at : goal.returns-in_err-write_at
 returns-in_err-write_at c =
     let p = err_from_is_err_and c.from_residual-in_err-write_at.result c.from_residual-in_err-write_at.ensures.1 in
     let h = rw c.value_or.ensures at c.in_ok-value.ensures in
-    rw (p.1, p.2) (λ most left r k x. go_on (given_on _ _ _ _ c.in_ok-global.ensures) (rw c.in_ok-increase.ensures (go_on (given_on _ _ _ _ h) (c.in_err-write_at.ensures.leads most left r k x))))
+    rw (p.1, p.2) (λ most remaining r k x. continue_with (given_on _ _ _ _ c.in_ok-global.ensures) (rw c.in_ok-increase.ensures (continue_with (given_on _ _ _ _ h) (c.in_err-write_at.ensures.continues most remaining r k x))))
 
 pub returns : goal.returns
 returns c =
     let h = rw c.value_or.ensures at c.in_ok-value.ensures in
     let p : Bool × Text = (c.in_ok-global.global, c.in_ok-global.name.now) in
     let w = ap (λ s. value_at s p) c.in_ok-write_at.ensures.written ∙ written c.args.variables.now c.args.name.now p (string_bytes c.in_ok-value.value) c.in_ok-global.ensures in
-    λ most left r k x. rw w (go_on (given_on _ _ _ _ c.in_ok-global.ensures) (rw c.in_ok-increase.ensures (go_on (given_on _ _ _ _ h) (c.in_ok-write_at.ensures.leads most left r k x))))
+    λ most remaining r k x. rw w (continue_with (given_on _ _ _ _ c.in_ok-global.ensures) (rw c.in_ok-increase.ensures (continue_with (given_on _ _ _ _ h) (c.in_ok-write_at.ensures.continues most remaining r k x))))

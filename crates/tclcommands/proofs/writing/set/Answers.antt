@@ -5,7 +5,7 @@ use Rattle.tclcommands.proofs.writing.set.Goals as goal
 pub returns-in_err-copy : goal.returns-in_err-copy
 returns-in_err-copy c =
     let p = err_from_is_err_and c.from_residual.result c.from_residual.ensures.1 in
-    rw (p.1, p.2) (λ most left r k x. starve)
+    rw (p.1, p.2) (λ most remaining r k x. starve)
 
 pub returns-in_err-write : goal.returns-in_err-write
 returns-in_err-write c =

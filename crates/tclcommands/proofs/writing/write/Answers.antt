@@ -1,7 +1,7 @@
 use Rattle.std.proofs.Common.{rules}
 use Rattle.std.proofs.lemmas.Result.{err_from_is_err_and}
-use Rattle.tclrules.proofs.Leading.{go_on}
-use Rattle.tclsteps.proofs.Leading.{given_stops, given_on}
+use Rattle.tclrules.proofs.Leading.{continue_with}
+use Rattle.tclsubstitution.proofs.Leading.{given_stops, given_on}
 use Rattle.tclcommands.proofs.writing.write.Goals as goal
 
 pub write_at-requires-text-name : goal.write_at-requires-text-name
@@ -10,7 +10,7 @@ write_at-requires-text-name c = search rules
 pub returns-in_err-global : goal.returns-in_err-global
 returns-in_err-global c =
     let p = err_from_is_err_and c.from_residual.result c.from_residual.ensures.1 in
-    rw (p.1, p.2) (λ most left r k x. given_stops _ _ _ _ c.in_err-global.ensures)
+    rw (p.1, p.2) (λ most remaining r k x. given_stops _ _ _ _ c.in_err-global.ensures)
 
 pub returns : goal.returns
-returns c = λ most left r k x. go_on (given_on _ _ _ _ c.in_ok-global.ensures) (c.write_at.ensures.leads most left r k x)
+returns c = λ most remaining r k x. continue_with (given_on _ _ _ _ c.in_ok-global.ensures) (c.write_at.ensures.continues most remaining r k x)

@@ -1,9 +1,9 @@
 use Rattle.std.proofs.Common.{refl, false}
 use Rattle.std.proofs.lemmas.Result.{err_from_is_err_and}
-use Rattle.tclrules.specs.Derivation.{OutOfMemory, Halted, starves}
+use Rattle.tclrules.specs.Derivation.{OutOfMemory, Halted, lacks_memory}
 use Rattle.tclrules.specs.Rules.{file_ended}
 use Rattle.tclrules.specs.Promise.{texts_of}
-use Rattle.tclendings.proofs.Stopping.{same_as}
+use Rattle.tclcontrol.proofs.Stopping.{same_as}
 use Rattle.tclevaluator.proofs.Running.{run_after, begins_refl}
 use Rattle.tcleval.proofs.Whole.{evaluated}
 use Rattle.tcleval.proofs.file.evaluate_with.Goals as goal
@@ -11,22 +11,22 @@ use Rattle.tcleval.proofs.file.evaluate_with.Goals as goal
 pub returns-in_err-variables-clause-evaluates : goal.returns-in_err-variables-clause-evaluates
 returns-in_err-variables-clause-evaluates g c =
     let p = err_from_is_err_and c.from_residual.result c.from_residual.ensures.1 in
-    rw (p.1, p.2) (Halted OutOfMemory, 0, refl, starves false refl)
+    rw (p.1, p.2) (Halted OutOfMemory, 0, refl, lacks_memory false refl)
 
 pub returns-in_err-variables-clause-same : goal.returns-in_err-variables-clause-same
 returns-in_err-variables-clause-same g c = refl
 
 pub returns-clause-evaluates : goal.returns-clause-evaluates
 returns-clause-evaluates g c =
-    let f = rw (c.in_ok-variables.ensures, c.depth_of.ensures) at c.run_file-outcome.ensures.comes in
-    let l = same_as (c.end_of_file.ensures _) (run_after file_ended _ _ f) in
-    evaluated c.args.limits c.args.script.now (texts_of c.args.globals.items) _ _ _ _ _ _ _ _ l c.ending.ensures
+    let f = rw (c.in_ok-variables.ensures, c.depth_limit.ensures) at c.run_file-outcome.ensures.evaluates_to in
+    let l = same_as (c.file_completion.ensures _) (run_after file_ended _ _ f) in
+    evaluated c.args.limits c.args.script.now (texts_of c.args.globals.items) _ _ _ _ _ _ _ _ l c.file_answer.ensures
 
 pub returns-clause-same : goal.returns-clause-same
-returns-clause-same g c = c.run_file-outcome.ensures.comes.same
+returns-clause-same g c = c.run_file-outcome.ensures.evaluates_to.same
 
 pub returns-in_err-variables-clause-begins : goal.returns-in_err-variables-clause-begins
 returns-in_err-variables-clause-begins g c = (begins_refl, begins_refl)
 
 pub returns-clause-begins : goal.returns-clause-begins
-returns-clause-begins g c = rw c.replace.ensures.value at c.run_file-outcome.ensures.later.begins
+returns-clause-begins g c = rw c.replace.ensures.value at c.run_file-outcome.ensures.only_grows.begins

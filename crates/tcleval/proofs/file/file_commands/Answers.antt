@@ -3,18 +3,18 @@ use Rattle.tclchars.specs.Runs.{Text}
 use Rattle.tclscript.specs.Tree.{commands_of}
 use Rattle.tclscript.specs.View.{command_view}
 use Rattle.tclrules.specs.Variables.{State}
-use Rattle.tclsteps.specs.Machine.{shown, bounds}
+use Rattle.tclsubstitution.specs.Machine.{range_text, bounds}
 use Rattle.tclrules.specs.Rules as table
 use Rattle.std.proofs.lemmas.List.{drop_all}
 use Rattle.tclscript.specs.declared.tree.Script.{out-Script}
 use Rattle.tclscript.specs.declared.piece.ByteRange.{ByteRange}
-use Rattle.tclrules.proofs.Leading.{stay, go_on}
-use Rattle.tclsteps.proofs.Leading.{passed_on}
+use Rattle.tclrules.proofs.Leading.{stay, continue_with}
+use Rattle.tclsubstitution.proofs.Leading.{passed_on}
 use Rattle.tclevaluator.proofs.Running.{drop_here, script_commands, command_place, later_refl, later_on, later_beside}
 use Rattle.tcleval.proofs.file.file_commands.Goals as goal
 
 pub loop-command-init : goal.loop-command-init
-loop-command-init g c = record { comes = rw (c.new-last.ensures.bytes, script_commands (shown c.args.source.now) c.args.script.now) stay; later = later_refl }
+loop-command-init g c = record { evaluates_to = rw (c.new-last.ensures.bytes, script_commands (range_text c.args.source.now) c.args.script.now) stay; only_grows = later_refl }
 
 pub offset_bounds-command-items-command-index : goal.offset_bounds-command-items-command-index
 offset_bounds-command-items-command-index g c = omega arith
@@ -22,36 +22,36 @@ offset_bounds-command-items-command-index g c = omega arith
 pub command-requires-text-source : goal.command-requires-text-source
 command-requires-text-source g c κs = search rules
 
-pub returns-in_err-last-clause-comes : goal.returns-in_err-last-clause-comes
-returns-in_err-last-clause-comes g c =
-    let b = bounds c.args.limits.value_bytes c.args.left in
-    let view = command_view (shown c.args.source.now) in
+pub returns-in_err-last-clause-evaluates_to : goal.returns-in_err-last-clause-evaluates_to
+returns-in_err-last-clause-evaluates_to g c =
+    let b = bounds c.args.limits.value_bytes c.args.remaining in
+    let view = command_view (range_text c.args.source.now) in
     let s = c.deref-command-items.ensures.value in
     let d = drop_here _ _ _ (rw s at c.loop-command-test.true) (rw s at c.command-item.is) in
-    let l = rw (d, command_place (shown c.args.source.now) c.command-item.result) at c.loop-command.invariant.comes in
+    let l = rw (d, command_place (range_text c.args.source.now) c.command-item.result) at c.loop-command.invariant.evaluates_to in
     let rest = commands_of (map view (drop (c.loop-command.command-index + 1) (out-Script ByteRange c.args.script.now).commands.items)) in
-    let w = rw c.at_place.ensures at (c.in_err-last.ensures.comes.2 (λ (u : Text) (s2 : State). table.file_commands b rest u s2)) in
-    passed_on _ _ _ _ c.from_residual.ensures.1 (go_on l w)
+    let w = rw c.set_offset.ensures at (c.in_err-last.ensures.evaluates_to.2 (λ (u : Text) (s2 : State). table.file_commands b rest u s2)) in
+    passed_on _ _ _ _ c.from_residual.ensures.1 (continue_with l w)
 
 pub loop-command-preserved : goal.loop-command-preserved
 loop-command-preserved g c =
-    let b = bounds c.args.limits.value_bytes c.args.left in
-    let view = command_view (shown c.args.source.now) in
+    let b = bounds c.args.limits.value_bytes c.args.remaining in
+    let view = command_view (range_text c.args.source.now) in
     let s = c.deref-command-items.ensures.value in
     let d = drop_here _ _ _ (rw s at c.loop-command-test.true) (rw s at c.command-item.is) in
-    let l = rw (d, command_place (shown c.args.source.now) c.command-item.result) at c.loop-command.invariant.comes in
+    let l = rw (d, command_place (range_text c.args.source.now) c.command-item.result) at c.loop-command.invariant.evaluates_to in
     let rest = commands_of (map view (drop (c.loop-command.command-index + 1) (out-Script ByteRange c.args.script.now).commands.items)) in
-    let w = rw c.at_place.ensures at (c.in_ok-last.ensures.comes.2 (λ (u : Text) (s2 : State). table.file_commands b rest u s2)) in
-    record { comes = rw (c.in_ok-last.ensures.comes.1.1 refl) (go_on l w); later = later_on c.loop-command.invariant.later (later_beside refl refl refl refl c.in_ok-last.ensures.later) }
+    let w = rw c.set_offset.ensures at (c.in_ok-last.ensures.evaluates_to.2 (λ (u : Text) (s2 : State). table.file_commands b rest u s2)) in
+    record { evaluates_to = rw (c.in_ok-last.ensures.evaluates_to.1.1 refl) (continue_with l w); only_grows = later_on c.loop-command.invariant.only_grows (later_beside refl refl refl refl c.in_ok-last.ensures.only_grows) }
 
-pub returns-clause-comes : goal.returns-clause-comes
-returns-clause-comes g c =
+pub returns-clause-evaluates_to : goal.returns-clause-evaluates_to
+returns-clause-evaluates_to g c =
     let s = c.deref-command-items.ensures.value in
     let d = drop_all _ _ (rw s at c.loop-command-test.false) in
-    rw d at c.loop-command.invariant.comes
+    rw d at c.loop-command.invariant.evaluates_to
 
-pub returns-clause-later : goal.returns-clause-later
-returns-clause-later g c = c.loop-command.invariant.later
+pub returns-clause-only_grows : goal.returns-clause-only_grows
+returns-clause-only_grows g c = c.loop-command.invariant.only_grows
 
-pub returns-in_err-last-clause-later : goal.returns-in_err-last-clause-later
-returns-in_err-last-clause-later g c = later_on c.loop-command.invariant.later (later_beside refl refl refl refl c.in_err-last.ensures.later)
+pub returns-in_err-last-clause-only_grows : goal.returns-in_err-last-clause-only_grows
+returns-in_err-last-clause-only_grows g c = later_on c.loop-command.invariant.only_grows (later_beside refl refl refl refl c.in_err-last.ensures.only_grows)

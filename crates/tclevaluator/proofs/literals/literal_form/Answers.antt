@@ -1,6 +1,6 @@
 use Rattle.std.proofs.Common.{◌≡◌, [], ◌∷◌, ap, ◌∙◌, arith}
 use Rattle.std.proofs.lemmas.List.{drop_all}
-use Rattle.tclsteps.proofs.Trees.{first_and_rest}
+use Rattle.tclsubstitution.proofs.Trees.{first_and_rest}
 use Rattle.tclevaluator.proofs.Running.{drop_here}
 use Rattle.tclevaluator.proofs.LiteralWords.{form_found}
 use Rattle.tclevaluator.proofs.literals.literal_form.Goals as goal
@@ -19,7 +19,7 @@ returns-in_ok-literal_text-in-len1 c =
     c.in_ok-literal_text-in-len1.field-0.now
     []
     _
-    (λ left s k. rw e (c.in_ok-literal_text-in-len1.ensures left s _))
+    (λ remaining s k. rw e (c.in_ok-literal_text-in-len1.ensures remaining s _))
     c.form_alone.ensures
 
 pub returns-in_ok-literal_text-in-len2-2 : goal.returns-in_ok-literal_text-in-len2-2
@@ -37,7 +37,7 @@ returns-in_ok-literal_text-in-len2-2 c =
     c.in_ok-literal_text-in-len2.field-0.now
     (c.in_ok-literal_text-in-len2-2.field-0.now ∷ [])
     _
-    (λ left s k. rw e (c.in_ok-literal_text-in-len2.ensures left s _ ∙ c.in_ok-literal_text-in-len2-2.ensures left s _))
+    (λ remaining s k. rw e (c.in_ok-literal_text-in-len2.ensures remaining s _ ∙ c.in_ok-literal_text-in-len2-2.ensures remaining s _))
     c.form_of_one.ensures
 
 pub returns-in_ok-literal_text-in-len3-3 : goal.returns-in_ok-literal_text-in-len3-3
@@ -58,5 +58,5 @@ returns-in_ok-literal_text-in-len3-3 c =
     c.in_ok-literal_text-in-len3.field-0.now
     (c.in_ok-literal_text-in-len3-2.field-0.now ∷ c.in_ok-literal_text-in-len3-3.field-0.now ∷ [])
     _
-    (λ left s k. rw e (c.in_ok-literal_text-in-len3.ensures left s _ ∙ c.in_ok-literal_text-in-len3-2.ensures left s _ ∙ c.in_ok-literal_text-in-len3-3.ensures left s _))
+    (λ remaining s k. rw e (c.in_ok-literal_text-in-len3.ensures remaining s _ ∙ c.in_ok-literal_text-in-len3-2.ensures remaining s _ ∙ c.in_ok-literal_text-in-len3-3.ensures remaining s _))
     c.form_of_two.ensures

@@ -1,5 +1,5 @@
-use Rattle.tclsteps.proofs.Leading.{passed_on}
+use Rattle.tclsubstitution.proofs.Leading.{passed_on}
 use Rattle.tclevaluator.proofs.turns.begin_turn.Goals as goal
 
-pub returns-in_err-assign_items-clause-comes : goal.returns-in_err-assign_items-clause-comes
-returns-in_err-assign_items-clause-comes c = λ most left r k x. passed_on _ _ _ _ c.from_residual.ensures.1 (c.in_err-assign_items.ensures most left r k x)
+pub returns-in_err-assign_items-clause-evaluates_to : goal.returns-in_err-assign_items-clause-evaluates_to
+returns-in_err-assign_items-clause-evaluates_to c = λ most remaining r k x. passed_on _ _ _ _ c.from_residual.ensures.1 (c.in_err-assign_items.ensures most remaining r k x)

@@ -5,8 +5,8 @@ use Rattle.tclexpr.proofs.marks.read_mark.Goals as goal
 
 pub returns-in-Some : goal.returns-in-Some
 returns-in-Some c =
-    ap (λ r. Some (c.in-Some.mark, r)) c.split_front.ensures.rest
-    ∙ sym (mark_word c.args.text.now c.in-Some.mark (ap word_mark (sym c.split_front.ensures.run) ∙ sym c.word_mark.ensures ∙ c.in-Some.is))
+    ap (λ r. Some (c.in-Some.mark, r)) c.split_run.ensures.rest
+    ∙ sym (mark_word c.args.text.now c.in-Some.mark (ap word_mark (sym c.split_run.ensures.run) ∙ sym c.word_mark.ensures ∙ c.in-Some.is))
 
 pub returns-in-None : goal.returns-in-None
-returns-in-None c = c.read_symbol.ensures ∙ sym (mark_symbol c.args.text.now (ap word_mark (sym c.split_front.ensures.run) ∙ sym c.word_mark.ensures ∙ c.in-None.is))
+returns-in-None c = c.read_symbol.ensures ∙ sym (mark_symbol c.args.text.now (ap word_mark (sym c.split_run.ensures.run) ∙ sym c.word_mark.ensures ∙ c.in-None.is))

@@ -11,5 +11,5 @@ returns-in-Some g c = braced-read c.args.text.now c.in-Some.inner.now (g.S.Sourc
 
 pub returns-in-None : goal.returns-in-None
 returns-in-None g c =
-    let left : c.left_with_mark.result ≡ suc (length c.args.text.now) = c.left_with_mark.ensures in
-    braced-open c.args.text.now c.left_with_mark.result (sym c.in-None.ensures) left
+    let left : c.remaining_with_mark.result ≡ suc (length c.args.text.now) = c.remaining_with_mark.ensures in
+    braced-open c.args.text.now c.remaining_with_mark.result (sym c.in-None.ensures) left

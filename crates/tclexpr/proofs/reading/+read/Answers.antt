@@ -2,7 +2,7 @@ use Rattle.std.proofs.Common.{◌≡◌, ◌<◌, ◌≤◌, ◌-◌, Some, None
 use Rattle.std.proofs.lemmas.Result.{err_from_is_err_and}
 use Rattle.tclchars.specs.Answers.{Gives}
 use Rattle.tclchars.specs.Reading.{stopped_by}
-use Rattle.tclscript.specs.Pieces.{IsEndOf}
+use Rattle.tclscript.specs.Pieces.{IsSuffixOf}
 use Rattle.tclscript.proofs.Ends.{end_through}
 use Rattle.tclexpr.specs.declared.operators.Mark.TheVariants as marks
 use Rattle.tclexpr.specs.Grammar.{level}
@@ -21,28 +21,28 @@ read_branches-returns-in_err-yes g t c =
     let p = err_from_is_err_and c.from_residual.result c.from_residual.ensures.1 in
     rw (p.1, p.2) (branches-yes c.args.depth (with_height_view (g.S.Source.shown c.args.source.now) c.args.condition) c.args.text.now c.in_err-yes.field-0.0 (omega arith) c.in_err-yes.ensures)
 
-pub read_branches-returns-in_err-behind : goal.read_branches-returns-in_err-behind
-read_branches-returns-in_err-behind g t c =
-    let p = err_from_is_err_and c.from_residual-in_err-behind.result c.from_residual-in_err-behind.ensures.1 in
-    rw (p.1, p.2) (branches-colon c.args.depth (with_height_view (g.S.Source.shown c.args.source.now) c.args.condition) (with_height_view (g.S.Source.shown c.args.source.now) c.in_ok-yes.yes) c.args.text.now c.in_ok-yes.rest.now c.in_err-behind.field-0.0
-    (omega arith) c.in_ok-yes.ensures c.in_err-behind.ensures)
+pub read_branches-returns-in_err-following : goal.read_branches-returns-in_err-following
+read_branches-returns-in_err-following g t c =
+    let p = err_from_is_err_and c.from_residual-in_err-following.result c.from_residual-in_err-following.ensures.1 in
+    rw (p.1, p.2) (branches-colon c.args.depth (with_height_view (g.S.Source.shown c.args.source.now) c.args.condition) (with_height_view (g.S.Source.shown c.args.source.now) c.in_ok-yes.yes) c.args.text.now c.in_ok-yes.rest.now c.in_err-following.field-0.0
+    (omega arith) c.in_ok-yes.ensures c.in_err-following.ensures)
 
 pub read_branches-read_whole-requires-2 : goal.read_branches-read_whole-requires-2
 read_branches-read_whole-requires-2 g t c =
     let shown = g.S.Source.shown c.args.source.now in
-    let r : IsEndOf (g.S.Source.text c.args.source.now) c.args.text.now = search rules in
-    let yes : IsEndOf c.args.text.now c.in_ok-yes.rest.now = (whole_leaves (c.args.depth - 1) c.args.text.now (with_height_view shown c.in_ok-yes.yes) c.in_ok-yes.rest.now c.in_ok-yes.ensures).0 in
-    let e : IsEndOf (g.S.Source.text c.args.source.now) c.in_ok-behind.behind.now =
-    end_through (g.S.Source.text c.args.source.now) c.args.text.now c.in_ok-behind.behind.now r
-    (end_through c.args.text.now c.in_ok-yes.rest.now c.in_ok-behind.behind.now yes (expect_end is_colon c.in_ok-yes.rest.now c.in_ok-behind.behind.now c.in_ok-behind.ensures))
+    let r : IsSuffixOf (g.S.Source.text c.args.source.now) c.args.text.now = search rules in
+    let yes : IsSuffixOf c.args.text.now c.in_ok-yes.rest.now = (whole_leaves (c.args.depth - 1) c.args.text.now (with_height_view shown c.in_ok-yes.yes) c.in_ok-yes.rest.now c.in_ok-yes.ensures).0 in
+    let e : IsSuffixOf (g.S.Source.text c.args.source.now) c.in_ok-following.following.now =
+    end_through (g.S.Source.text c.args.source.now) c.args.text.now c.in_ok-following.following.now r
+    (end_through c.args.text.now c.in_ok-yes.rest.now c.in_ok-following.following.now yes (expect_end is_colon c.in_ok-yes.rest.now c.in_ok-following.following.now c.in_ok-following.ensures))
     in
     search rules
 
 pub read_branches-returns-in_err-no : goal.read_branches-returns-in_err-no
 read_branches-returns-in_err-no g t c =
     let p = err_from_is_err_and c.from_residual-in_err-no.result c.from_residual-in_err-no.ensures.1 in
-    rw (p.1, p.2) (branches-no c.args.depth (with_height_view (g.S.Source.shown c.args.source.now) c.args.condition) (with_height_view (g.S.Source.shown c.args.source.now) c.in_ok-yes.yes) c.args.text.now c.in_ok-yes.rest.now c.in_ok-behind.behind.now c.in_err-no.field-0.0
-    (omega arith) c.in_ok-yes.ensures c.in_ok-behind.ensures c.in_err-no.ensures)
+    rw (p.1, p.2) (branches-no c.args.depth (with_height_view (g.S.Source.shown c.args.source.now) c.args.condition) (with_height_view (g.S.Source.shown c.args.source.now) c.in_ok-yes.yes) c.args.text.now c.in_ok-yes.rest.now c.in_ok-following.following.now c.in_err-no.field-0.0
+    (omega arith) c.in_ok-yes.ensures c.in_ok-following.ensures c.in_err-no.ensures)
 
 pub read_branches-choice-requires-clause-positive : goal.read_branches-choice-requires-clause-positive
 read_branches-choice-requires-clause-positive g t c =
@@ -52,15 +52,15 @@ read_branches-choice-requires-clause-positive g t c =
 
 pub read_branches-choice-requires-clause-negative : goal.read_branches-choice-requires-clause-negative
 read_branches-choice-requires-clause-negative g t c =
-    let l = whole_leaves (c.args.depth - 1) c.in_ok-behind.behind.now (with_height_view (g.S.Source.shown c.args.source.now) c.in_ok-no.no) c.in_ok-no.end.now c.in_ok-no.ensures in
+    let l = whole_leaves (c.args.depth - 1) c.in_ok-following.following.now (with_height_view (g.S.Source.shown c.args.source.now) c.in_ok-no.no) c.in_ok-no.end.now c.in_ok-no.ensures in
     let deep : c.in_ok-no.no.height ≤ c.args.depth - 1 = l.1 in
     omega arith
 
 pub read_branches-returns : goal.read_branches-returns
 read_branches-returns g t c =
     let shown = g.S.Source.shown c.args.source.now in
-    branches-read c.args.depth (with_height_view shown c.args.condition) (with_height_view shown c.in_ok-yes.yes) (with_height_view shown c.in_ok-no.no) c.args.text.now c.in_ok-yes.rest.now c.in_ok-behind.behind.now c.in_ok-no.end.now
-    (omega arith) c.in_ok-yes.ensures c.in_ok-behind.ensures c.in_ok-no.ensures
+    branches-read c.args.depth (with_height_view shown c.args.condition) (with_height_view shown c.in_ok-yes.yes) (with_height_view shown c.in_ok-no.no) c.args.text.now c.in_ok-yes.rest.now c.in_ok-following.following.now c.in_ok-no.end.now
+    (omega arith) c.in_ok-yes.ensures c.in_ok-following.ensures c.in_ok-no.ensures
     ∙ ap (λ x. Ok (x, c.in_ok-no.end.now)) (sym (c.in_ok-choice.ensures shown))
 
 pub read_chain-returns-in_err-left : goal.read_chain-returns-in_err-left
@@ -80,34 +80,34 @@ read_chain-returns-in_default g t c =
 
 pub read_chain-read_right-requires : goal.read_chain-read_right-requires
 read_chain-read_right-requires g t c =
-    let r : IsEndOf (g.S.Source.text c.args.source.now) c.args.text.now = search rules in
-    let e : IsEndOf (g.S.Source.text c.args.source.now) c.in-Some.behind.now =
-    end_through (g.S.Source.text c.args.source.now) c.args.text.now c.in-Some.behind.now r
-    (end_through c.args.text.now c.loop-between.rest.now c.in-Some.behind.now c.loop-between.invariant.1.end (mark_end c.loop-between.rest.now (marks.Infix c.in-Some.between) c.in-Some.behind.now c.in-Some.ensures.0))
+    let r : IsSuffixOf (g.S.Source.text c.args.source.now) c.args.text.now = search rules in
+    let e : IsSuffixOf (g.S.Source.text c.args.source.now) c.in-Some.following.now =
+    end_through (g.S.Source.text c.args.source.now) c.args.text.now c.in-Some.following.now r
+    (end_through c.args.text.now c.loop-between.rest.now c.in-Some.following.now c.loop-between.invariant.1.end (mark_end c.loop-between.rest.now (marks.Infix c.in-Some.between) c.in-Some.following.now c.in-Some.ensures.0))
     in
     search rules
 
 pub read_chain-returns-in_err-right : goal.read_chain-returns-in_err-right
 read_chain-returns-in_err-right g t c =
     let p = err_from_is_err_and c.from_residual-in_err-right.result c.from_residual-in_err-right.ensures.1 in
-    rw (p.1, p.2) (chain-fails c.args.depth c.args.limit c.args.text.now (with_height_view (g.S.Source.shown c.args.source.now) c.loop-between.left) c.loop-between.rest.now c.loop-between.invariant.1 c.in-Some.between c.in-Some.behind.now
+    rw (p.1, p.2) (chain-fails c.args.depth c.args.limit c.args.text.now (with_height_view (g.S.Source.shown c.args.source.now) c.loop-between.left) c.loop-between.rest.now c.loop-between.invariant.1 c.in-Some.between c.in-Some.following.now
     c.in-Some.ensures.0 c.in-Some.ensures.1 c.in_err-right.field-0.0 c.in_err-right.ensures)
 
 pub read_chain-join-requires-clause-right : goal.read_chain-join-requires-clause-right
 read_chain-join-requires-clause-right g t c =
-    let l = right_leaves c.args.depth c.loop-between.left.height (level c.in-Some.between - 1) c.in-Some.behind.now (with_height_view (g.S.Source.shown c.args.source.now) c.in_ok-right.right) c.in_ok-right.end.now c.in_ok-right.ensures in
+    let l = right_leaves c.args.depth c.loop-between.left.height (level c.in-Some.between - 1) c.in-Some.following.now (with_height_view (g.S.Source.shown c.args.source.now) c.in_ok-right.right) c.in_ok-right.end.now c.in_ok-right.ensures in
     let deep : c.in_ok-right.right.height < c.args.depth = l.2 in
     omega arith
 
 pub read_chain-loop-between-smaller : goal.read_chain-loop-between-smaller
 read_chain-loop-between-smaller g t c =
-    chain-shorter c.args.depth (with_height_view (g.S.Source.shown c.args.source.now) c.loop-between.left) c.loop-between.rest.now c.in-Some.between c.in-Some.behind.now c.in-Some.ensures.0
+    chain-shorter c.args.depth (with_height_view (g.S.Source.shown c.args.source.now) c.loop-between.left) c.loop-between.rest.now c.in-Some.between c.in-Some.following.now c.in-Some.ensures.0
     (with_height_view (g.S.Source.shown c.args.source.now) c.in_ok-right.right) c.in_ok-right.end.now c.in_ok-right.ensures
 
 pub read_chain-loop-between-preserved : goal.read_chain-loop-between-preserved
 read_chain-loop-between-preserved g t c = (
   search rules,
-  chain-more c.args.depth c.args.limit c.args.text.now (with_height_view (g.S.Source.shown c.args.source.now) c.loop-between.left) c.loop-between.rest.now c.loop-between.invariant.1 c.in-Some.between c.in-Some.behind.now c.in-Some.ensures.0 c.in-Some.ensures.1
+  chain-more c.args.depth c.args.limit c.args.text.now (with_height_view (g.S.Source.shown c.args.source.now) c.loop-between.left) c.loop-between.rest.now c.loop-between.invariant.1 c.in-Some.between c.in-Some.following.now c.in-Some.ensures.0 c.in-Some.ensures.1
       (with_height_view (g.S.Source.shown c.args.source.now) c.in_ok-right.right) c.in_ok-right.end.now c.in_ok-right.ensures (with_height_view (g.S.Source.shown c.args.source.now) c.in_ok-left-2.left) (c.in_ok-left-2.ensures (g.S.Source.shown c.args.source.now)),
 )
 
@@ -119,10 +119,10 @@ read_enclosed-returns-in_err-inner g t c =
     let p = err_from_is_err_and c.from_residual.result c.from_residual.ensures.1 in
     rw (p.1, p.2) (enclosed-fails c.args.depth c.args.text.now c.in_err-inner.field-0.0 (omega arith) c.in_err-inner.ensures)
 
-pub read_enclosed-returns-in_err-behind : goal.read_enclosed-returns-in_err-behind
-read_enclosed-returns-in_err-behind g t c =
-    let p = err_from_is_err_and c.from_residual-in_err-behind.result c.from_residual-in_err-behind.ensures.1 in
-    rw (p.1, p.2) (enclosed-open c.args.depth c.args.text.now (with_height_view (g.S.Source.shown c.args.source.now) c.in_ok-inner.inner) c.in_ok-inner.rest.now c.in_err-behind.field-0.0 (omega arith) c.in_ok-inner.ensures c.in_err-behind.ensures)
+pub read_enclosed-returns-in_err-following : goal.read_enclosed-returns-in_err-following
+read_enclosed-returns-in_err-following g t c =
+    let p = err_from_is_err_and c.from_residual-in_err-following.result c.from_residual-in_err-following.ensures.1 in
+    rw (p.1, p.2) (enclosed-open c.args.depth c.args.text.now (with_height_view (g.S.Source.shown c.args.source.now) c.in_ok-inner.inner) c.in_ok-inner.rest.now c.in_err-following.field-0.0 (omega arith) c.in_ok-inner.ensures c.in_err-following.ensures)
 
 pub read_enclosed-enclosed-requires : goal.read_enclosed-enclosed-requires
 read_enclosed-enclosed-requires g t c =
@@ -133,31 +133,31 @@ read_enclosed-enclosed-requires g t c =
 pub read_enclosed-returns : goal.read_enclosed-returns
 read_enclosed-returns g t c =
     let shown = g.S.Source.shown c.args.source.now in
-    enclosed-read c.args.depth c.args.text.now (with_height_view shown c.in_ok-inner.inner) c.in_ok-inner.rest.now c.in_ok-behind.behind.now (omega arith) c.in_ok-inner.ensures c.in_ok-behind.ensures
-    ∙ ap (λ x. Ok (x, c.in_ok-behind.behind.now)) (sym (c.enclosed.ensures shown))
+    enclosed-read c.args.depth c.args.text.now (with_height_view shown c.in_ok-inner.inner) c.in_ok-inner.rest.now c.in_ok-following.following.now (omega arith) c.in_ok-inner.ensures c.in_ok-following.ensures
+    ∙ ap (λ x. Ok (x, c.in_ok-following.following.now)) (sym (c.enclosed.ensures shown))
 
 pub read_prefix-read_leaf-requires : goal.read_prefix-read_leaf-requires
 read_prefix-read_leaf-requires g t c =
-    let r : IsEndOf (g.S.Source.text c.args.source.now) c.args.text.now = search rules in
-    end_through (g.S.Source.text c.args.source.now) c.args.text.now c.skip_white-start.result.now r (subst (IsEndOf c.args.text.now) (sym c.skip_white-start.ensures) (white_end c.args.text.now))
+    let r : IsSuffixOf (g.S.Source.text c.args.source.now) c.args.text.now = search rules in
+    end_through (g.S.Source.text c.args.source.now) c.args.text.now c.skip_white-start.result.now r (subst (IsSuffixOf c.args.text.now) (sym c.skip_white-start.ensures) (white_end c.args.text.now))
 
 pub read_prefix-read_enclosed-requires : goal.read_prefix-read_enclosed-requires
 read_prefix-read_enclosed-requires g t c =
-    let r : IsEndOf (g.S.Source.text c.args.source.now) c.args.text.now = search rules in
-    let found : mark_at c.skip_white-start.result.now ≡ Some (c.in-Some.mark, c.in-Some.behind.now) = sym c.in-Some.ensures in
-    let e : IsEndOf (g.S.Source.text c.args.source.now) c.in-Some.behind.now =
-    end_through (g.S.Source.text c.args.source.now) c.args.text.now c.in-Some.behind.now r
-    (mark_end c.args.text.now c.in-Some.mark c.in-Some.behind.now (ap mark_at (sym c.skip_white-start.ensures) ∙ found))
+    let r : IsSuffixOf (g.S.Source.text c.args.source.now) c.args.text.now = search rules in
+    let found : mark_at c.skip_white-start.result.now ≡ Some (c.in-Some.mark, c.in-Some.following.now) = sym c.in-Some.ensures in
+    let e : IsSuffixOf (g.S.Source.text c.args.source.now) c.in-Some.following.now =
+    end_through (g.S.Source.text c.args.source.now) c.args.text.now c.in-Some.following.now r
+    (mark_end c.args.text.now c.in-Some.mark c.in-Some.following.now (ap mark_at (sym c.skip_white-start.ensures) ∙ found))
     in
     search rules
 
 pub read_prefix-read_signed-requires : goal.read_prefix-read_signed-requires
 read_prefix-read_signed-requires g t c =
-    let r : IsEndOf (g.S.Source.text c.args.source.now) c.args.text.now = search rules in
-    let found : mark_at c.skip_white-start.result.now ≡ Some (c.in-Some.mark, c.in-Some.behind.now) = sym c.in-Some.ensures in
-    let e : IsEndOf (g.S.Source.text c.args.source.now) c.in-Some.behind.now =
-    end_through (g.S.Source.text c.args.source.now) c.args.text.now c.in-Some.behind.now r
-    (mark_end c.args.text.now c.in-Some.mark c.in-Some.behind.now (ap mark_at (sym c.skip_white-start.ensures) ∙ found))
+    let r : IsSuffixOf (g.S.Source.text c.args.source.now) c.args.text.now = search rules in
+    let found : mark_at c.skip_white-start.result.now ≡ Some (c.in-Some.mark, c.in-Some.following.now) = sym c.in-Some.ensures in
+    let e : IsSuffixOf (g.S.Source.text c.args.source.now) c.in-Some.following.now =
+    end_through (g.S.Source.text c.args.source.now) c.args.text.now c.in-Some.following.now r
+    (mark_end c.args.text.now c.in-Some.mark c.in-Some.following.now (ap mark_at (sym c.skip_white-start.ensures) ∙ found))
     in
     search rules
 
@@ -200,21 +200,21 @@ read_prefix-returns-in_default g t c =
 
 pub read_prefix-returns-then-is_open : goal.read_prefix-returns-then-is_open
 read_prefix-returns-then-is_open g t c =
-    let found : mark_at c.skip_white-start.result.now ≡ Some (c.in-Some.mark, c.in-Some.behind.now) = sym c.in-Some.ensures in
+    let found : mark_at c.skip_white-start.result.now ≡ Some (c.in-Some.mark, c.in-Some.following.now) = sym c.in-Some.ensures in
     let opens : is_open c.in-Some.mark ≡ true = sym c.is_open.ensures ∙ c.if-is_open.true in
     subst (λ r. Gives stopped_by (λ x. (with_height_view (g.S.Source.shown c.args.source.now) x.0, x.1.now)) c.read_enclosed.result r)
-    (sym (prefix-open c.args.depth c.args.text.now c.skip_white-start.result.now c.in-Some.behind.now c.skip_white-start.ensures (found ∙ ap (λ m. Some (m, c.in-Some.behind.now)) (open_is c.in-Some.mark opens)))) c.read_enclosed.ensures
+    (sym (prefix-open c.args.depth c.args.text.now c.skip_white-start.result.now c.in-Some.following.now c.skip_white-start.ensures (found ∙ ap (λ m. Some (m, c.in-Some.following.now)) (open_is c.in-Some.mark opens)))) c.read_enclosed.ensures
 
 pub read_prefix-returns-in-Some-sign_of : goal.read_prefix-returns-in-Some-sign_of
 read_prefix-returns-in-Some-sign_of g t c =
-    let found : mark_at c.skip_white-start.result.now ≡ Some (c.in-Some.mark, c.in-Some.behind.now) = sym c.in-Some.ensures in
+    let found : mark_at c.skip_white-start.result.now ≡ Some (c.in-Some.mark, c.in-Some.following.now) = sym c.in-Some.ensures in
     subst (λ r. Gives stopped_by (λ x. (with_height_view (g.S.Source.shown c.args.source.now) x.0, x.1.now)) c.read_signed.result r)
-    (sym (prefix-signed c.args.depth c.args.text.now c.skip_white-start.result.now c.in-Some.mark c.in-Some-sign_of.operator c.in-Some.behind.now c.skip_white-start.ensures found (sym c.sign_of.ensures ∙ c.in-Some-sign_of.is))) c.read_signed.ensures
+    (sym (prefix-signed c.args.depth c.args.text.now c.skip_white-start.result.now c.in-Some.mark c.in-Some-sign_of.operator c.in-Some.following.now c.skip_white-start.ensures found (sym c.sign_of.ensures ∙ c.in-Some-sign_of.is))) c.read_signed.ensures
 
 pub read_prefix-returns-in-None : goal.read_prefix-returns-in-None
 read_prefix-returns-in-None g t c =
-    let found : mark_at c.skip_white-start.result.now ≡ Some (c.in-Some.mark, c.in-Some.behind.now) = sym c.in-Some.ensures in
-    prefix-other c.args.depth c.args.text.now c.skip_white-start.result.now c.in-Some.mark c.in-Some.behind.now c.skip_white-start.ensures found (sym c.is_open.ensures ∙ c.if-is_open.false) (sym c.sign_of.ensures ∙ c.in-None.is)
+    let found : mark_at c.skip_white-start.result.now ≡ Some (c.in-Some.mark, c.in-Some.following.now) = sym c.in-Some.ensures in
+    prefix-other c.args.depth c.args.text.now c.skip_white-start.result.now c.in-Some.mark c.in-Some.following.now c.skip_white-start.ensures found (sym c.is_open.ensures ∙ c.if-is_open.false) (sym c.sign_of.ensures ∙ c.in-None.is)
 
 pub read_whole-returns-in_default : goal.read_whole-returns-in_default
 read_whole-returns-in_default g t c =
@@ -224,27 +224,27 @@ read_whole-returns-in_default g t c =
 
 pub read_whole-read_branches-requires : goal.read_whole-read_branches-requires
 read_whole-read_branches-requires g t c =
-    let r : IsEndOf (g.S.Source.text c.args.source.now) c.args.text.now = search rules in
-    let found : mark_at c.skip_white.result.now ≡ Some (c.in-Some.mark, c.in-Some.behind.now) = sym c.in-Some.ensures in
-    let first : IsEndOf c.args.text.now c.in_ok-condition.rest.now = (chain_leaves c.args.depth 13 c.args.text.now (with_height_view (g.S.Source.shown c.args.source.now) c.in_ok-condition.condition) c.in_ok-condition.rest.now c.in_ok-condition.ensures).0 in
-    let e : IsEndOf (g.S.Source.text c.args.source.now) c.in-Some.behind.now =
-    end_through (g.S.Source.text c.args.source.now) c.args.text.now c.in-Some.behind.now r
-    (end_through c.args.text.now c.in_ok-condition.rest.now c.in-Some.behind.now first
-    (mark_end c.in_ok-condition.rest.now c.in-Some.mark c.in-Some.behind.now (ap mark_at (sym c.skip_white.ensures) ∙ found)))
+    let r : IsSuffixOf (g.S.Source.text c.args.source.now) c.args.text.now = search rules in
+    let found : mark_at c.skip_white.result.now ≡ Some (c.in-Some.mark, c.in-Some.following.now) = sym c.in-Some.ensures in
+    let first : IsSuffixOf c.args.text.now c.in_ok-condition.rest.now = (chain_leaves c.args.depth 13 c.args.text.now (with_height_view (g.S.Source.shown c.args.source.now) c.in_ok-condition.condition) c.in_ok-condition.rest.now c.in_ok-condition.ensures).0 in
+    let e : IsSuffixOf (g.S.Source.text c.args.source.now) c.in-Some.following.now =
+    end_through (g.S.Source.text c.args.source.now) c.args.text.now c.in-Some.following.now r
+    (end_through c.args.text.now c.in_ok-condition.rest.now c.in-Some.following.now first
+    (mark_end c.in_ok-condition.rest.now c.in-Some.mark c.in-Some.following.now (ap mark_at (sym c.skip_white.ensures) ∙ found)))
     in
     search rules
 
 pub read_whole-returns-then-is_question : goal.read_whole-returns-then-is_question
 read_whole-returns-then-is_question g t c =
-    let found : mark_at c.skip_white.result.now ≡ Some (c.in-Some.mark, c.in-Some.behind.now) = sym c.in-Some.ensures in
+    let found : mark_at c.skip_white.result.now ≡ Some (c.in-Some.mark, c.in-Some.following.now) = sym c.in-Some.ensures in
     let asks : is_question c.in-Some.mark ≡ true = sym c.is_question.ensures ∙ c.if-is_question.true in
     subst (λ r. Gives stopped_by (λ x. (with_height_view (g.S.Source.shown c.args.source.now) x.0, x.1.now)) c.read_branches.result r)
-    (sym (whole-asks c.args.depth c.args.text.now (with_height_view (g.S.Source.shown c.args.source.now) c.in_ok-condition.condition) c.in_ok-condition.rest.now c.skip_white.result.now c.in-Some.behind.now
-    c.in_ok-condition.ensures c.skip_white.ensures (found ∙ ap (λ m. Some (m, c.in-Some.behind.now)) (question_is c.in-Some.mark asks)))) c.read_branches.ensures
+    (sym (whole-asks c.args.depth c.args.text.now (with_height_view (g.S.Source.shown c.args.source.now) c.in_ok-condition.condition) c.in_ok-condition.rest.now c.skip_white.result.now c.in-Some.following.now
+    c.in_ok-condition.ensures c.skip_white.ensures (found ∙ ap (λ m. Some (m, c.in-Some.following.now)) (question_is c.in-Some.mark asks)))) c.read_branches.ensures
 
 pub read_whole-returns-else-is_question : goal.read_whole-returns-else-is_question
 read_whole-returns-else-is_question g t c =
-    let found : mark_at c.skip_white.result.now ≡ Some (c.in-Some.mark, c.in-Some.behind.now) = sym c.in-Some.ensures in
+    let found : mark_at c.skip_white.result.now ≡ Some (c.in-Some.mark, c.in-Some.following.now) = sym c.in-Some.ensures in
     let other : is_question c.in-Some.mark ≡ false = sym c.is_question.ensures ∙ c.if-is_question.false in
     whole-ends c.args.depth c.args.text.now (with_height_view (g.S.Source.shown c.args.source.now) c.in_ok-condition.condition) c.in_ok-condition.rest.now c.skip_white.result.now c.in_ok-condition.ensures c.skip_white.ensures
-    (λ after is. true_false (sym (ap is_question (found_once (mark_at c.skip_white.result.now) c.in-Some.mark marks.Question c.in-Some.behind.now after found is).0) ∙ other))
+    (λ after is. true_false (sym (ap is_question (found_once (mark_at c.skip_white.result.now) c.in-Some.mark marks.Question c.in-Some.following.now after found is).0) ∙ other))

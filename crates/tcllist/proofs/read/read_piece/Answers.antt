@@ -10,30 +10,30 @@ loop-value-init c = (
 
 pub returns-in_default : goal.returns-in_default
 returns-in_default c =
-    piece-ends c.args.end c.args.text.now (string_bytes c.loop-value.value) c.loop-value.rest.now c.split_plain.result.0.now c.split_plain.result.1.now (string_bytes c.push_str.new.self)
-    c.split_plain.ensures.run c.split_plain.ensures.rest c.in_ok-push_str.ensures.bytes c.in_default.ensures c.loop-value.invariant.1
+    piece-ends c.args.end c.args.text.now (string_bytes c.loop-value.value) c.loop-value.rest.now c.split_literal.result.0.now c.split_literal.result.1.now (string_bytes c.push_str.new.self)
+    c.split_literal.ensures.run c.split_literal.ensures.rest c.in_ok-push_str.ensures.bytes c.in_default.ensures c.loop-value.invariant.1
 
 pub returns-then-is_empty : goal.returns-then-is_empty
 returns-then-is_empty c =
-    piece-last c.args.end c.args.text.now (string_bytes c.loop-value.value) c.loop-value.rest.now c.split_plain.result.0.now c.split_plain.result.1.now c.in-Some.behind.now (string_bytes c.push.new.self)
-    c.split_plain.ensures.run c.split_plain.ensures.rest c.in-Some.ensures (search rules)
+    piece-last c.args.end c.args.text.now (string_bytes c.loop-value.value) c.loop-value.rest.now c.split_literal.result.0.now c.split_literal.result.1.now c.in-Some.following.now (string_bytes c.push.new.self)
+    c.split_literal.ensures.run c.split_literal.ensures.rest c.in-Some.ensures (search rules)
     (c.in_ok-push.ensures.bytes ∙ ap (λ ys. string_bytes c.push_str.new.self ++ ys) (c.in_ok-push.ensures.ascii (lit< tt)) ∙ ap (λ ys. ys ++ 92 ∷ []) c.in_ok-push_str.ensures.bytes)
     c.loop-value.invariant.1
 
 pub returns-in_default-read_backslash : goal.returns-in_default-read_backslash
 returns-in_default-read_backslash c =
-    piece-bad c.args.end c.args.text.now (string_bytes c.loop-value.value) c.loop-value.rest.now c.split_plain.result.0.now c.split_plain.result.1.now c.in-Some.behind.now (length c.split_plain.result.1.now)
-    c.split_plain.ensures.run c.split_plain.ensures.rest c.in-Some.ensures (search rules) (sym c.in_default-read_backslash.ensures) (search rules) c.loop-value.invariant.1
+    piece-bad c.args.end c.args.text.now (string_bytes c.loop-value.value) c.loop-value.rest.now c.split_literal.result.0.now c.split_literal.result.1.now c.in-Some.following.now (length c.split_literal.result.1.now)
+    c.split_literal.ensures.run c.split_literal.ensures.rest c.in-Some.ensures (search rules) (sym c.in_default-read_backslash.ensures) (search rules) c.loop-value.invariant.1
 
 pub loop-value-smaller : goal.loop-value-smaller
 loop-value-smaller c =
-    piece-shorter c.args.end c.loop-value.rest.now c.split_plain.result.1.now c.in-Some.behind.now (encode_utf8 c.in-Some-read_backslash.c) c.in-Some-read_backslash.after.now
-    c.split_plain.ensures.rest c.in-Some.ensures (sym c.in-Some-read_backslash.ensures)
+    piece-shorter c.args.end c.loop-value.rest.now c.split_literal.result.1.now c.in-Some.following.now (encode_utf8 c.in-Some-read_backslash.c) c.in-Some-read_backslash.after.now
+    c.split_literal.ensures.rest c.in-Some.ensures (sym c.in-Some-read_backslash.ensures)
 
 pub loop-value-preserved : goal.loop-value-preserved
 loop-value-preserved c = (
   search rules,
-  piece-more c.args.end c.args.text.now (string_bytes c.loop-value.value) c.loop-value.rest.now c.split_plain.result.0.now c.split_plain.result.1.now c.in-Some.behind.now (encode_utf8 c.in-Some-read_backslash.c)
-      c.in-Some-read_backslash.after.now (string_bytes c.push-in-loop-value.new.self) c.split_plain.ensures.run c.split_plain.ensures.rest c.in-Some.ensures (sym c.in-Some-read_backslash.ensures)
+  piece-more c.args.end c.args.text.now (string_bytes c.loop-value.value) c.loop-value.rest.now c.split_literal.result.0.now c.split_literal.result.1.now c.in-Some.following.now (encode_utf8 c.in-Some-read_backslash.c)
+      c.in-Some-read_backslash.after.now (string_bytes c.push-in-loop-value.new.self) c.split_literal.ensures.run c.split_literal.ensures.rest c.in-Some.ensures (sym c.in-Some-read_backslash.ensures)
       (c.in_ok-push-2.ensures.bytes ∙ ap (λ ys. ys ++ encode_utf8 c.in-Some-read_backslash.c) c.in_ok-push_str.ensures.bytes) c.loop-value.invariant.1,
 )

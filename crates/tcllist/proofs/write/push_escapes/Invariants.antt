@@ -5,7 +5,7 @@ use Rattle.tcllist.specs.Lists.{escape}
 use Rattle.tcllist.proofs.write.push_escapes.Given as goal
 
 abbrev pub invariant-loop-b : goal.invariant-loop-b
-invariant-loop-b l = shadow (Utf8 l.rest) × (string_bytes l.text ++ flat_map escape l.rest ≡ string_bytes l.initial.text ++ flat_map escape l.plain)
+invariant-loop-b l = shadow (Utf8 l.rest) × (string_bytes l.text ++ flat_map escape l.rest ≡ string_bytes l.initial.text ++ flat_map escape l.literal)
 
 abbrev pub decreases-loop-b : goal.decreases-loop-b
 decreases-loop-b l = length l.rest

@@ -1,7 +1,7 @@
 use Rattle.std.proofs.Common.{rules}
 use Rattle.std.specs.Str.{chars}
 use Rattle.tclpattern.specs.Search.Steps.{RunsBy}
-use Rattle.tclpattern.proofs.TextLemmas.{no_way, left-more}
+use Rattle.tclpattern.proofs.TextLemmas.{no_way, remaining-more}
 use Rattle.tclpattern.proofs.RunLemmas.{halves-found, halves-none}
 use Rattle.tclpattern.proofs.halves.+halves.Goals as goal
 
@@ -12,11 +12,11 @@ runs-returns-then-runs_by t c =
 pub runs-returns-in-None : goal.runs-returns-in-None
 runs-returns-in-None t c =
     halves-none (chars c.args.from.now) (chars c.args.text.now) (chars c.loop-middle.middle.now) c.args.count (chars c.args.to.now)
-    c.in-None.ensures.characters (no_way c.runs_by.result c.if-runs_by.false c.runs_by.ensures) c.loop-middle.invariant.left
+    c.in-None.ensures.characters (no_way c.runs_by.result c.if-runs_by.false c.runs_by.ensures) c.loop-middle.invariant.remaining
 
 pub runs-loop-middle-preserved : goal.runs-loop-middle-preserved
 runs-loop-middle-preserved t c = record {
   utf8 = search rules;
-  left = left-more (λ ms. RunsBy (chars c.args.from.now) (chars c.args.text.now) ms c.args.count (chars c.args.to.now)) (chars c.args.from.now) (chars c.loop-middle.middle.now) c.in-Some.field-0-0 (chars c.in-Some.rest.now)
-      c.in-Some.ensures.characters (no_way c.runs_by.result c.if-runs_by.false c.runs_by.ensures) c.loop-middle.invariant.left;
+  remaining = remaining-more (λ ms. RunsBy (chars c.args.from.now) (chars c.args.text.now) ms c.args.count (chars c.args.to.now)) (chars c.args.from.now) (chars c.loop-middle.middle.now) c.in-Some.field-0-0 (chars c.in-Some.rest.now)
+      c.in-Some.ensures.characters (no_way c.runs_by.result c.if-runs_by.false c.runs_by.ensures) c.loop-middle.invariant.remaining;
 }

@@ -15,7 +15,7 @@ decreases-runs_by l = 2 * l.count
 abbrev pub invariant-runs-loop-middle : goal.invariant-runs-loop-middle
 invariant-runs-loop-middle l = record {
   utf8 : shadow (Utf8 l.middle);
-  left : AreLeft (λ ms. RunsBy (chars l.from) (chars l.text) ms l.count (chars l.to)) (chars l.from) (chars l.middle);
+  remaining : AreLeft (λ ms. RunsBy (chars l.from) (chars l.text) ms l.count (chars l.to)) (chars l.from) (chars l.middle);
 }
 
 abbrev pub decreases-runs-loop-middle : goal.decreases-runs-loop-middle

@@ -11,7 +11,7 @@ abbrev pub invariant-loop-rest : goal.invariant-loop-rest
 invariant-loop-rest l = record {
   utf8 : shadow (Utf8 l.rest);
   tail : IsTail (chars l.text) (chars l.rest);
-  left : AreLeft (λ ts. IsMatch (chars l.pattern) ts) (chars l.text) (chars l.rest);
+  remaining : AreLeft (λ ts. IsMatch (chars l.pattern) ts) (chars l.text) (chars l.rest);
 }
 
 abbrev pub decreases-loop-rest : goal.decreases-loop-rest

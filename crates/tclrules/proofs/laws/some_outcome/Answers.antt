@@ -7,4 +7,4 @@ use Rattle.tclrules.proofs.FileEnds.{file_ends}
 use Rattle.tclrules.proofs.laws.some_outcome.Goals as goal
 
 pub returns : goal.returns
-returns c = λ s. runs_end _ file_ended (first s.told) (job_ends weight (shrinks s.limits.value_bytes)) (omega arith) (file_ends s.oracle s.limits.commands s.limits.value_bytes)
+returns c = λ s. runs_end _ file_ended (first s.trace) (job_ends weight (shrinks s.limits.value_bytes)) (omega arith) (file_ends s.oracle s.limits.commands s.limits.value_bytes)

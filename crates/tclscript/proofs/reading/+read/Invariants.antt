@@ -1,7 +1,7 @@
 use Rattle.std.proofs.Common.{◌≤◌, length, map, ◌+◌, ◌*◌}
 use denote.Text.{Utf8}
 use denote.Shadow.{shadow}
-use Rattle.tclscript.specs.Pieces.{IsEndOf}
+use Rattle.tclscript.specs.Pieces.{IsSuffixOf}
 use Rattle.tclscript.specs.View.{command_view, word_view, part_view}
 use Rattle.tclscript.proofs.Turns.{CommandsSoFar, WordsSoFar, PartsSoFar}
 use Rattle.tclscript.proofs.reading.+read.Given as goal
@@ -27,8 +27,8 @@ decreases-read_quotes g l = 10 * l.depth + 4
 abbrev pub decreases-read_quoted : goal.decreases-read_quoted
 decreases-read_quoted g l = 10 * l.depth + 5
 
-abbrev pub decreases-read_plain_word : goal.decreases-read_plain_word
-decreases-read_plain_word g l = 10 * l.depth + 6
+abbrev pub decreases-read_unexpanded_word : goal.decreases-read_unexpanded_word
+decreases-read_unexpanded_word g l = 10 * l.depth + 6
 
 abbrev pub decreases-read_word : goal.decreases-read_word
 decreases-read_word g l = 10 * l.depth + 7
@@ -42,7 +42,7 @@ decreases-read_script g l = 10 * l.depth + 9
 abbrev pub invariant-read_command-loop-alloc : goal.invariant-read_command-loop-alloc
 invariant-read_command-loop-alloc g l = record {
   utf8 : shadow (Utf8 l.rest);
-  end : IsEndOf (g.S.Source.text l.source) l.rest;
+  end : IsSuffixOf (g.S.Source.text l.source) l.rest;
   so_far : WordsSoFar l.nested l.depth l.text (g.S.Source.shown l.source l.first_text) (map (word_view (g.S.Source.shown l.source)) l.words.items) l.rest;
 }
 
@@ -52,7 +52,7 @@ decreases-read_command-loop-alloc g l = length l.rest
 abbrev pub invariant-read_parts-loop-alloc : goal.invariant-read_parts-loop-alloc
 invariant-read_parts-loop-alloc g l = record {
   utf8 : shadow (Utf8 l.rest);
-  end : IsEndOf (g.S.Source.text l.source) l.rest;
+  end : IsSuffixOf (g.S.Source.text l.source) l.rest;
   so_far : PartsSoFar l.context l.depth l.text (map (part_view (g.S.Source.shown l.source)) l.parts.items) l.rest;
 }
 
@@ -62,7 +62,7 @@ decreases-read_parts-loop-alloc g l = length l.rest
 abbrev pub invariant-read_script-loop-alloc : goal.invariant-read_script-loop-alloc
 invariant-read_script-loop-alloc g l = record {
   utf8 : shadow (Utf8 l.rest);
-  end : IsEndOf (g.S.Source.text l.source) l.rest;
+  end : IsSuffixOf (g.S.Source.text l.source) l.rest;
   shorter : length l.rest ≤ length l.text;
   so_far : CommandsSoFar l.nested l.depth l.text (map (command_view (g.S.Source.shown l.source)) l.commands.items) l.rest;
 }

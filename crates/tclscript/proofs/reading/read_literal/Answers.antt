@@ -6,4 +6,4 @@ use Rattle.tclscript.proofs.Escapes.{run_front}
 use Rattle.tclscript.proofs.reading.read_literal.Goals as goal
 
 pub cut-requires-clause-prefix : goal.cut-requires-clause-prefix
-cut-requires-clause-prefix g c = run_front (in_class (class_of c.args.context)) c.args.text.now c.split_front.result.0.now (c.split_front.ensures.run ∙ ap (λ k. take_while (in_class k) c.args.text.now) c.class_of.ensures)
+cut-requires-clause-prefix g c = run_front (in_class (class_of c.args.context)) c.args.text.now c.split_run.result.0.now (c.split_run.ensures.run ∙ ap (λ k. take_while (in_class k) c.args.text.now) c.class_of.ensures)

@@ -1,5 +1,5 @@
 use Rattle.std.proofs.Common.{◌≡◌, ◌≤◌, length, ap, arith}
-use Rattle.tclchars.specs.Reading.{left_of}
+use Rattle.tclchars.specs.Reading.{remaining_of}
 use Rattle.tclchars.specs.Faults.{max_nesting}
 use Rattle.tclscript.proofs.Whole.{within}
 use Rattle.tclscript.proofs.text.read_whole.Goals as goal
@@ -7,7 +7,7 @@ use Rattle.tclscript.proofs.text.read_whole.Goals as goal
 pub with_offset-requires : goal.with_offset-requires
 with_offset-requires g c =
     let e : length c.as_str-len.result.now ≡ length (g.S.Source.text c.args.source.now) = ap length c.as_str-len.ensures in
-    let le : left_of c.in-Err-Fault.fault ≤ length (g.S.Source.text c.args.source.now) =
+    let le : remaining_of c.in-Err-Fault.fault ≤ length (g.S.Source.text c.args.source.now) =
     within max_nesting (g.S.Source.text c.args.source.now) c.in-Err-Fault.fault (rw c.in-Err-Fault.field-0-is at c.in-Err-Fault.ensures)
     in
     omega arith

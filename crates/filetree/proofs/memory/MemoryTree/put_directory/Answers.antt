@@ -1,5 +1,5 @@
 use Rattle.std.proofs.Common.{map, string_bytes, vec_items}
-use Rattle.filetree.proofs.Kept.{put_at}
+use Rattle.filetree.proofs.CachedAnswers.{put_at}
 use Rattle.filetree.proofs.memory.MemoryTree.put_directory.Goals as goal
 
 pub returns-clause-put : goal.returns-clause-put

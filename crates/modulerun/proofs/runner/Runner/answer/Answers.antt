@@ -1,29 +1,29 @@
 use Rattle.std.proofs.Common.{map, string_bytes, refl, ap, sym, ◌∙◌}
 use Rattle.modulefile.specs.Calls as calls
-use Rattle.modulefile.specs.CallViews.{call_view, topic_view}
+use Rattle.modulefile.specs.CallViews.{call_view, field_view}
 use Rattle.modulefile.specs.Answers.{asked, truth}
-use Rattle.modulerun.specs.Journals.{found}
-use Rattle.modulerun.specs.Hosting.{context_with, told_with}
+use Rattle.modulerun.specs.Journals.{environment_so_far}
+use Rattle.modulerun.specs.Hosting.{context_with, trace_with}
 use Rattle.modulerun.proofs.ReplyLemmas.{asked_reply}
 use Rattle.modulerun.proofs.runner.Runner.answer.Goals as goal
 
 pub returns-in-TypedName-clause-replies : goal.returns-in-TypedName-clause-replies
 returns-in-TypedName-clause-replies g c =
-    asked_reply (context_with c.args.self.now.journal c.args.self.now.context) (found c.args.self.now.journal) (map string_bytes c.args.words.now) c.args.call calls.typed_name c.args.self.now.context.typed.now c.ask.result
-    (told_with c.args.self.now.journal c.args.self.now.messages c.args.self.now.asked c.args.self.now.refusal) (told_with c.ask.new.self.journal c.ask.new.self.messages c.ask.new.self.asked c.ask.new.self.refusal)
+    asked_reply (context_with c.args.self.now.journal c.args.self.now.context) (environment_so_far c.args.self.now.journal) (map string_bytes c.args.words.now) c.args.call calls.typed_name c.args.self.now.context.typed.now c.answer_question.result
+    (trace_with c.args.self.now.journal c.args.self.now.messages c.args.self.now.asked c.args.self.now.refusal) (trace_with c.answer_question.new.self.journal c.answer_question.new.self.messages c.answer_question.new.self.asked c.answer_question.new.self.refusal)
     c.requires (ap call_view c.in-TypedName.is) refl
-    (c.ask.ensures.replies c.args.self.now.context.typed.now c.from_str.ensures.ok)
+    (c.answer_question.ensures.replies c.args.self.now.context.typed.now c.from_str.ensures.ok)
 
-pub returns-in-Tell-clause-replies : goal.returns-in-Tell-clause-replies
-returns-in-Tell-clause-replies g c =
-    asked_reply (context_with c.args.self.now.journal c.args.self.now.context) (found c.args.self.now.journal) (map string_bytes c.args.words.now) c.args.call (calls.tells (topic_view c.in-Tell.topic)) c.topic_text-text.result.now c.ask-in-Tell.result
-    (told_with c.args.self.now.journal c.args.self.now.messages c.args.self.now.asked c.args.self.now.refusal) (told_with c.ask-in-Tell.new.self.journal c.ask-in-Tell.new.self.messages c.ask-in-Tell.new.self.asked c.ask-in-Tell.new.self.refusal)
-    c.requires (ap call_view c.in-Tell.is) (ap asked (sym c.topic_text-text.ensures))
-    (c.ask-in-Tell.ensures.replies c.topic_text-text.result.now c.from_str-in-Tell.ensures.ok)
+pub returns-in-Info-clause-replies : goal.returns-in-Info-clause-replies
+returns-in-Info-clause-replies g c =
+    asked_reply (context_with c.args.self.now.journal c.args.self.now.context) (environment_so_far c.args.self.now.journal) (map string_bytes c.args.words.now) c.args.call (calls.info (field_view c.in-Info.field)) c.field_text-text.result.now c.answer_question-in-Info.result
+    (trace_with c.args.self.now.journal c.args.self.now.messages c.args.self.now.asked c.args.self.now.refusal) (trace_with c.answer_question-in-Info.new.self.journal c.answer_question-in-Info.new.self.messages c.answer_question-in-Info.new.self.asked c.answer_question-in-Info.new.self.refusal)
+    c.requires (ap call_view c.in-Info.is) (ap asked (sym c.field_text-text.ensures))
+    (c.answer_question-in-Info.ensures.replies c.field_text-text.result.now c.from_str-in-Info.ensures.ok)
 
-pub returns-in-Test-clause-replies : goal.returns-in-Test-clause-replies
-returns-in-Test-clause-replies g c =
-    asked_reply (context_with c.args.self.now.journal c.args.self.now.context) (found c.args.self.now.journal) (map string_bytes c.args.words.now) c.args.call (calls.tests (topic_view c.in-Test.topic) c.in-Test.word.now) c.truth.result.now c.ask-in-Test.result
-    (told_with c.args.self.now.journal c.args.self.now.messages c.args.self.now.asked c.args.self.now.refusal) (told_with c.ask-in-Test.new.self.journal c.ask-in-Test.new.self.messages c.ask-in-Test.new.self.asked c.ask-in-Test.new.self.refusal)
-    c.requires (ap call_view c.in-Test.is) (ap asked (sym (c.truth.ensures ∙ ap truth c.topic_test-so.ensures)))
-    (c.ask-in-Test.ensures.replies c.truth.result.now c.from_str-in-Test.ensures.ok)
+pub returns-in-InfoTest-clause-replies : goal.returns-in-InfoTest-clause-replies
+returns-in-InfoTest-clause-replies g c =
+    asked_reply (context_with c.args.self.now.journal c.args.self.now.context) (environment_so_far c.args.self.now.journal) (map string_bytes c.args.words.now) c.args.call (calls.info_test (field_view c.in-InfoTest.field) c.in-InfoTest.word.now) c.truth.result.now c.answer_question-in-InfoTest.result
+    (trace_with c.args.self.now.journal c.args.self.now.messages c.args.self.now.asked c.args.self.now.refusal) (trace_with c.answer_question-in-InfoTest.new.self.journal c.answer_question-in-InfoTest.new.self.messages c.answer_question-in-InfoTest.new.self.asked c.answer_question-in-InfoTest.new.self.refusal)
+    c.requires (ap call_view c.in-InfoTest.is) (ap asked (sym (c.truth.ensures ∙ ap truth c.field_test-is_true.ensures)))
+    (c.answer_question-in-InfoTest.ensures.replies c.truth.result.now c.from_str-in-InfoTest.ensures.ok)

@@ -3,8 +3,8 @@ use Rattle.std.proofs.lemmas.Result.{err_from_is_err_and}
 use Rattle.filetree.specs.Agreement.{InEachPair, is_device, listing_answer}
 use Rattle.search.proofs.FailureLemmas.{fails_then}
 use Rattle.search.proofs.VersionLemmas.{has}
-use Rattle.search.specs.Rows.{row_view}
-use Rattle.search.specs.BelowFolder.{folder_path, parts_of, IsUnder, LooksFrom}
+use Rattle.search.specs.ListingEntries.{listing_entry_view}
+use Rattle.search.specs.BelowFolder.{folder_path, parts_of, IsUnder, LooksFromFolder}
 use Rattle.search.proofs.UnderLemmas.{none_under, deep_under}
 use Rattle.search.proofs.RowLemmas.{rows_none}
 use Rattle.search.proofs.WalkLemmas.{split_first, has_middle, deeper, rows_begun, rows_more, rows_finished, none_left, one_more}
@@ -14,16 +14,16 @@ use Rattle.search.proofs.folders.Walk.+list_folder.Goals as goal
 pub returns-then-levels-eq0-clause-added : goal.returns-then-levels-eq0-clause-added
 returns-then-levels-eq0-clause-added g t c = λ files folders a.
     let dir = c.args.self.now.dir.now in
-    let front = option_map (λ f. f.now) c.args.front in
-    let deep : 4 ≤ length (parts_of front) = omega arith in
-    ([], sym (append-nil _), rows_none (g.D.DefaultFiles.leaves c.args.self.now.default_files.now) files folders dir (IsUnder files folders dir front) (λ v u. deep_under files folders dir front v deep u))
+    let prefix = option_map (λ f. f.now) c.args.prefix in
+    let deep : 4 ≤ length (parts_of prefix) = omega arith in
+    ([], sym (append-nil _), rows_none (g.D.DefaultFiles.results c.args.self.now.default_files.now) files folders dir (IsUnder files folders dir prefix) (λ v u. deep_under files folders dir prefix v deep u))
 
 pub returns-in_default-clause-added : goal.returns-in_default-clause-added
 returns-in_default-clause-added g t c = λ files folders a.
     let dir = c.args.self.now.dir.now in
-    let front = option_map (λ f. f.now) c.args.front in
-    let nothing : folders (folder_path dir front) ≡ None = ap folders (sym (c.deref.ensures ∙ c.in_ok-folder.ensures)) ∙ c.in_ok-entries.ensures.answer files folders a ∙ ap listing_answer c.in_default.is in
-    ([], sym (append-nil _), rows_none (g.D.DefaultFiles.leaves c.args.self.now.default_files.now) files folders dir (IsUnder files folders dir front) (λ v u. none_under files folders dir front v nothing u))
+    let prefix = option_map (λ f. f.now) c.args.prefix in
+    let nothing : folders (folder_path dir prefix) ≡ None = ap folders (sym (c.deref.ensures ∙ c.in_ok-folder.ensures)) ∙ c.in_ok-entries.ensures.answer files folders a ∙ ap listing_answer c.in_default.is in
+    ([], sym (append-nil _), rows_none (g.D.DefaultFiles.results c.args.self.now.default_files.now) files folders dir (IsUnder files folders dir prefix) (λ v u. none_under files folders dir prefix v nothing u))
 
 pub loop-rest-init : goal.loop-rest-init
 loop-rest-init g t c = record {
@@ -35,7 +35,7 @@ loop-rest-init g t c = record {
         let f = c.in_ok-list_files.ensures.added files folders a in (
           f.0,
           f.1,
-          rows_begun (g.D.DefaultFiles.leaves c.args.self.now.default_files.now) files folders c.args.self.now.dir.now
+          rows_begun (g.D.DefaultFiles.results c.args.self.now.default_files.now) files folders c.args.self.now.dir.now
               (map string_bytes c.deref-4.result.now) (map string_bytes c.as_slice-rest.result.now) f.0
               (ap (map string_bytes) (c.deref-4.ensures.value ∙ sym c.as_slice-rest.ensures.value)) f.2,
         ),
@@ -49,7 +49,7 @@ list_folder-requires g t c = λ κs h.
     let w = c.loop-rest.invariant.walked in
     let rest = c.loop-rest.rest.now in
     let after = map string_bytes (take (length rest - 1) (drop 1 rest)) in
-    let deep = deeper (option_map (λ f. f.now) c.args.front) (map string_bytes c.deref-2.result.now) (map string_bytes c.as_slice-rest.result.now) w.0 after
+    let deep = deeper (option_map (λ f. f.now) c.args.prefix) (map string_bytes c.deref-2.result.now) (map string_bytes c.as_slice-rest.result.now) w.0 after
     (string_bytes c.name-item.result) c.as_str.result.now c.args.levels (ap (map string_bytes) c.as_slice-rest.ensures.value ∙ c.in_ok-names.ensures)
     (w.1 ∙ ap (λ r. w.0 ++ r) (split_first string_bytes c.name-item.result rest c.in-len1-up.len_at_least c.name-item.is)) c.as_str.ensures.value c.requires c.if-levels-eq0.false in
     (omega arith, (h.0, (h.1, deep)))
@@ -71,8 +71,8 @@ loop-rest-preserved g t c =
             let v = w.2 files folders (c.list_folder.ensures.before files folders a) in
             let m = c.in_ok-list_folder.ensures.added files folders a in (
               v.0 ++ m.0,
-              m.1 ∙ ap (λ rows. rows ++ m.0) v.1 ∙ append_assoc (map row_view c.args.rows.now.items) v.0 m.0,
-              rows_more (g.D.DefaultFiles.leaves c.args.self.now.default_files.now) files folders c.args.self.now.dir.now (map string_bytes c.as_slice-rest.result.now) w.0 name v.0 m.0 v.2 m.2,
+              m.1 ∙ ap (λ listing_entries. listing_entries ++ m.0) v.1 ∙ append_assoc (map listing_entry_view c.args.listing_entries.now.items) v.0 m.0,
+              rows_more (g.D.DefaultFiles.results c.args.self.now.default_files.now) files folders c.args.self.now.dir.now (map string_bytes c.as_slice-rest.result.now) w.0 name v.0 m.0 v.2 m.2,
             ),
       );
       later = omega arith;
@@ -81,9 +81,9 @@ loop-rest-preserved g t c =
 
 pub returns-in_err-list_folder-clause-failed : goal.returns-in_err-list_folder-clause-failed
 returns-in_err-list_folder-clause-failed g t c =
-    let leaves = g.D.DefaultFiles.leaves c.args.self.now.default_files.now in
+    let results = g.D.DefaultFiles.results c.args.self.now.default_files.now in
     let dir = c.args.self.now.dir.now in
-    let front = option_map (λ f. f.now) c.args.front in
+    let prefix = option_map (λ f. f.now) c.args.prefix in
     let entries = map string_bytes c.deref-2.result.now in
     let names = map string_bytes c.as_slice-rest.result.now in
     let name = c.as_str.result.now in
@@ -96,15 +96,15 @@ returns-in_err-list_folder-clause-failed g t c =
     ap (has name) (w.1 ∙ ap (λ r. w.0 ++ r) (split_first string_bytes c.name-item.result rest c.in-len1-up.len_at_least c.name-item.is ∙ ap (λ n. n ∷ map string_bytes (take (length rest - 1) (drop 1 rest))) (sym c.as_str.ensures.value)))
     ∙ has_middle name w.0 (map string_bytes (take (length rest - 1) (drop 1 rest))) in
     rw (p.1, p.2) (fails_then fails fails (g.T.Tree.failed c.args.tree.now) (g.T.Tree.failed c.loop-rest.tree) (g.T.Tree.failed c.list_folder.new.tree)
-    (λ at. InEachPair agrees (λ files folders. LooksFrom leaves files folders dir (Some name) at))
-    (λ at. InEachPair agrees (λ files folders. LooksFrom leaves files folders dir front at))
+    (λ at. InEachPair agrees (λ files folders. LooksFromFolder results files folders dir (Some name) at))
+    (λ at. InEachPair agrees (λ files folders. LooksFromFolder results files folders dir prefix at))
     (c.loop-rest.invariant.unfailed ∙ c.in_ok-list_files.ensures.failed ∙ c.in_ok-entries.ensures.failed) refl
     (λ at h files folders a.
     let b = c.list_files.ensures.before files folders (c.loop-rest.invariant.before files folders (c.list_folder.ensures.before files folders a)) in
-    let listed : folders (folder_path dir front) ≡ Some entries =
+    let listed : folders (folder_path dir prefix) ≡ Some entries =
     ap folders (sym (c.deref.ensures ∙ c.in_ok-folder.ensures)) ∙ c.in_ok-entries.ensures.answer files folders b ∙ ap listing_answer c.in-Some.is
     ∙ ap (λ items. Some (map string_bytes items)) (sym c.deref-2.ensures.value) in
-    looks_inside leaves files folders dir front entries listed names (ap (map string_bytes) c.as_slice-rest.ensures.value ∙ c.in_ok-names.ensures) name there at (h files folders a))
+    looks_inside results files folders dir prefix entries listed names (ap (map string_bytes) c.as_slice-rest.ensures.value ∙ c.in_ok-names.ensures) name there at (h files folders a))
     c.in_err-list_folder.ensures.failed)
 
 pub returns-clause-failed : goal.returns-clause-failed
@@ -116,20 +116,20 @@ returns-clause-before g t c = λ files folders a.
 
 pub returns-clause-added : goal.returns-clause-added
 returns-clause-added g t c = λ files folders a.
-    let leaves = g.D.DefaultFiles.leaves c.args.self.now.default_files.now in
+    let results = g.D.DefaultFiles.results c.args.self.now.default_files.now in
     let dir = c.args.self.now.dir.now in
-    let front = option_map (λ f. f.now) c.args.front in
+    let prefix = option_map (λ f. f.now) c.args.prefix in
     let w = c.loop-rest.invariant.walked in
     let v = w.2 files folders a in
     let names = map string_bytes c.as_slice-rest.result.now in
     let entries = map string_bytes c.deref-2.result.now in
     let b = c.list_files.ensures.before files folders (c.loop-rest.invariant.before files folders a) in
-    let listed : folders (folder_path dir front) ≡ Some entries =
+    let listed : folders (folder_path dir prefix) ≡ Some entries =
     ap folders (sym (c.deref.ensures ∙ c.in_ok-folder.ensures)) ∙ c.in_ok-entries.ensures.answer files folders b ∙ ap listing_answer c.in-Some.is
     ∙ ap (λ items. Some (map string_bytes items)) (sym c.deref-2.ensures.value) in (
       v.0,
       v.1,
-      rows_finished leaves files folders dir front entries listed names w.0 (ap (map string_bytes) c.as_slice-rest.ensures.value ∙ c.in_ok-names.ensures)
+      rows_finished results files folders dir prefix entries listed names w.0 (ap (map string_bytes) c.as_slice-rest.ensures.value ∙ c.in_ok-names.ensures)
           (none_left string_bytes names w.0 c.loop-rest.rest.now w.1 c.in_default-rest.len_below) v.0 v.2,
     )
 

@@ -2,8 +2,8 @@ use Rattle.std.proofs.Common.{◌≡◌, ◌++◌, ◌≤◌, List, length, map,
 use Rattle.filetree.specs.Agreement.{InEachPair}
 use Rattle.modulename.specs.ModuleName.{Text}
 use Rattle.search.specs.Listed as listed
-use Rattle.search.specs.Rows.{row_view}
-use Rattle.search.specs.BelowFolder.{AreRows, IsInside}
+use Rattle.search.specs.ListingEntries.{listing_entry_view}
+use Rattle.search.specs.BelowFolder.{AreListingEntries, IsInside}
 use Rattle.search.proofs.folders.Walk.+list_folder.Given as goal
 
 abbrev pub decreases-list_folder : goal.decreases-list_folder
@@ -13,9 +13,9 @@ abbrev pub invariant-loop-rest : goal.invariant-loop-rest
 invariant-loop-rest g l = record {
   before : InEachPair (g.T.Tree.agrees l.tree) (λ files folders. g.T.Tree.agrees l.initial.tree files folders);
   walked : (done : List Text) × (map string_bytes l.initial.rest ≡ done ++ map string_bytes l.rest)
-      × InEachPair (g.T.Tree.agrees l.tree) (λ files folders. (more : List listed.Row)
-      × (map row_view l.rows.items ≡ map row_view l.fn.rows.items ++ more)
-      × AreRows (g.D.DefaultFiles.leaves l.self.default_files.now) files folders l.self.dir.now
+      × InEachPair (g.T.Tree.agrees l.tree) (λ files folders. (more : List listed.ListingEntry)
+      × (map listing_entry_view l.listing_entries.items ≡ map listing_entry_view l.fn.listing_entries.items ++ more)
+      × AreListingEntries (g.D.DefaultFiles.results l.self.default_files.now) files folders l.self.dir.now
       (IsInside files folders l.self.dir.now (map string_bytes l.initial.rest) done) more);
   later : g.T.Tree.failures l.initial.tree ≤ g.T.Tree.failures l.tree;
   unfailed : g.T.Tree.failed l.tree ≡ g.T.Tree.failed l.initial.tree;

@@ -5,7 +5,7 @@ use Rattle.filetree.specs.Modulefiles.{path_of}
 use Rattle.search.specs.Reasons.{bad_default}
 use Rattle.search.specs.Found.{NamedDefault}
 use Rattle.search.specs.Looked.{LooksForNamed}
-use Rattle.search.specs.VersionsNamed.{named_view}
+use Rattle.search.specs.VersionsNamed.{named_candidate_view}
 use Rattle.search.proofs.FailureLemmas.{fails_then}
 use Rattle.search.specs.BelowFolder.{IsDefaultOf, LooksForDefault}
 use Rattle.search.proofs.DefaultLemmas.{default_candidate, default_nothing}
@@ -13,46 +13,46 @@ use Rattle.search.proofs.folders.Walk.default_name.Goals as goal
 
 pub returns-in-Candidate-clause-answer : goal.returns-in-Candidate-clause-answer
 returns-in-Candidate-clause-answer g c = λ files folders a.
-    let leaves = g.D.DefaultFiles.leaves c.args.self.now.default_files.now in
+    let results = g.D.DefaultFiles.results c.args.self.now.default_files.now in
     let law = g.met.D.DefaultFiles.one c.args.self.now.default_files.now in
     let dir = c.args.self.now.dir.now in
-    let front = c.in-Some.front.now in
+    let prefix = c.in-Some.prefix.now in
     let default = string_bytes c.in_ok-path_of-in-Candidate.field-0 in
-    subst (λ f. IsDefaultOf leaves files folders dir (option_map (λ x. x.now) f) (Some default)) (sym c.in-Some.is)
-    (default_candidate leaves law files folders dir front (string_bytes c.in-Candidate.version) default
-    (c.in_ok-path_of-in-Candidate.ensures ∙ ap (path_of front) c.deref.ensures)
-    (subst (λ n. NamedDefault leaves files folders dir front (named_view n)) c.in-Candidate.is (c.in_ok-version.ensures.answer files folders a)))
+    subst (λ f. IsDefaultOf results files folders dir (option_map (λ x. x.now) f) (Some default)) (sym c.in-Some.is)
+    (default_candidate results law files folders dir prefix (string_bytes c.in-Candidate.version) default
+    (c.in_ok-path_of-in-Candidate.ensures ∙ ap (path_of prefix) c.deref.ensures)
+    (subst (λ n. NamedDefault results files folders dir prefix (named_candidate_view n)) c.in-Candidate.is (c.in_ok-version.ensures.answer files folders a)))
 
 pub returns-in-Nothing-clause-answer : goal.returns-in-Nothing-clause-answer
 returns-in-Nothing-clause-answer g c = λ files folders a.
-    let leaves = g.D.DefaultFiles.leaves c.args.self.now.default_files.now in
+    let results = g.D.DefaultFiles.results c.args.self.now.default_files.now in
     let law = g.met.D.DefaultFiles.one c.args.self.now.default_files.now in
     let dir = c.args.self.now.dir.now in
-    let front = c.in-Some.front.now in
-    subst (λ f. IsDefaultOf leaves files folders dir (option_map (λ x. x.now) f) None) (sym c.in-Some.is)
-    (default_nothing leaves law files folders dir front (Ok None)
-    (subst (λ n. NamedDefault leaves files folders dir front (named_view n)) c.in-Nothing.is (c.in_ok-version.ensures.answer files folders a)) (λ v q. absurd (cc)))
+    let prefix = c.in-Some.prefix.now in
+    subst (λ f. IsDefaultOf results files folders dir (option_map (λ x. x.now) f) None) (sym c.in-Some.is)
+    (default_nothing results law files folders dir prefix (Ok None)
+    (subst (λ n. NamedDefault results files folders dir prefix (named_candidate_view n)) c.in-Nothing.is (c.in_ok-version.ensures.answer files folders a)) (λ v q. absurd (cc)))
 
 pub returns-clause-answer : goal.returns-clause-answer
 returns-clause-answer g c = λ files folders a.
-    let leaves = g.D.DefaultFiles.leaves c.args.self.now.default_files.now in
+    let results = g.D.DefaultFiles.results c.args.self.now.default_files.now in
     let law = g.met.D.DefaultFiles.one c.args.self.now.default_files.now in
     let dir = c.args.self.now.dir.now in
-    let front = c.in-Some.front.now in
-    subst (λ f. IsDefaultOf leaves files folders dir (option_map (λ x. x.now) f) None) (sym c.in-Some.is)
-    (default_nothing leaves law files folders dir front (Err (bad_default (string_bytes c.in-BadFile.field-0)))
-    (subst (λ n. NamedDefault leaves files folders dir front (named_view n)) c.in-BadFile.is (c.in_ok-version.ensures.answer files folders a)) (λ v q. absurd (cc)))
+    let prefix = c.in-Some.prefix.now in
+    subst (λ f. IsDefaultOf results files folders dir (option_map (λ x. x.now) f) None) (sym c.in-Some.is)
+    (default_nothing results law files folders dir prefix (Err (bad_default (string_bytes c.in-BadFile.field-0)))
+    (subst (λ n. NamedDefault results files folders dir prefix (named_candidate_view n)) c.in-BadFile.is (c.in_ok-version.ensures.answer files folders a)) (λ v q. absurd (cc)))
 
 pub returns-in_err-version-clause-failed : goal.returns-in_err-version-clause-failed
 returns-in_err-version-clause-failed g c =
-    let leaves = g.D.DefaultFiles.leaves c.args.self.now.default_files.now in
+    let results = g.D.DefaultFiles.results c.args.self.now.default_files.now in
     let dir = c.args.self.now.dir.now in
-    let front = c.in-Some.front.now in
+    let prefix = c.in-Some.prefix.now in
     let agrees = g.T.Tree.agrees c.named_default.new.tree in
     let fails = is_device c.in_err-version.field-0.0 in
     let p = err_from_is_err_and c.from_residual.result c.from_residual.ensures.1 in
     rw (p.1, p.2) (fails_then fails fails (g.T.Tree.failed c.args.tree.now) (g.T.Tree.failed c.args.tree.now) (g.T.Tree.failed c.named_default.new.tree)
-    (λ at. InEachPair agrees (λ files folders. LooksForNamed leaves files folders dir front at))
-    (λ at. InEachPair agrees (λ files folders. LooksForDefault leaves files folders dir (option_map (λ f. f.now) c.args.front) at)) refl refl
-    (λ at h files folders a. subst (λ f. LooksForDefault leaves files folders dir (option_map (λ x. x.now) f) at) (sym c.in-Some.is) (h files folders a))
+    (λ at. InEachPair agrees (λ files folders. LooksForNamed results files folders dir prefix at))
+    (λ at. InEachPair agrees (λ files folders. LooksForDefault results files folders dir (option_map (λ f. f.now) c.args.prefix) at)) refl refl
+    (λ at h files folders a. subst (λ f. LooksForDefault results files folders dir (option_map (λ x. x.now) f) at) (sym c.in-Some.is) (h files folders a))
     c.in_err-version.ensures.failed)

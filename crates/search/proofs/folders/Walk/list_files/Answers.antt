@@ -2,48 +2,48 @@ use Rattle.std.proofs.Common.{map, vec_len, option_map, string_bytes, refl, ap, 
 use Rattle.std.proofs.lemmas.Result.{err_from_is_err_and}
 use Rattle.filetree.specs.Agreement.{InEachPair, is_device}
 use Rattle.search.proofs.FailureLemmas.{fails_then}
-use Rattle.search.specs.Rows.{row_of}
-use Rattle.search.specs.BelowFolder.{IsDefaultOf, LooksAmong, LooksForDefault, LooksFrom}
+use Rattle.search.specs.ListingEntries.{listing_entry_of}
+use Rattle.search.specs.BelowFolder.{IsDefaultOf, LooksAmong, LooksForDefault, LooksFromFolder}
 use Rattle.search.proofs.FileLemmas.{files_made}
 use Rattle.search.proofs.ListingLookLemmas.{looks_among, looks_at_default, some_seen}
 use Rattle.search.proofs.folders.Walk.list_files.Goals as goal
 
 pub returns-clause-added : goal.returns-clause-added
 returns-clause-added g c = λ files folders a.
-    let leaves = g.D.DefaultFiles.leaves c.args.self.now.default_files.now in
+    let results = g.D.DefaultFiles.results c.args.self.now.default_files.now in
     let dir = c.args.self.now.dir.now in
-    let front = option_map (λ f. f.now) c.args.front in
+    let prefix = option_map (λ f. f.now) c.args.prefix in
     let default = option_map (λ t. t.now) c.as_text.result in
     let before = c.default_name.ensures.before files folders a in (
-      map (row_of default) (map (λ m. m.now) c.deref.result.now),
-      c.in_ok-push_rows.ensures,
-      files_made leaves files folders dir front default (map string_bytes c.args.entries.now)
+      map (listing_entry_of default) (map (λ m. m.now) c.deref.result.now),
+      c.in_ok-push_listing_entries.ensures,
+      files_made results files folders dir prefix default (map string_bytes c.args.entries.now)
           (map string_bytes c.args.names.now) (map (λ m. m.now) c.deref.result.now) c.requires.named
           (ap (map (λ m. m.now)) c.deref.ensures.value ∙ c.in_ok-modules.ensures.answer files folders before)
-          (subst (IsDefaultOf leaves files folders dir front) (sym c.as_text.ensures) (c.in_ok-default.ensures.answer files folders a)),
+          (subst (IsDefaultOf results files folders dir prefix) (sym c.as_text.ensures) (c.in_ok-default.ensures.answer files folders a)),
     )
 
 pub returns-in_err-modules-clause-failed : goal.returns-in_err-modules-clause-failed
 returns-in_err-modules-clause-failed g c =
-    let leaves = g.D.DefaultFiles.leaves c.args.self.now.default_files.now in
+    let results = g.D.DefaultFiles.results c.args.self.now.default_files.now in
     let dir = c.args.self.now.dir.now in
-    let front = option_map (λ f. f.now) c.args.front in
+    let prefix = option_map (λ f. f.now) c.args.prefix in
     let entries = map string_bytes c.args.entries.now in
     let names = map string_bytes c.args.names.now in
     let agrees = g.T.Tree.agrees c.modules_among.new.tree in
     let fails = is_device c.in_err-modules.field-0.0 in
     let p = err_from_is_err_and c.from_residual.result c.from_residual.ensures.1 in
     rw (p.1, p.2) (fails_then fails fails (g.T.Tree.failed c.args.tree.now) (g.T.Tree.failed c.args.tree.now) (g.T.Tree.failed c.modules_among.new.tree)
-    (LooksAmong dir names) (λ at. InEachPair agrees (λ files folders. LooksFrom leaves files folders dir front at)) refl refl
+    (LooksAmong dir names) (λ at. InEachPair agrees (λ files folders. LooksFromFolder results files folders dir prefix at)) refl refl
     (λ at h files folders a.
-    looks_among leaves files folders dir front entries (c.requires.listed files folders (c.modules_among.ensures.before files folders a)) names c.requires.named at h)
+    looks_among results files folders dir prefix entries (c.requires.listed files folders (c.modules_among.ensures.before files folders a)) names c.requires.named at h)
     c.in_err-modules.ensures.failed)
 
 pub returns-in_err-default-clause-failed : goal.returns-in_err-default-clause-failed
 returns-in_err-default-clause-failed g c =
-    let leaves = g.D.DefaultFiles.leaves c.args.self.now.default_files.now in
+    let results = g.D.DefaultFiles.results c.args.self.now.default_files.now in
     let dir = c.args.self.now.dir.now in
-    let front = option_map (λ f. f.now) c.args.front in
+    let prefix = option_map (λ f. f.now) c.args.prefix in
     let entries = map string_bytes c.args.entries.now in
     let names = map string_bytes c.args.names.now in
     let modules = map (λ m. m.now) c.in_ok-modules.modules.items in
@@ -51,11 +51,11 @@ returns-in_err-default-clause-failed g c =
     let fails = is_device c.in_err-default.field-0.0 in
     let p = err_from_is_err_and c.from_residual-in_err-default.result c.from_residual-in_err-default.ensures.1 in
     rw (p.1, p.2) (fails_then fails fails (g.T.Tree.failed c.args.tree.now) (g.T.Tree.failed c.modules_among.new.tree) (g.T.Tree.failed c.default_name.new.tree)
-    (λ at. InEachPair agrees (λ files folders. LooksForDefault leaves files folders dir front at))
-    (λ at. InEachPair agrees (λ files folders. LooksFrom leaves files folders dir front at)) c.in_ok-modules.ensures.failed refl
+    (λ at. InEachPair agrees (λ files folders. LooksForDefault results files folders dir prefix at))
+    (λ at. InEachPair agrees (λ files folders. LooksFromFolder results files folders dir prefix at)) c.in_ok-modules.ensures.failed refl
     (λ at h files folders a.
     let b = c.default_name.ensures.before files folders a in
-    looks_at_default leaves files folders dir front entries (c.requires.listed files folders (c.modules_among.ensures.before files folders b)) names modules c.requires.named
+    looks_at_default results files folders dir prefix entries (c.requires.listed files folders (c.modules_among.ensures.before files folders b)) names modules c.requires.named
     (c.in_ok-modules.ensures.answer files folders b)
     (some_seen (λ m. m.now) c.in_ok-modules.modules.items (vec_len c.in_ok-modules.modules) c.is_empty.result c.in_ok-modules.modules.ok.0 c.is_empty.ensures c.if-is_empty.false) at (h files folders a))
     c.in_err-default.ensures.failed)

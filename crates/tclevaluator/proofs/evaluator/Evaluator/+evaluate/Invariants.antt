@@ -5,7 +5,7 @@ use Rattle.tclscript.specs.View.{script_view, command_view, word_view}
 use Rattle.tclscript.specs.declared.tree.Script.{out-Script}
 use Rattle.tclscript.specs.declared.piece.ByteRange.{ByteRange}
 use Rattle.tclrules.specs.Derivation.{Runs}
-use Rattle.tclrules.specs.Leads.{Leads, point}
+use Rattle.tclrules.specs.Simulates.{Simulates, point}
 use Rattle.tclrules.specs.Variables.{State}
 use Rattle.tclrules.specs.Plans as plans
 use Rattle.tclrules.specs.Words as pieces
@@ -13,123 +13,123 @@ use Rattle.tclrules.specs.Rules as rules
 use Rattle.tclrules.specs.Plans.{Next, on_normal}
 use Rattle.tclrules.specs.Rules.{rule}
 use Rattle.tclforms.specs.Views.{pair_texts}
-use Rattle.tclsteps.specs.Machine.{shown, bounds, control_plan, behind_all, control_weight, frames_weight}
-use Rattle.tclendings.specs.Completions.{ComesToText, IsTreeOf}
-use Rattle.tclevaluator.specs.Later.{Later}
+use Rattle.tclsubstitution.specs.Machine.{range_text, bounds, control_plan, stack_continuation, control_weight, frames_weight}
+use Rattle.tclcontrol.specs.Completions.{EvaluatesToText, IsScriptTree}
+use Rattle.tclevaluator.specs.OnlyGrows.{OnlyGrows}
 use Rattle.tclevaluator.proofs.evaluator.Evaluator.+evaluate.Given as goal
 
 abbrev pub decreases-bracket : goal.decreases-bracket
-decreases-bracket g l = 16 * l.left
+decreases-bracket g l = 16 * l.remaining
 
 abbrev pub decreases-script : goal.decreases-script
-decreases-script g l = 16 * l.left
+decreases-script g l = 16 * l.remaining
 
-abbrev pub decreases-script_again : goal.decreases-script_again
-decreases-script_again g l = 16 * l.left
+abbrev pub decreases-repeated_script : goal.decreases-repeated_script
+decreases-repeated_script g l = 16 * l.remaining
 
 abbrev pub decreases-value : goal.decreases-value
-decreases-value g l = 16 * l.left + 1
+decreases-value g l = 16 * l.remaining + 1
 
 abbrev pub decreases-express : goal.decreases-express
-decreases-express g l = 16 * l.left + 3
+decreases-express g l = 16 * l.remaining + 3
 
-abbrev pub decreases-tree_value : goal.decreases-tree_value
-decreases-tree_value g l = 16 * l.left + 2
+abbrev pub decreases-expression_value : goal.decreases-expression_value
+decreases-expression_value g l = 16 * l.remaining + 2
 
 abbrev pub decreases-holds : goal.decreases-holds
-decreases-holds g l = 16 * l.left + 3
+decreases-holds g l = 16 * l.remaining + 3
 
 abbrev pub decreases-decide : goal.decreases-decide
-decreases-decide g l = 16 * l.left + 4
+decreases-decide g l = 16 * l.remaining + 4
 
 abbrev pub decreases-turn : goal.decreases-turn
-decreases-turn g l = 16 * l.left + 3
+decreases-turn g l = 16 * l.remaining + 3
 
 abbrev pub decreases-guarded_turn : goal.decreases-guarded_turn
-decreases-guarded_turn g l = 16 * l.left + 4
+decreases-guarded_turn g l = 16 * l.remaining + 4
 
 abbrev pub decreases-while_turns : goal.decreases-while_turns
-decreases-while_turns g l = 16 * l.left + 5
+decreases-while_turns g l = 16 * l.remaining + 5
 
 abbrev pub decreases-for_turns : goal.decreases-for_turns
-decreases-for_turns g l = 16 * l.left + 5
+decreases-for_turns g l = 16 * l.remaining + 5
 
 abbrev pub decreases-for_loop : goal.decreases-for_loop
-decreases-for_loop g l = 16 * l.left + 6
+decreases-for_loop g l = 16 * l.remaining + 6
 
 abbrev pub decreases-otherwise : goal.decreases-otherwise
-decreases-otherwise g l = 16 * l.left + 1
+decreases-otherwise g l = 16 * l.remaining + 1
 
 abbrev pub decreases-branches : goal.decreases-branches
-decreases-branches g l = 16 * l.left + 5
+decreases-branches g l = 16 * l.remaining + 5
 
 abbrev pub decreases-catch : goal.decreases-catch
-decreases-catch g l = 16 * l.left + 1
+decreases-catch g l = 16 * l.remaining + 1
 
 abbrev pub decreases-form : goal.decreases-form
-decreases-form g l = 16 * l.left + 7
+decreases-form g l = 16 * l.remaining + 7
 
 abbrev pub decreases-called : goal.decreases-called
-decreases-called g l = 16 * l.left + 9
+decreases-called g l = 16 * l.remaining + 9
 
 abbrev pub decreases-core_command : goal.decreases-core_command
-decreases-core_command g l = 16 * l.left + 8
+decreases-core_command g l = 16 * l.remaining + 8
 
 abbrev pub decreases-other_command : goal.decreases-other_command
-decreases-other_command g l = 16 * l.left + 2
+decreases-other_command g l = 16 * l.remaining + 2
 
 abbrev pub decreases-call : goal.decreases-call
-decreases-call g l = 16 * l.left + 1
+decreases-call g l = 16 * l.remaining + 1
 
 abbrev pub decreases-foreach : goal.decreases-foreach
-decreases-foreach g l = 16 * l.left + 5
+decreases-foreach g l = 16 * l.remaining + 5
 
 abbrev pub decreases-foreach_turns : goal.decreases-foreach_turns
-decreases-foreach_turns g l = 16 * l.left + 4
+decreases-foreach_turns g l = 16 * l.remaining + 4
 
 abbrev pub decreases-words : goal.decreases-words
-decreases-words g l = 16 * l.left + 3
+decreases-words g l = 16 * l.remaining + 3
 
 abbrev pub decreases-word : goal.decreases-word
-decreases-word g l = 16 * l.left + 2
+decreases-word g l = 16 * l.remaining + 2
 
 abbrev pub decreases-command : goal.decreases-command
-decreases-command g l = 16 * l.left + 10
+decreases-command g l = 16 * l.remaining + 10
 
 abbrev pub decreases-commands : goal.decreases-commands
-decreases-commands g l = 16 * l.left + 11
+decreases-commands g l = 16 * l.remaining + 11
 
 abbrev pub invariant-branches-loop-condition : goal.invariant-branches-loop-condition
 invariant-branches-loop-condition g l =
     let o = g.H.Host.oracle in
-    let t = g.H.Host.told in
-    let b = bounds l.limits.value_bytes l.left in
+    let t = g.H.Host.trace in
+    let b = bounds l.limits.value_bytes l.remaining in
     let other = option_map (λ t. t.now) l.other in
     record {
-      comes : (k : Next) → Leads l.limits.commands (rule l.limits.value_bytes) (rules.branches b (pair_texts l.branches) other l.fn.self.variables k) (point (o l.fn.host) (t l.fn.host) l.fn.self.used) (rules.branches b (pair_texts (drop l.condition-index l.branches)) other l.self.variables k) (point (o l.host) (t l.host) l.self.used);
-      later : Later l.fn.self l.self;
+      evaluates_to : (k : Next) → Simulates l.limits.commands (rule l.limits.value_bytes) (rules.branches b (pair_texts l.branches) other l.fn.self.variables k) (point (o l.fn.host) (t l.fn.host) l.fn.self.used) (rules.branches b (pair_texts (drop l.condition-index l.branches)) other l.self.variables k) (point (o l.host) (t l.host) l.self.used);
+      only_grows : OnlyGrows l.fn.self l.self;
     }
 
 abbrev pub invariant-commands-loop-command : goal.invariant-commands-loop-command
 invariant-commands-loop-command g l =
     let o = g.H.Host.oracle in
-    let t = g.H.Host.told in
-    let b = bounds l.limits.value_bytes l.left in
-    let view = map (command_view (shown l.source)) in
+    let t = g.H.Host.trace in
+    let b = bounds l.limits.value_bytes l.remaining in
+    let view = map (command_view (range_text l.source)) in
     record {
-      comes : ComesToText l.wanted l.limits.value_bytes (Ok l.last) (λ u. Leads l.limits.commands (rule l.limits.value_bytes) (rules.commands b (script_view (shown l.source) l.script) [] l.fn.self.variables) (point (o l.fn.host) (t l.fn.host) l.fn.self.used) (rules.commands b (commands_of (view (drop l.command-index (out-Script ByteRange l.script).commands.items))) u l.self.variables) (point (o l.host) (t l.host) l.self.used));
-      later : Later l.fn.self l.self;
+      evaluates_to : EvaluatesToText l.needs_result l.limits.value_bytes (Ok l.last) (λ u. Simulates l.limits.commands (rule l.limits.value_bytes) (rules.commands b (script_view (range_text l.source) l.script) [] l.fn.self.variables) (point (o l.fn.host) (t l.fn.host) l.fn.self.used) (rules.commands b (commands_of (view (drop l.command-index (out-Script ByteRange l.script).commands.items))) u l.self.variables) (point (o l.host) (t l.host) l.self.used));
+      only_grows : OnlyGrows l.fn.self l.self;
     }
 
 abbrev pub invariant-for_turns-loop-between : goal.invariant-for_turns-loop-between
 invariant-for_turns-loop-between g l =
     let o = g.H.Host.oracle in
-    let t = g.H.Host.told in
+    let t = g.H.Host.trace in
     record {
-      comes : (k : Next) → Leads l.limits.commands (rule l.limits.value_bytes) (Runs (plans.For l.left l.condition l.next l.body l.fn.self.variables) (on_normal k)) (point (o l.fn.host) (t l.fn.host) l.fn.self.used) (Runs (plans.For l.left l.condition l.next l.body l.self.variables) (on_normal k)) (point (o l.host) (t l.host) l.self.used);
-      parsed : IsTreeOf l.body l.parsed;
-      between : IsTreeOf l.next l.between;
-      later : Later l.fn.self l.self;
+      evaluates_to : (k : Next) → Simulates l.limits.commands (rule l.limits.value_bytes) (Runs (plans.For l.remaining l.condition l.next l.body l.fn.self.variables) (on_normal k)) (point (o l.fn.host) (t l.fn.host) l.fn.self.used) (Runs (plans.For l.remaining l.condition l.next l.body l.self.variables) (on_normal k)) (point (o l.host) (t l.host) l.self.used);
+      parsed : IsScriptTree l.body l.parsed;
+      between : IsScriptTree l.next l.between;
+      only_grows : OnlyGrows l.fn.self l.self;
     }
 
 abbrev pub decreases-for_turns-loop-between : goal.decreases-for_turns-loop-between
@@ -138,11 +138,11 @@ decreases-for_turns-loop-between g l = l.limits.commands - l.self.used
 abbrev pub invariant-while_turns-loop-parsed : goal.invariant-while_turns-loop-parsed
 invariant-while_turns-loop-parsed g l =
     let o = g.H.Host.oracle in
-    let t = g.H.Host.told in
+    let t = g.H.Host.trace in
     record {
-      comes : (k : Next) → Leads l.limits.commands (rule l.limits.value_bytes) (Runs (plans.While l.left l.condition l.body l.fn.self.variables) (on_normal k)) (point (o l.fn.host) (t l.fn.host) l.fn.self.used) (Runs (plans.While l.left l.condition l.body l.self.variables) (on_normal k)) (point (o l.host) (t l.host) l.self.used);
-      parsed : IsTreeOf l.body l.parsed;
-      later : Later l.fn.self l.self;
+      evaluates_to : (k : Next) → Simulates l.limits.commands (rule l.limits.value_bytes) (Runs (plans.While l.remaining l.condition l.body l.fn.self.variables) (on_normal k)) (point (o l.fn.host) (t l.fn.host) l.fn.self.used) (Runs (plans.While l.remaining l.condition l.body l.self.variables) (on_normal k)) (point (o l.host) (t l.host) l.self.used);
+      parsed : IsScriptTree l.body l.parsed;
+      only_grows : OnlyGrows l.fn.self l.self;
     }
 
 abbrev pub decreases-while_turns-loop-parsed : goal.decreases-while_turns-loop-parsed
@@ -151,11 +151,11 @@ decreases-while_turns-loop-parsed g l = l.limits.commands - l.self.used
 abbrev pub invariant-value-loop-stack : goal.invariant-value-loop-stack
 invariant-value-loop-stack g l =
     let o = g.H.Host.oracle in
-    let t = g.H.Host.told in
-    let b = bounds l.limits.value_bytes l.left in
+    let t = g.H.Host.trace in
+    let b = bounds l.limits.value_bytes l.remaining in
     record {
-      comes : (k : Next) → Leads l.limits.commands (rule l.limits.value_bytes) (control_plan l.source b l.fn.start l.fn.self.variables k) (point (o l.fn.host) (t l.fn.host) l.fn.self.used) (control_plan l.source b l.control l.self.variables (behind_all l.source b (reverse l.stack.items) k)) (point (o l.host) (t l.host) l.self.used);
-      later : Later l.fn.self l.self;
+      evaluates_to : (k : Next) → Simulates l.limits.commands (rule l.limits.value_bytes) (control_plan l.source b l.fn.start l.fn.self.variables k) (point (o l.fn.host) (t l.fn.host) l.fn.self.used) (control_plan l.source b l.control l.self.variables (stack_continuation l.source b (reverse l.stack.items) k)) (point (o l.host) (t l.host) l.self.used);
+      only_grows : OnlyGrows l.fn.self l.self;
     }
 
 abbrev pub decreases-value-loop-stack : goal.decreases-value-loop-stack
@@ -164,22 +164,22 @@ decreases-value-loop-stack g l = control_weight l.source l.control + frames_weig
 abbrev pub invariant-words-loop-word : goal.invariant-words-loop-word
 invariant-words-loop-word g l =
     let o = g.H.Host.oracle in
-    let t = g.H.Host.told in
-    let b = bounds l.limits.value_bytes l.left in
-    let view = map (word_view (shown l.source)) in
+    let t = g.H.Host.trace in
+    let b = bounds l.limits.value_bytes l.remaining in
+    let view = map (word_view (range_text l.source)) in
     record {
-      comes : (k : List Text → State → plans.Step) → Leads l.limits.commands (rule l.limits.value_bytes) (pieces.words b (words_of (view l.words)) [] l.fn.self.variables k) (point (o l.fn.host) (t l.fn.host) l.fn.self.used) (pieces.words b (words_of (view (drop l.word-index l.words))) (map string_bytes l.texts.items) l.self.variables k) (point (o l.host) (t l.host) l.self.used);
-      later : Later l.fn.self l.self;
+      evaluates_to : (k : List Text → State → plans.Step) → Simulates l.limits.commands (rule l.limits.value_bytes) (pieces.words b (words_of (view l.words)) [] l.fn.self.variables k) (point (o l.fn.host) (t l.fn.host) l.fn.self.used) (pieces.words b (words_of (view (drop l.word-index l.words))) (map string_bytes l.texts.items) l.self.variables k) (point (o l.host) (t l.host) l.self.used);
+      only_grows : OnlyGrows l.fn.self l.self;
     }
 
 abbrev pub invariant-foreach_turns-loop-limits : goal.invariant-foreach_turns-loop-limits
 invariant-foreach_turns-loop-limits g l =
     let o = g.H.Host.oracle in
-    let t = g.H.Host.told in
+    let t = g.H.Host.trace in
     record {
-      comes : (k : Next) → Leads l.limits.commands (rule l.limits.value_bytes) (Runs (plans.Foreach l.left l.fn.loops l.body l.fn.self.variables) (on_normal k)) (point (o l.fn.host) (t l.fn.host) l.fn.self.used) (Runs (plans.Foreach l.left l.loops l.body l.self.variables) (on_normal k)) (point (o l.host) (t l.host) l.self.used);
-      parsed : IsTreeOf l.body l.parsed;
-      later : Later l.fn.self l.self;
+      evaluates_to : (k : Next) → Simulates l.limits.commands (rule l.limits.value_bytes) (Runs (plans.Foreach l.remaining l.fn.loops l.body l.fn.self.variables) (on_normal k)) (point (o l.fn.host) (t l.fn.host) l.fn.self.used) (Runs (plans.Foreach l.remaining l.loops l.body l.self.variables) (on_normal k)) (point (o l.host) (t l.host) l.self.used);
+      parsed : IsScriptTree l.body l.parsed;
+      only_grows : OnlyGrows l.fn.self l.self;
     }
 
 abbrev pub decreases-foreach_turns-loop-limits : goal.decreases-foreach_turns-loop-limits

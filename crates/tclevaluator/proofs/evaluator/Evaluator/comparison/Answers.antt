@@ -7,7 +7,7 @@ pub returns-in_err-made-clause-err : goal.returns-in_err-made-clause-err
 returns-in_err-made-clause-err c =
     let p = err_from_is_err_and c.from_residual.result c.from_residual.ensures.1 in
     let h = rw c.as_str.ensures.value at c.in_err-made.ensures.err in
-    rw (p.1, p.2) (λ most left r k x. h most left r _ x)
+    rw (p.1, p.2) (λ most remaining r k x. h most remaining r _ x)
 
 pub returns-in-Some-clause-found : goal.returns-in-Some-clause-found
 returns-in-Some-clause-found c =

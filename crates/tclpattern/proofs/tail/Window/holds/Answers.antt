@@ -1,5 +1,5 @@
 use Rattle.std.proofs.Common.{◌∷◌, ◌∙◌, sym}
-use Rattle.tclpattern.specs.Search.Windows.{behind_first}
+use Rattle.tclpattern.specs.Search.Windows.{without_first}
 use Rattle.tclpattern.proofs.SetLemmas.{set_ends, item_at-close, item_at-one, item_at-range, item_at-open}
 use Rattle.tclpattern.proofs.TextLemmas.{no_way}
 use Rattle.tclpattern.proofs.tail.Window.holds.Goals as goal
@@ -15,7 +15,7 @@ returns-then-not-begins_with c xs cs k =
 pub returns-in-Some : goal.returns-in-Some
 returns-in-Some c xs cs k =
     let dash_first = sym k.here.first ∙ c.begins_with.ensures.0 c.if-not-begins_with.false in
-    c.holds_from-in-Some.ensures (c.args.p ∷ xs) (behind_first (behind_first xs)) cs
+    c.holds_from-in-Some.ensures (c.args.p ∷ xs) (without_first (without_first xs)) cs
     (item_at-range c.args.p c.in-Some.high xs c.if-p-eq93.false dash_first (sym k.next.first ∙ c.in-Some.is)) k.after_next
 
 pub returns-in-None : goal.returns-in-None

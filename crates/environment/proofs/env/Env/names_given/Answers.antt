@@ -1,5 +1,0 @@
-use Rattle.environment.proofs.TableLemmas.{all_given}
-use Rattle.environment.proofs.env.Env.names_given.Goals as goal
-
-pub returns : goal.returns
-returns c = all_given c.names_of.result c.args.self.now c.self.inside.vars.entries c.self.view_is c.names_of.ensures

@@ -1,6 +1,0 @@
-use Rattle.std.proofs.Common.{◌≡◌, map, string_bytes, take}
-use Rattle.environment.specs.Texts.{shown}
-use Rattle.environment.proofs.fields.copies.Given as goal
-
-abbrev pub invariant-loop-text : goal.invariant-loop-text
-invariant-loop-text l = map string_bytes l.copies.items ≡ shown (take l.text-index l.texts)

@@ -1,0 +1,273 @@
+//! Adding a module to the loaded ones and dropping one, and the four texts that the list is written as.
+ghost use Rattle.std.specs.Prelude.{◌≡◌, ◌&&◌, ◌++◌, [], ◌∷◌, not, map, bytes_eq, string_bytes, OnOk, OnErr, IfOk, IfErr};
+ghost use Rattle.std.specs.List.{list_any, list_all};
+ghost use Rattle.std.specs.Option.{option_map};
+ghost use Rattle.modulename.specs.ModuleName.{is_module_name};
+ghost use Rattle.envvars.specs.Changes.{new_value_of};
+ghost use Rattle.envloaded.specs.LoadedTexts.{element_of, group_text};
+ghost use Rattle.envloaded.specs.Loaded.{names_text, files_text, conflict_elements, conflicts_text, prereq_elements, prereqs_text, loaded_changes, with_loaded, is_path, is_group, is_entry, can_be_added, with_conflicts_once, added_loaded, dropped_loaded};
+ghost use Rattle.envloaded.specs.LoadedEntries.{entry_of};
+ghost use Rattle.envvars.specs.Texts.{texts_in};
+ghost use Rattle.envvars.specs.Reasons.{Edits};
+ghost use Rattle.envvars.specs.declared.fault.EnvFault.TheVariants.{OutOfMemory};
+
+use crate::entry::Loaded;
+use crate::list::{CONFLICTS, FILES, NAMES, PREREQS, loaded};
+use envvars::fields::{copies, deduplicated, join, slices, text_of_elements};
+use envvars::{Change, EnvFault, Vars};
+use modulename::is_module_name;
+use std::alloc::{AllocError, Global};
+
+/// The text of `LOADEDMODULES`: the names, in load order; none for an empty list.
+fn names_text(alloc: Global, list: &[Loaded]) -> Result<Option<String>, AllocError>
+    ensures { IfOk result (λ t. option_map string_bytes t ≡ names_text (map entry_of list.now)) }
+{
+    let mut names = Vec::new(alloc);
+    for entry in list {
+        names.push(entry.name.as_str())?;
+    }
+    text_of_elements(alloc, names.as_slice())
+}
+
+/// The text of `_LMFILES_`: the paths, in load order; none for an empty list.
+fn files_text(alloc: Global, list: &[Loaded]) -> Result<Option<String>, AllocError>
+    ensures { IfOk result (λ t. option_map string_bytes t ≡ files_text (map entry_of list.now)) }
+{
+    let mut files = Vec::new(alloc);
+    for entry in list {
+        files.push(entry.path.as_str())?;
+    }
+    text_of_elements(alloc, files.as_slice())
+}
+
+/// The element that a module's name and its words are written as, with `&` between them.
+fn element(alloc: Global, name: &str, words: &[String]) -> Result<String, AllocError>
+    ensures { IfOk result (λ t. string_bytes t ≡ element_of name.now (map string_bytes words.now)) }
+{
+    let mut parts = slices(alloc, words)?;
+    parts.insert(0, name)?;
+    join(alloc, parts.as_slice(), '&')
+}
+
+/// Appends the element of a module's conflicts, if it has some.
+fn push_conflicts(
+    alloc: Global,
+    elements: &mut Vec<String>,
+    entry: &Loaded,
+) -> Result<(), AllocError>
+    ensures { OnOk result (texts_in elements.new
+        ≡ texts_in elements.old ++ conflict_elements (entry_of entry.now ∷ [])) }
+{
+    if entry.conflicts.is_empty() {
+        return Ok(());
+    }
+    elements.push(element(alloc, entry.name.as_str(), entry.conflicts.as_slice())?)?;
+    Ok(())
+}
+
+/// The text of `__MODULES_LMCONFLICT`: an element for each module with conflicts; none where no module has one.
+fn conflicts_text(alloc: Global, list: &[Loaded]) -> Result<Option<String>, AllocError>
+    ensures { IfOk result (λ t. option_map string_bytes t ≡ conflicts_text (map entry_of list.now)) }
+{
+    let mut elements = Vec::new(alloc);
+    for entry in list {
+        push_conflicts(alloc, &mut elements, entry)?;
+    }
+    let elements = slices(alloc, elements.as_slice())?;
+    text_of_elements(alloc, elements.as_slice())
+}
+
+/// The text of a group of names, with `|` between them.
+fn group_text(alloc: Global, group: &[String]) -> Result<String, AllocError>
+    ensures { IfOk result (λ t. string_bytes t ≡ group_text (map string_bytes group.now)) }
+{
+    let names = slices(alloc, group)?;
+    join(alloc, names.as_slice(), '|')
+}
+
+/// The texts of groups of names.
+fn group_texts(alloc: Global, groups: &[Vec<String>]) -> Result<Vec<String>, AllocError>
+    ensures { IfOk result (λ v. texts_in v ≡ map group_text (map texts_in groups.now)) }
+{
+    let mut texts = Vec::new(alloc);
+    for group in groups {
+        texts.push(group_text(alloc, group.as_slice())?)?;
+    }
+    Ok(texts)
+}
+
+/// Appends the element of a module's prereqs, if it has some.
+fn push_prereqs(alloc: Global, elements: &mut Vec<String>, entry: &Loaded) -> Result<(), AllocError>
+    ensures { OnOk result (texts_in elements.new ≡ texts_in elements.old ++ prereq_elements (entry_of entry.now ∷ [])) }
+{
+    if entry.prereqs.is_empty() {
+        return Ok(());
+    }
+    let groups = group_texts(alloc, entry.prereqs.as_slice())?;
+    elements.push(element(alloc, entry.name.as_str(), groups.as_slice())?)?;
+    Ok(())
+}
+
+/// The text of `__MODULES_LMPREREQ`: an element for each module with prereqs; none where no module has one.
+fn prereqs_text(alloc: Global, list: &[Loaded]) -> Result<Option<String>, AllocError>
+    ensures { IfOk result (λ t. option_map string_bytes t ≡ prereqs_text (map entry_of list.now)) }
+{
+    let mut elements = Vec::new(alloc);
+    for entry in list {
+        push_prereqs(alloc, &mut elements, entry)?;
+    }
+    let elements = slices(alloc, elements.as_slice())?;
+    text_of_elements(alloc, elements.as_slice())
+}
+
+/// Appends the change of a variable.
+fn push_change(
+    alloc: Global,
+    changes: &mut Vec<Change>,
+    name: &str,
+    value: Option<String>,
+) -> Result<(), AllocError>
+    ensures { OnOk result (map new_value_of changes.new.items
+        ≡ map new_value_of changes.old.items ++ (name.now, option_map string_bytes value) ∷ []) }
+{
+    let name = String::from_str(alloc, name)?;
+    changes.push(Change { name, value })?;
+    Ok(())
+}
+
+/// The changes of the four variables that write the list.
+fn loaded_changes(alloc: Global, list: &[Loaded]) -> Result<Vec<Change>, AllocError>
+    ensures { IfOk result (λ v. map new_value_of v.items ≡ loaded_changes (map entry_of list.now)) }
+{
+    let mut changes = Vec::new(alloc);
+    push_change(alloc, &mut changes, NAMES, names_text(alloc, list)?)?;
+    push_change(alloc, &mut changes, FILES, files_text(alloc, list)?)?;
+    push_change(alloc, &mut changes, CONFLICTS, conflicts_text(alloc, list)?)?;
+    push_change(alloc, &mut changes, PREREQS, prereqs_text(alloc, list)?)?;
+    Ok(changes)
+}
+
+/// Writes the list to its four variables; to none where memory is refused.
+fn write<V: Vars>(alloc: Global, env: &mut V, list: &[Loaded]) -> Result<(), EnvFault>
+    ensures ok { OnOk result (V.vars env.new ≡ with_loaded (V.vars env.old) (map entry_of list.now)) }
+    ensures err { OnErr result (V.vars env.new ≡ V.vars env.old) }
+    ensures only { IfErr result (λ e. e ≡ OutOfMemory) }
+    ensures base { V.base env.new ≡ V.base env.old }
+{
+    let changes = loaded_changes(alloc, list)?;
+    env.apply(changes)
+}
+
+/// Whether the path can be written in `_LMFILES_`: it isn't empty and has no colon.
+fn is_path(path: &str) -> bool
+    ensures { result ≡ is_path path.now }
+{
+    !path.is_empty() && !path.as_bytes().contains(&b':')
+}
+
+/// Whether each name is well spelled.
+fn are_names(names: &[String]) -> bool
+    ensures { result ≡ list_all (λ name. is_module_name (string_bytes name)) names.now }
+{
+    names.iter().all(|name| is_module_name(name.as_str()))
+}
+
+/// Whether the group can be written: it has names, and each is well spelled.
+fn is_group(names: &[String]) -> bool
+    ensures { result ≡ is_group (map string_bytes names.now) }
+{
+    !names.is_empty() && are_names(names)
+}
+
+/// Whether each group can be written.
+fn are_groups(groups: &[Vec<String>]) -> bool
+    ensures { result ≡ list_all (λ group. is_group (texts_in group)) groups.now }
+{
+    groups.iter().all(|group| is_group(group.as_slice()))
+}
+
+/// Whether the name and the path of the entry can be written.
+fn can_write_name(entry: &Loaded) -> bool
+    ensures { result ≡ (is_module_name (string_bytes entry.now.name) && is_path (string_bytes entry.now.path)) }
+{
+    is_module_name(entry.name.as_str()) && is_path(entry.path.as_str())
+}
+
+/// Whether the conflicts and the prereqs of the entry can be written.
+fn can_write_requirements(entry: &Loaded) -> bool
+    ensures { result ≡ (list_all (λ name. is_module_name (string_bytes name)) entry.now.conflicts.items
+        && list_all (λ group. is_group (texts_in group)) entry.now.prereqs.items) }
+{
+    are_names(entry.conflicts.as_slice()) && are_groups(entry.prereqs.as_slice())
+}
+
+/// Whether the entry would be read again as it is written, apart from repeated conflicts.
+fn is_entry(entry: &Loaded) -> bool
+    ensures { result ≡ is_entry (entry_of entry.now) }
+{
+    can_write_name(entry) && can_write_requirements(entry)
+}
+
+/// Whether the list has the module.
+fn is_loaded(list: &[Loaded], name: &str) -> bool
+    ensures { result ≡ list_any (λ entry. bytes_eq (string_bytes entry.name) name.now) list.now }
+{
+    list.iter().any(|entry| entry.name.as_str() == name)
+}
+
+/// Whether the entry can be written, and its module isn't loaded.
+fn can_be_added(list: &[Loaded], entry: &Loaded) -> bool
+    ensures { result ≡ can_be_added (map entry_of list.now) (entry_of entry.now) }
+{
+    is_entry(entry) && !is_loaded(list, entry.name.as_str())
+}
+
+/// A copy of the entry, without repeated conflicts.
+#[tactic(auto, using(crate::proofs::Copies::groups_copied))]
+fn with_conflicts_once(alloc: Global, entry: &Loaded) -> Result<Loaded, AllocError>
+    ensures { IfOk result (λ x. entry_of x ≡ with_conflicts_once (entry_of entry.now)) }
+{
+    let conflicts = slices(alloc, entry.conflicts.as_slice())?;
+    let conflicts = deduplicated(alloc, conflicts.as_slice())?;
+    Ok(Loaded {
+        name: entry.name.clone()?,
+        path: entry.path.clone()?,
+        conflicts: copies(alloc, conflicts.as_slice())?,
+        prereqs: entry.prereqs.clone()?,
+    })
+}
+
+/// Adds a module after the loaded ones, and writes the four variables. A conflict that the entry has twice is written
+/// once.
+///
+/// The error is `Inconsistent` where `loaded` answers so, and where the entry can't be written: its module is loaded, a
+/// name in it is ill spelled, its path is empty or holds a colon, or one of its groups has no names; or it is
+/// `OutOfMemory`. After an error the environment is unchanged.
+pub fn add_loaded<V: Vars>(alloc: Global, env: &mut V, entry: &Loaded) -> Result<(), EnvFault>
+    ensures edits { Edits result (V.vars env.old) (V.vars env.new)
+        (added_loaded (V.vars env.old) (entry_of entry.now)) }
+    ensures base { V.base env.new ≡ V.base env.old }
+{
+    let mut list = loaded(alloc, env)?;
+    if !can_be_added(list.as_slice(), entry) {
+        return Err(EnvFault::Inconsistent);
+    }
+    list.push(with_conflicts_once(alloc, entry)?)?;
+    write(alloc, env, list.as_slice())
+}
+
+/// Drops a module from the loaded ones, and writes the four variables. Where it isn't loaded, nothing changes.
+///
+/// The error is `Inconsistent` where `loaded` answers so, or `OutOfMemory`. After an error the environment is
+/// unchanged.
+pub fn drop_loaded<V: Vars>(alloc: Global, env: &mut V, name: &str) -> Result<(), EnvFault>
+    ensures edits { Edits result (V.vars env.old) (V.vars env.new) (dropped_loaded (V.vars env.old) name.now) }
+    ensures base { V.base env.new ≡ V.base env.old }
+{
+    let mut list = loaded(alloc, env)?;
+    if !is_loaded(list.as_slice(), name) {
+        return Ok(());
+    }
+    list.retain(|entry| entry.name.as_str() != name);
+    write(alloc, env, list.as_slice())
+}

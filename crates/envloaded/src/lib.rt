@@ -1,0 +1,13 @@
+//! The list of loaded modules, in load order, as four variables of an environment hold it (LOADEDMODULES ...).
+//! Takes memory; touches these four variables.
+//! Used by envstate, modulerecords, modulefile, modulerun, reversal, requests, requeststep and modulecmd.
+#![tactic(auto)]
+
+mod edits;
+mod entry;
+pub mod laws;
+mod list;
+
+pub use edits::{add_loaded, drop_loaded};
+pub use entry::Loaded;
+pub use list::{conflicts_of, loaded, prereqs_of};

@@ -1,0 +1,154 @@
+//! An environment that owns its variables.
+ghost use Rattle.std.specs.Prelude.{◌≡◌, false, None, map, filter, is_some, string_bytes, OnOk, OnErr, IfOk, IfErr};
+ghost use Rattle.std.specs.Option.{option_map};
+ghost use Rattle.std.specs.FinMap as finite;
+ghost use Rattle.envvars.specs.Texts.{Text, has, slice_texts};
+ghost use Rattle.envvars.specs.Environment.{lookup};
+ghost use Rattle.envvars.specs.Changes.{applied, new_values_in};
+ghost use Rattle.envvars.specs.declared.fault.EnvFault.TheVariants.{OutOfMemory};
+
+use crate::change::Change;
+use crate::fault::EnvFault;
+use crate::fields::{copies, sorted_once};
+use crate::table::{Table, found, make_changes, names_of, write_entry};
+use crate::vars::Vars;
+use indexmap::IndexMap;
+use std::alloc::{AllocError, Global};
+use std::marker::Model;
+
+/// The variables that are set, with their values (environ(7)): a finite map from names to texts.
+pub struct Env {
+    /// The variables that are set, with their values. A name without a value is unset, as is one that isn't here.
+    vars: Table,
+    /// Where the table and all copies take their memory.
+    alloc: Global,
+}
+
+// Not derived: an environment is dropped by one call, so the proof of a caller needn't look into its table.
+impl Drop for Env {
+    fn drop(self) {
+        let Env {
+            vars: _vars,
+            alloc: _alloc,
+        } = self;
+    }
+}
+
+impl Model for Env {
+    ghost use Rattle.std.specs.FinMap as finite;
+    ghost use Rattle.envvars.specs.Environment.{Environment, environment_code};
+    ghost use Rattle.envvars.specs.Tables.{written_over};
+
+    ghost Value = { Environment };
+
+    ghost coded = { environment_code };
+
+    ghost view = { λ a. written_over finite.empty a.vars.entries };
+}
+
+impl Env {
+    /// An environment in which no variable is set.
+    pub fn new(alloc: Global) -> Self
+        ensures { result ≡ finite.empty }
+    {
+        Env {
+            vars: IndexMap::new(alloc),
+            alloc,
+        }
+    }
+
+    /// The allocator of the environment.
+    pub(crate) fn alloc(&self) -> Global {
+        self.alloc
+    }
+
+    /// The value of a variable; none where it is unset.
+    pub fn get(&self, name: &str) -> Option<&str>
+        ensures { option_map (λ x. x.now) result ≡ lookup self.now name.now }
+    {
+        match found(&self.vars, name) {
+            Some(value) => value,
+            None => None,
+        }
+    }
+
+    /// Sets a variable. Any name and any value are accepted. The only error is `OutOfMemory`, which leaves the
+    /// environment unchanged.
+    pub fn set(&mut self, name: &str, value: &str) -> Result<(), EnvFault>
+        ensures ok { OnOk result (self.new ≡ finite.insert self.old name.now value.now) }
+        ensures err { OnErr result (self.new ≡ self.old) }
+        ensures only { IfErr result (λ e. e ≡ OutOfMemory) }
+    {
+        write_entry(self.alloc, &mut self.vars, name, Some(value))?;
+        Ok(())
+    }
+
+    /// Unsets a variable. It takes no memory, and an unset variable stays as it is.
+    pub fn unset(&mut self, name: &str)
+        ensures { self.new ≡ finite.remove self.old name.now }
+    {
+        let _ = self.vars.swap_remove(name);
+    }
+
+    /// A copy of the environment. The only error is `OutOfMemory`.
+    pub fn copy(&self) -> Result<Env, EnvFault>
+        ensures ok { IfOk result (λ copy. copy ≡ self.now) }
+        ensures only { IfErr result (λ e. e ≡ OutOfMemory) }
+    {
+        Ok(Env {
+            vars: self.vars.clone()?,
+            alloc: self.alloc,
+        })
+    }
+
+    /// The names of the variables that are set, in the order of their bytes. The only error is `OutOfMemory`.
+    pub fn names(&self) -> Result<Vec<String>, EnvFault>
+        ensures ok { IfOk result (λ names. map string_bytes names.items ≡ finite.keys self.now) }
+        ensures only { IfErr result (λ e. e ≡ OutOfMemory) }
+    {
+        let mut names = self.names_in_table(self.alloc)?;
+        keep_set(&mut names, self);
+        let names = sorted_once(names);
+        Ok(copies(self.alloc, names.as_slice())?)
+    }
+
+    /// The names in the table: every variable that is set, and perhaps some that are unset.
+    pub(crate) fn names_in_table(&self, alloc: Global) -> Result<Vec<&str>, AllocError>
+        ensures { IfOk result (λ v. (n : Text) → has n (slice_texts v.items) ≡ false → lookup self.now n ≡ None) }
+    {
+        names_of(alloc, &self.vars)
+    }
+}
+
+impl Vars for Env {
+    ghost use Rattle.std.specs.FinMap as finite;
+
+    ghost vars = { λ env. env };
+
+    ghost base = { λ _. finite.empty };
+
+    fn get(&self, name: &str) -> Option<&str> {
+        self.get(name)
+    }
+
+    fn set(&mut self, name: &str, value: &str) -> Result<(), EnvFault> {
+        self.set(name, value)
+    }
+
+    fn unset(&mut self, name: &str) -> Result<(), EnvFault> {
+        self.unset(name);
+        Ok(())
+    }
+
+    fn apply(&mut self, changes: Vec<Change>) -> Result<(), EnvFault> {
+        make_changes(&mut self.vars, changes)?;
+        Ok(())
+    }
+}
+
+/// Retains the names of variables that are set.
+fn keep_set(names: &mut Vec<&str>, env: &Env)
+    ensures { slice_texts names.new.items ≡ filter (λ n. is_some (lookup env.now n)) (slice_texts names.old.items) }
+{
+    names.retain(|name| env.get(*name).is_some());
+}

@@ -1,0 +1,89 @@
+//! How variables are named, which of them are protected, and which values a variable can have.
+ghost use Rattle.std.specs.Prelude.{◌≡◌, IfOk, string_bytes, nat_eq, codes};
+ghost use Rattle.std.specs.List.{list_all, starts_with};
+ghost use Rattle.envvars.specs.Names.{is_name_start, is_name_byte, is_variable_name, is_protected, is_nul_free, name_reason, share_name, stack_name};
+ghost use Rattle.envvars.specs.Reasons.{Judges};
+
+use crate::fault::EnvFault;
+use std::alloc::{AllocError, Global};
+
+/// Whether a name can begin with this byte.
+fn is_name_start(b: u8) -> bool
+    ensures { result ≡ is_name_start b }
+{
+    (b'A' <= b && b <= b'Z') || (b'a' <= b && b <= b'z') || b == b'_'
+}
+
+/// Whether a name can hold this byte.
+fn is_name_byte(b: u8) -> bool
+    ensures { result ≡ is_name_byte b }
+{
+    is_name_start(b) || (b'0' <= b && b <= b'9')
+}
+
+/// Whether a name can hold each of these bytes.
+fn are_name_bytes(bytes: &[u8]) -> bool
+    ensures { result ≡ list_all is_name_byte bytes.now }
+{
+    bytes.iter().all(|b| is_name_byte(*b))
+}
+
+/// Whether the text is spelled as the name of a variable: letters, digits and underscores, and no digit
+/// first (POSIX XBD, "Name").
+pub fn is_variable_name(name: &str) -> bool
+    ensures { result ≡ is_variable_name name.now }
+{
+    match name.as_bytes() {
+        [] => false,
+        [first, rest @ ..] => is_name_start(*first) && are_name_bytes(rest),
+    }
+}
+
+/// Whether the name has the prefix of the tool's own variables.
+fn has_state_prefix(name: &str) -> bool
+    ensures { result ≡ starts_with nat_eq name.now (codes "__MODULES_") }
+{
+    name.starts_with("__MODULES_")
+}
+
+/// Whether the variable of this name holds the tool's own state, so that no modulefile may edit it.
+pub fn is_protected(name: &str) -> bool
+    ensures { result ≡ is_protected name.now }
+{
+    name == "LOADEDMODULES" || name == "_LMFILES_" || has_state_prefix(name)
+}
+
+/// Accepts the name of a variable that modulefiles may edit. The errors, in this order: `BadVariable` where it isn't
+/// spelled as a variable's name, and `Protected` where the variable holds the tool's own state; `OutOfMemory` too.
+pub fn judge_name(alloc: Global, name: &str) -> Result<(), EnvFault>
+    ensures { Judges result (name_reason name.now) }
+{
+    if !is_variable_name(name) {
+        return Err(EnvFault::BadVariable(String::from_str(alloc, name)?));
+    }
+    if is_protected(name) {
+        return Err(EnvFault::Protected(String::from_str(alloc, name)?));
+    }
+    Ok(())
+}
+
+/// Whether a variable can have the value: one without NUL (environ(7)).
+pub fn is_nul_free(value: &str) -> bool
+    ensures { result ≡ is_nul_free value.now }
+{
+    value.as_bytes().iter().all(|b| *b != 0)
+}
+
+/// The name of the variable that holds the counters of a path variable: `__MODULES_SHARE_` and its name.
+pub fn share_name(alloc: Global, name: &str) -> Result<String, AllocError>
+    ensures { IfOk result (λ s. string_bytes s ≡ share_name name.now) }
+{
+    format!(in alloc; "__MODULES_SHARE_{name}")
+}
+
+/// The name of the variable that holds the stack of a variable: `__MODULES_PUSHENV_` and its name.
+pub fn stack_name(alloc: Global, name: &str) -> Result<String, AllocError>
+    ensures { IfOk result (λ s. string_bytes s ≡ stack_name name.now) }
+{
+    format!(in alloc; "__MODULES_PUSHENV_{name}")
+}

@@ -1,7 +1,0 @@
-pub mod LoadedReading
-pub mod LoadedWriting
-pub mod LoadedAgain
-pub mod LoadedReadable
-pub mod LoadedEdits
-pub mod LoadedExamples
-pub mod LoadedOrder

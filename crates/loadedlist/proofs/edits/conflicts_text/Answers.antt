@@ -1,7 +1,0 @@
-use Rattle.environment.specs.Texts.{texts_in}
-use Rattle.loadedlist.proofs.LoadedWriting.{conflicts-turn}
-use Rattle.loadedlist.proofs.edits.conflicts_text.Goals as goal
-
-pub loop-entry-preserved : goal.loop-entry-preserved
-loop-entry-preserved c =
-    conflicts-turn (texts_in c.loop-entry.elements) (texts_in c.push_conflicts.new.elements) c.args.list.now c.loop-entry.entry-index c.entry-item.result c.loop-entry-test.true c.entry-item.is c.loop-entry.invariant c.in_ok-push_conflicts.ensures

@@ -1,8 +1,0 @@
-use Rattle.std.proofs.Common.{◌≡◌, map, take}
-use Rattle.environment.specs.Texts.{shown}
-use Rattle.loadedlist.specs.LoadedEntries.{entry_of}
-use Rattle.loadedlist.specs.Loaded.{names_of}
-use Rattle.loadedlist.proofs.edits.names_text.Given as goal
-
-abbrev pub invariant-loop-entry : goal.invariant-loop-entry
-invariant-loop-entry l = shown l.names.items ≡ names_of (map entry_of (take l.entry-index l.list))

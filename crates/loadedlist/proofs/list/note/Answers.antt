@@ -1,9 +1,0 @@
-use Rattle.std.proofs.lemmas.Result.{on_ok_weaker}
-use Rattle.loadedlist.proofs.LoadedReading.{first_at, none_at}
-use Rattle.loadedlist.proofs.list.note.Goals as goal
-
-pub returns-in_default : goal.returns-in_default
-returns-in_default c = none_at c.args.table.now c.args.element c.in_default.ensures.cases
-
-pub returns : goal.returns
-returns c = on_ok_weaker c.note_first.result (first_at c.args.table.now c.note_first.new.table c.args.element c.in-Some.module c.in-Some.field-0-1 c.in-Some.ensures.cases) c.note_first.ensures

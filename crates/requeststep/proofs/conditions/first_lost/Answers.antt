@@ -1,0 +1,13 @@
+use Rattle.std.proofs.Common.{map, rules, tests}
+use Rattle.std.proofs.lemmas.Iterator.Search.{find_from_yields_List}
+use Rattle.std.proofs.lemmas.Iterator.{YieldsList-from_slice}
+use Rattle.envloaded.specs.LoadedEntries.{entry_of}
+use Rattle.envloaded.specs.declared.entry.Loaded.{Loaded}
+use Rattle.requests.specs.Conditions.{has_lost}
+use Rattle.requeststep.proofs.ListLemmas.{find_seen}
+use Rattle.requeststep.proofs.conditions.first_lost.Goals as goal
+
+pub returns : goal.returns
+returns c =
+    find_seen (has_lost (map entry_of c.args.before.now) (map entry_of c.args.after.now)) entry_of c.args.after.now c.find.result
+    (find_from_yields_List (λ (x : Loaded). has_lost (map entry_of c.args.before.now) (map entry_of c.args.after.now) (entry_of x)) _ _ c.find.result c.find.ensures.ran (YieldsList-from_slice c.args.after.now cc) (λ x b q k. search (rules, tests)))

@@ -1,0 +1,505 @@
+//! The subcommands, each over all its names: `load`, `unload`, `switch`, `purge`, `list`, `avail`, `show`, `whatis`.
+ghost use Rattle.std.specs.Prelude.{◌≡◌, ◌<◌, ◌≤◌, [], ◌∷◌, Some, IfOk, IfErr, map, reverse, string_bytes};
+ghost use Rattle.std.specs.Option.{option_map};
+ghost use Rattle.envvars.specs.Environment.{Environment};
+ghost use Rattle.envvars.specs.Texts.{texts_in};
+ghost use Rattle.envloaded.specs.Loaded.{names_of};
+ghost use Rattle.envloaded.specs.LoadedEntries.{entry_of};
+ghost use Rattle.filetree.specs.Relations.{Then};
+ghost use Rattle.filetree.specs.Agreement.{FailsAt, InEachPair, Narrows};
+ghost use Rattle.defaultfiles.specs.DefaultFileResults.{Leaves};
+ghost use Rattle.search.specs.Looked.{ListingLooksAt};
+ghost use Rattle.modulename.specs.ModuleName.{parts};
+ghost use Rattle.requests.specs.Requests as actions;
+ghost use Rattle.requests.specs.RequestViews.{action_view};
+ghost use Rattle.requests.specs.Steps as steps;
+ghost use Rattle.requests.specs.Steps.{nothing_done, Each, EndsRequest, NeedsNames, Changes, ShowsNames, ListsLoaded, ListsAll, RequestStep};
+ghost use Rattle.requests.specs.Looked.{PurgeLooksAt, SwitchLooksAt, RequestLooksAt};
+ghost use Rattle.requeststep.specs.Views.{site_of, done_view};
+ghost use Rattle.requeststep.specs.Answers.{GivesOrRefuses, AnswersOverTree, is_failure};
+ghost use Rattle.requeststep.specs.Messages.{MemoryNumberAmong, memory_numbers};
+ghost use Rattle.requeststep.specs.declared.commands.NameAction.TheVariants.{ReportOn};
+ghost use Rattle.requeststep.specs.Parts.{NameActionStep, NameActionLooksAt, EachActionLooksAt, report_mode, report_text};
+
+use crate::conditions::first_lost;
+use crate::done::{Done, EvaluationSettings};
+use crate::entries::{entries_of, modulepath, names_of};
+use crate::files::{NameRequest, ReportKind, load_name, report_name, unload_name};
+use crate::refusal::Refusal;
+use defaultfiles::Evaluated;
+use envloaded::Loaded;
+use envvars::Vars;
+use filetree::Tree;
+use reports::{avail_report, list_report};
+use requests::{Action, Request};
+use search::available;
+use std::alloc::{AllocError, Global};
+use tclrules::Limits;
+
+/// What a subcommand does for each of its names.
+#[derive(Clone, Copy)]
+pub(crate) enum NameAction {
+    /// The module that the name means is loaded.
+    Load,
+    /// The last loaded module that the name means is unloaded.
+    Unload,
+    /// A report on the module that the name means is made.
+    ReportOn(ReportKind),
+}
+
+/// Loads, unloads or reports on the module that one name means.
+fn act_on_name<T: Tree, V: Vars>(
+    alloc: Global,
+    settings: EvaluationSettings,
+    name_action: NameAction,
+    typed: &str,
+    env: &mut V,
+    tree: &mut T,
+    done: &mut Done,
+) -> Result<(), Refusal>
+    ensures before { Narrows (T.agrees tree.old) (T.agrees tree.new) }
+    ensures later { T.failures tree.old ≤ T.failures tree.new }
+    ensures base { V.base env.new ≡ V.base env.old }
+    ensures over_tree { AnswersOverTree (T.agrees tree.new) (T.failures tree.old < T.failures tree.new)
+        (λ u. done_view done.new (V.vars env.new)) result
+        (λ files listings. NameActionStep name_action (site_of settings files listings) typed.now
+        (done_view done.old (V.vars env.old))) }
+    ensures failed { FailsAt is_failure (T.failed tree.old) (T.failed tree.new) result (λ at.
+        InEachPair (T.agrees tree.new) (λ files listings.
+        NameActionLooksAt name_action (site_of settings files listings) typed.now
+        (done_view done.old (V.vars env.old)) at)) }
+{
+    let name_request = NameRequest {
+        settings,
+        in_switch: false,
+        typed,
+    };
+    match name_action {
+        NameAction::Load => load_name(alloc, name_request, env, tree, done),
+        NameAction::Unload => unload_name(alloc, name_request, env, tree, done),
+        NameAction::ReportOn(report_kind) => report_name(
+            alloc,
+            settings,
+            report_kind,
+            typed,
+            env,
+            tree,
+            done,
+        ),
+    }
+}
+
+/// Loads, unloads or reports on the module of each name in turn, until one is refused.
+fn act_on_each<T: Tree, V: Vars>(
+    alloc: Global,
+    settings: EvaluationSettings,
+    name_action: NameAction,
+    names: &[String],
+    env: &mut V,
+    tree: &mut T,
+    done: &mut Done,
+) -> Result<(), Refusal>
+    ensures before { Narrows (T.agrees tree.old) (T.agrees tree.new) }
+    ensures later { T.failures tree.old ≤ T.failures tree.new }
+    ensures base { V.base env.new ≡ V.base env.old }
+    ensures over_tree { AnswersOverTree (T.agrees tree.new) (T.failures tree.old < T.failures tree.new)
+        (λ u. done_view done.new (V.vars env.new)) result
+        (λ files listings. Each (NameActionStep name_action (site_of settings files listings))
+        (map string_bytes names.now)
+        (done_view done.old (V.vars env.old))) }
+    ensures failed { FailsAt is_failure (T.failed tree.old) (T.failed tree.new) result (λ at.
+        InEachPair (T.agrees tree.new) (λ files listings.
+        EachActionLooksAt name_action (site_of settings files listings) (map string_bytes names.now)
+        (done_view done.old (V.vars env.old)) at)) }
+{
+    let mut rest = names;
+    while let [name, after @ ..] = rest {
+        act_on_name(alloc, settings, name_action, name.as_str(), env, tree, done)?;
+        rest = after;
+    }
+    Ok(())
+}
+
+/// Refuses (53) where a module that was loaded before has lost what it needs.
+fn refuse_lost_prereqs<V: Vars>(
+    alloc: Global,
+    before: &[Loaded],
+    env: &V,
+    done: &Done,
+) -> Result<(), Refusal>
+    ensures { GivesOrRefuses (λ u. done_view done.now (V.vars env.now)) result
+        (EndsRequest (map entry_of before.now) (done_view done.now (V.vars env.now))) }
+{
+    let after = entries_of(alloc, env)?;
+    match first_lost(before, after.as_slice()) {
+        None => Ok(()),
+        Some(entry) => Err(Refusal::StillNeededBy(String::from_str(alloc, entry.name.as_str())?)),
+    }
+}
+
+/// Loads or unloads the module of each name in turn, and then judges what loaded modules need (53).
+fn change_each<T: Tree, V: Vars>(
+    alloc: Global,
+    settings: EvaluationSettings,
+    name_action: NameAction,
+    names: &[String],
+    before: &[Loaded],
+    env: &mut V,
+    tree: &mut T,
+) -> Result<Done, Refusal>
+    ensures before { Narrows (T.agrees tree.old) (T.agrees tree.new) }
+    ensures later { T.failures tree.old ≤ T.failures tree.new }
+    ensures base { V.base env.new ≡ V.base env.old }
+    ensures over_tree { AnswersOverTree (T.agrees tree.new) (T.failures tree.old < T.failures tree.new)
+        (λ done. done_view done (V.vars env.new)) result
+        (λ files listings. Then (Each (NameActionStep name_action (site_of settings files listings))
+        (map string_bytes names.now)
+        (nothing_done (V.vars env.old))) (EndsRequest (map entry_of before.now))) }
+    ensures failed { FailsAt is_failure (T.failed tree.old) (T.failed tree.new) result (λ at.
+        InEachPair (T.agrees tree.new) (λ files listings.
+        EachActionLooksAt name_action (site_of settings files listings) (map string_bytes names.now)
+        (nothing_done (V.vars env.old)) at)) }
+{
+    let mut done = Done::new(alloc);
+    act_on_each(alloc, settings, name_action, names, env, tree, &mut done)?;
+    refuse_lost_prereqs(alloc, before, env, &done)?;
+    Ok(done)
+}
+
+/// Loads or unloads the module of each of at least one name (else 56), as one command.
+fn change_names<T: Tree, V: Vars>(
+    alloc: Global,
+    settings: EvaluationSettings,
+    name_action: NameAction,
+    names: &[String],
+    env: &mut V,
+    tree: &mut T,
+) -> Result<Done, Refusal>
+    ensures before { Narrows (T.agrees tree.old) (T.agrees tree.new) }
+    ensures later { T.failures tree.old ≤ T.failures tree.new }
+    ensures base { V.base env.new ≡ V.base env.old }
+    ensures over_tree { AnswersOverTree (T.agrees tree.new) (T.failures tree.old < T.failures tree.new)
+        (λ done. done_view done (V.vars env.new)) result
+        (λ files listings. NeedsNames (map string_bytes names.now) (Changes (V.vars env.old)
+        (λ before. Each (NameActionStep name_action (site_of settings files listings)) (map string_bytes names.now)))) }
+    ensures failed { FailsAt is_failure (T.failed tree.old) (T.failed tree.new) result (λ at.
+        InEachPair (T.agrees tree.new) (λ files listings.
+        EachActionLooksAt name_action (site_of settings files listings) (map string_bytes names.now)
+        (nothing_done (V.vars env.old)) at)) }
+{
+    if names.is_empty() {
+        return Err(Refusal::BadArguments);
+    }
+    let before = entries_of(alloc, env)?;
+    change_each(
+        alloc,
+        settings,
+        name_action,
+        names,
+        before.as_slice(),
+        env,
+        tree,
+    )
+}
+
+/// The names of the loaded modules, the last loaded first.
+fn names_in_reverse(alloc: Global, entries: &[Loaded]) -> Result<Vec<String>, AllocError>
+    ensures { IfOk result (λ v. texts_in v ≡ reverse (names_of (map entry_of entries.now))) }
+{
+    let mut names = names_of(alloc, entries)?;
+    names.reverse();
+    Ok(names)
+}
+
+/// Unloads all modules, the last loaded first.
+fn purge<T: Tree, V: Vars>(
+    alloc: Global,
+    settings: EvaluationSettings,
+    env: &mut V,
+    tree: &mut T,
+) -> Result<Done, Refusal>
+    ensures before { Narrows (T.agrees tree.old) (T.agrees tree.new) }
+    ensures later { T.failures tree.old ≤ T.failures tree.new }
+    ensures base { V.base env.new ≡ V.base env.old }
+    ensures over_tree { AnswersOverTree (T.agrees tree.new) (T.failures tree.old < T.failures tree.new)
+        (λ done. done_view done (V.vars env.new)) result
+        (λ files listings. RequestStep (site_of settings files listings) (V.vars env.old) actions.purge) }
+    ensures failed { FailsAt is_failure (T.failed tree.old) (T.failed tree.new) result (λ at.
+        InEachPair (T.agrees tree.new) (λ files listings.
+        PurgeLooksAt (site_of settings files listings) (V.vars env.old) at)) }
+{
+    let before = entries_of(alloc, env)?;
+    let names = names_in_reverse(alloc, before.as_slice())?;
+    change_each(
+        alloc,
+        settings,
+        NameAction::Unload,
+        names.as_slice(),
+        before.as_slice(),
+        env,
+        tree,
+    )
+}
+
+/// The first part of a name, as `gcc` of `gcc/9`.
+fn first_part(name: &str) -> &str
+    ensures { result.now ≡ steps.first_part (parts name.entry.now) }
+{
+    match name.split_once('/') {
+        Some((first, _)) => first,
+        None => name,
+    }
+}
+
+/// The name of the module that a switch unloads: without an old name it is the first part of the new one.
+fn old_name<'a>(old: Option<&'a str>, new: &'a str) -> &'a str
+    ensures { result.now ≡ steps.old_name (option_map (λ x. x.now) old.entry) new.entry.now }
+{
+    match old {
+        Some(old) => old,
+        None => first_part(new),
+    }
+}
+
+/// Unloads the old name, and then loads the new one.
+fn switch_names<T: Tree, V: Vars>(
+    alloc: Global,
+    settings: EvaluationSettings,
+    old: &str,
+    new: &str,
+    env: &mut V,
+    tree: &mut T,
+    done: &mut Done,
+) -> Result<(), Refusal>
+    ensures before { Narrows (T.agrees tree.old) (T.agrees tree.new) }
+    ensures later { T.failures tree.old ≤ T.failures tree.new }
+    ensures base { V.base env.new ≡ V.base env.old }
+    ensures over_tree { AnswersOverTree (T.agrees tree.new) (T.failures tree.old < T.failures tree.new)
+        (λ u. done_view done.new (V.vars env.new)) result
+        (λ files listings. steps.Switches (site_of settings files listings) (Some old.now) new.now
+        (done_view done.old (V.vars env.old))) }
+    ensures failed { FailsAt is_failure (T.failed tree.old) (T.failed tree.new) result (λ at.
+        InEachPair (T.agrees tree.new) (λ files listings.
+        SwitchLooksAt (site_of settings files listings) old.now new.now (done_view done.old (V.vars env.old)) at)) }
+{
+    let unloading = NameRequest {
+        settings,
+        in_switch: true,
+        typed: old,
+    };
+    unload_name(alloc, unloading, env, tree, done)?;
+    let loading = NameRequest {
+        settings,
+        in_switch: true,
+        typed: new,
+    };
+    load_name(alloc, loading, env, tree, done)
+}
+
+/// Unloads the old name, and then loads the new one, as one command.
+fn switch<T: Tree, V: Vars>(
+    alloc: Global,
+    settings: EvaluationSettings,
+    old: Option<&str>,
+    new: &str,
+    env: &mut V,
+    tree: &mut T,
+) -> Result<Done, Refusal>
+    ensures before { Narrows (T.agrees tree.old) (T.agrees tree.new) }
+    ensures later { T.failures tree.old ≤ T.failures tree.new }
+    ensures base { V.base env.new ≡ V.base env.old }
+    ensures over_tree { AnswersOverTree (T.agrees tree.new) (T.failures tree.old < T.failures tree.new)
+        (λ done. done_view done (V.vars env.new)) result
+        (λ files listings. RequestStep (site_of settings files listings) (V.vars env.old)
+        (actions.switch (option_map (λ x. x.now) old.entry) new.now)) }
+    ensures failed { FailsAt is_failure (T.failed tree.old) (T.failed tree.new) result (λ at.
+        InEachPair (T.agrees tree.new) (λ files listings.
+        SwitchLooksAt (site_of settings files listings) (steps.old_name (option_map (λ x. x.now) old.entry) new.now)
+        new.now (nothing_done (V.vars env.old)) at)) }
+{
+    let before = entries_of(alloc, env)?;
+    let mut done = Done::new(alloc);
+    switch_names(
+        alloc,
+        settings,
+        old_name(old, new),
+        new,
+        env,
+        tree,
+        &mut done,
+    )?;
+    refuse_lost_prereqs(alloc, before.as_slice(), env, &done)?;
+    Ok(done)
+}
+
+/// Reports on the module of each of at least one name (else 56).
+fn report_names<T: Tree, V: Vars>(
+    alloc: Global,
+    settings: EvaluationSettings,
+    report_kind: ReportKind,
+    names: &[String],
+    env: &mut V,
+    tree: &mut T,
+) -> Result<Done, Refusal>
+    ensures before { Narrows (T.agrees tree.old) (T.agrees tree.new) }
+    ensures later { T.failures tree.old ≤ T.failures tree.new }
+    ensures base { V.base env.new ≡ V.base env.old }
+    ensures over_tree { AnswersOverTree (T.agrees tree.new) (T.failures tree.old < T.failures tree.new)
+        (λ done. done_view done (V.vars env.new)) result
+        (λ files listings. NeedsNames (map string_bytes names.now)
+        (ShowsNames (site_of settings files listings) (report_mode report_kind)
+        (report_text report_kind) (V.vars env.old) (map string_bytes names.now))) }
+    ensures failed { FailsAt is_failure (T.failed tree.old) (T.failed tree.new) result (λ at.
+        InEachPair (T.agrees tree.new) (λ files listings.
+        EachActionLooksAt (ReportOn report_kind) (site_of settings files listings) (map string_bytes names.now)
+        (nothing_done (V.vars env.old)) at)) }
+{
+    if names.is_empty() {
+        return Err(Refusal::BadArguments);
+    }
+    let mut done = Done::new(alloc);
+    act_on_each(
+        alloc,
+        settings,
+        NameAction::ReportOn(report_kind),
+        names,
+        env,
+        tree,
+        &mut done,
+    )?;
+    Ok(done)
+}
+
+/// What a request has done that makes no move and reports this text.
+fn done_with_report(alloc: Global, text: &str) -> Result<Done, AllocError>
+    ensures { IfOk result (λ done. (e : Environment) → done_view done e ≡ steps.with_report (nothing_done e)
+        [] text.now) }
+{
+    let mut done = Done::new(alloc);
+    done.report_on(Vec::new(alloc), text)?;
+    Ok(done)
+}
+
+/// Reports the loaded modules.
+fn list<V: Vars>(alloc: Global, env: &V) -> Result<Done, Refusal>
+    ensures given { GivesOrRefuses (λ done. done_view done (V.vars env.now)) result (ListsLoaded (V.vars env.now)) }
+    ensures out_of_memory { IfErr result (MemoryNumberAmong (31 ∷ [])) }
+{
+    let entries = entries_of(alloc, env)?;
+    let names = names_of(alloc, entries.as_slice())?;
+    let text = list_report(alloc, names.as_slice())?;
+    Ok(done_with_report(alloc, text.as_str())?)
+}
+
+/// Reports the modules along MODULEPATH whose names begin with one of the texts; without texts, all.
+fn avail<T: Tree, V: Vars>(
+    alloc: Global,
+    settings: EvaluationSettings,
+    texts: &[String],
+    env: &V,
+    tree: &mut T,
+) -> Result<Done, Refusal>
+    ensures before { Narrows (T.agrees tree.old) (T.agrees tree.new) }
+    ensures later { T.failures tree.old ≤ T.failures tree.new }
+    ensures over_tree { AnswersOverTree (T.agrees tree.new) (T.failures tree.old < T.failures tree.new)
+        (λ done. done_view done (V.vars env.now)) result
+        (λ files listings. ListsAll (site_of settings files listings) (V.vars env.now) (map string_bytes texts.now)) }
+    ensures out_of_memory { IfErr result (MemoryNumberAmong (31 ∷ 41 ∷ [])) }
+    ensures failed { FailsAt is_failure (T.failed tree.old) (T.failed tree.new) result (λ at.
+        InEachPair (T.agrees tree.new) (λ files listings.
+        ListingLooksAt (Leaves settings.limits) files listings (steps.modulepath (V.vars env.now)) at)) }
+{
+    let default_files = Evaluated {
+        limits: settings.limits,
+    };
+    let listings = available(alloc, tree, &default_files, modulepath(env))?;
+    let text = avail_report(alloc, texts, listings.as_slice())?;
+    Ok(done_with_report(alloc, text.as_str())?)
+}
+
+/// Does a request: makes of the variables what its step over a tree of modulefiles makes of them, and answers what it
+/// did besides. Where it loads or unloads, the loaded modules are read first (35); then the names are gone through in
+/// turn, and after them what loaded modules need is judged once more (53).
+///
+/// It is refused as the request's step over the tree is, for want of memory, or by 43 where the device failed in this
+/// call, at a path that the request looks at. The variables may then hold anything, so a caller who needs the old ones
+/// hands in a copy.
+pub fn step<T: Tree, V: Vars>(
+    alloc: Global,
+    request: &Request,
+    env: &mut V,
+    tree: &mut T,
+    limits: Limits,
+) -> Result<Done, Refusal>
+    ensures before { Narrows (T.agrees tree.old) (T.agrees tree.new) }
+    ensures later { T.failures tree.old ≤ T.failures tree.new }
+    ensures base { V.base env.new ≡ V.base env.old }
+    ensures over_tree { AnswersOverTree (T.agrees tree.new) (T.failures tree.old < T.failures tree.new)
+        (λ done. done_view done (V.vars env.new)) result
+        (λ files listings. RequestStep (record {
+          files = files;
+          listings = listings;
+          limits = limits;
+          shell = request.now.shell;
+        }) (V.vars env.old) (action_view request.now.action)) }
+    ensures out_of_memory { IfErr result (MemoryNumberAmong (memory_numbers (action_view request.now.action))) }
+    ensures failed { FailsAt is_failure (T.failed tree.old) (T.failed tree.new) result (λ at.
+        InEachPair (T.agrees tree.new) (λ files listings.
+        RequestLooksAt (record {
+          files = files;
+          listings = listings;
+          limits = limits;
+          shell = request.now.shell;
+        }) (V.vars env.old) (action_view request.now.action) at)) }
+{
+    let settings = EvaluationSettings {
+        limits,
+        shell: request.shell,
+    };
+    match &request.action {
+        Action::Load(names) => change_names(
+            alloc,
+            settings,
+            NameAction::Load,
+            names.as_slice(),
+            env,
+            tree,
+        ),
+        Action::Unload(names) => {
+            change_names(
+                alloc,
+                settings,
+                NameAction::Unload,
+                names.as_slice(),
+                env,
+                tree,
+            )
+        }
+        Action::Switch(old, new) => {
+            switch(alloc, settings, old.as_deref(), new.as_str(), env, tree)
+        }
+        Action::Purge => purge(alloc, settings, env, tree),
+        Action::List => list(alloc, env),
+        Action::Avail(texts) => avail(alloc, settings, texts.as_slice(), env, tree),
+        Action::Show(names) => {
+            report_names(
+                alloc,
+                settings,
+                ReportKind::Commands,
+                names.as_slice(),
+                env,
+                tree,
+            )
+        }
+        Action::Whatis(names) => {
+            report_names(
+                alloc,
+                settings,
+                ReportKind::Whatis,
+                names.as_slice(),
+                env,
+                tree,
+            )
+        }
+    }
+}

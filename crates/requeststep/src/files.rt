@@ -1,0 +1,398 @@
+//! One name of a request: its module is found, the module's file is evaluated, and the module is loaded, unloaded or
+//! reported on.
+ghost use Rattle.std.specs.Prelude.{◌≡◌, ◌<◌, ◌≤◌, IfOk, map, string_bytes};
+ghost use Rattle.envloaded.specs.LoadedEntries.{entry_of};
+ghost use Rattle.filetree.specs.Agreement.{Files, Listings, FailsAt, InEachPair, Narrows};
+ghost use Rattle.filetree.specs.Modulefiles.{modulefile};
+ghost use Rattle.filetree.specs.Relations.{Is};
+ghost use Rattle.modulefile.specs.RecordViews.{mode_view, record_view};
+ghost use Rattle.modulefile.specs.Files.{RunsFile};
+ghost use Rattle.search.specs.Answers.{found_view};
+ghost use Rattle.modulerun.specs.Running.{ran_view};
+ghost use Rattle.requests.specs.Reasons.{file_refused};
+ghost use Rattle.requests.specs.Refusals.{RefusedAs};
+ghost use Rattle.requests.specs.Steps.{Finds, LoadsFound, LoadsName, UnloadsEntry, UnloadsName, ShowsName, script_at};
+ghost use Rattle.requests.specs.Looked.{SearchLooksAt, LoadLooksAt, UnloadLooksAt, ShowLooksAt};
+ghost use Rattle.requeststep.specs.Views.{site_of, done_view};
+ghost use Rattle.requeststep.specs.Answers.{GivesOrRefuses, AnswersOverTree, is_failure};
+ghost use Rattle.requeststep.specs.Parts.{file_context, UnloadsByScript, ReportsFound, report_mode, report_text};
+
+use crate::conditions::{is_loaded, last_meant};
+use crate::done::{Done, EvaluationSettings, Module, Move};
+use crate::entries::{entries_of, join_loaded, modulepath, names_of};
+use crate::refusal::Refusal;
+use defaultfiles::Evaluated;
+use envloaded::{Loaded, drop_loaded};
+use envvars::Vars;
+use filetree::{FindFault, Modulefile, Tree, read_modulefile};
+use modulefile::Mode;
+use modulename::is_module_name;
+use modulerun::{FileContext, Ran, run_file};
+use reports::{show_report, whatis_report};
+use search::{Found, locate};
+use std::alloc::{AllocError, Global};
+
+/// One name of a request, with what its module's file is evaluated under.
+#[derive(Clone, Copy)]
+pub(crate) struct NameRequest<'a> {
+    /// The limits of the evaluation, and the shell.
+    pub(crate) settings: EvaluationSettings,
+    /// Whether it is the old or the new name of a `switch`.
+    pub(crate) in_switch: bool,
+    /// The name as it was typed.
+    pub(crate) typed: &'a str,
+}
+
+/// The file of a module: the module's full name, the file's path and the script in it.
+#[derive(Clone, Copy)]
+pub(crate) struct File<'a> {
+    pub(crate) name: &'a str,
+    pub(crate) path: &'a str,
+    pub(crate) text: &'a str,
+}
+
+/// Which report is made of a module's records.
+#[derive(Clone, Copy)]
+pub(crate) enum ReportKind {
+    /// `show`: what the module would do.
+    Commands,
+    /// `whatis`: its descriptions.
+    Whatis,
+}
+
+/// The module that a name means, by the search along MODULEPATH as it is now.
+pub(crate) fn find_module<T: Tree, V: Vars>(
+    alloc: Global,
+    name_request: NameRequest<'_>,
+    env: &V,
+    tree: &mut T,
+) -> Result<Found, Refusal>
+    ensures before { Narrows (T.agrees tree.old) (T.agrees tree.new) }
+    ensures later { T.failures tree.old ≤ T.failures tree.new }
+    ensures over_tree { AnswersOverTree (T.agrees tree.new)
+        (T.failures tree.old < T.failures tree.new) found_view result
+        (λ files listings. Finds (site_of name_request.entry.settings files listings)
+        (V.vars env.now) name_request.entry.typed.now) }
+    ensures failed { FailsAt is_failure (T.failed tree.old) (T.failed tree.new) result (λ at.
+        InEachPair (T.agrees tree.new) (λ files listings.
+        SearchLooksAt (site_of name_request.entry.settings files listings)
+        (V.vars env.now) name_request.entry.typed.now at)) }
+{
+    let default_files = Evaluated {
+        limits: name_request.settings.limits,
+    };
+    Ok(locate(
+        alloc,
+        tree,
+        &default_files,
+        modulepath(env),
+        name_request.typed,
+    )?)
+}
+
+/// Evaluates a modulefile in a mode; its records have their effects on the variables.
+pub(crate) fn evaluate<V: Vars>(
+    alloc: Global,
+    name_request: NameRequest<'_>,
+    mode: Mode,
+    entries: &[Loaded],
+    file: File<'_>,
+    env: &mut V,
+) -> Result<Ran, Refusal>
+    ensures given { GivesOrRefuses (λ ran. ran_view ran (V.vars env.new)) result (RefusedAs file_refused
+        (RunsFile name_request.entry.settings.limits (file_context name_request.entry
+        (mode_view mode) file.entry.name.now
+        file.entry.path.now (map entry_of entries.now) (V.vars env.old)) file.entry.text.now)) }
+    ensures base { V.base env.new ≡ V.base env.old }
+{
+    let loaded = names_of(alloc, entries)?;
+    let context = FileContext {
+        mode,
+        in_switch: name_request.in_switch,
+        name: file.name,
+        path: file.path,
+        shell: name_request.settings.shell,
+        typed: name_request.typed,
+        loaded: loaded.as_slice(),
+    };
+    Ok(run_file(
+        alloc,
+        &context,
+        file.text,
+        env,
+        name_request.settings.limits,
+    )?)
+}
+
+/// Loads the module that was found, unless it is loaded already: evaluates its file, and joins it to the loaded list.
+fn load_found<V: Vars>(
+    alloc: Global,
+    name_request: NameRequest<'_>,
+    entries: &[Loaded],
+    found: Found,
+    env: &mut V,
+    done: &mut Done,
+) -> Result<(), Refusal>
+    ensures given { (files : Files) (listings : Listings) → GivesOrRefuses (λ u. done_view done.new (V.vars env.new))
+        result (LoadsFound (site_of name_request.entry.settings files listings) name_request.entry.in_switch name_request.entry.typed.now
+        (done_view done.old (V.vars env.old)) (map entry_of entries.now) (found_view found)) }
+    ensures base { V.base env.new ≡ V.base env.old }
+{
+    if is_loaded(entries, found.name.as_str()) {
+        return Ok(());
+    }
+    let file = File {
+        name: found.name.as_str(),
+        path: found.path.as_str(),
+        text: found.text.as_str(),
+    };
+    let ran = evaluate(alloc, name_request, Mode::Load, entries, file, env)?;
+    let loading = Module {
+        name: found.name,
+        path: found.path,
+        records: ran.records,
+    };
+    join_loaded(alloc, entries, &loading, env)?;
+    done.continue_with(Move::Loads(loading), ran.messages)?;
+    Ok(())
+}
+
+/// Loads the module that a name means. A name that is exactly a loaded module's changes nothing.
+pub(crate) fn load_name<T: Tree, V: Vars>(
+    alloc: Global,
+    name_request: NameRequest<'_>,
+    env: &mut V,
+    tree: &mut T,
+    done: &mut Done,
+) -> Result<(), Refusal>
+    ensures before { Narrows (T.agrees tree.old) (T.agrees tree.new) }
+    ensures later { T.failures tree.old ≤ T.failures tree.new }
+    ensures base { V.base env.new ≡ V.base env.old }
+    ensures over_tree { AnswersOverTree (T.agrees tree.new) (T.failures tree.old < T.failures tree.new)
+        (λ u. done_view done.new (V.vars env.new)) result
+        (λ files listings. LoadsName (site_of name_request.entry.settings files listings) name_request.entry.in_switch
+        name_request.entry.typed.now (done_view done.old (V.vars env.old))) }
+    ensures failed { FailsAt is_failure (T.failed tree.old) (T.failed tree.new) result (λ at.
+        InEachPair (T.agrees tree.new) (λ files listings.
+        LoadLooksAt (site_of name_request.entry.settings files listings) name_request.entry.typed.now
+        (done_view done.old (V.vars env.old)) at)) }
+{
+    let entries = entries_of(alloc, env)?;
+    if is_loaded(entries.as_slice(), name_request.typed) {
+        return Ok(());
+    }
+    let found = find_module(alloc, name_request, env, tree)?;
+    load_found(alloc, name_request, entries.as_slice(), found, env, done)
+}
+
+/// The script in the file of a loaded module: 54 where no file is there, 55 where it has no cookie, 46 where it isn't
+/// UTF-8.
+fn script_at<T: Tree>(alloc: Global, tree: &mut T, path: &str) -> Result<String, Refusal>
+    ensures before { Narrows (T.agrees tree.old) (T.agrees tree.new) }
+    ensures later { T.failures tree.old ≤ T.failures tree.new }
+    ensures over_tree { AnswersOverTree (T.agrees tree.new) (T.failures tree.old < T.failures tree.new)
+        (λ text. string_bytes text)
+        result (λ files listings. Is (script_at path.now (modulefile (files path.now)))) }
+    ensures failed { FailsAt is_failure (T.failed tree.old) (T.failed tree.new) result (λ at. at ≡ path.now) }
+{
+    match read_modulefile(tree, path)? {
+        Modulefile::Script(text) => Ok(text),
+        Modulefile::Absent => Err(Refusal::FileGone(String::from_str(alloc, path)?)),
+        Modulefile::NoCookie => Err(Refusal::NotAModulefile(String::from_str(alloc, path)?)),
+        Modulefile::NotUtf8 => Err(Refusal::Find(FindFault::NotUtf8(String::from_str(
+            alloc, path,
+        )?))),
+    }
+}
+
+/// Unloads a module by the script in its file, and takes it out of the loaded list.
+fn unload_by_script<V: Vars>(
+    alloc: Global,
+    name_request: NameRequest<'_>,
+    entries: &[Loaded],
+    file: File<'_>,
+    env: &mut V,
+    done: &mut Done,
+) -> Result<(), Refusal>
+    ensures given { GivesOrRefuses (λ u. done_view done.new (V.vars env.new)) result
+        (UnloadsByScript name_request.entry file.entry.name.now file.entry.path.now file.entry.text.now
+        (map entry_of entries.now) (done_view done.old (V.vars env.old))) }
+    ensures base { V.base env.new ≡ V.base env.old }
+{
+    let ran = evaluate(alloc, name_request, Mode::Unload, entries, file, env)?;
+    drop_loaded(alloc, env, file.name)?;
+    let unloaded = Module {
+        name: String::from_str(alloc, file.name)?,
+        path: String::from_str(alloc, file.path)?,
+        records: ran.records,
+    };
+    done.continue_with(Move::Unloads(unloaded), ran.messages)?;
+    Ok(())
+}
+
+/// Unloads a loaded module by the file at its recorded path.
+fn unload_entry<T: Tree, V: Vars>(
+    alloc: Global,
+    name_request: NameRequest<'_>,
+    entries: &[Loaded],
+    entry: &Loaded,
+    env: &mut V,
+    tree: &mut T,
+    done: &mut Done,
+) -> Result<(), Refusal>
+    ensures before { Narrows (T.agrees tree.old) (T.agrees tree.new) }
+    ensures later { T.failures tree.old ≤ T.failures tree.new }
+    ensures base { V.base env.new ≡ V.base env.old }
+    ensures over_tree { AnswersOverTree (T.agrees tree.new) (T.failures tree.old < T.failures tree.new)
+        (λ u. done_view done.new (V.vars env.new)) result
+        (λ files listings. UnloadsEntry
+        (site_of name_request.entry.settings files listings) name_request.entry.in_switch
+        name_request.entry.typed.now (done_view done.old (V.vars env.old)) (map entry_of entries.now)
+        (entry_of entry.now)) }
+    ensures failed { FailsAt is_failure (T.failed tree.old) (T.failed tree.new) result (λ at.
+        at ≡ (entry_of entry.now).path) }
+{
+    let text = script_at(alloc, tree, entry.path.as_str())?;
+    let file = File {
+        name: entry.name.as_str(),
+        path: entry.path.as_str(),
+        text: text.as_str(),
+    };
+    unload_by_script(alloc, name_request, entries, file, env, done)
+}
+
+/// Unloads the last loaded module that a name means, if there is one.
+pub(crate) fn unload_name<T: Tree, V: Vars>(
+    alloc: Global,
+    name_request: NameRequest<'_>,
+    env: &mut V,
+    tree: &mut T,
+    done: &mut Done,
+) -> Result<(), Refusal>
+    ensures before { Narrows (T.agrees tree.old) (T.agrees tree.new) }
+    ensures later { T.failures tree.old ≤ T.failures tree.new }
+    ensures base { V.base env.new ≡ V.base env.old }
+    ensures over_tree { AnswersOverTree (T.agrees tree.new) (T.failures tree.old < T.failures tree.new)
+        (λ u. done_view done.new (V.vars env.new)) result
+        (λ files listings. UnloadsName (site_of name_request.entry.settings files listings) name_request.entry.in_switch
+        name_request.entry.typed.now (done_view done.old (V.vars env.old))) }
+    ensures failed { FailsAt is_failure (T.failed tree.old) (T.failed tree.new) result
+        (UnloadLooksAt name_request.entry.typed.now (done_view done.old (V.vars env.old))) }
+{
+    let entries = entries_of(alloc, env)?;
+    if !is_module_name(name_request.typed) {
+        let name = String::from_str(alloc, name_request.typed)?;
+        return Err(Refusal::Find(FindFault::BadName(name)));
+    }
+    match last_meant(entries.as_slice(), name_request.typed) {
+        None => Ok(()),
+        Some(entry) => unload_entry(
+            alloc,
+            name_request,
+            entries.as_slice(),
+            entry,
+            env,
+            tree,
+            done,
+        ),
+    }
+}
+
+/// The mode in which a file is evaluated for a report.
+fn mode_of_report(report_kind: ReportKind) -> Mode
+    ensures { mode_view result ≡ report_mode report_kind }
+{
+    match report_kind {
+        ReportKind::Commands => Mode::Display,
+        ReportKind::Whatis => Mode::Whatis,
+    }
+}
+
+/// The text of a report on a module, by the records that its file made.
+fn report_on(
+    alloc: Global,
+    report_kind: ReportKind,
+    found: &Found,
+    ran: &Ran,
+) -> Result<String, AllocError>
+    ensures { IfOk result (λ t. string_bytes t ≡ report_text report_kind (found_view found.now)
+        (map record_view ran.now.records.items)) }
+{
+    match report_kind {
+        ReportKind::Commands => show_report(alloc, found.path.as_str(), ran.records.as_slice()),
+        ReportKind::Whatis => whatis_report(alloc, found.name.as_str(), ran.records.as_slice()),
+    }
+}
+
+/// Evaluates the file of the module that was found, and adds its messages and the report.
+fn report_found<V: Vars>(
+    alloc: Global,
+    name_request: NameRequest<'_>,
+    report_kind: ReportKind,
+    entries: &[Loaded],
+    found: &Found,
+    env: &mut V,
+    done: &mut Done,
+) -> Result<(), Refusal>
+    ensures given { GivesOrRefuses (λ u. done_view done.new (V.vars env.new)) result
+        (ReportsFound name_request.entry report_kind (found_view found.now) (map entry_of entries.now)
+        (done_view done.old (V.vars env.old))) }
+    ensures base { V.base env.new ≡ V.base env.old }
+{
+    let file = File {
+        name: found.name.as_str(),
+        path: found.path.as_str(),
+        text: found.text.as_str(),
+    };
+    let ran = evaluate(
+        alloc,
+        name_request,
+        mode_of_report(report_kind),
+        entries,
+        file,
+        env,
+    )?;
+    let text = report_on(alloc, report_kind, found, &ran)?;
+    done.report_on(ran.messages, text.as_str())?;
+    Ok(())
+}
+
+/// Reports on the module that a name means. No variable changes.
+pub(crate) fn report_name<T: Tree, V: Vars>(
+    alloc: Global,
+    settings: EvaluationSettings,
+    report_kind: ReportKind,
+    typed: &str,
+    env: &mut V,
+    tree: &mut T,
+    done: &mut Done,
+) -> Result<(), Refusal>
+    ensures before { Narrows (T.agrees tree.old) (T.agrees tree.new) }
+    ensures later { T.failures tree.old ≤ T.failures tree.new }
+    ensures base { V.base env.new ≡ V.base env.old }
+    ensures over_tree { AnswersOverTree (T.agrees tree.new) (T.failures tree.old < T.failures tree.new)
+        (λ u. done_view done.new (V.vars env.new)) result
+        (λ files listings. ShowsName (site_of settings files listings) (report_mode report_kind)
+        (report_text report_kind) typed.now
+        (done_view done.old (V.vars env.old))) }
+    ensures failed { FailsAt is_failure (T.failed tree.old) (T.failed tree.new) result (λ at.
+        InEachPair (T.agrees tree.new) (λ files listings.
+        ShowLooksAt (site_of settings files listings) typed.now (done_view done.old (V.vars env.old)) at)) }
+{
+    let name_request = NameRequest {
+        settings,
+        in_switch: false,
+        typed,
+    };
+    let entries = entries_of(alloc, env)?;
+    let found = find_module(alloc, name_request, env, tree)?;
+    report_found(
+        alloc,
+        name_request,
+        report_kind,
+        entries.as_slice(),
+        &found,
+        env,
+        done,
+    )
+}

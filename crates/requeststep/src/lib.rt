@@ -1,0 +1,22 @@
+//! The step of a request: what it makes of the variables of an environment, or why it is refused (module(1)).
+//! Takes memory; changes the variables and reads the files and directories (`Tree`) that it is given.
+//! Used by modules, rehearsal, sessioncheck and modulecmd.
+#![tactic(auto)]
+
+mod commands;
+mod conditions;
+mod done;
+mod entries;
+mod files;
+mod judged;
+mod missing;
+mod progress;
+mod refusal;
+mod verdicts;
+
+pub use commands::step;
+pub use done::{Done, EvaluationSettings, Module, Move};
+pub use judged::Verdict;
+pub use missing::MissingNames;
+pub use refusal::Refusal;
+pub use verdicts::verdict;

@@ -1,0 +1,68 @@
+//! What a request has done grows, by one file after another.
+ghost use Rattle.std.specs.Prelude.{◌≡◌, ◌++◌, [], ◌∷◌, OnOk, OnErr};
+ghost use Rattle.envvars.specs.Environment.{Environment};
+ghost use Rattle.envvars.specs.Texts.{texts_in};
+ghost use Rattle.modulerecords.specs.Moves.{loaded_names};
+ghost use Rattle.requests.specs.Steps.{nothing_done, with_move, with_report};
+ghost use Rattle.requeststep.specs.MoveViews.{move_view};
+ghost use Rattle.requeststep.specs.Views.{done_view};
+
+use crate::done::{Done, Move};
+use std::alloc::{AllocError, Global};
+use std::snapshot::Snapshot;
+
+/// Adds the name of the module that the move loads, if it loads one.
+fn push_loaded(names: &mut Vec<String>, step: Move) -> Result<(), AllocError>
+    ensures added { OnOk result (texts_in names.new ≡ texts_in names.old ++ loaded_names (move_view step ∷ [])) }
+    ensures unchanged { OnErr result (names.new.items ≡ names.old.items) }
+{
+    match step {
+        Move::Loads(module) => Ok(names.push(module.name)?),
+        Move::Unloads(_) => Ok(()),
+    }
+}
+
+impl Done {
+    /// Nothing done yet.
+    pub fn new(alloc: Global) -> Done
+        ensures { (env : Environment) → done_view result env ≡ nothing_done env }
+    {
+        Done {
+            loaded: Vec::new(alloc),
+            messages: Vec::new(alloc),
+            report: String::new(alloc),
+            moves: Vec::new(alloc),
+        }
+    }
+
+    /// Adds a move, with the messages of its file.
+    pub(crate) fn continue_with(
+        &mut self,
+        step: Move,
+        mut messages: Vec<String>,
+    ) -> Result<(), AllocError>
+        ensures { OnOk result ((old new : Environment) → done_view self.new new
+            ≡ with_move (done_view self.old old) (move_view step) (texts_in messages) new) }
+    {
+        self.messages.append(&mut messages)?;
+        self.moves.push(Snapshot::of(&step))?;
+        if let Err(refused) = push_loaded(&mut self.loaded, step) {
+            self.moves.pop();
+            return Err(refused);
+        }
+        Ok(())
+    }
+
+    /// Adds to the report, with the messages of a file.
+    pub(crate) fn report_on(
+        &mut self,
+        mut messages: Vec<String>,
+        text: &str,
+    ) -> Result<(), AllocError>
+        ensures { OnOk result ((env : Environment) → done_view self.new env
+            ≡ with_report (done_view self.old env) (texts_in messages) text.now) }
+    {
+        self.messages.append(&mut messages)?;
+        self.report.push_str(text)
+    }
+}

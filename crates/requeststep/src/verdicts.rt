@@ -1,0 +1,94 @@
+//! Judges the module that a name means: whether its file is plain.
+ghost use Rattle.std.specs.Prelude.{◌<◌, ◌≤◌, IfOk};
+ghost use Rattle.filetree.specs.Agreement.{FailsAt, InEachPair, Narrows};
+ghost use Rattle.requests.specs.Looked.{SearchLooksAt};
+ghost use Rattle.requests.specs.Verdicts.{HasVerdict};
+ghost use Rattle.requeststep.specs.Answers.{AnswersOverTree, is_failure};
+ghost use Rattle.requeststep.specs.Verdicts.{verdict_view, in_sh, PlainVerdictHolds};
+
+use crate::done::EvaluationSettings;
+use crate::entries::entries_of;
+use crate::files::{File, NameRequest, evaluate, find_module};
+use crate::judged::{Verdict, verdict_on};
+use crate::refusal::Refusal;
+use envvars::{Env, Vars, Working};
+use filetree::Tree;
+use modulefile::Mode;
+use shells::Shell;
+use std::alloc::Global;
+use tclrules::Limits;
+
+/// The verdict on the module that a name means; its file is evaluated over these variables, and has its effects on
+/// them.
+fn judge<T: Tree, V: Vars>(
+    alloc: Global,
+    typed: &str,
+    env: &mut V,
+    tree: &mut T,
+    limits: Limits,
+) -> Result<Verdict, Refusal>
+    ensures before { Narrows (T.agrees tree.old) (T.agrees tree.new) }
+    ensures later { T.failures tree.old ≤ T.failures tree.new }
+    ensures over_tree { AnswersOverTree (T.agrees tree.new)
+        (T.failures tree.old < T.failures tree.new) verdict_view result
+        (λ files listings. HasVerdict (in_sh limits files listings) (V.vars env.old) typed.now) }
+    ensures failed { FailsAt is_failure (T.failed tree.old) (T.failed tree.new) result (λ at.
+        InEachPair (T.agrees tree.new) (λ files listings.
+        SearchLooksAt (in_sh limits files listings) (V.vars env.old) typed.now at)) }
+{
+    let settings = EvaluationSettings {
+        limits,
+        shell: Shell::Sh,
+    };
+    let name_request = NameRequest {
+        settings,
+        in_switch: false,
+        typed,
+    };
+    let entries = entries_of(alloc, env)?;
+    let found = find_module(alloc, name_request, env, tree)?;
+    let file = File {
+        name: found.name.as_str(),
+        path: found.path.as_str(),
+        text: found.text.as_str(),
+    };
+    let ran = evaluate(
+        alloc,
+        name_request,
+        Mode::Load,
+        entries.as_slice(),
+        file,
+        env,
+    )?;
+    Ok(verdict_on(&ran))
+}
+
+/// Judges the module that a name means: its file is evaluated for loading in sh, with this name as the one that was
+/// typed. The environment doesn't change; conflicts and prereqs aren't judged.
+///
+/// A module that is `Plain` makes the same records wherever it is loaded or unloaded, or is refused there, and
+/// unloading undoes each of them.
+///
+/// Errors: loaded lists that are inconsistent (35); what the search for the name answers (42, 44, 45, 46, and 43 where
+/// the device failed in this call, at a path that the search looks at); what the evaluation of the file is refused by;
+/// want of memory (11, 31, 41).
+pub fn verdict<T: Tree>(
+    alloc: Global,
+    name: &str,
+    env: &Env,
+    tree: &mut T,
+    limits: Limits,
+) -> Result<Verdict, Refusal>
+    ensures before { Narrows (T.agrees tree.old) (T.agrees tree.new) }
+    ensures later { T.failures tree.old ≤ T.failures tree.new }
+    ensures judged { AnswersOverTree (T.agrees tree.new) (T.failures tree.old < T.failures tree.new) verdict_view result
+        (λ files listings. HasVerdict (in_sh limits files listings) env.now name.now) }
+    ensures plain { IfOk result (λ verdict. InEachPair (T.agrees tree.new) (λ files listings.
+        PlainVerdictHolds (in_sh limits files listings) env.now name.now verdict)) }
+    ensures failed { FailsAt is_failure (T.failed tree.old) (T.failed tree.new) result (λ at.
+        InEachPair (T.agrees tree.new) (λ files listings.
+        SearchLooksAt (in_sh limits files listings) env.now name.now at)) }
+{
+    requests::verdicts();
+    judge(alloc, name, &mut Working::over(env), tree, limits)
+}

@@ -1,7 +1,0 @@
-use Rattle.std.proofs.Common.{rules, tests}
-use Rattle.std.proofs.lemmas.Fn.{dedup_same}
-use Rattle.search.specs.Rows.{is_same_name}
-use Rattle.search.proofs.rows.drop_repeats.Goals as goal
-
-pub returns : goal.returns
-returns c = dedup_same _ is_same_name _ (λ x y b f x' y' h. (search (rules, tests), search rules, search rules, search rules)) _ _ c.dedup_by.ensures.filtered

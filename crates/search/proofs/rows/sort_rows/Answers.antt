@@ -1,8 +1,0 @@
-use Rattle.std.proofs.Common.{rules}
-use Rattle.std.proofs.lemmas.List.Sorted.{ranks_by, answers_always}
-use Rattle.moduleversion.proofs.OrderLemmas.{total}
-use Rattle.search.specs.Rows.{goes_before, name_of}
-use Rattle.search.proofs.rows.sort_rows.Goals as goal
-
-pub returns-clause-sorted : goal.returns-clause-sorted
-returns-clause-sorted c = c.in_ok-sort_by.ensures.sorted goes_before (ranks_by total name_of) (answers_always _ _ _ (λ f a r g h. search rules))

@@ -1,0 +1,46 @@
+-- A cache of scripts and of expressions, and what makes it right: each text with its own tree. Own.
+use Rattle.std.specs.Prelude.{◌≡◌, string_bytes, Ok}
+use Rattle.std.specs.List.{All}
+use Rattle.tclchars.specs.Runs.{Text}
+use Rattle.tclscript.specs.Tree.{Commands}
+use Rattle.tclscript.specs.Text.{script_of}
+use Rattle.tclscript.specs.Owned as script
+use Rattle.tclscript.specs.declared.owned.OwnedScript.{OwnedScript}
+use Rattle.tclexpr.specs.Tree.{Expr}
+use Rattle.tclexpr.specs.Operands.{Operand}
+use Rattle.tclexpr.specs.Text.{expr_of}
+use Rattle.tclexpr.specs.Owned as expression
+use Rattle.tclexpr.specs.declared.owned.OwnedExpr.{OwnedExpr}
+use Rattle.tclcache.specs.Trees.{Trees, AreLimited, BeginsWith, map_trees}
+
+-- the scripts and expressions that were parsed, with the trees of the program
+pub record Cache : Type 0 where
+  pub scripts : Trees OwnedScript
+  pub expressions : Trees OwnedExpr
+
+-- the scripts, and the expressions, with what their trees stand for in the grammar
+abbrev pub scripts_of : Cache → Trees Commands
+scripts_of k = map_trees script.owned_view k.scripts
+
+abbrev pub expressions_of : Cache → Trees (Expr Operand)
+expressions_of k = map_trees expression.owned_view k.expressions
+
+-- the tree was parsed from this text, and stands for the tree that the grammar has for it
+pub record IsCachedScript (e : Text × OwnedScript) : Type 0 where
+  pub text : string_bytes e.1.text ≡ e.0
+  pub tree : script_of e.0 ≡ Ok (script.owned_view e.1)
+
+pub record IsCachedExpression (e : Text × OwnedExpr) : Type 0 where
+  pub text : string_bytes e.1.text ≡ e.0
+  pub tree : expr_of e.0 ≡ Ok (expression.owned_view e.1)
+
+-- the cache is right: distinct texts within the limits, each with its own tree
+pub record IsValidCache (k : Cache) : Type 0 where
+  pub scripts_limited : AreLimited k.scripts
+  pub expressions_limited : AreLimited k.expressions
+  pub scripts_own : All IsCachedScript k.scripts
+  pub expressions_own : All IsCachedExpression k.expressions
+
+-- the second cache has all of the first, in the same order, and perhaps more after it
+abbrev pub BeginWith : Cache → Cache → Type 0
+BeginWith old new = BeginsWith old.scripts new.scripts × BeginsWith old.expressions new.expressions

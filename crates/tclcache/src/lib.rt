@@ -1,0 +1,10 @@
+//! A cache of parsed texts: scripts and expressions with their trees, so that nothing is parsed twice.
+//! Takes memory and touches nothing else.
+//! Used by tclevaluator and tcleval.
+#![tactic(auto)]
+
+mod cache;
+mod parsed;
+mod texts;
+
+pub use cache::Cache;

@@ -1,9 +1,0 @@
-use Rattle.std.proofs.Common.{◌≡◌}
-use Rattle.std.specs.Vec.Iter.{into_iter_items}
-use Rattle.tclrules.specs.Promise.{texts_of}
-use Rattle.tclrules.specs.Variables.{start, store_all}
-use Rattle.tclcommands.proofs.starting.started.Given as goal
-
--- the variables so far, with those that are left
-abbrev pub invariant-loop-name : goal.invariant-loop-name
-invariant-loop-name l = record l.variables { globals = store_all l.variables.globals (texts_of (into_iter_items l.name-iterator)) } ≡ start (texts_of l.fn.globals.items)

@@ -1,0 +1,24 @@
+//! The variables that an evaluation begins with.
+ghost use Rattle.std.specs.Prelude.{◌≡◌, IfOk};
+ghost use Rattle.tclrules.specs.Promise.{texts_of};
+ghost use Rattle.tclrules.specs.Variables.{start};
+
+use std::alloc::{AllocError, Global};
+use tclvariables::Variables;
+
+/// Variables with these global ones, each a name and its value, and without procedures. Of a name that is repeated the
+/// last value counts.
+///
+/// Errors: memory runs out.
+pub fn initial_variables(
+    alloc: Global,
+    globals: Vec<(String, String)>,
+) -> Result<Variables, AllocError>
+    ensures { IfOk result (λ v. v ≡ start (texts_of globals.items)) }
+{
+    let mut variables = Variables::new(alloc);
+    for (name, value) in globals {
+        variables.set(alloc, true, name.as_str(), value)?;
+    }
+    Ok(variables)
+}

@@ -1,0 +1,26 @@
+use Rattle.std.proofs.Common.{◌<◌, ◌≤◌, [], length, arith}
+use Rattle.tclcommands.specs.Continuations.{value_text}
+use Rattle.tclsubstitution.proofs.Leading.{sized_on, sized_stops}
+use Rattle.std.proofs.lemmas.Result.{err_from_is_err_and}
+use Rattle.tclrules.proofs.Leading.{starve}
+use Rattle.tclcontrol.proofs.commands.result_text.Goals as goal
+
+pub returns-then-len-limits : goal.returns-then-len-limits
+returns-then-len-limits c =
+    let h : c.args.limits.value_bytes < length (value_text c.args.value c.args.variables.now) = omega (arith, c.len.ensures, c.if-len-limits.true) in
+    ([], tt, λ most r k x. sized_stops _ _ _ h)
+
+pub returns-in_err-into_text : goal.returns-in_err-into_text
+returns-in_err-into_text c =
+    let p = err_from_is_err_and c.from_residual.result c.from_residual.ensures.1 in
+    rw (p.1, p.2) ([], tt, λ most r k x. starve)
+
+pub returns-then-needs_result : goal.returns-then-needs_result
+returns-then-needs_result c =
+    let h : length (value_text c.args.value c.args.variables.now) ≤ c.args.limits.value_bytes = omega (arith, c.len.ensures, c.if-len-limits.false) in
+    (value_text c.args.value c.args.variables.now, (h, λ e. c.in_ok-into_text.ensures), λ most r k x. sized_on _ _ _ h)
+
+pub returns : goal.returns
+returns c =
+    let h : length (value_text c.args.value c.args.variables.now) ≤ c.args.limits.value_bytes = omega (arith, c.len.ensures, c.if-len-limits.false) in
+    (value_text c.args.value c.args.variables.now, (h, λ e. absurd (let q = c.if-needs_result.false in cc)), λ most r k x. sized_on _ _ _ h)

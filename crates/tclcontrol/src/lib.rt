@@ -1,0 +1,12 @@
+//! What follows the completion of a script in loops, catch(n) and calls; commands without scripts by their forms.
+//! Takes memory, changes the variables that it is given, and asks the host.
+//! Used by tclevaluator.
+#![tactic(auto)]
+
+mod commands;
+mod completion;
+mod fault;
+
+pub use commands::{simple_command, unknown_command};
+pub use completion::{after_call, after_catch, after_next, after_turn};
+pub use fault::unsupported;

@@ -1,0 +1,201 @@
+//! The values of scalar variables and of elements of the array `env`, with the errors of Tcl where there is none.
+ghost use Rattle.std.specs.Prelude.{◌≡◌, ◌++◌, ℕ, Some, IfOk, codes, option_map, string_bytes};
+ghost use Rattle.tclrules.specs.Variables.{State, value_at};
+ghost use Rattle.tclrules.specs.Derivation.{Reads};
+ghost use Rattle.tclrules.specs.Simulates.{Simulates, Point, point};
+ghost use Rattle.tclrules.specs.Plans as plans;
+ghost use Rattle.tclrules.specs.Plans.{Job, Next};
+ghost use Rattle.tclrules.specs.Words.{found, read, read_element, read_location, read_scalar};
+ghost use Rattle.tclrules.specs.Messages.{in_quotes, is_array, no_variable};
+ghost use Rattle.tclsubstitution.specs.Stops.{after, IsRaised};
+ghost use Rattle.tclvariables.specs.Locations.{location_view};
+
+use crate::stop::Stop;
+use std::alloc::{AllocError, Global};
+use tclrules::Host;
+use tclvariables::{Location, Variables, location_named, location_of};
+
+/// A text in double quotes, as messages have names.
+fn in_quotes(alloc: Global, text: &str) -> Result<String, AllocError>
+    ensures { IfOk result (λ t. string_bytes t ≡ in_quotes text.now) }
+{
+    format!(in alloc; "\"{text}\"")
+}
+
+/// The message that a variable doesn't exist.
+#[tactic(auto, unfolding(tclrules::specs::Messages::no_variable))]
+fn no_variable(alloc: Global, name: &str) -> Result<String, AllocError>
+    ensures { IfOk result (λ t. string_bytes t ≡ no_variable name.now) }
+{
+    let quoted = in_quotes(alloc, name)?;
+    format!(in alloc; "can't read {quoted}: no such variable")
+}
+
+/// The message that a variable is an array and has no value of its own.
+#[tactic(auto, unfolding(tclrules::specs::Messages::is_array))]
+fn is_array(alloc: Global, name: &str) -> Result<String, AllocError>
+    ensures { IfOk result (λ t. string_bytes t ≡ is_array name.now) }
+{
+    let quoted = in_quotes(alloc, name)?;
+    format!(in alloc; "can't read {quoted}: it is an array")
+}
+
+/// The error that the variable of this spelling doesn't exist.
+fn missing_variable(alloc: Global, name: &str) -> Stop
+    ensures { IsRaised (no_variable name.now) result }
+{
+    match no_variable(alloc, name) {
+        Ok(message) => Stop::Raised(message),
+        Err(error) => Stop::from(error),
+    }
+}
+
+/// The error that the variable of this spelling is an array.
+fn array_without_index(alloc: Global, name: &str) -> Stop
+    ensures { IsRaised (is_array name.now) result }
+{
+    match is_array(alloc, name) {
+        Ok(message) => Stop::Raised(message),
+        Err(error) => Stop::from(error),
+    }
+}
+
+/// A copy of the value of the variable `name` of the global variables, or of those of the procedure that runs. An error
+/// names the variable as it was `spelled` in the script.
+#[tactic(none)]
+fn value_at(
+    alloc: Global,
+    variables: &Variables,
+    spelled: &str,
+    global: bool,
+    name: &str,
+) -> Result<String, Stop>
+    ensures { (most : ℕ) (r : Job → plans.Step) (k : Next) (x : Point)
+        → Simulates most r (found (no_variable spelled.now) variables.now k
+        (value_at variables.now (global, name.now))) x
+        (after result (λ t s. k (string_bytes t) s) variables.now) x }
+{
+    match variables.get(global, name) {
+        Some(value) => Ok(String::from_str(alloc, value)?),
+        None => Err(missing_variable(alloc, spelled)),
+    }
+}
+
+/// The value of a scalar variable. `env` as a whole is no scalar.
+#[tactic(none)]
+fn read_scalar(
+    alloc: Global,
+    variables: &Variables,
+    spelled: &str,
+    global: bool,
+    name: &str,
+) -> Result<String, Stop>
+    ensures { (most : ℕ) (r : Job → plans.Step) (k : Next) (x : Point)
+        → Simulates most r (read_scalar spelled.now global name.now variables.now k) x
+        (after result (λ t s. k (string_bytes t) s) variables.now) x }
+{
+    if global {
+        if name == "env" {
+            return Err(array_without_index(alloc, spelled));
+        }
+        return value_at(alloc, variables, spelled, true, name);
+    }
+    value_at(alloc, variables, spelled, false, name)
+}
+
+/// The value of a variable of the environment, which the host is asked for.
+fn read_env<H: Host>(
+    alloc: Global,
+    variables: &Variables,
+    host: &mut H,
+    spelled: &str,
+    name: &str,
+) -> Result<String, Stop>
+    ensures { (most used : ℕ) (r : Job → plans.Step) (k : Next)
+        → Simulates most r (Reads name.now (found (no_variable spelled.now) variables.now k))
+        (point (H.oracle host.old) (H.trace host.old) used)
+        (after result (λ t s. k (string_bytes t) s) variables.now)
+        (point (H.oracle host.new) (H.trace host.new) used) }
+{
+    match host.read_env(name)? {
+        Some(value) => Ok(value),
+        None => Err(missing_variable(alloc, spelled)),
+    }
+}
+
+/// The value of the scalar or the element at a location. `env` is the one array; elements of others don't exist.
+#[tactic(none)]
+fn read_location<H: Host>(
+    alloc: Global,
+    variables: &Variables,
+    host: &mut H,
+    spelled: &str,
+    location: Location<'_>,
+) -> Result<String, Stop>
+    ensures { (most used : ℕ) (r : Job → plans.Step) (k : Next)
+        → Simulates most r (read_location spelled.now variables.now k (location_view location.entry))
+        (point (H.oracle host.old) (H.trace host.old) used)
+        (after result (λ t s. k (string_bytes t) s) variables.now)
+        (point (H.oracle host.new) (H.trace host.new) used) }
+{
+    match location {
+        Location::Scalar(global, name) => read_scalar(alloc, variables, spelled, global, name),
+        Location::Element(global, name) => {
+            if global {
+                return read_env(alloc, variables, host, spelled, name);
+            }
+            Err(missing_variable(alloc, spelled))
+        }
+    }
+}
+
+/// The value of the variable of this name, as `$name` has it (Tcl(n), rule 8).
+///
+/// Errors: those of Tcl for a variable that doesn't exist and for an array, both of which catch(n) sees; a halt where
+/// the name is unsupported or memory runs out.
+#[tactic(none)]
+pub fn read<H: Host>(
+    alloc: Global,
+    variables: &Variables,
+    host: &mut H,
+    name: &str,
+) -> Result<String, Stop>
+    ensures { (most used : ℕ) (r : Job → plans.Step) (k : Next)
+        → Simulates most r (read name.now variables.now k)
+        (point (H.oracle host.old) (H.trace host.old) used)
+        (after result (λ t s. k (string_bytes t) s) variables.now)
+        (point (H.oracle host.new) (H.trace host.new) used) }
+{
+    let location = location_named(variables, alloc, name)?;
+    read_location(alloc, variables, host, name, location)
+}
+
+/// The spelling `name(index)` of an element.
+fn spelled(alloc: Global, name: &str, index: &str) -> Result<String, AllocError>
+    ensures { IfOk result (λ t. string_bytes t ≡ name.now ++ (codes "(" ++ (index.now ++ codes ")"))) }
+{
+    format!(in alloc; "{name}({index})")
+}
+
+/// The value of an element of the array of this name, as `$name(index)` has it (Tcl(n), rule 8). `env` is the one
+/// array.
+///
+/// Errors: as of `read`.
+#[tactic(none)]
+pub fn read_element<H: Host>(
+    alloc: Global,
+    variables: &Variables,
+    host: &mut H,
+    name: &str,
+    index: &str,
+) -> Result<String, Stop>
+    ensures { (most used : ℕ) (r : Job → plans.Step) (k : Next)
+        → Simulates most r (read_element name.now index.now variables.now k)
+        (point (H.oracle host.old) (H.trace host.old) used)
+        (after result (λ t s. k (string_bytes t) s) variables.now)
+        (point (H.oracle host.new) (H.trace host.new) used) }
+{
+    let location = location_of(variables, alloc, name, Some(index))?;
+    let spelled = spelled(alloc, name, index)?;
+    read_location(alloc, variables, host, spelled.as_str(), location)
+}

@@ -1,0 +1,18 @@
+use Rattle.std.proofs.Common.{◌≡◌, ◌++◌, ◌∷◌, [], sym, ap, ◌∙◌}
+use Rattle.tclvariables.proofs.Apart.{apart_none, apart_whole, apart_at}
+use Rattle.tclvariables.proofs.location.name_and_index.Goals as goal
+
+pub returns-in_default : goal.returns-in_default
+returns-in_default c = apart_none _ c.in_default.ensures.cases
+
+pub returns-in-None : goal.returns-in-None
+returns-in-None c =
+    let s = c.in-Some.ensures.cases in
+    let e : c.args.name.now ≡ c.in-Some.inside.now ++ 41 ∷ [] = s.1.1 ∙ ap (λ t. t ++ 41 ∷ []) (sym s.2) in
+    apart_whole _ _ e (rw c.split_array.ensures.rest at c.in-None.ensures)
+
+pub returns-in-Some-after_mark : goal.returns-in-Some-after_mark
+returns-in-Some-after_mark c =
+    let s = c.in-Some.ensures.cases in
+    let e : c.args.name.now ≡ c.in-Some.inside.now ++ 41 ∷ [] = s.1.1 ∙ ap (λ t. t ++ 41 ∷ []) (sym s.2) in
+    rw c.split_array.ensures.array (apart_at _ _ _ e (sym c.split_array.ensures.rest ∙ c.in-Some-after_mark.ensures))
