@@ -45,7 +45,7 @@ impl State {
             String::from_str(alloc, "/home/user")?,
         ))?;
         Ok(State {
-            variables: Variables::new(alloc),
+            variables: Variables::new(alloc, host.reserved()),
             callers: Vec::new(alloc),
             host,
         })

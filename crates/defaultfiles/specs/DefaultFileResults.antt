@@ -5,9 +5,10 @@ use Rattle.tclrules.specs.Oracle.{Oracle, Trace, OracleAnswer, Nothing, NewRecor
 use Rattle.tclrules.specs.Derivation.{Outcome, Ended, Halted, World}
 use Rattle.tclrules.specs.Variables.{lookup}
 use Rattle.tclrules.specs.Plans.{Completion, Normal, Raised, Returned, Broken, Continued}
-use Rattle.tclrules.specs.Names.{is_among, unsupported_module_commands}
+use Rattle.tclrules.specs.Names.{is_among}
 use Rattle.tclrules.specs.Meaning.{Setting, EvaluatesTo}
 use Rattle.tclrules.specs.declared.limits.Limits.{Limits}
+use Rattle.modulefile.specs.CommandNames.{unsupported_commands, command_names}
 use Rattle.search.specs.DefaultFiles.{DefaultFileResult}
 
 -- `module-version NAME WORD...` has a name and at least one word, and is recorded
@@ -27,7 +28,7 @@ named_answer name words =
     if bytes_eq name (codes "module-version") then version_answer words
     else if bytes_eq name (codes "puts") then Done [] Nothing false
     else if is_among renaming_commands name then Refused 45 None false
-    else if is_among unsupported_module_commands name then LeftOut name false
+    else if is_among unsupported_commands name then LeftOut name false
     else Unknown false
 
 -- the answer to a command, by its words
@@ -37,7 +38,8 @@ answer_to (name ∷ words) = named_answer name (name ∷ words)
 
 -- No answer hangs on the commands before, and each variable of the environment is unset.
 abbrev pub default_oracle : Oracle
-default_oracle = record { command = λ records words. answer_to words; variable = λ records name. None }
+default_oracle =
+    record { reserved = command_names; command = λ records words. answer_to words; variable = λ records name. None }
 
 -- the evaluation of the text at this path, which the file has in its global variable ModulesCurrentModulefile
 abbrev pub default_setting : Limits → Text → Text → Setting

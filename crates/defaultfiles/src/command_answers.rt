@@ -4,7 +4,7 @@ ghost use Rattle.tclrules.specs.Names.{is_among};
 ghost use Rattle.defaultfiles.specs.DefaultFileResults.{version_answer, renaming_commands, named_answer, answer_to};
 ghost use Rattle.defaultfiles.specs.CommandAnswers.{answer_view};
 
-use tclforms::is_unsupported_in_modulefiles;
+use modulefile::is_unsupported_command;
 
 /// The answer to a command.
 #[derive(Clone, Copy)]
@@ -54,7 +54,7 @@ fn named_command_answer<'a>(name: &'a str, words: &[String]) -> CommandAnswer<'a
         CommandAnswer::Dropped
     } else if is_renaming(name) {
         CommandAnswer::Refused(45)
-    } else if is_unsupported_in_modulefiles(name) {
+    } else if is_unsupported_command(name) {
         CommandAnswer::LeftOut(name)
     } else {
         CommandAnswer::Unknown

@@ -3,6 +3,7 @@ ghost use Rattle.std.specs.Prelude.{◌≡◌, ◌++◌, ◌∷◌, [], map, str
 ghost use Rattle.defaultfiles.specs.CommandAnswers.{texts_of_words};
 
 use crate::command_answers::{CommandAnswer, command_answer};
+use modulefile::command_names;
 use std::alloc::{AllocError, Global};
 use tclrules::{Host, HostAnswer};
 
@@ -59,6 +60,10 @@ impl Host for DefaultHost {
     } };
 
     ghost oracle = { λ h. default_oracle };
+
+    fn reserved(&self) -> &'static [&'static str] {
+        command_names()
+    }
 
     fn command(&mut self, words: &[String]) -> HostAnswer {
         match command_answer(words) {

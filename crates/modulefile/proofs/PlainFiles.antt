@@ -52,7 +52,7 @@ at_call c d e x y words (Ok (info field)) q h = absurd (cc)
 at_call c d e x y words (Ok (info_test field word)) q h = absurd (cc)
 
 agree : (c d : FileContext) → d.name ≡ c.name → AgreesUnasked (oracle_of c) (oracle_of d)
-agree c d e rs words q h = at_call c d e (environment_after c rs) (environment_after d rs) words (call_of words) q h
+agree c d e = (refl, λ rs words q h. at_call c d e (environment_after c rs) (environment_after d rs) words (call_of words) q h)
 
 -- and so for the file
 

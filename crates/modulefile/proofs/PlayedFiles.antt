@@ -14,7 +14,7 @@ use Rattle.modulefile.specs.Files.{Ran, FileReason, setting_of, ran_of, RunsFile
 use Rattle.modulefile.specs.Laws.{PlayedRuns}
 
 comes_played : (s : Setting) (steps : ℕ) (o : Outcome Completion) (w : World) → play_file s steps ≡ Some (o, w) → EvaluatesTo s o w
-comes_played s steps o w e = derived s.oracle s.limits.commands (rule s.limits.value_bytes) steps (plan_of s.limits s.script s.globals) (first s.trace) o w e
+comes_played s steps o w e = derived s.oracle s.limits.commands (rule s.limits.value_bytes) steps (plan_of s.limits s.script s.oracle.reserved s.globals) (first s.trace) o w e
 
 ok_shown : (r : Result Ran CallReason) (o : Result Ran FileReason) → played_ran r ≡ Some o → (ran : Ran) × (r ≡ Ok ran) × (o ≡ Ok ran)
 ok_shown (Ok ran) o e = (ran, refl, cc)

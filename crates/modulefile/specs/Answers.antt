@@ -14,6 +14,7 @@ use Rattle.modulerecords.specs.Effects.{Mode, load, unload, display, whatis, eff
 use Rattle.shells.specs.declared.shell.Shell.{Shell}
 use Rattle.modulefile.specs.Results.{◌>>=◌}
 use Rattle.shells.specs.Shells.{shell_name, shell_family_name}
+use Rattle.modulefile.specs.CommandNames.{command_names}
 use Rattle.modulefile.specs.Calls.{InfoField, mode, shell, shell_type, Call, adds_record, adds_message, getenv, is_loaded, own_name, typed_name, info, info_test, CallReason, unknown, unsupported, bad_arguments, bad_record, CallForm, call_of}
 
 -- What a file is evaluated in: the mode, and whether it is half of a switch; the module's full name and the path of its
@@ -176,6 +177,7 @@ environment_after c records = or_start c.start (effects_so_far c records)
 abbrev pub oracle_of : FileContext → Oracle
 oracle_of c =
     record {
+      reserved = command_names;
       command = λ records words. answered c (environment_after c records) words (call_of words);
       variable = λ records name. lookup (environment_after c records) name;
     }

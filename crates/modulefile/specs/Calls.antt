@@ -4,12 +4,13 @@ use Rattle.std.specs.Prelude.{ℕ, ◌||◌, List, [], ◌∷◌, ◌++◌, code
 use Rattle.std.specs.List.{join_with_byte}
 use Rattle.tclchars.specs.Runs.{begins}
 use Rattle.tclvalue.specs.Indexes.{after_prefix}
-use Rattle.tclrules.specs.Names.{is_among, unsupported_module_commands}
+use Rattle.tclrules.specs.Names.{is_among}
 use Rattle.envvars.specs.Texts.{Text}
 use Rattle.envvars.specs.Fields.{colon}
 use Rattle.envpaths.specs.PathTexts.{is_delimiter, split_elements}
 use Rattle.modulerecords.specs.Records.{Record, Set, Unset, Push, Front, Back, Remove, Conflict, Prereq, Whatis}
 use Rattle.modulerecords.specs.Judgments.{RecordReason}
+use Rattle.modulefile.specs.CommandNames.{unsupported_commands}
 use Rattle.modulefile.specs.Results.{◌>>=◌}
 
 -- what `module-info` answers, or tests by a further word
@@ -155,7 +156,7 @@ description words = Whatis (join_with_byte 32 words)
 
 -- why a name is no command of this tool
 abbrev pub not_a_command : Text → CallReason
-not_a_command name = if is_among unsupported_module_commands name then unsupported name else unknown
+not_a_command name = if is_among unsupported_commands name then unsupported name else unknown
 
 -- The command that these words call.
 unfoldable pub call_of : List Text → CallForm

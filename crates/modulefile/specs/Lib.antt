@@ -1,4 +1,5 @@
 pub mod Results
+pub mod CommandNames
 pub mod Calls
 pub mod CallViews
 pub mod RecordFaults

@@ -12,8 +12,8 @@ ghost use Rattle.modulefile.specs.CallViews.{reason_of, HasReason, texts_of, cal
 
 use crate::call_fault::CallFault;
 use crate::delimiter::Delimiter;
+use crate::names::is_unsupported_command;
 use std::alloc::Global;
-use tclforms::is_unsupported_in_modulefiles;
 
 /// What `module-info` answers with its first word alone, and tests where a second word follows.
 #[derive(Clone, Copy, Debug, PartialEq, Eq)]
@@ -323,7 +323,7 @@ fn info_form<'a>(alloc: Global, words: &'a [String]) -> Result<Call<'a>, CallFau
 fn unknown_or_unsupported(alloc: Global, name: &str) -> CallFault
     ensures { HasReason (not_a_command name.now) result }
 {
-    if is_unsupported_in_modulefiles(name) {
+    if is_unsupported_command(name) {
         CallFault::unsupported(alloc, name)
     } else {
         CallFault::Unknown
@@ -331,7 +331,7 @@ fn unknown_or_unsupported(alloc: Global, name: &str) -> CallFault
 }
 
 /// The command that these words call, the first of which is its name. Nothing of the environment is looked at. The
-/// name of each such command is reserved too (`tclforms/src/names.rt`), so that no procedure takes it.
+/// name of each such command is among `command_names` too, so that no procedure takes it.
 ///
 /// Errors: `Unknown`, no such command is known; `LeftOut` (19), the command, or this part of it, is unsupported;
 /// `BadArguments` (56), the words don't fit the command, as a wrong number of them, an option, or a delimiter that

@@ -1,6 +1,6 @@
 //! What the commands of modulefiles mean in every mode (modulefile(5)), and what a whole file makes of an environment.
 //! Takes memory, and edits the variables that it is given.
-//! Used by modulerun, which evaluates modulefiles, and by reports, requests and requeststep.
+//! Used by modulerun, defaultfiles, reports, requests and requeststep.
 #![tactic(auto)]
 
 mod call;
@@ -8,6 +8,7 @@ mod call_fault;
 mod delimiter;
 mod effects;
 mod laws;
+mod names;
 mod record_fault;
 mod records;
 mod rows;
@@ -17,6 +18,7 @@ pub use call_fault::CallFault;
 pub use delimiter::Delimiter;
 pub use effects::effect;
 pub use laws::{files, plain, played, words};
+pub use names::{command_names, is_unsupported_command};
 pub use record_fault::RecordFault;
 pub use records::{Mode, Record};
 pub use rows::{completion_rows, file_rows, path_rows, question_rows, refused_rows, report_rows};

@@ -24,7 +24,7 @@ use crate::recording;
 use crate::run::{Draft, Ran, refusal};
 use crate::run_fault::RunFault;
 use envvars::{EnvFault, Vars, is_variable_name};
-use modulefile::{Call, CallFault, InfoField, Mode, Record, RecordFault, call_of};
+use modulefile::{Call, CallFault, InfoField, Mode, Record, RecordFault, call_of, command_names};
 use std::alloc::{AllocError, Global};
 use tclrules::{EvalFault, Host, HostAnswer};
 
@@ -362,6 +362,10 @@ impl<'a, V: Vars> Host for Runner<'a, V> {
     ghost trace = { λ r. trace_of r };
 
     ghost oracle = { λ r. oracle_of (context_of r) };
+
+    fn reserved(&self) -> &'static [&'static str] {
+        command_names()
+    }
 
     fn command(&mut self, words: &[String]) -> HostAnswer
         ensures answer { Answers (oracle_of (context_of self.old)) (map string_bytes words.now) result

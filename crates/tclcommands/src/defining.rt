@@ -25,7 +25,7 @@ pub fn define<'a>(
     ensures { ContinuesWithoutHost
         (λ b k. form b (Define name.now list.now body.now) variables.old k) result variables.new }
 {
-    let parameters = parameters(alloc, name, list)?;
+    let parameters = parameters(alloc, variables.reserved(), name, list)?;
     let body = String::from_str(alloc, body)?;
     variables.define(alloc, name, Procedure { parameters, body })?;
     Ok(Value::Word(""))

@@ -37,7 +37,7 @@ fed script (fault.LeftOut name) h d = unstarved d (λ e. cc)
 fed script fault.Stopped h d = unstarved d (λ e. cc)
 fed script (fault.Host n) h d = unstarved d (λ e. cc)
 
-pub evaluated : (l : Limits) (script : Text) (globals : Variables) (oracle oracle' : Oracle) (trace trace' : Trace) (s : State) (used : ℕ) (res : Result (String Global) FileFailure) (result : Result Ending EvalFault) → Simulates l.commands (rule l.value_bytes) (plan_of l script globals) (point oracle trace 0) (after_file res s) (point oracle' trace' used) → AnswersFile script s used res result → Evaluates l script globals oracle trace result trace'
+pub evaluated : (l : Limits) (script : Text) (globals : Variables) (oracle oracle' : Oracle) (trace trace' : Trace) (s : State) (used : ℕ) (res : Result (String Global) FileFailure) (result : Result Ending EvalFault) → Simulates l.commands (rule l.value_bytes) (plan_of l script oracle.reserved globals) (point oracle trace 0) (after_file res s) (point oracle' trace' used) → AnswersFile script s used res result → Evaluates l script globals oracle trace result trace'
 evaluated l script globals oracle oracle' trace trace' s used (Ok t) (Ok end) led a = (s, rw (a.0, a.1) (unstarved (led.by _ _ ends) (λ q. cc)), a.2)
 evaluated l script globals oracle oracle' trace trace' s used (Ok t) (Err f) led a = rw a (Halted OutOfMemory, used, refl, led.by (Halted OutOfMemory) (record { used = used; trace = trace' }) (lacks_memory false refl))
 evaluated l script globals oracle oracle' trace trace' s used (Err failure) (Ok end) led a = absurd a

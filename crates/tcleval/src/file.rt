@@ -212,7 +212,7 @@ pub fn evaluate_with<H: Host>(
     ensures same { H.oracle host.new ≡ H.oracle host.old }
     ensures begins { BeginWith cache.old cache.new }
 {
-    let variables = initial_variables(alloc, globals)?;
+    let variables = initial_variables(alloc, host.reserved(), globals)?;
     let mut evaluator = Evaluator {
         alloc,
         cache: mem::replace(cache, Cache::new(alloc)),

@@ -12,8 +12,8 @@ abbrev pub prefixed : {A : Type 0} → List A → Answer (List A) → Answer (Li
 prefixed done more = more >>= (λ rest. Ok (done ++ rest))
 
 -- the parameters of a procedure of this name, in the text that proc has for them
-abbrev pub defined : Text → Text → Answer (List Parameter)
-defined name lists = unless_reserved name (elements_of lists >>= parameters)
+abbrev pub defined : List Text → Text → Text → Answer (List Parameter)
+defined reserved name lists = unless_reserved reserved name (elements_of lists >>= parameters)
 
 -- the variables and the items of one list of a foreach
 abbrev pub one_loop : Text × Text → Answer Items

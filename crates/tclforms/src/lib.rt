@@ -1,6 +1,6 @@
 //! What the words of Tcl's core commands ask for: forms, foreach items, switch bodies, parameters, reserved names.
 //! Takes memory and touches nothing else.
-//! Used by tclcommands, tclcontrol, tclevaluator, modulefile and defaultfiles.
+//! Used by tclcommands, tclcontrol, tclevaluator and modulefile.
 #![tactic(auto)]
 
 mod calls;
@@ -23,6 +23,6 @@ pub use commands::core_form;
 pub use form::{Form, Patterns, Simple};
 pub use loops::Loops;
 pub use messages::{cannot_unset, no_command, outside_loop};
-pub use names::{is_reserved, is_unsupported, is_unsupported_in_modulefiles};
+pub use names::{is_in, is_reserved, is_unsupported};
 pub use procedures::parameters;
 pub use words::increase_of;

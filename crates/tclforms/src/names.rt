@@ -1,7 +1,7 @@
 //! The names of commands that are reserved: no procedure may have them.
 ghost use Rattle.std.specs.Prelude.{◌≡◌, map, is_some};
 ghost use Rattle.tclvalue.specs.Commands.{command_named};
-ghost use Rattle.tclrules.specs.Names.{is_among, is_reserved, core_commands, unsupported_commands, module_commands, unsupported_module_commands};
+ghost use Rattle.tclrules.specs.Names.{is_among, is_reserved, core_commands, unsupported_commands};
 
 /// Commands of Tcl that are unsupported.
 const UNSUPPORTED: [&str; 57] = [
@@ -75,57 +75,8 @@ const CORE: [&str; 21] = [
     "proc", "return", "break", "continue", "exit", "error", "catch", "info", "global", "puts",
 ];
 
-/// Commands of modulefiles and of default files.
-const MODULES: [&str; 13] = [
-    "setenv",
-    "prepend-path",
-    "append-path",
-    "pushenv",
-    "unsetenv",
-    "remove-path",
-    "conflict",
-    "prereq",
-    "module-whatis",
-    "module-info",
-    "getenv",
-    "is-loaded",
-    "module-version",
-];
-
-/// Commands of modulefiles that are unsupported.
-const UNSUPPORTED_IN_MODULEFILES: [&str; 28] = [
-    "module",
-    "depends-on",
-    "set-alias",
-    "set-function",
-    "system",
-    "uname",
-    "source-sh",
-    "x-resource",
-    "chdir",
-    "family",
-    "complete",
-    "module-alias",
-    "module-virtual",
-    "module-tag",
-    "module-hide",
-    "module-forbid",
-    "prereq-all",
-    "prereq-any",
-    "module-help",
-    "is-avail",
-    "is-saved",
-    "is-used",
-    "unset-alias",
-    "unset-function",
-    "uncomplete",
-    "variant",
-    "getvariant",
-    "versioncmp",
-];
-
 /// Whether a name is one of these.
-fn is_in(names: &[&str], name: &str) -> bool
+pub fn is_in(names: &[&str], name: &str) -> bool
     ensures { result ≡ is_among (map (λ n. n.now) names.now) name.now }
 {
     let mut rest = names;
@@ -161,29 +112,9 @@ fn is_of_values(name: &str) -> bool
     is_in(&VALUES, name)
 }
 
-/// Whether a command of modulefiles or default files has this name (modulefile(5)).
-#[tactic(auto, unfolding(tclrules::specs::Names::module_commands))]
-fn is_of_modules(name: &str) -> bool
-    ensures { result ≡ is_among module_commands name.now }
+/// Whether no procedure may have this name: that of any command of Tcl, supported or not, or one that the host reserves.
+pub fn is_reserved(of_host: &[&str], name: &str) -> bool
+    ensures { result ≡ is_reserved (map (λ n. n.now) of_host.now) name.now }
 {
-    is_in(&MODULES, name)
-}
-
-/// Whether modulefile(5) has a command of this name that is unsupported.
-#[tactic(auto, unfolding(tclrules::specs::Names::unsupported_module_commands))]
-pub fn is_unsupported_in_modulefiles(name: &str) -> bool
-    ensures { result ≡ is_among unsupported_module_commands name.now }
-{
-    is_in(&UNSUPPORTED_IN_MODULEFILES, name)
-}
-
-/// Whether no procedure may have this name: that of any command of Tcl or modulefiles, supported or not.
-pub fn is_reserved(name: &str) -> bool
-    ensures { result ≡ is_reserved name.now }
-{
-    is_core(name)
-        || is_of_values(name)
-        || is_unsupported(name)
-        || is_of_modules(name)
-        || is_unsupported_in_modulefiles(name)
+    is_core(name) || is_of_values(name) || is_unsupported(name) || is_in(of_host, name)
 }

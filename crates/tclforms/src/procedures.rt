@@ -41,15 +41,22 @@ fn parameters_of(alloc: Global, lists: &[String]) -> Result<Vec<Parameter>, Valu
     Ok(parameters)
 }
 
-/// The parameters of a procedure of this name, in the text that proc(n) has for them.
+/// The parameters of a procedure of this name, in the text that proc(n) has for them. `reserved` are the names that the
+/// host reserves.
 ///
-/// Errors: `TclError` (13) where the name is reserved, where the text or one of its elements is no list, and where an
+/// Errors: `TclError` (13) where the name is reserved or one of Tcl's commands, where the text or one of its elements is no list, and where an
 /// element has no name or more than a name and a default; `Text` (12) where a list is too long; `OutOfMemory` (11). The
 /// name is judged first, and then the parameters from left to right.
-pub fn parameters(alloc: Global, name: &str, lists: &str) -> Result<Vec<Parameter>, ValueFault>
-    ensures { Gives reason_of (λ ps. map parameter_view ps.items) result (defined name.now lists.now) }
+pub fn parameters(
+    alloc: Global,
+    reserved: &[&str],
+    name: &str,
+    lists: &str,
+) -> Result<Vec<Parameter>, ValueFault>
+    ensures { Gives reason_of (λ ps. map parameter_view ps.items) result
+        (defined (map (λ n. n.now) reserved.now) name.now lists.now) }
 {
-    if is_reserved(name) {
+    if is_reserved(reserved, name) {
         return Err(cannot_redefine(alloc, name));
     }
     let lists = elements(alloc, lists)?;

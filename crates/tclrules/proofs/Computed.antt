@@ -17,7 +17,8 @@ use Rattle.tclvalue.specs.Messages.{divide_by_zero}
 use Rattle.tclvalue.specs.Characters.{white_space}
 use Rattle.tclrules.specs.Derivation.{Outcome, World, BadText, TooManyCommands, TooDeep, ValueTooLong, ByHost}
 use Rattle.tclrules.specs.Messages.{no_variable}
-use Rattle.tclrules.specs.Names.{unsupported_commands, core_commands, module_commands, unsupported_module_commands}
+use Rattle.tclrules.specs.Names.{unsupported_commands, core_commands}
+use Rattle.tclrules.specs.Recording.{commands_of_recorder}
 use Rattle.tclrules.specs.Forms.{core_form}
 use Rattle.tclrules.specs.Playing.{Played}
 use Rattle.tclrules.specs.Plans.{Completion}
@@ -30,7 +31,7 @@ viewed view None = None
 viewed view (Some (o, w)) = Some (view o w)
 
 pub computed : {A : Type 0} → Setting → (Outcome Completion → World → A) → ℕ → Option A
-unfolding chars digits encode braced_at scan whole_script script_with command_at word_at unexpanded_word_at braced_word_at quoted_word_at quotes_at parts_with part_at dollar_at backslash_at bracket_at after_expansion inner_at mark_at after_white operand_at after_number after_digits quoted_at expr_at whole_at chain_at climb_at prefix_at below_at numeral list_of list_at element_at piece_of piece_at divide_by_zero white_space no_variable unsupported_commands core_commands module_commands unsupported_module_commands core_form
+unfolding chars digits encode braced_at scan whole_script script_with command_at word_at unexpanded_word_at braced_word_at quoted_word_at quotes_at parts_with part_at dollar_at backslash_at bracket_at after_expansion inner_at mark_at after_white operand_at after_number after_digits quoted_at expr_at whole_at chain_at climb_at prefix_at below_at numeral list_of list_at element_at piece_of piece_at divide_by_zero white_space no_variable unsupported_commands core_commands commands_of_recorder core_form
 computed s view steps = viewed view (play_file s steps)
 
 pub is_viewed : {A : Type 0} (s : Setting) (view : Outcome Completion → World → A) (steps : ℕ) → viewed view (play_file s steps) ≡ computed s view steps

@@ -82,7 +82,7 @@ pub agree : {J R : Type 0} {may_lack_memory : Bool} {first : Oracle} {most : ℕ
 agree second h ends t u = tt
 agree second h (counts g d) t u = agree second h d t u
 agree second h (meets_limit g) t u = tt
-agree second h (consults {words = words} {w = w} d) t u = (h w.trace.records words t.0 u.0, agree second h d t.1 u.1)
+agree second h (consults {words = words} {w = w} d) t u = (h.1 w.trace.records words t.0 u.0, agree second h d t.1 u.1)
 agree second h (reads d) t u = absurd (let e : true ≡ false = t.0 in cc)
 agree second h (runs d c) t u = (agree second h d t.0 u.0, agree second h c t.1 u.1)
 agree second h (halts d) t u = agree second h d t u

@@ -13,7 +13,7 @@ of_playing : {A : Type 0} (s : Setting) (view : Outcome Completion → World →
 of_playing s view a steps None e h = absurd (cc)
 of_playing s view a steps (Some (o, w)) e h =
     let same : view o w ≡ a = cc in
-    (o, w, derived s.oracle s.limits.commands (rule s.limits.value_bytes) steps (plan_of s.limits s.script s.globals) (first s.trace) o w e, same)
+    (o, w, derived s.oracle s.limits.commands (rule s.limits.value_bytes) steps (plan_of s.limits s.script s.oracle.reserved s.globals) (first s.trace) o w e, same)
 
 pub shows : {A : Type 0} (s : Setting) (view : Outcome Completion → World → A) (a : A) (steps : ℕ) → computed s view steps ≡ Some a → Shows s view a
 shows s view a steps h = of_playing s view a steps (play_file s steps) refl (is_viewed s view steps ∙ h)

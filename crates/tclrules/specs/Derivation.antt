@@ -139,12 +139,13 @@ abbrev pub asks : Oracle → List CommandWords → Query → Bool
 asks oracle records (Command words) = is_question (oracle.command records words)
 asks oracle records (Variable name) = true
 
--- commands that are no questions for the first oracle and that it doesn't refuse, the second answers alike or refuses
+-- the second oracle reserves the same names; and commands that are no questions for the first and that it doesn't
+-- refuse, the second answers alike or refuses
 abbrev pub AgreesUnasked : Oracle → Oracle → Type 0
 AgreesUnasked first second =
-    (records : List CommandWords) (words : List Text) → is_question (first.command records words) ≡ false
-    → is_refusal (first.command records words) ≡ false
-    → AnswersOrRefuses first second records (Command words)
+    (second.reserved ≡ first.reserved) × ((records : List CommandWords) (words : List Text)
+    → is_question (first.command records words) ≡ false → is_refusal (first.command records words) ≡ false
+    → AnswersOrRefuses first second records (Command words))
 
 -- the second records are the first with the additions of the oracle's answers to some commands
 pub data Grows (oracle : Oracle) : List CommandWords → List CommandWords → Type 0 where

@@ -9,9 +9,9 @@ use Rattle.tclrules.specs.Plans.{Completion, Step}
 use Rattle.tclrules.specs.Rules.{rule, file}
 use Rattle.tclrules.specs.declared.limits.Limits.{Limits}
 
--- the plan of a script with these global variables; a depth above 200 counts as 200
-abbrev pub plan_of : Limits → Text → Variables → Step
-plan_of l script globals = file (min l.depth 200) script (start globals)
+-- the plan of a script with these reserved names and global variables; a depth above 200 counts as 200
+abbrev pub plan_of : Limits → Text → List Text → Variables → Step
+plan_of l script reserved globals = file (min l.depth 200) script (start reserved globals)
 
 -- the world before a script: nothing is counted yet
 abbrev pub first : Trace → World
@@ -22,7 +22,7 @@ first trace = record { used = 0; trace = trace }
 abbrev pub HasOutcome : Bool → Limits → Text → Variables → Oracle → Trace → Outcome Completion → World → Type 0
 HasOutcome may_lack_memory l script globals oracle trace o w = Eval may_lack_memory oracle l.commands
     (rule l.value_bytes)
-    (plan_of l script globals) (first trace) o w
+    (plan_of l script oracle.reserved globals) (first trace) o w
 
 -- the line, from 1, of an offset in a script, which counts the bytes before it
 abbrev pub line_at : Text → ℕ → ℕ
@@ -66,4 +66,4 @@ PreservedByAnswers oracle holds = (rs : List CommandWords) (words : List Text) �
 -- a script evaluated by the function play, with at most so many steps one inside the other
 abbrev pub play_file : Setting → ℕ → Played Completion
 play_file s steps = play s.oracle s.limits.commands (rule s.limits.value_bytes) steps
-    (plan_of s.limits s.script s.globals) (first s.trace)
+    (plan_of s.limits s.script s.oracle.reserved s.globals) (first s.trace)

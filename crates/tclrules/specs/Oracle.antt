@@ -21,8 +21,10 @@ pub data OracleAnswer : Type 0 where
   LeftOut : Text → Bool → OracleAnswer
   Refused : ℕ → Option Text → Bool → OracleAnswer
 
--- the answers to the words of a command and to the name of an environment variable, from the records so far
+-- the names that no procedure may have, and the answers to the words of a command and to the name of an environment
+-- variable, from the records so far
 pub record Oracle : Type 0 where
+  pub reserved : List Text
   pub command : List CommandWords → List Text → OracleAnswer
   pub variable : List CommandWords → Text → Option Text
 

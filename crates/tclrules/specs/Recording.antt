@@ -23,6 +23,10 @@ abbrev pub message_answer : Option Text → OracleAnswer
 message_answer (Some t) = Done [] (Message t) false
 message_answer None = Unknown false
 
+-- the names of its commands but puts, which is Tcl's: no procedure may have them
+unfoldable pub commands_of_recorder : List Text
+commands_of_recorder = codes "setenv" ∷ codes "mode" ∷ codes "conflict" ∷ []
+
 -- setenv is recorded, puts is a message, the mode is a question, conflict is refused, and no other command is there
 abbrev pub named_answer : Text → Text → CommandWords → OracleAnswer
 named_answer mode name words =

@@ -216,8 +216,8 @@ abbrev pub parameters : List Text → Answer (List Parameter)
 parameters [] = Ok []
 parameters (p ∷ ps) = elements_of p >>= parameter >>= (λ q. parameters ps >>= (λ qs. Ok (q ∷ qs)))
 
-abbrev pub unless_reserved : Text → Answer (List Parameter) → Answer (List Parameter)
-unless_reserved name ps = if is_reserved name then Err (error (cannot_redefine name)) else ps
+abbrev pub unless_reserved : List Text → Text → Answer (List Parameter) → Answer (List Parameter)
+unless_reserved of_host name ps = if is_reserved of_host name then Err (error (cannot_redefine name)) else ps
 
 abbrev pub with_procedure : State → Text → Procedure → State
 with_procedure s name p = record s { procedures = store s.procedures name p }
@@ -281,7 +281,7 @@ form b (While c t) s k = Runs (job.While b.remaining c t s) (on_normal k)
 form b (For t c n u) s k = body b t s (on_normal (λ v s'. Runs (job.For b.remaining c n u s') (on_normal k)))
 form b (Foreach ps t) s k = given (loops ps) s (λ ls. Runs (job.Foreach b.remaining ls t s) (on_normal k))
 form b (Switch by_glob t ps) s k = otherwise b (chosen by_glob t ps) s k
-form b (Define name args t) s k = given (unless_reserved name (elements_of args >>= parameters)) s
+form b (Define name args t) s k = given (unless_reserved s.reserved name (elements_of args >>= parameters)) s
     (λ ps. k [] (with_procedure s name (record { parameters = ps; body = t })))
 form b (Return t) s k = ended (Returned t s)
 form b Break s k = ended (Broken s)

@@ -3,7 +3,7 @@ use Rattle.std.specs.Prelude.{◌≡◌, ℕ, Bool, false, List, [], ◌∷◌, 
 use Rattle.tclchars.specs.Runs.{Text}
 use Rattle.tclrules.specs.Oracle.{CommandWords, Oracle, Trace, Unknown}
 use Rattle.tclrules.specs.Derivation.{Halt, Outcome, Ended, Halted, World}
-use Rattle.tclrules.specs.Recording.{answer_of, value_in}
+use Rattle.tclrules.specs.Recording.{commands_of_recorder, answer_of, value_in}
 use Rattle.tclrules.specs.Plans.{Completion, Normal, Raised, Returned, Broken, Continued}
 use Rattle.tclrules.specs.Meaning.{Setting, EvaluatesTo, line_at}
 use Rattle.tclrules.specs.declared.limits.Limits.{Limits}
@@ -27,11 +27,15 @@ empty_trace = record { records = []; messages = []; asked = false; refused = Non
 
 -- a host that has no command and no environment
 abbrev pub nobody : Oracle
-nobody = record { command = λ records words. Unknown false; variable = λ records name. None }
+nobody = record { reserved = []; command = λ records words. Unknown false; variable = λ records name. None }
 
 -- the example host in mode unload, with one variable in its environment
 abbrev pub recording : Oracle
-recording = record { command = answer_of (codes "unload"); variable = value_in ((codes "HOME", codes "/home/me") ∷ []) }
+recording = record {
+  reserved = commands_of_recorder;
+  command = answer_of (codes "unload");
+  variable = value_in ((codes "HOME", codes "/home/me") ∷ []);
+}
 
 -- a script without variables, within these limits
 abbrev pub within : Limits → Text → Setting

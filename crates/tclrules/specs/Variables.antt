@@ -41,17 +41,19 @@ pub record Procedure : Type 0 where
   pub parameters : List Parameter
   pub body : Text
 
--- the state of an evaluation: the global variables, the frame of the procedure that runs, if one does, the procedures
--- by name, and the offset of the current command of the file, in bytes
+-- the state of an evaluation: the names that the host reserves, the global variables, the frame of the procedure that
+-- runs, if one does, the procedures by name, and the offset of the current command of the file, in bytes
 pub record State : Type 0 where
+  pub reserved : List Text
   pub globals : Variables
   pub frame : Option Frame
   pub procedures : List (Text × Procedure)
   pub offset : ℕ
 
--- the state before a script with these global variables
-abbrev pub start : Variables → State
-start globals = record { globals = store_all [] globals; frame = None; procedures = []; offset = 0 }
+-- the state before a script with these reserved names and global variables
+abbrev pub start : List Text → Variables → State
+start reserved globals =
+    record { reserved = reserved; globals = store_all [] globals; frame = None; procedures = []; offset = 0 }
 
 abbrev pub in_frame : State → Option Frame → State
 in_frame s f = record s { frame = f }

@@ -32,13 +32,13 @@ pub fn endless()
         → HasNoEnd s → (w : World) × EvaluatesTo (limited_to n s) (Halted TooManyCommands) w }
 {}
 
-/// Where a second oracle answers each consultation of an evaluation as the first does, or refuses it, the outcome is
-/// the same, or a refusal. Where nothing was asked and nothing refused, it is enough that it does so for commands that
-/// are no questions and that the first doesn't refuse.
+/// Where a second oracle reserves the same names, and answers each consultation of an evaluation as the first does, or
+/// refuses it, the outcome is the same, or a refusal. Where nothing was asked and nothing refused, it is enough that it
+/// does so for commands that are no questions and that the first doesn't refuse.
 pub fn two_oracles()
     ensures each { (s : Setting) (second : Oracle) (o o2 : Outcome Completion) (w w2 : World) (d : EvaluatesTo s o w)
-        → Throughout (AnswersOrRefuses s.oracle second) d → EvaluatesTo (with_oracle second s) o2 w2
-        → IsSameOrRefused o w o2 w2 }
+        → second.reserved ≡ s.oracle.reserved → Throughout (AnswersOrRefuses s.oracle second) d
+        → EvaluatesTo (with_oracle second s) o2 w2 → IsSameOrRefused o w o2 w2 }
     ensures unasked { (s : Setting) (second : Oracle) (o o2 : Outcome Completion) (w w2 : World)
         → EvaluatesTo s o w → w.trace.asked ≡ false → ((n : ℕ) → ¬ (o ≡ Halted (ByHost n)))
         → AgreesUnasked s.oracle second → EvaluatesTo (with_oracle second s) o2 w2 → IsSameOrRefused o w o2 w2 }

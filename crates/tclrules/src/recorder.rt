@@ -1,7 +1,7 @@
 //! A host in memory, as an example and for tests.
 ghost use Rattle.std.specs.Prelude.{◌≡◌, ◌++◌, ◌∷◌, [], IfOk, OnOk, OnErr, string_bytes, map};
 ghost use Rattle.std.specs.Option.{option_map};
-ghost use Rattle.tclrules.specs.Recording.{record_texts, pair_texts, message_in};
+ghost use Rattle.tclrules.specs.Recording.{commands_of_recorder, record_texts, pair_texts, message_in};
 ghost use Rattle.tclrules.specs.Variables.{lookup};
 
 use crate::host::{Host, HostAnswer};
@@ -25,6 +25,17 @@ pub struct Recorder {
     pub asked: bool,
     /// The number by which a command was refused last.
     pub refused: Option<u16>,
+}
+
+/// The names of its commands but `puts`, which is Tcl's.
+const RESERVED: [&str; 3] = ["setenv", "mode", "conflict"];
+
+/// The names that no procedure may have.
+#[tactic(auto, unfolding(crate::specs::Recording::commands_of_recorder))]
+fn reserved() -> &'static [&'static str]
+    ensures { map (λ n. n.now) result.now ≡ commands_of_recorder }
+{
+    &RESERVED
 }
 
 /// A copy of the words.
@@ -92,7 +103,7 @@ fn value_of(
 impl Host for Recorder {
     ghost use Rattle.std.specs.Prelude.{string_bytes, map, option_map};
     ghost use Rattle.tclrules.specs.Oracle.{unnamed};
-    ghost use Rattle.tclrules.specs.Recording.{answer_of, record_texts, pair_texts, value_in};
+    ghost use Rattle.tclrules.specs.Recording.{commands_of_recorder, answer_of, record_texts, pair_texts, value_in};
 
     ghost trace = { λ r. record {
       records = map record_texts r.records.items;
@@ -102,9 +113,14 @@ impl Host for Recorder {
     } };
 
     ghost oracle = { λ r. record {
+      reserved = commands_of_recorder;
       command = answer_of (string_bytes r.mode);
       variable = value_in (pair_texts r.environment.items);
     } };
+
+    fn reserved(&self) -> &'static [&'static str] {
+        reserved()
+    }
 
     fn command(&mut self, words: &[String]) -> HostAnswer {
         let [name, ..] = words else {

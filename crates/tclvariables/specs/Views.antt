@@ -26,6 +26,7 @@ procedure_view p = record { parameters = map parameter_view p.parameters.items; 
 -- all of them are the state of the rules
 abbrev pub variables_view : Inside → State
 variables_view v = record {
+  reserved = map (λ n. n.now) v.reserved.now;
   globals = texts_of v.globals.entries;
   frame = v.local;
   procedures = map (λ e. (string_bytes e.0, procedure_view e.1.value)) v.procedures.entries;

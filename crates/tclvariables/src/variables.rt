@@ -1,5 +1,5 @@
 //! All that an evaluation has of variables and procedures.
-ghost use Rattle.std.specs.Prelude.{◌≡◌, [], true, string_bytes, OnOk, OnErr, IfOk, option_map, is_some};
+ghost use Rattle.std.specs.Prelude.{◌≡◌, [], true, map, string_bytes, OnOk, OnErr, IfOk, option_map, is_some};
 ghost use Rattle.tclchars.specs.Runs.{Text};
 ghost use Rattle.tclvariables.specs.Contents.{HoldsList};
 ghost use Rattle.tclrules.specs.Variables.{start, in_frame, sees, value_at, with_value, without_value, shared_in, lookup};
@@ -34,12 +34,13 @@ pub struct Procedure {
     pub body: String,
 }
 
-/// The global variables, the frame of the procedure that runs, the procedures, and how many bytes of the file precede
-/// its current command.
+/// The names that the host reserves, the global variables, the frame of the procedure that runs, the procedures, and how
+/// many bytes of the file precede its current command.
 ///
 /// A call that fails for `AllocError` has changed nothing.
 #[derive(Drop)]
 pub struct Variables {
+    reserved: &'static [&'static str],
     globals: Table,
     local: Option<Local>,
     procedures: IndexMap<String, Rc<Procedure>>,
@@ -57,16 +58,24 @@ impl Model for Variables {
 }
 
 impl Variables {
-    /// No variables and no procedures.
-    pub fn new(alloc: Global) -> Variables
-        ensures { result ≡ start [] }
+    /// No variables and no procedures; no procedure may have one of the names `reserved`.
+    pub fn new(alloc: Global, reserved: &'static [&'static str]) -> Variables
+        ensures { result ≡ start (map (λ n. n.now) reserved.now) [] }
     {
         Variables {
+            reserved,
             globals: IndexMap::new(alloc),
             local: None,
             procedures: IndexMap::new(alloc),
             offset: 0,
         }
+    }
+
+    /// The names that the host reserves.
+    pub fn reserved(&self) -> &'static [&'static str]
+        ensures { map (λ n. n.now) result.now ≡ self.now.reserved }
+    {
+        self.reserved
     }
 
     /// Whether a procedure runs.
