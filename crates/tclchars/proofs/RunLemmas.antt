@@ -1,14 +1,16 @@
 -- Runs of bytes at the front of a text.
-use Rattle.std.proofs.Common.{◌≡◌, ℕ, zero, suc, ◌+◌, ◌<◌, ◌≤◌, List, [], ◌∷◌, ◌++◌, length, get_or, take, drop, Bool, true, false, refl, sym, ap, ◌∙◌, arith, add-one, append_assoc, append-nil, add-zero}
-use Rattle.std.proofs.lemmas.List.{drop_more, take_more, length-drop, get_or-drop}
-use Rattle.std.proofs.lemmas.Bool.Decides.{nat_tests}
+use Rattle.std.proofs.Common.{◌≡◌, ℕ, zero, suc, ◌+◌, ◌<◌, ◌≤◌, List, [], ◌∷◌, ◌++◌, length, get_or, take, drop, Bool, true, false, refl, sym, ap, ◌∙◌, subst, arith, add-one, append_assoc, not, cond, ltb, Some, None, unwrap_or}
 use borrow.Author.Count.{below_more}
+use Rattle.std.specs.List.{prefix_len, position_or_len}
+use Rattle.std.proofs.lemmas.List.{drop_more, take_more}
+use Rattle.std.proofs.lemmas.List.Sums.{prefix_len-le-length, prefix_len_passes, prefix_len_stops, take_while-cons}
+use Rattle.std.proofs.lemmas.Bool.Decides.{nat_tests}
 use Rattle.std.specs.Str.{IsUtf8, IsCharBoundary}
 use Rattle.std.proofs.lemmas.Str.{IsCharBoundary-start, IsCharBoundary-after_ascii, IsCharBoundary-before_ascii, IsUtf8-drop}
 use Rattle.tclchars.specs.Runs.{take_while, drop_while}
 use Rattle.tclchars.specs.Classes.{in_class}
 use Rattle.tclchars.specs.declared.runs.Class.{Class}
-use Rattle.tclchars.specs.declared.runs.Class.TheVariants.{Blank, Gap, Space, BlankOrTab, Literal, BareScript, BareBracket, BareIndex, BareQuote, BareElement, Name, InBracedName, Unescaped}
+use Rattle.tclchars.specs.declared.runs.Class.TheVariants.{Blank, Gap, Space, BlankOrTab, Literal, BareScript, BareBracket, BareIndex, BareQuote, BareElement, QuotedElement, Name, InBracedName, Unescaped}
 
 pub take_while-cons_true : (p : ℕ → Bool) (b : ℕ) (bs : List ℕ) → p b ≡ true → take_while p (b ∷ bs) ≡ b ∷ take_while p bs
 take_while-cons_true p b bs h = rw h refl
@@ -50,15 +52,35 @@ passed-more p bs n h t s =
       each = below_more _ _ s.each t;
     }
 
-stops : (p : ℕ → Bool) (ys : List ℕ) → (0 < length ys → p (get_or ys 0 0) ≡ false) → (take_while p ys ≡ []) × (drop_while p ys ≡ ys)
-stops p [] h = (take_while-nil p, drop_while-nil p)
-stops p (y ∷ ys) h = (take_while-cons_false p y ys (h (omega arith)), drop_while-cons_false p y ys (h (omega arith)))
+-- as many bytes pass as stand before the first that does not
+not_not : (p : ℕ → Bool) (bs : List ℕ) → position_or_len (λ b. not (p b)) bs ≡ prefix_len p bs
+not_not p [] = refl
+not_not p (b ∷ bs) = cases (not_not p bs) (p b) refl where
+  cases : position_or_len (λ b. not (p b)) bs ≡ prefix_len p bs → (t : Bool) → p b ≡ t → position_or_len (λ b. not (p b)) (b ∷ bs) ≡ prefix_len p (b ∷ bs)
+  cases more true e = rw e (ap (λ n. 1 + n) more)
+  cases more false e = rw e refl
 
--- where the next byte fails the test, the two parts are those of a cut there
-pub passed-end : (p : ℕ → Bool) (bs : List ℕ) (n : ℕ) → Passed p bs n → n ≤ length bs → (n < length bs → p (get_or bs n 0) ≡ false) → (take n bs ≡ take_while p bs) × (drop n bs ≡ drop_while p bs)
-passed-end p bs n s le stop =
-    let here = stops p (drop n bs) (λ h. rw (get_or-drop) (simp add-zero (stop (omega (arith, length-drop n bs))))) in
-    (sym (s.run ∙ ap (λ ys. take n bs ++ ys) here.0 ∙ append-nil (take n bs)), sym (s.rest ∙ here.1))
+pub run_end : (p : ℕ → Bool) (bs : List ℕ) → unwrap_or (cond (ltb (position_or_len (λ b. not (p b)) bs) (length bs)) (Some (position_or_len (λ b. not (p b)) bs)) None) (length bs) ≡ prefix_len p bs
+run_end p bs = rw (not_not p bs) (cases (ltb (prefix_len p bs) (length bs)) refl) where
+  cases : (t : Bool) → ltb (prefix_len p bs) (length bs) ≡ t → unwrap_or (cond (ltb (prefix_len p bs) (length bs)) (Some (prefix_len p bs)) None) (length bs) ≡ prefix_len p bs
+  cases true e = rw e refl
+  cases false e =
+      let le : prefix_len p bs ≤ length bs = prefix_len-le-length p bs in
+      rw e (grind (arith, nat_tests))
+
+-- the cut behind the bytes that pass is that of the run
+pub take_run : (p : ℕ → Bool) (bs : List ℕ) → take (prefix_len p bs) bs ≡ take_while p bs
+take_run p [] = refl
+take_run p (b ∷ bs) = take_while-cons p b bs ∙ ap (λ xs. cond (p b) (b ∷ xs) []) (take_run p bs)
+
+pub drop_run : (p : ℕ → Bool) (bs : List ℕ) → drop (prefix_len p bs) bs ≡ drop_while p bs
+drop_run p [] = refl
+drop_run p (b ∷ bs) = cases (drop_run p bs) (p b) refl where
+  cases : drop (prefix_len p bs) bs ≡ drop_while p bs → (t : Bool) → p b ≡ t → drop (prefix_len p (b ∷ bs)) (b ∷ bs) ≡ drop_while p (b ∷ bs)
+  cases more true e =
+      let next : suc (prefix_len p bs) ≡ 1 + prefix_len p bs = omega arith in
+      rw e (subst (λ n. drop n (b ∷ bs) ≡ drop_while p bs) next more)
+  cases more false e = rw e refl
 
 -- every class but those of bytes that stand for themselves holds ASCII alone
 abbrev pub is_narrow : Class → Bool
@@ -72,6 +94,7 @@ is_narrow BareBracket = false
 is_narrow BareIndex = false
 is_narrow BareQuote = false
 is_narrow BareElement = false
+is_narrow QuotedElement = false
 is_narrow Name = true
 is_narrow InBracedName = false
 is_narrow Unescaped = false
@@ -88,6 +111,7 @@ narrow_ascii BareBracket b n h = cc
 narrow_ascii BareIndex b n h = cc
 narrow_ascii BareQuote b n h = cc
 narrow_ascii BareElement b n h = cc
+narrow_ascii QuotedElement b n h = cc
 narrow_ascii InBracedName b n h = cc
 narrow_ascii Unescaped b n h = cc
 
@@ -98,6 +122,7 @@ wide_ascii BareBracket b n h = grind (arith, nat_tests)
 wide_ascii BareIndex b n h = grind (arith, nat_tests)
 wide_ascii BareQuote b n h = grind (arith, nat_tests)
 wide_ascii BareElement b n h = grind (arith, nat_tests)
+wide_ascii QuotedElement b n h = grind (arith, nat_tests)
 wide_ascii InBracedName b n h = grind (arith, nat_tests)
 wide_ascii Unescaped b n h = grind (arith, nat_tests)
 wide_ascii Blank b n h = cc
@@ -107,12 +132,17 @@ wide_ascii BlankOrTab b n h = cc
 wide_ascii Name b n h = cc
 
 -- a text may be cut behind a run
-pub run_cut : (class : Class) (bs : List ℕ) (n : ℕ) → IsUtf8 bs → Passed (in_class class) bs n → n ≤ length bs → (n < length bs → in_class class (get_or bs n 0) ≡ false) → IsCharBoundary bs n
-run_cut class bs n u s le stop = cases (is_narrow class) refl n s le stop where
-  cases : (t : Bool) → is_narrow class ≡ t → (n : ℕ) → Passed (in_class class) bs n → n ≤ length bs → (n < length bs → in_class class (get_or bs n 0) ≡ false) → IsCharBoundary bs n
-  cases true e zero s le stop = IsCharBoundary-start bs u
-  cases true e (suc m) s le stop = rw (← add-one) (IsCharBoundary-after_ascii bs m u (omega arith) (narrow_ascii class _ e (s.each m (omega arith))))
-  cases false e n s le stop = (le, λ lt big. let small : get_or bs n 0 < 128 = wide_ascii class _ e (stop lt) in absurd (omega arith))
+pub run_cut : (class : Class) (bs : List ℕ) → IsUtf8 bs → IsCharBoundary bs (prefix_len (in_class class) bs)
+run_cut class bs u = cases (is_narrow class) refl _ refl where
+  cases : (t : Bool) → is_narrow class ≡ t → (n : ℕ) → n ≡ prefix_len (in_class class) bs → IsCharBoundary bs n
+  cases true e zero is = IsCharBoundary-start bs u
+  cases true e (suc m) is =
+      let within : suc m ≤ length bs = subst (λ n. n ≤ length bs) (sym is) (prefix_len-le-length (in_class class) bs) in
+      let passes : in_class class (get_or bs m 0) ≡ true = prefix_len_passes (in_class class) bs m 0 (subst (λ n. m < n) is (omega arith)) in
+      subst (IsCharBoundary bs) (add-one m) (IsCharBoundary-after_ascii bs m u (omega arith) (narrow_ascii class _ e passes))
+  cases false e n is =
+      let stops : n < length bs → in_class class (get_or bs n 0) ≡ false = rw is (prefix_len_stops (in_class class) bs 0) in
+      (rw is (prefix_len-le-length (in_class class) bs), λ lt big. let small : get_or bs n 0 < 128 = wide_ascii class _ e (stops lt) in absurd (omega arith))
 
 -- a text that is cut before a mark may be cut after it
 pub mark_cut : (bs following : List ℕ) (i mark : ℕ) → IsUtf8 bs → following ≡ drop i bs → i < length bs → get_or bs i 0 ≡ mark → mark < 128 → IsCharBoundary following 1

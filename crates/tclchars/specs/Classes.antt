@@ -4,7 +4,7 @@ use Rattle.tclchars.specs.Bytes.{quote, dollar, right_parenthesis, left_bracket,
 use Rattle.tclchars.specs.Runs.{Text}
 use Rattle.tclchars.specs.Backslash.{is_blank_or_tab}
 use Rattle.tclchars.specs.declared.runs.Class.{Class}
-use Rattle.tclchars.specs.declared.runs.Class.TheVariants.{Blank, Gap, Space, BlankOrTab, Literal, BareScript, BareBracket, BareIndex, BareQuote, BareElement, Name, InBracedName, Unescaped}
+use Rattle.tclchars.specs.declared.runs.Class.TheVariants.{Blank, Gap, Space, BlankOrTab, Literal, BareScript, BareBracket, BareIndex, BareQuote, BareElement, QuotedElement, Name, InBracedName, Unescaped}
 
 -- letters, digits and the underscore, of which the names of variables are made
 abbrev pub is_name : ℕ → Bool
@@ -26,6 +26,7 @@ in_class BareBracket b = not (is_gap b || is_substitution b || b == right_bracke
 in_class BareIndex b = not (is_substitution b || b == right_parenthesis)
 in_class BareQuote b = not (is_substitution b || b == quote)
 in_class BareElement b = not (is_space b || b == backslash)
+in_class QuotedElement b = not (b == quote || b == backslash)
 in_class Name b = is_name b
 in_class InBracedName b = not (b == right_brace)
 in_class Unescaped b = not (b == backslash)

@@ -1,5 +1,5 @@
 //! The faults of texts, with their byte offsets.
-ghost use Rattle.std.specs.Prelude.{◌≡◌, ◌≤◌, Some};
+ghost use Rattle.std.specs.Prelude.{◌≡◌, ◌≤◌, length, suc, Some};
 ghost use Rattle.message.specs.Messages.{text_of};
 ghost use Rattle.tclchars.specs.Faults.{fault_message, fault_number};
 ghost use Rattle.tclchars.specs.Reading.{remaining_of, with_offset};
@@ -125,6 +125,13 @@ impl<T: Drop> From<AllocFailed<T>> for ReadError {
     fn from(_e: AllocFailed<T>) -> ReadError {
         ReadError::Memory
     }
+}
+
+/// How many bytes remain from a mark of one byte on, of which `following` is what follows it.
+pub fn remaining_with_mark(following: &str) -> usize
+    ensures { result ≡ suc (length following.now) }
+{
+    following.len() + 1
 }
 
 /// The fault in a text of `len` bytes, with its offset from the beginning of the text.

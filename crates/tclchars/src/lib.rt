@@ -14,7 +14,9 @@ mod runs;
 pub use backslash::read_backslash;
 pub use braced_text::push_braced_text;
 pub use braces::split_close;
-pub use fault::{Fault, ReadError, TextFault, with_offset};
+pub use fault::{Fault, ReadError, TextFault, remaining_with_mark, with_offset};
 pub use laws::closing_brace;
 pub use limits::{MAX_BYTES, MAX_NESTING};
-pub use runs::{Class, after_mark, begins_class, split_run};
+pub use runs::{
+    Class, after_mark, begins_class, is_blank, is_gap, is_name, is_space, is_special, split_run,
+};

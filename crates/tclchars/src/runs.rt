@@ -1,5 +1,6 @@
 //! Classes of bytes, and the runs of one class that a text begins with (Tcl(n), rules 1 to 9).
 ghost use Rattle.std.specs.Prelude.{◌≡◌, ◌<◌, ◌∷◌, false, MatchOption};
+ghost use Rattle.std.specs.List.{prefix_len};
 ghost use Rattle.tclchars.specs.Bytes.{is_blank, is_end, is_gap, is_special, is_literal, is_space};
 ghost use Rattle.tclchars.specs.Runs.{take_while, drop_while, begins};
 ghost use Rattle.tclchars.specs.Classes.{in_class, begins_in, is_name, is_substitution};
@@ -27,6 +28,8 @@ pub enum Class {
     BareQuote,
     /// What is literal in an element of a list without quotes and braces.
     BareElement,
+    /// What is literal in an element of a list in quotes.
+    QuotedElement,
     /// Letters, digits and the underscore.
     Name,
     /// What a name in braces may hold.
@@ -35,29 +38,29 @@ pub enum Class {
     Unescaped,
 }
 
-/// Whether the byte separates words.
-fn is_blank(b: u8) -> bool
+/// Whether the byte separates words: white space without the newline.
+pub fn is_blank(b: u8) -> bool
     ensures { result ≡ is_blank b }
 {
     b == b' ' || b == b'\t' || b == 11 || b == 12 || b == b'\r'
 }
 
-/// Whether the byte may be between commands.
-fn is_gap(b: u8) -> bool
+/// Whether the byte may be between commands: white space or a semicolon.
+pub fn is_gap(b: u8) -> bool
     ensures { result ≡ is_gap b }
 {
     is_blank(b) || b == b'\n' || b == b';'
 }
 
 /// Whether the byte is white space.
-fn is_space(b: u8) -> bool
+pub fn is_space(b: u8) -> bool
     ensures { result ≡ is_space b }
 {
     is_blank(b) || b == b'\n'
 }
 
 /// Whether the byte has a meaning of its own somewhere in a script.
-fn is_special(b: u8) -> bool
+pub fn is_special(b: u8) -> bool
     ensures { result ≡ is_special b }
 {
     b == b'"' || b == b'$' || b == b'[' || b == b']' || b == b'{' || b == b'}' || b == b'\\'
@@ -71,7 +74,7 @@ fn is_substitution(b: u8) -> bool
 }
 
 /// Whether names of variables are made of the byte.
-fn is_name(b: u8) -> bool
+pub fn is_name(b: u8) -> bool
     ensures { result ≡ is_name b }
 {
     b.is_ascii_alphanumeric() || b == b'_'
@@ -92,6 +95,7 @@ fn in_class(class: Class, b: u8) -> bool
         Class::BareIndex => !(is_substitution(b) || b == b')'),
         Class::BareQuote => !(is_substitution(b) || b == b'"'),
         Class::BareElement => !(is_space(b) || b == b'\\'),
+        Class::QuotedElement => !(b == b'"' || b == b'\\'),
         Class::Name => is_name(b),
         Class::InBracedName => b != b'}',
         Class::Unescaped => b != b'\\',
@@ -108,17 +112,20 @@ pub fn begins_class(text: &str, class: Class) -> bool
     }
 }
 
+/// How many bytes of that class the bytes begin with.
+fn run_length(bytes: &[u8], class: Class) -> usize
+    ensures { result ≡ prefix_len (in_class class) bytes.now }
+{
+    let end = bytes.iter().position(|b| !in_class(class, *b));
+    end.unwrap_or(bytes.len())
+}
+
 /// The longest run of bytes of that class that the text begins with, and the rest.
 pub fn split_run(text: &str, class: Class) -> (&str, &str)
     ensures run { result.0.now ≡ take_while (in_class class) text.now }
     ensures rest { result.1.now ≡ drop_while (in_class class) text.now }
 {
-    let bytes = text.as_bytes();
-    let mut n = 0;
-    while n < bytes.len() && in_class(class, bytes[n]) {
-        n += 1;
-    }
-    text.split_at(n)
+    text.split_at(run_length(text.as_bytes(), class))
 }
 
 /// The rest of the text after the mark, an ASCII byte, where the text begins with it.

@@ -1,7 +1,5 @@
 -- The turns of the loop that reads a piece.
-use Rattle.std.proofs.Common.{◌≡◌, ℕ, zero, suc, ◌<◌, ◌≤◌, [], ◌∷◌, ◌++◌, length, get_or, Bool, true, false, not, ◌||◌, ◌==◌, Some, None, Ok, Err, refl, sym, ap, subst, ◌∙◌, arith, append-nil}
-use Rattle.std.proofs.lemmas.Bool.Decides.{nat_tests}
-use Rattle.std.specs.Str.{IsCharBoundary}
+use Rattle.std.proofs.Common.{◌≡◌, ℕ, zero, suc, ◌<◌, [], ◌∷◌, ◌++◌, length, Bool, true, false, not, ◌||◌, ◌==◌, Some, None, Ok, Err, refl, sym, ap, subst, ◌∙◌, arith, append-nil}
 use Rattle.tclchars.specs.Bytes.{backslash, AllPass, MayBegin}
 use Rattle.tclchars.specs.Runs.{Text, take_while, drop_while, begins}
 use Rattle.tclchars.specs.Backslash.{after_backslash}
@@ -127,10 +125,3 @@ piece-more end bs value rest run marked following v after value' r m is stands m
 
 pub piece-shorter : (end : End) (rest marked following v after : Text) → marked ≡ drop_while (is_literal_before end) rest → marked ≡ backslash ∷ following → after_backslash following ≡ Some (v, after) → length after < length rest
 piece-shorter end rest marked following v after m is stands = omega (arith, taken_length following v after stands, ap length m, ap length is, back_no_longer (is_literal_before end) rest)
-
--- Cuts
-quote_ascii : (b : ℕ) → is_literal_before Quote b ≡ false → b < 128
-quote_ascii b h = grind (arith, nat_tests)
-
-pub quote_cut : (bs : Text) (n : ℕ) → n ≤ length bs → (n < length bs → is_literal_before Quote (get_or bs n 0) ≡ false) → IsCharBoundary bs n
-quote_cut bs n le stop = (le, λ lt big. let small : get_or bs n 0 < 128 = quote_ascii _ (stop lt) in absurd (omega arith))

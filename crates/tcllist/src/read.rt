@@ -9,13 +9,12 @@ ghost use Rattle.tclchars.specs.declared.fault.TextFault.TheVariants.{OutOfMemor
 ghost use Rattle.tcllist.specs.ListGrammar.{IsList};
 ghost use Rattle.tcllist.specs.ListFaults.{IsListFault};
 ghost use Rattle.tcllist.specs.ListReading.{piece_of, element_end, element_in_braces, quoted_at, element_at, list_at, list_of, ReadsList};
-ghost use Rattle.tcllist.specs.declared.read.End.TheVariants.{Quote};
 ghost use Rattle.tcllist.specs.Ends.{ends_piece, is_literal_before};
 
 use std::alloc::Global;
 use tclchars::{
     Class, Fault, MAX_BYTES, ReadError, TextFault, after_mark, begins_class, read_backslash,
-    split_close, split_run, with_offset,
+    remaining_with_mark, split_close, split_run, with_offset,
 };
 
 /// The elements of a list (Tcl(n), lindex(n)), which white space separates. One in braces is taken as it is; in one in
@@ -95,7 +94,7 @@ fn read_braced(alloc: Global, text: &str) -> Result<(String, &str), ReadError>
         (element_in_braces (suc (length text.now)) (braced_at false 0 text.now)) }
 {
     let Some((inside, rest)) = split_close(text) else {
-        return Err(ReadError::Fault(Fault::OpenBrace(text.len() + 1)));
+        return Err(ReadError::Fault(Fault::OpenBrace(remaining_with_mark(text))));
     };
     require_element_end(rest)?;
     Ok((String::from_str(alloc, inside)?, rest))
@@ -107,7 +106,7 @@ fn read_quoted(alloc: Global, text: &str) -> Result<(String, &str), ReadError>
 {
     let (value, following) = read_piece(alloc, text, End::Quote)?;
     let Some(rest) = after_mark(following, b'"') else {
-        return Err(ReadError::Fault(Fault::OpenQuote(text.len() + 1)));
+        return Err(ReadError::Fault(Fault::OpenQuote(remaining_with_mark(text))));
     };
     require_element_end(rest)?;
     Ok((value, rest))
@@ -139,28 +138,8 @@ fn split_literal(text: &str, end: End) -> (&str, &str)
 {
     match end {
         End::Space => split_run(text, Class::BareElement),
-        End::Quote => split_quoted(text),
+        End::Quote => split_run(text, Class::QuotedElement),
     }
-}
-
-/// Whether the byte is literal in quotes.
-fn is_literal_in_quotes(b: u8) -> bool
-    ensures { result ≡ is_literal_before Quote b }
-{
-    b != b'"' && b != b'\\'
-}
-
-/// The run of bytes that are literal in quotes, with which the text begins, and the rest.
-fn split_quoted(text: &str) -> (&str, &str)
-    ensures run { result.0.now ≡ take_while (is_literal_before Quote) text.now }
-    ensures rest { result.1.now ≡ drop_while (is_literal_before Quote) text.now }
-{
-    let bytes = text.as_bytes();
-    let mut n = 0;
-    while n < bytes.len() && is_literal_in_quotes(bytes[n]) {
-        n += 1;
-    }
-    text.split_at(n)
 }
 
 /// The value of an element up to its end, or up to the end of the text, and the rest.

@@ -1,12 +1,12 @@
 //! Elements as the text of a list (list(n)).
 ghost use Rattle.std.specs.Prelude.{◌≡◌, ◌++◌, ◌≤◌, ◌<◌, ◌∷◌, [], length, map, flat_map, false, true, IfOk, OnOk, MatchOption, string_bytes};
 ghost use Rattle.std.specs.List.{list_all};
-ghost use Rattle.tclchars.specs.Bytes.{is_literal, is_gap, is_special};
+ghost use Rattle.tclchars.specs.Bytes.{is_literal};
 ghost use Rattle.tcllist.specs.ListGrammar.{IsList};
 ghost use Rattle.tcllist.specs.Lists.{needs_escape, begins_needing_escape, begins_bare, is_bare, depth_after, balances, letter_of, escape, escaped, braced, element_text, list_rest, list_text};
 
 use std::alloc::{AllocError, Global};
-use tclchars::{Class, after_mark, split_run};
+use tclchars::{Class, after_mark, is_gap, is_special, split_run};
 
 /// The text of a list with these elements, with one space between them. An element is written as it is, in braces, or
 /// with backslashes, whichever comes first of those that are read again. The error is that a growth was refused.
@@ -38,11 +38,9 @@ fn push_rest(text: &mut String, elements: &[&str]) -> Result<(), AllocError>
     ensures { OnOk result (string_bytes text.new
         ≡ string_bytes text.old ++ list_rest (map (λ e. e.now) elements.now)) }
 {
-    let mut rest = elements;
-    while let [element, after @ ..] = rest {
+    for element in elements {
         text.push(' ')?;
         push_element(text, element)?;
-        rest = after;
     }
     Ok(())
 }
@@ -163,20 +161,6 @@ fn push_escapes(text: &mut String, literal: &str) -> Result<(), AllocError>
         text.push(letter_of(b) as char)?;
         rest = after;
     }
-}
-
-/// Whether the byte may be between commands: white space or a semicolon.
-fn is_gap(b: u8) -> bool
-    ensures { result ≡ is_gap b }
-{
-    b == b' ' || b == b'\t' || b == 11 || b == 12 || b == b'\r' || b == b'\n' || b == b';'
-}
-
-/// Whether the byte has a meaning of its own somewhere in a script.
-fn is_special(b: u8) -> bool
-    ensures { result ≡ is_special b }
-{
-    b == b'"' || b == b'$' || b == b'[' || b == b']' || b == b'{' || b == b'}' || b == b'\\'
 }
 
 /// Whether the byte has a meaning in a list or a script.

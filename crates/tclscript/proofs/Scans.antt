@@ -1,5 +1,5 @@
 -- The loop that passes over bytes.
-use Rattle.std.proofs.Common.{◌≡◌, ℕ, ◌+◌, ◌-◌, ◌<◌, ◌≤◌, [], ◌∷◌, ◌++◌, length, get_or, take, drop, Bool, true, false, ◌||◌, ◌&&◌, ◌==◌, Some, None, refl, sym, ap, subst, ◌∙◌, arith, append_assoc, append-nil}
+use Rattle.std.proofs.Common.{◌≡◌, ℕ, ◌+◌, ◌-◌, ◌<◌, ◌≤◌, [], ◌∷◌, ◌++◌, length, get_or, take, drop, Bool, true, false, ◌&&◌, ◌==◌, Some, None, refl, sym, ap, subst, ◌∙◌, arith, append_assoc, append-nil}
 use Rattle.std.proofs.lemmas.List.{drop_more, take_more, length-drop}
 use Rattle.std.proofs.Math.Seq.{take-length}
 use Rattle.std.proofs.lemmas.Bool.Decides.{nat_tests}
@@ -11,7 +11,7 @@ use Rattle.tclchars.specs.Classes.{is_name}
 use Rattle.tclchars.specs.Runs.{Text, begins}
 use Rattle.tclscript.specs.declared.runs.ScanState.{ScanState}
 use Rattle.tclscript.specs.declared.runs.ScanState.TheVariants.{Blanks, AwaitsNewline, Gap, Comment, Escaped, Name, Colons}
-use Rattle.tclscript.specs.ScanState.{step, step_blanks, step_newline, step_gap, step_comment, step_name, scan, scan_on, put_before}
+use Rattle.tclscript.specs.ScanState.{step, step_blanks, step_newline, step_gap, step_comment, step_name, step_colons, scan, scan_on, put_before}
 use Rattle.tclscript.proofs.Passes.{scan-nil, scan-cons}
 
 -- what was passed over may end here
@@ -73,11 +73,18 @@ gaps_small b after next h = go (is_gap b) (b == backslash && begins newline afte
   go false false true k l m = grind (arith, nat_tests)
   go false false false k l m = absurd (none_some next (rw (k, l, m) at h))
 
-names_small : (colons : Bool) (b : ℕ) (after : Text) (next : ScanState) → step_name colons b after ≡ Some next → b < 128
-names_small colons b after next h = go (is_name b) (b == colon && (colons || begins colon after)) refl refl where
-  go : (t u : Bool) → is_name b ≡ t → (b == colon && (colons || begins colon after)) ≡ u → b < 128
+names_small : (b : ℕ) (after : Text) (next : ScanState) → step_name b after ≡ Some next → b < 128
+names_small b after next h = go (is_name b) (b == colon && begins colon after) refl refl where
+  go : (t u : Bool) → is_name b ≡ t → (b == colon && begins colon after) ≡ u → b < 128
   go true u k l = name_small b k
-  go false true k l = mark_small b colon (colons || begins colon after) (omega arith) l
+  go false true k l = mark_small b colon (begins colon after) (omega arith) l
+  go false false k l = absurd (none_some next (rw (k, l) at h))
+
+colons_small : (b : ℕ) (next : ScanState) → step_colons b ≡ Some next → b < 128
+colons_small b next h = go (is_name b) (b == colon) refl refl where
+  go : (t u : Bool) → is_name b ≡ t → (b == colon) ≡ u → b < 128
+  go true u k l = name_small b k
+  go false true k l = grind (arith, nat_tests)
   go false false k l = absurd (none_some next (rw (k, l) at h))
 
 comment_small : (b : ℕ) (next : ScanState) → step_comment b ≡ next → CanEnd next → b < 128
@@ -96,8 +103,8 @@ ends_small AwaitsNewline b after next h e = joined_small b next h
 ends_small Gap b after next h e = gaps_small b after next h
 ends_small Comment b after next h e = comment_small b next (some_same (step_comment b) next h) e
 ends_small Escaped b after next h e = absurd (comment_some next h e)
-ends_small Name b after next h e = names_small false b after next h
-ends_small Colons b after next h e = names_small true b after next h
+ends_small Name b after next h e = names_small b after next h
+ends_small Colons b after next h e = colons_small b next h
 
 -- a comment goes on
 stops_out : (state : ScanState) (b : ℕ) (after : Text) → step state b after ≡ None → CanEnd state

@@ -4,8 +4,15 @@ use Rattle.tclchars.specs.Runs.{Text, begins}
 use Rattle.tclchars.specs.Bytes.{newline, backslash, is_end, is_gap, quote, right_bracket, right_parenthesis}
 use Rattle.tclchars.specs.declared.runs.Class.{Class}
 use Rattle.tclchars.specs.declared.runs.Class.TheVariants.{BareScript, BareBracket, BareIndex, BareQuote}
+use Rattle.tclscript.specs.declared.context.Nesting.{Nesting}
+use Rattle.tclscript.specs.declared.context.Nesting.TheVariants.{Top, InBrackets}
 use Rattle.tclscript.specs.declared.context.Context.{Context}
 use Rattle.tclscript.specs.declared.context.Context.TheVariants.{InScript, InBracket, InIndex, InQuotes}
+
+-- whether a script is in brackets
+abbrev pub is_nested : Nesting → Bool
+is_nested Top = false
+is_nested InBrackets = true
 
 -- a script in brackets ends at the closing bracket
 abbrev pub script_ends : Bool → Text → Bool

@@ -1,6 +1,6 @@
 -- What is skipped or taken byte by byte (Tcl(n), rules 3, 8 and 10): blanks, gaps between commands with their comments,
 -- and names of variables.
-use Rattle.std.specs.Prelude.{ℕ, [], ◌∷◌, Bool, true, false, ◌||◌, ◌&&◌, ◌==◌, if◌then◌else◌, Option, Some, None}
+use Rattle.std.specs.Prelude.{ℕ, [], ◌∷◌, ◌||◌, ◌&&◌, ◌==◌, if◌then◌else◌, Option, Some, None}
 use Rattle.tclchars.specs.Bytes.{newline, hash, colon, backslash, is_blank, is_gap}
 use Rattle.tclchars.specs.Classes.{is_name}
 use Rattle.tclchars.specs.Runs.{Text, begins}
@@ -26,9 +26,13 @@ abbrev pub step_comment : ℕ → ScanState
 step_comment b = if b == newline then Gap else if b == backslash then Escaped else Comment
 
 -- letters, digits, underscores, and runs of two or more colons
-abbrev pub step_name : Bool → ℕ → Text → Option ScanState
-step_name colons b after =
-    if is_name b then Some Name else if b == colon && (colons || begins colon after) then Some Colons else None
+abbrev pub step_name : ℕ → Text → Option ScanState
+step_name b after =
+    if is_name b then Some Name else if b == colon && begins colon after then Some Colons else None
+
+-- the same after a colon of such a run
+abbrev pub step_colons : ℕ → Option ScanState
+step_colons b = if is_name b then Some Name else if b == colon then Some Colons else None
 
 -- the state after a byte that others follow; None where the scan ends before it
 abbrev pub step : ScanState → ℕ → Text → Option ScanState
@@ -37,8 +41,8 @@ step AwaitsNewline b after = step_newline b
 step Gap b after = step_gap b after
 step Comment b after = Some (step_comment b)
 step Escaped b after = Some Comment
-step Name b after = step_name false b after
-step Colons b after = step_name true b after
+step Name b after = step_name b after
+step Colons b after = step_colons b
 
 -- the byte as the first of those that are taken
 abbrev pub put_before : ℕ → Text × Text → Text × Text

@@ -1,8 +1,30 @@
 //! Where the parts of a word are, and what ends words, commands and scripts there (Tcl(n), rules 1 to 6).
-ghost use Rattle.std.specs.Prelude.{◌≡◌};
-ghost use Rattle.tclscript.specs.Ends.{word_ends, command_ends, script_ends, ends_at, parts_end, bare, class_of};
+ghost use Rattle.std.specs.Prelude.{◌≡◌, ◌&&◌, ◌==◌};
+ghost use Rattle.tclchars.specs.Bytes.{right_bracket};
+ghost use Rattle.tclscript.specs.Ends.{is_nested, word_ends, command_ends, script_ends, ends_at, parts_end, bare, class_of};
 
 use tclchars::{Class, begins_class};
+
+/// Whether a script is outside of brackets, or in brackets, of which the closing one ends it.
+#[derive(Clone, Copy, Debug, PartialEq, Eq)]
+pub(crate) enum Nesting {
+    /// Outside of brackets.
+    Top,
+    /// In brackets.
+    InBrackets,
+}
+
+impl Nesting {
+    /// Whether the byte ends the script, as its closing bracket.
+    fn closes(self, b: u8) -> bool
+        ensures { result ≡ (is_nested self && b == right_bracket) }
+    {
+        match self {
+            Nesting::Top => false,
+            Nesting::InBrackets => b == b']',
+        }
+    }
+}
 
 /// Where the parts of a word are, which decides what is literal there and what ends the parts.
 #[derive(Clone, Copy, Debug, PartialEq, Eq)]
@@ -29,46 +51,45 @@ pub(crate) fn class_of(context: Context) -> Class
     }
 }
 
-/// The context of a word without quotes and braces, in brackets or not.
-pub(crate) fn bare(nested: bool) -> Context
-    ensures { result ≡ bare nested }
+/// The context of a word without quotes and braces.
+pub(crate) fn bare(nesting: Nesting) -> Context
+    ensures { result ≡ bare (is_nested nesting) }
 {
-    if nested {
-        Context::InBracket
-    } else {
-        Context::InScript
+    match nesting {
+        Nesting::Top => Context::InScript,
+        Nesting::InBrackets => Context::InBracket,
     }
 }
 
 /// Whether a word ends before the text: nothing follows, or white space, an end of the command, or the closing bracket.
-pub(crate) fn word_ends(text: &str, nested: bool) -> bool
-    ensures { result ≡ word_ends nested text.now }
+pub(crate) fn word_ends(text: &str, nesting: Nesting) -> bool
+    ensures { result ≡ word_ends (is_nested nesting) text.now }
 {
     match text.as_bytes() {
         [] => true,
         [b'\\', b'\n', ..] => true,
-        [b']', ..] if nested => true,
+        [b, ..] if nesting.closes(*b) => true,
         _ => begins_class(text, Class::Gap),
     }
 }
 
 /// Whether a command ends before the text, which begins with no blank.
-pub(crate) fn command_ends(text: &str, nested: bool) -> bool
-    ensures { result ≡ command_ends nested text.now }
+pub(crate) fn command_ends(text: &str, nesting: Nesting) -> bool
+    ensures { result ≡ command_ends (is_nested nesting) text.now }
 {
     match text.as_bytes() {
         [] => true,
-        [b, ..] => *b == b'\n' || *b == b';' || (nested && *b == b']'),
+        [b, ..] => *b == b'\n' || *b == b';' || nesting.closes(*b),
     }
 }
 
 /// Whether a script ends before the text, which begins with no gap.
-pub(crate) fn script_ends(text: &str, nested: bool) -> bool
-    ensures { result ≡ script_ends nested text.now }
+pub(crate) fn script_ends(text: &str, nesting: Nesting) -> bool
+    ensures { result ≡ script_ends (is_nested nesting) text.now }
 {
     match text.as_bytes() {
         [] => true,
-        [b, ..] => nested && *b == b']',
+        [b, ..] => nesting.closes(*b),
     }
 }
 
@@ -87,8 +108,8 @@ pub(crate) fn parts_end(text: &str, context: Context) -> bool
     ensures { result ≡ parts_end context text.now }
 {
     match context {
-        Context::InScript => word_ends(text, false),
-        Context::InBracket => word_ends(text, true),
+        Context::InScript => word_ends(text, Nesting::Top),
+        Context::InBracket => word_ends(text, Nesting::InBrackets),
         Context::InIndex => ends_at(text, b')'),
         Context::InQuotes => ends_at(text, b'"'),
     }

@@ -14,7 +14,7 @@ mod tree;
 
 pub use laws::{correct_prefix, one_fault, one_script, script_of_grammar};
 pub use owned::{OwnedScript, own_script};
-pub use piece::{ByteRange, Source};
+pub use piece::{ByteRange, Source, taken};
 pub use reading::{read_bracket, read_dollar, read_quotes};
 pub use tclchars::{MAX_BYTES, MAX_NESTING};
 pub use text::{parse_pieces, parse_script};

@@ -2,6 +2,7 @@
 ghost use Rattle.std.specs.Prelude.{◌≡◌, ◌+◌, ℕ, length};
 ghost use Rattle.tclchars.specs.Runs.{Text};
 ghost use Rattle.tclscript.specs.Pieces.{IsSuffixOf, IsPrefixOf, between};
+ghost use Rattle.tclscript.specs.Reading.{taken};
 
 /// A source text whose pieces are values of `P`.
 ///
@@ -25,6 +26,15 @@ pub trait Source<P> {
         ensures text { shown self.now result ≡ piece.now }
         ensures offsets { (start : ℕ) → start + length rest.now ≡ length (text self.now)
             → spans self.now result start (start + length piece.now) };
+}
+
+/// The piece of the source from the text up to the rest.
+pub fn taken<'a, S: Source<P>, P: Drop>(source: &S, text: &'a str, rest: &'a str) -> P
+    requires text { IsSuffixOf (S.text source.now) text.now }
+    requires rest { IsSuffixOf text.now rest.now }
+    ensures { S.shown source.now result ≡ taken text.now rest.now }
+{
+    source.cut(text, text.split_at(text.len() - rest.len()).0)
 }
 
 impl<'a> Source<&'a str> for &'a str {

@@ -1,19 +1,25 @@
 //! The words and commands of a script, read from left to right (Tcl(n), rules 1 to 9).
-ghost use Rattle.std.specs.Prelude.{◌≡◌, ◌∷◌, ◌<◌, length, suc, option_map};
+ghost use Rattle.std.specs.Prelude.{◌≡◌, ◌∷◌, ◌<◌, option_map};
 ghost use Rattle.tclchars.specs.Bytes.{dollar, backslash};
 ghost use Rattle.tclchars.specs.Answers.{Gives};
 ghost use Rattle.tclchars.specs.Reading.{stopped_by};
 ghost use Rattle.tclscript.specs.Pieces.{IsSuffixOf, IsPrefixOf};
 ghost use Rattle.tclscript.specs.Tree as tree;
-ghost use Rattle.tclscript.specs.Reading.{after_closing, require_word_end, after_expansion, inner_at, script_with, command_at, word_at, unexpanded_word_at, braced_word_at, quoted_word_at, quotes_at, parts_with, part_at, literal_at, dollar_at, braced_name_at, index_at, bracket_at, backslash_at, scalar_variable, taken, whole_script};
+ghost use Rattle.tclscript.specs.Ends.{is_nested};
+ghost use Rattle.tclscript.specs.Reading.{after_closing, require_word_end, after_expansion, inner_at, script_with, command_at, word_at, unexpanded_word_at, braced_word_at, quoted_word_at, quotes_at, parts_with, part_at, literal_at, dollar_at, braced_name_at, index_at, bracket_at, backslash_at, scalar_variable, whole_script};
 ghost use Rattle.tclscript.specs.View.{script_view, command_view, word_view, part_view, parts_view};
 
-use crate::context::{Context, bare, class_of, command_ends, parts_end, script_ends, word_ends};
-use crate::piece::Source;
+use crate::context::{
+    Context, Nesting, bare, class_of, command_ends, parts_end, script_ends, word_ends,
+};
+use crate::piece::{Source, taken};
 use crate::runs::{ScanState, skip_blanks, skip_gap, split_scanned};
 use crate::tree::{Command, Part, Script, Word};
 use std::alloc::Global;
-use tclchars::{Class, Fault, ReadError, after_mark, read_backslash, split_close, split_run};
+use tclchars::{
+    Class, Fault, ReadError, after_mark, read_backslash, remaining_with_mark, split_close,
+    split_run,
+};
 
 /// The rest after the closing mark, or the fault where that is missing.
 fn after_closing(text: &str, mark: u8, fault: Fault) -> Result<&str, ReadError>
@@ -27,43 +33,27 @@ fn after_closing(text: &str, mark: u8, fault: Fault) -> Result<&str, ReadError>
 }
 
 /// The text after a closing brace or quote, where the word ends there; else the fault that something is joined to it.
-fn require_word_end(text: &str, nested: bool) -> Result<&str, ReadError>
-    ensures { Gives stopped_by (λ rest. rest.now) result (require_word_end nested text.now) }
+fn require_word_end(text: &str, nesting: Nesting) -> Result<&str, ReadError>
+    ensures { Gives stopped_by (λ rest. rest.now) result (require_word_end (is_nested nesting) text.now) }
 {
-    if word_ends(text, nested) {
+    if word_ends(text, nesting) {
         Ok(text)
     } else {
         Err(ReadError::Fault(Fault::JoinedToClose(text.len())))
     }
 }
 
-/// How many bytes remain from a mark of one byte on, of which `following` is what follows it.
-fn remaining_with_mark(following: &str) -> usize
-    ensures { result ≡ suc (length following.now) }
-{
-    following.len() + 1
-}
-
 /// The rest after the mark `{*}`, unless a word ends there: then it is a word in braces.
 #[tactic(auto, unfolding(crate::specs::Reading::after_expansion))]
-fn after_expansion(text: &str, nested: bool) -> Option<&str>
-    ensures { option_map (λ rest. rest.now) result ≡ after_expansion nested text.now }
+fn after_expansion(text: &str, nesting: Nesting) -> Option<&str>
+    ensures { option_map (λ rest. rest.now) result ≡ after_expansion (is_nested nesting) text.now }
 {
     let rest = after_mark(after_mark(after_mark(text, b'{')?, b'*')?, b'}')?;
-    if word_ends(rest, nested) {
+    if word_ends(rest, nesting) {
         None
     } else {
         Some(rest)
     }
-}
-
-/// The piece of the source from the text up to the rest.
-fn taken<'a, S: Source<P>, P: Drop>(source: &S, text: &'a str, rest: &'a str) -> P
-    requires text { IsSuffixOf (S.text source.now) text.now }
-    requires rest { IsSuffixOf text.now rest.now }
-    ensures { S.shown source.now result ≡ taken text.now rest.now }
-{
-    source.cut(text, text.split_at(text.len() - rest.len()).0)
 }
 
 /// The run of literal bytes that the text begins with, as a part, and the rest.
@@ -142,16 +132,16 @@ fn read_braced<'a, S: Source<P>, P: Drop>(
     alloc: Global,
     source: &S,
     text: &'a str,
-    nested: bool,
+    nesting: Nesting,
 ) -> Result<(Vec<Part<P>>, &'a str), ReadError>
     requires { IsSuffixOf (S.text source.now) text.now }
     ensures { Gives stopped_by (λ x. (parts_view (S.shown source.now) x.0.items, x.1.now)) result
-        (braced_word_at nested text.now) }
+        (braced_word_at (is_nested nesting) text.now) }
 {
     let Some((inner, after)) = split_close(text) else {
         return Err(ReadError::Fault(Fault::OpenBrace(remaining_with_mark(text))));
     };
-    let rest = require_word_end(after, nested)?;
+    let rest = require_word_end(after, nesting)?;
     let mut parts = Vec::new(alloc);
     parts.push(Part::Braced(source.cut(text, inner)))?;
     Ok((parts, rest))
@@ -166,7 +156,7 @@ pub(crate) fn read_source<S: Source<P>, P: Drop>(
 ) -> Result<Script<P>, ReadError>
     ensures { Gives stopped_by (script_view (S.shown source.now)) result (whole_script depth (S.text source.now)) }
 {
-    let (script, _) = read_script(alloc, source, source.as_str(), depth, false)?;
+    let (script, _) = read_script(alloc, source, source.as_str(), depth, Nesting::Top)?;
     Ok(script)
 }
 
@@ -177,21 +167,21 @@ fn read_script<'a, S: Source<P>, P: Drop>(
     source: &S,
     text: &'a str,
     depth: usize,
-    nested: bool,
+    nesting: Nesting,
 ) -> Result<(Script<P>, &'a str), ReadError>
     requires { IsSuffixOf (S.text source.now) text.now }
     ensures { Gives stopped_by (λ x. (script_view (S.shown source.now) x.0, x.1.now)) result
-        (script_with nested (inner_at depth) text.now) }
+        (script_with (is_nested nesting) (inner_at depth) text.now) }
 {
     let mut commands = Vec::new(alloc);
     let mut rest = text;
     loop {
         let start = skip_gap(rest);
-        if script_ends(start, nested) {
+        if script_ends(start, nesting) {
             return Ok((Script { commands }, start));
         }
         let offset = text.len() - start.len();
-        let (command, after) = read_command(alloc, source, start, offset, depth, nested)?;
+        let (command, after) = read_command(alloc, source, start, offset, depth, nesting)?;
         commands.push(command)?;
         rest = after;
     }
@@ -205,20 +195,20 @@ fn read_command<'a, S: Source<P>, P: Drop>(
     text: &'a str,
     offset: usize,
     depth: usize,
-    nested: bool,
+    nesting: Nesting,
 ) -> Result<(Command<P>, &'a str), ReadError>
     requires { IsSuffixOf (S.text source.now) text.now }
     ensures { Gives stopped_by (λ x. (command_view (S.shown source.now) x.0, x.1.now)) result
-        (command_at offset nested (inner_at depth) text.now) }
+        (command_at offset (is_nested nesting) (inner_at depth) text.now) }
 {
-    let (first, following) = read_word(alloc, source, text, depth, nested)?;
+    let (first, following) = read_word(alloc, source, text, depth, nesting)?;
     let first_text = taken(source, text, following);
     let mut words = Vec::new(alloc);
     words.push(first)?;
     let mut rest = following;
     loop {
         let start = skip_blanks(rest);
-        if command_ends(start, nested) {
+        if command_ends(start, nesting) {
             return Ok((
                 Command {
                     offset,
@@ -228,7 +218,7 @@ fn read_command<'a, S: Source<P>, P: Drop>(
                 start,
             ));
         }
-        let (word, after) = read_word(alloc, source, start, depth, nested)?;
+        let (word, after) = read_word(alloc, source, start, depth, nesting)?;
         words.push(word)?;
         rest = after;
     }
@@ -242,15 +232,15 @@ fn read_word<'a, S: Source<P>, P: Drop>(
     source: &S,
     text: &'a str,
     depth: usize,
-    nested: bool,
+    nesting: Nesting,
 ) -> Result<(Word<P>, &'a str), ReadError>
     requires { IsSuffixOf (S.text source.now) text.now }
     ensures { Gives stopped_by (λ x. (word_view (S.shown source.now) x.0, x.1.now)) result
-        (word_at nested (inner_at depth) text.now) }
+        (word_at (is_nested nesting) (inner_at depth) text.now) }
 {
-    match after_expansion(text, nested) {
+    match after_expansion(text, nesting) {
         Some(following) => {
-            let (parts, rest) = read_unexpanded_word(alloc, source, following, depth, nested)?;
+            let (parts, rest) = read_unexpanded_word(alloc, source, following, depth, nesting)?;
             Ok((
                 Word {
                     expands: true,
@@ -260,7 +250,7 @@ fn read_word<'a, S: Source<P>, P: Drop>(
             ))
         }
         None => {
-            let (parts, rest) = read_unexpanded_word(alloc, source, text, depth, nested)?;
+            let (parts, rest) = read_unexpanded_word(alloc, source, text, depth, nesting)?;
             Ok((
                 Word {
                     expands: false,
@@ -280,18 +270,18 @@ fn read_unexpanded_word<'a, S: Source<P>, P: Drop>(
     source: &S,
     text: &'a str,
     depth: usize,
-    nested: bool,
+    nesting: Nesting,
 ) -> Result<(Vec<Part<P>>, &'a str), ReadError>
     requires { IsSuffixOf (S.text source.now) text.now }
     ensures { Gives stopped_by (λ x. (parts_view (S.shown source.now) x.0.items, x.1.now)) result
-        (unexpanded_word_at nested (inner_at depth) text.now) }
+        (unexpanded_word_at (is_nested nesting) (inner_at depth) text.now) }
 {
     if let Some(following) = after_mark(text, b'{') {
-        return read_braced(alloc, source, following, nested);
+        return read_braced(alloc, source, following, nesting);
     }
     match after_mark(text, b'"') {
-        Some(following) => read_quoted(alloc, source, following, depth, nested),
-        None => read_parts(alloc, source, text, depth, bare(nested)),
+        Some(following) => read_quoted(alloc, source, following, depth, nesting),
+        None => read_parts(alloc, source, text, depth, bare(nesting)),
     }
 }
 
@@ -324,14 +314,14 @@ fn read_quoted<'a, S: Source<P>, P: Drop>(
     source: &S,
     text: &'a str,
     depth: usize,
-    nested: bool,
+    nesting: Nesting,
 ) -> Result<(Vec<Part<P>>, &'a str), ReadError>
     requires { IsSuffixOf (S.text source.now) text.now }
     ensures { Gives stopped_by (λ x. (parts_view (S.shown source.now) x.0.items, x.1.now)) result
-        (quoted_word_at nested (inner_at depth) text.now) }
+        (quoted_word_at (is_nested nesting) (inner_at depth) text.now) }
 {
     let (parts, after) = read_quotes(alloc, source, text, depth)?;
-    let rest = require_word_end(after, nested)?;
+    let rest = require_word_end(after, nesting)?;
     Ok((parts, rest))
 }
 
@@ -474,7 +464,7 @@ pub fn read_bracket<'a, S: Source<P>, P: Drop>(
     if depth == 0 {
         return Err(ReadError::Fault(Fault::TooDeep));
     }
-    let (script, close) = read_script(alloc, source, text, depth - 1, true)?;
+    let (script, close) = read_script(alloc, source, text, depth - 1, Nesting::InBrackets)?;
     let rest = after_closing(close, b']', Fault::OpenBracket(remaining_with_mark(text)))?;
     Ok((Part::Bracket(script), rest))
 }

@@ -2,9 +2,9 @@
 //! and 10).
 ghost use Rattle.std.specs.Prelude.{◌≡◌};
 ghost use Rattle.tclchars.specs.Runs.{begins};
-ghost use Rattle.tclchars.specs.Bytes.{is_blank, is_gap};
-ghost use Rattle.tclchars.specs.Classes.{is_name};
-ghost use Rattle.tclscript.specs.ScanState.{step_blanks, step_newline, step_gap, step_comment, step_name, step, scan, skip_blanks, skip_gap};
+ghost use Rattle.tclscript.specs.ScanState.{step_blanks, step_newline, step_gap, step_comment, step_name, step_colons, step, scan, skip_blanks, skip_gap};
+
+use tclchars::{is_blank, is_gap, is_name};
 
 /// The state of a scan over bytes: what is being skipped or taken, and what the last byte was.
 #[derive(Clone, Copy)]
@@ -23,27 +23,6 @@ pub(crate) enum ScanState {
     Name,
     /// In the name of a variable, after the first of several colons.
     Colons,
-}
-
-/// Whether the byte separates words.
-fn is_blank(b: u8) -> bool
-    ensures { result ≡ is_blank b }
-{
-    b == b' ' || b == b'\t' || b == 11 || b == 12 || b == b'\r'
-}
-
-/// Whether the byte may be between commands.
-fn is_gap(b: u8) -> bool
-    ensures { result ≡ is_gap b }
-{
-    is_blank(b) || b == b'\n' || b == b';'
-}
-
-/// Whether names of variables are made of the byte.
-fn is_name(b: u8) -> bool
-    ensures { result ≡ is_name b }
-{
-    b.is_ascii_alphanumeric() || b == b'_'
 }
 
 /// Whether the text begins with that byte.
@@ -104,13 +83,26 @@ fn step_comment(b: u8) -> ScanState
     }
 }
 
-/// The state after a byte of a name, or none; `colons` is set after a colon of several.
-fn step_name(colons: bool, b: u8, after: &[u8]) -> Option<ScanState>
-    ensures { result ≡ step_name colons b after.now }
+/// The state after a byte of a name, or none; one colon alone is no part of it.
+fn step_name(b: u8, after: &[u8]) -> Option<ScanState>
+    ensures { result ≡ step_name b after.now }
 {
     if is_name(b) {
         Some(ScanState::Name)
-    } else if b == b':' && (colons || begins(after, b':')) {
+    } else if b == b':' && begins(after, b':') {
+        Some(ScanState::Colons)
+    } else {
+        None
+    }
+}
+
+/// The state after a byte of a name that follows a colon of several, or none.
+fn step_colons(b: u8) -> Option<ScanState>
+    ensures { result ≡ step_colons b }
+{
+    if is_name(b) {
+        Some(ScanState::Name)
+    } else if b == b':' {
         Some(ScanState::Colons)
     } else {
         None
@@ -127,8 +119,8 @@ fn step(state: ScanState, b: u8, after: &[u8]) -> Option<ScanState>
         ScanState::Gap => step_gap(b, after),
         ScanState::Comment => Some(step_comment(b)),
         ScanState::Escaped => Some(ScanState::Comment),
-        ScanState::Name => step_name(false, b, after),
-        ScanState::Colons => step_name(true, b, after),
+        ScanState::Name => step_name(b, after),
+        ScanState::Colons => step_colons(b),
     }
 }
 

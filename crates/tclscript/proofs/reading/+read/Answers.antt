@@ -3,7 +3,7 @@ use Rattle.std.proofs.lemmas.Result.{err_from_is_err_and}
 use Rattle.std.proofs.lemmas.List.{map_push}
 use Rattle.tclscript.specs.declared.runs.ScanState.TheVariants.{Blanks, Gap, Name}
 use Rattle.tclscript.specs.Pieces.{IsSuffixOf, IsPrefixOf}
-use Rattle.tclscript.specs.Ends.{script_ends, parts_end}
+use Rattle.tclscript.specs.Ends.{is_nested, script_ends, parts_end}
 use Rattle.tclscript.specs.ScanState.{skip_gap}
 use Rattle.tclscript.specs.Reading.{part_at, command_in, inner_at}
 use Rattle.tclscript.specs.View.{script_view, command_view, word_view, part_view, parts_view}
@@ -36,28 +36,28 @@ read_index-returns-in_err-rest g t c =
 pub read_command-returns-in_err-first : goal.read_command-returns-in_err-first
 read_command-returns-in_err-first g t c =
     let p = err_from_is_err_and c.from_residual.result c.from_residual.ensures.1 in
-    rw (p.1, p.2) (first-fails c.args.nested c.args.depth c.args.offset c.args.text.now c.in_err-first.field-0.0 c.in_err-first.ensures)
+    rw (p.1, p.2) (first-fails (is_nested c.args.nesting) c.args.depth c.args.offset c.args.text.now c.in_err-first.field-0.0 c.in_err-first.ensures)
 
 pub read_command-taken-first_text-requires-clause-rest : goal.read_command-taken-first_text-requires-clause-rest
 read_command-taken-first_text-requires-clause-rest g t c =
-    first-end c.args.nested c.args.depth c.args.text.now (word_view (g.S.Source.shown c.args.source.now) c.in_ok-first.first) c.in_ok-first.following.now c.in_ok-first.ensures
+    first-end (is_nested c.args.nesting) c.args.depth c.args.text.now (word_view (g.S.Source.shown c.args.source.now) c.in_ok-first.first) c.in_ok-first.following.now c.in_ok-first.ensures
 
 pub read_command-loop-alloc-init : goal.read_command-loop-alloc-init
 read_command-loop-alloc-init g t c =
     let r : IsSuffixOf (g.S.Source.text c.args.source.now) c.args.text.now = search rules in
-    let following = first-end c.args.nested c.args.depth c.args.text.now (word_view (g.S.Source.shown c.args.source.now) c.in_ok-first.first) c.in_ok-first.following.now c.in_ok-first.ensures in
+    let following = first-end (is_nested c.args.nesting) c.args.depth c.args.text.now (word_view (g.S.Source.shown c.args.source.now) c.in_ok-first.first) c.in_ok-first.following.now c.in_ok-first.ensures in
     record {
       utf8 = search rules;
       end = end_through (g.S.Source.text c.args.source.now) c.args.text.now c.in_ok-first.following.now r following;
       so_far =
-          words-none c.args.nested c.args.depth c.args.text.now (g.S.Source.shown c.args.source.now c.taken-first_text.result) (word_view (g.S.Source.shown c.args.source.now) c.in_ok-first.first)
+          words-none (is_nested c.args.nesting) c.args.depth c.args.text.now (g.S.Source.shown c.args.source.now c.taken-first_text.result) (word_view (g.S.Source.shown c.args.source.now) c.in_ok-first.first)
           (map (word_view (g.S.Source.shown c.args.source.now)) c.push.new.self.items) c.in_ok-first.following.now c.in_ok-first.ensures c.taken-first_text.ensures
           (rw (c.in_ok-push.ensures.items, c.new-words.ensures.items) refl);
     }
 
 pub read_command-returns-then-command_ends : goal.read_command-returns-then-command_ends
 read_command-returns-then-command_ends g t c =
-    command-end c.args.nested c.args.depth c.args.offset c.args.text.now (g.S.Source.shown c.args.source.now c.taken-first_text.result) (map (word_view (g.S.Source.shown c.args.source.now)) c.loop-alloc.words.items)
+    command-end (is_nested c.args.nesting) c.args.depth c.args.offset c.args.text.now (g.S.Source.shown c.args.source.now c.taken-first_text.result) (map (word_view (g.S.Source.shown c.args.source.now)) c.loop-alloc.words.items)
     c.loop-alloc.rest.now c.skip_blanks-start.result.now c.skip_blanks-start.ensures (sym c.command_ends.ensures ∙ c.if-command_ends.true) c.loop-alloc.invariant.so_far
     ∙ ap (λ x. Ok (x, c.skip_blanks-start.result.now)) (sym (view-Command (g.S.Source.shown c.args.source.now) c.args.offset c.taken-first_text.result c.loop-alloc.words))
 
@@ -72,24 +72,24 @@ read_command-read_word-requires-in-loop-alloc g t c =
 pub read_command-returns-in_err-word : goal.read_command-returns-in_err-word
 read_command-returns-in_err-word g t c =
     let p = err_from_is_err_and c.from_residual-in_err-word.result c.from_residual-in_err-word.ensures.1 in
-    rw (p.1, p.2) (command-fails c.args.nested c.args.depth c.args.offset c.args.text.now (g.S.Source.shown c.args.source.now c.taken-first_text.result) (map (word_view (g.S.Source.shown c.args.source.now)) c.loop-alloc.words.items)
+    rw (p.1, p.2) (command-fails (is_nested c.args.nesting) c.args.depth c.args.offset c.args.text.now (g.S.Source.shown c.args.source.now c.taken-first_text.result) (map (word_view (g.S.Source.shown c.args.source.now)) c.loop-alloc.words.items)
     c.loop-alloc.rest.now c.skip_blanks-start.result.now c.in_err-word.field-0.0 c.skip_blanks-start.ensures (sym c.command_ends.ensures ∙ c.if-command_ends.false) c.in_err-word.ensures c.loop-alloc.invariant.so_far)
 
 pub read_command-loop-alloc-smaller : goal.read_command-loop-alloc-smaller
 read_command-loop-alloc-smaller g t c =
-    (command-following c.args.nested c.args.depth c.loop-alloc.rest.now c.skip_blanks-start.result.now (word_view (g.S.Source.shown c.args.source.now) c.in_ok-word.word) c.in_ok-word.after.now
+    (command-following (is_nested c.args.nesting) c.args.depth c.loop-alloc.rest.now c.skip_blanks-start.result.now (word_view (g.S.Source.shown c.args.source.now) c.in_ok-word.word) c.in_ok-word.after.now
     c.skip_blanks-start.ensures (sym c.command_ends.ensures ∙ c.if-command_ends.false) c.in_ok-word.ensures).1
 
 pub read_command-loop-alloc-preserved : goal.read_command-loop-alloc-preserved
 read_command-loop-alloc-preserved g t c =
-    let following = command-following c.args.nested c.args.depth c.loop-alloc.rest.now c.skip_blanks-start.result.now (word_view (g.S.Source.shown c.args.source.now) c.in_ok-word.word) c.in_ok-word.after.now
+    let following = command-following (is_nested c.args.nesting) c.args.depth c.loop-alloc.rest.now c.skip_blanks-start.result.now (word_view (g.S.Source.shown c.args.source.now) c.in_ok-word.word) c.in_ok-word.after.now
     c.skip_blanks-start.ensures (sym c.command_ends.ensures ∙ c.if-command_ends.false) c.in_ok-word.ensures
     in
     record {
       utf8 = search rules;
       end = end_through (g.S.Source.text c.args.source.now) c.loop-alloc.rest.now c.in_ok-word.after.now c.loop-alloc.invariant.end following.0;
       so_far =
-          command-more c.args.nested c.args.depth c.args.text.now (g.S.Source.shown c.args.source.now c.taken-first_text.result) (map (word_view (g.S.Source.shown c.args.source.now)) c.loop-alloc.words.items)
+          command-more (is_nested c.args.nesting) c.args.depth c.args.text.now (g.S.Source.shown c.args.source.now c.taken-first_text.result) (map (word_view (g.S.Source.shown c.args.source.now)) c.loop-alloc.words.items)
           (map (word_view (g.S.Source.shown c.args.source.now)) c.push-in-loop-alloc.new.self.items)
           c.loop-alloc.rest.now c.skip_blanks-start.result.now (word_view (g.S.Source.shown c.args.source.now) c.in_ok-word.word) c.in_ok-word.after.now
           c.skip_blanks-start.ensures (sym c.command_ends.ensures ∙ c.if-command_ends.false) c.in_ok-word.ensures
@@ -101,7 +101,7 @@ read_script-loop-alloc-init g t c = record {
   utf8 = search rules;
   end = search rules;
   shorter = omega arith;
-  so_far = rw c.new-commands.ensures.items (so_far-none skip_gap (script_ends c.args.nested) (command_in (length c.args.text.now) c.args.nested (inner_at c.args.depth)) c.args.text.now);
+  so_far = rw c.new-commands.ensures.items (so_far-none skip_gap (script_ends (is_nested c.args.nesting)) (command_in (length c.args.text.now) (is_nested c.args.nesting) (inner_at c.args.depth)) c.args.text.now);
 }
 
 pub read_script-overflow_sub-offset : goal.read_script-overflow_sub-offset
@@ -111,7 +111,7 @@ read_script-overflow_sub-offset g t c =
 
 pub read_script-returns-then-script_ends : goal.read_script-returns-then-script_ends
 read_script-returns-then-script_ends g t c =
-    script-end c.args.nested c.args.depth c.args.text.now (map (command_view (g.S.Source.shown c.args.source.now)) c.loop-alloc.commands.items)
+    script-end (is_nested c.args.nesting) c.args.depth c.args.text.now (map (command_view (g.S.Source.shown c.args.source.now)) c.loop-alloc.commands.items)
     c.loop-alloc.rest.now c.skip_gap-start.result.now c.skip_gap-start.ensures (sym c.script_ends.ensures ∙ c.if-script_ends.true) c.loop-alloc.invariant.so_far
     ∙ ap (λ x. Ok (x, c.skip_gap-start.result.now)) (sym (view-Script (g.S.Source.shown c.args.source.now) c.loop-alloc.commands))
 
@@ -126,17 +126,17 @@ read_script-read_command-requires g t c =
 pub read_script-returns-in_err-command : goal.read_script-returns-in_err-command
 read_script-returns-in_err-command g t c =
     let p = err_from_is_err_and c.from_residual.result c.from_residual.ensures.1 in
-    rw (p.1, p.2) (script-fails c.args.nested c.args.depth c.args.text.now (map (command_view (g.S.Source.shown c.args.source.now)) c.loop-alloc.commands.items)
+    rw (p.1, p.2) (script-fails (is_nested c.args.nesting) c.args.depth c.args.text.now (map (command_view (g.S.Source.shown c.args.source.now)) c.loop-alloc.commands.items)
     c.loop-alloc.rest.now c.skip_gap-start.result.now c.in_err-command.field-0.0 c.skip_gap-start.ensures (sym c.script_ends.ensures ∙ c.if-script_ends.false) c.in_err-command.ensures c.loop-alloc.invariant.so_far)
 
 pub read_script-loop-alloc-smaller : goal.read_script-loop-alloc-smaller
 read_script-loop-alloc-smaller g t c =
-    (script-following c.args.nested c.args.depth (length c.args.text.now - length c.skip_gap-start.result.now) c.loop-alloc.rest.now c.skip_gap-start.result.now (command_view (g.S.Source.shown c.args.source.now) c.in_ok-command.command) c.in_ok-command.after.now
+    (script-following (is_nested c.args.nesting) c.args.depth (length c.args.text.now - length c.skip_gap-start.result.now) c.loop-alloc.rest.now c.skip_gap-start.result.now (command_view (g.S.Source.shown c.args.source.now) c.in_ok-command.command) c.in_ok-command.after.now
     c.skip_gap-start.ensures (sym c.script_ends.ensures ∙ c.if-script_ends.false) c.in_ok-command.ensures).1
 
 pub read_script-loop-alloc-preserved : goal.read_script-loop-alloc-preserved
 read_script-loop-alloc-preserved g t c =
-    let following = script-following c.args.nested c.args.depth (length c.args.text.now - length c.skip_gap-start.result.now) c.loop-alloc.rest.now c.skip_gap-start.result.now (command_view (g.S.Source.shown c.args.source.now) c.in_ok-command.command) c.in_ok-command.after.now
+    let following = script-following (is_nested c.args.nesting) c.args.depth (length c.args.text.now - length c.skip_gap-start.result.now) c.loop-alloc.rest.now c.skip_gap-start.result.now (command_view (g.S.Source.shown c.args.source.now) c.in_ok-command.command) c.in_ok-command.after.now
     c.skip_gap-start.ensures (sym c.script_ends.ensures ∙ c.if-script_ends.false) c.in_ok-command.ensures
     in
     record {
@@ -144,7 +144,7 @@ read_script-loop-alloc-preserved g t c =
       end = end_through (g.S.Source.text c.args.source.now) c.loop-alloc.rest.now c.in_ok-command.after.now c.loop-alloc.invariant.end following.0;
       shorter = omega (arith, following.1, c.loop-alloc.invariant.shorter);
       so_far =
-          script-more c.args.nested c.args.depth c.args.text.now (map (command_view (g.S.Source.shown c.args.source.now)) c.loop-alloc.commands.items)
+          script-more (is_nested c.args.nesting) c.args.depth c.args.text.now (map (command_view (g.S.Source.shown c.args.source.now)) c.loop-alloc.commands.items)
           (map (command_view (g.S.Source.shown c.args.source.now)) c.push.new.self.items)
           c.loop-alloc.rest.now c.skip_gap-start.result.now (command_view (g.S.Source.shown c.args.source.now) c.in_ok-command.command) c.in_ok-command.after.now
           c.skip_gap-start.ensures (sym c.script_ends.ensures ∙ c.if-script_ends.false) c.in_ok-command.ensures
@@ -242,6 +242,6 @@ pub read_word-read_unexpanded_word-requires : goal.read_word-read_unexpanded_wor
 read_word-read_unexpanded_word-requires g t c =
     let r : IsSuffixOf (g.S.Source.text c.args.source.now) c.args.text.now = search rules in
     let e : IsSuffixOf (g.S.Source.text c.args.source.now) c.in-Some.following.now =
-    end_through (g.S.Source.text c.args.source.now) c.args.text.now c.in-Some.following.now r (expanded_end (inner_at 0) (inner_leaves 0) c.args.nested c.args.text.now c.in-Some.following.now c.in-Some.ensures)
+    end_through (g.S.Source.text c.args.source.now) c.args.text.now c.in-Some.following.now r (expanded_end (inner_at 0) (inner_leaves 0) (is_nested c.args.nesting) c.args.text.now c.in-Some.following.now c.in-Some.ensures)
     in
     search rules

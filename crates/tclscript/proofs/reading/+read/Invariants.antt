@@ -1,6 +1,7 @@
 use Rattle.std.proofs.Common.{◌≤◌, length, map, ◌+◌, ◌*◌}
 use denote.Text.{Utf8}
 use denote.Shadow.{shadow}
+use Rattle.tclscript.specs.Ends.{is_nested}
 use Rattle.tclscript.specs.Pieces.{IsSuffixOf}
 use Rattle.tclscript.specs.View.{command_view, word_view, part_view}
 use Rattle.tclscript.proofs.Turns.{CommandsSoFar, WordsSoFar, PartsSoFar}
@@ -43,7 +44,7 @@ abbrev pub invariant-read_command-loop-alloc : goal.invariant-read_command-loop-
 invariant-read_command-loop-alloc g l = record {
   utf8 : shadow (Utf8 l.rest);
   end : IsSuffixOf (g.S.Source.text l.source) l.rest;
-  so_far : WordsSoFar l.nested l.depth l.text (g.S.Source.shown l.source l.first_text) (map (word_view (g.S.Source.shown l.source)) l.words.items) l.rest;
+  so_far : WordsSoFar (is_nested l.nesting) l.depth l.text (g.S.Source.shown l.source l.first_text) (map (word_view (g.S.Source.shown l.source)) l.words.items) l.rest;
 }
 
 abbrev pub decreases-read_command-loop-alloc : goal.decreases-read_command-loop-alloc
@@ -64,7 +65,7 @@ invariant-read_script-loop-alloc g l = record {
   utf8 : shadow (Utf8 l.rest);
   end : IsSuffixOf (g.S.Source.text l.source) l.rest;
   shorter : length l.rest ≤ length l.text;
-  so_far : CommandsSoFar l.nested l.depth l.text (map (command_view (g.S.Source.shown l.source)) l.commands.items) l.rest;
+  so_far : CommandsSoFar (is_nested l.nesting) l.depth l.text (map (command_view (g.S.Source.shown l.source)) l.commands.items) l.rest;
 }
 
 abbrev pub decreases-read_script-loop-alloc : goal.decreases-read_script-loop-alloc
