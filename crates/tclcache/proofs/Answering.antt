@@ -1,14 +1,11 @@
 -- What is answered to a text, from the list of the program.
 use Rattle.std.proofs.Common.{◌≡◌, ℕ, true, false, [], ◌∷◌, ◌++◌, length, Option, Some, None, Result, Ok, Err, refl, sym, ap, ◌∙◌}
-use Rattle.std.specs.Prelude.{bytes_eq, IsErrAnd, MatchResult}
+use Rattle.std.specs.Prelude.{bytes_eq, IsErrAnd}
 use Rattle.std.specs.List.{position}
 use Rattle.std.proofs.lemmas.List.{map-append}
 use Rattle.tclchars.specs.Runs.{Text}
-use Rattle.tclchars.specs.Whole.{FailsWith, Reads}
+use Rattle.tclchars.specs.Whole.{FailsWith}
 use Rattle.tclchars.specs.declared.fault.TextFault.{TextFault}
-use Rattle.tclchars.specs.declared.fault.TextFault.TheVariants.{OutOfMemory}
-use Rattle.std.specs.declared.alloc.Global.{Global}
-use Rattle.std.specs.declared.rc.Rc.{Rc}
 use Rattle.tclcache.specs.Trees.{Trees, AnswersIndex, texts_of, index_of, is_full, map_trees}
 
 module _ {T U : Type 0} (view : T → U) where
@@ -74,8 +71,3 @@ module _ {T U : Type 0} (view : T → U) where
         full = λ p q. absurd (true_false (sym q ∙ full_seen es t ∙ f));
         added = λ p q. (n ∙ sym (length_seen es), view tree, g, ap (map_trees view) e ∙ map-append _ es ((t, tree) ∷ []));
       }
-
--- a tree of which there is one owner more
-pub shared_reads : {T U : Type 0} (view : T → U) (read : Result U TextFault) (made : T) (res : Result (Rc T Global) TextFault) → MatchResult res (λ copy. copy.value ≡ made) (λ fault. fault ≡ OutOfMemory) → read ≡ Ok (view made) → Reads (λ tree. view tree.value) res read
-shared_reads view read made (Ok copy) h e = e ∙ ap (λ m. Ok (view m)) (sym h)
-shared_reads view read made (Err fault) h e = rw h tt

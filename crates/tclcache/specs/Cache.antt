@@ -1,5 +1,5 @@
 -- A cache of scripts and of expressions, and what makes it right: each text with its own tree. Own.
-use Rattle.std.specs.Prelude.{◌≡◌, string_bytes, Ok}
+use Rattle.std.specs.Prelude.{string_bytes}
 use Rattle.std.specs.List.{All}
 use Rattle.tclchars.specs.Runs.{Text}
 use Rattle.tclscript.specs.Tree.{Commands}
@@ -11,7 +11,7 @@ use Rattle.tclexpr.specs.Operands.{Operand}
 use Rattle.tclexpr.specs.Text.{expr_of}
 use Rattle.tclexpr.specs.Owned as expression
 use Rattle.tclexpr.specs.declared.owned.OwnedExpr.{OwnedExpr}
-use Rattle.tclcache.specs.Trees.{Trees, AreLimited, BeginsWith, map_trees}
+use Rattle.tclcache.specs.Trees.{Trees, AreLimited, BeginsWith, IsTreeOfText, map_trees}
 
 -- the scripts and expressions that were parsed, with the trees of the program
 pub record Cache : Type 0 where
@@ -26,13 +26,11 @@ abbrev pub expressions_of : Cache → Trees (Expr Operand)
 expressions_of k = map_trees expression.owned_view k.expressions
 
 -- the tree was parsed from this text, and stands for the tree that the grammar has for it
-pub record IsCachedScript (e : Text × OwnedScript) : Type 0 where
-  pub text : string_bytes e.1.text ≡ e.0
-  pub tree : script_of e.0 ≡ Ok (script.owned_view e.1)
+abbrev pub IsCachedScript : Text × OwnedScript → Type 0
+IsCachedScript = IsTreeOfText (λ tree. string_bytes tree.text) script.owned_view script_of
 
-pub record IsCachedExpression (e : Text × OwnedExpr) : Type 0 where
-  pub text : string_bytes e.1.text ≡ e.0
-  pub tree : expr_of e.0 ≡ Ok (expression.owned_view e.1)
+abbrev pub IsCachedExpression : Text × OwnedExpr → Type 0
+IsCachedExpression = IsTreeOfText (λ tree. string_bytes tree.text) expression.owned_view expr_of
 
 -- the cache is right: distinct texts within the limits, each with its own tree
 pub record IsValidCache (k : Cache) : Type 0 where

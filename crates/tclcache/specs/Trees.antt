@@ -55,6 +55,12 @@ pub record CachesTree {T : Type 0} (old : Trees T) (t : Text) (tree : T) (new : 
   pub full : index_of old t ≡ None → is_full old t ≡ true → new ≡ old
   pub added : index_of old t ≡ None → is_full old t ≡ false → new ≡ old ++ (t, tree) ∷ []
 
+-- the tree was parsed from this text, and stands for the tree that the grammar has for it
+pub record IsTreeOfText {T U : Type 0} (text_of_tree : T → Text) (view : T → U) (read : Text → Result U TextFault)
+    (e : Text × T) : Type 0 where
+  pub text : text_of_tree e.1 ≡ e.0
+  pub tree : read e.0 ≡ Ok (view e.1)
+
 -- distinct texts within the limits
 pub record AreLimited {T : Type 0} (es : Trees T) : Type 0 where
   pub distinct : IsDistinct bytes_eq (texts_of es)

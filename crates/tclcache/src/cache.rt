@@ -1,14 +1,13 @@
 //! The cache of scripts and expressions.
-ghost use Rattle.std.specs.Prelude.{◌≡◌, ◌++◌, ◌∷◌, [], None, false, IfOk, OnErr, string_bytes};
+ghost use Rattle.std.specs.Prelude.{◌≡◌, [], IfOk, OnErr, string_bytes};
 ghost use Rattle.tclchars.specs.Whole.{Reads};
 ghost use Rattle.tclscript.specs.Text.{script_of};
 ghost use Rattle.tclscript.specs.Owned as script;
 ghost use Rattle.tclexpr.specs.Text.{expr_of};
 ghost use Rattle.tclexpr.specs.Owned as expression;
-ghost use Rattle.tclcache.specs.Trees.{AnswersIndex, CachesTree, index_of, is_full};
+ghost use Rattle.tclcache.specs.Trees.{AnswersIndex, CachesTree};
 ghost use Rattle.tclcache.specs.Cache.{IsValidCache, BeginWith, scripts_of, expressions_of};
 
-use crate::parsed::{parsed_expr, parsed_script, shared};
 use crate::texts::Texts;
 use std::alloc::Global;
 use std::marker::Model;
@@ -21,7 +20,6 @@ use tclscript::OwnedScript;
 /// at most 1,024 texts, of at most 8,388,608 bytes together. Nothing is ever dropped.
 #[derive(Drop)]
 pub struct Cache {
-    alloc: Global,
     scripts: Texts<OwnedScript>,
     expressions: Texts<OwnedExpr>,
 }
@@ -51,28 +49,8 @@ impl Cache {
         ensures valid { IsValidCache result }
     {
         Cache {
-            alloc,
             scripts: Texts::new(alloc),
             expressions: Texts::new(alloc),
-        }
-    }
-
-    /// Parses a script that isn't cached, and caches it.
-    fn add_script(&mut self, text: &str) -> Result<Rc<OwnedScript>, TextFault>
-        requires new { index_of self.old.scripts text.now ≡ None }
-        requires room { is_full self.old.scripts text.now ≡ false }
-        ensures text { IfOk result (λ tree. string_bytes tree.value.text ≡ text.now) }
-        ensures tree { Reads (λ tree. script.owned_view tree.value) result (script_of text.now) }
-        ensures added { IfOk result (λ tree. self.new.scripts ≡ self.old.scripts ++ (text.now, tree.value) ∷ []) }
-        ensures others { self.new.expressions ≡ self.old.expressions }
-        ensures err { OnErr result (self.new ≡ self.old) }
-        ensures valid { IsValidCache self.new }
-    {
-        let tree = parsed_script(self.alloc, text)?;
-        let owner = shared(&tree)?;
-        match self.scripts.add(text, owner) {
-            Ok(()) => Ok(tree),
-            Err(_) => Err(TextFault::OutOfMemory),
         }
     }
 
@@ -87,15 +65,7 @@ impl Cache {
         ensures err { OnErr result (self.new ≡ self.old) }
         ensures valid { IsValidCache self.new }
     {
-        if let Some(entry_index) = self.scripts.entry_index(text) {
-            return Ok(Some(entry_index));
-        }
-        if self.scripts.is_full(text) {
-            return Ok(None);
-        }
-        let entry_index = self.scripts.len();
-        let _ = self.add_script(text)?;
-        Ok(Some(entry_index))
+        self.scripts.cached_index(text)
     }
 
     /// The tree of a script: the cached one, or one that is cached from now on, or one for this call alone where it
@@ -111,33 +81,7 @@ impl Cache {
         ensures err { OnErr result (self.new ≡ self.old) }
         ensures valid { IsValidCache self.new }
     {
-        if let Some(tree) = self.scripts.tree_of(text) {
-            return shared(tree);
-        }
-        if self.scripts.is_full(text) {
-            return parsed_script(self.alloc, text);
-        }
-        self.add_script(text)
-    }
-
-    /// Parses an expression that isn't cached, and caches it.
-    fn add_expr(&mut self, text: &str) -> Result<Rc<OwnedExpr>, TextFault>
-        requires new { index_of self.old.expressions text.now ≡ None }
-        requires room { is_full self.old.expressions text.now ≡ false }
-        ensures text { IfOk result (λ tree. string_bytes tree.value.text ≡ text.now) }
-        ensures tree { Reads (λ tree. expression.owned_view tree.value) result (expr_of text.now) }
-        ensures added { IfOk result (λ tree.
-            self.new.expressions ≡ self.old.expressions ++ (text.now, tree.value) ∷ []) }
-        ensures others { self.new.scripts ≡ self.old.scripts }
-        ensures err { OnErr result (self.new ≡ self.old) }
-        ensures valid { IsValidCache self.new }
-    {
-        let tree = parsed_expr(self.alloc, text)?;
-        let owner = shared(&tree)?;
-        match self.expressions.add(text, owner) {
-            Ok(()) => Ok(tree),
-            Err(_) => Err(TextFault::OutOfMemory),
-        }
+        self.scripts.tree(text)
     }
 
     /// The index of a text among the cached expressions, from 0. A text that isn't cached is parsed and added last,
@@ -151,15 +95,7 @@ impl Cache {
         ensures err { OnErr result (self.new ≡ self.old) }
         ensures valid { IsValidCache self.new }
     {
-        if let Some(entry_index) = self.expressions.entry_index(text) {
-            return Ok(Some(entry_index));
-        }
-        if self.expressions.is_full(text) {
-            return Ok(None);
-        }
-        let entry_index = self.expressions.len();
-        let _ = self.add_expr(text)?;
-        Ok(Some(entry_index))
+        self.expressions.cached_index(text)
     }
 
     /// The tree of an expression: the cached one, or one that is cached from now on, or one for this call alone where
@@ -176,12 +112,6 @@ impl Cache {
         ensures err { OnErr result (self.new ≡ self.old) }
         ensures valid { IsValidCache self.new }
     {
-        if let Some(tree) = self.expressions.tree_of(text) {
-            return shared(tree);
-        }
-        if self.expressions.is_full(text) {
-            return parsed_expr(self.alloc, text);
-        }
-        self.add_expr(text)
+        self.expressions.tree(text)
     }
 }

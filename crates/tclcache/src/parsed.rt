@@ -1,9 +1,14 @@
 //! Texts parsed into trees that own a copy of their text and can be shared.
-ghost use Rattle.std.specs.Prelude.{◌≡◌, IfOk, MatchResult, string_bytes};
+ghost use Rattle.std.specs.Prelude.{◌≡◌, IfOk, MatchResult, Result, string_bytes};
+ghost use Rattle.tclchars.specs.Runs.{Text};
 ghost use Rattle.tclchars.specs.Whole.{Reads};
+ghost use Rattle.tclchars.specs.declared.fault.TextFault.{TextFault};
 ghost use Rattle.tclchars.specs.declared.fault.TextFault.TheVariants.{OutOfMemory};
+ghost use Rattle.tclscript.specs.Tree.{Commands};
 ghost use Rattle.tclscript.specs.Text.{script_of};
 ghost use Rattle.tclscript.specs.Owned as script;
+ghost use Rattle.tclexpr.specs.Tree.{Expr};
+ghost use Rattle.tclexpr.specs.Operands.{Operand};
 ghost use Rattle.tclexpr.specs.Text.{expr_of};
 ghost use Rattle.tclexpr.specs.Owned as expression;
 
@@ -13,40 +18,64 @@ use tclchars::TextFault;
 use tclexpr::{OwnedExpr, own_expr};
 use tclscript::{OwnedScript, own_script};
 
-/// The tree of a script. Errors: the fault of the text (2 to 9), `OutOfMemory` (1).
-pub(crate) fn parsed_script(alloc: Global, text: &str) -> Result<Rc<OwnedScript>, TextFault>
-    ensures text { IfOk result (λ tree. string_bytes tree.value.text ≡ text.now) }
-    ensures tree { Reads (λ tree. script.owned_view tree.value) result (script_of text.now) }
-{
-    let Ok(text) = String::from_str(alloc, text) else {
-        return Err(TextFault::OutOfMemory);
-    };
-    match Rc::new(alloc, own_script(alloc, text)?) {
-        Ok(tree) => Ok(tree),
-        Err(_) => Err(TextFault::OutOfMemory),
+/// A tree that owns the text that it was parsed from.
+///
+/// `source` is its text, `view` what the tree stands for in the grammar, and `read` what the grammar has for a text.
+pub(crate) trait Parsed: Drop {
+    ghost Tree: { Type 0 };
+
+    ghost source: { Self → Text };
+
+    ghost view: { Self → Tree };
+
+    ghost read: { Text → Result Tree TextFault };
+
+    /// The tree of a text. Errors: the fault of the text (2 to 9), `OutOfMemory` (1).
+    fn parse(alloc: Global, text: String) -> Result<Self, TextFault>
+        ensures text { IfOk result (λ tree. source tree ≡ string_bytes text) }
+        ensures tree { Reads view result (read (string_bytes text)) };
+}
+
+impl Parsed for OwnedScript {
+    ghost Tree = { Commands };
+
+    ghost source = { λ tree. string_bytes tree.text };
+
+    ghost view = { script.owned_view };
+
+    ghost read = { script_of };
+
+    fn parse(alloc: Global, text: String) -> Result<OwnedScript, TextFault> {
+        own_script(alloc, text)
     }
 }
 
-/// The tree of an expression. Errors: the fault of the text (2 to 9), `OutOfMemory` (1).
-pub(crate) fn parsed_expr(alloc: Global, text: &str) -> Result<Rc<OwnedExpr>, TextFault>
-    ensures text { IfOk result (λ tree. string_bytes tree.value.text ≡ text.now) }
-    ensures tree { Reads (λ tree. expression.owned_view tree.value) result (expr_of text.now) }
-{
-    let Ok(text) = String::from_str(alloc, text) else {
-        return Err(TextFault::OutOfMemory);
-    };
-    match Rc::new(alloc, own_expr(alloc, text)?) {
-        Ok(tree) => Ok(tree),
-        Err(_) => Err(TextFault::OutOfMemory),
+impl Parsed for OwnedExpr {
+    ghost Tree = { Expr Operand };
+
+    ghost source = { λ tree. string_bytes tree.text };
+
+    ghost view = { expression.owned_view };
+
+    ghost read = { expr_of };
+
+    fn parse(alloc: Global, text: String) -> Result<OwnedExpr, TextFault> {
+        own_expr(alloc, text)
     }
+}
+
+/// The tree of a copy of a text. Errors: the fault of the text (2 to 9), `OutOfMemory` (1).
+pub(crate) fn parse_copy<T: Parsed>(alloc: Global, text: &str) -> Result<Rc<T>, TextFault>
+    ensures text { IfOk result (λ tree. T.source tree.value ≡ text.now) }
+    ensures tree { Reads (λ tree. T.view tree.value) result (T.read text.now) }
+{
+    let copy = String::from_str(alloc, text).map_err(|_| TextFault::OutOfMemory)?;
+    Rc::new(alloc, T::parse(alloc, copy)?).map_err(|_| TextFault::OutOfMemory)
 }
 
 /// One more owner of a tree. Errors: `OutOfMemory`, where its count of owners can't grow.
 pub(crate) fn shared<T: Drop>(tree: &Rc<T>) -> Result<Rc<T>, TextFault>
     ensures { MatchResult result (λ copy. copy.value ≡ tree.now.value) (λ fault. fault ≡ OutOfMemory) }
 {
-    match tree.clone() {
-        Ok(copy) => Ok(copy),
-        Err(_) => Err(TextFault::OutOfMemory),
-    }
+    tree.clone().map_err(|_| TextFault::OutOfMemory)
 }

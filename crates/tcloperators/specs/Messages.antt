@@ -26,3 +26,7 @@ bad_index word = codes "bad index \"" ++ (word ++ codes "\"")
 
 unfoldable pub wrong_words : Text → Text
 wrong_words name = codes "wrong # args for \"" ++ (name ++ codes "\"")
+
+-- a text in double quotes
+abbrev pub in_quotes : Text → Text
+in_quotes t = codes "\"" ++ (t ++ codes "\"")

@@ -15,8 +15,8 @@ pub use fault::ValueFault;
 pub use laws::{bits, division};
 pub use lists::{elements, is_among};
 pub use messages::{
-    bad_index, divide_by_zero, negative_shift, not_a_boolean, not_a_list, not_a_whole_number,
-    not_numeric, tcl_error, unsupported, wrong_words,
+    bad_index, divide_by_zero, in_quotes, negative_shift, not_a_boolean, not_a_list,
+    not_a_whole_number, not_numeric, tcl_error, unsupported, unsupported_subcommand, wrong_words,
 };
 pub use operands::sum;
 pub use operators::{Computed, binary, compute, text_order, truth_text, unary};

@@ -1,8 +1,8 @@
-//! The errors of values that catch(n) catches, each with its message.
-ghost use Rattle.std.specs.Prelude.{◌≡◌, ◌++◌, Some, MatchResult, codes, string_bytes};
+//! The errors of values that catch(n) catches, each with its message, and the fault of what is unsupported.
+ghost use Rattle.std.specs.Prelude.{◌≡◌, ◌++◌, Some, IfOk, MatchResult, codes, string_bytes};
 ghost use Rattle.tcloperators.specs.Faults.{HasReason, reason_of, error, unsupported};
 ghost use Rattle.tcloperators.specs.Messages.{not_numeric, not_a_boolean, not_a_whole_number, bad_index, wrong_words};
-ghost use Rattle.tcloperators.specs.Messages.{divide_by_zero, negative_shift, not_a_list};
+ghost use Rattle.tcloperators.specs.Messages.{divide_by_zero, negative_shift, not_a_list, in_quotes};
 ghost use Rattle.tcloperators.specs.declared.fault.ValueFault.TheVariants.{OutOfMemory};
 
 use crate::fault::ValueFault;
@@ -82,12 +82,33 @@ pub fn not_a_list(alloc: Global) -> ValueFault
     tcl_error(String::from_str(alloc, "not a list"))
 }
 
-/// The fault of a subcommand or an option of string(n) that is unsupported.
-pub fn unsupported(alloc: Global, word: &str) -> ValueFault
-    ensures { HasReason (unsupported (codes "string " ++ word.now)) result }
+/// The fault of what has this name and is unsupported: a command, an option, a kind of variable.
+pub fn unsupported(alloc: Global, name: &str) -> ValueFault
+    ensures { HasReason (unsupported name.now) result }
 {
-    match format!(in alloc; "string {word}") {
+    left_out(String::from_str(alloc, name))
+}
+
+/// The fault of a subcommand or an option of this command that is unsupported.
+pub fn unsupported_subcommand(alloc: Global, command: &str, word: &str) -> ValueFault
+    ensures { HasReason (unsupported (command.now ++ (codes " " ++ word.now))) result }
+{
+    left_out(format!(in alloc; "{command} {word}"))
+}
+
+/// The fault that what has this name is unsupported, or `OutOfMemory` where its name could not be made.
+fn left_out(name: Result<String, AllocError>) -> ValueFault
+    ensures { MatchResult name (λ n. reason_of result ≡ Some (unsupported (string_bytes n))) (λ _. result ≡ OutOfMemory) }
+{
+    match name {
         Ok(name) => ValueFault::LeftOut(name),
         Err(_) => ValueFault::OutOfMemory,
     }
+}
+
+/// The text in double quotes, as messages have names.
+pub fn in_quotes(alloc: Global, text: &str) -> Result<String, AllocError>
+    ensures { IfOk result (λ t. string_bytes t ≡ in_quotes text.now) }
+{
+    format!(in alloc; "\"{text}\"")
 }

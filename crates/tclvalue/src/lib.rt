@@ -24,6 +24,6 @@ pub use laws::string_match;
 pub use lists::{joined, list_text};
 pub use pattern::glob;
 pub use tcloperators::{
-    ValueFault, binary, bits, division, elements, is_among, sum, text_order, truth, truth_text,
-    unary,
+    ValueFault, binary, bits, division, elements, in_quotes, is_among, sum, text_order, truth,
+    truth_text, unary, unsupported,
 };

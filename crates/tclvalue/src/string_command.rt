@@ -17,7 +17,9 @@ use crate::searches::{first_position, last_position, mapped, replacements};
 use crate::texts::{Ends, characters_between, repeated, trimmed_of_space_within, trimmed_within};
 use std::alloc::{AllocError, Global};
 use std::cmp::Ordering;
-use tcloperators::{ValueFault, elements, text_order, truth_text, unsupported, wrong_words};
+use tcloperators::{
+    ValueFault, elements, text_order, truth_text, unsupported_subcommand, wrong_words,
+};
 
 /// The answer of `string` to a subcommand and its operands, within a limit on its bytes.
 pub(crate) fn string_value(
@@ -30,10 +32,10 @@ pub(crate) fn string_value(
         (subcommand_named subcommand.now)) }
 {
     let Some(command) = subcommand_named(subcommand) else {
-        return Err(unsupported(alloc, subcommand));
+        return Err(unsupported_subcommand(alloc, "string", subcommand));
     };
     if let Some(option) = option_of(command, operands) {
-        return Err(unsupported(alloc, option));
+        return Err(unsupported_subcommand(alloc, "string", option));
     }
     operation_value(alloc, command, operands, limit)
 }
