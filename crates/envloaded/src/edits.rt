@@ -13,7 +13,7 @@ ghost use Rattle.envvars.specs.declared.fault.EnvFault.TheVariants.{OutOfMemory}
 
 use crate::entry::Loaded;
 use crate::list::{CONFLICTS, FILES, NAMES, PREREQS, loaded};
-use envvars::fields::{copies, deduplicated, join, slices, text_of_elements};
+use envvars::fields::{deduplicated, join, owned, slices, text_of_elements};
 use envvars::{Change, EnvFault, Vars};
 use modulename::is_module_name;
 use std::alloc::{AllocError, Global};
@@ -232,7 +232,7 @@ fn with_conflicts_once(alloc: Global, entry: &Loaded) -> Result<Loaded, AllocErr
     Ok(Loaded {
         name: entry.name.clone()?,
         path: entry.path.clone()?,
-        conflicts: copies(alloc, conflicts.as_slice())?,
+        conflicts: owned(alloc, conflicts.as_slice())?,
         prereqs: entry.prereqs.clone()?,
     })
 }

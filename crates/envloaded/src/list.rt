@@ -9,7 +9,7 @@ ghost use Rattle.envloaded.specs.LoadedEntries.{element_in, GivesList, GivesOrIn
 ghost use Rattle.envloaded.specs.Loaded.{entry_from, entries_from, loaded_in, entry_named, conflicts_in, prereqs_in};
 
 use crate::entry::Loaded;
-use envvars::fields::{are_distinct, copies, deduplicated, elements, parts};
+use envvars::fields::{are_distinct, deduplicated, elements, owned, parts};
 use envvars::{EnvFault, Vars};
 use indexmap::IndexMap;
 use modulename::is_module_name;
@@ -134,7 +134,7 @@ fn conflict_names(alloc: Global, element: Option<&str>) -> Result<Vec<String>, A
     let words = words(alloc, element)?;
     let names = names_among(alloc, words.as_slice())?;
     let names = deduplicated(alloc, names.as_slice())?;
-    copies(alloc, names.as_slice())
+    owned(alloc, names.as_slice())
 }
 
 /// Appends the group in a word, if it has names.
@@ -147,7 +147,7 @@ fn push_group(alloc: Global, groups: &mut Vec<Vec<String>>, word: &str) -> Resul
     if names.is_empty() {
         return Ok(());
     }
-    groups.push(copies(alloc, names.as_slice())?)?;
+    groups.push(owned(alloc, names.as_slice())?)?;
     Ok(())
 }
 

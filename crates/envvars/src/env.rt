@@ -9,7 +9,7 @@ ghost use Rattle.envvars.specs.declared.fault.EnvFault.TheVariants.{OutOfMemory}
 
 use crate::change::Change;
 use crate::fault::EnvFault;
-use crate::fields::{copies, sorted_once};
+use crate::fields::{owned, sorted_once};
 use crate::table::{Table, found, make_changes, names_of, write_entry};
 use crate::vars::Vars;
 use indexmap::IndexMap;
@@ -109,7 +109,7 @@ impl Env {
         let mut names = self.names_in_table(self.alloc)?;
         keep_set(&mut names, self);
         let names = sorted_once(names);
-        Ok(copies(self.alloc, names.as_slice())?)
+        Ok(owned(self.alloc, names.as_slice())?)
     }
 
     /// The names in the table: every variable that is set, and perhaps some that are unset.

@@ -114,13 +114,24 @@ pub fn slices(alloc: Global, texts: &[String]) -> Result<Vec<&str>, AllocError>
     Ok(slices)
 }
 
-/// Copies of the texts.
-pub fn copies(alloc: Global, texts: &[&str]) -> Result<Vec<String>, AllocError>
+/// The texts, owned.
+pub fn owned(alloc: Global, texts: &[&str]) -> Result<Vec<String>, AllocError>
     ensures { IfOk result (λ v. texts_in v ≡ slice_texts texts.now) }
+{
+    let mut owned = Vec::new(alloc);
+    for text in texts {
+        owned.push(String::from_str(alloc, text)?)?;
+    }
+    Ok(owned)
+}
+
+/// Copies of the texts.
+pub fn copies(alloc: Global, texts: &[String]) -> Result<Vec<String>, AllocError>
+    ensures { IfOk result (λ v. texts_in v ≡ map string_bytes texts.now) }
 {
     let mut copies = Vec::new(alloc);
     for text in texts {
-        copies.push(String::from_str(alloc, text)?)?;
+        copies.push(String::from_str(alloc, text.as_str())?)?;
     }
     Ok(copies)
 }
