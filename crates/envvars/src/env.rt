@@ -24,7 +24,7 @@ pub struct Env {
     alloc: Global,
 }
 
-// Not derived: an environment is dropped by one call, so the proof of a caller needn't look into its table.
+// Not derived: it is dropped by one call, so a proof needn't look into its table at each exit.
 impl Drop for Env {
     fn drop(self) {
         let Env {
