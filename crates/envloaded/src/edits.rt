@@ -14,7 +14,7 @@ ghost use Rattle.envvars.specs.declared.fault.EnvFault.TheVariants.{OutOfMemory}
 use crate::entry::Loaded;
 use crate::list::{CONFLICTS, FILES, NAMES, PREREQS, loaded};
 use envvars::fields::{deduplicated, join, owned, slices, text_of_elements};
-use envvars::{Change, EnvFault, Vars};
+use envvars::{Change, EnvFault, Vars, push_change};
 use modulename::is_module_name;
 use std::alloc::{AllocError, Global};
 
@@ -118,21 +118,6 @@ fn prereqs_text(alloc: Global, list: &[Loaded]) -> Result<Option<String>, AllocE
     }
     let elements = slices(alloc, elements.as_slice())?;
     text_of_elements(alloc, elements.as_slice())
-}
-
-/// Appends the change of a variable.
-fn push_change(
-    alloc: Global,
-    changes: &mut Vec<Change>,
-    name: &str,
-    value: Option<String>,
-) -> Result<(), AllocError>
-    ensures { OnOk result (map new_value_of changes.new.items
-        ≡ map new_value_of changes.old.items ++ (name.now, option_map string_bytes value) ∷ []) }
-{
-    let name = String::from_str(alloc, name)?;
-    changes.push(Change { name, value })?;
-    Ok(())
 }
 
 /// The changes of the four variables that write the list.

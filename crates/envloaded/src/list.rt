@@ -106,10 +106,8 @@ fn first_elements<'a>(alloc: Global, elements: &[&'a str]) -> Result<FirstElemen
     ensures { IfOk result (λ m. (name : Text) → element_in m name ≡ first_element name (slice_texts elements.now)) }
 {
     let mut table = IndexMap::new(alloc);
-    let mut rest = elements;
-    while let [element, after @ ..] = rest {
-        enter_element(&mut table, element)?;
-        rest = after;
+    for element in elements {
+        enter_element(&mut table, *element)?;
     }
     Ok(table)
 }
@@ -156,10 +154,8 @@ fn groups_among(alloc: Global, words: &[&str]) -> Result<Vec<Vec<String>>, Alloc
     ensures { IfOk result (λ v. groups_in v ≡ prereqs_among (slice_texts words.now)) }
 {
     let mut groups = Vec::new(alloc);
-    let mut rest = words;
-    while let [word, after @ ..] = rest {
-        push_group(alloc, &mut groups, word)?;
-        rest = after;
+    for word in words {
+        push_group(alloc, &mut groups, *word)?;
     }
     Ok(groups)
 }
