@@ -1,5 +1,5 @@
 -- Reading the loaded texts.
-use Rattle.std.proofs.Common.{◌≡◌, ℕ, suc, Bool, true, false, cond, not, ◌+◌, ◌&&◌, ◌<◌, ◌≤◌, ◌-◌, List, [], ◌∷◌, ◌++◌, refl, sym, ap, ◌∙◌, arith, length, append_assoc, append-nil, take, get_or, take_all, Bor, nat_eq, Option, Some, None, Result, Ok, Err, map, Vec, Global, drop as cut}
+use Rattle.std.proofs.Common.{◌≡◌, ℕ, suc, Bool, true, false, cond, not, ◌+◌, ◌&&◌, ◌<◌, ◌≤◌, List, [], ◌∷◌, ◌++◌, refl, sym, ap, ◌∙◌, arith, length, append_assoc, append-nil, get_or, Bor, nat_eq, Option, Some, None, Result, Ok, Err, map, Vec, Global, drop as cut}
 use Rattle.std.specs.Prelude.{filter, bytes_eq, if◌then◌else◌}
 use Rattle.std.specs.List.{onto_first, slice_split, list_all, position_or_len}
 use Rattle.std.specs.Option.{option_or, option_map, option_copied, is_some}
@@ -7,6 +7,7 @@ use Rattle.std.specs.Result.{IfOk}
 use Rattle.std.specs.declared.string.String.{String}
 use Rattle.std.specs.HashMap.{UpdatesBy}
 use Rattle.std.proofs.lemmas.Bool.Decides.{nat_tests}
+use Rattle.std.proofs.lemmas.List.{drop_more, at_drop_all}
 use Rattle.std.proofs.lemmas.List.Splits.{slice_split_first}
 use Rattle.std.proofs.lemmas.List.Folds.{list_all-map}
 use Rattle.std.proofs.lemmas.Str.Pattern.{IsSplitOnceResult, split_once_first}
@@ -72,13 +73,12 @@ first-cons name e es = at (is_element_of name (parts_of e))
     at true = refl
     at false = refl
 
-pub first-turn : (o o' all : Option Text) (name : Text) (xs : List (Bor Text)) (d : Bor Text) → 1 ≤ length xs
-    → o' ≡ option_or o (if is_element_of name (parts_of (get_or xs 0 d).now) then Some (get_or xs 0 d).now else None)
-    → option_or o (first_element name (slice_texts xs)) ≡ all → option_or o' (first_element name (slice_texts (take (length xs - 1) (cut 1 xs)))) ≡ all
-first-turn o o' all name [] d l e h = absurd (omega arith)
-first-turn o o' all name (x ∷ xs) d l e h =
-    let w : take (length (x ∷ xs) - 1) xs ≡ xs = take_all _ xs (omega arith) in
-    rw (w, e) (or_assoc o _ (first_element name (slice_texts xs)) ∙ ap (option_or o) (sym (first-cons name x.now (slice_texts xs))) ∙ h)
+pub first-turn : (o o' all : Option Text) (name : Text) (xs : List (Bor Text)) (i : ℕ) (d : Bor Text) → i < length xs
+    → o' ≡ option_or o (if is_element_of name (parts_of (get_or xs i d).now) then Some (get_or xs i d).now else None)
+    → option_or o (first_element name (slice_texts (cut i xs))) ≡ all → option_or o' (first_element name (slice_texts (cut (i + 1) xs))) ≡ all
+first-turn o o' all name xs i d l e h =
+    rw e (or_assoc o _ (first_element name (slice_texts (cut (i + 1) xs))) ∙ ap (option_or o) (sym (first-cons name (get_or xs i d).now (slice_texts (cut (i + 1) xs))))
+    ∙ ap (λ (ys : List (Bor Text)). option_or o (first_element name (slice_texts ys))) (sym (drop_more xs i d l)) ∙ h)
 
 -- the names among some words
 filtered_at : (b : Bool) (x : Bor Text) (ys : List (Bor Text)) (zs : List Text) → slice_texts ys ≡ zs → slice_texts (cond b (x ∷ ys) ys) ≡ cond b (x.now ∷ zs) zs
@@ -136,12 +136,11 @@ all_paths (f ∷ fs) = ap (λ (b : Bool). b && list_all (λ file. not (nat_eq (l
 pub all_names : (names : List (Bor Text)) → list_all (λ name. is_module_name name.now) names ≡ list_all is_module_name (slice_texts names)
 all_names names = sym (list_all-map is_module_name (λ x. x.now) names)
 
-pub groups-turn : (gs gs' all : List (List Text)) (xs : List (Bor Text)) (d : Bor Text) → 1 ≤ length xs → gs' ≡ gs ++ filter has_names (names_of_group (get_or xs 0 d).now ∷ [])
-    → gs ++ prereqs_among (slice_texts xs) ≡ all → gs' ++ prereqs_among (slice_texts (take (length xs - 1) (cut 1 xs))) ≡ all
-groups-turn gs gs' all [] d l e h = absurd (omega arith)
-groups-turn gs gs' all (x ∷ xs) d l e h =
-    let w : take (length (x ∷ xs) - 1) xs ≡ xs = take_all _ xs (omega arith) in
-    rw (w, e) (append_assoc gs _ (prereqs_among (slice_texts xs)) ∙ ap (λ (l : List (List Text)). gs ++ l) (sym (groups-cons x.now (slice_texts xs))) ∙ h)
+pub groups-turn : (gs gs' all : List (List Text)) (xs : List (Bor Text)) (i : ℕ) (d : Bor Text) → i < length xs → gs' ≡ gs ++ filter has_names (names_of_group (get_or xs i d).now ∷ [])
+    → gs ++ prereqs_among (slice_texts (cut i xs)) ≡ all → gs' ++ prereqs_among (slice_texts (cut (i + 1) xs)) ≡ all
+groups-turn gs gs' all xs i d l e h =
+    rw e (append_assoc gs _ (prereqs_among (slice_texts (cut (i + 1) xs))) ∙ ap (λ (l : List (List Text)). gs ++ l) (sym (groups-cons (get_or xs i d).now (slice_texts (cut (i + 1) xs))))
+    ∙ ap (λ (ys : List (Bor Text)). gs ++ prereqs_among (slice_texts ys)) (sym (drop_more xs i d l)) ∙ h)
 
 pub ok_words : {E : Type 0} (r : Result (Vec (Bor Text) Global) E) (ws vs : List Text) → ws ≡ vs → IfOk r (λ v. slice_texts v.items ≡ ws) → IfOk r (λ v. slice_texts v.items ≡ vs)
 ok_words (Ok v) ws vs e h = h ∙ e
@@ -178,9 +177,8 @@ absent (Some x) b e h = cc
 pub nothing_first : {S : Type 0} (m : IndexMap (Bor Text) (Bor Text) S) (name : Text) (fs : List (Bor Text)) → m.entries ≡ [] → option_or (element_in m name) (first_element name (slice_texts fs)) ≡ first_element name (slice_texts fs)
 nothing_first m name fs e = rw e refl
 
-pub all_first : (o : Option Text) (name : Text) (xs : List (Bor Text)) (all : Option Text) → length xs < 1 → option_or o (first_element name (slice_texts xs)) ≡ all → o ≡ all
-all_first o name [] all l h = sym (or_none o) ∙ h
-all_first o name (x ∷ xs) all l h = absurd (omega arith)
+pub all_first : (o : Option Text) (name : Text) (xs : List (Bor Text)) (i : ℕ) (all : Option Text) → length xs ≤ i → option_or o (first_element name (slice_texts (cut i xs))) ≡ all → o ≡ all
+all_first o name xs i all l h = sym (or_none o) ∙ sym (at_drop_all (λ (ys : List (Bor Text)). option_or o (first_element name (slice_texts ys))) xs i l) ∙ h
 
 pub no_group : (gs : List (List Text)) (word : Text) → has_names (names_of_group word) ≡ false → gs ≡ gs ++ filter has_names (names_of_group word ∷ [])
 no_group gs word h = rw (h, append-nil) refl

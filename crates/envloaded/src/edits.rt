@@ -13,8 +13,8 @@ ghost use Rattle.envvars.specs.declared.fault.EnvFault.TheVariants.{OutOfMemory}
 
 use crate::entry::Loaded;
 use crate::list::{CONFLICTS, FILES, NAMES, PREREQS, loaded};
-use envvars::fields::{copies, deduplicated, join, slices, text_of_elements};
-use envvars::{Change, EnvFault, Vars};
+use envvars::fields::{deduplicated, join, owned, slices, text_of_elements};
+use envvars::{Change, EnvFault, Vars, push_change};
 use modulename::is_module_name;
 use std::alloc::{AllocError, Global};
 
@@ -120,21 +120,6 @@ fn prereqs_text(alloc: Global, list: &[Loaded]) -> Result<Option<String>, AllocE
     text_of_elements(alloc, elements.as_slice())
 }
 
-/// Appends the change of a variable.
-fn push_change(
-    alloc: Global,
-    changes: &mut Vec<Change>,
-    name: &str,
-    value: Option<String>,
-) -> Result<(), AllocError>
-    ensures { OnOk result (map new_value_of changes.new.items
-        ≡ map new_value_of changes.old.items ++ (name.now, option_map string_bytes value) ∷ []) }
-{
-    let name = String::from_str(alloc, name)?;
-    changes.push(Change { name, value })?;
-    Ok(())
-}
-
 /// The changes of the four variables that write the list.
 fn loaded_changes(alloc: Global, list: &[Loaded]) -> Result<Vec<Change>, AllocError>
     ensures { IfOk result (λ v. map new_value_of v.items ≡ loaded_changes (map entry_of list.now)) }
@@ -232,7 +217,7 @@ fn with_conflicts_once(alloc: Global, entry: &Loaded) -> Result<Loaded, AllocErr
     Ok(Loaded {
         name: entry.name.clone()?,
         path: entry.path.clone()?,
-        conflicts: copies(alloc, conflicts.as_slice())?,
+        conflicts: owned(alloc, conflicts.as_slice())?,
         prereqs: entry.prereqs.clone()?,
     })
 }

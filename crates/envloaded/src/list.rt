@@ -9,7 +9,7 @@ ghost use Rattle.envloaded.specs.LoadedEntries.{element_in, GivesList, GivesOrIn
 ghost use Rattle.envloaded.specs.Loaded.{entry_from, entries_from, loaded_in, entry_named, conflicts_in, prereqs_in};
 
 use crate::entry::Loaded;
-use envvars::fields::{are_distinct, copies, deduplicated, elements, parts};
+use envvars::fields::{are_distinct, deduplicated, elements, owned, parts};
 use envvars::{EnvFault, Vars};
 use indexmap::IndexMap;
 use modulename::is_module_name;
@@ -106,10 +106,8 @@ fn first_elements<'a>(alloc: Global, elements: &[&'a str]) -> Result<FirstElemen
     ensures { IfOk result (λ m. (name : Text) → element_in m name ≡ first_element name (slice_texts elements.now)) }
 {
     let mut table = IndexMap::new(alloc);
-    let mut rest = elements;
-    while let [element, after @ ..] = rest {
-        enter_element(&mut table, element)?;
-        rest = after;
+    for element in elements {
+        enter_element(&mut table, *element)?;
     }
     Ok(table)
 }
@@ -134,7 +132,7 @@ fn conflict_names(alloc: Global, element: Option<&str>) -> Result<Vec<String>, A
     let words = words(alloc, element)?;
     let names = names_among(alloc, words.as_slice())?;
     let names = deduplicated(alloc, names.as_slice())?;
-    copies(alloc, names.as_slice())
+    owned(alloc, names.as_slice())
 }
 
 /// Appends the group in a word, if it has names.
@@ -147,7 +145,7 @@ fn push_group(alloc: Global, groups: &mut Vec<Vec<String>>, word: &str) -> Resul
     if names.is_empty() {
         return Ok(());
     }
-    groups.push(copies(alloc, names.as_slice())?)?;
+    groups.push(owned(alloc, names.as_slice())?)?;
     Ok(())
 }
 
@@ -156,10 +154,8 @@ fn groups_among(alloc: Global, words: &[&str]) -> Result<Vec<Vec<String>>, Alloc
     ensures { IfOk result (λ v. groups_in v ≡ prereqs_among (slice_texts words.now)) }
 {
     let mut groups = Vec::new(alloc);
-    let mut rest = words;
-    while let [word, after @ ..] = rest {
-        push_group(alloc, &mut groups, word)?;
-        rest = after;
+    for word in words {
+        push_group(alloc, &mut groups, *word)?;
     }
     Ok(groups)
 }

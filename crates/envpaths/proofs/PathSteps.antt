@@ -13,7 +13,7 @@ use Rattle.envvars.specs.Texts.{Text, has, slice_texts}
 use Rattle.envpaths.specs.Paths.{PathState, largest_counter, put_at, add, drop, add_front, add_back, drop_all}
 use Rattle.envpaths.specs.PathTexts.{counter_in_pairs, paired, pairs_of, elements_of, state_from_pairs, state_of}
 use Rattle.envvars.specs.Fields.{without}
-use Rattle.std.proofs.lemmas.List.{map-append, reverse-append, take_more, length-take}
+use Rattle.std.proofs.lemmas.List.{map-append, reverse-append, take_more, length-take, drop_more, at_drop_all}
 use Rattle.std.specs.Option.{IfSome, option_or, option_map}
 use Rattle.envpaths.specs.Counters.{counter_of}
 use Rattle.envpaths.proofs.PairLemmas.{or_assoc}
@@ -31,38 +31,20 @@ use Rattle.envpaths.proofs.Readable.{IsWritable-state_from_pairs}
 
 -- reading
 
-pub none_left : (p : Text → Bool) (rest : List (Bor Text)) (all : Bool) → length rest < 1 → list_all p (slice_texts rest) ≡ all → true ≡ all
-none_left p [] all l h = h
-none_left p (y ∷ ys) all l h = absurd (omega arith)
-
-pub fails : (p : Text → Bool) (rest : List (Bor Text)) (d : Bor Text) (all : Bool) → 1 ≤ length rest → p (get_or rest 0 d).now ≡ false → list_all p (slice_texts rest) ≡ all → false ≡ all
-fails p [] d all l f h = absurd (omega arith)
-fails p (y ∷ ys) d all l f h = sym (ap (λ (b : Bool). b && list_all p (slice_texts ys)) f) ∙ h
-
-pub passes : (p : Text → Bool) (rest : List (Bor Text)) (d : Bor Text) (all : Bool) → 1 ≤ length rest → p (get_or rest 0 d).now ≡ true → list_all p (slice_texts rest) ≡ all
-    → list_all p (slice_texts (take (length rest - 1) (cut 1 rest))) ≡ all
-passes p [] d all l f h = absurd (omega arith)
-passes p (y ∷ ys) d all l f h =
-    let w : take (length (y ∷ ys) - 1) ys ≡ ys = take_all _ ys (omega arith) in
-    ap (λ (zs : List (Bor Text)). list_all p (slice_texts zs)) w ∙ sym (ap (λ (b : Bool). b && list_all p (slice_texts ys)) f) ∙ h
-
 -- one more element is given the counter 1
 given : (b h : Bool) (o : Option ℕ) → cond h (Some 1) (cond b (Some 1) o) ≡ cond (b || h) (Some 1) o
 given true true o = refl
 given true false o = refl
 given false h o = refl
 
-pub ones_turn : (m n all : CounterTable) (rest : List (Bor Text)) (d : Bor Text) → 1 ≤ length rest → ((x : Text) → n x ≡ cond (bytes_eq x (get_or rest 0 d).now) (Some 1) (m x))
-    → ((x : Text) → (if has x (slice_texts rest) then Some 1 else m x) ≡ all x) → (x : Text) → (if has x (slice_texts (take (length rest - 1) (cut 1 rest))) then Some 1 else n x) ≡ all x
-ones_turn m n all [] d l f g x = absurd (omega arith)
-ones_turn m n all (y ∷ ys) d l f g x =
-    let w : take (length (y ∷ ys) - 1) ys ≡ ys = take_all _ ys (omega arith) in
-    ap (λ (zs : List (Bor Text)). if has x (slice_texts zs) then Some 1 else n x) w
-    ∙ ap (λ o. if has x (slice_texts ys) then Some 1 else o) (f x) ∙ given (bytes_eq x y.now) (has x (slice_texts ys)) (m x) ∙ g x
+pub ones_turn : (m n all : CounterTable) (xs : List (Bor Text)) (i : ℕ) (d : Bor Text) → i < length xs → ((x : Text) → n x ≡ cond (bytes_eq x (get_or xs i d).now) (Some 1) (m x))
+    → ((x : Text) → (if has x (slice_texts (cut i xs)) then Some 1 else m x) ≡ all x) → (x : Text) → (if has x (slice_texts (cut (i + 1) xs)) then Some 1 else n x) ≡ all x
+ones_turn m n all xs i d l f g x =
+    ap (λ o. if has x (slice_texts (cut (i + 1) xs)) then Some 1 else o) (f x) ∙ given (bytes_eq x (get_or xs i d).now) (has x (slice_texts (cut (i + 1) xs))) (m x)
+    ∙ ap (λ (ys : List (Bor Text)). if has x (slice_texts ys) then Some 1 else m x) (sym (drop_more xs i d l)) ∙ g x
 
-pub ones_done : (m all : CounterTable) (rest : List (Bor Text)) → length rest < 1 → ((x : Text) → (if has x (slice_texts rest) then Some 1 else m x) ≡ all x) → (x : Text) → m x ≡ all x
-ones_done m all [] l g x = g x
-ones_done m all (y ∷ ys) l g x = absurd (omega arith)
+pub ones_done : (m all : CounterTable) (xs : List (Bor Text)) (i : ℕ) → length xs ≤ i → ((x : Text) → (if has x (slice_texts (cut i xs)) then Some 1 else m x) ≡ all x) → (x : Text) → m x ≡ all x
+ones_done m all xs i l g x = sym (at_drop_all (λ (ys : List (Bor Text)). if has x (slice_texts ys) then Some 1 else m x) xs i l) ∙ g x
 
 -- a pair is noted
 
@@ -318,15 +300,17 @@ full_front m xs x before k l = over_fails _ (subst IsOver (sym (add_front-push (
 
 -- the turns of the loops
 
-pub back_turn : (m n : CounterTable) (xs ys : List Text) (rest : List (Bor Text)) (d : Bor Text) (all : PathState) → 1 ≤ length rest → Adds m xs × (add_back (state_from_table xs m) (slice_texts rest) ≡ all)
-    → ((y : Text) → n y ≡ raised m (get_or rest 0 d).now y) → ys ≡ with_new_element xs m (get_or rest 0 d).now → count_in m (get_or rest 0 d).now < largest_counter
-    → Adds n ys × (add_back (state_from_table ys n) (slice_texts (take (length rest - 1) (cut 1 rest))) ≡ all)
-back_turn m n xs ys [] d all l k e g s = absurd (omega arith)
-back_turn m n xs ys (z ∷ zs) d all l k e g s =
-    let w : take (length (z ∷ zs) - 1) zs ≡ zs = take_all _ zs (omega arith) in (
-      Adds-raised m n xs ys z.now Back k.0 e g s,
-      ap (λ (vs : List (Bor Text)). add_back (state_from_table ys n) (slice_texts vs)) w ∙ ap (λ (t : PathState). add_back t (slice_texts zs)) (added_state m n xs ys z.now Back k.0 e g) ∙ k.1,
-    )
+pub back_turn : (m n : CounterTable) (xs ys : List Text) (more : List (Bor Text)) (i : ℕ) (d : Bor Text) (all : PathState) → i < length more → Adds m xs × (add_back (state_from_table xs m) (slice_texts (cut i more)) ≡ all)
+    → ((y : Text) → n y ≡ raised m (get_or more i d).now y) → ys ≡ with_new_element xs m (get_or more i d).now → count_in m (get_or more i d).now < largest_counter
+    → Adds n ys × (add_back (state_from_table ys n) (slice_texts (cut (i + 1) more)) ≡ all)
+back_turn m n xs ys more i d all l k e g s = (
+  Adds-raised m n xs ys (get_or more i d).now Back k.0 e g s,
+  ap (λ (t : PathState). add_back t (slice_texts (cut (i + 1) more))) (added_state m n xs ys (get_or more i d).now Back k.0 e g)
+      ∙ ap (λ (zs : List (Bor Text)). add_back (state_from_table xs m) (slice_texts zs)) (sym (drop_more more i d l)) ∙ k.1,
+)
+
+pub back_done : (s all : PathState) (more : List (Bor Text)) (i : ℕ) → length more ≤ i → add_back s (slice_texts (cut i more)) ≡ all → s ≡ all
+back_done s all more i l h = sym (at_drop_all (λ (zs : List (Bor Text)). add_back s (slice_texts zs)) more i l) ∙ h
 
 -- a refusal for a full counter is one for the whole
 pub full_for : (e : EnvFault) (name : Text) (n : ℕ) (s : PathState) → IfSome (reason_of e) (λ r. (r ≡ counter_full name) × (largest_counter ≤ n)) → (largest_counter ≤ n → counters_fit s ≡ false) → IsFull e name s
@@ -336,11 +320,11 @@ full_for e name n s h f = each (reason_of e) h
     each None h = h
     each (Some r) h = (h.0, f h.1)
 
-pub back_full : (e : EnvFault) (name : Text) (m : CounterTable) (xs : List Text) (rest : List (Bor Text)) (d : Bor Text) (all : PathState) → 1 ≤ length rest → Adds m xs × (add_back (state_from_table xs m) (slice_texts rest) ≡ all)
-    → IfSome (reason_of e) (λ r. (r ≡ counter_full name) × (largest_counter ≤ count_in m (get_or rest 0 d).now)) → IsFull e name all
-back_full e name m xs [] d all l k h = absurd (omega arith)
-back_full e name m xs (z ∷ zs) d all l k h =
-    full_for e name (count_in m z.now) all h (λ o. ap counters_fit (sym k.1) ∙ full_back m xs z.now (slice_texts zs) k.0 o)
+pub back_full : (e : EnvFault) (name : Text) (m : CounterTable) (xs : List Text) (more : List (Bor Text)) (i : ℕ) (d : Bor Text) (all : PathState) → i < length more → Adds m xs × (add_back (state_from_table xs m) (slice_texts (cut i more)) ≡ all)
+    → IfSome (reason_of e) (λ r. (r ≡ counter_full name) × (largest_counter ≤ count_in m (get_or more i d).now)) → IsFull e name all
+back_full e name m xs more i d all l k h =
+    full_for e name (count_in m (get_or more i d).now) all h
+    (λ o. ap counters_fit (sym k.1 ∙ ap (λ (zs : List (Bor Text)). add_back (state_from_table xs m) (slice_texts zs)) (drop_more more i d l)) ∙ full_back m xs (get_or more i d).now (slice_texts (cut (i + 1) more)) k.0 o)
 
 slice_texts-append : (xs ys : List (Bor Text)) → slice_texts (xs ++ ys) ≡ slice_texts xs ++ slice_texts ys
 slice_texts-append xs ys = map-append (λ x. x.now) xs ys
@@ -455,12 +439,14 @@ pub dropped_state : (xs : List Text) (m n : CounterTable) (x : Text) → ((y : T
 dropped_state xs m n x e = kept_same xs (lowered m x) n e ∙ sym (drop-state_from_table xs m x)
 
 -- one more element is dropped
-pub drops_turn : (m n : CounterTable) (rest : List (Bor Text)) (d : Bor Text) (all : List Text → PathState) → 1 ≤ length rest → ((y : Text) → n y ≡ lowered m (get_or rest 0 d).now y)
-    → ((xs : List Text) → drop_all (state_from_table (kept xs m) m) (slice_texts rest) ≡ all xs) → (xs : List Text) → drop_all (state_from_table (kept xs n) n) (slice_texts (take (length rest - 1) (cut 1 rest))) ≡ all xs
-drops_turn m n [] d all l e h xs = absurd (omega arith)
-drops_turn m n (y ∷ ys) d all l e h xs =
-    let w : take (length (y ∷ ys) - 1) ys ≡ ys = take_all _ ys (omega arith) in
-    ap (λ (zs : List (Bor Text)). drop_all (state_from_table (kept xs n) n) (slice_texts zs)) w ∙ ap (λ (s : PathState). drop_all s (slice_texts ys)) (dropped_state xs m n y.now e) ∙ h xs
+pub drops_turn : (m n : CounterTable) (less : List (Bor Text)) (i : ℕ) (d : Bor Text) (all : List Text → PathState) → i < length less → ((y : Text) → n y ≡ lowered m (get_or less i d).now y)
+    → ((xs : List Text) → drop_all (state_from_table (kept xs m) m) (slice_texts (cut i less)) ≡ all xs) → (xs : List Text) → drop_all (state_from_table (kept xs n) n) (slice_texts (cut (i + 1) less)) ≡ all xs
+drops_turn m n less i d all l e h xs =
+    ap (λ (s : PathState). drop_all s (slice_texts (cut (i + 1) less))) (dropped_state xs m n (get_or less i d).now e)
+    ∙ ap (λ (zs : List (Bor Text)). drop_all (state_from_table (kept xs m) m) (slice_texts zs)) (sym (drop_more less i d l)) ∙ h xs
+
+pub drops_done : (s all : PathState) (less : List (Bor Text)) (i : ℕ) → length less ≤ i → drop_all s (slice_texts (cut i less)) ≡ all → s ≡ all
+drops_done s all less i l h = sym (at_drop_all (λ (zs : List (Bor Text)). drop_all s (slice_texts zs)) less i l) ∙ h
 
 filter_every : (p : Text → Bool) (xs : List Text) → ((y : Text) → has y xs ≡ true → p y ≡ true) → filter p xs ≡ xs
 filter_every p [] h = refl

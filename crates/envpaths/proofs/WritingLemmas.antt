@@ -1,5 +1,5 @@
 -- The text of the counters as it is written.
-use Rattle.std.proofs.Common.{◌≡◌, ◌≢◌, ℕ, ◌-◌, ◌≤◌, Bool, true, false, cond, not, ◌||◌, List, [], ◌∷◌, ◌++◌, refl, sym, ap, ◌∙◌, arith, leb, Option, Some, None, Result, Ok, Err, Bor, take, get_or, append_assoc, take_all, string_bytes}
+use Rattle.std.proofs.Common.{◌≡◌, ◌≢◌, ℕ, ◌+◌, ◌<◌, ◌≤◌, Bool, true, false, cond, not, ◌||◌, List, [], ◌∷◌, ◌++◌, refl, sym, ap, ◌∙◌, arith, leb, Option, Some, None, Result, Ok, Err, Bor, get_or, append_assoc, append-nil, string_bytes}
 use Rattle.std.proofs.Common.{drop as cut}
 use Rattle.std.specs.Prelude.{filter, flat_map, bytes_eq, unwrap_or, decimal, encode_utf8, if◌then◌else◌}
 use Rattle.std.specs.Option.{option_map}
@@ -11,6 +11,7 @@ use Rattle.std.specs.Map as maps
 use Rattle.std.proofs.lemmas.Bool.{false≢true}
 use Rattle.std.proofs.lemmas.Bool.Decides.{nat_tests}
 use Rattle.std.proofs.lemmas.Str.{encode_ascii}
+use Rattle.std.proofs.lemmas.List.{drop_more, at_drop_all}
 use Rattle.indexmap.specs.IndexMap.{IndexMap, values}
 use Rattle.envvars.specs.Texts.{Text, slice_texts}
 use Rattle.envvars.specs.Fields.{joined, text_of_elements, without, without_repeats}
@@ -83,23 +84,28 @@ pairs_left : (m n : CounterTable) (x : Text) (ys : List Text) → ((z : Text) �
 pairs_left m n x [] f = refl
 pairs_left m n x (y ∷ ys) f = pairs_at m n x y ys (bytes_eq y x) refl f (pairs_left m n x ys f)
 
-counted_turn : (m n : CounterTable) (fs : List Text) (rest : List (Bor Text)) (d : Bor Text) (all : List Text) (count : ℕ) → 1 ≤ length rest → ((z : Text) → n z ≡ cond (bytes_eq z (get_or rest 0 d).now) (Some 1) (m z))
-    → count ≡ count_in m (get_or rest 0 d).now → fs ++ flat_map (pair_fields (count_in m)) (without_repeats (slice_texts rest)) ≡ all
-    → (fs ++ pair_fields (λ x. count) (get_or rest 0 d).now) ++ flat_map (pair_fields (count_in n)) (without_repeats (slice_texts (take (length rest - 1) (cut 1 rest)))) ≡ all
-counted_turn m n fs [] d all count l f c h = absurd (omega arith)
-counted_turn m n fs (y ∷ ys) d all count l f c h =
-    let w : take (length (y ∷ ys) - 1) ys ≡ ys = take_all _ ys (omega arith) in
-    ap (λ (zs : List (Bor Text)). (fs ++ pair_fields (λ x. count) y.now) ++ flat_map (pair_fields (count_in n)) (without_repeats (slice_texts zs))) w
-    ∙ ap (λ (l : List Text). (fs ++ pair_fields (λ x. count) y.now) ++ l) (pairs_left m n y.now (without_repeats (slice_texts ys)) f)
-    ∙ append_assoc fs (pair_fields (λ x. count) y.now) (flat_map (pair_fields (count_in m)) (without y.now (without_repeats (slice_texts ys))))
-    ∙ ap (λ (k : ℕ). fs ++ (cond (leb 2 k) (escaped y.now ∷ decimal k ∷ []) [] ++ flat_map (pair_fields (count_in m)) (without y.now (without_repeats (slice_texts ys))))) c
-    ∙ h
+counted_turn : (m n : CounterTable) (fs : List Text) (xs : List (Bor Text)) (i : ℕ) (d : Bor Text) (all : List Text) (count : ℕ) → i < length xs → ((z : Text) → n z ≡ cond (bytes_eq z (get_or xs i d).now) (Some 1) (m z))
+    → count ≡ count_in m (get_or xs i d).now → fs ++ flat_map (pair_fields (count_in m)) (without_repeats (slice_texts (cut i xs))) ≡ all
+    → (fs ++ pair_fields (λ x. count) (get_or xs i d).now) ++ flat_map (pair_fields (count_in n)) (without_repeats (slice_texts (cut (i + 1) xs))) ≡ all
+counted_turn m n fs xs i d all count l f c h =
+    let y : Text = (get_or xs i d).now in
+    let ys : List Text = slice_texts (cut (i + 1) xs) in
+    ap (λ (l : List Text). (fs ++ pair_fields (λ x. count) y) ++ l) (pairs_left m n y (without_repeats ys) f)
+    ∙ append_assoc fs (pair_fields (λ x. count) y) (flat_map (pair_fields (count_in m)) (without y (without_repeats ys)))
+    ∙ ap (λ (k : ℕ). fs ++ (cond (leb 2 k) (escaped y ∷ decimal k ∷ []) [] ++ flat_map (pair_fields (count_in m)) (without y (without_repeats ys)))) c
+    ∙ ap (λ (zs : List (Bor Text)). fs ++ flat_map (pair_fields (count_in m)) (without_repeats (slice_texts zs))) (sym (drop_more xs i d l)) ∙ h
 
-pub counts_turn : (m n : CounterTable) (o p : Option Text) (rest : List (Bor Text)) (d : Bor Text) (all : List Text) (count : ℕ) → 1 ≤ length rest → ((z : Text) → n z ≡ cond (bytes_eq z (get_or rest 0 d).now) (Some 1) (m z))
-    → count ≡ count_in m (get_or rest 0 d).now → ((fs : List Text) → o ≡ text_of_elements fs → p ≡ text_of_elements (fs ++ pair_fields (λ x. count) (get_or rest 0 d).now))
-    → (fs : List Text) × (o ≡ text_of_elements fs) × (fs ++ flat_map (pair_fields (count_in m)) (without_repeats (slice_texts rest)) ≡ all)
-    → (fs : List Text) × (p ≡ text_of_elements fs) × (fs ++ flat_map (pair_fields (count_in n)) (without_repeats (slice_texts (take (length rest - 1) (cut 1 rest)))) ≡ all)
-counts_turn m n o p rest d all count l f c w h = (h.0 ++ pair_fields (λ x. count) (get_or rest 0 d).now, w h.0 h.1, counted_turn m n h.0 rest d all count l f c h.2)
+pub counts_turn : (m n : CounterTable) (o p : Option Text) (xs : List (Bor Text)) (i : ℕ) (d : Bor Text) (all : List Text) (count : ℕ) → i < length xs → ((z : Text) → n z ≡ cond (bytes_eq z (get_or xs i d).now) (Some 1) (m z))
+    → count ≡ count_in m (get_or xs i d).now → ((fs : List Text) → o ≡ text_of_elements fs → p ≡ text_of_elements (fs ++ pair_fields (λ x. count) (get_or xs i d).now))
+    → (fs : List Text) × (o ≡ text_of_elements fs) × (fs ++ flat_map (pair_fields (count_in m)) (without_repeats (slice_texts (cut i xs))) ≡ all)
+    → (fs : List Text) × (p ≡ text_of_elements fs) × (fs ++ flat_map (pair_fields (count_in n)) (without_repeats (slice_texts (cut (i + 1) xs))) ≡ all)
+counts_turn m n o p xs i d all count l f c w h = (h.0 ++ pair_fields (λ x. count) (get_or xs i d).now, w h.0 h.1, counted_turn m n h.0 xs i d all count l f c h.2)
+
+-- nothing is left
+pub counts_done : (m : CounterTable) (o : Option Text) (xs : List (Bor Text)) (i : ℕ) (all : List Text) → length xs ≤ i
+    → (fs : List Text) × (o ≡ text_of_elements fs) × (fs ++ flat_map (pair_fields (count_in m)) (without_repeats (slice_texts (cut i xs))) ≡ all) → o ≡ text_of_elements all
+counts_done m o xs i all l h =
+    h.1 ∙ ap text_of_elements (sym (append-nil h.0) ∙ sym (at_drop_all (λ (zs : List (Bor Text)). h.0 ++ flat_map (pair_fields (count_in m)) (without_repeats (slice_texts zs))) xs i l) ∙ h.2)
 
 -- the fields that are written
 

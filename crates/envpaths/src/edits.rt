@@ -15,7 +15,7 @@ ghost use Rattle.envpaths.specs.PathEdits.{AreTexts, IsFull, IsWrittenOrFull};
 
 use crate::counters::Counters;
 use crate::texts::{Path, PathTexts, read_path, write_path};
-use envvars::{Change, EnvFault, Vars, judge_name, share_name};
+use envvars::{EnvFault, Vars, judge_name, push_change, share_name};
 use std::alloc::{AllocError, Global};
 
 /// The end of the list at which elements are added.
@@ -38,7 +38,7 @@ fn is_delimiter(delim: char) -> bool
 }
 
 /// Whether a path variable with this delimiter can hold the element: one without the delimiter and without NUL.
-fn is_element(delim: char, text: &str) -> bool
+pub fn is_element(delim: char, text: &str) -> bool
     requires { delim < 128 }
     ensures { result ≡ is_element delim text.now }
 {
@@ -51,14 +51,7 @@ fn are_elements(delim: char, texts: &[&str]) -> bool
     requires { delim < 128 }
     ensures { result ≡ list_all (is_element delim) (slice_texts texts.now) }
 {
-    let mut rest = texts;
-    while let [text, after @ ..] = rest {
-        if !is_element(delim, text) {
-            return false;
-        }
-        rest = after;
-    }
-    true
+    texts.iter().all(|text| is_element(delim, text))
 }
 
 /// Accepts an edit by its words alone. The errors are those of the variable's name, then `BadValue` for the delimiter
@@ -69,7 +62,7 @@ fn judge_path(alloc: Global, var: &str, delim: char, elements: &[&str]) -> Resul
 {
     judge_name(alloc, var)?;
     if !is_delimiter(delim) || !are_elements(delim, elements) {
-        return Err(EnvFault::BadValue(String::from_str(alloc, var)?));
+        return Err(EnvFault::bad_value(alloc, var));
     }
     Ok(())
 }
@@ -116,10 +109,8 @@ fn add_back<'a>(
     ensures full { IfErr result (λ e. IsFull e var.now (add_back (state_from_table (slice_texts elements.old.items)
         (counter_in counters.old)) (slice_texts more.now))) }
 {
-    let mut rest = more;
-    while let [element, after @ ..] = rest {
-        add_one(alloc, var, elements, counters, element)?;
-        rest = after;
+    for element in more {
+        add_one(alloc, var, elements, counters, *element)?;
     }
     Ok(())
 }
@@ -228,7 +219,7 @@ pub fn add_path<V: Vars>(
         elements,
         end,
     )?;
-    write_both(alloc, env, var, share, texts)
+    write_both(alloc, env, var, share.as_str(), texts)
 }
 
 /// Takes one from the counter of an element, and removes the counter at 0. The result is whether one may be gone.
@@ -254,10 +245,8 @@ fn drop_each(counters: &mut Counters<'_>, less: &[&str]) -> bool
     ensures one_is_gone { result ≡ false → HaveSameElements (counter_in counters.old) (counter_in counters.new) }
 {
     let mut one_is_gone = false;
-    let mut rest = less;
-    while let [element, after @ ..] = rest {
-        one_is_gone |= drop_one(counters, element);
-        rest = after;
+    for element in less {
+        one_is_gone |= drop_one(counters, *element);
     }
     one_is_gone
 }
@@ -302,10 +291,10 @@ fn write_both<V: Vars>(
     alloc: Global,
     env: &mut V,
     var: &str,
-    share: String,
+    share: &str,
     texts: PathTexts,
 ) -> Result<(), EnvFault>
-    requires { string_bytes share ≡ share_name var.now }
+    requires { share.now ≡ share_name var.now }
     ensures ok { OnOk result (V.vars env.new ≡ with_value (with_value (V.vars env.old) var.now
         (option_map string_bytes texts.elements)) (share_name var.now) (option_map string_bytes texts.counters)) }
     ensures err { OnErr result (V.vars env.new ≡ V.vars env.old) }
@@ -313,14 +302,8 @@ fn write_both<V: Vars>(
     ensures base { V.base env.new ≡ V.base env.old }
 {
     let mut changes = Vec::new(alloc);
-    changes.push(Change {
-        name: String::from_str(alloc, var)?,
-        value: texts.elements,
-    })?;
-    changes.push(Change {
-        name: share,
-        value: texts.counters,
-    })?;
+    push_change(alloc, &mut changes, var, texts.elements)?;
+    push_change(alloc, &mut changes, share, texts.counters)?;
     env.apply(changes)
 }
 
@@ -350,5 +333,5 @@ pub fn drop_path<V: Vars>(
         env.get(share.as_str()),
         elements,
     )?;
-    write_both(alloc, env, var, share, texts)
+    write_both(alloc, env, var, share.as_str(), texts)
 }

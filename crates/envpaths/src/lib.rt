@@ -8,4 +8,4 @@ mod edits;
 pub mod laws;
 mod texts;
 
-pub use edits::{End, add_path, drop_path};
+pub use edits::{End, add_path, drop_path, is_element};

@@ -88,10 +88,8 @@ fn counters_of_one<'a>(alloc: Global, elements: &[&'a str]) -> Result<Counters<'
     ensures { IfOk result (λ m. (x : Text) → counter_in m x ≡ one_for_each (slice_texts elements.now) x) }
 {
     let mut counters = IndexMap::with_capacity(alloc, elements.len())?;
-    let mut rest = elements;
-    while let [element, after @ ..] = rest {
+    for element in elements {
         counters.insert(*element, 1)?;
-        rest = after;
     }
     Ok(counters)
 }
@@ -211,11 +209,9 @@ fn counters_text<'a>(
         ≡ text_of_elements (flat_map (pair_fields (count_in (counter_in counters.old))) (without_repeats (slice_texts elements.now)))) }
 {
     let mut text = String::new(alloc);
-    let mut rest = elements;
-    while let [element, after @ ..] = rest {
+    for element in elements {
         let count = counters.insert(*element, 1)?.unwrap_or(0);
-        push_count(&mut text, element, count)?;
-        rest = after;
+        push_count(&mut text, *element, count)?;
     }
     Ok(unless_empty(text))
 }

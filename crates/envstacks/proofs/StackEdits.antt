@@ -1,15 +1,15 @@
 -- Edits of stacks, put together from their parts.
-use Rattle.std.proofs.Common.{◌≡◌, Bool, true, false, cond, not, ◌||◌, List, [], ◌∷◌, refl, sym, ap, ◌∙◌, Option, Some, None, Ok, Err, string_bytes, map}
+use Rattle.std.proofs.Common.{ℕ, zero, suc, ◌+◌, ◌&&◌, length, take, arith, ◌≡◌, Bool, true, false, cond, not, ◌||◌, List, [], ◌∷◌, refl, sym, ap, ◌∙◌, Option, Some, None, Ok, Err, string_bytes, map}
 use Rattle.std.specs.Prelude.{filter, if◌then◌else◌, is_some}
 use Rattle.std.specs.Option.{option_map}
-use Rattle.std.specs.List.{list_any}
+use Rattle.std.specs.List.{list_all, list_any}
 use Rattle.std.specs.declared.string.String.{String}
 use Rattle.std.specs.declared.alloc.Global.{Global}
 use Rattle.envvars.specs.Texts.{Text}
 use Rattle.envvars.specs.Names.{stack_name}
 use Rattle.envvars.specs.Environment.{Environment, lookup}
 use Rattle.envstacks.specs.Stacks.{OwnedValue, is_owner, has_owner, holds, without_owner, visible, push, without_lone_bottom, on_top}
-use Rattle.envstacks.specs.StackTexts.{items_in}
+use Rattle.envstacks.specs.StackTexts.{items_in, bottoms_last}
 use Rattle.envstacks.specs.StackItems.{item_in}
 use Rattle.envstacks.specs.StackVariables.{stack_from, stack_in, with_stack, push_reason, pop_reason, pushed_on, popped_from, pushed_value, popped_value}
 use Rattle.envvars.specs.Reasons.{bad_stack}
@@ -18,6 +18,24 @@ use Rattle.envstacks.specs.declared.texts.StackItem.{StackItem}
 owned_is : (o : Option (String Global)) → is_some o ≡ has_owner (option_map string_bytes o)
 owned_is None = refl
 owned_is (Some x) = refl
+
+both_owned : (a b : Bool) (c d : Bool) → a ≡ b → c ≡ d → (a && c) ≡ ((b || false) && d)
+both_owned true true c d e f = f
+both_owned true false c d e f = cc
+both_owned false true c d e f = cc
+both_owned false false c d e f = refl
+
+last_owned : (b : Bool) → true ≡ ((b || true) && true)
+last_owned true = refl
+last_owned false = refl
+
+-- those before the last are owned
+pub front_owned : (items : List StackItem) (n : ℕ) → n + 1 ≡ length items → list_all (λ item. is_some item.owner) (take n items) ≡ bottoms_last (map item_in items)
+front_owned [] n e = absurd (omega arith)
+front_owned (x ∷ []) zero e = last_owned (has_owner (option_map string_bytes x.owner))
+front_owned (x ∷ []) (suc n) e = absurd (omega arith)
+front_owned (x ∷ y ∷ ys) zero e = absurd (omega arith)
+front_owned (x ∷ y ∷ ys) (suc n) e = both_owned _ _ _ _ (owned_is x.owner) (front_owned (y ∷ ys) n (omega arith))
 
 any_owned : (items : List StackItem) → list_any (λ item. is_some item.owner) items ≡ list_any (λ item. has_owner item.0) (map item_in items)
 any_owned [] = refl

@@ -12,7 +12,7 @@ ghost use Rattle.envvars.specs.declared.fault.EnvFault.TheVariants.{OutOfMemory}
 
 use crate::texts::{StackItem, read_stack, stack_text};
 use envvars::fields::copy;
-use envvars::{Change, EnvFault, Vars, is_nul_free, judge_name, stack_name};
+use envvars::{EnvFault, Vars, is_nul_free, judge_name, push_change, stack_name};
 use modulename::is_module_name;
 use std::alloc::{AllocError, Global};
 
@@ -30,7 +30,7 @@ fn judge_push(alloc: Global, var: &str, owner: &str, value: &str) -> Result<(), 
 {
     judge_name(alloc, var)?;
     if !can_push(owner, value) {
-        return Err(EnvFault::BadValue(String::from_str(alloc, var)?));
+        return Err(EnvFault::bad_value(alloc, var));
     }
     Ok(())
 }
@@ -42,7 +42,7 @@ fn judge_pop(alloc: Global, var: &str, owner: &str) -> Result<(), EnvFault>
 {
     judge_name(alloc, var)?;
     if !is_module_name(owner) {
-        return Err(EnvFault::BadValue(String::from_str(alloc, var)?));
+        return Err(EnvFault::bad_value(alloc, var));
     }
     Ok(())
 }
@@ -163,10 +163,10 @@ fn write_stack<V: Vars>(
     env: &mut V,
     var: &str,
     value: Option<String>,
-    name: String,
+    name: &str,
     items: &[StackItem],
 ) -> Result<(), EnvFault>
-    requires { string_bytes name ≡ stack_name var.now }
+    requires { name.now ≡ stack_name var.now }
     ensures ok { OnOk result (V.vars env.new ≡ with_stack (V.vars env.old) var.now (state_of_owned items.now value)) }
     ensures err { OnErr result (V.vars env.new ≡ V.vars env.old) }
     ensures only { IfErr result (λ e. e ≡ OutOfMemory) }
@@ -174,11 +174,8 @@ fn write_stack<V: Vars>(
 {
     let text = stack_text(alloc, items)?;
     let mut changes = Vec::new(alloc);
-    changes.push(Change {
-        name: String::from_str(alloc, var)?,
-        value,
-    })?;
-    changes.push(Change { name, value: text })?;
+    push_change(alloc, &mut changes, var, value)?;
+    push_change(alloc, &mut changes, name, text)?;
     env.apply(changes)
 }
 
@@ -207,7 +204,7 @@ pub fn push_value<V: Vars>(
     };
     let stack = pushed(alloc, items, env.get(var), owner, value)?;
     let value = Some(String::from_str(alloc, value)?);
-    write_stack(alloc, env, var, value, name, stack.as_slice())
+    write_stack(alloc, env, var, value, name.as_str(), stack.as_slice())
 }
 
 /// Pops the value of the module `owner`: where it was on top, the variable takes the value that is now first, or is
@@ -236,5 +233,5 @@ pub fn pop_value<V: Vars>(
     take_out(&mut remaining, owner);
     let value = value_after(alloc, was_top, remaining.as_slice(), env.get(var))?;
     drop_lone_bottom(&mut remaining);
-    write_stack(alloc, env, var, value, name, remaining.as_slice())
+    write_stack(alloc, env, var, value, name.as_str(), remaining.as_slice())
 }

@@ -44,13 +44,11 @@ fn items_of(alloc: Global, elements: &[String]) -> Result<Option<Vec<StackItem>>
     ensures { IfOk result (λ items. option_map items_of_vec items ≡ items_of_elements (map string_bytes elements.now)) }
 {
     let mut items = Vec::new(alloc);
-    let mut rest = elements;
-    while let [element, after @ ..] = rest {
+    for element in elements {
         let Some(item) = item_of(alloc, element.as_str())? else {
             return Ok(None);
         };
         items.push(item)?;
-        rest = after;
     }
     Ok(Some(items))
 }
@@ -59,14 +57,10 @@ fn items_of(alloc: Global, elements: &[String]) -> Result<Option<Vec<StackItem>>
 fn bottoms_last(items: &[StackItem]) -> bool
     ensures { result ≡ bottoms_last (map item_in items.now) }
 {
-    let mut rest = items;
-    while let [item, after @ ..] = rest {
-        if item.owner.is_none() && !after.is_empty() {
-            return false;
-        }
-        rest = after;
+    match items {
+        [] => true,
+        [others @ .., _] => others.iter().all(|item| item.owner.is_some()),
     }
-    true
 }
 
 /// Appends the owner of an item, if it has one.
@@ -86,10 +80,8 @@ fn owners_of(alloc: Global, items: &[StackItem]) -> Result<Vec<&str>, AllocError
     ensures { IfOk result (λ v. map (λ x. x.now) v.items ≡ owners_of (map item_in items.now)) }
 {
     let mut owners = Vec::new(alloc);
-    let mut rest = items;
-    while let [item, after @ ..] = rest {
+    for item in items {
         push_owner(&mut owners, item)?;
-        rest = after;
     }
     Ok(owners)
 }

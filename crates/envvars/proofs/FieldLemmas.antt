@@ -1,8 +1,9 @@
 -- Lists of texts, parted, joined and each once.
-use Rattle.std.proofs.Common.{Vec, Global, vec_len, ◌≡◌, ℕ, Bool, true, false, cond, not, List, [], ◌∷◌, ◌++◌, refl, sym, ap, ◌∙◌, suc, ◌||◌, ◌&&◌, ◌<◌, ◌≤◌, ◌-◌, arith, length, take, get_or, append-nil, append_assoc, take_all, Bor, nat_eq}
+use Rattle.std.proofs.Common.{Vec, Global, vec_len, ◌≡◌, ℕ, Bool, true, false, cond, not, List, [], ◌∷◌, ◌++◌, refl, sym, ap, ◌∙◌, suc, ◌||◌, ◌&&◌, ◌+◌, ◌-◌, ◌<◌, ◌≤◌, arith, length, take, get_or, append-nil, append_assoc, take_all, Bor, nat_eq}
 use Rattle.std.proofs.Common.{drop as cut}
 use Rattle.std.specs.Prelude.{flat_map, bytes_eq}
 use Rattle.std.proofs.lemmas.Bool.Decides.{nat_tests}
+use Rattle.std.proofs.lemmas.List.{drop_more}
 use Rattle.std.specs.List.{join_with_byte}
 use Rattle.envvars.specs.Texts.{Text, has, slice_texts}
 use Rattle.envvars.specs.Fields.{without, are_distinct, without_repeats}
@@ -23,20 +24,13 @@ pub join-cons : (c : ℕ) (x : Text) (xs : List Text) → join_with_byte c (x �
 join-cons c x [] = sym (append-nil x)
 join-cons c x (y ∷ ys) = ap (λ (l : Text). x ++ (c ∷ l)) (join-cons c y ys)
 
--- The parts so far end with a part, and a separator and the next follow.
+-- the first part, and each of the others with a separator before it
 pub join-init : (c : ℕ) (text : Text) (d : Bor Text) (xs : List (Bor Text)) → 1 ≤ length xs → text ≡ (get_or xs 0 d).now
     → text ++ after_separators c (slice_texts (take (length xs - 1) (cut 1 xs))) ≡ join_with_byte c (slice_texts xs)
 join-init c text d [] l e = absurd (omega arith)
 join-init c text d (x ∷ xs) l e =
     let w : take (length (x ∷ xs) - 1) xs ≡ xs = take_all _ xs (omega arith) in
     rw (e, w) (sym (join-cons c x.now (slice_texts xs)))
-
-pub join-turn : (c : ℕ) (text : Text) (d : Bor Text) (xs : List (Bor Text)) (all : Text) → 1 ≤ length xs → text ++ after_separators c (slice_texts xs) ≡ all
-    → ((text ++ c ∷ []) ++ (get_or xs 0 d).now) ++ after_separators c (slice_texts (take (length xs - 1) (cut 1 xs))) ≡ all
-join-turn c text d [] all l e = absurd (omega arith)
-join-turn c text d (x ∷ xs) all l e =
-    let w : take (length (x ∷ xs) - 1) xs ≡ xs = take_all _ xs (omega arith) in
-    rw w (append_assoc (text ++ c ∷ []) x.now (after_separators c (slice_texts xs)) ∙ append_assoc text (c ∷ []) (x.now ++ after_separators c (slice_texts xs)) ∙ e)
 
 -- each once, and those that stand once
 has-drop_at : (b c d : Bool) (x y : Text) → bytes_eq x y ≡ d → (d ≡ true → b ≡ c) → (d ≡ false → b ≡ (not d && c)) → (d || (not d && b)) ≡ (d || c)
@@ -141,12 +135,11 @@ filter_every (x ∷ xs) = ap (λ (l : List Text). x ∷ l) (filter_every xs)
 pub without_repeats-start : (ds xs : List Text) → ds ≡ [] → ds ++ filter (λ y. not (has y ds)) xs ≡ xs
 without_repeats-start ds xs e = rw e (filter_every xs)
 
-pub without_repeats-turn : (ks ms all : List Text) (xs : List (Bor Text)) (d : Bor Text) → 1 ≤ length xs → ms ≡ with_new ks (get_or xs 0 d).now
-    → ks ++ filter (λ y. not (has y ks)) (without_repeats (slice_texts xs)) ≡ all → ms ++ filter (λ y. not (has y ms)) (without_repeats (slice_texts (take (length xs - 1) (cut 1 xs)))) ≡ all
-without_repeats-turn ks ms all [] d l e h = absurd (omega arith)
-without_repeats-turn ks ms all (x ∷ xs) d l e h =
-    let w : take (length (x ∷ xs) - 1) xs ≡ xs = take_whole xs _ (omega arith) in
-    rw (w, e) (without_repeats-step ks (slice_texts xs) x.now ∙ h)
+pub without_repeats-turn : (ks ms all : List Text) (xs : List (Bor Text)) (i : ℕ) (d : Bor Text) → i < length xs → ms ≡ with_new ks (get_or xs i d).now
+    → ks ++ filter (λ y. not (has y ks)) (without_repeats (slice_texts (cut i xs))) ≡ all → ms ++ filter (λ y. not (has y ms)) (without_repeats (slice_texts (cut (i + 1) xs))) ≡ all
+without_repeats-turn ks ms all xs i d l e h =
+    rw e (without_repeats-step ks (slice_texts (cut (i + 1) xs)) (get_or xs i d).now
+    ∙ ap (λ (ys : List (Bor Text)). ks ++ filter (λ y. not (has y ks)) (without_repeats (slice_texts ys))) (sym (drop_more xs i d l)) ∙ h)
 
 inserted : (ks : List (Bor Text)) (x : Bor Text) (t : Bool) → has x.now (slice_texts ks) ≡ t → slice_texts (cond t ks (ks ++ x ∷ [])) ≡ with_new (slice_texts ks) x.now
 inserted ks x true h = rw h refl

@@ -1,6 +1,6 @@
 -- The errors of edits, as contracts see them: the reason and the variable; want of memory is left open (own).
 use Rattle.std.specs.Prelude.{◌≡◌, ℕ, codes, string_bytes, Option, Some, None, IfSome, Result, Ok, Err}
-use Rattle.message.specs.Messages.{around, quoting}
+use Rattle.message.specs.Messages.{around, quoting, out_of_memory}
 use Rattle.envvars.specs.Texts.{Text}
 use Rattle.envvars.specs.Environment.{Environment}
 use Rattle.envvars.specs.declared.fault.EnvFault.{EnvFault}
@@ -25,6 +25,10 @@ reason_of Inconsistent = Some inconsistent
 reason_of (BadStack name) = Some (bad_stack (string_bytes name))
 reason_of (BadValue name) = Some (bad_value (string_bytes name))
 
+-- The error has this reason, or is want of memory.
+abbrev pub HasReason : EnvReason → EnvFault → Type 0
+HasReason reason e = IfSome (reason_of e) (λ r. r ≡ reason)
+
 -- the number of an error
 abbrev pub number_of : EnvFault → ℕ
 number_of OutOfMemory = 31
@@ -37,7 +41,7 @@ number_of (BadValue name) = 37
 
 -- the text of an error
 abbrev pub message_of : EnvFault → Text
-message_of OutOfMemory = codes "Out of memory"
+message_of OutOfMemory = out_of_memory
 message_of (BadVariable name) = quoting (codes "Bad variable name '") (string_bytes name)
 message_of (Protected name) = around (codes "Variable '") (string_bytes name) (codes "' is kept by the tool")
 message_of (CounterFull name) = around (codes "Counter of '") (string_bytes name) (codes "' is full")

@@ -9,7 +9,7 @@ ghost use Rattle.envvars.specs.declared.fault.EnvFault.TheVariants.{OutOfMemory}
 
 use crate::change::Change;
 use crate::fault::EnvFault;
-use crate::fields::{copies, sorted_once};
+use crate::fields::{owned, sorted_once};
 use crate::table::{Table, found, make_changes, names_of, write_entry};
 use crate::vars::Vars;
 use indexmap::IndexMap;
@@ -24,7 +24,7 @@ pub struct Env {
     alloc: Global,
 }
 
-// Not derived: an environment is dropped by one call, so the proof of a caller needn't look into its table.
+// Not derived: it is dropped by one call, so a proof needn't look into its table at each exit.
 impl Drop for Env {
     fn drop(self) {
         let Env {
@@ -109,7 +109,7 @@ impl Env {
         let mut names = self.names_in_table(self.alloc)?;
         keep_set(&mut names, self);
         let names = sorted_once(names);
-        Ok(copies(self.alloc, names.as_slice())?)
+        Ok(owned(self.alloc, names.as_slice())?)
     }
 
     /// The names in the table: every variable that is set, and perhaps some that are unset.

@@ -115,15 +115,11 @@ fn push_char(text: &mut String, c: char) -> Result<(), AllocError>
     text.push(c)
 }
 
-/// Whether a character of the text needs an escape.
+/// Whether a character of the text needs an escape. Most texts have none, and are then appended as they are.
 fn has_special(text: &str) -> bool
     ensures { result ≡ list_any is_special text.now }
 {
-    let mut found = false;
-    for b in text.as_bytes() {
-        found |= *b == b'\\' || *b == b':';
-    }
-    found
+    text.as_bytes().iter().any(|b| *b == b'\\' || *b == b':')
 }
 
 /// Appends a field, or a part of one, with its escapes.

@@ -1,6 +1,6 @@
 //! The errors of edits of the environment, with their numbers and messages.
-use message::Message;
-use std::alloc::{AllocError, AllocFailed};
+use message::{Message, out_of_memory};
+use std::alloc::{AllocError, AllocFailed, Global};
 use std::error::Error;
 use std::fmt;
 use std::fmt::Display;
@@ -27,7 +27,27 @@ pub enum EnvFault {
 impl EnvFault {
     ghost use Rattle.std.specs.Prelude.{◌≡◌};
     ghost use Rattle.message.specs.Messages.{text_of};
-    ghost use Rattle.envvars.specs.Reasons.{message_of, number_of};
+    ghost use Rattle.envvars.specs.Reasons.{message_of, number_of, bad_variable, bad_value, HasReason};
+
+    /// The error of a name that isn't spelled as a variable's.
+    pub fn bad_variable(alloc: Global, name: &str) -> EnvFault
+        ensures { HasReason (bad_variable name.now) result }
+    {
+        match String::from_str(alloc, name) {
+            Ok(name) => EnvFault::BadVariable(name),
+            Err(_) => EnvFault::OutOfMemory,
+        }
+    }
+
+    /// The error of a variable of this name for which a value isn't allowed.
+    pub fn bad_value(alloc: Global, name: &str) -> EnvFault
+        ensures { HasReason (bad_value name.now) result }
+    {
+        match String::from_str(alloc, name) {
+            Ok(name) => EnvFault::BadValue(name),
+            Err(_) => EnvFault::OutOfMemory,
+        }
+    }
 
     /// The number of the error, from 31 to 37.
     pub fn number(&self) -> u16
@@ -49,7 +69,7 @@ impl EnvFault {
         ensures { text_of result ≡ message_of self.now }
     {
         match self {
-            EnvFault::OutOfMemory => Message::of_text("Out of memory"),
+            EnvFault::OutOfMemory => out_of_memory(),
             EnvFault::BadVariable(name) => Message::quoting("Bad variable name '", name.as_str()),
             EnvFault::Protected(name) => {
                 Message::around("Variable '", name.as_str(), "' is kept by the tool")

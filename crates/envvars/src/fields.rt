@@ -28,11 +28,9 @@ pub fn join(alloc: Global, parts: &[&str], separator: char) -> Result<String, Al
         return Ok(String::new(alloc));
     };
     let mut text = String::from_str(alloc, first)?;
-    let mut rest = later;
-    while let [part, after @ ..] = rest {
+    for part in later {
         text.push(separator)?;
         text.push_str(part)?;
-        rest = after;
     }
     Ok(text)
 }
@@ -68,10 +66,8 @@ pub fn deduplicated<'a>(alloc: Global, texts: &[&'a str]) -> Result<Vec<&'a str>
     ensures { IfOk result (λ v. slice_texts v.items ≡ without_repeats (slice_texts texts.now)) }
 {
     let mut done = IndexSet::new(alloc);
-    let mut rest = texts;
-    while let [text, after @ ..] = rest {
+    for text in texts {
         done.insert(*text)?;
-        rest = after;
     }
     done.into_iter().collect(alloc)
 }
@@ -114,13 +110,24 @@ pub fn slices(alloc: Global, texts: &[String]) -> Result<Vec<&str>, AllocError>
     Ok(slices)
 }
 
-/// Copies of the texts.
-pub fn copies(alloc: Global, texts: &[&str]) -> Result<Vec<String>, AllocError>
+/// The texts, owned.
+pub fn owned(alloc: Global, texts: &[&str]) -> Result<Vec<String>, AllocError>
     ensures { IfOk result (λ v. texts_in v ≡ slice_texts texts.now) }
+{
+    let mut owned = Vec::new(alloc);
+    for text in texts {
+        owned.push(String::from_str(alloc, text)?)?;
+    }
+    Ok(owned)
+}
+
+/// Copies of the texts.
+pub fn copies(alloc: Global, texts: &[String]) -> Result<Vec<String>, AllocError>
+    ensures { IfOk result (λ v. texts_in v ≡ map string_bytes texts.now) }
 {
     let mut copies = Vec::new(alloc);
     for text in texts {
-        copies.push(String::from_str(alloc, text)?)?;
+        copies.push(String::from_str(alloc, text.as_str())?)?;
     }
     Ok(copies)
 }

@@ -15,7 +15,7 @@ mod table;
 mod vars;
 mod working;
 
-pub use change::Change;
+pub use change::{Change, push_change};
 pub use difference::changes;
 pub use env::Env;
 pub use fault::EnvFault;

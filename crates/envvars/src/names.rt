@@ -1,6 +1,6 @@
 //! How variables are named, which of them are protected, and which values a variable can have.
-ghost use Rattle.std.specs.Prelude.{◌≡◌, IfOk, string_bytes, nat_eq, codes};
-ghost use Rattle.std.specs.List.{list_all, starts_with};
+ghost use Rattle.std.specs.Prelude.{◌≡◌, IfOk, string_bytes};
+ghost use Rattle.std.specs.List.{list_all};
 ghost use Rattle.envvars.specs.Names.{is_name_start, is_name_byte, is_variable_name, is_protected, is_nul_free, name_reason, share_name, stack_name};
 ghost use Rattle.envvars.specs.Reasons.{Judges};
 
@@ -11,14 +11,14 @@ use std::alloc::{AllocError, Global};
 fn is_name_start(b: u8) -> bool
     ensures { result ≡ is_name_start b }
 {
-    (b'A' <= b && b <= b'Z') || (b'a' <= b && b <= b'z') || b == b'_'
+    b.is_ascii_alphabetic() || b == b'_'
 }
 
 /// Whether a name can hold this byte.
 fn is_name_byte(b: u8) -> bool
     ensures { result ≡ is_name_byte b }
 {
-    is_name_start(b) || (b'0' <= b && b <= b'9')
+    is_name_start(b) || b.is_ascii_digit()
 }
 
 /// Whether a name can hold each of these bytes.
@@ -39,18 +39,12 @@ pub fn is_variable_name(name: &str) -> bool
     }
 }
 
-/// Whether the name has the prefix of the tool's own variables.
-fn has_state_prefix(name: &str) -> bool
-    ensures { result ≡ starts_with nat_eq name.now (codes "__MODULES_") }
-{
-    name.starts_with("__MODULES_")
-}
-
 /// Whether the variable of this name holds the tool's own state, so that no modulefile may edit it.
+#[tactic(auto, using(std::proofs::lemmas::Str::Pattern::starts_text))]
 pub fn is_protected(name: &str) -> bool
     ensures { result ≡ is_protected name.now }
 {
-    name == "LOADEDMODULES" || name == "_LMFILES_" || has_state_prefix(name)
+    name == "LOADEDMODULES" || name == "_LMFILES_" || name.starts_with("__MODULES_")
 }
 
 /// Accepts the name of a variable that modulefiles may edit. The errors, in this order: `BadVariable` where it isn't
@@ -59,7 +53,7 @@ pub fn judge_name(alloc: Global, name: &str) -> Result<(), EnvFault>
     ensures { Judges result (name_reason name.now) }
 {
     if !is_variable_name(name) {
-        return Err(EnvFault::BadVariable(String::from_str(alloc, name)?));
+        return Err(EnvFault::bad_variable(alloc, name));
     }
     if is_protected(name) {
         return Err(EnvFault::Protected(String::from_str(alloc, name)?));

@@ -24,7 +24,7 @@ pub struct Working<'a, B: Vars = Env> {
     alloc: Global,
 }
 
-// Not derived, for the reason given at `Env`.
+// Not derived: it is dropped by one call, so a proof needn't look into its table at each exit.
 impl<'a, B: Vars> Drop for Working<'a, B> {
     fn drop(self) {
         let Working {

@@ -28,6 +28,10 @@ at_line text line = text ++ line_text line
 abbrev pub quoting : Text → Text → Text
 quoting before subject = around before subject (codes "'")
 
+-- the text of a fault for want of memory
+abbrev pub out_of_memory : Text
+out_of_memory = codes "Out of memory"
+
 -- the text that is inserted
 abbrev pub subject_text : Subject → Text
 subject_text Nothing = []

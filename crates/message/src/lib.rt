@@ -41,6 +41,13 @@ impl<'a> Subject<'a> {
     }
 }
 
+/// The message of a fault for want of memory.
+pub fn out_of_memory() -> Message<'static>
+    ensures { text_of result ≡ messages.out_of_memory }
+{
+    Message::of_text("Out of memory")
+}
+
 /// A message: two texts, and what is inserted between them.
 #[derive(Clone, Copy, Debug, PartialEq, Eq)]
 pub struct Message<'a> {

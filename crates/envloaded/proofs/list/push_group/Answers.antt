@@ -14,6 +14,6 @@ returns-then-is_empty c =
 pub returns : goal.returns
 returns c =
     let names : slice_texts c.in_ok-names.names.items ≡ names_of_group c.args.word.now = group-from c.as_slice.result.now c.in_ok-names.names.items c.args.word.now (ap slice_texts c.as_slice.ensures.value ∙ c.in_ok-alternatives.ensures) c.in_ok-names.ensures in
-    groups-push c.args.groups.now.items c.push.new.self.items c.in_ok-copies.field-0 c.in_ok-push.ensures.items
-    ∙ one_group (groups_in c.args.groups.now) c.args.word.now (texts_in c.in_ok-copies.field-0) (c.in_ok-copies.ensures ∙ ap slice_texts c.as_slice-2.ensures.value ∙ names)
+    groups-push c.args.groups.now.items c.push.new.self.items c.in_ok-owned.field-0 c.in_ok-push.ensures.items
+    ∙ one_group (groups_in c.args.groups.now) c.args.word.now (texts_in c.in_ok-owned.field-0) (c.in_ok-owned.ensures ∙ ap slice_texts c.as_slice-2.ensures.value ∙ names)
     (some_names c.in_ok-names.names.items _ names (subst (λ (n : ℕ). 0 < n) (len_is c.in_ok-names.names) (more_is c.is_empty.result (vec_len c.in_ok-names.names) c.is_empty.ensures c.if-is_empty.false)))

@@ -1,12 +1,9 @@
-use Rattle.std.proofs.Common.{◌≡◌, ◌++◌, map, length, string_bytes}
+use Rattle.std.proofs.Common.{◌≡◌, ◌++◌, map, drop, string_bytes}
 use Rattle.std.specs.Option.{option_map}
 use Rattle.envstacks.specs.StackTexts.{items_of_elements}
 use Rattle.envstacks.specs.StackItems.{items_of_vec}
 use Rattle.envstacks.proofs.texts.items_of.Given as goal
 
 -- the items so far, and then those of the rest
-abbrev pub invariant-loop-rest : goal.invariant-loop-rest
-invariant-loop-rest l = option_map (λ items. items_of_vec l.items ++ items) (items_of_elements (map string_bytes l.rest)) ≡ items_of_elements (map string_bytes l.elements)
-
-abbrev pub decreases-loop-rest : goal.decreases-loop-rest
-decreases-loop-rest l = length l.rest
+abbrev pub invariant-loop-element : goal.invariant-loop-element
+invariant-loop-element l = option_map (λ items. items_of_vec l.items ++ items) (items_of_elements (map string_bytes (drop l.element-index l.elements))) ≡ items_of_elements (map string_bytes l.elements)
