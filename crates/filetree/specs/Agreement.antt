@@ -45,6 +45,11 @@ InEachPair agrees P = (files : Files) (listings : Listings) → agrees files lis
 abbrev pub Narrows : (Files → Listings → Type 0) → (Files → Listings → Type 0) → Type 0
 Narrows before now = InEachPair now (λ files listings. before files listings)
 
+-- What a call that reads a tree keeps: the tree stands for no more file systems than before, and no failure is forgotten.
+pub record ReadsOn {T : Type 0} (agrees : T → Files → Listings → Type 0) (failures : T → ℕ) (old new : T) : Type 0 where
+  pub narrows : Narrows (agrees old) (agrees new)
+  pub later : failures old ≤ failures new
+
 -- some pair of maps agrees
 abbrev pub IsSatisfiable : (Files → Listings → Type 0) → Type 0
 IsSatisfiable agrees = (files : Files) × (listings : Listings) × agrees files listings

@@ -189,7 +189,7 @@ impl<R: Files + AllocGlobal + Clone + Drop> DiskTree<R> {
     fn read_prefix(&mut self, path: &str, prefix: &[u8]) -> Result<bool, TreeFault>
         requires file { get_by_text self.old.files path.now ≡ None }
         requires prefix { get_by_text self.old.prefixes path.now ≡ None }
-        ensures before { Narrows (⟦<DiskTree<R> as Tree>⟧.agrees self.old)
+        ensures narrows { Narrows (⟦<DiskTree<R> as Tree>⟧.agrees self.old)
             (⟦<DiskTree<R> as Tree>⟧.agrees self.new) }
         ensures answer { IfOk result (λ answer. InEachPair (⟦<DiskTree<R> as Tree>⟧.agrees self.new)
             (λ files listings. begins_with prefix.now (files path.now) ≡ answer)) }
@@ -211,7 +211,7 @@ impl<R: Files + AllocGlobal + Clone + Drop> DiskTree<R> {
 
     /// Whether the file at the path begins with these bytes. The whole file is read.
     fn begins_with_whole_file(&mut self, path: &str, prefix: &[u8]) -> Result<bool, TreeFault>
-        ensures before { Narrows (⟦<DiskTree<R> as Tree>⟧.agrees self.old)
+        ensures narrows { Narrows (⟦<DiskTree<R> as Tree>⟧.agrees self.old)
             (⟦<DiskTree<R> as Tree>⟧.agrees self.new) }
         ensures answer { IfOk result (λ answer. InEachPair (⟦<DiskTree<R> as Tree>⟧.agrees self.new)
             (λ files listings. begins_with prefix.now (files path.now) ≡ answer)) }

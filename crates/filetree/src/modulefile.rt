@@ -52,7 +52,7 @@ fn modulefile_of(bytes: Vec<u8>) -> Modulefile
 /// What a path holds whose file, if there is one, does not begin with `#%Module`: no file, or one without the cookie.
 fn absent_or_no_cookie<T: Tree>(tree: &mut T, path: &str) -> Result<Modulefile, TreeFault>
     requires { InEachPair (T.agrees tree.old) (λ files listings. begins_with cookie (files path.now) ≡ false) }
-    ensures before { Narrows (T.agrees tree.old) (T.agrees tree.new) }
+    ensures narrows { Narrows (T.agrees tree.old) (T.agrees tree.new) }
     ensures answer { IfOk result (λ m. InEachPair (T.agrees tree.new)
         (λ files listings. modulefile (files path.now) ≡ modulefile_view m)) }
     ensures cause { HasCause (T.failures tree.old) (T.failures tree.new) result }
@@ -69,7 +69,7 @@ fn absent_or_no_cookie<T: Tree>(tree: &mut T, path: &str) -> Result<Modulefile, 
 ///
 /// It fails as the tree does.
 pub fn read_modulefile<T: Tree>(tree: &mut T, path: &str) -> Result<Modulefile, TreeFault>
-    ensures before { Narrows (T.agrees tree.old) (T.agrees tree.new) }
+    ensures narrows { Narrows (T.agrees tree.old) (T.agrees tree.new) }
     ensures answer { IfOk result (λ m. InEachPair (T.agrees tree.new)
         (λ files listings. modulefile (files path.now) ≡ modulefile_view m)) }
     ensures cause { HasCause (T.failures tree.old) (T.failures tree.new) result }
@@ -88,7 +88,7 @@ pub fn read_modulefile<T: Tree>(tree: &mut T, path: &str) -> Result<Modulefile, 
 ///
 /// It fails as the tree does.
 pub fn holds_module<T: Tree>(tree: &mut T, path: &str) -> Result<bool, TreeFault>
-    ensures before { Narrows (T.agrees tree.old) (T.agrees tree.new) }
+    ensures narrows { Narrows (T.agrees tree.old) (T.agrees tree.new) }
     ensures answer { IfOk result (λ r. InEachPair (T.agrees tree.new)
         (λ files listings. is_module (modulefile (files path.now)) ≡ r)) }
     ensures cause { HasCause (T.failures tree.old) (T.failures tree.new) result }

@@ -86,7 +86,7 @@ pub trait Tree {
     ///
     /// It fails with `OutOfMemory`, or with `Device` where the device failed in this call.
     fn read(&mut self, path: &str) -> Result<Option<Vec<u8>>, TreeFault>
-        ensures before { Narrows (agrees self.old) (agrees self.new) }
+        ensures narrows { Narrows (agrees self.old) (agrees self.new) }
         ensures answer { IfOk result (λ answer.
             InEachPair (agrees self.new) (λ files listings. files path.now ≡ file_answer answer)) }
         ensures cause { HasCause (failures self.old) (failures self.new) result }
@@ -96,7 +96,7 @@ pub trait Tree {
     ///
     /// It fails as `read` does.
     fn begins_with(&mut self, path: &str, prefix: &[u8]) -> Result<bool, TreeFault>
-        ensures before { Narrows (agrees self.old) (agrees self.new) }
+        ensures narrows { Narrows (agrees self.old) (agrees self.new) }
         ensures answer { IfOk result (λ answer.
             InEachPair (agrees self.new) (λ files listings. begins_with prefix.now (files path.now) ≡ answer)) }
         ensures cause { HasCause (failures self.old) (failures self.new) result }
@@ -112,7 +112,7 @@ pub trait Tree {
     ///
     /// It fails as `read` does.
     fn entries(&mut self, dir: &str) -> Result<Option<Vec<String>>, TreeFault>
-        ensures before { Narrows (agrees self.old) (agrees self.new) }
+        ensures narrows { Narrows (agrees self.old) (agrees self.new) }
         ensures answer { IfOk result (λ answer.
             InEachPair (agrees self.new) (λ files listings. listings dir.now ≡ listing_answer answer)) }
         ensures cause { HasCause (failures self.old) (failures self.new) result }

@@ -1,6 +1,6 @@
 //! Whether a version in the folder of a name is a module.
 ghost use Rattle.std.specs.Prelude.{◌≡◌, IfOk};
-ghost use Rattle.filetree.specs.Agreement.{FailsAt, Files, Listings, Narrows, InEachPair, HasCause, is_device};
+ghost use Rattle.filetree.specs.Agreement.{FailsAt, InEachPair, Narrows, HasCause, is_device};
 ghost use Rattle.filetree.specs.Modulefiles.{path_of};
 ghost use Rattle.search.specs.Versions.{is_module_in};
 
@@ -18,7 +18,7 @@ pub(crate) fn is_module_in<T: Tree>(
     name: &str,
     version: &str,
 ) -> Result<bool, TreeFault>
-    ensures before { Narrows (T.agrees tree.old) (T.agrees tree.new) }
+    ensures narrows { Narrows (T.agrees tree.old) (T.agrees tree.new) }
     ensures answer { IfOk result (λ r. InEachPair (T.agrees tree.new) (λ files listings.
         is_module_in files dir.now name.now version.now ≡ r)) }
     ensures cause { HasCause (T.failures tree.old) (T.failures tree.new) result }

@@ -1,6 +1,6 @@
 //! The default that the default files of a folder name: `.modulerc`, or else `.version` (modulefile(5)).
 ghost use Rattle.std.specs.Prelude.{◌≡◌, map, Some, IfOk, string_bytes};
-ghost use Rattle.filetree.specs.Agreement.{FailsAt, Files, Listings, InEachPair, HasCause, is_device};
+ghost use Rattle.filetree.specs.Agreement.{FailsAt, InEachPair, Narrows, HasCause, is_device};
 ghost use Rattle.filetree.specs.Modulefiles.{path_of};
 ghost use Rattle.search.specs.DefaultFiles.{Names, version_named};
 ghost use Rattle.search.specs.Found.{IsCandidate, NamedDefault, default_file};
@@ -70,7 +70,7 @@ fn version_named_by<T: Tree, D: DefaultFiles>(
     name: &str,
     file: DefaultFile,
 ) -> Result<NamedVersion, TreeFault>
-    ensures before { InEachPair (T.agrees tree.new) (λ files listings. T.agrees tree.old files listings) }
+    ensures narrows { Narrows (T.agrees tree.old) (T.agrees tree.new) }
     ensures answer { IfOk result (λ s. InEachPair (T.agrees tree.new) (λ files listings.
         Names (D.results default_files.now) files (says file name.now)
         (default_file dir.now name.now (file_name file)) (named_version_view s))) }
@@ -103,7 +103,7 @@ fn candidate_of<T: Tree>(
 ) -> Result<Option<String>, TreeFault>
     requires { InEachPair (T.agrees tree.old) (λ files listings.
         listings (path_of dir.now name.now) ≡ Some (map string_bytes entries.now)) }
-    ensures before { InEachPair (T.agrees tree.new) (λ files listings. T.agrees tree.old files listings) }
+    ensures narrows { Narrows (T.agrees tree.old) (T.agrees tree.new) }
     ensures answer { IfOk result (λ r. InEachPair (T.agrees tree.new) (λ files listings.
         IsCandidateIfAny (IsCandidate files listings dir.now name.now) (string_bytes version)
         (option_map string_bytes r))) }
@@ -134,7 +134,7 @@ fn named_by<T: Tree, D: DefaultFiles>(
 ) -> Result<NamedCandidate, TreeFault>
     requires { InEachPair (T.agrees tree.old) (λ files listings.
         listings (path_of dir.now name.now) ≡ Some (map string_bytes entries.now)) }
-    ensures before { InEachPair (T.agrees tree.new) (λ files listings. T.agrees tree.old files listings) }
+    ensures narrows { Narrows (T.agrees tree.old) (T.agrees tree.new) }
     ensures answer { IfOk result (λ n. InEachPair (T.agrees tree.new) (λ files listings.
         NamedBy (D.results default_files.now) files listings dir.now name.now file (named_candidate_view n))) }
     ensures cause { HasCause (T.failures tree.old) (T.failures tree.new) result }
@@ -170,7 +170,7 @@ pub fn named_default<T: Tree, D: DefaultFiles>(
 ) -> Result<NamedCandidate, TreeFault>
     requires { InEachPair (T.agrees tree.old) (λ files listings.
         listings (path_of dir.now name.now) ≡ Some (map string_bytes entries.now)) }
-    ensures before { InEachPair (T.agrees tree.new) (λ files listings. T.agrees tree.old files listings) }
+    ensures narrows { Narrows (T.agrees tree.old) (T.agrees tree.new) }
     ensures answer { IfOk result (λ n. InEachPair (T.agrees tree.new) (λ files listings.
         NamedDefault (D.results default_files.now) files listings dir.now name.now (named_candidate_view n))) }
     ensures cause { HasCause (T.failures tree.old) (T.failures tree.new) result }

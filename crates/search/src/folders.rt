@@ -1,7 +1,7 @@
 //! The walk through the folders below a directory of MODULEPATH that lists their modules.
 ghost use Rattle.std.specs.Prelude.{◌≡◌, ◌++◌, ◌+◌, ◌≤◌, List, map, Some, length, OnOk, IfOk, string_bytes};
 ghost use Rattle.std.specs.Option.{option_map};
-ghost use Rattle.filetree.specs.Agreement.{FailsAt, Files, Listings, InEachPair, HasCause, is_device};
+ghost use Rattle.filetree.specs.Agreement.{FailsAt, InEachPair, Narrows, HasCause, is_device};
 ghost use Rattle.search.specs.Listed as listed;
 ghost use Rattle.search.specs.BelowFolder.{folder_path, parts_of, names_in, IsUnder, AreEntriesOfFiles, AreListingEntries, IsDefaultOf};
 ghost use Rattle.search.specs.BelowFolder.{LooksForDefault, LooksFromFolder};
@@ -38,7 +38,7 @@ impl<D: DefaultFiles> Walk<'_, D> {
         requires { InEachPair (T.agrees tree.old) (λ files folders.
             folders (folder_path self.now.dir.now (option_map (λ f. f.now) prefix))
             ≡ Some (map string_bytes entries.now)) }
-        ensures before { InEachPair (T.agrees tree.new) (λ files folders. T.agrees tree.old files folders) }
+        ensures narrows { Narrows (T.agrees tree.old) (T.agrees tree.new) }
         ensures answer { IfOk result (λ default. InEachPair (T.agrees tree.new) (λ files folders.
             IsDefaultOf (D.results self.now.default_files.now) files folders self.now.dir.now
             (option_map (λ f. f.now) prefix.entry)
@@ -81,7 +81,7 @@ impl<D: DefaultFiles> Walk<'_, D> {
             ≡ Some (map string_bytes entries.now)) }
         requires named { map string_bytes names.now
             ≡ names_in (option_map (λ f. f.now) prefix) (map string_bytes entries.now) }
-        ensures before { InEachPair (T.agrees tree.new) (λ files folders. T.agrees tree.old files folders) }
+        ensures narrows { Narrows (T.agrees tree.old) (T.agrees tree.new) }
         ensures added { OnOk result (InEachPair (T.agrees tree.new) (λ files folders. (more : List listed.ListingEntry)
             × (map listing_entry_view listing_entries.new.items ≡ map listing_entry_view listing_entries.old.items ++ more)
             × AreEntriesOfFiles (D.results self.now.default_files.now) files folders self.now.dir.now
@@ -111,7 +111,7 @@ impl<D: DefaultFiles> Walk<'_, D> {
         listing_entries: &mut Vec<ListingEntry>,
     ) -> Result<(), TreeFault>
         requires { 4 ≤ length (parts_of (option_map (λ f. f.now) prefix)) + levels }
-        ensures before { InEachPair (T.agrees tree.new) (λ files folders. T.agrees tree.old files folders) }
+        ensures narrows { Narrows (T.agrees tree.old) (T.agrees tree.new) }
         ensures added { OnOk result (InEachPair (T.agrees tree.new) (λ files folders. (more : List listed.ListingEntry)
             × (map listing_entry_view listing_entries.new.items ≡ map listing_entry_view listing_entries.old.items ++ more)
             × AreListingEntries (D.results self.now.default_files.now) files folders self.now.dir.now

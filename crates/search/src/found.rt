@@ -1,8 +1,8 @@
 //! The search for the module that a name means: along MODULEPATH, and in each directory (module(1)).
-ghost use Rattle.std.specs.Prelude.{◌≡◌, ◌⊎◌, ◌<◌, ◌≤◌, map, false, Some, IfOk, string_bytes};
+ghost use Rattle.std.specs.Prelude.{◌≡◌, ◌⊎◌, ◌<◌, map, false, Some, IfOk, string_bytes};
 ghost use Rattle.std.specs.Option.{option_map};
 ghost use Rattle.modulename.specs.ModuleName.{is_module_name};
-ghost use Rattle.filetree.specs.Agreement.{FailsAt, Files, Listings, InEachPair};
+ghost use Rattle.filetree.specs.Agreement.{FailsAt, InEachPair, ReadsOn};
 ghost use Rattle.filetree.specs.Modulefiles.{path_of, directories};
 ghost use Rattle.filetree.specs.Relations.{Is};
 ghost use Rattle.search.specs.Found as meaning;
@@ -54,8 +54,7 @@ fn module_at<T: Tree>(
     dir: &str,
     name: &str,
 ) -> Result<Option<Found>, FindFault>
-    ensures before { InEachPair (T.agrees tree.new) (λ files listings. T.agrees tree.old files listings) }
-    ensures later { T.failures tree.old ≤ T.failures tree.new }
+    ensures reads { ReadsOn T.agrees T.failures tree.old tree.new }
     ensures over_tree { AnswersOverTree (T.agrees tree.new) (T.failures tree.old < T.failures tree.new)
         (option_map found_view) result
         (λ files listings. Is (module_at files dir.now name.now)) }
@@ -82,8 +81,7 @@ fn default_of<T: Tree, D: DefaultFiles>(
 ) -> Result<Option<String>, FindFault>
     requires { InEachPair (T.agrees tree.old) (λ files listings.
         listings (path_of dir.now name.now) ≡ Some (map string_bytes entries.now)) }
-    ensures before { InEachPair (T.agrees tree.new) (λ files listings. T.agrees tree.old files listings) }
-    ensures later { T.failures tree.old ≤ T.failures tree.new }
+    ensures reads { ReadsOn T.agrees T.failures tree.old tree.new }
     ensures over_tree { AnswersOverTree (T.agrees tree.new) (T.failures tree.old < T.failures tree.new)
         (option_map string_bytes) result
         (λ files listings. DefaultIn (D.results default_files.now) files listings dir.now name.now) }
@@ -114,8 +112,7 @@ fn default_in<T: Tree, D: DefaultFiles>(
     dir: &str,
     name: &str,
 ) -> Result<Option<String>, FindFault>
-    ensures before { InEachPair (T.agrees tree.new) (λ files listings. T.agrees tree.old files listings) }
-    ensures later { T.failures tree.old ≤ T.failures tree.new }
+    ensures reads { ReadsOn T.agrees T.failures tree.old tree.new }
     ensures over_tree { AnswersOverTree (T.agrees tree.new) (T.failures tree.old < T.failures tree.new)
         (option_map string_bytes) result
         (λ files listings. DefaultIn (D.results default_files.now) files listings dir.now name.now) }
@@ -139,8 +136,7 @@ fn module_below<T: Tree, D: DefaultFiles>(
     dir: &str,
     name: &str,
 ) -> Result<Option<Found>, FindFault>
-    ensures before { InEachPair (T.agrees tree.new) (λ files listings. T.agrees tree.old files listings) }
-    ensures later { T.failures tree.old ≤ T.failures tree.new }
+    ensures reads { ReadsOn T.agrees T.failures tree.old tree.new }
     ensures over_tree { AnswersOverTree (T.agrees tree.new) (T.failures tree.old < T.failures tree.new)
         (option_map found_view) result
         (λ files listings. FoundBelow (D.results default_files.now) files listings dir.now name.now) }
@@ -182,8 +178,7 @@ fn module_along<T: Tree, D: DefaultFiles>(
     dirs: &[&str],
     name: &str,
 ) -> Result<Found, FindFault>
-    ensures before { InEachPair (T.agrees tree.new) (λ files listings. T.agrees tree.old files listings) }
-    ensures later { T.failures tree.old ≤ T.failures tree.new }
+    ensures reads { ReadsOn T.agrees T.failures tree.old tree.new }
     ensures over_tree { AnswersOverTree (T.agrees tree.new)
         (T.failures tree.old < T.failures tree.new) found_view result
         (λ files listings. meaning.FoundAlong (D.results default_files.now) files listings name.now
@@ -217,8 +212,7 @@ pub fn locate<T: Tree, D: DefaultFiles>(
     modulepath: &str,
     name: &str,
 ) -> Result<Found, FindFault>
-    ensures before { InEachPair (T.agrees tree.new) (λ files listings. T.agrees tree.old files listings) }
-    ensures later { T.failures tree.old ≤ T.failures tree.new }
+    ensures reads { ReadsOn T.agrees T.failures tree.old tree.new }
     ensures over_tree { AnswersOverTree (T.agrees tree.new)
         (T.failures tree.old < T.failures tree.new) found_view result
         (λ files listings. meaning.Found (D.results default_files.now) files listings modulepath.now name.now) }

@@ -1,6 +1,6 @@
 //! The listing of all modules along a MODULEPATH, directory by directory (module(1), avail).
 ghost use Rattle.std.specs.Prelude.{◌≡◌, map, IfOk, string_bytes};
-ghost use Rattle.filetree.specs.Agreement.{FailsAt, Files, Listings, InEachPair, HasCause, is_device};
+ghost use Rattle.filetree.specs.Agreement.{FailsAt, InEachPair, Narrows, HasCause, is_device};
 ghost use Rattle.search.specs.Listed.{IsListing, AreListings, Listed};
 ghost use Rattle.search.specs.Looked.{LooksForListing, ListingLooksAt};
 ghost use Rattle.search.specs.ListingEntries.{listing_entry_view};
@@ -30,7 +30,7 @@ fn modules_of<T: Tree, D: DefaultFiles>(
     default_files: &D,
     dir: &str,
 ) -> Result<Vec<ListingEntry>, TreeFault>
-    ensures before { InEachPair (T.agrees tree.new) (λ files folders. T.agrees tree.old files folders) }
+    ensures narrows { Narrows (T.agrees tree.old) (T.agrees tree.new) }
     ensures answer { IfOk result (λ listing_entries. InEachPair (T.agrees tree.new) (λ files folders.
         IsListing (D.results default_files.now) files folders dir.now (map listing_entry_view listing_entries.items))) }
     ensures cause { HasCause (T.failures tree.old) (T.failures tree.new) result }
@@ -62,7 +62,7 @@ pub fn available<T: Tree, D: DefaultFiles>(
     default_files: &D,
     modulepath: &str,
 ) -> Result<Vec<Listing>, TreeFault>
-    ensures before { InEachPair (T.agrees tree.new) (λ files folders. T.agrees tree.old files folders) }
+    ensures narrows { Narrows (T.agrees tree.old) (T.agrees tree.new) }
     ensures listed { IfOk result (λ listings. InEachPair (T.agrees tree.new) (λ files folders.
         Listed (D.results default_files.now) files folders modulepath.now (map listing_view listings.items))) }
     ensures cause { HasCause (T.failures tree.old) (T.failures tree.new) result }

@@ -1,7 +1,7 @@
 //! Full names and paths of what stands below a directory, folder by folder.
 ghost use Rattle.std.specs.Prelude.{◌≡◌, map, filter, IfOk, string_bytes};
 ghost use Rattle.std.specs.Option.{option_map};
-ghost use Rattle.filetree.specs.Agreement.{FailsAt, Files, Listings, InEachPair, HasCause, is_device};
+ghost use Rattle.filetree.specs.Agreement.{FailsAt, InEachPair, Narrows, HasCause, is_device};
 ghost use Rattle.search.specs.Single.{is_single};
 ghost use Rattle.search.specs.BelowFolder.{folder_path, name_below, names_in, is_module_below, LooksAmong};
 
@@ -66,7 +66,7 @@ pub(crate) fn modules_among<'a, T: Tree>(
     dir: &str,
     names: &'a [String],
 ) -> Result<Vec<&'a str>, TreeFault>
-    ensures before { InEachPair (T.agrees tree.new) (λ files folders. T.agrees tree.old files folders) }
+    ensures narrows { Narrows (T.agrees tree.old) (T.agrees tree.new) }
     ensures answer { IfOk result (λ modules. InEachPair (T.agrees tree.new) (λ files folders.
         map (λ m. m.now) modules.items ≡ filter (is_module_below files dir.now) (map string_bytes names.entry.now))) }
     ensures cause { HasCause (T.failures tree.old) (T.failures tree.new) result }

@@ -3,7 +3,7 @@ ghost use Rattle.std.specs.Prelude.{◌≡◌, map, filter, find, Some, OnOk, If
 ghost use Rattle.std.specs.List.{list_any};
 ghost use Rattle.std.specs.List.Sorted.{IsPermutation, IsSortedBy};
 ghost use Rattle.std.specs.Option.{option_map};
-ghost use Rattle.filetree.specs.Agreement.{FailsAt, Files, Listings, InEachPair, HasCause, is_device};
+ghost use Rattle.filetree.specs.Agreement.{FailsAt, InEachPair, Narrows, HasCause, is_device};
 ghost use Rattle.filetree.specs.Modulefiles.{path_of};
 ghost use Rattle.search.specs.Looked.{LooksForGreatest};
 ghost use Rattle.search.specs.Versions.{is_version, is_module_in, goes_before, IsGreatestOf, LooksFromGreatest};
@@ -77,7 +77,7 @@ fn first_module<T: Tree>(
     name: &str,
     versions: &[&str],
 ) -> Result<Option<String>, TreeFault>
-    ensures before { InEachPair (T.agrees tree.new) (λ files listings. T.agrees tree.old files listings) }
+    ensures narrows { Narrows (T.agrees tree.old) (T.agrees tree.new) }
     ensures answer { IfOk result (λ r. InEachPair (T.agrees tree.new) (λ files listings.
         option_map string_bytes r ≡ find (is_module_in files dir.now name.now) (map (λ v. v.now) versions.now))) }
     ensures cause { HasCause (T.failures tree.old) (T.failures tree.new) result }
@@ -108,7 +108,7 @@ pub(crate) fn greatest_candidate<T: Tree>(
 ) -> Result<Option<String>, TreeFault>
     requires { InEachPair (T.agrees tree.old) (λ files listings.
         listings (path_of dir.now name.now) ≡ Some (map string_bytes entries.now)) }
-    ensures before { InEachPair (T.agrees tree.new) (λ files listings. T.agrees tree.old files listings) }
+    ensures narrows { Narrows (T.agrees tree.old) (T.agrees tree.new) }
     ensures answer { IfOk result (λ r. InEachPair (T.agrees tree.new) (λ files listings.
         IsGreatestOf files listings dir.now name.now (option_map string_bytes r))) }
     ensures cause { HasCause (T.failures tree.old) (T.failures tree.new) result }

@@ -28,7 +28,7 @@ returns-in_ok-greatest_candidate-in-Nothing-clause-over_tree g c = λ files list
     let dir = c.args.dir.now in
     let name = c.args.name.now in
     default_greatest results files listings dir name (option_map string_bytes c.in_ok-greatest_candidate-in-Nothing.field-0)
-    (subst (λ m. NamedDefault results files listings dir name (named_candidate_view m)) c.in-Nothing.is (c.in_ok-version.ensures.answer files listings (c.greatest_candidate.ensures.before files listings agree)))
+    (subst (λ m. NamedDefault results files listings dir name (named_candidate_view m)) c.in-Nothing.is (c.in_ok-version.ensures.answer files listings (c.greatest_candidate.ensures.narrows files listings agree)))
     (c.in_ok-greatest_candidate-in-Nothing.ensures.answer files listings agree)
 
 pub returns-in-Some-clause-over_tree : goal.returns-in-Some-clause-over_tree
@@ -37,7 +37,7 @@ returns-in-Some-clause-over_tree g c = λ files listings agree.
     let dir = c.args.dir.now in
     let name = c.args.name.now in
     default_bad results files listings dir name (string_bytes c.in-Some.field-0) (bad_default (string_bytes c.in-BadFile.path))
-    (subst (λ m. NamedDefault results files listings dir name (named_candidate_view m)) c.in-BadFile.is (c.in_ok-version.ensures.answer files listings (c.greatest_candidate-in-BadFile.ensures.before files listings agree)))
+    (subst (λ m. NamedDefault results files listings dir name (named_candidate_view m)) c.in-BadFile.is (c.in_ok-version.ensures.answer files listings (c.greatest_candidate-in-BadFile.ensures.narrows files listings agree)))
     (subst (λ o. IsGreatestOf files listings dir name (option_map string_bytes o)) c.in-Some.is (c.in_ok-greatest_candidate-in-BadFile.ensures.answer files listings agree))
 
 pub returns-then-not-branch-clause-over_tree : goal.returns-then-not-branch-clause-over_tree
@@ -62,7 +62,7 @@ returns-in_err-version-clause-failed g c =
     (λ at. InEachPair agrees (λ files listings. LooksForNamed results files listings dir name at))
     (λ at. InEachPair agrees (λ files listings. LooksInFolder results files listings dir name at)) refl (same_failure e)
     (λ at h files listings a.
-    (some_version files listings dir name entries (c.requires files listings (c.named_default.ensures.before files listings a)) some, inl (h files listings a)))
+    (some_version files listings dir name entries (c.requires files listings (c.named_default.ensures.narrows files listings a)) some, inl (h files listings a)))
     c.in_err-version.ensures.failed)
 
 pub returns-in_err-greatest_candidate-in-Nothing-clause-failed : goal.returns-in_err-greatest_candidate-in-Nothing-clause-failed
@@ -79,8 +79,8 @@ returns-in_err-greatest_candidate-in-Nothing-clause-failed g c =
     (λ at. InEachPair agrees (λ files listings. LooksForGreatest files listings dir name at))
     (λ at. InEachPair agrees (λ files listings. LooksInFolder results files listings dir name at)) c.in_ok-version.ensures.failed (same_failure e)
     (λ at h files listings a.
-    let b = c.greatest_candidate.ensures.before files listings a in (
-      some_version files listings dir name entries (c.requires files listings (c.named_default.ensures.before files listings b)) some,
+    let b = c.greatest_candidate.ensures.narrows files listings a in (
+      some_version files listings dir name entries (c.requires files listings (c.named_default.ensures.narrows files listings b)) some,
       inr (inl (subst (λ m. NamedDefault results files listings dir name (named_candidate_view m)) c.in-Nothing.is (c.in_ok-version.ensures.answer files listings b)), h files listings a),
     ))
     c.in_err-greatest_candidate-in-Nothing.ensures.failed)
@@ -99,8 +99,8 @@ returns-in_err-greatest_candidate-in-BadFile-clause-failed g c =
     (λ at. InEachPair agrees (λ files listings. LooksForGreatest files listings dir name at))
     (λ at. InEachPair agrees (λ files listings. LooksInFolder results files listings dir name at)) c.in_ok-version.ensures.failed (same_failure e)
     (λ at h files listings a.
-    let b = c.greatest_candidate-in-BadFile.ensures.before files listings a in (
-      some_version files listings dir name entries (c.requires files listings (c.named_default.ensures.before files listings b)) some,
+    let b = c.greatest_candidate-in-BadFile.ensures.narrows files listings a in (
+      some_version files listings dir name entries (c.requires files listings (c.named_default.ensures.narrows files listings b)) some,
       inr (inr (bad_default (string_bytes c.in-BadFile.path), subst (λ m. NamedDefault results files listings dir name (named_candidate_view m)) c.in-BadFile.is (c.in_ok-version.ensures.answer files listings b)), h files listings a),
     ))
     c.in_err-greatest_candidate-in-BadFile.ensures.failed)

@@ -25,7 +25,7 @@ returns-in_err-found-clause-over_tree g c =
     (option_map found_view) found_view
     (λ files listings. FoundBelow results files listings (get_or rest 0 nothing).now name)
     (λ files listings. FoundAlong results files listings name (map (λ dir. dir.now) c.args.dirs.now)) c.in_err-found.field-0.0 (λ q. omega arith)
-    (λ files listings r a h. c.loop-rest.invariant.none_yet files listings (c.module_below.ensures.before files listings a) (Err r)
+    (λ files listings r a h. c.loop-rest.invariant.none_yet files listings (c.module_below.ensures.reads.narrows files listings a) (Err r)
     (along_rest results files listings name (λ dir. dir.now) nothing rest c.in-len1-up.len_at_least (Err r) (Err r) h refl))
     c.in_err-found.ensures.over_tree)
 
@@ -35,7 +35,7 @@ returns-in-Some-clause-over_tree g c = λ files listings a.
     let results = g.D.DefaultFiles.results c.args.default_files.now in
     let name = c.args.name.now in
     let found = Ok (found_view c.in-Some.found) in
-    c.loop-rest.invariant.none_yet files listings (c.module_below.ensures.before files listings a) found
+    c.loop-rest.invariant.none_yet files listings (c.module_below.ensures.reads.narrows files listings a) found
     (along_rest results files listings name (λ dir. dir.now) nothing c.loop-rest.rest.now c.in-len1-up.len_at_least (Ok (option_map found_view c.in_ok-found.field-0)) found
     (c.in_ok-found.ensures.over_tree files listings a)
     (subst (λ m. Continues results files listings name (map (λ (dir : Bor (List ℕ)). dir.now) (take (length c.loop-rest.rest.now - 1) (drop 1 c.loop-rest.rest.now))) (Ok (option_map found_view m)) found) (sym c.in-Some.is) refl))
@@ -43,20 +43,19 @@ returns-in-Some-clause-over_tree g c = λ files listings a.
 pub loop-rest-preserved : goal.loop-rest-preserved
 unfolding nothing
 loop-rest-preserved g c = record {
-  before = λ files listings a. c.loop-rest.invariant.before files listings (c.module_below.ensures.before files listings a);
+  reads = record { narrows = λ files listings a. c.loop-rest.invariant.reads.narrows files listings (c.module_below.ensures.reads.narrows files listings a); later = omega arith };
   none_yet = λ files listings a o k.
       let results = g.D.DefaultFiles.results c.args.default_files.now in
       let name = c.args.name.now in
-      c.loop-rest.invariant.none_yet files listings (c.module_below.ensures.before files listings a) o
+      c.loop-rest.invariant.none_yet files listings (c.module_below.ensures.reads.narrows files listings a) o
       (along_rest results files listings name (λ dir. dir.now) nothing c.loop-rest.rest.now c.in-len1-up.len_at_least (Ok (option_map found_view c.in_ok-found.field-0)) o
       (c.in_ok-found.ensures.over_tree files listings a)
       (subst (λ m. Continues results files listings name (map (λ (dir : Bor (List ℕ)). dir.now) (take (length c.loop-rest.rest.now - 1) (drop 1 c.loop-rest.rest.now))) (Ok (option_map found_view m)) o) (sym c.in_default-2.is) k));
-  later = omega arith;
   unfailed = c.in_ok-found.ensures.failed ∙ c.loop-rest.invariant.unfailed;
   looked = λ files listings a at h.
       let results = g.D.DefaultFiles.results c.args.default_files.now in
       let name = c.args.name.now in
-      c.loop-rest.invariant.looked files listings (c.module_below.ensures.before files listings a) at
+      c.loop-rest.invariant.looked files listings (c.module_below.ensures.reads.narrows files listings a) at
       (looks_after results files listings name (λ dir. dir.now) nothing c.loop-rest.rest.now c.in-len1-up.len_at_least at
       (subst (λ m. FoundBelow results files listings (get_or c.loop-rest.rest.now 0 nothing).now name (Ok (option_map found_view m))) c.in_default-2.is (c.in_ok-found.ensures.over_tree files listings a)) h);
 }
@@ -74,7 +73,7 @@ returns-in_err-found-clause-failed g c =
     (λ at. InEachPair agrees (λ files listings. LooksBelow results files listings (get_or rest 0 nothing).now name at))
     (λ at. InEachPair agrees (λ files listings. LooksAlong results files listings name (map (λ dir. dir.now) c.args.dirs.now) at))
     c.loop-rest.invariant.unfailed refl
-    (λ at h files listings a. c.loop-rest.invariant.looked files listings (c.module_below.ensures.before files listings a) at
+    (λ at h files listings a. c.loop-rest.invariant.looked files listings (c.module_below.ensures.reads.narrows files listings a) at
     (looks_here results files listings name (λ dir. dir.now) nothing rest c.in-len1-up.len_at_least at (h files listings a)))
     c.in_err-found.ensures.failed)
 

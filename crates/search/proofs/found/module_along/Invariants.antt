@@ -1,5 +1,5 @@
-use Rattle.std.proofs.Common.{◌≡◌, ◌≤◌, List, ℕ, Result, length, map}
-use Rattle.filetree.specs.Agreement.{InEachPair}
+use Rattle.std.proofs.Common.{◌≡◌, List, ℕ, Result, length, map}
+use Rattle.filetree.specs.Agreement.{InEachPair, ReadsOn}
 use Rattle.search.specs.Reasons.{Reason}
 use Rattle.search.specs.Found.{FoundModule, FoundAlong}
 use Rattle.search.specs.Looked.{LooksAlong}
@@ -7,11 +7,10 @@ use Rattle.search.proofs.found.module_along.Given as goal
 
 abbrev pub invariant-loop-rest : goal.invariant-loop-rest
 invariant-loop-rest g l = record {
-  before : InEachPair (g.T.Tree.agrees l.tree) (λ files listings. g.T.Tree.agrees l.initial.tree files listings);
+  reads : ReadsOn g.T.Tree.agrees g.T.Tree.failures l.initial.tree l.tree;
   none_yet : InEachPair (g.T.Tree.agrees l.tree) (λ files listings. (o : Result FoundModule Reason)
       → FoundAlong (g.D.DefaultFiles.results l.default_files) files listings l.name (map (λ dir. dir.now) l.rest) o
       → FoundAlong (g.D.DefaultFiles.results l.default_files) files listings l.name (map (λ dir. dir.now) l.dirs) o);
-  later : g.T.Tree.failures l.initial.tree ≤ g.T.Tree.failures l.tree;
   unfailed : g.T.Tree.failed l.tree ≡ g.T.Tree.failed l.initial.tree;
   looked : InEachPair (g.T.Tree.agrees l.tree) (λ files listings. (at : List ℕ)
       → LooksAlong (g.D.DefaultFiles.results l.default_files) files listings l.name (map (λ dir. dir.now) l.rest) at

@@ -35,7 +35,7 @@ returns-in_err-default_in-clause-over_tree g c =
     (option_map (string_bytes {Z = Global})) (option_map found_view)
     (λ files listings. DefaultIn results files listings dir name) (λ files listings. FoundBelow results files listings dir name) c.in_err-default_in.field-0.0 (λ q. omega arith)
     (λ files listings r a h. below_fault results files listings dir name (modulefile (files (path_of dir name))) refl
-    (sym (ap (λ m. Ok (option_map found_view m)) c.in_default.is) ∙ c.in_ok-found.ensures.over_tree files listings (c.default_in.ensures.before files listings a)) r h)
+    (sym (ap (λ m. Ok (option_map found_view m)) c.in_default.is) ∙ c.in_ok-found.ensures.over_tree files listings (c.default_in.ensures.reads.narrows files listings a)) r h)
     c.in_err-default_in.ensures.over_tree)
 
 pub returns-in-None-clause-over_tree : goal.returns-in-None-clause-over_tree
@@ -44,7 +44,7 @@ returns-in-None-clause-over_tree g c = λ files listings a.
     let dir = c.args.dir.now in
     let name = c.args.name.now in
     below_default results files listings dir name (modulefile (files (path_of dir name))) refl
-    (sym (ap (λ m. Ok (option_map found_view m)) c.in_default.is) ∙ c.in_ok-found.ensures.over_tree files listings (c.default_in.ensures.before files listings a))
+    (sym (ap (λ m. Ok (option_map found_view m)) c.in_default.is) ∙ c.in_ok-found.ensures.over_tree files listings (c.default_in.ensures.reads.narrows files listings a))
     None (Ok None) (subst (λ v. DefaultIn results files listings dir name (Ok (option_map string_bytes v))) c.in-None.is (c.in_ok-default_in.ensures.over_tree files listings a)) refl
 
 pub returns-in_ok-full-in-Some-2-clause-over_tree : goal.returns-in_ok-full-in-Some-2-clause-over_tree
@@ -60,9 +60,9 @@ returns-in_ok-full-in-Some-2-clause-over_tree g c =
     (option_map found_view) c.module_at-in-Some-2.result
     (λ files listings. Is (module_at files dir full)) (λ files listings. FoundBelow results files listings dir name) (λ q. omega arith)
     (λ files listings o a h.
-    let b = c.module_at-in-Some-2.ensures.before files listings a in
+    let b = c.module_at-in-Some-2.ensures.reads.narrows files listings a in
     below_default results files listings dir name (modulefile (files (path_of dir name))) refl
-    (sym (ap (λ m. Ok (option_map found_view m)) c.in_default.is) ∙ c.in_ok-found.ensures.over_tree files listings (c.default_in.ensures.before files listings b))
+    (sym (ap (λ m. Ok (option_map found_view m)) c.in_default.is) ∙ c.in_ok-found.ensures.over_tree files listings (c.default_in.ensures.reads.narrows files listings b))
     (Some version) o (subst (λ v. DefaultIn results files listings dir name (Ok (option_map (string_bytes {Z = Global}) v))) c.in-Some-2.is (c.in_ok-default_in.ensures.over_tree files listings b))
     (h ∙ ap (module_at files dir) full_is))
     c.module_at-in-Some-2.ensures.over_tree
@@ -81,7 +81,7 @@ returns-in_err-default_in-clause-failed g c =
     c.in_ok-found.ensures.failed refl
     (λ at h files listings a. ⊎_elim (λ e. inl e) (λ l. inr (
       not_at files dir name
-          (sym (ap (λ m. Ok (option_map found_view m)) c.in_default.is) ∙ c.in_ok-found.ensures.over_tree files listings (c.default_in.ensures.before files listings a)),
+          (sym (ap (λ m. Ok (option_map found_view m)) c.in_default.is) ∙ c.in_ok-found.ensures.over_tree files listings (c.default_in.ensures.reads.narrows files listings a)),
       l,
     )) (h files listings a))
     c.in_err-default_in.ensures.failed)
@@ -99,9 +99,9 @@ returns-in_ok-full-in-Some-2-clause-failed g c =
     (λ at. at ≡ path_of dir full) (λ at. InEachPair agrees (λ files listings. LooksBelow results files listings dir name at))
     (c.in_ok-default_in.ensures.failed ∙ c.in_ok-found.ensures.failed)
     (λ at e files listings a.
-    let b = c.module_at-in-Some-2.ensures.before files listings a in
+    let b = c.module_at-in-Some-2.ensures.reads.narrows files listings a in
     inr (
-      not_at files dir name (sym (ap (λ m. Ok (option_map found_view m)) c.in_default.is) ∙ c.in_ok-found.ensures.over_tree files listings (c.default_in.ensures.before files listings b)),
+      not_at files dir name (sym (ap (λ m. Ok (option_map found_view m)) c.in_default.is) ∙ c.in_ok-found.ensures.over_tree files listings (c.default_in.ensures.reads.narrows files listings b)),
       subst (LooksInFolder results files listings dir name) (sym (e ∙ ap (path_of dir) full_is))
           (default_looked results files listings dir name version
           (subst (λ v. DefaultIn results files listings dir name (Ok (option_map (string_bytes {Z = Global}) v))) c.in-Some-2.is (c.in_ok-default_in.ensures.over_tree files listings b))),

@@ -77,17 +77,16 @@ returns-in_err-modules-clause-failed g c =
 pub loop-rest-preserved : goal.loop-rest-preserved
 unfolding nothing
 loop-rest-preserved g c = record {
-  before = λ files folders a. c.loop-rest.invariant.before files folders (c.modules_of.ensures.before files folders a);
+  reads = record { narrows = λ files folders a. c.loop-rest.invariant.reads.narrows files folders (c.modules_of.ensures.narrows files folders a); later = omega arith };
   so_far = λ files folders a more h.
       let results = g.D.DefaultFiles.results c.args.default_files.now in
-      let b = c.modules_of.ensures.before files folders a in
+      let b = c.modules_of.ensures.narrows files folders a in
       let listing : Listing = (string_bytes c.in_ok-from_str.field-0, map listing_entry_view (vec_items c.in_ok-modules.modules)) in
       subst (AreListings results files folders (map (λ d. d.now) c.as_slice-rest.result.now))
       (pushed listing_view c.loop-rest.listings.items c.push.new.self.items _ c.in_ok-push.ensures.items more)
       (c.loop-rest.invariant.so_far files folders b (listing ∷ more)
       (listed_first results files folders (λ d. d.now) nothing c.loop-rest.rest.now c.in-len1-up.len_at_least listing c.in_ok-from_str.ensures.ok
       (c.in_ok-modules.ensures.answer files folders a) more h));
-  later = omega arith;
   unfailed = c.in_ok-modules.ensures.failed ∙ c.loop-rest.invariant.unfailed;
   among = λ d h. c.loop-rest.invariant.among d (later_has (λ dir. dir.now) nothing c.loop-rest.rest.now c.in-len1-up.len_at_least d h);
 }

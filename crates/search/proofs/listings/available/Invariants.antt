@@ -1,5 +1,5 @@
-use Rattle.std.proofs.Common.{◌≡◌, ◌≤◌, ◌++◌, true, List, length, map}
-use Rattle.filetree.specs.Agreement.{InEachPair}
+use Rattle.std.proofs.Common.{◌≡◌, ◌++◌, true, List, length, map}
+use Rattle.filetree.specs.Agreement.{InEachPair, ReadsOn}
 use Rattle.modulename.specs.ModuleName.{Text}
 use Rattle.search.specs.Listed as listed
 use Rattle.search.specs.Listed.{AreListings}
@@ -9,11 +9,10 @@ use Rattle.search.proofs.listings.available.Given as goal
 
 abbrev pub invariant-loop-rest : goal.invariant-loop-rest
 invariant-loop-rest g l = record {
-  before : InEachPair (g.T.Tree.agrees l.tree) (λ files folders. g.T.Tree.agrees l.initial.tree files folders);
+  reads : ReadsOn g.T.Tree.agrees g.T.Tree.failures l.initial.tree l.tree;
   so_far : InEachPair (g.T.Tree.agrees l.tree) (λ files folders. (more : List listed.Listing)
       → AreListings (g.D.DefaultFiles.results l.default_files) files folders (map (λ dir. dir.now) l.rest) more
       → AreListings (g.D.DefaultFiles.results l.default_files) files folders (map (λ dir. dir.now) l.initial.rest) (map listing_view l.listings.items ++ more));
-  later : g.T.Tree.failures l.initial.tree ≤ g.T.Tree.failures l.tree;
   unfailed : g.T.Tree.failed l.tree ≡ g.T.Tree.failed l.initial.tree;
   among : (d : Text) → has d (map (λ dir. dir.now) l.rest) ≡ true → has d (map (λ dir. dir.now) l.initial.rest) ≡ true;
 }

@@ -39,12 +39,11 @@ returns-clause-failed g c = c.loop-rest.invariant.unfailed
 
 pub loop-rest-preserved : goal.loop-rest-preserved
 loop-rest-preserved g c = record {
-  before = λ files folders a. c.loop-rest.invariant.before files folders (c.holds_module.ensures.before files folders a);
+  reads = record { narrows = λ files folders a. c.loop-rest.invariant.reads.narrows files folders (c.holds_module.ensures.narrows files folders a); later = omega arith };
   so_far = λ files folders a.
-      let so_far = c.loop-rest.invariant.so_far files folders (c.holds_module.ensures.before files folders a) in
+      let so_far = c.loop-rest.invariant.so_far files folders (c.holds_module.ensures.narrows files folders a) in
       let here = c.in_ok-holds_module.ensures.answer files folders a in
       grind (arith, common_steps);
-  later = omega arith;
   unfailed = c.in_ok-holds_module.ensures.failed ∙ c.loop-rest.invariant.unfailed;
   among = λ n h.
       c.loop-rest.invariant.among n (later_has string_bytes c.name-item.result c.loop-rest.rest.now c.in-len1-up.len_at_least n h);

@@ -1,5 +1,5 @@
-use Rattle.std.proofs.Common.{◌≡◌, ◌≤◌, ◌++◌, true, length, filter, map, string_bytes}
-use Rattle.filetree.specs.Agreement.{InEachPair}
+use Rattle.std.proofs.Common.{◌≡◌, ◌++◌, true, length, filter, map, string_bytes}
+use Rattle.filetree.specs.Agreement.{InEachPair, ReadsOn}
 use Rattle.modulename.specs.ModuleName.{Text}
 use Rattle.search.proofs.VersionLemmas.{has}
 use Rattle.search.specs.BelowFolder.{is_module_below}
@@ -7,10 +7,9 @@ use Rattle.search.proofs.names.modules_among.Given as goal
 
 abbrev pub invariant-loop-rest : goal.invariant-loop-rest
 invariant-loop-rest g l = record {
-  before : InEachPair (g.T.Tree.agrees l.tree) (λ files folders. g.T.Tree.agrees l.initial.tree files folders);
+  reads : ReadsOn g.T.Tree.agrees g.T.Tree.failures l.initial.tree l.tree;
   so_far : InEachPair (g.T.Tree.agrees l.tree) (λ files folders.
       filter (is_module_below files l.dir) (map string_bytes l.names) ≡ map (λ m. m.now) l.modules.items ++ filter (is_module_below files l.dir) (map string_bytes l.rest));
-  later : g.T.Tree.failures l.initial.tree ≤ g.T.Tree.failures l.tree;
   unfailed : g.T.Tree.failed l.tree ≡ g.T.Tree.failed l.initial.tree;
   among : (n : Text) → has n (map string_bytes l.rest) ≡ true → has n (map string_bytes l.names) ≡ true;
 }

@@ -13,15 +13,14 @@ nothing = record { ref_ptr = (0, 0); now = [] }
 pub loop-rest-preserved : goal.loop-rest-preserved
 unfolding nothing
 loop-rest-preserved g c = record {
-  before = λ files listings a. c.loop-rest.invariant.before files listings (c.is_module_in.ensures.before files listings a);
+  reads = record { narrows = λ files listings a. c.loop-rest.invariant.reads.narrows files listings (c.is_module_in.ensures.narrows files listings a); later = omega arith };
   none_yet = λ files listings a.
-      c.loop-rest.invariant.none_yet files listings (c.is_module_in.ensures.before files listings a)
+      c.loop-rest.invariant.none_yet files listings (c.is_module_in.ensures.narrows files listings a)
       ∙ find_later (λ v. v.now) (is_module_in files c.args.dir.now c.args.name.now) nothing c.loop-rest.rest.now c.in-len1-up.len_at_least
       (c.in_ok-is_module_in.ensures.answer files listings a ∙ c.if-branch.false);
-  later = omega arith;
   unfailed = c.in_ok-is_module_in.ensures.failed ∙ c.loop-rest.invariant.unfailed;
   looked = λ files listings a at h.
-      c.loop-rest.invariant.looked files listings (c.is_module_in.ensures.before files listings a) at
+      c.loop-rest.invariant.looked files listings (c.is_module_in.ensures.narrows files listings a) at
       (looks_later (λ v. v.now) files c.args.dir.now c.args.name.now nothing c.loop-rest.rest.now c.in-len1-up.len_at_least at
       (c.in_ok-is_module_in.ensures.answer files listings a ∙ c.if-branch.false) h);
 }
@@ -38,7 +37,7 @@ returns-in_err-is_module_in-clause-failed g c =
     (λ at. at ≡ path_of dir (path_of name (get_or rest 0 nothing).now))
     (λ at. InEachPair (g.T.Tree.agrees c.is_module_in.new.tree) (λ files listings. LooksFromGreatest files dir name (map (λ v. v.now) c.args.versions.now) at))
     c.loop-rest.invariant.unfailed refl
-    (λ at e files listings a. c.loop-rest.invariant.looked files listings (c.is_module_in.ensures.before files listings a) at
+    (λ at e files listings a. c.loop-rest.invariant.looked files listings (c.is_module_in.ensures.narrows files listings a) at
     (looks_first (λ v. v.now) files dir name nothing rest c.in-len1-up.len_at_least at e))
     c.in_err-is_module_in.ensures.failed)
 

@@ -16,7 +16,7 @@ returns-clause-answer g c =
     (λ r. InEachPair agrees (λ files listings. option_map string_bytes r ≡ find (is_module_in files dir name) (map (λ v. v.now) c.deref.result.now)))
     (λ r. InEachPair agrees (λ files listings. IsGreatestOf files listings dir name (option_map string_bytes r)))
     (λ r h files listings agree.
-    greatest_is files listings dir name (map string_bytes c.args.entries.now) (c.requires files listings (c.first_module.ensures.before files listings agree))
+    greatest_is files listings dir name (map string_bytes c.args.entries.now) (c.requires files listings (c.first_module.ensures.narrows files listings agree))
     (λ v. v.now) c.in_ok-versions.versions.items c.sort_down.new.versions.items c.in_ok-versions.ensures c.in_ok-sort_down.ensures.same c.in_ok-sort_down.ensures.sorted (option_map string_bytes r)
     (h files listings agree ∙ ap (λ vs. find (is_module_in files dir name) (map (λ v. v.now) vs)) c.deref.ensures.value))
     c.first_module.ensures.answer
@@ -30,7 +30,7 @@ returns-clause-failed g c =
     (λ at. InEachPair agrees (λ files listings. LooksFromGreatest files dir name (map (λ v. v.now) c.deref.result.now) at))
     (λ at. InEachPair agrees (λ files listings. LooksForGreatest files listings dir name at)) refl
     (λ at h files listings a.
-    greatest_looked files listings dir name (map string_bytes c.args.entries.now) (c.requires files listings (c.first_module.ensures.before files listings a))
+    greatest_looked files listings dir name (map string_bytes c.args.entries.now) (c.requires files listings (c.first_module.ensures.narrows files listings a))
     (λ v. v.now) c.in_ok-versions.versions.items c.sort_down.new.versions.items c.in_ok-versions.ensures c.in_ok-sort_down.ensures.same c.in_ok-sort_down.ensures.sorted at
     (subst (λ vs. LooksFromGreatest files dir name (map (λ v. v.now) vs) at) c.deref.ensures.value (h files listings a)))
     c.first_module.ensures.failed

@@ -4,8 +4,8 @@ use Rattle.filetree.specs.Agreement.{file_answer, listing_answer}
 use Rattle.filetree.proofs.CachedAnswers.{Has, HasPrefixes, prefixes_before, prefix_answer}
 use Rattle.filetree.proofs.disk.DiskTree.read_prefix.Goals as goal
 
-pub returns-in_ok-insert-in-Ok-clause-before : goal.returns-in_ok-insert-in-Ok-clause-before
-returns-in_ok-insert-in-Ok-clause-before g c files listings h =
+pub returns-in_ok-insert-in-Ok-clause-narrows : goal.returns-in_ok-insert-in-Ok-clause-narrows
+returns-in_ok-insert-in-Ok-clause-narrows g c files listings h =
     let same = c.in_ok-path_kind.ensures in
     let path = c.args.path.now in
     let none = ap (λ f. get_by_text f path) same.prefixes ∙ c.requires.prefix in

@@ -4,8 +4,8 @@ use Rattle.filetree.specs.Agreement.{file_answer, listing_answer}
 use Rattle.filetree.proofs.CachedAnswers.{Has, HasPrefixes, has_before, has_answer}
 use Rattle.filetree.proofs.disk.DiskTreeTree.entries.Goals as goal
 
-pub returns-in_ok-insert-in-Ok-clause-before : goal.returns-in_ok-insert-in-Ok-clause-before
-returns-in_ok-insert-in-Ok-clause-before g c files listings h =
+pub returns-in_ok-insert-in-Ok-clause-narrows : goal.returns-in_ok-insert-in-Ok-clause-narrows
+returns-in_ok-insert-in-Ok-clause-narrows g c files listings h =
     let same = c.in_ok-path_kind.ensures in
     let absent = ap (λ m. get_by_text m c.args.dir.now) same.listings ∙ sym c.in_default.ensures.value in (
       subst (λ f. Has file_answer files f) same.files h.0,

@@ -4,8 +4,8 @@ use Rattle.filetree.specs.Agreement.{HaveSamePrefix, file_answer, listing_answer
 use Rattle.filetree.proofs.CachedAnswers.{Has, HasPrefixes, has_before, has_answer, prefixes_before_file, of_copied}
 use Rattle.filetree.proofs.disk.DiskTreeTree.read.Goals as goal
 
-pub returns-in_ok-insert-in-Ok-clause-before : goal.returns-in_ok-insert-in-Ok-clause-before
-returns-in_ok-insert-in-Ok-clause-before g c files listings h =
+pub returns-in_ok-insert-in-Ok-clause-narrows : goal.returns-in_ok-insert-in-Ok-clause-narrows
+returns-in_ok-insert-in-Ok-clause-narrows g c files listings h =
     let same = c.in_ok-path_kind.ensures in
     let m = c.path_kind_at.new.self.files in
     let path = c.args.path.now in

@@ -27,7 +27,7 @@ returns-in_default-clause-added g t c = λ files folders a.
 
 pub loop-rest-init : goal.loop-rest-init
 loop-rest-init g t c = record {
-  before = λ files folders a. a;
+  reads = record { narrows = λ files folders a. a; later = omega arith };
   walked = (
     [],
     refl,
@@ -40,7 +40,6 @@ loop-rest-init g t c = record {
               (ap (map string_bytes) (c.deref-4.ensures.value ∙ sym c.as_slice-rest.ensures.value)) f.2,
         ),
   );
-  later = omega arith;
   unfailed = refl;
 }
 
@@ -54,28 +53,27 @@ list_folder-requires g t c = λ κs h.
     (w.1 ∙ ap (λ r. w.0 ++ r) (split_first string_bytes c.name-item.result rest c.in-len1-up.len_at_least c.name-item.is)) c.as_str.ensures.value c.requires c.if-levels-eq0.false in
     (omega arith, (h.0, (h.1, deep)))
 
-pub returns-in_err-list_folder-clause-before : goal.returns-in_err-list_folder-clause-before
-returns-in_err-list_folder-clause-before g t c = λ files folders a.
-    c.entries.ensures.before files folders (c.list_files.ensures.before files folders (c.loop-rest.invariant.before files folders (c.list_folder.ensures.before files folders a)))
+pub returns-in_err-list_folder-clause-narrows : goal.returns-in_err-list_folder-clause-narrows
+returns-in_err-list_folder-clause-narrows g t c = λ files folders a.
+    c.entries.ensures.narrows files folders (c.list_files.ensures.narrows files folders (c.loop-rest.invariant.reads.narrows files folders (c.list_folder.ensures.narrows files folders a)))
 
 pub loop-rest-preserved : goal.loop-rest-preserved
 loop-rest-preserved g t c =
     let w = c.loop-rest.invariant.walked in
     let rest = c.loop-rest.rest.now in
     let name = c.as_str.result.now in record {
-      before = λ files folders a. c.loop-rest.invariant.before files folders (c.list_folder.ensures.before files folders a);
+      reads = record { narrows = λ files folders a. c.loop-rest.invariant.reads.narrows files folders (c.list_folder.ensures.narrows files folders a); later = omega arith };
       walked = (
         w.0 ++ name ∷ [],
         one_more string_bytes c.name-item.result name (map string_bytes c.as_slice-rest.result.now) w.0 rest w.1 c.in-len1-up.len_at_least c.name-item.is c.as_str.ensures.value,
         λ files folders a.
-            let v = w.2 files folders (c.list_folder.ensures.before files folders a) in
+            let v = w.2 files folders (c.list_folder.ensures.narrows files folders a) in
             let m = c.in_ok-list_folder.ensures.added files folders a in (
               v.0 ++ m.0,
               m.1 ∙ ap (λ listing_entries. listing_entries ++ m.0) v.1 ∙ append_assoc (map listing_entry_view c.args.listing_entries.now.items) v.0 m.0,
               rows_more (g.D.DefaultFiles.results c.args.self.now.default_files.now) files folders c.args.self.now.dir.now (map string_bytes c.as_slice-rest.result.now) w.0 name v.0 m.0 v.2 m.2,
             ),
       );
-      later = omega arith;
       unfailed = c.in_ok-list_folder.ensures.failed ∙ c.loop-rest.invariant.unfailed;
     }
 
@@ -100,7 +98,7 @@ returns-in_err-list_folder-clause-failed g t c =
     (λ at. InEachPair agrees (λ files folders. LooksFromFolder results files folders dir prefix at))
     (c.loop-rest.invariant.unfailed ∙ c.in_ok-list_files.ensures.failed ∙ c.in_ok-entries.ensures.failed) refl
     (λ at h files folders a.
-    let b = c.list_files.ensures.before files folders (c.loop-rest.invariant.before files folders (c.list_folder.ensures.before files folders a)) in
+    let b = c.list_files.ensures.narrows files folders (c.loop-rest.invariant.reads.narrows files folders (c.list_folder.ensures.narrows files folders a)) in
     let listed : folders (folder_path dir prefix) ≡ Some entries =
     ap folders (sym (c.deref.ensures ∙ c.in_ok-folder.ensures)) ∙ c.in_ok-entries.ensures.answer files folders b ∙ ap listing_answer c.in-Some.is
     ∙ ap (λ items. Some (map string_bytes items)) (sym c.deref-2.ensures.value) in
@@ -110,9 +108,9 @@ returns-in_err-list_folder-clause-failed g t c =
 pub returns-clause-failed : goal.returns-clause-failed
 returns-clause-failed g t c = c.loop-rest.invariant.unfailed ∙ c.in_ok-list_files.ensures.failed ∙ c.in_ok-entries.ensures.failed
 
-pub returns-clause-before : goal.returns-clause-before
-returns-clause-before g t c = λ files folders a.
-    c.entries.ensures.before files folders (c.list_files.ensures.before files folders (c.loop-rest.invariant.before files folders a))
+pub returns-clause-narrows : goal.returns-clause-narrows
+returns-clause-narrows g t c = λ files folders a.
+    c.entries.ensures.narrows files folders (c.list_files.ensures.narrows files folders (c.loop-rest.invariant.reads.narrows files folders a))
 
 pub returns-clause-added : goal.returns-clause-added
 returns-clause-added g t c = λ files folders a.
@@ -123,7 +121,7 @@ returns-clause-added g t c = λ files folders a.
     let v = w.2 files folders a in
     let names = map string_bytes c.as_slice-rest.result.now in
     let entries = map string_bytes c.deref-2.result.now in
-    let b = c.list_files.ensures.before files folders (c.loop-rest.invariant.before files folders a) in
+    let b = c.list_files.ensures.narrows files folders (c.loop-rest.invariant.reads.narrows files folders a) in
     let listed : folders (folder_path dir prefix) ≡ Some entries =
     ap folders (sym (c.deref.ensures ∙ c.in_ok-folder.ensures)) ∙ c.in_ok-entries.ensures.answer files folders b ∙ ap listing_answer c.in-Some.is
     ∙ ap (λ items. Some (map string_bytes items)) (sym c.deref-2.ensures.value) in (

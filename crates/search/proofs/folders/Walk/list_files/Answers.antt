@@ -14,7 +14,7 @@ returns-clause-added g c = λ files folders a.
     let dir = c.args.self.now.dir.now in
     let prefix = option_map (λ f. f.now) c.args.prefix in
     let default = option_map (λ t. t.now) c.as_text.result in
-    let before = c.default_name.ensures.before files folders a in (
+    let before = c.default_name.ensures.narrows files folders a in (
       map (listing_entry_of default) (map (λ m. m.now) c.deref.result.now),
       c.in_ok-push_listing_entries.ensures,
       files_made results files folders dir prefix default (map string_bytes c.args.entries.now)
@@ -36,7 +36,7 @@ returns-in_err-modules-clause-failed g c =
     rw (p.1, p.2) (fails_then fails fails (g.T.Tree.failed c.args.tree.now) (g.T.Tree.failed c.args.tree.now) (g.T.Tree.failed c.modules_among.new.tree)
     (LooksAmong dir names) (λ at. InEachPair agrees (λ files folders. LooksFromFolder results files folders dir prefix at)) refl refl
     (λ at h files folders a.
-    looks_among results files folders dir prefix entries (c.requires.listed files folders (c.modules_among.ensures.before files folders a)) names c.requires.named at h)
+    looks_among results files folders dir prefix entries (c.requires.listed files folders (c.modules_among.ensures.narrows files folders a)) names c.requires.named at h)
     c.in_err-modules.ensures.failed)
 
 pub returns-in_err-default-clause-failed : goal.returns-in_err-default-clause-failed
@@ -54,8 +54,8 @@ returns-in_err-default-clause-failed g c =
     (λ at. InEachPair agrees (λ files folders. LooksForDefault results files folders dir prefix at))
     (λ at. InEachPair agrees (λ files folders. LooksFromFolder results files folders dir prefix at)) c.in_ok-modules.ensures.failed refl
     (λ at h files folders a.
-    let b = c.default_name.ensures.before files folders a in
-    looks_at_default results files folders dir prefix entries (c.requires.listed files folders (c.modules_among.ensures.before files folders b)) names modules c.requires.named
+    let b = c.default_name.ensures.narrows files folders a in
+    looks_at_default results files folders dir prefix entries (c.requires.listed files folders (c.modules_among.ensures.narrows files folders b)) names modules c.requires.named
     (c.in_ok-modules.ensures.answer files folders b)
     (some_seen (λ m. m.now) c.in_ok-modules.modules.items (vec_len c.in_ok-modules.modules) c.is_empty.result c.in_ok-modules.modules.ok.0 c.is_empty.ensures c.if-is_empty.false) at (h files folders a))
     c.in_err-default.ensures.failed)
