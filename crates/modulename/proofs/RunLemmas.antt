@@ -1,7 +1,7 @@
 -- Runs of digits, and the order of their numbers.
-use Rattle.std.proofs.Common.{◌≡◌, ℕ, ◌+◌, ◌-◌, ◌*◌, ◌^◌, ◌<◌, ◌≤◌, List, [], ◌∷◌, ◌++◌, length, true, false, Some, refl, sym, ap, ◌∙◌, arith, lit<, inl, inr, take, drop, get_or, append_assoc, length-append}
-use Rattle.std.proofs.lemmas.List.{take_all}
-use Rattle.std.proofs.Math.Seq.{take-append_seam, drop-append_seam}
+use Rattle.std.proofs.Common.{◌≡◌, ℕ, ◌+◌, ◌-◌, ◌*◌, ◌^◌, ◌<◌, ◌≤◌, List, [], ◌∷◌, ◌++◌, length, Bool, true, false, not, cond, ltb, Some, None, unwrap_or, suc, subst, refl, sym, ap, ◌∙◌, arith, lit<, inl, inr, take, drop, get_or}
+use Rattle.std.specs.List.{prefix_len, position_or_len}
+use Rattle.std.proofs.lemmas.List.Sums.{prefix_len-le-length, take_while-cons}
 use Rattle.std.specs.Prelude.{◌==◌}
 use Rattle.std.specs.declared.cmp.Ordering.TheVariants.{Less, Equal, Greater}
 use Rattle.std.specs.Ordering.{nat_cmp, ordering_then}
@@ -10,7 +10,7 @@ use Rattle.std.proofs.Math.Nat.{pow-succ', pow-le-pow_right, mul-le-mul_right}
 use Rattle.std.proofs.lemmas.Bool.{and_parts, cases_lt}
 use Rattle.std.proofs.lemmas.Bool.Decides.{nat_tests}
 use Rattle.modulename.specs.Versions.{is_digit, with_digit, pieces, pieces_after, run}
-use Rattle.modulename.specs.DigitRuns.{number_after, number_of, are_digits, begins_digit, begins_zero, IsAfterDigits}
+use Rattle.modulename.specs.DigitRuns.{number_after, number_of, are_digits, begins_digit, begins_zero}
 
 pieces_behind_run : (n : ℕ) (ds rest : List ℕ) → are_digits ds ≡ true → begins_digit rest ≡ false
     → pieces_after (Some n) (ds ++ rest) ≡ run (number_after n ds) ∷ pieces rest
@@ -132,37 +132,38 @@ order_of_numbers a b h k f g = elim (cases_lt (length a) (length b)) [
     level : length a ≡ length b → ordering_then (nat_cmp (length a) (length b)) (slice_cmp nat_cmp a b) ≡ nat_cmp (number_of a) (number_of b)
     level q = ap (λ o. ordering_then o (slice_cmp nat_cmp a b)) (ap (nat_cmp (length a)) (sym q) ∙ equal (length a)) ∙ same_length 0 a b q h k
 
-one_more_digit : (front : List ℕ) (b : ℕ) → are_digits front ≡ true → is_digit b ≡ true → are_digits (front ++ b ∷ []) ≡ true
-one_more_digit [] b h k = rw k refl
-one_more_digit (d ∷ ds) b h k =
-    let p = and_parts (is_digit d) (are_digits ds) h in
-    let e : is_digit d ≡ true = p.0 in
-    rw e (one_more_digit ds b p.1 k)
+-- as many digits as stand before the first other byte
+not_not : (bs : List ℕ) → position_or_len (λ b. not (is_digit b)) bs ≡ prefix_len is_digit bs
+not_not [] = refl
+not_not (b ∷ bs) = cases (not_not bs) (is_digit b) refl where
+  cases : position_or_len (λ b. not (is_digit b)) bs ≡ prefix_len is_digit bs → (t : Bool) → is_digit b ≡ t → position_or_len (λ b. not (is_digit b)) (b ∷ bs) ≡ prefix_len is_digit (b ∷ bs)
+  cases more true e = rw e (ap (λ n. 1 + n) more)
+  cases more false e = rw e refl
 
--- a step over one more digit
-pub behind_one : (text rest after : List ℕ) → after ≡ take (length rest - 1) (drop 1 rest) → 1 ≤ length rest
-    → is_digit (get_or rest 0 0) ≡ true → IsAfterDigits text rest → IsAfterDigits text after
-behind_one text [] after e some digit follows = absurd (omega arith)
-behind_one text (b ∷ bs) after e some digit (front, whole, digits) =
-    let is : after ≡ bs = e ∙ take_all (length (b ∷ bs) - 1) bs (omega arith) in
-    (front ++ b ∷ [], whole ∙ sym (append_assoc front (b ∷ []) bs) ∙ ap (λ x. (front ++ b ∷ []) ++ x) (sym is), one_more_digit front b digits digit)
+pub digits_end : (bs : List ℕ) → unwrap_or (cond (ltb (position_or_len (λ b. not (is_digit b)) bs) (length bs)) (Some (position_or_len (λ b. not (is_digit b)) bs)) None) (length bs) ≡ prefix_len is_digit bs
+digits_end bs = rw (not_not bs) (cases (ltb (prefix_len is_digit bs) (length bs)) refl) where
+  cases : (t : Bool) → ltb (prefix_len is_digit bs) (length bs) ≡ t → unwrap_or (cond (ltb (prefix_len is_digit bs) (length bs)) (Some (prefix_len is_digit bs)) None) (length bs) ≡ prefix_len is_digit bs
+  cases true e = rw e refl
+  cases false e =
+      let le : prefix_len is_digit bs ≤ length bs = prefix_len-le-length is_digit bs in
+      rw e (grind (arith, nat_tests))
 
 -- the digits in front, and what follows them, cut at their place
-pub cut : (text rest : List ℕ) (n : ℕ) → IsAfterDigits text rest → n ≡ length text - length rest
-    → (are_digits (take n text) ≡ true) × (drop n text ≡ rest)
-cut text rest n (front, whole, digits) e =
-    let q : n ≡ length front = omega (arith, ap length whole, length-append front rest) in (
-      ap are_digits (ap (λ k. take k text) q ∙ ap (take (length front)) whole ∙ take-append_seam front rest) ∙ digits,
-      ap (λ k. drop k text) q ∙ ap (drop (length front)) whole ∙ drop-append_seam front rest,
-    )
+pub digits_taken : (bs : List ℕ) → are_digits (take (prefix_len is_digit bs) bs) ≡ true
+digits_taken [] = refl
+digits_taken (b ∷ bs) = ap are_digits (take_while-cons is_digit b bs) ∙ first (is_digit b) refl (digits_taken bs) where
+  first : (t : Bool) → is_digit b ≡ t → are_digits (take (prefix_len is_digit bs) bs) ≡ true → are_digits (cond t (b ∷ take (prefix_len is_digit bs) bs) []) ≡ true
+  first true e more = rw e more
+  first false e more = refl
 
-pub begins_none : (rest : List ℕ) → length rest < 1 → begins_digit rest ≡ false
-begins_none [] h = refl
-begins_none (b ∷ bs) h = absurd (omega arith)
-
-pub begins_other : (rest : List ℕ) → is_digit (get_or rest 0 0) ≡ false → begins_digit rest ≡ false
-begins_other [] h = refl
-begins_other (b ∷ bs) h = h
+pub rest_of_digits : (bs : List ℕ) → begins_digit (drop (prefix_len is_digit bs) bs) ≡ false
+rest_of_digits [] = refl
+rest_of_digits (b ∷ bs) = cases (rest_of_digits bs) (is_digit b) refl where
+  cases : begins_digit (drop (prefix_len is_digit bs) bs) ≡ false → (t : Bool) → is_digit b ≡ t → begins_digit (drop (prefix_len is_digit (b ∷ bs)) (b ∷ bs)) ≡ false
+  cases more true e =
+      let next : suc (prefix_len is_digit bs) ≡ 1 + prefix_len is_digit bs = omega arith in
+      rw e (subst (λ n. begins_digit (drop n (b ∷ bs)) ≡ false) next more)
+  cases more false e = rw e e
 
 pub begins_with : (rest : List ℕ) → is_digit (get_or rest 0 0) ≡ true → begins_digit rest ≡ true
 begins_with [] h = absurd (let e : is_digit 0 ≡ false = refl in cc)

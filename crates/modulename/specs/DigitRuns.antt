@@ -1,5 +1,5 @@
 -- Runs of digits and pieces of versions, as the code has them: for this crate's own contracts.
-use Rattle.std.specs.Prelude.{◌≡◌, ℕ, Bool, true, false, ◌==◌, List, [], ◌∷◌, ◌++◌}
+use Rattle.std.specs.Prelude.{◌≡◌, ℕ, Bool, true, false, ◌==◌, List, [], ◌∷◌}
 use Rattle.std.specs.List.{list_all}
 use Rattle.modulename.specs.Versions.{zero_digit, is_digit, with_digit, Piece, run, other}
 use Rattle.modulename.specs.declared.piece.Piece as rust_piece
@@ -20,10 +20,6 @@ are_digits ds = list_all is_digit ds
 abbrev pub begins_digit : List ℕ → Bool
 begins_digit [] = false
 begins_digit (b ∷ bs) = is_digit b
-
--- the text is digits, and then the rest
-abbrev pub IsAfterDigits : List ℕ → List ℕ → Type 0
-IsAfterDigits text rest = (prefix : List ℕ) × (text ≡ prefix ++ rest) × (are_digits prefix ≡ true)
 
 abbrev pub begins_zero : List ℕ → Bool
 begins_zero [] = false

@@ -1,9 +1,19 @@
 //! Whole numbers of any length, as runs of digits, compared without being computed.
 ghost use Rattle.std.specs.Prelude.{◌≡◌, ◌++◌, ◌<◌, ◌≤◌, length, true, false};
+ghost use Rattle.std.specs.List.{prefix_len};
 ghost use Rattle.std.specs.Ordering.{nat_cmp};
+ghost use Rattle.modulename.specs.Versions.{is_digit};
 ghost use Rattle.modulename.specs.DigitRuns.{number_of, are_digits, begins_digit, begins_zero};
 
 use std::cmp::Ordering;
+
+/// How many digits a text begins with.
+fn digit_count(text: &[u8]) -> usize
+    ensures { result ≡ prefix_len is_digit text.now }
+{
+    let end = text.iter().position(|b| !b.is_ascii_digit());
+    end.unwrap_or(text.len())
+}
 
 /// The digits that a text begins with, and the rest of it.
 pub(crate) fn split_digits(text: &[u8]) -> (&[u8], &[u8])
@@ -11,14 +21,7 @@ pub(crate) fn split_digits(text: &[u8]) -> (&[u8], &[u8])
     ensures digits { are_digits result.0.now ≡ true }
     ensures rest { begins_digit result.1.now ≡ false }
 {
-    let mut rest = text;
-    while let [first, after @ ..] = rest {
-        if !first.is_ascii_digit() {
-            break;
-        }
-        rest = after;
-    }
-    text.split_at(text.len() - rest.len())
+    text.split_at(digit_count(text))
 }
 
 /// The digits of a number without leading zeros.

@@ -87,7 +87,7 @@ fn digit(text: &str, base: u32) -> Option<(u32, &str)>
 }
 
 /// The value of a digit of bases up to 36; 36 for any other byte.
-fn digit_value(b: u8) -> u32
+pub fn digit_value(b: u8) -> u32
     ensures { result ≡ digit_value b }
 {
     match b {

@@ -11,7 +11,7 @@ mod laws;
 mod limits;
 mod runs;
 
-pub use backslash::read_backslash;
+pub use backslash::{digit_value, read_backslash};
 pub use braced_text::push_braced_text;
 pub use braces::split_close;
 pub use fault::{Fault, ReadError, TextFault, remaining_with_mark, with_offset};

@@ -60,13 +60,11 @@ fn skip(text: &str, count: usize) -> &str
     ensures { chars result.now ≡ drop count (chars text.now) }
 {
     let mut rest = text;
-    let mut remaining = count;
-    while remaining > 0 {
+    for _ in 0..count {
         let Some((_, after)) = split_char(rest) else {
             return rest;
         };
         rest = after;
-        remaining -= 1;
     }
     rest
 }

@@ -34,7 +34,8 @@ pub fn glob_match(pattern: &str, text: &str) -> bool
     ensures { IsTrue result ↔ IsMatch (chars pattern.now) (chars text.now) }
 {
     match read_to_star(pattern, text) {
-        UpToStar::Ended(matches) => matches,
+        UpToStar::Matches => true,
+        UpToStar::Differs => false,
         UpToStar::Star(position) => matches_from(position),
     }
 }

@@ -19,8 +19,10 @@ pub(crate) struct Position<'a> {
 /// How the reading of a pattern up to its next star ends.
 #[derive(Clone, Copy)]
 pub(crate) enum UpToStar<'a> {
-    /// The pattern or the text ends, or they differ; whether the whole text matches.
-    Ended(bool),
+    /// The pattern and the text end together.
+    Matches,
+    /// One ends before the other, or they differ.
+    Differs,
     /// A star is reached.
     Star(Position<'a>),
 }
@@ -41,12 +43,16 @@ pub(crate) fn read_to_star<'a>(pattern: &'a str, text: &'a str) -> UpToStar<'a>
             });
         }
         let Some((c, text)) = split_char(position.text) else {
-            return UpToStar::Ended(false);
+            return UpToStar::Differs;
         };
         let Some(pattern) = after_char(first, rest, c) else {
-            return UpToStar::Ended(false);
+            return UpToStar::Differs;
         };
         position = Position { pattern, text };
     }
-    UpToStar::Ended(position.text.is_empty())
+    if position.text.is_empty() {
+        UpToStar::Matches
+    } else {
+        UpToStar::Differs
+    }
 }

@@ -74,11 +74,9 @@ fn reading_after(reading: Reading, c: char) -> Reading
 fn is_uniform(pattern: &str) -> bool
     ensures { result ≡ uniform.is_uniform (chars pattern.now) }
 {
-    let mut rest = pattern;
     let mut reading = Reading::Outside;
-    while let Some((c, after)) = split_char(rest) {
+    for c in pattern.chars() {
         reading = reading_after(reading, c);
-        rest = after;
     }
     !matches!(reading, Reading::RangeToClose)
 }
@@ -93,8 +91,8 @@ fn matches_uniform(first: Position<'_>) -> bool
     let mut star = first;
     while !star.pattern.is_empty() {
         match read_to_star(star.pattern, star.text) {
-            UpToStar::Ended(true) => return true,
-            UpToStar::Ended(false) => match split_char(star.text) {
+            UpToStar::Matches => return true,
+            UpToStar::Differs => match split_char(star.text) {
                 Some((_, text)) => star.text = text,
                 None => return false,
             },

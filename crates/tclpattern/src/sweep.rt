@@ -49,11 +49,13 @@ fn sweep(pattern: &str, c: char, states: &mut [u64]) -> bool
 {
     let mut prefix = pattern;
     let mut at = 0;
-    let mut window = Window::at_end(has(states, 0));
+    let ends = has(states, 0);
+    let mut window = Window::at_end(ends);
     put(states, 0, false);
     while let Some((rest, p)) = split_last(prefix) {
         at += 1;
-        window = window.before(p, c, has(states, at));
+        let matches_without = has(states, at);
+        window = window.before(p, c, matches_without);
         put(states, at, window.takes);
         prefix = rest;
     }

@@ -1,11 +1,11 @@
 -- Stars that are reached in a pattern, with what remains of the text.
-use Rattle.std.specs.Prelude.{ℕ, ◌+◌, ◌<◌, List, ◌∷◌, length, IsTrue}
+use Rattle.std.specs.Prelude.{ℕ, ◌+◌, ◌<◌, List, ◌∷◌, length, true, false, IsTrue}
 use Rattle.std.specs.Str.{chars, IsUtf8}
 use Rattle.tclpattern.specs.Patterns.{star, IsMatch}
 use Rattle.tclpattern.specs.Search.Steps.{StepsToStar}
 use Rattle.tclpattern.specs.declared.position.Position.{Position}
 use Rattle.tclpattern.specs.declared.position.UpToStar.{UpToStar}
-use Rattle.tclpattern.specs.declared.position.UpToStar.TheVariants.{Ended, Star}
+use Rattle.tclpattern.specs.declared.position.UpToStar.TheVariants.{Matches, Differs, Star}
 
 -- the pattern from the star on matches what remains of the text
 abbrev pub StarMatches : Position → Type 0
@@ -17,20 +17,24 @@ IsUtf8Position p = IsUtf8 p.pattern.now × IsUtf8 p.text.now
 
 -- the text matches, by how the reading ends
 abbrev pub UpToStarMatches : UpToStar → Type 0
-UpToStarMatches (Ended matches) = IsTrue matches
+UpToStarMatches Matches = IsTrue true
+UpToStarMatches Differs = IsTrue false
 UpToStarMatches (Star p) = StarMatches p
 
 -- what remains where a star is reached is in UTF-8
 abbrev pub UpToStarIsUtf8 : UpToStar → Type 0
-UpToStarIsUtf8 (Ended matches) = Unit {0}
+UpToStarIsUtf8 Matches = Unit {0}
+UpToStarIsUtf8 Differs = Unit {0}
 UpToStarIsUtf8 (Star p) = IsUtf8Position p
 
 -- where a star is reached, the pattern and the text are read up to it
 abbrev pub StepsAs : List ℕ → List ℕ → UpToStar → Type 0
-StepsAs ps cs (Ended matches) = Unit {0}
+StepsAs ps cs Matches = Unit {0}
+StepsAs ps cs Differs = Unit {0}
 StepsAs ps cs (Star p) = StepsToStar ps cs (chars p.pattern.now) (chars p.text.now)
 
 -- where a star is reached, fewer bytes than that remain
 abbrev pub UpToStarIsShorter : ℕ → UpToStar → Type 0
-UpToStarIsShorter n (Ended matches) = Unit {0}
+UpToStarIsShorter n Matches = Unit {0}
+UpToStarIsShorter n Differs = Unit {0}
 UpToStarIsShorter n (Star p) = length p.pattern.now + length p.text.now < n

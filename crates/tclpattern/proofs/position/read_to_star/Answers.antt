@@ -1,4 +1,4 @@
-use Rattle.std.proofs.Common.{arith, rules}
+use Rattle.std.proofs.Common.{◌↔◌, Bool, IsTrue, subst, arith, rules}
 use Rattle.std.specs.Str.{chars}
 use Rattle.tclpattern.specs.Patterns.{IsMatch}
 use Rattle.tclpattern.proofs.PlaceLemmas.{run-ends, run-more, run-none, steps_to_star-more, steps_to_star-star}
@@ -14,10 +14,17 @@ loop-first-preserved c = record {
   no_longer = omega (arith, c.in-Some.ensures.shorter, c.in-Some-split_char.ensures.shorter, c.in-Some-after_char.ensures.no_longer);
 }
 
-pub returns-clause-same : goal.returns-clause-same
-returns-clause-same c =
-    run-ends c.loop-first.position.pattern.now c.loop-first.position.text.now (IsMatch (chars c.args.pattern.now) (chars c.args.text.now)) c.is_empty.result
-    (search rules) c.loop-first.invariant.text.1 c.in_default.ensures.characters c.loop-first.invariant.same
+pub returns-then-is_empty-clause-same : goal.returns-then-is_empty-clause-same
+returns-then-is_empty-clause-same c =
+    subst (λ (t : Bool). IsTrue t ↔ IsMatch (chars c.args.pattern.now) (chars c.args.text.now)) c.if-is_empty.true
+    (run-ends c.loop-first.position.pattern.now c.loop-first.position.text.now (IsMatch (chars c.args.pattern.now) (chars c.args.text.now)) c.is_empty.result
+    (search rules) c.loop-first.invariant.text.1 c.in_default.ensures.characters c.loop-first.invariant.same)
+
+pub returns-else-is_empty-clause-same : goal.returns-else-is_empty-clause-same
+returns-else-is_empty-clause-same c =
+    subst (λ (t : Bool). IsTrue t ↔ IsMatch (chars c.args.pattern.now) (chars c.args.text.now)) c.if-is_empty.false
+    (run-ends c.loop-first.position.pattern.now c.loop-first.position.text.now (IsMatch (chars c.args.pattern.now) (chars c.args.text.now)) c.is_empty.result
+    (search rules) c.loop-first.invariant.text.1 c.in_default.ensures.characters c.loop-first.invariant.same)
 
 pub returns-then-first-eq42-clause-steps_to_star : goal.returns-then-first-eq42-clause-steps_to_star
 returns-then-first-eq42-clause-steps_to_star c =

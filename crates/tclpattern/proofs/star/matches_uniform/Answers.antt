@@ -1,4 +1,4 @@
-use Rattle.std.proofs.Common.{rules}
+use Rattle.std.proofs.Common.{false, refl, rules}
 use Rattle.std.specs.Str.{chars}
 use Rattle.tclpattern.specs.Search.Positions.{StarMatches}
 use Rattle.tclpattern.proofs.TextLemmas.{no_way}
@@ -6,15 +6,15 @@ use Rattle.tclpattern.proofs.PlaceLemmas.{chars_none}
 use Rattle.tclpattern.proofs.PlainLemmas.{lead_plain, uniform-next, uniform-found, uniform-later, uniform-all}
 use Rattle.tclpattern.proofs.star.matches_uniform.Goals as goal
 
-pub returns-in-Ended-true : goal.returns-in-Ended-true
-returns-in-Ended-true c = uniform-found (chars c.loop-star.star.pattern.now) (chars c.loop-star.star.text.now) (StarMatches c.args.first) (c.in-Ended-true.ensures.same.0 c.in-Ended-true.field-0-test) c.loop-star.invariant.same
+pub returns-in-Matches : goal.returns-in-Matches
+returns-in-Matches c = uniform-found (chars c.loop-star.star.pattern.now) (chars c.loop-star.star.text.now) (StarMatches c.args.first) (c.in-Matches.ensures.same.0 refl) c.loop-star.invariant.same
 
 pub loop-star-preserved-in-Some : goal.loop-star-preserved-in-Some
 loop-star-preserved-in-Some c = record {
   text = search rules;
   uniform = c.loop-star.invariant.uniform;
   same = uniform-later (chars c.loop-star.star.pattern.now) (chars c.loop-star.star.text.now) c.in-Some.field-0-0 (chars c.in-Some.text.now) (StarMatches c.args.first)
-      c.in-Some.ensures.characters (no_way c.in-Ended-false.field-0 c.in-Ended-false.field-0-test c.in-Ended-false.ensures.same) c.loop-star.invariant.same;
+      c.in-Some.ensures.characters (no_way false refl c.in-Differs.ensures.same) c.loop-star.invariant.same;
 }
 
 pub loop-star-preserved : goal.loop-star-preserved
