@@ -3,15 +3,9 @@ use Rattle.std.proofs.Common.{◌≡◌, ℕ, ◌+◌, ◌<◌, Bool, true, fals
 use Rattle.std.proofs.Math.Seq.{drop-cons}
 use Rattle.tcloperators.specs.Operators.{truth_text}
 use Rattle.tclchars.specs.Runs.{Text}
-use Rattle.tcloperators.specs.Faults.{HasReason, error}
-use Rattle.tcloperators.specs.declared.fault.ValueFault.{ValueFault}
-use Rattle.tcloperators.specs.declared.fault.ValueFault.TheVariants as faults
 use Rattle.tclrules.specs.Messages.{cannot_unset}
 use Rattle.tclrules.specs.Variables.{State, Frame, without_value}
-use Rattle.tclrules.specs.Simulates.{Point, Simulates}
-use Rattle.tclrules.proofs.Leading.{stay, starve}
-use Rattle.tclsubstitution.specs.Stops.{stopped, stop_of}
-use Rattle.tclrules.specs.Plans.{Job, Step, Next, raise}
+use Rattle.tclrules.specs.Plans.{Step, Next, raise}
 use Rattle.tclrules.specs.Rules.{share, share_from, is_set, unset_at}
 
 pub inside : (f : Option Frame) (vs : List Text) (s : State) (k : State → Step) → is_some f ≡ true → share_from f vs s k ≡ share vs s k
@@ -29,16 +23,6 @@ names_from names i name h e = ap (map string_bytes) (drop-cons names i name h) �
 pub seen : (s : State) (k : Next) (v : Option (String Global)) (b : Bool) → b ≡ is_some v → is_set s k (option_map string_bytes v) ≡ k (truth_text b) s
 seen s k None b e = rw e refl
 seen s k (Some t) b e = rw e refl
-
--- a fault with a message raises it
-pub reason_stops : {most : ℕ} {r : Job → Step} {x : Point} (m : Text) (e : ValueFault) (s : State) → HasReason (error m) e → Simulates most r (raise m s) x (stopped (stop_of e) s) x
-reason_stops m faults.OutOfMemory s h = starve
-reason_stops m (faults.Text f) s h = cc
-reason_stops m (faults.TclError t) s h = let e : string_bytes t ≡ m = cc in rw e stay
-reason_stops m faults.ValueTooLong s h = cc
-reason_stops m faults.NumberTooLarge s h = cc
-reason_stops m faults.FractionOperand s h = cc
-reason_stops m (faults.LeftOut name) s h = cc
 
 pub unset_there : (quiet : Bool) (v : Text) (s : State) (p : Bool × Text) (k : State → Step) (o : Option Text) → is_some o ≡ true → unset_at quiet v s p k o ≡ k (without_value s p)
 unset_there quiet v s p k None h = cc

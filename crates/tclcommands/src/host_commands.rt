@@ -9,8 +9,8 @@ ghost use Rattle.tclcommands.specs.Continuations.{ContinuesWithAnswer, Continues
 use crate::value::Value;
 use std::alloc::{AllocError, Global};
 use tclforms::no_command;
-use tclrules::{Host, HostAnswer};
-use tclsubstitution::{Halt, Stop};
+use tclrules::{EvalFault, Host, HostAnswer};
+use tclsubstitution::Stop;
 use tclvariables::Variables;
 
 /// The result of the command of this name and these words, by the host. A name that the host doesn't know is an error
@@ -30,9 +30,9 @@ fn ask_host<H: Host>(
     match host.command(words) {
         HostAnswer::Done(text) => Ok(text),
         HostAnswer::Unknown => Err(Stop::from(no_command(alloc, name))),
-        HostAnswer::LeftOut(name) => Err(Stop::Halted(Halt::LeftOut(name))),
-        HostAnswer::Refused(number) => Err(Stop::Halted(Halt::Host(number))),
-        HostAnswer::OutOfMemory => Err(Stop::Halted(Halt::OutOfMemory)),
+        HostAnswer::LeftOut(name) => Err(Stop::Fault(EvalFault::LeftOut(name))),
+        HostAnswer::Refused(number) => Err(Stop::Fault(EvalFault::Host(number))),
+        HostAnswer::OutOfMemory => Err(Stop::Fault(EvalFault::OutOfMemory)),
     }
 }
 

@@ -13,7 +13,8 @@ ghost use Rattle.tclcommands.specs.Continuations.{named_values, ContinuesWithVar
 use crate::value::{Value, value_or};
 use std::alloc::Global;
 use tclforms::increase_of;
-use tclsubstitution::{Halt, Stop};
+use tclrules::EvalFault;
+use tclsubstitution::Stop;
 use tclvalue::{ValueFault, count_of, sum};
 use tclvariables::{Content, Variables, writable};
 
@@ -33,7 +34,7 @@ pub(crate) fn put_at(
     ensures written { OnOk result (variables.new ≡ with_value variables.old (global, name.now) content) }
 {
     if content.as_str().len() > limit {
-        return Err(Stop::Halted(Halt::ValueTooLong));
+        return Err(Stop::Fault(EvalFault::ValueTooLong));
     }
     variables.put(alloc, global, name, content)?;
     Ok(())

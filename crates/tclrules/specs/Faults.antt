@@ -1,7 +1,11 @@
--- The faults of an evaluation: their numbers, and their texts.
+-- The faults of an evaluation: their numbers, their texts, and what they are made of.
 use Rattle.std.specs.Prelude.{ℕ, [], codes, decimal, string_bytes}
 use Rattle.message.specs.Messages.{Text, around, at_line}
 use Rattle.tclchars.specs.Faults.{fault_message}
+use Rattle.tclchars.specs.declared.fault.TextFault.{TextFault}
+use Rattle.tclchars.specs.declared.fault.TextFault.TheVariants as texts
+use Rattle.tcloperators.specs.declared.fault.ValueFault.{ValueFault}
+use Rattle.tcloperators.specs.declared.fault.ValueFault.TheVariants as values
 use Rattle.tclrules.specs.declared.outcome.EvalFault.{EvalFault}
 use Rattle.tclrules.specs.declared.outcome.EvalFault.TheVariants as fault
 
@@ -32,3 +36,18 @@ message_of fault.FractionOperand = codes "A number with a fraction is not comput
 message_of (fault.LeftOut name) = around (codes "'") (string_bytes name) (codes "' is left out")
 message_of fault.Stopped = codes "Stopped by the modulefile"
 message_of (fault.Host n) = around (codes "Refused by ") (decimal n) []
+
+-- the fault for a text that can't be parsed
+abbrev pub fault_of_text : TextFault → EvalFault
+fault_of_text texts.OutOfMemory = fault.OutOfMemory
+fault_of_text f = fault.Text f
+
+-- the fault for a fault of values; the line of an error isn't known yet
+abbrev pub fault_of_value : ValueFault → EvalFault
+fault_of_value values.OutOfMemory = fault.OutOfMemory
+fault_of_value (values.Text f) = fault.Text f
+fault_of_value (values.TclError m) = fault.TclError m 0
+fault_of_value values.ValueTooLong = fault.ValueTooLong
+fault_of_value values.NumberTooLarge = fault.NumberTooLarge
+fault_of_value values.FractionOperand = fault.FractionOperand
+fault_of_value (values.LeftOut name) = fault.LeftOut name

@@ -2,7 +2,7 @@
 ghost use Rattle.std.specs.Prelude.{◌≡◌, Some};
 ghost use Rattle.message.specs.Messages.{text_of};
 ghost use Rattle.tclrules.specs.declared.outcome.EvalFault.TheVariants as faults;
-ghost use Rattle.tclrules.specs.Faults.{number_of, message_of};
+ghost use Rattle.tclrules.specs.Faults.{number_of, message_of, fault_of_text, fault_of_value};
 
 use message::Message;
 use std::alloc::{AllocError, AllocFailed};
@@ -10,6 +10,7 @@ use std::error::Error;
 use std::fmt;
 use std::fmt::Display;
 use tclchars::TextFault;
+use tclvalue::ValueFault;
 
 /// How a script ended that was evaluated to its end.
 #[derive(Drop)]
@@ -30,7 +31,8 @@ pub enum EvalFault {
     OutOfMemory,
     /// 12: the script, a body or an expression can't be parsed.
     Text(TextFault),
-    /// 13: an error that no catch(n) caught, with its message and the line, from 1, of the file's command.
+    /// 13: an error that no catch(n) caught, with its message and the line, from 1, of the file's command. The line is 0
+    /// until the evaluation of the file sets it.
     TclError(String, usize),
     /// 14: more commands and turns than the limit.
     TooManyCommands,
@@ -115,5 +117,32 @@ impl<T: Drop> From<AllocFailed<T>> for EvalFault {
 
     fn from(_e: AllocFailed<T>) -> EvalFault {
         EvalFault::OutOfMemory
+    }
+}
+
+impl From<TextFault> for EvalFault {
+    ghost from_gives = { λ fault e. e ≡ fault_of_text fault };
+
+    fn from(fault: TextFault) -> EvalFault {
+        match fault {
+            TextFault::OutOfMemory => EvalFault::OutOfMemory,
+            fault => EvalFault::Text(fault),
+        }
+    }
+}
+
+impl From<ValueFault> for EvalFault {
+    ghost from_gives = { λ fault e. e ≡ fault_of_value fault };
+
+    fn from(fault: ValueFault) -> EvalFault {
+        match fault {
+            ValueFault::OutOfMemory => EvalFault::OutOfMemory,
+            ValueFault::Text(fault) => EvalFault::Text(fault),
+            ValueFault::TclError(message) => EvalFault::TclError(message, 0),
+            ValueFault::ValueTooLong => EvalFault::ValueTooLong,
+            ValueFault::NumberTooLarge => EvalFault::NumberTooLarge,
+            ValueFault::FractionOperand => EvalFault::FractionOperand,
+            ValueFault::LeftOut(name) => EvalFault::LeftOut(name),
+        }
     }
 }

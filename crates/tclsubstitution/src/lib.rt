@@ -14,5 +14,5 @@ pub use borrowed_operands::compute_borrowed;
 pub use context::SubstitutionContext;
 pub use frame::{Control, Frame, Step};
 pub use reading::{read, read_element};
-pub use stop::{Halt, Stop};
+pub use stop::Stop;
 pub use substitution::advance;

@@ -6,12 +6,14 @@ ghost use Rattle.tclrules.specs.Simulates.{Simulates, Point, point};
 ghost use Rattle.tclrules.specs.Plans as plans;
 ghost use Rattle.tclrules.specs.Plans.{Job, Next};
 ghost use Rattle.tclrules.specs.Words.{found, read, read_element, read_location, read_scalar};
+ghost use Rattle.tcloperators.specs.Faults.{HasReason, error};
 ghost use Rattle.tclrules.specs.Messages.{in_quotes, is_array, no_variable};
-ghost use Rattle.tclsubstitution.specs.Stops.{after, IsRaised};
+ghost use Rattle.tclsubstitution.specs.Stops.{after};
 ghost use Rattle.tclvariables.specs.Locations.{location_view};
 
 use crate::stop::Stop;
 use std::alloc::{AllocError, Global};
+use tcloperators::{ValueFault, tcl_error};
 use tclrules::Host;
 use tclvariables::{Location, Variables, location_named, location_of};
 
@@ -22,42 +24,28 @@ fn in_quotes(alloc: Global, text: &str) -> Result<String, AllocError>
     format!(in alloc; "\"{text}\"")
 }
 
-/// The message that a variable doesn't exist.
-#[tactic(auto, unfolding(tclrules::specs::Messages::no_variable))]
-fn no_variable(alloc: Global, name: &str) -> Result<String, AllocError>
-    ensures { IfOk result (λ t. string_bytes t ≡ no_variable name.now) }
+/// The message that a variable can't be read, with what it ends with.
+fn cannot_read(alloc: Global, name: &str, ending: &str) -> Result<String, AllocError>
+    ensures { IfOk result (λ t. string_bytes t ≡ codes "can't read " ++ (in_quotes name.now ++ ending.now)) }
 {
     let quoted = in_quotes(alloc, name)?;
-    format!(in alloc; "can't read {quoted}: no such variable")
-}
-
-/// The message that a variable is an array and has no value of its own.
-#[tactic(auto, unfolding(tclrules::specs::Messages::is_array))]
-fn is_array(alloc: Global, name: &str) -> Result<String, AllocError>
-    ensures { IfOk result (λ t. string_bytes t ≡ is_array name.now) }
-{
-    let quoted = in_quotes(alloc, name)?;
-    format!(in alloc; "can't read {quoted}: it is an array")
+    format!(in alloc; "can't read {quoted}{ending}")
 }
 
 /// The error that the variable of this spelling doesn't exist.
-fn missing_variable(alloc: Global, name: &str) -> Stop
-    ensures { IsRaised (no_variable name.now) result }
+#[tactic(auto, unfolding(tclrules::specs::Messages::no_variable))]
+fn no_variable(alloc: Global, name: &str) -> ValueFault
+    ensures { HasReason (error (no_variable name.now)) result }
 {
-    match no_variable(alloc, name) {
-        Ok(message) => Stop::Raised(message),
-        Err(error) => Stop::from(error),
-    }
+    tcl_error(cannot_read(alloc, name, ": no such variable"))
 }
 
-/// The error that the variable of this spelling is an array.
-fn array_without_index(alloc: Global, name: &str) -> Stop
-    ensures { IsRaised (is_array name.now) result }
+/// The error that the variable of this spelling is an array and has no value of its own.
+#[tactic(auto, unfolding(tclrules::specs::Messages::is_array))]
+fn is_array(alloc: Global, name: &str) -> ValueFault
+    ensures { HasReason (error (is_array name.now)) result }
 {
-    match is_array(alloc, name) {
-        Ok(message) => Stop::Raised(message),
-        Err(error) => Stop::from(error),
-    }
+    tcl_error(cannot_read(alloc, name, ": it is an array"))
 }
 
 /// A copy of the value of the variable `name` of the global variables, or of those of the procedure that runs. An error
@@ -77,7 +65,7 @@ fn value_at(
 {
     match variables.get(global, name) {
         Some(value) => Ok(String::from_str(alloc, value)?),
-        None => Err(missing_variable(alloc, spelled)),
+        None => Err(Stop::from(no_variable(alloc, spelled))),
     }
 }
 
@@ -96,7 +84,7 @@ fn read_scalar(
 {
     if global {
         if name == "env" {
-            return Err(array_without_index(alloc, spelled));
+            return Err(Stop::from(is_array(alloc, spelled)));
         }
         return value_at(alloc, variables, spelled, true, name);
     }
@@ -119,7 +107,7 @@ fn read_env<H: Host>(
 {
     match host.read_env(name)? {
         Some(value) => Ok(value),
-        None => Err(missing_variable(alloc, spelled)),
+        None => Err(Stop::from(no_variable(alloc, spelled))),
     }
 }
 
@@ -144,7 +132,7 @@ fn read_location<H: Host>(
             if global {
                 return read_env(alloc, variables, host, spelled, name);
             }
-            Err(missing_variable(alloc, spelled))
+            Err(Stop::from(no_variable(alloc, spelled)))
         }
     }
 }

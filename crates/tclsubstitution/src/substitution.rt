@@ -12,18 +12,18 @@ ghost use Rattle.tclrules.specs.Expressions.{expr, operand_value};
 ghost use Rattle.tclsubstitution.specs.Weights.{parts_weight, part_weight, expr_weight, operand_weight};
 ghost use Rattle.tclsubstitution.specs.Machine.{range_text, continuation, stack_continuation, control_plan, frame_weight, frames_weight, control_weight, StepsTo};
 ghost use Rattle.tclsubstitution.specs.declared.frame.Frame.TheVariants.{And, Or, Choice};
-ghost use Rattle.tclsubstitution.specs.declared.stop.Stop.TheVariants.{Halted};
-ghost use Rattle.tclsubstitution.specs.declared.stop.Halt.TheVariants.{OutOfMemory};
+ghost use Rattle.tclsubstitution.specs.declared.stop.Stop.TheVariants.{Fault};
+ghost use Rattle.tclrules.specs.declared.outcome.EvalFault.TheVariants.{OutOfMemory};
 
 use crate::borrowed_operands::compute_borrowed;
 use crate::context::SubstitutionContext;
 use crate::frame::{Control, Frame, Step};
 use crate::reading::{read, read_element};
-use crate::stop::{Halt, Stop};
+use crate::stop::Stop;
 use std::alloc::Global;
 use tclchars::push_braced_text;
 use tclexpr::{Expr, Operand};
-use tclrules::Host;
+use tclrules::{EvalFault, Host};
 use tclscript::{ByteRange, Part};
 use tclvalue::{binary, truth, unary};
 
@@ -37,7 +37,7 @@ fn piece<'a>(source: &'a str, range: ByteRange) -> &'a str
 /// Pushes a frame, which waits for the next value.
 fn push_frame<'a>(stack: &mut Vec<Frame<'a>>, frame: Frame<'a>) -> Result<(), Stop>
     ensures ok { OnOk result (stack.new.items ≡ stack.old.items ++ frame.entry ∷ []) }
-    ensures err { IfErr result (λ stop. stop ≡ Halted OutOfMemory) }
+    ensures err { IfErr result (λ stop. stop ≡ Fault OutOfMemory) }
 {
     stack.push(frame)?;
     Ok(())
@@ -46,7 +46,7 @@ fn push_frame<'a>(stack: &mut Vec<Frame<'a>>, frame: Frame<'a>) -> Result<(), St
 /// A copy of a text.
 fn copy(alloc: Global, text: &str) -> Result<String, Stop>
     ensures ok { IfOk result (λ t. string_bytes t ≡ text.now) }
-    ensures err { IfErr result (λ stop. stop ≡ Halted OutOfMemory) }
+    ensures err { IfErr result (λ stop. stop ≡ Fault OutOfMemory) }
 {
     Ok(String::from_str(alloc, text)?)
 }
@@ -54,7 +54,7 @@ fn copy(alloc: Global, text: &str) -> Result<String, Stop>
 /// The value of a text in braces (Tcl(n), rule 6).
 fn braced(alloc: Global, text: &str) -> Result<String, Stop>
     ensures ok { IfOk result (λ t. string_bytes t ≡ braced_text text.now) }
-    ensures err { IfErr result (λ stop. stop ≡ Halted OutOfMemory) }
+    ensures err { IfErr result (λ stop. stop ≡ Fault OutOfMemory) }
 {
     let mut value = String::new(alloc);
     push_braced_text(&mut value, text)?;
@@ -64,7 +64,7 @@ fn braced(alloc: Global, text: &str) -> Result<String, Stop>
 /// The text of one character.
 fn character(alloc: Global, character: char) -> Result<String, Stop>
     ensures ok { IfOk result (λ t. string_bytes t ≡ encode_utf8 character) }
-    ensures err { IfErr result (λ stop. stop ≡ Halted OutOfMemory) }
+    ensures err { IfErr result (λ stop. stop ≡ Fault OutOfMemory) }
 {
     let mut value = String::new(alloc);
     value.push(character)?;
@@ -74,7 +74,7 @@ fn character(alloc: Global, character: char) -> Result<String, Stop>
 /// A truth value as operators write it, `1` or `0`.
 fn truth_text(alloc: Global, holds: bool) -> Result<String, Stop>
     ensures ok { IfOk result (λ t. string_bytes t ≡ truth_text holds) }
-    ensures err { IfErr result (λ stop. stop ≡ Halted OutOfMemory) }
+    ensures err { IfErr result (λ stop. stop ≡ Fault OutOfMemory) }
 {
     if holds {
         copy(alloc, "1")
@@ -86,7 +86,7 @@ fn truth_text(alloc: Global, holds: bool) -> Result<String, Stop>
 /// A text with a piece appended.
 fn with_piece(text: String, piece: &str) -> Result<String, Stop>
     ensures ok { IfOk result (λ t. string_bytes t ≡ string_bytes text ++ piece.now) }
-    ensures err { IfErr result (λ stop. stop ≡ Halted OutOfMemory) }
+    ensures err { IfErr result (λ stop. stop ≡ Fault OutOfMemory) }
 {
     let mut text = text;
     text.push_str(piece)?;
@@ -115,7 +115,7 @@ fn append_piece<'a, H: Host>(
 {
     let text = with_piece(text, piece)?;
     if text.len() > context.limits.value_bytes {
-        return Err(Stop::Halted(Halt::ValueTooLong));
+        return Err(Stop::Fault(EvalFault::ValueTooLong));
     }
     Ok(Step::Next(Control::Parts(text, rest)))
 }
@@ -385,7 +385,7 @@ fn resume<'a, H: Host>(
         ),
         Frame::Operand => {
             if value.len() > context.limits.value_bytes {
-                return Err(Stop::Halted(Halt::ValueTooLong));
+                return Err(Stop::Fault(EvalFault::ValueTooLong));
             }
             Ok(Step::Next(Control::Value(value)))
         }

@@ -1,7 +1,7 @@
 use Rattle.std.proofs.Common.{string_bytes, option_map, ap, ◌∙◌}
 use Rattle.std.proofs.lemmas.Result.{err_from_is_err_and}
 use Rattle.tclrules.proofs.Leading.{continue_with, read_on, want}
-use Rattle.tclsubstitution.proofs.Leading.{raised}
+use Rattle.tclsubstitution.proofs.Leading.{reason_stops}
 use Rattle.tclsubstitution.proofs.reading.read_env.Goals as goal
 
 pub returns-in_err-value : goal.returns-in_err-value
@@ -18,4 +18,4 @@ returns-in-Some g c =
 pub returns-in-None : goal.returns-in-None
 returns-in-None g c =
     let h = c.in_ok-value.ensures in
-    (λ most used r k. rw h.answer.1 (continue_with (read_on (h.answer.0 ∙ ap (option_map string_bytes) c.in-None.is) h.same) (raised _ _ _ c.missing_variable.ensures)))
+    (λ most used r k. rw h.answer.1 (continue_with (read_on (h.answer.0 ∙ ap (option_map string_bytes) c.in-None.is) h.same) (rw c.from.ensures (reason_stops _ _ _ c.no_variable.ensures))))

@@ -1,5 +1,5 @@
 use Rattle.std.proofs.Common.{rules}
-use Rattle.tclsubstitution.proofs.Leading.{raised}
+use Rattle.tclsubstitution.proofs.Leading.{reason_stops}
 use Rattle.tclsubstitution.proofs.reading.read_location.Goals as goal
 
 pub read_scalar-requires-text-name : goal.read_scalar-requires-text-name
@@ -20,4 +20,4 @@ returns-then-global g c =
 
 pub returns-else-global : goal.returns-else-global
 returns-else-global g c =
-    (λ most used r k. rw (c.in-Element.is, c.if-global.false) (raised _ _ _ c.missing_variable.ensures))
+    (λ most used r k. rw (c.in-Element.is, c.if-global.false) (rw c.from.ensures (reason_stops _ _ _ c.no_variable.ensures)))

@@ -1,7 +1,7 @@
 use Rattle.std.proofs.Common.{rules}
 use Rattle.std.proofs.lemmas.Result.{err_from_is_err_and}
 use Rattle.tclrules.proofs.Leading.{stay, starve}
-use Rattle.tclsubstitution.proofs.Leading.{raised}
+use Rattle.tclsubstitution.proofs.Leading.{reason_stops}
 use Rattle.tclsubstitution.proofs.reading.value_at.Goals as goal
 
 pub from_str-requires-text-s : goal.from_str-requires-text-s
@@ -19,4 +19,4 @@ returns-in_ok-from_str-in-Some c =
 
 pub returns-in-None : goal.returns-in-None
 returns-in-None c =
-    (λ most r k x. rw (← c.in-None.ensures) (raised _ _ _ c.missing_variable.ensures))
+    (λ most r k x. rw (← c.in-None.ensures) (rw c.from.ensures (reason_stops _ _ _ c.no_variable.ensures)))
