@@ -3,7 +3,7 @@ use Rattle.std.specs.Prelude.{codes, ◌≡◌, ℕ, List, [], ◌∷◌, ◌++�
 use Rattle.std.specs.List.{flat_map, list_all}
 use Rattle.std.specs.Option.{option_map}
 use Rattle.shells.specs.declared.shell.Shell.{Shell}
-use Rattle.message.specs.Messages.{around}
+use Rattle.message.specs.Messages.{around, out_of_memory}
 use Rattle.envvars.specs.Texts.{Text}
 use Rattle.envvars.specs.Names.{is_variable_name}
 use Rattle.envvars.specs.Changes.{NewValue}
@@ -63,6 +63,6 @@ print_fault_number (NotSayable name) = 62
 
 -- the text of each error
 abbrev pub print_message : PrintFault → Text
-print_message OutOfMemory = codes "Out of memory"
+print_message OutOfMemory = out_of_memory
 print_message (NotSayable name) =
     around (codes "Value of '") (string_bytes name) (codes "' can't be said in this shell")

@@ -9,7 +9,7 @@ ghost use Rattle.shelltext.specs.declared.print.PrintFault.TheVariants.{OutOfMem
 
 use crate::spelling::{are_sayable, push_set, push_unset};
 use envvars::{Change, is_variable_name};
-use message::Message;
+use message::{Message, out_of_memory};
 use shells::{Family, Shell};
 use std::alloc::{AllocError, Global};
 use std::error::Error;
@@ -41,7 +41,7 @@ impl PrintFault {
         ensures { text_of result ≡ print_message self.now }
     {
         match self {
-            PrintFault::OutOfMemory => Message::of_text("Out of memory"),
+            PrintFault::OutOfMemory => out_of_memory(),
             PrintFault::NotSayable(name) => Message::around(
                 "Value of '",
                 name.as_str(),
