@@ -1,5 +1,7 @@
 -- How deep lists of parts, words and commands nest, one more at a time.
 use Rattle.std.proofs.Common.{◌≡◌, ◌≤◌, ℕ, max, List, [], ◌∷◌, ◌++◌, map, ap, ◌∙◌, arith, rules}
+use Rattle.std.specs.Ordering.{ord_max, nat_cmp}
+use Rattle.std.proofs.lemmas.Bool.Decides.{nat_tests}
 use Rattle.tclchars.specs.Runs.{Text}
 use Rattle.std.proofs.lemmas.List.{map_push}
 use Rattle.tclscript.specs.View.{script_view, command_view, word_view, part_view, parts_view}
@@ -9,6 +11,10 @@ use Rattle.tclscript.specs.declared.tree.Command as rust_command
 use Rattle.tclscript.specs.declared.tree.Script as rust_script
 use Rattle.tclexpr.specs.View.{words_view}
 use Rattle.tclscript.specs.Tree.{Command, Word, Part, nesting, words_nesting, word_nesting, parts_nesting, part_nesting, commands_of, words_of, parts_of}
+
+-- the larger of two, as the code's method has it
+pub max_of : (a b : ℕ) → ord_max nat_cmp a b ≡ max a b
+max_of a b = grind (arith, nat_tests)
 
 max_last : (a b c : ℕ) → max a (max b c) ≡ max (max a b) c
 max_last a b c = omega arith

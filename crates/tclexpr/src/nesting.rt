@@ -1,18 +1,11 @@
 //! How deep brackets and the parentheses of indexes nest in an operand.
-ghost use Rattle.std.specs.Prelude.{◌≡◌, ◌≤◌, max};
+ghost use Rattle.std.specs.Prelude.{◌≡◌, ◌≤◌};
 ghost use Rattle.tclchars.specs.Runs.{Text};
 ghost use Rattle.tclscript.specs.Tree.{nesting, words_nesting, parts_nesting, part_nesting};
 ghost use Rattle.tclscript.specs.View.{script_view, part_view, parts_view};
 ghost use Rattle.tclexpr.specs.View.{words_view};
 
 use tclscript::{Command, Part, Script, Word};
-
-/// The larger of two numbers.
-fn larger(a: usize, b: usize) -> usize
-    ensures { result ≡ max a b }
-{
-    if a < b { b } else { a }
-}
 
 /// How deep brackets and the parentheses of indexes nest in a script; `usize::MAX` where that is no `usize`.
 #[cycle(nesting)]
@@ -22,7 +15,7 @@ pub(crate) fn script_nesting<P: Drop>(script: &Script<P>) -> usize
 {
     let mut height = 0;
     for command in &script.commands {
-        height = larger(height, words_nesting(&command.words));
+        height = height.max(words_nesting(&command.words));
     }
     height
 }
@@ -35,7 +28,7 @@ fn words_nesting<P: Drop>(words: &Vec<Word<P>>) -> usize
 {
     let mut height = 0;
     for word in words {
-        height = larger(height, parts_nesting(&word.parts));
+        height = height.max(parts_nesting(&word.parts));
     }
     height
 }
@@ -48,7 +41,7 @@ pub(crate) fn parts_nesting<P: Drop>(parts: &Vec<Part<P>>) -> usize
 {
     let mut height = 0;
     for part in parts {
-        height = larger(height, part_nesting(part));
+        height = height.max(part_nesting(part));
     }
     height
 }

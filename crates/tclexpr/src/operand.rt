@@ -5,7 +5,6 @@ ghost use Rattle.tclchars.specs.Answers.{Gives};
 ghost use Rattle.tclchars.specs.Reading.{stopped_by};
 ghost use Rattle.tclscript.specs.Pieces.{IsSuffixOf};
 ghost use Rattle.tclscript.specs.Tree.{part_nesting};
-ghost use Rattle.tclscript.specs.Reading.{taken};
 ghost use Rattle.tclscript.specs.View.{part_view};
 ghost use Rattle.tclexpr.specs.Operands.{after_number, lower, is_prefix, is_truth_prefix, is_switch_prefix, is_truth, operand_of, variable_operand_at, bracket_operand_at, quoted_at, braced_text_at, word_at, numeric, operand_at};
 ghost use Rattle.tclexpr.specs.View.{operand_view};
@@ -14,8 +13,8 @@ use crate::nesting::{parts_nesting, script_nesting};
 use crate::numbers::after_number;
 use crate::tree::Operand;
 use std::alloc::Global;
-use tclchars::{Class, Fault, ReadError, after_mark, split_close, split_run};
-use tclscript::{Part, Source, read_bracket, read_dollar, read_quotes};
+use tclchars::{Class, Fault, ReadError, after_mark, remaining_with_mark, split_close, split_run};
+use tclscript::{Part, Source, read_bracket, read_dollar, read_quotes, taken};
 
 /// The byte in lower case.
 fn lower(b: u8) -> u8
@@ -60,22 +59,6 @@ fn is_truth(word: &[u8]) -> bool
     ensures { result ≡ is_truth word.now }
 {
     (word.len() >= 1 && is_truth_prefix(word)) || (word.len() >= 2 && is_switch_prefix(word))
-}
-
-/// How many bytes remain from a mark of one byte on, of which `following` is what follows it.
-fn remaining_with_mark(following: &str) -> usize
-    ensures { result ≡ suc (length following.now) }
-{
-    following.len() + 1
-}
-
-/// The piece of the source from the text up to the rest.
-fn taken<'a, S: Source<P>, P: Drop>(source: &S, text: &'a str, rest: &'a str) -> P
-    requires text { IsSuffixOf (S.text source.now) text.now }
-    requires rest { IsSuffixOf text.now rest.now }
-    ensures { S.shown source.now result ≡ taken text.now rest.now }
-{
-    source.cut(text, text.split_at(text.len() - rest.len()).0)
 }
 
 /// The height of what nests one deeper.

@@ -1,10 +1,11 @@
 //! Numbers as texts: their class and value (expr(n), OPERANDS).
-ghost use Rattle.std.specs.Prelude.{◌≡◌, ◌≤◌, ◌<◌, ◌-◌, ◌^◌, min, option_map, IfSome, Some};
-ghost use Rattle.std.specs.Char.{digit_value};
+ghost use Rattle.std.specs.Prelude.{◌≡◌, ◌≤◌, ◌<◌, ◌-◌, ◌^◌, min, option_map, true, false, IfSome, Some};
+ghost use Rattle.std.specs.List.{prefix_len};
 ghost use Rattle.tclchars.specs.Runs.{drop_while};
 ghost use Rattle.tclnumber.specs.Numerals.{trimmed, trimmed_end, is_minus, without_sign, digits_in, base_of, magnitude, digits_from, after_zero, is_digit, begins_digit, are_digits, is_exponent, may_be_exponent, is_fraction_end, is_number_name, is_fraction, whole_of, numeral};
-ghost use Rattle.tclchars.specs.Bytes.{is_space};
 ghost use Rattle.tclnumber.specs.declared.number.Numeral.TheVariants.{Whole};
+
+use tclchars::{Class, digit_value, is_space, split_run};
 
 /// What a text is as a number.
 #[derive(Clone, Copy, Debug, PartialEq, Eq)]
@@ -34,7 +35,7 @@ pub fn read_number(text: &str) -> Numeral
     if let Some(number) = short_decimal(text.as_bytes()) {
         return Numeral::Whole(number);
     }
-    any_number(text.as_bytes())
+    any_number(text)
 }
 
 /// The number of decimal digits alone; none where another byte is among them, or where it may pass 18 digits.
@@ -62,13 +63,19 @@ fn short_decimal(text: &[u8]) -> Option<i64>
 }
 
 /// The class of any text as a number, and its value.
-fn any_number(text: &[u8]) -> Numeral
+fn any_number(text: &str) -> Numeral
     ensures { result ≡ numeral text.now }
 {
     let signed = trim(text);
     let digits = without_sign(signed);
     match magnitude(digits) {
-        Some(n) => whole_of(is_minus(signed), n),
+        Some(n) => {
+            if is_minus(signed) {
+                negative(n)
+            } else {
+                positive(n)
+            }
+        }
         None => {
             if is_fraction(digits) {
                 Numeral::Fraction
@@ -79,32 +86,11 @@ fn any_number(text: &[u8]) -> Numeral
     }
 }
 
-/// Whether the byte is white space.
-fn is_space(b: u8) -> bool
-    ensures { result ≡ is_space b }
+/// The bytes of the text without the white space around it.
+fn trim(text: &str) -> &[u8]
+    ensures { result.now ≡ trimmed text.now }
 {
-    b == b' ' || b == b'\t' || b == 11 || b == 12 || b == b'\r' || b == b'\n'
-}
-
-/// The bytes without the white space around them.
-fn trim(bytes: &[u8]) -> &[u8]
-    ensures { result.now ≡ trimmed bytes.now }
-{
-    trim_end(trim_start(bytes))
-}
-
-/// The bytes without the white space that they begin with.
-fn trim_start(bytes: &[u8]) -> &[u8]
-    ensures { result.now ≡ drop_while is_space bytes.now }
-{
-    let mut rest = bytes;
-    while let [b, after @ ..] = rest {
-        if !is_space(*b) {
-            return rest;
-        }
-        rest = after;
-    }
-    rest
+    trim_end(split_run(text, Class::Space).1.as_bytes())
 }
 
 /// The bytes without the white space that they end with.
@@ -141,18 +127,6 @@ fn without_sign(bytes: &[u8]) -> &[u8]
     }
 }
 
-/// The value of a digit of bases up to 36; 36 for any other byte.
-fn digit_value(b: u8) -> u64
-    ensures { result ≡ digit_value b }
-{
-    match b {
-        b'0'..=b'9' => u64::from(b - b'0'),
-        b'a'..=b'z' => u64::from(b - b'a') + 10,
-        b'A'..=b'Z' => u64::from(b - b'A') + 10,
-        _ => 36,
-    }
-}
-
 /// The number that these digits of the base spell, or the largest `u64` where it is larger; none without digits, or
 /// where a byte is no digit of the base.
 fn digits_in(base: u64, digits: &[u8]) -> Option<u64>
@@ -165,7 +139,7 @@ fn digits_in(base: u64, digits: &[u8]) -> Option<u64>
     }
     let mut n = 0u64;
     for digit in digits {
-        let value = digit_value(*digit);
+        let value = u64::from(digit_value(*digit));
         if value >= base {
             return None;
         }
@@ -212,28 +186,37 @@ fn after_zero(bytes: &[u8]) -> Option<u64>
     }
 }
 
-/// The whole number with this sign and magnitude, where 64 bits hold it.
-fn whole_of(minus: bool, magnitude: u64) -> Numeral
-    ensures { result ≡ whole_of minus magnitude }
+/// The whole number of this magnitude without a minus sign, where 64 bits hold it.
+fn positive(magnitude: u64) -> Numeral
+    ensures { result ≡ whole_of false magnitude }
+{
+    if magnitude < 9_223_372_036_854_775_808 {
+        Numeral::Whole(magnitude as i64)
+    } else {
+        Numeral::TooLarge
+    }
+}
+
+/// The whole number of this magnitude with a minus sign, where 64 bits hold it.
+fn negative(magnitude: u64) -> Numeral
+    ensures { result ≡ whole_of true magnitude }
 {
     if magnitude == 0 {
         return Numeral::Whole(0);
     }
     let below = magnitude - 1;
-    if minus && below < 9_223_372_036_854_775_808 {
-        return Numeral::Whole(-1 - (below as i64));
+    if below < 9_223_372_036_854_775_808 {
+        Numeral::Whole(-1 - (below as i64))
+    } else {
+        Numeral::TooLarge
     }
-    if !minus && magnitude < 9_223_372_036_854_775_808 {
-        return Numeral::Whole(magnitude as i64);
-    }
-    Numeral::TooLarge
 }
 
 /// Whether the byte is a decimal digit.
 fn is_digit(b: u8) -> bool
     ensures { result ≡ is_digit b }
 {
-    b'0' <= b && b <= b'9'
+    b.is_ascii_digit()
 }
 
 /// Whether the bytes begin with a decimal digit.
@@ -246,18 +229,19 @@ fn begins_digit(bytes: &[u8]) -> bool
     }
 }
 
+/// How many decimal digits the bytes begin with.
+fn digit_count(bytes: &[u8]) -> usize
+    ensures { result ≡ prefix_len is_digit bytes.now }
+{
+    let end = bytes.iter().position(|b| !is_digit(*b));
+    end.unwrap_or(bytes.len())
+}
+
 /// The bytes without the decimal digits that they begin with.
 fn after_digits(bytes: &[u8]) -> &[u8]
     ensures { result.now ≡ drop_while is_digit bytes.now }
 {
-    let mut rest = bytes;
-    while let [b, after @ ..] = rest {
-        if !is_digit(*b) {
-            return rest;
-        }
-        rest = after;
-    }
-    rest
+    bytes.split_at(digit_count(bytes)).1
 }
 
 /// Whether the bytes are decimal digits alone, one at least.
