@@ -29,12 +29,5 @@ pub fn elements(alloc: Global, list: &str) -> Result<Vec<String>, ValueFault>
 pub fn is_among(texts: &[String], sought: &str) -> bool
     ensures { result ≡ list_any (bytes_eq sought.now) (map string_bytes texts.now) }
 {
-    let mut rest = texts;
-    while let [text, after @ ..] = rest {
-        if sought == text.as_str() {
-            return true;
-        }
-        rest = after;
-    }
-    false
+    texts.iter().any(|text| sought == text.as_str())
 }

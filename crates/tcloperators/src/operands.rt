@@ -1,5 +1,5 @@
 //! Arithmetic of two whole numbers of 64 bits (expr(n), OPERATORS).
-ghost use Rattle.std.specs.Prelude.{◌≡◌, ◌^◌, ◌*ℤ◌, pos, IfErr};
+ghost use Rattle.std.specs.Prelude.{◌≡◌, ◌^◌, ◌*ℤ◌, pos, true, false, IfErr};
 ghost use Rattle.tclchars.specs.Answers.{Gives};
 ghost use Rattle.tcloperators.specs.Faults.{reason_of};
 ghost use Rattle.tcloperators.specs.Numbers as numbers;
@@ -19,12 +19,9 @@ pub(crate) struct Operands {
 impl Operands {
     /// `left + right`, or `NumberTooLarge` outside 64 bits.
     pub(crate) fn sum(self) -> Result<i64, ValueFault>
-        ensures number { Gives reason_of (λ z. z) result (numbers.sum self.left self.right) }
-        ensures fault { IfErr result (λ e. e ≡ NumberTooLarge) }
+        ensures { Gives reason_of (λ z. z) result (numbers.sum self.left self.right) }
     {
-        self.left
-            .checked_add(self.right)
-            .ok_or(ValueFault::NumberTooLarge)
+        sum(self.left, self.right)
     }
 
     /// `left - right`, or `NumberTooLarge` outside 64 bits.
@@ -55,9 +52,9 @@ impl Operands {
         let dividend = self.left.unsigned_abs();
         let divisor = self.right.unsigned_abs();
         if (self.left < 0) == (self.right < 0) {
-            signed(false, dividend / divisor)
+            positive(dividend / divisor)
         } else {
-            signed(true, dividend.div_ceil(divisor))
+            negative(dividend.div_ceil(divisor))
         }
     }
 
@@ -128,7 +125,7 @@ pub fn sum(left: i64, right: i64) -> Result<i64, ValueFault>
     ensures number { Gives reason_of (λ z. z) result (numbers.sum left right) }
     ensures fault { IfErr result (λ e. e ≡ NumberTooLarge) }
 {
-    Operands { left, right }.sum()
+    left.checked_add(right).ok_or(ValueFault::NumberTooLarge)
 }
 
 /// A number doubled so many times, or `NumberTooLarge` outside 64 bits.
@@ -156,16 +153,20 @@ fn halved(number: i64, times: u64) -> i64
     number >> times.min(63)
 }
 
-/// The whole number with this sign and absolute value, or `NumberTooLarge` outside 64 bits.
-fn signed(is_negative: bool, size: u64) -> Result<i64, ValueFault>
-    ensures { Gives reason_of (λ z. z) result (numbers.within_64_bits (numbers.signed is_negative size)) }
+/// The whole number of this size from 0 on, or `NumberTooLarge` outside 64 bits.
+fn positive(size: u64) -> Result<i64, ValueFault>
+    ensures { Gives reason_of (λ z. z) result (numbers.within_64_bits (numbers.signed false size)) }
 {
-    if size <= i64::MAX as u64 {
-        let number = size as i64;
-        Ok(if is_negative { -number } else { number })
-    } else if is_negative && size == i64::MIN.unsigned_abs() {
-        Ok(i64::MIN)
-    } else {
-        Err(ValueFault::NumberTooLarge)
-    }
+    0_i64
+        .checked_add_unsigned(size)
+        .ok_or(ValueFault::NumberTooLarge)
+}
+
+/// The whole number of this size from 0 down, or `NumberTooLarge` outside 64 bits.
+fn negative(size: u64) -> Result<i64, ValueFault>
+    ensures { Gives reason_of (λ z. z) result (numbers.within_64_bits (numbers.signed true size)) }
+{
+    0_i64
+        .checked_sub_unsigned(size)
+        .ok_or(ValueFault::NumberTooLarge)
 }

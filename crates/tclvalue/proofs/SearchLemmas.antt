@@ -1,5 +1,6 @@
 -- Replacements in texts.
-use Rattle.std.proofs.Common.{◌≡◌, ℕ, zero, suc, ◌-◌, ◌<◌, List, [], ◌∷◌, ◌++◌, length, take, drop, Some, refl, sym, ap, ◌∙◌, append_assoc, arith}
+use Rattle.std.proofs.Common.{◌≡◌, Bor, ℕ, zero, suc, ◌-◌, ◌<◌, Bool, true, false, cond, List, [], ◌∷◌, ◌++◌, length, map, find, take, drop, Option, Some, None, refl, sym, ap, ◌∙◌, append_assoc, arith}
+use Rattle.std.specs.Option.{option_map, option_copied}
 use Rattle.std.proofs.lemmas.List.{take_all}
 use Rattle.tclchars.specs.Runs.{Text}
 use Rattle.tclvalue.specs.Searches.{Pair, first_fit, replaced, mapped}
@@ -18,3 +19,17 @@ replaced_front ps (c ∷ cs) after rest p old new some e f made left =
     ap (λ x. x ++ mapped ps 0 rest) made ∙ append_assoc old p.1 (mapped ps 0 rest)
     ∙ ap (λ x. old ++ (p.1 ++ x)) (ap (mapped ps 0) (left ∙ ap (drop (length p.0 - 1)) (e ∙ take_all (length (c ∷ cs) - 1) cs (omega arith))) ∙ sym (mapped_past ps (length p.0 - 1) cs))
     ∙ sym (ap (λ o. old ++ replaced c o (λ n. mapped ps n cs)) f)
+
+find_map : {X Y : Type 0} (test : Y → Bool) (view : X → Y) (xs : List X) → option_map view (find (λ x. test (view x)) xs) ≡ find test (map view xs)
+find_map test view [] = refl
+find_map {X} {Y} test view (x ∷ xs) = by_test (test (view x)) (find_map test view xs)
+  where
+    by_test : (b : Bool) → option_map view (find (λ x. test (view x)) xs) ≡ find test (map view xs)
+        → option_map view (cond b (Some x) (find (λ x. test (view x)) xs)) ≡ cond b (Some (view x)) (find test (map view xs))
+    by_test true h = refl
+    by_test false h = h
+
+-- what is found among values of the code is found among what they stand for
+pub find_seen : {X Y : Type 0} (test : Y → Bool) (view : X → Y) (xs : List X) (r : Option (Bor X)) → option_copied r ≡ find (λ x. test (view x)) xs
+    → option_map view (option_copied r) ≡ find test (map view xs)
+find_seen test view xs r h = ap (option_map view) h ∙ find_map test view xs

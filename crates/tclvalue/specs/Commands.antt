@@ -66,13 +66,16 @@ abbrev pub string_match : ValueFunction
 string_match (pattern ∷ t ∷ []) = Ok (truth_text (glob pattern t))
 string_match words = wrong_number (codes "string")
 
+-- of the copies of a text in another this one's position
+abbrev pub string_position : (Text → Text → Option ℕ) → ValueFunction
+string_position search (sought ∷ t ∷ []) = Ok (position_text (sought_position search sought t))
+string_position search words = wrong_number (codes "string")
+
 abbrev pub string_first : ValueFunction
-string_first (sought ∷ t ∷ []) = Ok (position_text (sought_position first_position sought t))
-string_first words = wrong_number (codes "string")
+string_first = string_position first_position
 
 abbrev pub string_last : ValueFunction
-string_last (sought ∷ t ∷ []) = Ok (position_text (sought_position last_position sought t))
-string_last words = wrong_number (codes "string")
+string_last = string_position last_position
 
 abbrev pub string_map : ValueFunction
 string_map (l ∷ t ∷ []) = elements_of l >>= (λ es. pairs_of es >>= (λ ps. Ok (mapped ps 0 (chars t))))
@@ -82,20 +85,20 @@ abbrev pub string_repeat : ValueFunction
 string_repeat (t ∷ n ∷ []) = count_of n >>= (λ n. Ok (repeat (at_least_0 n) t))
 string_repeat words = wrong_number (codes "string")
 
+-- a text without the characters of a set, or without white space, where trim takes them off
+abbrev pub string_trimmed : (Text → Text → Text) → ValueFunction
+string_trimmed trim (t ∷ []) = Ok (trim white_space t)
+string_trimmed trim (t ∷ set ∷ []) = Ok (trim set t)
+string_trimmed trim words = wrong_number (codes "string")
+
 abbrev pub string_trim : ValueFunction
-string_trim (t ∷ []) = Ok (trimmed white_space t)
-string_trim (t ∷ set ∷ []) = Ok (trimmed set t)
-string_trim words = wrong_number (codes "string")
+string_trim = string_trimmed trimmed
 
 abbrev pub string_trimleft : ValueFunction
-string_trimleft (t ∷ []) = Ok (trimmed_left white_space t)
-string_trimleft (t ∷ set ∷ []) = Ok (trimmed_left set t)
-string_trimleft words = wrong_number (codes "string")
+string_trimleft = string_trimmed trimmed_left
 
 abbrev pub string_trimright : ValueFunction
-string_trimright (t ∷ []) = Ok (trimmed_right white_space t)
-string_trimright (t ∷ set ∷ []) = Ok (trimmed_right set t)
-string_trimright words = wrong_number (codes "string")
+string_trimright = string_trimmed trimmed_right
 
 -- the options of string, which are unsupported; a word is one only where the two operands follow
 abbrev pub is_option : Text → Bool

@@ -1,7 +1,7 @@
 -- What the types of `src/` stand for in this crate's contracts.
-use Rattle.std.specs.Prelude.{List, Bool, true, false, if◌then◌else◌, Option, None}
+use Rattle.std.specs.Prelude.{ℕ, List, Bool, true, false, if◌then◌else◌, Option, None}
 use Rattle.tclchars.specs.Runs.{Text}
-use Rattle.tclvalue.specs.Searches.{Pair}
+use Rattle.tclvalue.specs.Searches.{Pair, first_position, last_position}
 use Rattle.tclvalue.specs.Indexes.{Index, from_start, from_end}
 use Rattle.tclvalue.specs.Characters.{trimmed, trimmed_left, trimmed_right, without_start, without_end}
 use Rattle.tclvalue.specs.Commands as value
@@ -14,6 +14,8 @@ use Rattle.tclvalue.specs.declared.index.Index.TheVariants.{FromStart, FromEnd}
 use Rattle.tclvalue.specs.declared.texts.Ends.{Ends}
 use Rattle.tclvalue.specs.declared.texts.Ends.TheVariants.{Both, Start, End}
 use Rattle.tclvalue.specs.declared.searches.Replacement.{Replacement}
+use Rattle.tclvalue.specs.declared.searches.Occurrence.{Occurrence}
+use Rattle.tclvalue.specs.declared.searches.Occurrence.TheVariants.{First, Last}
 
 -- a command of values as its function
 abbrev pub command_view : ValueCommand → value.ValueFunction
@@ -58,6 +60,11 @@ subcommand_view command words = value.unless_option (option_of command words) (o
 abbrev pub index_view : rust_index.Index → Index
 index_view (FromStart z) = from_start z
 index_view (FromEnd z) = from_end z
+
+-- the search for the first or the last copy of a text
+abbrev pub search_for : Occurrence → Text → Text → Option ℕ
+search_for First = first_position
+search_for Last = last_position
 
 -- a text without the characters of a set at these ends
 abbrev pub without : Ends → Text → Text → Text

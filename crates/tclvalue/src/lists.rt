@@ -47,11 +47,9 @@ fn push_joined(out: &mut Bounded, separator: &str, texts: &[String]) -> Result<(
 fn push_joined_rest(out: &mut Bounded, separator: &str, texts: &[String]) -> Result<(), ValueFault>
     ensures { Appends result out.old out.new (joined_rest separator.now (map string_bytes texts.now)) }
 {
-    let mut rest = texts;
-    while let [text, after @ ..] = rest {
+    for text in texts {
         out.push(separator)?;
         out.push(text)?;
-        rest = after;
     }
     Ok(())
 }

@@ -14,6 +14,13 @@ use crate::characters::characters;
 use std::alloc::Global;
 use tcloperators::{ValueFault, not_a_list};
 
+/// Which of the copies of a text in another is sought.
+#[derive(Clone, Copy)]
+pub(crate) enum Occurrence {
+    First,
+    Last,
+}
+
 /// The first position at which a text stands in another.
 pub(crate) fn first_position(sought: &[char], text: &[char]) -> Option<usize>
     ensures { result ≡ first_position sought.now text.now }
@@ -64,14 +71,9 @@ fn first_fit<'a, 'b>(
     ensures { option_map pair_view (option_copied result)
         ≡ first_fit (map pair_view replacements.entry.now) text.now }
 {
-    let mut rest = replacements;
-    while let [first, after @ ..] = rest {
-        if fits(text, first) {
-            return Some(first);
-        }
-        rest = after;
-    }
-    None
+    replacements
+        .iter()
+        .find(|replacement| fits(text, replacement))
 }
 
 /// Appends a text in which, from left to right, the first key that fits is replaced.

@@ -1,20 +1,18 @@
 //! The command `string` with its subcommands (string(n)).
 ghost use Rattle.std.specs.Prelude.{◌≡◌, map, option_map, string_bytes, IfOk};
-ghost use Rattle.tclvalue.specs.Searches.{first_position, last_position};
 ghost use Rattle.tclvalue.specs.Commands.{subcommand_value, subcommand_named, option_in, order_text, position_text, sought_position};
 ghost use Rattle.tclvalue.specs.Commands.{string_length, string_index, string_range, string_equal, string_compare};
-ghost use Rattle.tclvalue.specs.Commands.{string_match, string_first, string_last, string_map, string_repeat};
-ghost use Rattle.tclvalue.specs.Commands.{string_trim, string_trimleft, string_trimright};
+ghost use Rattle.tclvalue.specs.Commands.{string_match, string_position, string_map, string_repeat, string_trimmed};
 ghost use Rattle.tclvalue.specs.Growing.{GivesWithin};
-ghost use Rattle.tclvalue.specs.Views.{operation, option_of};
+ghost use Rattle.tclvalue.specs.Views.{operation, option_of, search_for, trimmed_at};
 
 use crate::bounded::limited;
 use crate::characters::{character_count, characters};
 use crate::index::{count_of, index_of};
 use crate::names::{Subcommand, is_option, subcommand_named, takes_options};
 use crate::pattern::glob;
-use crate::searches::{first_position, last_position, mapped, replacements};
-use crate::texts::{Ends, characters_between, repeated, trimmed_of_space_within, trimmed_within};
+use crate::searches::{Occurrence, first_position, last_position, mapped, replacements};
+use crate::texts::{Ends, characters_between, repeated, trimmed, trimmed_of_space};
 use std::alloc::{AllocError, Global};
 use std::cmp::Ordering;
 use tcloperators::{
@@ -77,13 +75,13 @@ fn operation_value(
         Subcommand::Equal => equal_value(alloc, operands, limit),
         Subcommand::Compare => compare_value(alloc, operands, limit),
         Subcommand::Match => match_value(alloc, operands, limit),
-        Subcommand::First => first_value(alloc, operands, limit),
-        Subcommand::Last => last_value(alloc, operands, limit),
+        Subcommand::First => position_value(alloc, Occurrence::First, operands, limit),
+        Subcommand::Last => position_value(alloc, Occurrence::Last, operands, limit),
         Subcommand::Map => map_value(alloc, operands, limit),
         Subcommand::Repeat => repeat_value(alloc, operands, limit),
-        Subcommand::Trim => trim_value(alloc, operands, limit),
-        Subcommand::TrimLeft => trim_left_value(alloc, operands, limit),
-        Subcommand::TrimRight => trim_right_value(alloc, operands, limit),
+        Subcommand::Trim => trim_value(alloc, Ends::Both, operands, limit),
+        Subcommand::TrimLeft => trim_value(alloc, Ends::Start, operands, limit),
+        Subcommand::TrimRight => trim_value(alloc, Ends::End, operands, limit),
     }
 }
 
@@ -166,48 +164,42 @@ fn match_value(alloc: Global, operands: &[String], limit: usize) -> Result<Strin
     }
 }
 
-/// `string first sought text`
-fn first_value(alloc: Global, operands: &[String], limit: usize) -> Result<String, ValueFault>
-    ensures { GivesWithin limit result (string_first (map string_bytes operands.now)) }
+/// `string first sought text` and `string last sought text`
+fn position_value(
+    alloc: Global,
+    occurrence: Occurrence,
+    operands: &[String],
+    limit: usize,
+) -> Result<String, ValueFault>
+    ensures { GivesWithin limit result (string_position (search_for occurrence) (map string_bytes operands.now)) }
 {
     match operands {
-        [sought, text] => limited(position_text(alloc, first_of(alloc, sought, text)?)?, limit),
+        [sought, text] => {
+            let position = sought_position(alloc, occurrence, sought, text)?;
+            limited(position_text(alloc, position)?, limit)
+        }
         _ => Err(wrong_words(alloc, "string")),
     }
 }
 
-/// `string last sought text`
-fn last_value(alloc: Global, operands: &[String], limit: usize) -> Result<String, ValueFault>
-    ensures { GivesWithin limit result (string_last (map string_bytes operands.now)) }
-{
-    match operands {
-        [sought, text] => limited(position_text(alloc, last_of(alloc, sought, text)?)?, limit),
-        _ => Err(wrong_words(alloc, "string")),
-    }
-}
-
-/// The position of the first character of the first copy of a text in another; an empty one is never found.
-fn first_of(alloc: Global, sought: &str, text: &str) -> Result<Option<usize>, AllocError>
-    ensures { IfOk result (λ p. p ≡ sought_position first_position sought.now text.now) }
+/// The position of the first character of a text in another; an empty text is never found.
+fn sought_position(
+    alloc: Global,
+    occurrence: Occurrence,
+    sought: &str,
+    text: &str,
+) -> Result<Option<usize>, AllocError>
+    ensures { IfOk result (λ p. p ≡ sought_position (search_for occurrence) sought.now text.now) }
 {
     if sought.is_empty() {
         return Ok(None);
     }
     let sought = characters(alloc, sought)?;
     let text = characters(alloc, text)?;
-    Ok(first_position(&sought, &text))
-}
-
-/// The position of the first character of the last copy of a text in another; an empty one is never found.
-fn last_of(alloc: Global, sought: &str, text: &str) -> Result<Option<usize>, AllocError>
-    ensures { IfOk result (λ p. p ≡ sought_position last_position sought.now text.now) }
-{
-    if sought.is_empty() {
-        return Ok(None);
+    match occurrence {
+        Occurrence::First => Ok(first_position(&sought, &text)),
+        Occurrence::Last => Ok(last_position(&sought, &text)),
     }
-    let sought = characters(alloc, sought)?;
-    let text = characters(alloc, text)?;
-    Ok(last_position(&sought, &text))
 }
 
 /// A position as a number; -1 where there is none.
@@ -246,35 +238,18 @@ fn repeat_value(alloc: Global, operands: &[String], limit: usize) -> Result<Stri
     }
 }
 
-/// `string trim text ?characters?`
-fn trim_value(alloc: Global, operands: &[String], limit: usize) -> Result<String, ValueFault>
-    ensures { GivesWithin limit result (string_trim (map string_bytes operands.now)) }
+/// `string trim text ?characters?`, and `trimleft` and `trimright`
+fn trim_value(
+    alloc: Global,
+    ends: Ends,
+    operands: &[String],
+    limit: usize,
+) -> Result<String, ValueFault>
+    ensures { GivesWithin limit result (string_trimmed (trimmed_at ends) (map string_bytes operands.now)) }
 {
     match operands {
-        [text] => trimmed_of_space_within(alloc, Ends::Both, text, limit),
-        [text, set] => trimmed_within(alloc, Ends::Both, set, text, limit),
-        _ => Err(wrong_words(alloc, "string")),
-    }
-}
-
-/// `string trimleft text ?characters?`
-fn trim_left_value(alloc: Global, operands: &[String], limit: usize) -> Result<String, ValueFault>
-    ensures { GivesWithin limit result (string_trimleft (map string_bytes operands.now)) }
-{
-    match operands {
-        [text] => trimmed_of_space_within(alloc, Ends::Start, text, limit),
-        [text, set] => trimmed_within(alloc, Ends::Start, set, text, limit),
-        _ => Err(wrong_words(alloc, "string")),
-    }
-}
-
-/// `string trimright text ?characters?`
-fn trim_right_value(alloc: Global, operands: &[String], limit: usize) -> Result<String, ValueFault>
-    ensures { GivesWithin limit result (string_trimright (map string_bytes operands.now)) }
-{
-    match operands {
-        [text] => trimmed_of_space_within(alloc, Ends::End, text, limit),
-        [text, set] => trimmed_within(alloc, Ends::End, set, text, limit),
+        [text] => limited(trimmed_of_space(alloc, ends, text)?, limit),
+        [text, set] => limited(trimmed(alloc, ends, set, text)?, limit),
         _ => Err(wrong_words(alloc, "string")),
     }
 }

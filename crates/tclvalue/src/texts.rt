@@ -7,7 +7,6 @@ ghost use Rattle.tclvalue.specs.Characters.{is_among, characters_between, parts,
 ghost use Rattle.tclvalue.specs.Characters.{white_space, split_space};
 ghost use Rattle.tclvalue.specs.Views.{without, trimmed_at, index_view};
 
-use crate::bounded::limited;
 use crate::characters::{characters, is_among, text_of, without_end, without_start};
 use crate::index::{Index, between};
 use crate::lists::texts_of;
@@ -40,32 +39,6 @@ pub(crate) fn trimmed(
     let set = characters(alloc, set)?;
     let characters = characters(alloc, text)?;
     text_of(alloc, without(ends, &set, &characters))
-}
-
-/// The text without the characters of a set at these ends, or `ValueTooLong` beyond the limit.
-pub(crate) fn trimmed_within(
-    alloc: Global,
-    ends: Ends,
-    set: &str,
-    text: &str,
-    limit: usize,
-) -> Result<String, ValueFault>
-    ensures { GivesText result (limited limit (trimmed_at ends set.now text.now)) }
-{
-    limited(trimmed(alloc, ends, set, text)?, limit)
-}
-
-/// The text without white space at these ends, or `ValueTooLong` beyond the limit.
-#[tactic(auto, unfolding(crate::specs::Characters::white_space))]
-pub(crate) fn trimmed_of_space_within(
-    alloc: Global,
-    ends: Ends,
-    text: &str,
-    limit: usize,
-) -> Result<String, ValueFault>
-    ensures { GivesText result (limited limit (trimmed_at ends white_space text.now)) }
-{
-    trimmed_within(alloc, ends, WHITE_SPACE, text, limit)
 }
 
 /// The text without white space at these ends.
