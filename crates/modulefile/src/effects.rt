@@ -1,68 +1,44 @@
 //! The effects of records on an environment, by mode (modulefile(5)).
-ghost use Rattle.std.specs.Prelude.{◌≡◌, ◌<◌, map, string_bytes};
+ghost use Rattle.std.specs.Prelude.{◌≡◌, map, string_bytes};
 ghost use Rattle.std.specs.List.{list_all};
 ghost use Rattle.std.specs.Option.{option_map};
-ghost use Rattle.envvars.specs.Reasons.{Edits, bad_value};
+ghost use Rattle.envvars.specs.Reasons.{Edits};
 ghost use Rattle.envpaths.specs.PathVariables.{is_element, path_reason, added_path, dropped_path};
 ghost use Rattle.modulerecords.specs.Judgments.{bad_edit, value_reason, values_of, names_reason, record_reason};
 ghost use Rattle.modulerecords.specs.Effects.{loaded_by, unloaded_by, edited, effect};
-ghost use Rattle.modulefile.specs.RecordViews.{record_view, mode_view, IsJudged, IsEdited, HasFault};
+ghost use Rattle.modulefile.specs.RecordViews.{record_view, mode_view, IsJudged, IsEdited};
 
 use crate::call::PathEdit;
 use crate::delimiter::Delimiter;
 use crate::record_fault::RecordFault;
 use crate::records::{Mode, Record};
-use envpaths::{End, add_path, drop_path};
+use envpaths::{End, add_path, drop_path, is_element};
 use envstacks::{pop_value, push_value};
 use envvars::fields::slices;
 use envvars::{EnvFault, Vars, is_nul_free, judge_name};
 use modulename::is_module_name;
 use std::alloc::Global;
 
-/// The fault of a variable that can't take a value (37).
-fn bad_value(alloc: Global, var: &str) -> RecordFault
-    ensures { HasFault (bad_edit (bad_value var.now)) result }
-{
-    match String::from_str(alloc, var) {
-        Ok(var) => RecordFault::Env(EnvFault::BadValue(var)),
-        Err(_) => RecordFault::Env(EnvFault::OutOfMemory),
-    }
-}
-
 /// Refuses a variable that can't be edited, and then a value with NUL.
 fn judge_value(alloc: Global, var: &str, value: Option<&str>) -> Result<(), RecordFault>
     ensures { IsJudged result
         (option_map bad_edit (value_reason var.now (values_of (option_map (λ v. v.now) value.entry)))) }
 {
-    if let Err(fault) = judge_name(alloc, var) {
-        return Err(RecordFault::Env(fault));
-    }
+    judge_name(alloc, var)?;
     match value {
-        Some(value) if !is_nul_free(value) => Err(bad_value(alloc, var)),
+        Some(value) if !is_nul_free(value) => Err(RecordFault::Env(EnvFault::bad_value(
+            alloc, var,
+        ))),
         _ => Ok(()),
     }
-}
-
-/// Whether a text is an element of a path: it has no NUL and no delimiter.
-fn is_element(delim: Delimiter, text: &str) -> bool
-    ensures { result ≡ is_element delim.character text.now }
-{
-    let delim = delim.character as u8;
-    text.as_bytes().iter().all(|b| !(*b == delim || *b == 0))
 }
 
 /// Whether all texts are elements of a path.
 fn are_elements(delim: Delimiter, texts: &[String]) -> bool
     ensures { result ≡ list_all (is_element delim.character) (map string_bytes texts.now) }
 {
-    let mut rest = texts;
-    while let [text, after @ ..] = rest {
-        if !is_element(delim, text) {
-            return false;
-        }
-        rest = after;
-    }
-    true
+    let delim = delim.character;
+    texts.iter().all(|text| is_element(delim, text.as_str()))
 }
 
 /// Refuses a variable that can't be edited, and then texts that aren't elements.
@@ -75,11 +51,9 @@ fn judge_path(
     ensures { IsJudged result
         (option_map bad_edit (path_reason var.now delim.character (map string_bytes elements.now))) }
 {
-    if let Err(fault) = judge_name(alloc, var) {
-        return Err(RecordFault::Env(fault));
-    }
+    judge_name(alloc, var)?;
     if !are_elements(delim, elements) {
-        return Err(bad_value(alloc, var));
+        return Err(RecordFault::Env(EnvFault::bad_value(alloc, var)));
     }
     Ok(())
 }
@@ -88,15 +62,10 @@ fn judge_path(
 fn judge_names(alloc: Global, names: &[String]) -> Result<(), RecordFault>
     ensures { IsJudged result (names_reason (map string_bytes names.now)) }
 {
-    let mut rest = names;
-    while let [name, after @ ..] = rest {
-        if !is_module_name(name) {
-            return match String::from_str(alloc, name) {
-                Ok(name) => Err(RecordFault::BadModuleName(name)),
-                Err(_) => Err(RecordFault::Env(EnvFault::OutOfMemory)),
-            };
+    for name in names {
+        if !is_module_name(name.as_str()) {
+            return Err(RecordFault::BadModuleName(String::from_str(alloc, name.as_str())?));
         }
-        rest = after;
     }
     Ok(())
 }
@@ -252,8 +221,6 @@ pub fn effect<V: Vars>(
     ensures base { V.base env.new ≡ V.base env.old }
 {
     judge(alloc, recorded)?;
-    match edit(alloc, mode, owner, recorded, env) {
-        Ok(()) => Ok(()),
-        Err(fault) => Err(RecordFault::Env(fault)),
-    }
+    edit(alloc, mode, owner, recorded, env)?;
+    Ok(())
 }

@@ -1,12 +1,15 @@
 //! Why a record of a modulefile has no effect.
-ghost use Rattle.std.specs.Prelude.{◌≡◌, Some, IfSome};
+ghost use Rattle.std.specs.Prelude.{◌≡◌, Some, IfSome, is_none};
 ghost use Rattle.message.specs.Messages.{text_of};
 ghost use Rattle.modulefile.specs.Answers.{record_number};
 ghost use Rattle.modulefile.specs.RecordFaults.{number_of, message_of};
 ghost use Rattle.modulefile.specs.RecordViews.{fault_reason};
+ghost use Rattle.modulefile.specs.declared.record_fault.RecordFault.TheVariants.{Env};
+ghost use Rattle.envvars.specs.declared.fault.EnvFault.TheVariants.{OutOfMemory};
 
 use envvars::EnvFault;
 use message::Message;
+use std::alloc::AllocError;
 use std::error::Error;
 use std::fmt;
 use std::fmt::Display;
@@ -29,6 +32,16 @@ impl RecordFault {
         match self {
             RecordFault::Env(fault) => fault.number(),
             RecordFault::BadModuleName(_) => 44,
+        }
+    }
+
+    /// Whether memory ran out, which is no reason against the record.
+    pub fn is_out_of_memory(&self) -> bool
+        ensures { result ≡ is_none (fault_reason self.now) }
+    {
+        match self {
+            RecordFault::Env(EnvFault::OutOfMemory) => true,
+            RecordFault::Env(_) | RecordFault::BadModuleName(_) => false,
         }
     }
 
@@ -55,3 +68,19 @@ impl fmt::Display for RecordFault {
 }
 
 impl Error for RecordFault {}
+
+impl From<EnvFault> for RecordFault {
+    ghost from_gives = { λ fault e. e ≡ Env fault };
+
+    fn from(fault: EnvFault) -> RecordFault {
+        RecordFault::Env(fault)
+    }
+}
+
+impl From<AllocError> for RecordFault {
+    ghost from_gives = { λ _ e. e ≡ Env OutOfMemory };
+
+    fn from(_refused: AllocError) -> RecordFault {
+        RecordFault::Env(EnvFault::OutOfMemory)
+    }
+}

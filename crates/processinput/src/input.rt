@@ -6,7 +6,7 @@ ghost use Rattle.processinput.specs.Faults.{input_number, input_message};
 ghost use Rattle.processinput.specs.Inputs.{input_limit, ReadsAll, FailsAfterReading};
 ghost use Rattle.processinput.specs.declared.input.InputFault.TheVariants.{OutOfMemory};
 
-use message::Message;
+use message::{Message, out_of_memory};
 use std::alloc::{AllocError, Global};
 use std::error::Error;
 use std::fmt;
@@ -47,7 +47,7 @@ impl InputFault {
         ensures { text_of result ≡ input_message self.now }
     {
         match self {
-            InputFault::OutOfMemory => Message::of_text("Out of memory"),
+            InputFault::OutOfMemory => out_of_memory(),
             InputFault::ReadFailed => Message::of_text("Reading failed"),
             InputFault::BadInput => Message::of_text("Bad arguments"),
         }

@@ -3,7 +3,7 @@ ghost use Rattle.std.specs.Prelude.{◌≡◌, ◌<◌, ◌≤◌, Some, IfOk, I
 ghost use Rattle.message.specs.Messages.{text_of};
 ghost use Rattle.processinput.specs.Faults.{number_of, message_of};
 
-use message::Message;
+use message::{Message, out_of_memory};
 use std::alloc::AllocError;
 use std::env::FillError;
 use std::error::Error;
@@ -37,7 +37,7 @@ impl ArgumentsFault {
         ensures { text_of result ≡ message_of self.now }
     {
         match self {
-            ArgumentsFault::OutOfMemory => Message::of_text("Out of memory"),
+            ArgumentsFault::OutOfMemory => out_of_memory(),
             ArgumentsFault::NotUtf8 => Message::of_text("Bad arguments"),
         }
     }

@@ -1,10 +1,7 @@
-use Rattle.std.proofs.Common.{◌≡◌, map, string_bytes, length}
+use Rattle.std.proofs.Common.{◌≡◌, drop, map, string_bytes}
 use Rattle.modulerecords.specs.Judgments.{names_reason}
 use Rattle.modulefile.proofs.effects.judge_names.Given as goal
 
 -- what is left decides
-abbrev pub invariant-loop-rest : goal.invariant-loop-rest
-invariant-loop-rest l = names_reason (map string_bytes l.rest) ≡ names_reason (map string_bytes l.names)
-
-abbrev pub decreases-loop-rest : goal.decreases-loop-rest
-decreases-loop-rest l = length l.rest
+abbrev pub invariant-loop-name : goal.invariant-loop-name
+invariant-loop-name l = names_reason (map string_bytes (drop l.name-index l.names)) ≡ names_reason (map string_bytes l.names)
