@@ -6,6 +6,15 @@ use Rattle.std.specs.Option.{MatchOption, unwrap_or}
 use Rattle.std.proofs.lemmas.Bool.{cases_lt}
 use Rattle.std.proofs.lemmas.List.{take_min, drop-take, length-take}
 use Rattle.std.proofs.Math.ListN.{drop_of_length-le}
+use Rattle.tclchars.specs.Runs.{Text}
+use Rattle.tclchars.specs.Classes.{begins_in, in_class}
+use Rattle.tclchars.specs.declared.runs.Class.TheVariants.{Space}
+use Rattle.tclvalue.specs.Indexes.{begins_space}
+
+-- white space is the class of bytes that texts of Tcl have
+pub space_class : (t : Text) → begins_in (in_class Space) t ≡ begins_space t
+space_class [] = refl
+space_class (b ∷ bs) = refl
 
 pub repeat_more : (n : ℕ) (xs : List ℕ) → repeat n xs ++ xs ≡ repeat (suc n) xs
 repeat_more zero xs = sym (append-nil xs)

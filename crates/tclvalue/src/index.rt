@@ -3,19 +3,14 @@ ghost use Rattle.std.specs.Prelude.{◌≡◌, ◌+ℤ◌, ℤ, pos, min, length
 ghost use Rattle.tclnumber.specs.Numerals.{numeral};
 ghost use Rattle.tclchars.specs.Answers.{Gives};
 ghost use Rattle.tcloperators.specs.Faults.{reason_of};
-ghost use Rattle.tclvalue.specs.Indexes.{index_of, index_after_end, index_number, begins_space, count_of};
+ghost use Rattle.tclvalue.specs.Indexes.{index_of, index_after_end, index_number, count_of};
 ghost use Rattle.tclvalue.specs.Indexes.{position, position_among, at_least_0, items_between};
 ghost use Rattle.tclvalue.specs.Views.{index_view};
 
 use std::alloc::Global;
+use tclchars::{Class, begins_class};
 use tclnumber::{Numeral, read_number};
 use tcloperators::{ValueFault, bad_index, not_a_whole_number};
-
-/// The byte of a vertical tab.
-const VERTICAL_TAB: u8 = 11;
-
-/// The byte of a form feed.
-const FORM_FEED: u8 = 12;
 
 /// An index as it is spelled, before the number of items is known.
 #[derive(Clone, Copy)]
@@ -86,24 +81,15 @@ pub(crate) fn index_of(alloc: Global, word: &str) -> Result<Index, ValueFault>
     }
 }
 
-/// The index of a word that is `end-` and the rest.
+/// The index of a word that is `end-` and the rest, which may not begin with white space.
+#[tactic(auto, using(crate::proofs::IndexLemmas::space_class))]
 fn index_after_end(alloc: Global, word: &str, rest: &str) -> Result<Index, ValueFault>
     ensures { Gives reason_of index_view result (index_after_end word.now (Some rest.now)) }
 {
-    if begins_space(rest) {
+    if begins_class(rest, Class::Space) {
         return Err(bad_index(alloc, word));
     }
     number_in(alloc, word, rest).map(Index::FromEnd)
-}
-
-/// Whether a text begins with white space, which is no part of an index.
-fn begins_space(text: &str) -> bool
-    ensures { result ≡ begins_space text.now }
-{
-    matches!(
-        text.as_bytes(),
-        [b' ' | b'\t' | b'\n' | VERTICAL_TAB | FORM_FEED | b'\r', ..]
-    )
 }
 
 /// The number that is spelled in an index; the word is the whole index, for the message.

@@ -1,7 +1,5 @@
 //! The commands on lists (list(n), llength(n), lindex(n), lrange(n), split(n), join(n), concat(n)).
-ghost use Rattle.std.specs.Prelude.{◌≡◌, ◌∷◌, [], map, string_bytes, Ok};
-ghost use Rattle.tclchars.specs.Runs.{Text};
-ghost use Rattle.tcloperators.specs.Elements.{elements_of};
+ghost use Rattle.std.specs.Prelude.{◌≡◌, map, string_bytes};
 ghost use Rattle.tclvalue.specs.Commands.{llength_command, lindex_command, lrange_command, split_command, join_command};
 ghost use Rattle.tclvalue.specs.Commands.{element_at, elements_between};
 ghost use Rattle.tclvalue.specs.Growing.{GivesWithin};
@@ -57,23 +55,16 @@ fn lindex_value(alloc: Global, words: &[String], limit: usize) -> Result<String,
 {
     match words {
         [list] => limited(list.clone()?, limit),
-        [list, index] => indexed_element(alloc, &elements(alloc, list)?, index, limit),
+        [list, index] => {
+            let elements = elements(alloc, list)?;
+            let index = index_of(alloc, index)?;
+            limited(
+                String::from_str(alloc, element_at(&elements, index))?,
+                limit,
+            )
+        }
         _ => Err(wrong_words(alloc, "lindex")),
     }
-}
-
-/// `lindex` of a list with these elements.
-fn indexed_element(
-    alloc: Global,
-    elements: &[String],
-    index: &str,
-    limit: usize,
-) -> Result<String, ValueFault>
-    ensures { (list : Text) → elements_of list ≡ Ok (map string_bytes elements.now)
-        → GivesWithin limit result (lindex_command (list ∷ index.now ∷ [])) }
-{
-    let index = index_of(alloc, index)?;
-    limited(String::from_str(alloc, element_at(elements, index))?, limit)
 }
 
 /// The element at an index, or the empty text outside of the list.
@@ -92,28 +83,15 @@ fn lrange_value(alloc: Global, words: &[String], limit: usize) -> Result<String,
     ensures { GivesWithin limit result (lrange_command (map string_bytes words.now)) }
 {
     match words {
-        [list, first, last] => range_text(alloc, &elements(alloc, list)?, first, last, limit),
+        [list, first, last] => {
+            let elements = elements(alloc, list)?;
+            let first = index_of(alloc, first)?;
+            let last = index_of(alloc, last)?;
+            let range = elements_between(&elements, first, last);
+            limited(list_text(alloc, range)?, limit)
+        }
         _ => Err(wrong_words(alloc, "lrange")),
     }
-}
-
-/// `lrange` of a list with these elements.
-fn range_text(
-    alloc: Global,
-    elements: &[String],
-    first: &str,
-    last: &str,
-    limit: usize,
-) -> Result<String, ValueFault>
-    ensures { (list : Text) → elements_of list ≡ Ok (map string_bytes elements.now)
-        → GivesWithin limit result (lrange_command (list ∷ first.now ∷ last.now ∷ [])) }
-{
-    let first = index_of(alloc, first)?;
-    let last = index_of(alloc, last)?;
-    limited(
-        list_text(alloc, elements_between(elements, first, last))?,
-        limit,
-    )
 }
 
 /// The elements from one index to another, both included, as far as there are such elements.
