@@ -3,20 +3,9 @@ use Rattle.std.proofs.Common.{◌≡◌, ap, ◌∙◌, Option, Some, None, Resu
 use Rattle.std.specs.Prelude.{IfSome}
 use Rattle.std.specs.Option.{option_map, option_or}
 use Rattle.envvars.specs.Environment.{Environment}
-use Rattle.envvars.specs.Reasons.{EnvReason, reason_of, HasReason}
-use Rattle.envvars.specs.declared.fault.EnvFault.{EnvFault}
+use Rattle.envvars.specs.Reasons.{EnvReason}
 use Rattle.modulerecords.specs.Judgments.{RecordReason, bad_edit}
 use Rattle.modulerecords.specs.Effects.{edit_outcome, permitted}
-use Rattle.modulefile.specs.RecordViews.{HasFault}
-use Rattle.modulefile.specs.declared.record_fault.RecordFault.TheVariants.{Env}
-
--- an error of an edit as the fault of its record
-pub edit_fault : (e : EnvFault) (r : EnvReason) → HasReason r e → HasFault (bad_edit r) (Env e)
-edit_fault e r h = each (reason_of e) h
-  where
-    each : (o : Option EnvReason) → IfSome o (λ x. x ≡ r) → IfSome (option_map bad_edit o) (λ x. x ≡ bad_edit r)
-    each None h = tt
-    each (Some x) h = ap bad_edit h
 
 -- a variable's name that is refused, before anything else is judged
 pub name_refused : (o n more : Option EnvReason) → IfSome o (λ r. n ≡ Some r) → IfSome (option_map bad_edit o) (λ r. option_map bad_edit (option_or n more) ≡ Some r)

@@ -1,8 +1,8 @@
 -- Lists from their fronts.
-use Rattle.std.proofs.Common.{◌≡◌, ◌≤◌, ◌-◌, ℕ, true, List, [], ◌∷◌, ◌++◌, length, map, take, drop, get_or, string_bytes, String, Bor, refl, ap, sym, ◌∙◌, arith}
+use Rattle.std.proofs.Common.{◌≡◌, ◌+◌, ◌<◌, ◌≤◌, ℕ, Bool, true, ◌||◌, List, [], ◌∷◌, ◌++◌, length, map, drop, get_or, string_bytes, String, Bor, refl, ap, sym, ◌∙◌, arith}
 use Rattle.std.specs.declared.alloc.Global.{Global}
 use Rattle.std.specs.List.{list_any}
-use Rattle.std.proofs.lemmas.List.{append_assoc, map-append, take_all}
+use Rattle.std.proofs.lemmas.List.{append_assoc, map-append, drop_more}
 use Rattle.envvars.specs.Texts.{Text, slice_texts}
 use Rattle.envpaths.specs.PathTexts.{split_elements}
 use Rattle.modulefile.specs.Calls.{elements_of}
@@ -12,11 +12,14 @@ pub some_text : (texts : List (String Global)) → 1 ≤ length texts → true �
 some_text [] h = absurd (omega (arith, h))
 some_text (t ∷ ts) h = refl
 
--- the first of some texts, and what follows it
-pub split_first : (texts rest : List (String Global)) (x : String Global) → 1 ≤ length texts → x ≡ get_or texts 0 x → rest ≡ take (length texts - 1) (drop 1 texts) → map string_bytes texts ≡ string_bytes x ∷ map string_bytes rest
-split_first [] rest x some is e = absurd (omega (arith, some))
-split_first (y ∷ ys) rest x some is e =
-    ap (λ z. string_bytes z ∷ map string_bytes ys) (sym is) ∙ ap (λ zs. string_bytes x ∷ map string_bytes zs) (sym (e ∙ take_all (length (y ∷ ys) - 1) ys (omega arith)))
+-- the next text, and those after it
+pub split_next : (texts : List (String Global)) (i : ℕ) (x : String Global) → i < length texts → x ≡ get_or texts i x → map string_bytes (drop i texts) ≡ string_bytes x ∷ map string_bytes (drop (i + 1) texts)
+split_next texts i x l is = ap (map string_bytes) (drop_more texts i x l) ∙ ap (λ (y : String Global). string_bytes y ∷ map string_bytes (drop (i + 1) texts)) (sym is)
+
+-- whether some text passes
+pub any_text : (p : Text → Bool) (texts : List (String Global)) → list_any (λ x. p (string_bytes x)) texts ≡ list_any p (map string_bytes texts)
+any_text p [] = refl
+any_text p (x ∷ xs) = ap (λ (b : Bool). p (string_bytes x) || b) (any_text p xs)
 
 -- one value more is cut
 pub cut_more : (delim : ℕ) (old new parts : List (Bor Text)) (value : Text) (rest : List Text) (all : List Text)

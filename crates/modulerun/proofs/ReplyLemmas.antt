@@ -130,6 +130,9 @@ call_made made accepted words e h = subst (λ (m : Result Record AllocError). If
 pub read_named : (var value : Text) → is_variable_name var ≡ true → read var value ≡ asked value
 read_named var value e = ap (λ b. if b then asked value else not_done (bad_record (bad_edit (bad_variable var)))) e
 
+pub read_unnamed : (var value : Text) → is_variable_name var ≡ false → read var value ≡ not_done (bad_record (bad_edit (bad_variable var)))
+read_unnamed var value e = ap (λ b. if b then asked value else not_done (bad_record (bad_edit (bad_variable var)))) e
+
 -- a question is answered
 pub asked_reply : (c : answers.FileContext) (e : Environment) (words : List Text) (call : Call) (made : calls.Call) (text : Text) (h : HostAnswer) (old new : Trace)
     → call_of words ≡ Ok (call_view call) → call_view call ≡ made → answered c e words (Ok made) ≡ asked text

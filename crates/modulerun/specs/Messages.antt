@@ -1,6 +1,6 @@
 -- The numbers and texts of the faults of modulefiles (own): those of the fault below, or their own.
 use Rattle.std.specs.Prelude.{ℕ, codes}
-use Rattle.message.specs.Messages.{Text}
+use Rattle.message.specs.Messages.{Text, out_of_memory}
 use Rattle.tclchars.specs.Faults.{fault_number}
 use Rattle.tclrules.specs.Faults as evaluation
 use Rattle.tclrules.specs.declared.outcome.EvalFault.{EvalFault}
@@ -22,7 +22,7 @@ number_of runs.BadArguments = 56
 number_of (runs.BadRecord fault) = record_faults.number_of fault
 
 abbrev pub message_of : RunFault → Text
-message_of runs.OutOfMemory = codes "Out of memory"
+message_of runs.OutOfMemory = out_of_memory
 message_of (runs.Eval fault) = evaluation.message_of fault
 message_of runs.BadArguments = codes "Bad arguments"
 message_of (runs.BadRecord fault) = record_faults.message_of fault

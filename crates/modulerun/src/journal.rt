@@ -1,7 +1,6 @@
 //! What a modulefile has done so far: its accepted commands, and the environment that they make.
 ghost use Rattle.std.specs.Prelude.{◌≡◌, ◌++◌, ◌∷◌, [], Ok, map, string_bytes, OnOk, OnErr, IfOk, IfErr};
 ghost use Rattle.std.specs.Option.{option_map};
-ghost use Rattle.envvars.specs.Texts.{texts_in};
 ghost use Rattle.envvars.specs.Environment.{lookup};
 ghost use Rattle.envvars.specs.Changes.{applied, new_values_in};
 ghost use Rattle.envvars.specs.declared.fault.EnvFault.TheVariants.{OutOfMemory};
@@ -12,7 +11,7 @@ ghost use Rattle.modulefile.specs.RecordViews.{mode_view, record_view, IsEdited}
 ghost use Rattle.modulerun.specs.Journals.{environment_so_far, journal_state, AddsCommand};
 
 use crate::entry::Entry;
-use crate::recording::copied;
+use envvars::fields::copies;
 use envvars::{Change, EnvFault, Vars, Working};
 use modulefile::{Mode, Record, RecordFault, effect};
 use std::alloc::{AllocError, Global};
@@ -62,7 +61,7 @@ pub(crate) struct FinishedFile {
 }
 
 /// Adds an entry, where its record has its effect on `env`. Else neither changes.
-fn enter<V: Vars>(
+fn add_entry<V: Vars>(
     alloc: Global,
     mode: Mode,
     owner: &str,
@@ -76,16 +75,10 @@ fn enter<V: Vars>(
         (effect (mode_view mode) owner.now (record_view entry.recorded) (V.vars env.old)) }
     ensures base { V.base env.new ≡ V.base env.old }
 {
-    if entries.reserve(1).is_err() {
-        return Err(RecordFault::Env(EnvFault::OutOfMemory));
-    }
-    match effect(alloc, mode, owner, &entry.recorded, env) {
-        Ok(()) => {
-            entries.push_reserved(entry);
-            Ok(())
-        }
-        Err(fault) => Err(fault),
-    }
+    entries.reserve(1)?;
+    effect(alloc, mode, owner, &entry.recorded, env)?;
+    entries.push_reserved(entry);
+    Ok(())
 }
 
 /// The records of the entries, in order.
@@ -147,22 +140,12 @@ impl<'a, V: Vars> Journal<'a, V> {
         requires { call_of (map string_bytes words.now) ≡ Ok (adds_record (record_view recorded)) }
         ensures { AddsCommand result (map string_bytes words.now) (record_view recorded) self.old self.new }
     {
-        match copied(self.alloc, words) {
-            Ok(words) => self.enter(Entry { words, recorded }),
-            Err(_) => Err(RecordFault::Env(EnvFault::OutOfMemory)),
-        }
-    }
-
-    /// Adds an entry, where its record has its effect.
-    fn enter(&mut self, entry: Entry) -> Result<(), RecordFault>
-        requires { call_of (texts_in entry.words) ≡ Ok (adds_record (record_view entry.recorded)) }
-        ensures { AddsCommand result (texts_in entry.words) (record_view entry.recorded) self.old self.new }
-    {
-        enter(
+        let words = copies(self.alloc, words)?;
+        add_entry(
             self.alloc,
             self.mode,
             self.owner,
-            entry,
+            Entry { words, recorded },
             &mut self.entries,
             &mut self.working,
         )

@@ -50,14 +50,7 @@ pub(crate) fn is_mode(mode: Mode, in_switch: bool, word: &str) -> bool
 fn is_meant(name: &str, loaded: &[String]) -> bool
     ensures { result ≡ list_any (means name.now) (map string_bytes loaded.now) }
 {
-    let mut rest = loaded;
-    while let [module, after @ ..] = rest {
-        if means(name, module) {
-            return true;
-        }
-        rest = after;
-    }
-    false
+    loaded.iter().any(|module| means(name, module.as_str()))
 }
 
 /// Whether one of the names means a loaded module.
@@ -65,14 +58,7 @@ fn is_any_meant(names: &[String], loaded: &[String]) -> bool
     ensures { result
         ≡ list_any (λ name. list_any (means name) (map string_bytes loaded.now)) (map string_bytes names.now) }
 {
-    let mut rest = names;
-    while let [name, after @ ..] = rest {
-        if is_meant(name, loaded) {
-            return true;
-        }
-        rest = after;
-    }
-    false
+    names.iter().any(|name| is_meant(name.as_str(), loaded))
 }
 
 /// Whether any module is loaded.

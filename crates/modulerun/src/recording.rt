@@ -7,30 +7,20 @@ ghost use Rattle.modulefile.specs.Calls.{elements_of, description};
 ghost use Rattle.modulefile.specs.CallViews.{edit_record};
 ghost use Rattle.modulefile.specs.RecordViews.{record_view};
 
-use envvars::fields::{copies, copy, join, parts, slices};
+use envvars::fields::{copies, copy, join, owned, parts, slices};
 use modulefile::{Delimiter, PathEdit, Record};
 use std::alloc::{AllocError, Global};
-
-/// Copies texts.
-pub(crate) fn copied(alloc: Global, texts: &[String]) -> Result<Vec<String>, AllocError>
-    ensures { IfOk result (λ v. texts_in v ≡ map string_bytes texts.now) }
-{
-    let texts = slices(alloc, texts)?;
-    copies(alloc, texts.as_slice())
-}
 
 /// The elements of values, which are cut at the delimiter.
 fn elements(alloc: Global, delim: Delimiter, values: &[String]) -> Result<Vec<String>, AllocError>
     ensures { IfOk result (λ v. texts_in v ≡ elements_of delim.character (map string_bytes values.now)) }
 {
     let mut elements = Vec::new(alloc);
-    let mut rest = values;
-    while let [value, after @ ..] = rest {
-        let parts = parts(alloc, value, delim.character)?;
+    for value in values {
+        let parts = parts(alloc, value.as_str(), delim.character)?;
         elements.extend_from_slice(parts.as_slice())?;
-        rest = after;
     }
-    copies(alloc, elements.as_slice())
+    owned(alloc, elements.as_slice())
 }
 
 /// The record of `setenv VAR value`.
@@ -85,14 +75,14 @@ pub(crate) fn path(
 pub(crate) fn conflict(alloc: Global, names: &[String]) -> Result<Record, AllocError>
     ensures { IfOk result (λ r. record_view r ≡ Conflict (map string_bytes names.now)) }
 {
-    Ok(Record::Conflict(copied(alloc, names)?))
+    Ok(Record::Conflict(copies(alloc, names)?))
 }
 
 /// The record of `prereq NAME...`.
 pub(crate) fn prereq(alloc: Global, names: &[String]) -> Result<Record, AllocError>
     ensures { IfOk result (λ r. record_view r ≡ Prereq (map string_bytes names.now)) }
 {
-    Ok(Record::Prereq(copied(alloc, names)?))
+    Ok(Record::Prereq(copies(alloc, names)?))
 }
 
 /// The record of `module-whatis WORD...`.

@@ -4,7 +4,7 @@ ghost use Rattle.message.specs.Messages.{text_of};
 ghost use Rattle.modulerun.specs.Messages as texts;
 
 use envvars::EnvFault;
-use message::Message;
+use message::{Message, out_of_memory};
 use modulefile::RecordFault;
 use std::alloc::AllocError;
 use std::error::Error;
@@ -66,7 +66,7 @@ impl RunFault {
         ensures { text_of result ≡ texts.message_of self.now }
     {
         match self {
-            RunFault::OutOfMemory => Message::of_text("Out of memory"),
+            RunFault::OutOfMemory => out_of_memory(),
             RunFault::Eval(fault) => fault.message(),
             RunFault::BadArguments => Message::of_text("Bad arguments"),
             RunFault::BadRecord(fault) => fault.message(),

@@ -1,13 +1,12 @@
 //! The host of a modulefile: it does the commands that Tcl hasn't (modulefile(5)).
-ghost use Rattle.std.specs.Prelude.{◌≡◌, ◌++◌, ◌∷◌, [], None, Some, Ok, map, string_bytes, is_none, IfOk, IfErr, IfSome, OnOk, OnErr, false};
+ghost use Rattle.std.specs.Prelude.{◌≡◌, ◌++◌, ◌∷◌, [], None, Some, Ok, map, string_bytes, IfOk, IfErr, IfSome, OnOk, OnErr, false};
 ghost use Rattle.envvars.specs.Texts.{Text, texts_in};
-ghost use Rattle.envvars.specs.Reasons.{bad_variable};
 ghost use Rattle.envvars.specs.Changes.{applied, new_values_in};
 ghost use Rattle.tclrules.specs.Oracle.{Nothing, Message, Done};
-ghost use Rattle.modulerecords.specs.Judgments.{RecordReason, bad_edit};
+ghost use Rattle.modulerecords.specs.Judgments.{RecordReason};
 ghost use Rattle.modulefile.specs.Calls.{CallReason, bad_record, adds_record, call_of};
 ghost use Rattle.modulefile.specs.CallViews.{HasReason, call_view, field_view};
-ghost use Rattle.modulefile.specs.RecordViews.{mode_view, record_view, fault_reason, HasFault};
+ghost use Rattle.modulefile.specs.RecordViews.{mode_view, record_view, HasFault};
 ghost use Rattle.modulefile.specs.Answers.{answered, any_loaded, asked, not_done, read, truth};
 ghost use Rattle.modulefile.specs.Answers.{field_text, field_test, value_shown};
 ghost use Rattle.modulefile.specs.Files.{ran_of};
@@ -50,26 +49,6 @@ impl<'a, V: Vars> Drop for Runner<'a, V> {
             asked: _asked,
             refusal: _refusal,
         } = self;
-    }
-}
-
-/// Whether memory ran out, which refuses no command.
-fn is_out_of_memory(fault: &RecordFault) -> bool
-    ensures { result ≡ is_none (fault_reason fault.now) }
-{
-    match fault {
-        RecordFault::Env(EnvFault::OutOfMemory) => true,
-        RecordFault::Env(_) | RecordFault::BadModuleName(_) => false,
-    }
-}
-
-/// The fault of a name that isn't spelled as a variable's (32).
-fn bad_variable(alloc: Global, var: &str) -> RecordFault
-    ensures { HasFault (bad_edit (bad_variable var.now)) result }
-{
-    match String::from_str(alloc, var) {
-        Ok(var) => RecordFault::Env(EnvFault::BadVariable(var)),
-        Err(_) => RecordFault::Env(EnvFault::OutOfMemory),
     }
 }
 
@@ -116,7 +95,7 @@ impl<'a, V: Vars> Runner<'a, V> {
             → Replies (not_done (bad_record reason)) result (trace_of self.old) (trace_of self.new) }
         ensures same { context_of self.new ≡ context_of self.old }
     {
-        if is_out_of_memory(&fault) {
+        if fault.is_out_of_memory() {
             return HostAnswer::OutOfMemory;
         }
         let number = fault.number();
@@ -203,8 +182,7 @@ impl<'a, V: Vars> Runner<'a, V> {
             let value = self.value_shown(var, default);
             self.answer_question(value)
         } else {
-            let fault = bad_variable(self.alloc, var);
-            self.refuse(fault)
+            self.refuse(RecordFault::Env(EnvFault::bad_variable(self.alloc, var)))
         }
     }
 

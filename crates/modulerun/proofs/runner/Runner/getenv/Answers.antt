@@ -1,10 +1,19 @@
-use Rattle.std.proofs.Common.{sym, ◌∙◌}
+use Rattle.std.proofs.Common.{◌≡◌, Option, Some, None, IfSome, ap, sym, ◌∙◌}
+use Rattle.std.specs.Option.{option_map}
+use Rattle.envvars.specs.Reasons.{EnvReason, bad_variable, reason_of}
+use Rattle.modulerecords.specs.Judgments.{bad_edit}
+use Rattle.modulefile.specs.Calls.{bad_record}
 use Rattle.modulefile.specs.RecordViews.{mode_view}
-use Rattle.modulefile.specs.Answers.{asked, value_shown}
+use Rattle.modulefile.specs.Answers.{asked, not_done, value_shown}
 use Rattle.modulerun.specs.Journals.{environment_so_far}
 use Rattle.modulerun.specs.Hosting.{trace_with}
-use Rattle.modulerun.proofs.ReplyLemmas.{by_answer, read_named}
+use Rattle.modulerun.proofs.ReplyLemmas.{by_answer, read_named, read_unnamed}
 use Rattle.modulerun.proofs.runner.Runner.getenv.Goals as goal
+
+-- the reason of an error of an edit, as one of a record
+edit_fault : (o : Option EnvReason) (r : EnvReason) → IfSome o (λ x. x ≡ r) → IfSome (option_map bad_edit o) (λ x. x ≡ bad_edit r)
+edit_fault None r h = tt
+edit_fault (Some x) r h = ap bad_edit h
 
 pub returns-then-is_variable_name-clause-replies : goal.returns-then-is_variable_name-clause-replies
 returns-then-is_variable_name-clause-replies g c =
@@ -12,3 +21,9 @@ returns-then-is_variable_name-clause-replies g c =
     by_answer _ (asked value) c.answer_question.result (trace_with c.args.self.now.journal c.args.self.now.messages c.args.self.now.asked c.args.self.now.refusal) (trace_with c.answer_question.new.self.journal c.answer_question.new.self.messages c.answer_question.new.self.asked c.answer_question.new.self.refusal)
     (read_named c.args.var.now value (sym c.is_variable_name.ensures ∙ c.if-is_variable_name.true))
     (c.answer_question.ensures.replies value c.value_shown-value.ensures)
+
+pub returns-else-is_variable_name-clause-replies : goal.returns-else-is_variable_name-clause-replies
+returns-else-is_variable_name-clause-replies g c =
+    by_answer _ (not_done (bad_record (bad_edit (bad_variable c.args.var.now)))) c.refuse.result (trace_with c.args.self.now.journal c.args.self.now.messages c.args.self.now.asked c.args.self.now.refusal) (trace_with c.refuse.new.self.journal c.refuse.new.self.messages c.refuse.new.self.asked c.refuse.new.self.refusal)
+    (read_unnamed c.args.var.now _ (sym c.is_variable_name.ensures ∙ c.if-is_variable_name.false))
+    (c.refuse.ensures.replies (bad_edit (bad_variable c.args.var.now)) (edit_fault (reason_of c.bad_variable.result) (bad_variable c.args.var.now) c.bad_variable.ensures))
