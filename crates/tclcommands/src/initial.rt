@@ -4,7 +4,7 @@ ghost use Rattle.tclrules.specs.Promise.{texts_of};
 ghost use Rattle.tclrules.specs.Variables.{start};
 
 use std::alloc::{AllocError, Global};
-use tclvariables::Variables;
+use tclvariables::{Scalar, Scope, Variables};
 
 /// Variables with these global ones, each a name and its value, and without procedures. Of a name that is repeated the
 /// last value counts.
@@ -18,7 +18,11 @@ pub fn initial_variables(
 {
     let mut variables = Variables::new(alloc);
     for (name, value) in globals {
-        variables.set(alloc, true, name.as_str(), value)?;
+        let variable = Scalar {
+            scope: Scope::Global,
+            name: name.as_str(),
+        };
+        variables.set(alloc, variable, value)?;
     }
     Ok(variables)
 }
