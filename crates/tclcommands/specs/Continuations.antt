@@ -12,6 +12,7 @@ use Rattle.tclrules.specs.Rules.{lengthened, value_or, write_at}
 use Rattle.tclsubstitution.specs.Machine.{bounds}
 use Rattle.tclsubstitution.specs.Stops.{after}
 use Rattle.tclsubstitution.specs.declared.stop.Stop.{Stop}
+use Rattle.tclvariables.specs.Locations.{scalar_view}
 use Rattle.tclcommands.specs.declared.value.Value.{Value}
 use Rattle.tclcommands.specs.declared.value.Value.TheVariants as values
 
@@ -19,7 +20,7 @@ use Rattle.tclcommands.specs.declared.value.Value.TheVariants as values
 abbrev pub value_text : Value → State → Text
 value_text (values.Text t) s = string_bytes t
 value_text (values.Word w) s = w.now
-value_text (values.Variable global name) s = unwrap_or (value_at s (global, name.now)) []
+value_text (values.Variable v) s = unwrap_or (value_at s (scalar_view v)) []
 
 -- the first of the words, which is a command's name
 abbrev pub command_name : List Text → Text

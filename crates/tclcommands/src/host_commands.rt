@@ -6,6 +6,7 @@ ghost use Rattle.tclrules.specs.Forms.{Put};
 ghost use Rattle.tclrules.specs.Rules.{form, replied};
 ghost use Rattle.tclcommands.specs.Continuations.{ContinuesWithAnswer, ContinuesWithResult, command_name};
 
+use crate::copies::with_copies;
 use crate::value::Value;
 use std::alloc::{AllocError, Global};
 use tclforms::no_command;
@@ -69,12 +70,8 @@ pub fn consult<'a, H: Host>(
 fn name_and_words(alloc: Global, name: &str, words: &[String]) -> Result<Vec<String>, AllocError>
     ensures { IfOk result (λ v. map string_bytes v.items ≡ name.now ∷ map string_bytes words.now) }
 {
-    let mut copies = Vec::new(alloc);
-    copies.push(String::from_str(alloc, name)?)?;
-    for word in words {
-        copies.push(String::from_str(alloc, word)?)?;
-    }
-    Ok(copies)
+    let name = String::from_str(alloc, name)?;
+    with_copies(alloc, vec![in alloc; name]?, words)
 }
 
 /// puts(n). The words after the name were judged already; the host writes the text or drops it.

@@ -4,7 +4,7 @@ ghost use Rattle.tclrules.specs.Promise.{texts_of};
 ghost use Rattle.tclrules.specs.Variables.{start};
 
 use std::alloc::{AllocError, Global};
-use tclvariables::Variables;
+use tclvariables::{Scalar, Scope, Variables};
 
 /// Variables with these global ones, each a name and its value, and without procedures, none of which may have one of
 /// the names `reserved`. Of a name that is repeated the last value counts.
@@ -19,7 +19,11 @@ pub fn initial_variables(
 {
     let mut variables = Variables::new(alloc, reserved);
     for (name, value) in globals {
-        variables.set(alloc, true, name.as_str(), value)?;
+        let variable = Scalar {
+            scope: Scope::Global,
+            name: name.as_str(),
+        };
+        variables.set(alloc, variable, value)?;
     }
     Ok(variables)
 }

@@ -3,6 +3,7 @@
 //! Used by tclcontrol, which picks a command by its form, by tclevaluator for turns and calls, and by tcleval.
 #![tactic(auto)]
 
+mod copies;
 mod defining;
 mod global_names;
 mod host_commands;

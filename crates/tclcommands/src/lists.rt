@@ -10,14 +10,16 @@ ghost use Rattle.tclrules.specs.Forms.{ListAppend};
 ghost use Rattle.tclrules.specs.Rules.{form, value_or, lengthened};
 ghost use Rattle.tclvariables.specs.Contents.{IsListText, HoldsList};
 ghost use Rattle.tclcommands.specs.Continuations.{append_at, ContinuesWithText, ContinuesWithinLimit};
+ghost use Rattle.tclvariables.specs.Locations.{scalar_view};
 
+use crate::copies::with_copies;
 use crate::value::{Value, value_or};
 use crate::writing::{put_at, take_text};
 use std::alloc::{AllocError, Global};
 use tclchars::MAX_BYTES;
 use tclsubstitution::Stop;
 use tclvalue::{ValueFault, elements, list_text};
-use tclvariables::{Content, Variables, writable};
+use tclvariables::{Content, Scalar, Variables, writable};
 
 /// The text of a list, as the evaluator writes it, with elements appended.
 fn with_elements(alloc: Global, list: String, values: &[String]) -> Result<String, AllocError>
@@ -37,22 +39,6 @@ fn with_elements(alloc: Global, list: String, values: &[String]) -> Result<Strin
     Ok(list)
 }
 
-/// Texts, and copies of others after them.
-fn with_copies(
-    alloc: Global,
-    texts: Vec<String>,
-    others: &[String],
-) -> Result<Vec<String>, AllocError>
-    ensures { IfOk result (λ v. map string_bytes v.items
-        ≡ map string_bytes texts.items ++ map string_bytes others.now) }
-{
-    let mut texts = texts;
-    for text in others {
-        texts.push(String::from_str(alloc, text)?)?;
-    }
-    Ok(texts)
-}
-
 /// The text of any list with elements appended: it is read and written anew. A text that is no list is an error of Tcl.
 fn lengthened(alloc: Global, list: &str, values: &[String]) -> Result<String, ValueFault>
     ensures text { GivesText result (lengthened list.now (map string_bytes values.now)) }
@@ -64,11 +50,11 @@ fn lengthened(alloc: Global, list: &str, values: &[String]) -> Result<String, Va
 
 /// Whether a variable is known to hold a list's text as list(n) writes it, and one that is short enough to be read as a
 /// list. False may stand for "not known".
-fn holds_list(variables: &Variables, global: bool, name: &str) -> bool
-    ensures list { result ≡ true → HoldsList (value_at variables.now (global, name.now)) }
-    ensures read { result ≡ true → length (value_or [] variables.now (global, name.now)) ≤ max_bytes }
+fn holds_list(variables: &Variables, variable: Scalar<'_>) -> bool
+    ensures list { result ≡ true → HoldsList (value_at variables.now (scalar_view variable.entry)) }
+    ensures read { result ≡ true → length (value_or [] variables.now (scalar_view variable.entry)) ≤ max_bytes }
 {
-    variables.holds_list(global, name) && value_or(variables, global, name, "").len() <= MAX_BYTES
+    variables.holds_list(variable) && value_or(variables, variable, "").len() <= MAX_BYTES
 }
 
 /// Appends elements to the text of a list that the evaluator wrote itself, in place.
@@ -77,27 +63,19 @@ fn extend_list(
     alloc: Global,
     variables: &mut Variables,
     limit: usize,
-    global: bool,
-    name: &str,
+    variable: Scalar<'_>,
     values: &[String],
 ) -> Result<(), Stop>
-    requires location { (v : Text) × (writable variables.old v ≡ Ok (global, name.now)) }
-    requires list { HoldsList (value_at variables.old (global, name.now)) }
-    requires read { length (value_or [] variables.old (global, name.now)) ≤ max_bytes }
-    ensures { ContinuesWithText (λ b. append_at b (global, name.now)
+    requires location { (v : Text) × (writable variables.old v ≡ Ok (scalar_view variable)) }
+    requires list { HoldsList (value_at variables.old (scalar_view variable)) }
+    requires read { length (value_or [] variables.old (scalar_view variable)) ≤ max_bytes }
+    ensures { ContinuesWithText (λ b. append_at b (scalar_view variable.entry)
         (map string_bytes values.now) variables.old) limit result
-        (λ s. value_or [] s (global, name.now)) variables.new }
+        (λ s. value_or [] s (scalar_view variable.entry)) variables.new }
 {
-    let old = take_text(alloc, variables, global, name);
+    let old = take_text(alloc, variables, variable);
     let text = with_elements(alloc, old, values)?;
-    put_at(
-        alloc,
-        variables,
-        limit,
-        global,
-        name,
-        Content::of_list(text),
-    )?;
+    put_at(alloc, variables, limit, variable, Content::of_list(text))?;
     Ok(())
 }
 
@@ -107,24 +85,16 @@ fn rewrite_list(
     alloc: Global,
     variables: &mut Variables,
     limit: usize,
-    global: bool,
-    name: &str,
+    variable: Scalar<'_>,
     values: &[String],
 ) -> Result<(), Stop>
-    requires { (v : Text) × (writable variables.old v ≡ Ok (global, name.now)) }
-    ensures { ContinuesWithText (λ b. append_at b (global, name.now)
+    requires { (v : Text) × (writable variables.old v ≡ Ok (scalar_view variable)) }
+    ensures { ContinuesWithText (λ b. append_at b (scalar_view variable.entry)
         (map string_bytes values.now) variables.old) limit result
-        (λ s. value_or [] s (global, name.now)) variables.new }
+        (λ s. value_or [] s (scalar_view variable.entry)) variables.new }
 {
-    let text = lengthened(alloc, value_or(variables, global, name, ""), values)?;
-    put_at(
-        alloc,
-        variables,
-        limit,
-        global,
-        name,
-        Content::of_list(text),
-    )?;
+    let text = lengthened(alloc, value_or(variables, variable, ""), values)?;
+    put_at(alloc, variables, limit, variable, Content::of_list(text))?;
     Ok(())
 }
 
@@ -134,19 +104,18 @@ fn append_elements(
     alloc: Global,
     variables: &mut Variables,
     limit: usize,
-    global: bool,
-    name: &str,
+    variable: Scalar<'_>,
     values: &[String],
 ) -> Result<(), Stop>
-    requires { (v : Text) × (writable variables.old v ≡ Ok (global, name.now)) }
-    ensures { ContinuesWithText (λ b. append_at b (global, name.now)
+    requires { (v : Text) × (writable variables.old v ≡ Ok (scalar_view variable)) }
+    ensures { ContinuesWithText (λ b. append_at b (scalar_view variable.entry)
         (map string_bytes values.now) variables.old) limit result
-        (λ s. value_or [] s (global, name.now)) variables.new }
+        (λ s. value_or [] s (scalar_view variable.entry)) variables.new }
 {
-    if holds_list(variables, global, name) {
-        return extend_list(alloc, variables, limit, global, name, values);
+    if holds_list(variables, variable) {
+        return extend_list(alloc, variables, limit, variable, values);
     }
-    rewrite_list(alloc, variables, limit, global, name, values)
+    rewrite_list(alloc, variables, limit, variable, values)
 }
 
 /// lappend(n): appends elements to the list that the variable `name` holds, which is made where it is unset. The result
@@ -166,7 +135,7 @@ pub fn list_append<'a>(
         (map string_bytes values.now)) variables.old) limit result
         variables.new }
 {
-    let (global, name) = writable(variables, alloc, name)?;
-    append_elements(alloc, variables, limit, global, name, values)?;
-    Ok(Value::Variable(global, name))
+    let variable = writable(variables, alloc, name)?;
+    append_elements(alloc, variables, limit, variable, values)?;
+    Ok(Value::Variable(variable))
 }

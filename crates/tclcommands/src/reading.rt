@@ -1,18 +1,20 @@
 //! Commands that read variables: set(n) with one word, and `info exists` of info(n).
 ghost use Rattle.std.specs.Prelude.{◌≡◌, string_bytes};
 ghost use Rattle.tclvalue.specs.Operators.{truth_text};
-ghost use Rattle.tclrules.specs.Variables.{State, Scalar};
+ghost use Rattle.tclrules.specs.Variables as rules;
+ghost use Rattle.tclrules.specs.Variables.{State};
 ghost use Rattle.tclrules.specs.Simulates.{point};
 ghost use Rattle.tclrules.specs.Plans.{Next};
 ghost use Rattle.tclrules.specs.Forms.{Get, Exists};
 ghost use Rattle.tclrules.specs.Rules.{form, exists_at};
 ghost use Rattle.tclcommands.specs.Continuations.{value_text, ContinuesWithResult};
+ghost use Rattle.tclvariables.specs.Locations.{is_global};
 
 use crate::value::Value;
 use std::alloc::Global;
 use tclrules::Host;
 use tclsubstitution::{Stop, read};
-use tclvariables::{Location, Variables, location_named};
+use tclvariables::{Location, Scalar, Scope, Variables, location_named};
 
 /// set(n) with the name alone: the value of the variable.
 ///
@@ -42,13 +44,14 @@ fn truth<'a>(holds: bool) -> Value<'a>
 }
 
 /// Whether a scalar variable is set; the array `env` always is.
-fn is_set(variables: &Variables, global: bool, name: &str) -> bool
-    ensures { (k : Next) → exists_at variables.now k (Scalar global name.now) ≡ k (truth_text result) variables.now }
+fn is_set(variables: &Variables, variable: Scalar<'_>) -> bool
+    ensures { (k : Next) → exists_at variables.now k (rules.Scalar (is_global variable.entry.scope) variable.entry.name.now)
+        ≡ k (truth_text result) variables.now }
 {
-    if global && name == "env" {
+    if variable.is_env() {
         return true;
     }
-    variables.get(global, name).is_some()
+    variables.get(variable).is_some()
 }
 
 /// `info exists` of info(n): `1` where the variable, or the element of `env`, is set, else `0`. Asking for an element
@@ -66,13 +69,13 @@ pub fn exists<'a, H: Host>(
 {
     let location = location_named(variables, alloc, name)?;
     match location {
-        Location::Scalar(global, name) => Ok(truth(is_set(variables, global, name))),
-        Location::Element(global, name) => {
-            if global {
-                let value = host.read_env(name)?;
-                return Ok(truth(value.is_some()));
+        Location::Scalar(variable) => Ok(truth(is_set(variables, variable))),
+        Location::Element(scope, index) => match scope {
+            Scope::Global => {
+                let value = host.read_env(index)?;
+                Ok(truth(value.is_some()))
             }
-            Ok(truth(false))
-        }
+            Scope::Procedure => Ok(truth(false)),
+        },
     }
 }

@@ -18,9 +18,9 @@ fn unset_one(alloc: Global, variables: &mut Variables, quiet: bool, name: &str) 
     ensures { ContinuesWithVariables (λ k. given (writable variables.old name.now) variables.old
         (λ p. unset_at quiet name.now variables.old p k (value_at variables.old p))) result variables.new }
 {
-    let (global, location) = writable(variables, alloc, name)?;
-    if variables.get(global, location).is_some() {
-        variables.unset(global, location);
+    let variable = writable(variables, alloc, name)?;
+    if variables.get(variable).is_some() {
+        variables.unset(variable);
         return Ok(());
     }
     if quiet {

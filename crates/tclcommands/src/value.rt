@@ -2,9 +2,10 @@
 ghost use Rattle.std.specs.Prelude.{◌≡◌, length, IfOk, string_bytes};
 ghost use Rattle.tclrules.specs.Rules.{value_or};
 ghost use Rattle.tclcommands.specs.Continuations.{value_text};
+ghost use Rattle.tclvariables.specs.Locations.{scalar_view};
 
 use std::alloc::{AllocError, Global};
-use tclvariables::Variables;
+use tclvariables::{Scalar, Variables};
 
 /// The result of a command. Most results are dropped by the script, so a copy is made only where one is needed.
 #[derive(Drop)]
@@ -13,8 +14,8 @@ pub enum Value<'a> {
     Text(String),
     /// A word of the command.
     Word(&'a str),
-    /// The value of a variable: whether it is global, and its name.
-    Variable(bool, &'a str),
+    /// The value of this variable.
+    Variable(Scalar<'a>),
 }
 
 impl Value<'_> {
@@ -27,8 +28,8 @@ impl Value<'_> {
         match self {
             Value::Text(text) => Ok(text),
             Value::Word(word) => String::from_str(alloc, word),
-            Value::Variable(global, name) => {
-                String::from_str(alloc, value_or(variables, global, name, ""))
+            Value::Variable(variable) => {
+                String::from_str(alloc, value_or(variables, variable, ""))
             }
         }
     }
@@ -40,7 +41,7 @@ impl Value<'_> {
         match self {
             Value::Text(text) => text.len(),
             Value::Word(word) => word.len(),
-            Value::Variable(global, name) => value_or(variables, *global, name, "").len(),
+            Value::Variable(variable) => value_or(variables, *variable, "").len(),
         }
     }
 }
@@ -48,11 +49,10 @@ impl Value<'_> {
 /// The value of a variable, or this one where it has none.
 pub(crate) fn value_or<'a>(
     variables: &'a Variables,
-    global: bool,
-    name: &str,
+    variable: Scalar<'_>,
     default: &'a str,
 ) -> &'a str
-    ensures { result.now ≡ value_or default.entry.now variables.entry.now (global, name.now) }
+    ensures { result.now ≡ value_or default.entry.now variables.entry.now (scalar_view variable.entry) }
 {
-    variables.get(global, name).unwrap_or(default)
+    variables.get(variable).unwrap_or(default)
 }

@@ -9,6 +9,7 @@ ghost use Rattle.tclrules.specs.Variables.{with_value};
 ghost use Rattle.tclrules.specs.Forms.{Set, Append, Increase};
 ghost use Rattle.tclrules.specs.Rules.{write_at, write, assign, form, value_or, increased};
 ghost use Rattle.tclcommands.specs.Continuations.{named_values, ContinuesWithVariablesWithin, ContinuesWithText, ContinuesWithinLimit};
+ghost use Rattle.tclvariables.specs.Locations.{scalar_view};
 
 use crate::value::{Value, value_or};
 use std::alloc::Global;
@@ -16,7 +17,7 @@ use tclforms::increase_of;
 use tclrules::EvalFault;
 use tclsubstitution::Stop;
 use tclvalue::{ValueFault, count_of, sum};
-use tclvariables::{Content, Variables, writable};
+use tclvariables::{Content, Scalar, Variables, writable};
 
 /// Gives the variable at a location its content, within the limit on values.
 #[tactic(none)]
@@ -24,19 +25,18 @@ pub(crate) fn put_at(
     alloc: Global,
     variables: &mut Variables,
     limit: usize,
-    global: bool,
-    name: &str,
+    variable: Scalar<'_>,
     content: Content,
 ) -> Result<(), Stop>
-    ensures continues { ContinuesWithText (λ b. write_at b (global, name.now) content variables.old) limit result
+    ensures continues { ContinuesWithText (λ b. write_at b (scalar_view variable.entry) content variables.old) limit result
         (λ _. content)
         variables.new }
-    ensures written { OnOk result (variables.new ≡ with_value variables.old (global, name.now) content) }
+    ensures written { OnOk result (variables.new ≡ with_value variables.old (scalar_view variable.entry) content) }
 {
     if content.as_str().len() > limit {
         return Err(Stop::Fault(EvalFault::ValueTooLong));
     }
-    variables.put(alloc, global, name, content)?;
+    variables.put(alloc, variable, content)?;
     Ok(())
 }
 
@@ -46,23 +46,15 @@ fn write_at(
     alloc: Global,
     variables: &mut Variables,
     limit: usize,
-    global: bool,
-    name: &str,
+    variable: Scalar<'_>,
     value: String,
 ) -> Result<(), Stop>
-    ensures continues { ContinuesWithText (λ b. write_at b (global, name.now)
+    ensures continues { ContinuesWithText (λ b. write_at b (scalar_view variable.entry)
         (string_bytes value) variables.old) limit result
         (λ _. string_bytes value) variables.new }
-    ensures written { OnOk result (variables.new ≡ with_value variables.old (global, name.now) (string_bytes value)) }
+    ensures written { OnOk result (variables.new ≡ with_value variables.old (scalar_view variable.entry) (string_bytes value)) }
 {
-    put_at(
-        alloc,
-        variables,
-        limit,
-        global,
-        name,
-        Content::of_text(value),
-    )
+    put_at(alloc, variables, limit, variable, Content::of_text(value))
 }
 
 /// Gives the variable of this name a value.
@@ -80,8 +72,8 @@ pub fn write(
         (λ _. string_bytes value)
         variables.new }
 {
-    let (global, name) = writable(variables, alloc, name)?;
-    write_at(alloc, variables, limit, global, name, value)
+    let variable = writable(variables, alloc, name)?;
+    write_at(alloc, variables, limit, variable, value)
 }
 
 /// Gives variables their values, in turn: the variables of a turn of foreach(n), or the parameters of a procedure.
@@ -123,17 +115,12 @@ pub fn set<'a>(
 
 /// Takes the text of a variable, or an empty one where it is unset, so that it grows without a copy. The caller gives
 /// the variable its next value.
-pub(crate) fn take_text(
-    alloc: Global,
-    variables: &mut Variables,
-    global: bool,
-    name: &str,
-) -> String
-    ensures value { string_bytes result ≡ value_or [] variables.old (global, name.now) }
-    ensures given_back { (t : Text) → with_value variables.new (global, name.now) t
-        ≡ with_value variables.old (global, name.now) t }
+pub(crate) fn take_text(alloc: Global, variables: &mut Variables, variable: Scalar<'_>) -> String
+    ensures value { string_bytes result ≡ value_or [] variables.old (scalar_view variable.entry) }
+    ensures given_back { (t : Text) → with_value variables.new (scalar_view variable.entry) t
+        ≡ with_value variables.old (scalar_view variable.entry) t }
 {
-    match variables.take(alloc, global, name) {
+    match variables.take(alloc, variable) {
         Some(text) => text,
         None => String::new(alloc),
     }
@@ -173,11 +160,11 @@ pub fn append<'a>(
         (map string_bytes values.now)) variables.old) limit result
         variables.new }
 {
-    let (global, name) = writable(variables, alloc, name)?;
-    let old = take_text(alloc, variables, global, name);
+    let variable = writable(variables, alloc, name)?;
+    let old = take_text(alloc, variables, variable);
     let value = extended(old, values, limit)?;
-    write_at(alloc, variables, limit, global, name, value)?;
-    Ok(Value::Variable(global, name))
+    write_at(alloc, variables, limit, variable, value)?;
+    Ok(Value::Variable(variable))
 }
 
 /// The sum of two whole numbers in decimal. The first is judged before the second.
@@ -207,9 +194,9 @@ pub fn increase<'a>(
         (map string_bytes increases.now)) variables.old) limit result
         variables.new }
 {
-    let (global, name) = writable(variables, alloc, name)?;
+    let variable = writable(variables, alloc, name)?;
     let increase = increase_of(alloc, increases)?;
-    let value = increased(alloc, value_or(variables, global, name, "0"), increase)?;
-    write_at(alloc, variables, limit, global, name, value)?;
-    Ok(Value::Variable(global, name))
+    let value = increased(alloc, value_or(variables, variable, "0"), increase)?;
+    write_at(alloc, variables, limit, variable, value)?;
+    Ok(Value::Variable(variable))
 }

@@ -12,6 +12,7 @@ ghost use Rattle.tclrules.specs.Words.{read, read_scalar};
 ghost use Rattle.tclrules.specs.Expressions.{expr, operand_value};
 ghost use Rattle.tclsubstitution.specs.Machine.{range_text, bounds};
 ghost use Rattle.tclsubstitution.specs.Stops.{stopped};
+ghost use Rattle.tclvariables.specs.Locations.{is_global};
 
 use crate::context::SubstitutionContext;
 use crate::stop::Stop;
@@ -19,17 +20,18 @@ use std::alloc::Global;
 use tclexpr::{Expr, Operand};
 use tcloperators::{Computed, compute};
 use tclscript::ByteRange;
-use tclvariables::{Location, Variables, location_named};
+use tclvariables::{Location, Scalar, Variables, location_named};
 
-/// The value of the variable at a location; None where it is unset, or is the array `env`.
-fn value_at_location<'v>(variables: &'v Variables, global: bool, name: &str) -> Option<&'v str>
+/// The value of a scalar variable; None where it is unset, or is the array `env`.
+fn value_of<'v>(variables: &'v Variables, variable: Scalar<'_>) -> Option<&'v str>
     ensures { IfSome result (λ v. (spelled : Text) (k : Next)
-        → read_scalar spelled global name.now variables.entry.now k ≡ k v.now variables.entry.now) }
+        → read_scalar spelled (is_global variable.entry.scope) variable.entry.name.now variables.entry.now k
+        ≡ k v.now variables.entry.now) }
 {
-    if global && name == "env" {
+    if variable.is_env() {
         return None;
     }
-    variables.get(global, name)
+    variables.get(variable)
 }
 
 /// The value of the scalar variable of a name; None where the name means an element of an array, or can't be read.
@@ -37,7 +39,7 @@ fn scalar_value<'v>(alloc: Global, variables: &'v Variables, name: &str) -> Opti
     ensures { IfSome result (λ v. (k : Next) → read name.now variables.entry.now k ≡ k v.now variables.entry.now) }
 {
     match location_named(variables, alloc, name) {
-        Ok(Location::Scalar(global, name)) => value_at_location(variables, global, name),
+        Ok(Location::Scalar(variable)) => value_of(variables, variable),
         _ => None,
     }
 }

@@ -1,6 +1,5 @@
 //! The values of scalar variables and of elements of the array `env`, with the errors of Tcl where there is none.
 ghost use Rattle.std.specs.Prelude.{◌≡◌, ◌++◌, ℕ, Some, IfOk, codes, option_map, string_bytes};
-ghost use Rattle.tclrules.specs.Variables.{State, value_at};
 ghost use Rattle.tclrules.specs.Derivation.{Reads};
 ghost use Rattle.tclrules.specs.Simulates.{Simulates, Point, point};
 ghost use Rattle.tclrules.specs.Plans as plans;
@@ -9,13 +8,13 @@ ghost use Rattle.tclrules.specs.Words.{found, read, read_element, read_location,
 ghost use Rattle.tcloperators.specs.Faults.{HasReason, error};
 ghost use Rattle.tclrules.specs.Messages.{in_quotes, is_array, no_variable};
 ghost use Rattle.tclsubstitution.specs.Stops.{after};
-ghost use Rattle.tclvariables.specs.Locations.{location_view};
+ghost use Rattle.tclvariables.specs.Locations.{is_global, location_view};
 
 use crate::stop::Stop;
 use std::alloc::{AllocError, Global};
 use tcloperators::{ValueFault, tcl_error};
 use tclrules::Host;
-use tclvariables::{Location, Variables, location_named, location_of};
+use tclvariables::{Location, Scalar, Scope, Variables, location_named, location_of};
 
 /// A text in double quotes, as messages have names.
 fn in_quotes(alloc: Global, text: &str) -> Result<String, AllocError>
@@ -48,47 +47,27 @@ fn is_array(alloc: Global, name: &str) -> ValueFault
     tcl_error(cannot_read(alloc, name, ": it is an array"))
 }
 
-/// A copy of the value of the variable `name` of the global variables, or of those of the procedure that runs. An error
-/// names the variable as it was `spelled` in the script.
-#[tactic(none)]
-fn value_at(
-    alloc: Global,
-    variables: &Variables,
-    spelled: &str,
-    global: bool,
-    name: &str,
-) -> Result<String, Stop>
-    ensures { (most : ℕ) (r : Job → plans.Step) (k : Next) (x : Point)
-        → Simulates most r (found (no_variable spelled.now) variables.now k
-        (value_at variables.now (global, name.now))) x
-        (after result (λ t s. k (string_bytes t) s) variables.now) x }
-{
-    match variables.get(global, name) {
-        Some(value) => Ok(String::from_str(alloc, value)?),
-        None => Err(Stop::from(no_variable(alloc, spelled))),
-    }
-}
-
-/// The value of a scalar variable. `env` as a whole is no scalar.
+/// A copy of the value of a scalar variable. `env` as a whole is no scalar. An error names the variable as it was
+/// `spelled` in the script.
 #[tactic(none)]
 fn read_scalar(
     alloc: Global,
     variables: &Variables,
     spelled: &str,
-    global: bool,
-    name: &str,
+    variable: Scalar<'_>,
 ) -> Result<String, Stop>
     ensures { (most : ℕ) (r : Job → plans.Step) (k : Next) (x : Point)
-        → Simulates most r (read_scalar spelled.now global name.now variables.now k) x
+        → Simulates most r
+        (read_scalar spelled.now (is_global variable.entry.scope) variable.entry.name.now variables.now k) x
         (after result (λ t s. k (string_bytes t) s) variables.now) x }
 {
-    if global {
-        if name == "env" {
-            return Err(Stop::from(is_array(alloc, spelled)));
-        }
-        return value_at(alloc, variables, spelled, true, name);
+    if variable.is_env() {
+        return Err(Stop::from(is_array(alloc, spelled)));
     }
-    value_at(alloc, variables, spelled, false, name)
+    match variables.get(variable) {
+        Some(value) => Ok(String::from_str(alloc, value)?),
+        None => Err(Stop::from(no_variable(alloc, spelled))),
+    }
 }
 
 /// The value of a variable of the environment, which the host is asked for.
@@ -127,13 +106,11 @@ fn read_location<H: Host>(
         (point (H.oracle host.new) (H.trace host.new) used) }
 {
     match location {
-        Location::Scalar(global, name) => read_scalar(alloc, variables, spelled, global, name),
-        Location::Element(global, name) => {
-            if global {
-                return read_env(alloc, variables, host, spelled, name);
-            }
-            Err(Stop::from(no_variable(alloc, spelled)))
-        }
+        Location::Scalar(variable) => read_scalar(alloc, variables, spelled, variable),
+        Location::Element(scope, index) => match scope {
+            Scope::Global => read_env(alloc, variables, host, spelled, index),
+            Scope::Procedure => Err(Stop::from(no_variable(alloc, spelled))),
+        },
     }
 }
 

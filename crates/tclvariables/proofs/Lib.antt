@@ -1,4 +1,5 @@
 pub mod Apart
+pub mod Colons
 pub mod Frames
 pub mod Stores
 pub mod Names

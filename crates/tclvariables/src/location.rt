@@ -3,21 +3,46 @@ ghost use Rattle.std.specs.Prelude.{◌≡◌, option_map};
 ghost use Rattle.tclchars.specs.Answers.{Gives};
 ghost use Rattle.tclvalue.specs.Faults.{reason_of, HasReason, unsupported};
 ghost use Rattle.tclrules.specs.Variables.{name_and_index, has_colons, unqualified, indexed, location_of, location_named, writable};
-ghost use Rattle.tclchars.specs.Runs.{take_while, drop_while};
-ghost use Rattle.tclvariables.specs.Locations.{location_view, is_no_opening_parenthesis, shared_name};
+ghost use Rattle.tclvariables.specs.Locations.{is_env, is_global, location_view, scalar_view, shared_name};
 
 use crate::variables::Variables;
 use std::alloc::Global;
-use tclchars::after_mark;
 use tclvalue::ValueFault;
+
+/// Whose variables a name denotes one of.
+#[derive(Clone, Copy)]
+pub enum Scope {
+    /// The global variables.
+    Global,
+    /// The variables of the procedure that runs.
+    Procedure,
+}
+
+/// A scalar variable, whether it is set or not.
+#[derive(Clone, Copy)]
+pub struct Scalar<'a> {
+    /// Whose variable it is.
+    pub scope: Scope,
+    /// Its name, without leading colons.
+    pub name: &'a str,
+}
+
+impl Scalar<'_> {
+    /// Whether this is the global `env`, which is an array and has no value of its own.
+    pub fn is_env(self) -> bool
+        ensures { result ≡ is_env (scalar_view self.entry) }
+    {
+        matches!(self.scope, Scope::Global) && self.name == "env"
+    }
+}
 
 /// The location of a variable: what its name denotes where the command is evaluated.
 #[derive(Drop)]
 pub enum Location<'a> {
-    /// The scalar variable of this name; the flag is true of a global one.
-    Scalar(bool, &'a str),
-    /// The element of `env` with this index; the flag is true where `env` denotes the global array.
-    Element(bool, &'a str),
+    /// A scalar variable.
+    Scalar(Scalar<'a>),
+    /// The element with this index of the array `env` of this scope.
+    Element(Scope, &'a str),
 }
 
 /// The fault of a kind of variable that is unsupported.
@@ -34,27 +59,7 @@ fn unsupported(alloc: Global, name: &str) -> ValueFault
 fn has_colons(name: &str) -> bool
     ensures { result ≡ has_colons name.now }
 {
-    let mut rest = name.as_bytes();
-    while let [first, after @ ..] = rest {
-        if *first == b':' && matches!(after, [b':', ..]) {
-            return true;
-        }
-        rest = after;
-    }
-    false
-}
-
-/// A name up to its first opening parenthesis, and from there on.
-fn split_array(name: &str) -> (&str, &str)
-    ensures array { result.0.now ≡ take_while is_no_opening_parenthesis name.now }
-    ensures rest { result.1.now ≡ drop_while is_no_opening_parenthesis name.now }
-{
-    let bytes = name.as_bytes();
-    let mut n = 0;
-    while n < bytes.len() && bytes[n] != b'(' {
-        n += 1;
-    }
-    name.split_at(n)
+    name.contains("::")
 }
 
 /// The parts of a name: that of its array and its index, where it has one.
@@ -64,31 +69,30 @@ fn name_and_index(name: &str) -> (&str, Option<&str>)
     let Some(inside) = name.strip_suffix(")") else {
         return (name, None);
     };
-    let (array, rest) = split_array(inside);
-    match after_mark(rest, b'(') {
+    match inside.split_once('(') {
+        Some((array, index)) => (array, Some(index)),
         None => (name, None),
-        Some(index) => (array, Some(index)),
     }
 }
 
 /// The location of a name without leading colons, which must have no others.
 fn unqualified_location<'a>(
     alloc: Global,
-    global: bool,
+    scope: Scope,
     name: &'a str,
     index: Option<&'a str>,
 ) -> Result<Location<'a>, ValueFault>
     ensures { Gives reason_of location_view result
-        (unqualified name.now (indexed global name.now (option_map (λ i. i.now) index.entry))) }
+        (unqualified name.now (indexed (is_global scope) name.now (option_map (λ i. i.now) index.entry))) }
 {
     if has_colons(name) {
         return Err(unsupported(alloc, "namespace"));
     }
     match index {
-        None => Ok(Location::Scalar(global, name)),
+        None => Ok(Location::Scalar(Scalar { scope, name })),
         Some(index) => {
             if name == "env" {
-                Ok(Location::Element(global, index))
+                Ok(Location::Element(scope, index))
             } else {
                 Err(unsupported(alloc, "array"))
             }
@@ -109,11 +113,8 @@ pub fn location_of<'a>(
         (location_of variables.now name.now (option_map (λ i. i.now) index.entry)) }
 {
     match name.strip_prefix("::") {
-        Some(rest) => unqualified_location(alloc, true, rest, index),
-        None => {
-            let global = variables.sees(name);
-            unqualified_location(alloc, global, name, index)
-        }
+        Some(rest) => unqualified_location(alloc, Scope::Global, rest, index),
+        None => unqualified_location(alloc, variables.scope_of(name), name, index),
     }
 }
 
@@ -131,23 +132,22 @@ pub fn location_named<'a>(
     location_of(variables, alloc, array, index)
 }
 
-/// The scalar variable that a name denotes, where it may be written: neither `env` nor an element of it. The flag says
-/// that it is a global one.
+/// The scalar variable that a name denotes, where it may be written: neither `env` nor an element of it.
 ///
 /// Errors: `LeftOut` for `env`, another array and a namespace, `OutOfMemory`.
 pub fn writable<'a>(
     variables: &Variables,
     alloc: Global,
     name: &'a str,
-) -> Result<(bool, &'a str), ValueFault>
-    ensures { Gives reason_of (λ p. (p.0, p.1.now)) result (writable variables.now name.now) }
+) -> Result<Scalar<'a>, ValueFault>
+    ensures { Gives reason_of scalar_view result (writable variables.now name.now) }
 {
     match location_named(variables, alloc, name)? {
-        Location::Scalar(global, name) => {
-            if name == "env" {
+        Location::Scalar(scalar) => {
+            if scalar.name == "env" {
                 return Err(unsupported(alloc, "env"));
             }
-            Ok((global, name))
+            Ok(scalar)
         }
         Location::Element(_, _) => Err(unsupported(alloc, "env")),
     }
@@ -164,7 +164,7 @@ pub fn sharable<'a>(
     ensures { Gives reason_of (λ n. n.now) result (shared_name variables.now name.now) }
 {
     match location_named(variables, alloc, name)? {
-        Location::Scalar(_, name) => Ok(name),
+        Location::Scalar(scalar) => Ok(scalar.name),
         Location::Element(_, _) => Err(unsupported(alloc, "env")),
     }
 }

@@ -5,10 +5,12 @@ ghost use Rattle.tclvariables.specs.Contents.{HoldsList};
 ghost use Rattle.tclrules.specs.Variables.{start, in_frame, sees, value_at, with_value, without_value, shared_in, lookup};
 ghost use Rattle.tclrules.specs.Rules.{new_frame, with_procedure};
 ghost use Rattle.tclrules.specs.Promise as promise;
+ghost use Rattle.tclvariables.specs.Locations.{is_global, scalar_view};
 ghost use Rattle.tclvariables.specs.Views.{texts_of, procedure_view};
 
 use crate::content::Content;
 use crate::local::Local;
+use crate::location::{Scalar, Scope};
 use crate::table::{Table, holds_list, put, remove, take, text_in};
 use indexmap::IndexMap;
 use std::alloc::{AllocError, Global};
@@ -85,102 +87,97 @@ impl Variables {
         self.local.is_some()
     }
 
-    /// Whether a name without colons denotes a global variable: any does where no procedure runs.
-    pub fn sees(&self, name: &str) -> bool
-        ensures { result ≡ sees self.now.frame name.now }
+    /// Whose variable a name without colons denotes: a global one where no procedure runs, or where global(n) named it.
+    pub fn scope_of(&self, name: &str) -> Scope
+        ensures { is_global result ≡ sees self.now.frame name.now }
     {
         match &self.local {
-            None => true,
-            Some(local) => local.sees(name),
+            Some(local) if !local.sees(name) => Scope::Procedure,
+            _ => Scope::Global,
         }
     }
 
-    /// The value of a variable: of a global one, or of one of the procedure that runs; None where it is unset.
-    pub fn get(&self, global: bool, name: &str) -> Option<&str>
-        ensures { option_map (λ v. v.now) result ≡ value_at self.now (global, name.now) }
+    /// The value of a variable; None where it is unset.
+    pub fn get(&self, variable: Scalar<'_>) -> Option<&str>
+        ensures { option_map (λ v. v.now) result ≡ value_at self.now (scalar_view variable.entry) }
     {
-        if global {
-            return text_in(&self.globals, name);
-        }
-        match &self.local {
-            None => None,
-            Some(local) => local.get(name),
+        match variable.scope {
+            Scope::Global => text_in(&self.globals, variable.name),
+            Scope::Procedure => self.local.as_ref()?.get(variable.name),
         }
     }
 
-    /// Gives a variable a value: a global one, or one of the procedure that runs, if one does.
+    /// Gives a variable a value; one of a procedure has an effect only where a procedure runs.
     pub fn set(
         &mut self,
         alloc: Global,
-        global: bool,
-        name: &str,
+        variable: Scalar<'_>,
         value: String,
     ) -> Result<(), AllocError>
-        ensures ok { OnOk result (self.new ≡ with_value self.old (global, name.now) (string_bytes value)) }
+        ensures ok { OnOk result (self.new ≡ with_value self.old (scalar_view variable.entry) (string_bytes value)) }
         ensures err { OnErr result (self.new ≡ self.old) }
     {
-        self.put(alloc, global, name, Content::of_text(value))
+        self.put(alloc, variable, Content::of_text(value))
     }
 
     /// Gives a variable what it is to hold, as `set`.
     pub fn put(
         &mut self,
         alloc: Global,
-        global: bool,
-        name: &str,
+        variable: Scalar<'_>,
         content: Content,
     ) -> Result<(), AllocError>
-        ensures ok { OnOk result (self.new ≡ with_value self.old (global, name.now) content) }
+        ensures ok { OnOk result (self.new ≡ with_value self.old (scalar_view variable.entry) content) }
         ensures err { OnErr result (self.new ≡ self.old) }
     {
-        if global {
-            return put(&mut self.globals, alloc, name, content);
-        }
-        match &mut self.local {
-            None => Ok(()),
-            Some(local) => local.put(alloc, name, content),
+        match variable.scope {
+            Scope::Global => put(&mut self.globals, alloc, variable.name, content),
+            Scope::Procedure => match &mut self.local {
+                None => Ok(()),
+                Some(local) => local.put(alloc, variable.name, content),
+            },
         }
     }
 
     /// Whether a variable is known to hold the text of a list, as list(n) writes it.
-    pub fn holds_list(&self, global: bool, name: &str) -> bool
-        ensures { result ≡ true → HoldsList (value_at self.now (global, name.now)) }
+    pub fn holds_list(&self, variable: Scalar<'_>) -> bool
+        ensures { result ≡ true → HoldsList (value_at self.now (scalar_view variable.entry)) }
     {
-        if global {
-            return holds_list(&self.globals, name);
-        }
-        match &self.local {
-            None => false,
-            Some(local) => local.holds_list(name),
+        match variable.scope {
+            Scope::Global => holds_list(&self.globals, variable.name),
+            Scope::Procedure => match &self.local {
+                None => false,
+                Some(local) => local.holds_list(variable.name),
+            },
         }
     }
 
     /// Takes the text of a variable, if it is set, so that it can grow without a copy: the variable holds the empty
     /// text until `put` gives it the text again.
-    pub fn take(&mut self, alloc: Global, global: bool, name: &str) -> Option<String>
-        ensures value { option_map string_bytes result ≡ value_at self.old (global, name.now) }
-        ensures given_back { (t : Text) → with_value self.new (global, name.now) t
-            ≡ with_value self.old (global, name.now) t }
+    pub fn take(&mut self, alloc: Global, variable: Scalar<'_>) -> Option<String>
+        ensures value { option_map string_bytes result ≡ value_at self.old (scalar_view variable.entry) }
+        ensures given_back { (t : Text) → with_value self.new (scalar_view variable.entry) t
+            ≡ with_value self.old (scalar_view variable.entry) t }
     {
-        if global {
-            return take(&mut self.globals, alloc, name);
-        }
-        match &mut self.local {
-            None => None,
-            Some(local) => local.take(alloc, name),
+        match variable.scope {
+            Scope::Global => take(&mut self.globals, alloc, variable.name),
+            Scope::Procedure => match &mut self.local {
+                None => None,
+                Some(local) => local.take(alloc, variable.name),
+            },
         }
     }
 
     /// Unsets a variable, if it is set.
-    pub fn unset(&mut self, global: bool, name: &str)
-        ensures { self.new ≡ without_value self.old (global, name.now) }
+    pub fn unset(&mut self, variable: Scalar<'_>)
+        ensures { self.new ≡ without_value self.old (scalar_view variable.entry) }
     {
-        if global {
-            return remove(&mut self.globals, name);
-        }
-        match &mut self.local {
-            None => {}
-            Some(local) => local.remove(name),
+        match variable.scope {
+            Scope::Global => remove(&mut self.globals, variable.name),
+            Scope::Procedure => match &mut self.local {
+                None => {},
+                Some(local) => local.remove(variable.name),
+            },
         }
     }
 

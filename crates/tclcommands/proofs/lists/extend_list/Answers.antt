@@ -9,6 +9,7 @@ use Rattle.tclrules.proofs.Leading.{continue_with, starve}
 use Rattle.tclsubstitution.proofs.Leading.{given_on}
 use Rattle.tclvariables.proofs.Stores.{written}
 use Rattle.tclcommands.proofs.ListTexts.{held, read_again}
+use Rattle.tclvariables.specs.Locations.{scalar_view}
 use Rattle.tclcommands.proofs.lists.extend_list.Goals as goal
 
 pub returns-in_err-text : goal.returns-in_err-text
@@ -18,7 +19,7 @@ returns-in_err-text c =
 
 pub of_list-requires : goal.of_list-requires
 of_list-requires c =
-    let p : Bool × Text = (c.args.global, c.args.name.now) in
+    let p : Bool × Text = scalar_view c.args.variable in
     let l = held c.args.variables.now p c.requires.list in
     (l.0 ++ map string_bytes c.args.values.now, c.in_ok-text.ensures l.0 (c.take_text-old.ensures.value ∙ l.1))
 
@@ -28,7 +29,7 @@ put_at-requires c = search rules
 pub returns-in_err-put_at : goal.returns-in_err-put_at
 returns-in_err-put_at c =
     let q = err_from_is_err_and c.from_residual-in_err-put_at.result c.from_residual-in_err-put_at.ensures.1 in
-    let p : Bool × Text = (c.args.global, c.args.name.now) in
+    let p : Bool × Text = scalar_view c.args.variable in
     let l = held c.args.variables.now p c.requires.list in
     let xs = map string_bytes c.args.values.now in
     let t = c.of_list.ensures ∙ c.in_ok-text.ensures l.0 (c.take_text-old.ensures.value ∙ l.1) in
@@ -39,7 +40,7 @@ returns-in_err-put_at c =
 
 pub returns : goal.returns
 returns c =
-    let p : Bool × Text = (c.args.global, c.args.name.now) in
+    let p : Bool × Text = scalar_view c.args.variable in
     let l = held c.args.variables.now p c.requires.list in
     let xs = map string_bytes c.args.values.now in
     let t = c.of_list.ensures ∙ c.in_ok-text.ensures l.0 (c.take_text-old.ensures.value ∙ l.1) in

@@ -5,10 +5,8 @@ use Rattle.tclrules.specs.Variables.{value_at}
 use Rattle.tclrules.proofs.Leading.{continue_with}
 use Rattle.tclsubstitution.proofs.Leading.{given_stops, given_on}
 use Rattle.tclvariables.proofs.Stores.{written}
+use Rattle.tclvariables.specs.Locations.{scalar_view}
 use Rattle.tclcommands.proofs.lists.rewrite_list.Goals as goal
-
-pub value_or-requires-text-name : goal.value_or-requires-text-name
-value_or-requires-text-name c = search rules
 
 pub lengthened-requires-text-list : goal.lengthened-requires-text-list
 lengthened-requires-text-list c = search rules
@@ -33,7 +31,7 @@ returns-in_err-put_at c =
 
 pub returns : goal.returns
 returns c =
-    let p : Bool × Text = (c.args.global, c.args.name.now) in
+    let p : Bool × Text = scalar_view c.args.variable in
     let h = rw c.value_or.ensures at c.in_ok-text.ensures.text in
     let w = ap (λ s. value_at s p) c.in_ok-put_at.ensures.written ∙ written c.args.variables.now c.requires.0 p c.of_list.result c.requires.1 in
     λ most remaining r k x. rw w (continue_with (given_on _ _ _ _ h) (rw (← c.of_list.ensures) (c.in_ok-put_at.ensures.continues most remaining r k x)))

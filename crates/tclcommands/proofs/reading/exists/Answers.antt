@@ -5,9 +5,6 @@ use Rattle.tclsubstitution.proofs.Leading.{given_stops, given_on}
 use Rattle.tclcommands.proofs.Insides.{seen}
 use Rattle.tclcommands.proofs.reading.exists.Goals as goal
 
-pub is_set-requires-text-name : goal.is_set-requires-text-name
-is_set-requires-text-name g c = search rules
-
 pub read_env-requires-text-name : goal.read_env-requires-text-name
 read_env-requires-text-name g c = search rules
 
@@ -21,21 +18,21 @@ returns-in-Scalar g c =
     let e = rw c.in-Scalar.is at c.in_ok-location.ensures in
     λ most used b r k. rw (c.truth.ensures c.args.variables.now, ← c.is_set.ensures k) (given_on _ _ _ _ e)
 
-pub returns-in_err-value-in-Element : goal.returns-in_err-value-in-Element
-returns-in_err-value-in-Element g c =
-    let p = err_from_is_err_and c.from_residual-in_err-value-in-Element.result c.from_residual-in_err-value-in-Element.ensures.1 in
-    let e = rw (c.in-Element.is, c.if-global.true) at c.in_ok-location.ensures in
-    let h = c.in_err-value-in-Element.ensures in
+pub returns-in_err-value-in-Global : goal.returns-in_err-value-in-Global
+returns-in_err-value-in-Global g c =
+    let p = err_from_is_err_and c.from_residual-in_err-value-in-Global.result c.from_residual-in_err-value-in-Global.ensures.1 in
+    let e = rw (c.in-Element.is, c.in-Global.is) at c.in_ok-location.ensures in
+    let h = c.in_err-value-in-Global.ensures in
     rw (p.1, p.2) (λ most used b r k. continue_with (given_on _ _ _ _ e) (want h.answer.0 h.answer.1 h.same))
 
-pub returns-then-global : goal.returns-then-global
-returns-then-global g c =
-    let e = rw (c.in-Element.is, c.if-global.true) at c.in_ok-location.ensures in
-    let h = c.in_ok-value-in-Element.ensures in
+pub returns-in_ok-value-in-Global : goal.returns-in_ok-value-in-Global
+returns-in_ok-value-in-Global g c =
+    let e = rw (c.in-Element.is, c.in-Global.is) at c.in_ok-location.ensures in
+    let h = c.in_ok-value-in-Global.ensures in
     let s = c.args.variables.now in
-    λ most used b r k. rw (c.truth-then-global.ensures s, ← seen s k c.in_ok-value-in-Element.value c.is_some.result c.is_some.ensures, h.answer.1) (continue_with (given_on _ _ _ _ e) (read_on h.answer.0 h.same))
+    λ most used b r k. rw (c.truth-in-Global.ensures s, ← seen s k c.in_ok-value-in-Global.value c.is_some.result c.is_some.ensures, h.answer.1) (continue_with (given_on _ _ _ _ e) (read_on h.answer.0 h.same))
 
-pub returns-else-global : goal.returns-else-global
-returns-else-global g c =
-    let e = rw (c.in-Element.is, c.if-global.false) at c.in_ok-location.ensures in
-    λ most used b r k. rw (c.truth-in-Element.ensures c.args.variables.now) (given_on _ _ _ _ e)
+pub returns-in-Procedure : goal.returns-in-Procedure
+returns-in-Procedure g c =
+    let e = rw (c.in-Element.is, c.in-Procedure.is) at c.in_ok-location.ensures in
+    λ most used b r k. rw (c.truth-in-Procedure.ensures c.args.variables.now) (given_on _ _ _ _ e)

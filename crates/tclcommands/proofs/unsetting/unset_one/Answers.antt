@@ -6,36 +6,31 @@ use Rattle.tclsubstitution.proofs.Leading.{reason_stops}
 use Rattle.tclchars.specs.Runs.{Text}
 use Rattle.tclrules.specs.Variables.{value_at}
 use Rattle.tclcommands.proofs.Insides.{unset_there, unset_absent}
+use Rattle.tclvariables.specs.Locations.{scalar_view}
 use Rattle.tclcommands.proofs.unsetting.unset_one.Goals as goal
 
-pub get-requires-text-name : goal.get-requires-text-name
-get-requires-text-name c = search rules
-
-pub unset-requires-text-name : goal.unset-requires-text-name
-unset-requires-text-name c = search rules
-
-pub returns-in_err-global : goal.returns-in_err-global
-returns-in_err-global c =
+pub returns-in_err-variable : goal.returns-in_err-variable
+returns-in_err-variable c =
     let p = err_from_is_err_and c.from_residual.result c.from_residual.ensures.1 in
-    rw (p.1, p.2) (λ most r k x. given_stops _ _ _ _ c.in_err-global.ensures)
+    rw (p.1, p.2) (λ most r k x. given_stops _ _ _ _ c.in_err-variable.ensures)
 
 pub returns-then-is_some : goal.returns-then-is_some
 returns-then-is_some c =
-    let p : Bool × Text = (c.in_ok-global.global, c.in_ok-global.location.now) in
+    let p = scalar_view c.in_ok-variable.variable in
     let s = c.args.variables.now in
     let v : is_some (value_at s p) ≡ true = search rules in
-    λ most r k x. rw (c.unset.ensures, ← unset_there c.args.quiet c.args.name.now s p k (value_at s p) v) (given_on _ _ _ _ c.in_ok-global.ensures)
+    λ most r k x. rw (c.unset.ensures, ← unset_there c.args.quiet c.args.name.now s p k (value_at s p) v) (given_on _ _ _ _ c.in_ok-variable.ensures)
 
 pub returns-then-quiet : goal.returns-then-quiet
 returns-then-quiet c =
-    let p : Bool × Text = (c.in_ok-global.global, c.in_ok-global.location.now) in
+    let p = scalar_view c.in_ok-variable.variable in
     let s = c.args.variables.now in
     let v : is_some (value_at s p) ≡ false = search rules in
-    λ most r k x. rw (c.if-quiet.true, ← (unset_absent c.args.name.now s p k (value_at s p) v).0) (given_on _ _ _ _ c.in_ok-global.ensures)
+    λ most r k x. rw (c.if-quiet.true, ← (unset_absent c.args.name.now s p k (value_at s p) v).0) (given_on _ _ _ _ c.in_ok-variable.ensures)
 
 pub returns : goal.returns
 returns c =
-    let p : Bool × Text = (c.in_ok-global.global, c.in_ok-global.location.now) in
+    let p = scalar_view c.in_ok-variable.variable in
     let s = c.args.variables.now in
     let v : is_some (value_at s p) ≡ false = search rules in
-    λ most r k x. rw (c.if-quiet.false, c.from.ensures) (continue_with (given_on _ _ _ _ c.in_ok-global.ensures) (rw ((unset_absent c.args.name.now s p k (value_at s p) v).1) (reason_stops _ _ _ c.cannot_unset.ensures)))
+    λ most r k x. rw (c.if-quiet.false, c.from.ensures) (continue_with (given_on _ _ _ _ c.in_ok-variable.ensures) (rw ((unset_absent c.args.name.now s p k (value_at s p) v).1) (reason_stops _ _ _ c.cannot_unset.ensures)))

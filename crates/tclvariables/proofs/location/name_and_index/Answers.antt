@@ -9,10 +9,10 @@ pub returns-in-None : goal.returns-in-None
 returns-in-None c =
     let s = c.in-Some.ensures.cases in
     let e : c.args.name.now ≡ c.in-Some.inside.now ++ 41 ∷ [] = s.1.1 ∙ ap (λ t. t ++ 41 ∷ []) (sym s.2) in
-    apart_whole _ _ e (rw c.split_array.ensures.rest at c.in-None.ensures)
+    apart_whole _ _ e c.in-None.ensures.cases
 
-pub returns-in-Some-after_mark : goal.returns-in-Some-after_mark
-returns-in-Some-after_mark c =
+pub returns-in-Some-split_once : goal.returns-in-Some-split_once
+returns-in-Some-split_once c =
     let s = c.in-Some.ensures.cases in
     let e : c.args.name.now ≡ c.in-Some.inside.now ++ 41 ∷ [] = s.1.1 ∙ ap (λ t. t ++ 41 ∷ []) (sym s.2) in
-    rw c.split_array.ensures.array (apart_at _ _ _ e (sym c.split_array.ensures.rest ∙ c.in-Some-after_mark.ensures))
+    apart_at _ _ c.in-Some-split_once.array c.in-Some-split_once.index e c.in-Some-split_once.ensures.cases

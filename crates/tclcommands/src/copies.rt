@@ -1,0 +1,20 @@
+//! Copies of words.
+ghost use Rattle.std.specs.Prelude.{◌≡◌, ◌++◌, IfOk, map, string_bytes};
+
+use std::alloc::{AllocError, Global};
+
+/// Texts, and copies of others after them.
+pub(crate) fn with_copies(
+    alloc: Global,
+    texts: Vec<String>,
+    others: &[String],
+) -> Result<Vec<String>, AllocError>
+    ensures { IfOk result (λ v. map string_bytes v.items
+        ≡ map string_bytes texts.items ++ map string_bytes others.now) }
+{
+    let mut texts = texts;
+    for text in others {
+        texts.push(String::from_str(alloc, text)?)?;
+    }
+    Ok(texts)
+}
