@@ -45,8 +45,10 @@ InEachPair agrees P = (files : Files) (listings : Listings) → agrees files lis
 abbrev pub Narrows : (Files → Listings → Type 0) → (Files → Listings → Type 0) → Type 0
 Narrows before now = InEachPair now (λ files listings. before files listings)
 
--- What a call that reads a tree keeps: the tree stands for no more file systems than before, and no failure is forgotten.
-pub record ReadsOn {T : Type 0} (agrees : T → Files → Listings → Type 0) (failures : T → ℕ) (old new : T) : Type 0 where
+-- What a call that reads a tree keeps: the tree stands for no more file systems than before, and no failure is
+-- forgotten.
+pub record ReadsOn {T : Type 0} (agrees : T → Files → Listings → Type 0) (failures : T → ℕ) (old new : T)
+    : Type 0 where
   pub narrows : Narrows (agrees old) (agrees new)
   pub later : failures old ≤ failures new
 
@@ -55,7 +57,7 @@ abbrev pub IsSatisfiable : (Files → Listings → Type 0) → Type 0
 IsSatisfiable agrees = (files : Files) × (listings : Listings) × agrees files listings
 
 -- By the counts of failures before and after a call: it answers `Device` only where the device failed in it.
-pub record HasCause {T : Type 0} (before now : ℕ) (result : Result T TreeFault) : Type 0 where
+pub record FailsOnlyByDevice {T : Type 0} (before now : ℕ) (result : Result T TreeFault) : Type 0 where
   pub later : before ≤ now
   pub device : IsErrOf result Device → before < now
 
@@ -81,6 +83,13 @@ abbrev pub FailsAt : {T E : Type 0} → (E → Bool) → (List ℕ → Bool) →
     (List ℕ → Type 0) → Type 0
 FailsAt is_failure before now (Ok x) Where = now ≡ before
 FailsAt is_failure before now (Err e) Where = FailsIf (is_failure e) before now Where
+
+-- Such a call failed at a path that it looks at, by each pair of maps that agrees with the tree after it.
+abbrev pub FailsWhere : {T X E : Type 0} → (E → Bool) → (T → Files → Listings → Type 0) → (T → List ℕ → Bool) → T → T
+    → Result X E → (Files → Listings → List ℕ → Type 0) → Type 0
+FailsWhere is_failure agrees failed old new result LooksAt =
+    FailsAt is_failure (failed old) (failed new) result (λ at.
+    InEachPair (agrees new) (λ files listings. LooksAt files listings at))
 
 -- the number of each fault
 abbrev pub tree_number : TreeFault → ℕ

@@ -2,35 +2,36 @@
 use Rattle.std.specs.Prelude.{ℕ, codes, string_bytes}
 use Rattle.modulename.specs.ModuleName.{Text}
 use Rattle.message.specs.Messages.{quoting}
-use Rattle.filetree.specs.Modulefiles.{Held, absent, no_cookie, not_utf8, script}
-use Rattle.filetree.specs.declared.modulefile.Modulefile.{Modulefile}
-use Rattle.filetree.specs.declared.modulefile.Modulefile.TheVariants.{Absent, NoCookie, NotUtf8, Script}
+use Rattle.filetree.specs.Agreement.{tree_number, tree_message}
+use Rattle.filetree.specs.Modulefiles.{FileContent, absent, no_cookie, not_utf8, script}
+use Rattle.filetree.specs.declared.modulefile.FileContent as content
+use Rattle.filetree.specs.declared.modulefile.FileContent.TheVariants.{Absent, NoCookie, NotUtf8, Script}
 use Rattle.filetree.specs.declared.find_fault.FindFault.{FindFault}
 use Rattle.filetree.specs.declared.find_fault.FindFault.TheVariants as fault
 use Rattle.filetree.specs.declared.tree.TreeFault.{TreeFault}
 use Rattle.filetree.specs.declared.tree.TreeFault.TheVariants as tree_fault
 
 -- what a path holds
-abbrev pub modulefile_view : Modulefile → Held
-modulefile_view Absent = absent
-modulefile_view NoCookie = no_cookie
-modulefile_view NotUtf8 = not_utf8
-modulefile_view (Script text) = script (string_bytes text)
+abbrev pub file_content_view : content.FileContent → FileContent
+file_content_view Absent = absent
+file_content_view NoCookie = no_cookie
+file_content_view NotUtf8 = not_utf8
+file_content_view (Script text) = script (string_bytes text)
 
 -- the number of each fault of a search
 abbrev pub find_number : FindFault → ℕ
-find_number fault.OutOfMemory = 41
+find_number fault.OutOfMemory = tree_number tree_fault.OutOfMemory
 find_number (fault.NotFound name) = 42
-find_number fault.Device = 43
+find_number fault.Device = tree_number tree_fault.Device
 find_number (fault.BadName name) = 44
 find_number (fault.BadDefaultFile path) = 45
 find_number (fault.NotUtf8 path) = 46
 
 -- the message of each fault of a search
 abbrev pub find_message : FindFault → Text
-find_message fault.OutOfMemory = codes "Out of memory"
+find_message fault.OutOfMemory = tree_message tree_fault.OutOfMemory
 find_message (fault.NotFound name) = quoting (codes "Unable to locate a modulefile for '") (string_bytes name)
-find_message fault.Device = codes "Reading failed"
+find_message fault.Device = tree_message tree_fault.Device
 find_message (fault.BadName name) = quoting (codes "Bad module name '") (string_bytes name)
 find_message (fault.BadDefaultFile path) = quoting (codes "Bad default file '") (string_bytes path)
 find_message (fault.NotUtf8 path) = quoting (codes "Not UTF-8: '") (string_bytes path)

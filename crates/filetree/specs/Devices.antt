@@ -27,9 +27,9 @@ fault_of_kind _ = fault.Device
 
 -- What is at a path by the system's answer: something where the answer shows something, nothing where the path names
 -- nothing, else a fault.
-abbrev pub Finds : {X : Type 0} → Result X Error → Result PathKind TreeFault → Type 0
-Finds (Ok found) looked = IsOkAnd looked (λ path_kind. path_kind ≢ path_kinds.Nothing)
-Finds (Err e) looked =
+abbrev pub ShowsKind : {X : Type 0} → Result X Error → Result PathKind TreeFault → Type 0
+ShowsKind (Ok found) looked = IsOkAnd looked (λ path_kind. path_kind ≢ path_kinds.Nothing)
+ShowsKind (Err e) looked =
     looked ≡ (if is_absence (error_kind e) then Ok path_kinds.Nothing else Err (fault_of_kind (error_kind e)))
 
 -- a regular file

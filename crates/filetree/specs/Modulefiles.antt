@@ -10,20 +10,20 @@ cookie = codes "#%Module"
 
 -- what a path holds as a modulefile: no file; a file without the cookie; a file with the cookie that is not
 -- UTF-8; or a script
-pub data Held : Type 0 where
-  absent : Held
-  no_cookie : Held
-  not_utf8 : Held
-  script : Text → Held
+pub data FileContent : Type 0 where
+  absent : FileContent
+  no_cookie : FileContent
+  not_utf8 : FileContent
+  script : Text → FileContent
 
 -- by the file at a path; a missing cookie is judged before bytes that are not UTF-8
-abbrev pub modulefile : Option (List ℕ) → Held
+abbrev pub modulefile : Option (List ℕ) → FileContent
 modulefile None = absent
 modulefile (Some bytes) =
     if starts_with nat_eq bytes cookie then (if is_text bytes then script bytes else not_utf8) else no_cookie
 
 -- a file with the cookie is a module, UTF-8 or not
-abbrev pub is_module : Held → Bool
+abbrev pub is_module : FileContent → Bool
 is_module absent = false
 is_module no_cookie = false
 is_module not_utf8 = true

@@ -1,7 +1,7 @@
 //! The tree over a real disk, which caches each answer and gives it again.
 ghost use Rattle.std.specs.Prelude.{◌≡◌, ◌+◌, if◌then◌else◌, ℕ, List, map, None, Some, Option, IfOk, IfSome, is_some, string_bytes, vec_len};
 ghost use Rattle.std.specs.BTreeMap.{get_by_text};
-ghost use Rattle.filetree.specs.Agreement.{HaveSamePrefix, FailsAt, FailsIf, Files, HasCause, InEachPair, Listings, Narrows, begins_with, file_answer, is_device, listing_answer};
+ghost use Rattle.filetree.specs.Agreement.{HaveSamePrefix, FailsAt, FailsIf, Files, FailsOnlyByDevice, InEachPair, Listings, Narrows, begins_with, file_answer, is_device, listing_answer};
 ghost use Rattle.filetree.specs.Disk.{file_at, has_failed, cached-file, cached-prefix, cached-listing, listing_at};
 ghost use Rattle.filetree.specs.Devices.{is_directory, is_file};
 
@@ -89,10 +89,7 @@ fn load_listing<R: Files + AllocGlobal + Clone + Drop>(
 fn copy_file(answer: &Option<Vec<u8>>) -> Result<Option<Vec<u8>>, AllocError>
     ensures { IfOk result (λ copy. file_answer copy ≡ file_answer answer.now) }
 {
-    match answer {
-        None => Ok(None),
-        Some(bytes) => Ok(Some(bytes.clone()?)),
-    }
+    answer.clone()
 }
 
 /// A copy of an answer of `entries`.
@@ -154,7 +151,7 @@ impl<R: Files + AllocGlobal + Clone + Drop> DiskTree<R> {
         ensures cached { IfOk result (λ path_kind. get_by_text self.new.path_kinds path.now ≡ Some path_kind) }
         ensures failed { FailsAt is_device (has_failed self.old.failed)
             (has_failed self.new.failed) result (λ at. at ≡ path.now) }
-        ensures cause { HasCause (vec_len self.old.failed) (vec_len self.new.failed) result }
+        ensures cause { FailsOnlyByDevice (vec_len self.old.failed) (vec_len self.new.failed) result }
     {
         if let Some(path_kind) = self.path_kinds.get(path) {
             return Ok(*path_kind);
@@ -195,7 +192,7 @@ impl<R: Files + AllocGlobal + Clone + Drop> DiskTree<R> {
             (λ files listings. begins_with prefix.now (files path.now) ≡ answer)) }
         ensures failed { FailsAt is_device (has_failed self.old.failed)
             (has_failed self.new.failed) result (λ at. at ≡ path.now) }
-        ensures cause { HasCause (vec_len self.old.failed) (vec_len self.new.failed) result }
+        ensures cause { FailsOnlyByDevice (vec_len self.old.failed) (vec_len self.new.failed) result }
     {
         let path_kind = self.path_kind_at(path)?;
         let key = String::from_str(self.rt.alloc(), path)?;
@@ -217,7 +214,7 @@ impl<R: Files + AllocGlobal + Clone + Drop> DiskTree<R> {
             (λ files listings. begins_with prefix.now (files path.now) ≡ answer)) }
         ensures failed { FailsAt is_device (has_failed self.old.failed)
             (has_failed self.new.failed) result (λ at. at ≡ path.now) }
-        ensures cause { HasCause (vec_len self.old.failed) (vec_len self.new.failed) result }
+        ensures cause { FailsOnlyByDevice (vec_len self.old.failed) (vec_len self.new.failed) result }
     {
         let answer = self.read(path)?;
         Ok(begins(&answer, prefix))

@@ -1,4 +1,5 @@
-//! Why a search finds no module: the faults 41 to 46, with their numbers and messages.
+//! Why a search finds no module: the faults 41 to 46, with their numbers and messages. They stand below the search,
+//! since the reading of a recorded modulefile by its path, which isn't searched for, has these faults too.
 ghost use Rattle.std.specs.Prelude.{◌≡◌, Some};
 ghost use Rattle.filetree.specs.declared.find_fault.FindFault.TheVariants.{OutOfMemory};
 ghost use Rattle.message.specs.Messages.{text_of};
@@ -34,9 +35,9 @@ impl FindFault {
         ensures { result ≡ find_number self.now }
     {
         match self {
-            FindFault::OutOfMemory => 41,
+            FindFault::OutOfMemory => TreeFault::OutOfMemory.number(),
             FindFault::NotFound(_) => 42,
-            FindFault::Device => 43,
+            FindFault::Device => TreeFault::Device.number(),
             FindFault::BadName(_) => 44,
             FindFault::BadDefaultFile(_) => 45,
             FindFault::NotUtf8(_) => 46,
@@ -48,11 +49,11 @@ impl FindFault {
         ensures { text_of result ≡ find_message self.now }
     {
         match self {
-            FindFault::OutOfMemory => Message::of_text("Out of memory"),
+            FindFault::OutOfMemory => TreeFault::OutOfMemory.message(),
             FindFault::NotFound(name) => {
                 Message::quoting("Unable to locate a modulefile for '", name.as_str())
             }
-            FindFault::Device => Message::of_text("Reading failed"),
+            FindFault::Device => TreeFault::Device.message(),
             FindFault::BadName(name) => Message::quoting("Bad module name '", name.as_str()),
             FindFault::BadDefaultFile(path) => Message::quoting(
                 "Bad default file '",

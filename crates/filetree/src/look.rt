@@ -2,7 +2,7 @@
 ghost use Rattle.std.specs.Prelude.{◌≡◌, ◌≢◌, ◌↔◌, true, Ok};
 ghost use Rattle.std.specs.Fs.{IsDir, IsFile, file_type};
 ghost use Rattle.std.specs.IoError.{error_kind};
-ghost use Rattle.filetree.specs.Devices.{Finds, fault_of_kind, has_nul, is_absence};
+ghost use Rattle.filetree.specs.Devices.{ShowsKind, fault_of_kind, has_nul, is_absence};
 
 use crate::tree::TreeFault;
 use std::io::ErrorKind;
@@ -22,21 +22,14 @@ pub(crate) enum PathKind {
     Other,
 }
 
-/// The fault of an error of the system: any error but one of memory is the device's.
-fn fault_of(e: &io::Error) -> TreeFault
-    ensures { result ≡ fault_of_kind (error_kind e.now) }
-{
-    match e.kind() {
-        ErrorKind::OutOfMemory => TreeFault::OutOfMemory,
-        _ => TreeFault::Device,
-    }
-}
-
 impl From<io::Error> for TreeFault {
     ghost from_gives = { λ e fault. fault ≡ fault_of_kind (error_kind e) };
 
     fn from(e: io::Error) -> TreeFault {
-        fault_of(&e)
+        match e.kind() {
+            ErrorKind::OutOfMemory => TreeFault::OutOfMemory,
+            _ => TreeFault::Device,
+        }
     }
 }
 
@@ -44,11 +37,7 @@ impl From<io::Error> for TreeFault {
 fn is_absence(e: &io::Error) -> bool
     ensures { result ≡ is_absence (error_kind e.now) }
 {
-    match e.kind() {
-        ErrorKind::NotFound => true,
-        ErrorKind::NotADirectory => true,
-        _ => false,
-    }
+    matches!(e.kind(), ErrorKind::NotFound | ErrorKind::NotADirectory)
 }
 
 /// What the system's metadata say is at a path.
@@ -68,17 +57,12 @@ fn path_kind_of(found: &fs::Metadata) -> PathKind
 
 /// What the system's answer says is at a path, or the fault that it is.
 fn found(answer: io::Result<fs::Metadata>) -> Result<PathKind, TreeFault>
-    ensures { Finds answer result }
+    ensures { ShowsKind answer result }
 {
     match answer {
         Ok(found) => Ok(path_kind_of(&found)),
-        Err(e) => {
-            if is_absence(&e) {
-                Ok(PathKind::Nothing)
-            } else {
-                Err(fault_of(&e))
-            }
-        }
+        Err(e) if is_absence(&e) => Ok(PathKind::Nothing),
+        Err(e) => Err(TreeFault::from(e)),
     }
 }
 

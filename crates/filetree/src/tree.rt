@@ -2,7 +2,7 @@
 ghost use Rattle.std.specs.Prelude.{◌≡◌, ℕ, Bool, true, List, Some, IfOk};
 ghost use Rattle.filetree.specs.declared.tree.TreeFault.TheVariants.{OutOfMemory};
 ghost use Rattle.message.specs.Messages.{text_of};
-ghost use Rattle.filetree.specs.Agreement.{FailsAt, Files, Listings, InEachPair, HasCause, IsSatisfiable, begins_with, file_answer, is_device, listing_answer, tree_message, tree_number, Narrows};
+ghost use Rattle.filetree.specs.Agreement.{FailsAt, Files, Listings, InEachPair, FailsOnlyByDevice, IsSatisfiable, begins_with, file_answer, is_device, listing_answer, tree_message, tree_number, Narrows};
 
 use message::Message;
 use std::alloc::{AllocError, AllocFailed};
@@ -89,7 +89,7 @@ pub trait Tree {
         ensures narrows { Narrows (agrees self.old) (agrees self.new) }
         ensures answer { IfOk result (λ answer.
             InEachPair (agrees self.new) (λ files listings. files path.now ≡ file_answer answer)) }
-        ensures cause { HasCause (failures self.old) (failures self.new) result }
+        ensures cause { FailsOnlyByDevice (failures self.old) (failures self.new) result }
         ensures failed { FailsAt is_device (failed self.old) (failed self.new) result (λ at. at ≡ path.now) };
 
     /// Whether a file is at the path that begins with these bytes. A tree may read no more of the file than that.
@@ -99,7 +99,7 @@ pub trait Tree {
         ensures narrows { Narrows (agrees self.old) (agrees self.new) }
         ensures answer { IfOk result (λ answer.
             InEachPair (agrees self.new) (λ files listings. begins_with prefix.now (files path.now) ≡ answer)) }
-        ensures cause { HasCause (failures self.old) (failures self.new) result }
+        ensures cause { FailsOnlyByDevice (failures self.old) (failures self.new) result }
         ensures failed { FailsAt is_device (failed self.old) (failed self.new) result (λ at. at ≡ path.now) }
     {
         match self.read(path)? {
@@ -115,7 +115,7 @@ pub trait Tree {
         ensures narrows { Narrows (agrees self.old) (agrees self.new) }
         ensures answer { IfOk result (λ answer.
             InEachPair (agrees self.new) (λ files listings. listings dir.now ≡ listing_answer answer)) }
-        ensures cause { HasCause (failures self.old) (failures self.new) result }
+        ensures cause { FailsOnlyByDevice (failures self.old) (failures self.new) result }
         ensures failed { FailsAt is_device (failed self.old) (failed self.new) result (λ at. at ≡ dir.now) };
 
     /// With each tree some pair of maps agrees.

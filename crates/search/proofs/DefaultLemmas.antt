@@ -6,7 +6,7 @@ use Rattle.modulename.specs.ModuleName.{Text, slash, parts}
 use Rattle.filetree.specs.Agreement.{Files, Listings}
 use Rattle.filetree.specs.Modulefiles.{path_of}
 use Rattle.search.specs.Single.{is_single}
-use Rattle.search.specs.Reasons.{Reason}
+use Rattle.search.specs.Reasons.{FindReason}
 use Rattle.search.specs.DefaultFiles.{DefaultFileResult}
 use Rattle.search.specs.Found.{NamedDefault}
 use Rattle.search.specs.Listed.{IsNamed}
@@ -21,7 +21,7 @@ cancel (b ∷ bs) xs ys h = cancel bs xs ys (cc)
 same_version : (prefix v w : Text) → path_of prefix v ≡ path_of prefix w → v ≡ w
 same_version prefix v w h = let e : slash ∷ v ≡ slash ∷ w = cancel prefix (slash ∷ v) (slash ∷ w) h in cc
 
-same_named : (v w : Text) (o p : Result (Option Text) Reason) → o ≡ Ok (Some v) → p ≡ Ok (Some w) → o ≡ p → v ≡ w
+same_named : (v w : Text) (o p : Result (Option Text) FindReason) → o ≡ Ok (Some v) → p ≡ Ok (Some w) → o ≡ p → v ≡ w
 same_named v w o p h k e = cc
 
 module _ (results : Text → Text → Option DefaultFileResult → Type 0) (law : (path text : Text) (o p : Option DefaultFileResult) → results path text o → results path text p → o ≡ p)
@@ -56,7 +56,7 @@ module _ (results : Text → Text → Option DefaultFileResult → Type 0) (law 
           let q : version ≡ e = same_named version e (Ok (Some version)) (Ok (Some e)) refl refl same in
           (bytes_eq-Decides default (path_of prefix e)).1 (is ∙ ap (path_of prefix) q)
 
-  pub default_nothing : (prefix : Text) (o : Result (Option Text) Reason) → NamedDefault results files folders dir prefix o → ((v : Text) → o ≡ Ok (Some v) → ⊥)
+  pub default_nothing : (prefix : Text) (o : Result (Option Text) FindReason) → NamedDefault results files folders dir prefix o → ((v : Text) → o ≡ Ok (Some v) → ⊥)
       → IsDefaultOf results files folders dir (Some prefix) None
   default_nothing prefix o named none e s =
       (λ q. absurd (cc), λ n. absurd (none e (one_named results law files folders dir prefix o (Ok (Some e)) named (named_below prefix e s n))))

@@ -20,13 +20,10 @@ use Rattle.filetree.specs.Agreement.{Files, Listings}
 use Rattle.search.specs.DefaultFiles.{DefaultFileResult}
 use Rattle.search.specs.Listed as listed
 use Rattle.search.specs.Listed.{ReachesThrough, IsBelow, IsNamed, IsListing, names_of, is_marked}
-use Rattle.search.proofs.VersionLemmas.{has}
+use Rattle.search.proofs.VersionLemmas.{has, same}
 use Rattle.search.specs.BelowFolder.{IsUnder, IsMarkRight, AreListingEntries}
 use Rattle.search.specs.ListingEntries.{listing_entry_view, name_of, goes_before, is_same_name}
 use Rattle.search.specs.declared.listing_entries.ListingEntry.{ListingEntry}
-
-same : (x y : Text) → bytes_eq x y ≡ true → x ≡ y
-same x y = (bytes_eq-Decides x y).0
 
 alike : (b c : Bool) → (b ≡ true → c ≡ true) → (c ≡ true → b ≡ true) → b ≡ c
 alike true c f g = sym (f refl)

@@ -1,5 +1,5 @@
 -- The paths that the listing of a folder looks at, and the names that are reached by entries.
-use Rattle.std.proofs.Common.{◌≡◌, ◌≤◌, ◌-◌, ℕ, Bool, true, false, nat_eq, List, [], ◌∷◌, ◌++◌, length, get_or, map, take, drop, filter, Option, Some, None, refl, sym, ap, ◌∙◌, subst, inl, inr}
+use Rattle.std.proofs.Common.{◌≡◌, ℕ, Bool, true, false, nat_eq, List, [], ◌∷◌, ◌++◌, length, map, filter, Option, Some, None, refl, sym, ap, ◌∙◌, subst, inl, inr}
 use Rattle.std.specs.Prelude.{bytes_eq}
 use Rattle.std.specs.List.{join_with_byte}
 use Rattle.std.proofs.lemmas.Bool.{or_left, or_right}
@@ -13,7 +13,7 @@ use Rattle.search.specs.DefaultFiles.{DefaultFileResult}
 use Rattle.search.specs.Found.{HasEntry}
 use Rattle.search.specs.Listed.{ReachesThrough, IsBelow}
 use Rattle.search.specs.Looked.{IsReached}
-use Rattle.search.proofs.VersionLemmas.{has, in_filter, split_first}
+use Rattle.search.proofs.VersionLemmas.{has, in_filter}
 use Rattle.search.specs.BelowFolder.{folder_path, name_below, names_in, is_module_below, LooksAmong, LooksForDefault, IsFolderOf, LooksFromFolder}
 use Rattle.search.proofs.PartLemmas.{parts-single, parts-path, parts-some, path-assoc}
 use Rattle.search.proofs.UnderLemmas.{name_from}
@@ -79,16 +79,13 @@ module _ (results : Text → Text → Option DefaultFileResult → Type 0) (file
       let here = name_reached folders dir (Some f) entries listed m h folder in
       inr (inr (f, (r.0, r.3, subst (IsBelow files folders dir) r.1 (record { spelled = here.spelled; reaches = here.reaches; file = p.1 })), l))
 
--- the first of what remains, and the rest
-module _ {X : Type 0} (view : X → Text) (d : X) (rest : List X) (some : 1 ≤ length rest) where
-  pub first_has : has (view (get_or rest 0 d)) (map view rest) ≡ true
-  first_has =
-      let first = view (get_or rest 0 d) in
-      ap (has first) (split_first view d rest some) ∙ or_left (bytes_eq first first) (has first (map view (take (length rest - 1) (drop 1 rest)))) ((bytes_eq-Decides first first).1 refl)
+-- the first of some texts, and those after it
+module _ (first : Text) (after rest : List Text) (split : rest ≡ first ∷ after) where
+  pub first_has : has first rest ≡ true
+  first_has = ap (has first) split ∙ or_left (bytes_eq first first) (has first after) ((bytes_eq-Decides first first).1 refl)
 
-  pub later_has : (n : Text) → has n (map view (take (length rest - 1) (drop 1 rest))) ≡ true → has n (map view rest) ≡ true
-  later_has n h =
-      ap (has n) (split_first view d rest some) ∙ or_right (bytes_eq n (view (get_or rest 0 d))) (has n (map view (take (length rest - 1) (drop 1 rest)))) h
+  pub later_has : (n : Text) → has n after ≡ true → has n rest ≡ true
+  later_has n h = ap (has n) split ∙ or_right (bytes_eq n first) (has n after) h
 
 -- what has a length has a first
 pub some_seen : {X : Type 0} (view : X → Text) (xs : List X) (n : ℕ) (b : Bool) → n ≡ length xs → b ≡ nat_eq n 0 → b ≡ false → map view xs ≡ [] → ⊥

@@ -1,21 +1,20 @@
 -- The paths that the steps of a search look at.
-use Rattle.std.proofs.Common.{◌≡◌, ◌≤◌, ◌-◌, true, List, length, get_or, map, take, drop, Option, Some, None, Result, Ok, Err, inl, inr, refl, sym, ap, subst}
+use Rattle.std.proofs.Common.{◌≡◌, true, List, ◌∷◌, Option, Some, None, Result, Ok, Err, inl, inr, refl, sym, ap, subst}
 use Rattle.std.specs.Prelude.{codes}
 use Rattle.modulename.specs.ModuleName.{Text}
 use Rattle.filetree.specs.Agreement.{Files, Listings}
-use Rattle.filetree.specs.Modulefiles.{Held, absent, no_cookie, not_utf8, script, modulefile, is_module, path_of}
+use Rattle.filetree.specs.Modulefiles.{FileContent, absent, no_cookie, not_utf8, script, modulefile, is_module, path_of}
 use Rattle.search.specs.DefaultFiles.{DefaultFileResult, VersionIn, Names, by_command, by_variable}
 use Rattle.search.specs.Found.{IsModuleAt, IsCandidate, HasCandidates, IsSomeCandidate, NamedDefault, Default, default_file}
 use Rattle.search.specs.Looked.{IsVersionIn, LooksAtDefaultFile, LooksForNamed, LooksInFolder, LooksBelow, GivesModule, LooksAlong}
 use Rattle.search.specs.Steps.{module_in, module_at, DefaultIn, OfDefault, FoundBelow}
-use Rattle.search.proofs.VersionLemmas.{split_first}
 use Rattle.search.proofs.StepLemmas.{default_is_candidate}
 use Rattle.search.proofs.NamedLemmas.{same_value}
 
 some_value : {A R : Type 0} (x y : A) (o p : Result (Option A) R) → o ≡ Ok (Some x) → p ≡ Ok (Some y) → o ≡ p → x ≡ y
 some_value x y o p h k e = cc
 
-no_module : (name path : Text) (held : Held) → Ok None ≡ module_in name path held → is_module held ≡ true → ⊥
+no_module : (name path : Text) (held : FileContent) → Ok None ≡ module_in name path held → is_module held ≡ true → ⊥
 no_module name path absent e m = absurd (cc)
 no_module name path no_cookie e m = absurd (cc)
 no_module name path not_utf8 e m = absurd (cc)
@@ -75,12 +74,10 @@ module _ (results : Text → Text → Option DefaultFileResult → Type 0) (file
   gives_none (inr (other, (Ok v, d, of))) (inr some) = given_none v d of some
   gives_none (inr (other, (Err r, d, e))) gives = absurd (cc)
 
--- along the remaining directories, in the first of them or after it
-module _ (results : Text → Text → Option DefaultFileResult → Type 0) (files : Files) (listings : Listings) (name : Text) {X : Type 0} (view : X → Text) (d : X) (rest : List X) (some : 1 ≤ length rest) (at : Text) where
-  pub looks_here : LooksBelow results files listings (view (get_or rest 0 d)) name at → LooksAlong results files listings name (map view rest) at
-  looks_here h = subst (λ dirs. LooksAlong results files listings name dirs at) (sym (split_first view d rest some)) (inl h)
+-- along the directories from one on, in that one or after it
+module _ (results : Text → Text → Option DefaultFileResult → Type 0) (files : Files) (listings : Listings) (name first : Text) (after rest : List Text) (split : rest ≡ first ∷ after) (at : Text) where
+  pub looks_here : LooksBelow results files listings first name at → LooksAlong results files listings name rest at
+  looks_here h = subst (λ dirs. LooksAlong results files listings name dirs at) (sym split) (inl h)
 
-  pub looks_after : FoundBelow results files listings (view (get_or rest 0 d)) name (Ok None) → LooksAlong results files listings name (map view (take (length rest - 1) (drop 1 rest))) at
-      → LooksAlong results files listings name (map view rest) at
-  looks_after below h =
-      subst (λ dirs. LooksAlong results files listings name dirs at) (sym (split_first view d rest some)) (inr (gives_none results files listings (view (get_or rest 0 d)) name below, h))
+  pub looks_after : FoundBelow results files listings first name (Ok None) → LooksAlong results files listings name after at → LooksAlong results files listings name rest at
+  looks_after below h = subst (λ dirs. LooksAlong results files listings name dirs at) (sym split) (inr (gives_none results files listings first name below, h))

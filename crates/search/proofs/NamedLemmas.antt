@@ -2,7 +2,7 @@
 use Rattle.std.proofs.Common.{◌≡◌, Option, Some, None, Result, Ok, Err, inl, inr, refl, ⊎_elim, subst, sym}
 use Rattle.modulename.specs.ModuleName.{Text}
 use Rattle.filetree.specs.Agreement.{Files, Listings}
-use Rattle.search.specs.Reasons.{Reason}
+use Rattle.search.specs.Reasons.{FindReason}
 use Rattle.search.specs.DefaultFiles.{DefaultFileResult}
 use Rattle.search.specs.Found.{IsCandidate, IsSomeCandidate, NamedDefault}
 use Rattle.search.specs.Looked.{ModulercNamesNoCandidate}
@@ -24,7 +24,7 @@ modulerc_names_no_candidate results files listings dir name (Ok first, names, re
 modulerc_names_no_candidate results files listings dir name (Err r, names, rest) = absurd (cc)
 
 -- `.version` is asked where `.modulerc` names no candidate
-pub named_second : (results : Text → Text → Option DefaultFileResult → Type 0) (files : Files) (listings : Listings) (dir name : Text) (o : Result (Option Text) Reason)
+pub named_second : (results : Text → Text → Option DefaultFileResult → Type 0) (files : Files) (listings : Listings) (dir name : Text) (o : Result (Option Text) FindReason)
     → NamedBy results files listings dir name Modulerc (Ok None) → NamedBy results files listings dir name Version o → NamedDefault results files listings dir name o
 named_second results files listings dir name o first second =
     let p = modulerc_names_no_candidate results files listings dir name first in (Ok p.0, p.1, inr (p.2, second))

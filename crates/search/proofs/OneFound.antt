@@ -2,7 +2,7 @@
 use Rattle.std.proofs.Common.{◌≡◌, List, [], ◌∷◌, Option, Some, None, Ok, Err, ap, sym, ◌∙◌}
 use Rattle.modulename.specs.ModuleName.{Text, is_module_name}
 use Rattle.filetree.specs.Agreement.{Files, Listings}
-use Rattle.filetree.specs.Modulefiles.{Held, absent, no_cookie, not_utf8, script, modulefile, path_of, directories}
+use Rattle.filetree.specs.Modulefiles.{FileContent, absent, no_cookie, not_utf8, script, modulefile, path_of, directories}
 use Rattle.filetree.specs.Relations.{IsOne}
 use Rattle.filetree.proofs.OneOutcome.{one_is, one_then, one_if, one_where}
 use Rattle.search.specs.Reasons.{bad_name, bad_default, not_found}
@@ -11,7 +11,7 @@ use Rattle.search.specs.Found.{IsCandidate, NamedDefault, Greatest, NamedOrGreat
 use Rattle.modulename.proofs.OrderLemmas.{one_greatest}
 
 one_names_in : (results : Text → Text → Option DefaultFileResult → Type 0) → ((path text : Text) (o p : Option DefaultFileResult) → results path text o → results path text p → o ≡ p)
-    → (says : VersionIn) (path : Text) (held : Held) → IsOne (NamesIn results says path held)
+    → (says : VersionIn) (path : Text) (held : FileContent) → IsOne (NamesIn results says path held)
 one_names_in results law says path absent = one_is (Ok None)
 one_names_in results law says path no_cookie = one_is (Ok None)
 one_names_in results law says path not_utf8 = one_is (Err (bad_default path))

@@ -1,11 +1,10 @@
 -- A MODULEPATH has one listing at most: a list in strict order is known by its members.
 use Rattle.std.proofs.Common.{◌≡◌, ◌↔◌, Bool, true, false, ◌&&◌, List, [], ◌∷◌, Option, refl, ap, sym, ◌∙◌, subst, ⊎_elim, Less, Equal}
 use Rattle.std.specs.Prelude.{bytes_eq}
-use Rattle.std.specs.List.{list_any, AllByRecursion}
+use Rattle.std.specs.List.{AllByRecursion}
 use Rattle.std.specs.List.Sorted.{IsStrictlySortedBy}
 use Rattle.std.proofs.lemmas.Bool.{or_cases, or_left, or_right, and_parts, and_from}
 use Rattle.std.proofs.lemmas.Cmp.{tied_itself}
-use Rattle.std.proofs.lemmas.Slice.Eq.{bytes_eq-Decides}
 use Rattle.modulename.specs.ModuleName.{Text}
 use Rattle.filetree.specs.Agreement.{Files, Listings}
 use Rattle.filetree.specs.Modulefiles.{directories}
@@ -13,21 +12,13 @@ use Rattle.search.specs.DefaultFiles.{DefaultFileResult}
 use Rattle.modulename.specs.Versions.{version_order}
 use Rattle.search.specs.Listed.{ListingEntry, names_of, is_marked, IsListing, Listing, AreListings, Listed}
 use Rattle.modulename.proofs.OrderLemmas.{total}
+use Rattle.search.proofs.VersionLemmas.{has, same, itself}
 
 abbrev Sorted : List Text → Type 0
 Sorted xs = IsStrictlySortedBy version_order xs
 
-abbrev has : Text → List Text → Bool
-has v xs = list_any (bytes_eq v) xs
-
 abbrev Same : List Text → List Text → Type 0
 Same xs ys = (v : Text) → (has v xs ≡ true) ↔ (has v ys ≡ true)
-
-same : (x y : Text) → bytes_eq x y ≡ true → x ≡ y
-same x y = (bytes_eq-Decides x y).0
-
-itself : (x : Text) → bytes_eq x x ≡ true
-itself x = (bytes_eq-Decides x x).1 refl
 
 below : (P : Text → Type 0) (v : Text) (xs : List Text) → AllByRecursion P xs → has v xs ≡ true → P v
 below P v [] a h = absurd (cc)

@@ -9,15 +9,9 @@ use Rattle.filetree.specs.Modulefiles.{path_of}
 use Rattle.search.specs.Single.{is_single}
 use Rattle.search.specs.Found.{HasEntry}
 use Rattle.search.specs.Listed.{ReachesThrough}
-use Rattle.search.proofs.VersionLemmas.{has, in_filter, filter_has}
+use Rattle.search.proofs.VersionLemmas.{has, in_filter, filter_has, same, itself, same_entries}
 use Rattle.search.specs.BelowFolder.{folder_path, name_below, parts_of, names_in, IsUnder, IsInside}
 use Rattle.search.proofs.PartLemmas.{parts-single, parts-path, parts-some, Cut, cut, name_below-path, folder_path-below, spelled_prefix, too_deep}
-
-same : (x y : Text) → bytes_eq x y ≡ true → x ≡ y
-same x y = (bytes_eq-Decides x y).0
-
-itself : (x : Text) → bytes_eq x x ≡ true
-itself x = (bytes_eq-Decides x x).1 refl
 
 pub has_map : (f : Text → Text) (n : Text) (xs : List Text) → has n (map f xs) ≡ true → (x : Text) × (n ≡ f x) × (has x xs ≡ true)
 has_map f n [] h = absurd (cc)
@@ -42,9 +36,6 @@ none_under files folders dir prefix name nothing u = at (parts u.rest) refl u.re
 -- nothing is below four parts
 pub deep_under : (files : Files) (folders : Listings) (dir : Text) (prefix : Option Text) (name : Text) → 4 ≤ length (parts_of prefix) → IsUnder files folders dir prefix name → ⊥
 deep_under files folders dir prefix name deep u = too_deep prefix u.rest name deep u.joined u.spelled
-
-same_entries : (entries others : List Text) (o : Option (List Text)) → o ≡ Some entries → o ≡ Some others → others ≡ entries
-same_entries entries others o e f = cc
 
 -- a name of an entry of a folder
 pub name_from : (prefix : Option Text) (entries : List Text) (n : Text) → has n (names_in prefix entries) ≡ true

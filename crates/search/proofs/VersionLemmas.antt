@@ -1,5 +1,5 @@
 -- The first of some versions, from the greatest down, that is a module is the greatest candidate.
-use Rattle.std.proofs.Common.{◌≡◌, ℕ, suc, ◌≤◌, ◌<◌, ◌-◌, Bool, true, false, cond, List, [], ◌∷◌, length, get_or, map, take, drop, filter, find, Option, Some, None, Ordering, Less, Equal, Greater, inl, inr, refl, sym, ap, ◌∙◌, subst, ⊎_elim, arith}
+use Rattle.std.proofs.Common.{◌≡◌, ℕ, suc, ◌+◌, ◌≤◌, ◌<◌, Bool, true, false, cond, List, [], ◌∷◌, length, get_or, map, drop, filter, find, Option, Some, None, Ordering, Less, Equal, Greater, inl, inr, refl, sym, ap, ◌∙◌, subst, ⊎_elim, arith}
 use Rattle.std.specs.Prelude.{bytes_eq, if◌then◌else◌}
 use Rattle.std.specs.Cmp.{IsStrictWeakOrder}
 use Rattle.std.specs.List.{list_any, Contains, AllByRecursion}
@@ -7,7 +7,7 @@ use Rattle.std.specs.List.Sorted.{IsPermutation, IsSortedBy}
 use Rattle.std.specs.Ordering.{is_lt, is_le, ordering_reverse}
 use Rattle.std.proofs.lemmas.Bool.{or_cases, or_left, or_right, and_parts, and_from}
 use Rattle.std.proofs.lemmas.Cmp.{tied_itself}
-use Rattle.std.proofs.lemmas.List.{take_all}
+use Rattle.std.proofs.lemmas.List.{drop_more}
 use Rattle.std.proofs.lemmas.List.Elements.{recursion_from_All}
 use Rattle.std.proofs.lemmas.List.Folds.{Any-from_list_any, list_any-from_Any}
 use Rattle.std.proofs.lemmas.List.Sorted.{sorted_far, ranks_by, IsStrictWeakOrder-flip, IsPermutation-map, IsPermutation-sym, Contains-permutation}
@@ -25,10 +25,11 @@ use Rattle.search.specs.Versions.{is_version, is_module_in, goes_before, IsGreat
 abbrev pub has : Text → List Text → Bool
 has v xs = list_any (bytes_eq v) xs
 
-same : (x y : Text) → bytes_eq x y ≡ true → x ≡ y
+-- texts that the test finds equal are equal, and each is equal to itself
+pub same : (x y : Text) → bytes_eq x y ≡ true → x ≡ y
 same x y = (bytes_eq-Decides x y).0
 
-itself : (x : Text) → bytes_eq x x ≡ true
+pub itself : (x : Text) → bytes_eq x x ≡ true
 itself x = (bytes_eq-Decides x x).1 refl
 
 contains_from : (v : Text) (xs : List Text) → has v xs ≡ true → Contains xs v
@@ -126,22 +127,13 @@ first_down : {X : Type 0} (view : X → Text) (p : Text → Bool) (xs : List X) 
 first_down view p [] d = λ w h. absurd (cc)
 first_down view p (x ∷ xs) d = first_down_step view p x xs (p (view x)) refl d (first_down view p xs d.1)
 
-pub split_first : {X : Type 0} (view : X → Text) (d : X) (rest : List X) → 1 ≤ length rest → map view rest ≡ view (get_or rest 0 d) ∷ map view (take (length rest - 1) (drop 1 rest))
-split_first view d [] some = absurd (omega arith)
-split_first view d (x ∷ xs) some = ap (λ ys. view x ∷ map view ys) (sym (take_all (length (x ∷ xs) - 1) xs (omega arith)))
+-- the first of the elements from one on, and those after it
+pub first_of : {X : Type 0} (view : X → Text) (d : X) (xs : List X) (i : ℕ) → i < length xs → map view (drop i xs) ≡ view (get_or xs i d) ∷ map view (drop (i + 1) xs)
+first_of view d xs i within = ap (map view) (drop_more xs i d within)
 
-module _ {X : Type 0} (view : X → Text) (p : Text → Bool) (d : X) (rest : List X) (some : 1 ≤ length rest) where
-  -- the first passes the test
-  pub find_first : p (view (get_or rest 0 d)) ≡ true → find p (map view rest) ≡ Some (view (get_or rest 0 d))
-  find_first e =
-      let more = map view (take (length rest - 1) (drop 1 rest)) in
-      ap (find p) (split_first view d rest some) ∙ ap (λ t. cond t (Some (view (get_or rest 0 d))) (find p more)) e
-
-  -- it doesn't
-  pub find_later : p (view (get_or rest 0 d)) ≡ false → find p (map view rest) ≡ find p (map view (take (length rest - 1) (drop 1 rest)))
-  find_later e =
-      let more = map view (take (length rest - 1) (drop 1 rest)) in
-      ap (find p) (split_first view d rest some) ∙ ap (λ t. cond t (Some (view (get_or rest 0 d))) (find p more)) e
+-- a first that doesn't pass the test is passed over
+pub find_later : (p : Text → Bool) (first : Text) (after rest : List Text) → rest ≡ first ∷ after → p first ≡ false → find p rest ≡ find p after
+find_later p first after rest split e = ap (find p) split ∙ ap (λ t. cond t (Some first) (find p after)) e
 
 -- of versions from the greatest down, where the first that is a module is looked for
 module _ {X : Type 0} (view : X → Text) (files : Files) (dir name : Text) where
@@ -165,15 +157,15 @@ module _ {X : Type 0} (view : X → Text) (files : Files) (dir name : Text) wher
         e,
       )
 
-  module _ (d : X) (rest : List X) (some : 1 ≤ length rest) (at : Text) where
-    pub looks_first : at ≡ path_of dir (path_of name (view (get_or rest 0 d))) → LooksFromGreatest files dir name (map view rest) at
-    looks_first e = subst (λ vs. LooksFromGreatest files dir name vs at) (sym (split_first view d rest some)) (inl e)
+-- the paths of the first version and of those after it
+module _ (files : Files) (dir name first : Text) (after rest : List Text) (split : rest ≡ first ∷ after) (at : Text) where
+  pub looks_first : at ≡ path_of dir (path_of name first) → LooksFromGreatest files dir name rest at
+  looks_first e = subst (λ vs. LooksFromGreatest files dir name vs at) (sym split) (inl e)
 
-    pub looks_later : is_module_in files dir name (view (get_or rest 0 d)) ≡ false → LooksFromGreatest files dir name (map view (take (length rest - 1) (drop 1 rest))) at
-        → LooksFromGreatest files dir name (map view rest) at
-    looks_later e h = subst (λ vs. LooksFromGreatest files dir name vs at) (sym (split_first view d rest some)) (inr (e, h))
+  pub looks_later : is_module_in files dir name first ≡ false → LooksFromGreatest files dir name after at → LooksFromGreatest files dir name rest at
+  looks_later e h = subst (λ vs. LooksFromGreatest files dir name vs at) (sym split) (inr (e, h))
 
-same_entries : (entries others : List Text) (o : Option (List Text)) → o ≡ Some entries → o ≡ Some others → others ≡ entries
+pub same_entries : (entries others : List Text) (o : Option (List Text)) → o ≡ Some entries → o ≡ Some others → others ≡ entries
 same_entries entries others o e f = cc
 
 -- what a candidate is, of the entries of the folder

@@ -1,11 +1,10 @@
--- What follows a prefix of a text, and the last default of some commands.
-use Rattle.std.proofs.Common.{◌≡◌, ◌≢◌, ℕ, Bool, true, false, List, [], ◌∷◌, ◌++◌, drop, Option, Some, None, option_map, MatchOption, Bor, refl, sym, ap, ◌∙◌, arith}
+-- What follows a prefix of a text.
+use Rattle.std.proofs.Common.{◌≡◌, ◌≢◌, ℕ, Bool, true, false, [], ◌∷◌, ◌++◌, drop, Option, Some, None, option_map, MatchOption, Bor, refl, sym, ap, ◌∙◌, arith}
 use Rattle.std.specs.Prelude.{◌==◌, if◌then◌else◌, option_and_then}
-use Rattle.std.specs.Option.{option_or}
 use Rattle.std.specs.Str.Pattern.{FindsTextPrefix, StripsPrefix}
 use Rattle.std.proofs.lemmas.Bool.Decides.{nat_tests}
 use Rattle.modulename.specs.ModuleName.{Text}
-use Rattle.search.specs.DefaultFiles.{after_prefix, default_by, last_default}
+use Rattle.search.specs.DefaultFiles.{after_prefix}
 
 itself : (b : ℕ) → (b == b) ≡ true
 itself b = grind (arith, nat_tests)
@@ -55,12 +54,3 @@ pub after_prefix_some : (prefix more text rest : Text) (r : Option (Bor Text)) (
     → o ≡ after_prefix more rest → o ≡ after_prefix (prefix ++ more) text
 after_prefix_some prefix more text rest r o h e made =
     made ∙ sym (after_prefix-append prefix more text ∙ ap (option_and_then (after_prefix more)) (sym h ∙ e))
-
--- one more command of those that come after each other
-pub last_default-more : (name : Text) (words : List Text) (after : List (List Text)) (last : Option Text) (all : Option Text)
-    → all ≡ option_or (last_default name (words ∷ after)) last → all ≡ option_or (last_default name after) (option_or (default_by name words) last)
-last_default-more name words after last all h = h ∙ or_or (last_default name after) (default_by name words) last
-  where
-    or_or : (o p q : Option Text) → option_or (option_or o p) q ≡ option_or o (option_or p q)
-    or_or None p q = refl
-    or_or (Some x) p q = refl

@@ -1,29 +1,17 @@
 -- A walk through the folders in a folder.
-use Rattle.std.proofs.Common.{◌≡◌, ◌⊎◌, ◌≢◌, ◌≤◌, ◌<◌, ◌+◌, ◌-◌, ℕ, true, false, List, [], ◌∷◌, ◌++◌, length, get_or, map, take, drop, Option, Some, refl, sym, ap, ◌∙◌, subst, inl, inr, ⊎_elim, append_assoc, append-nil, length-append, arith}
+use Rattle.std.proofs.Common.{◌≡◌, ◌⊎◌, ◌≢◌, ◌≤◌, ◌<◌, ◌+◌, ◌-◌, ℕ, true, false, List, [], ◌∷◌, ◌++◌, length, get_or, map, take, drop, Option, Some, sym, ap, ◌∙◌, subst, inl, inr, ⊎_elim, length-append, arith}
 use Rattle.std.specs.Prelude.{bytes_eq}
 use Rattle.std.proofs.lemmas.Bool.{or_cases, or_left, or_right}
-use Rattle.std.proofs.lemmas.List.{take_all}
-use Rattle.std.proofs.lemmas.Slice.Eq.{bytes_eq-Decides}
+use Rattle.std.proofs.lemmas.List.{drop_more, map-append, take-append-drop, take_more}
 use Rattle.modulename.specs.ModuleName.{Text, parts}
 use Rattle.filetree.specs.Agreement.{Files, Listings}
 use Rattle.search.specs.DefaultFiles.{DefaultFileResult}
 use Rattle.search.specs.Listed.{ListingEntry}
-use Rattle.search.proofs.VersionLemmas.{has}
+use Rattle.search.proofs.VersionLemmas.{has, same, itself}
 use Rattle.search.specs.BelowFolder.{folder_path, parts_of, names_in, is_module_below, IsUnder, IsInside, AreEntriesOfFiles, AreListingEntries}
 use Rattle.search.proofs.PartLemmas.{parts_of-below}
 use Rattle.search.proofs.UnderLemmas.{name_from, inside, outside}
-use Rattle.search.proofs.RowLemmas.{rows_same, rows_append, rows_of_files}
-
-same : (x y : Text) → bytes_eq x y ≡ true → x ≡ y
-same x y = (bytes_eq-Decides x y).0
-
-itself : (x : Text) → bytes_eq x x ≡ true
-itself x = (bytes_eq-Decides x x).1 refl
-
-pub has_left : (v : Text) (xs ys : List Text) → has v xs ≡ true → has v (xs ++ ys) ≡ true
-has_left v [] ys h = absurd (cc)
-has_left v (x ∷ xs) ys h =
-    ⊎_elim (λ q. or_left (bytes_eq v x) (has v (xs ++ ys)) q) (λ q. or_right (bytes_eq v x) (has v (xs ++ ys)) (has_left v xs ys q)) (or_cases (bytes_eq v x) (has v xs) h)
+use Rattle.search.proofs.RowLemmas.{has_left, rows_same, rows_append, rows_of_files}
 
 pub has_middle : (v : Text) (xs ys : List Text) → has v (xs ++ v ∷ ys) ≡ true
 has_middle v [] ys = or_left (bytes_eq v v) (has v ys) (itself v)
@@ -35,11 +23,15 @@ has_last v n (x ∷ xs) h =
     ⊎_elim (λ q. inl (or_left (bytes_eq v x) (has v xs) q)) (λ q. ⊎_elim (λ r. inl (or_right (bytes_eq v x) (has v xs) r)) (λ r. inr r) (has_last v n xs q))
     (or_cases (bytes_eq v x) (has v (xs ++ n ∷ [])) h)
 
--- the first of the remaining names
-pub split_first : {X : Type 0} (view : X → Text) (x : X) (rest : List X) → 1 ≤ length rest → x ≡ get_or rest 0 x → map view rest ≡ view x ∷ map view (take (length rest - 1) (drop 1 rest))
-split_first view x [] some is = absurd (omega arith)
-split_first view x (y ∷ ys) some is =
-    ap (λ z. view z ∷ map view ys) (sym is) ∙ ap (λ zs. view x ∷ map view zs) (sym (take_all (length (y ∷ ys) - 1) ys (omega arith)))
+-- an element that is read from a list: those before it, and those after it
+module _ {X : Type 0} (view : X → Text) (x : X) (xs : List X) (i : ℕ) (within : i < length xs) (is : x ≡ get_or xs i x) where
+  pub split_at : map view xs ≡ map view (take i xs) ++ view x ∷ map view (drop (i + 1) xs)
+  split_at =
+      ap (map view) (sym (take-append-drop i xs)) ∙ map-append view (take i xs) (drop i xs)
+      ∙ ap (λ rest. map view (take i xs) ++ map view rest) (drop_more xs i x within) ∙ ap (λ y. map view (take i xs) ++ view y ∷ map view (drop (i + 1) xs)) (sym is)
+
+  pub one_more : map view (take (i + 1) xs) ≡ map view (take i xs) ++ view x ∷ []
+  one_more = ap (map view) (take_more xs i x within) ∙ map-append view (take i xs) (get_or xs i x ∷ []) ∙ ap (λ y. map view (take i xs) ++ view y ∷ []) (sym is)
 
 -- one level down
 pub deeper : (prefix : Option Text) (entries names done after : List Text) (n name : Text) (levels : ℕ) → names ≡ names_in prefix entries → names ≡ done ++ n ∷ after → name ≡ n
@@ -77,13 +69,3 @@ module _ (results : Text → Text → Option DefaultFileResult → Type 0) (file
       (subst (λ ns. AreListingEntries results files folders dir (IsInside files folders dir names ns) listing_entries) (sym all) a) in
       rows_same results files folders dir (IsInside files folders dir (names_in prefix entries) (names_in prefix entries)) (IsUnder files folders dir prefix)
       (λ v u. outside files folders dir prefix entries listed v u) (λ v u. inside files folders dir prefix entries listed v u) listing_entries made
-
-pub none_left : {X : Type 0} (view : X → Text) (names done : List Text) (rest : List X) → names ≡ done ++ map view rest → length rest < 1 → names ≡ done
-none_left view names done [] e h = e ∙ append-nil done
-none_left view names done (x ∷ xs) e h = absurd (omega arith)
-
-pub one_more : {X : Type 0} (view : X → Text) (x : X) (name : Text) (names done : List Text) (rest : List X) → names ≡ done ++ map view rest → 1 ≤ length rest → x ≡ get_or rest 0 x → name ≡ view x
-    → names ≡ (done ++ name ∷ []) ++ map view (take (length rest - 1) (drop 1 rest))
-one_more view x name names done rest e some is named =
-    e ∙ ap (λ r. done ++ r) (split_first view x rest some is) ∙ ap (λ n. done ++ (n ∷ map view (take (length rest - 1) (drop 1 rest)))) (sym named)
-    ∙ sym (append_assoc done (name ∷ []) (map view (take (length rest - 1) (drop 1 rest))))

@@ -5,12 +5,12 @@ use Rattle.filetree.specs.Causes as causes
 use Rattle.filetree.specs.Causes.{Cause, memory, device, because}
 use Rattle.filetree.specs.declared.find_fault.FindFault.{FindFault}
 use Rattle.filetree.specs.declared.find_fault.FindFault.TheVariants as faults
-use Rattle.search.specs.Reasons.{Reason, bad_name, not_found, bad_default, not_utf8_at}
+use Rattle.search.specs.Reasons.{FindReason, bad_name, not_found, bad_default, not_utf8_at}
 use Rattle.search.specs.Found.{FoundModule}
 use Rattle.search.specs.declared.found.Found.{Found}
 
 -- the cause of a fault of the search
-abbrev pub cause_of : FindFault → Cause Reason
+abbrev pub cause_of : FindFault → Cause FindReason
 cause_of faults.OutOfMemory = memory
 cause_of faults.Device = device
 cause_of (faults.NotFound name) = because (not_found (string_bytes name))
@@ -28,9 +28,9 @@ is_failure (faults.BadDefaultFile path) = false
 is_failure (faults.NotUtf8 path) = false
 
 -- the answer of a call over a tree whose faults are those of the search
-abbrev pub AnswersOverTree : {X Y : Type 0} → (Files → Listings → Type 0) → Type 0 → (X → Y) → Result X FindFault
-    → (Files → Listings → Result Y Reason → Type 0) → Type 0
-AnswersOverTree = causes.AnswersOverTree cause_of
+abbrev pub FindAnswersOverTree : {X Y : Type 0} → (Files → Listings → Type 0) → Type 0 → (X → Y) → Result X FindFault
+    → (Files → Listings → Result Y FindReason → Type 0) → Type 0
+FindAnswersOverTree = causes.AnswersOverTree cause_of
 
 -- the module that was found
 abbrev pub found_view : Found → FoundModule

@@ -6,10 +6,10 @@ use Rattle.std.specs.Prelude.{◌≡◌, List, [], ◌∷◌, ◌++◌, codes, b
 use Rattle.std.specs.Option.{option_or}
 use Rattle.std.specs.List.{list_any}
 use Rattle.modulename.specs.ModuleName.{Text, slash}
-use Rattle.filetree.specs.Modulefiles.{Held, absent, no_cookie, not_utf8, script, modulefile}
+use Rattle.filetree.specs.Modulefiles.{FileContent, absent, no_cookie, not_utf8, script, modulefile}
 use Rattle.filetree.specs.Agreement.{Files}
 use Rattle.filetree.specs.Relations.{Is}
-use Rattle.search.specs.Reasons.{Reason, bad_default}
+use Rattle.search.specs.Reasons.{FindReason, bad_default}
 
 -- The result of the evaluation of a default file: its `module-version` commands in order, each as its words, and its
 -- global variable ModulesVersion.
@@ -54,13 +54,13 @@ abbrev pub by_variable : VersionIn
 by_variable result = result.version
 
 -- the version that a default file names, by the result of its evaluation; the reason is a fault of the evaluation
-abbrev pub version_named : VersionIn → Text → Option DefaultFileResult → Result (Option Text) Reason
+abbrev pub version_named : VersionIn → Text → Option DefaultFileResult → Result (Option Text) FindReason
 version_named says path None = Err (bad_default path)
 version_named says path (Some result) = Ok (says result)
 
 -- By what its path holds, a default file names a version or none. Without a file, or without the cookie, it names none.
-abbrev pub NamesIn : (Text → Text → Option DefaultFileResult → Type 0) → VersionIn → Text → Held → Result
-    (Option Text) Reason
+abbrev pub NamesIn : (Text → Text → Option DefaultFileResult → Type 0) → VersionIn → Text → FileContent → Result
+    (Option Text) FindReason
     → Type 0
 NamesIn results says path absent o = Is (Ok None) o
 NamesIn results says path no_cookie o = Is (Ok None) o
@@ -70,6 +70,6 @@ NamesIn results says path (script text) o = (result : Option DefaultFileResult) 
 
 -- The default file at a path names this version, or none, or has a fault.
 abbrev pub Names : (Text → Text → Option DefaultFileResult → Type 0) → Files → VersionIn → Text → Result
-    (Option Text) Reason
+    (Option Text) FindReason
     → Type 0
 Names results files says path o = NamesIn results says path (modulefile (files path)) o

@@ -4,11 +4,11 @@ use Rattle.std.specs.Prelude.{◌≡◌, true, List, [], ◌∷◌, bytes_eq, co
 use Rattle.std.specs.List.{list_any}
 use Rattle.modulename.specs.ModuleName.{Text, is_module_name}
 use Rattle.filetree.specs.Agreement.{Files, Listings}
-use Rattle.filetree.specs.Modulefiles.{Held, absent, no_cookie, not_utf8, script, modulefile, is_module, directories, path_of}
+use Rattle.filetree.specs.Modulefiles.{FileContent, absent, no_cookie, not_utf8, script, modulefile, is_module, directories, path_of}
 use Rattle.filetree.specs.Relations.{Is, If, Where, ◌>>◌}
 use Rattle.modulename.specs.Versions.{IsGreatest}
 use Rattle.search.specs.Single.{is_single}
-use Rattle.search.specs.Reasons.{Reason, bad_name, not_found, not_utf8_at}
+use Rattle.search.specs.Reasons.{FindReason, bad_name, not_found, not_utf8_at}
 use Rattle.search.specs.DefaultFiles.{DefaultFileResult, Names, by_command, by_variable}
 
 -- a file with the cookie is at the path
@@ -44,7 +44,7 @@ default_file dir name file = path_of (path_of dir name) file
 -- The candidate that the default files of a folder name, if they name one: `.modulerc`, or else `.version`, which is
 -- not read where `.modulerc` names a candidate.
 abbrev pub NamedDefault : (Text → Text → Option DefaultFileResult → Type 0) → Files → Listings → Text → Text
-    → Result (Option Text) Reason → Type 0
+    → Result (Option Text) FindReason → Type 0
 NamedDefault results files listings dir name =
     Names results files (by_command name) (default_file dir name (codes ".modulerc")) >> (λ first.
     Where (IsSomeCandidate (IsCandidate files listings dir name) first) (Is (Ok first)) (
@@ -52,17 +52,17 @@ NamedDefault results files listings dir name =
     Where (IsSomeCandidate (IsCandidate files listings dir name) second) (Is (Ok second)) (Is (Ok None)))))
 
 -- the greatest candidate
-abbrev pub Greatest : Files → Listings → Text → Text → Result Text Reason → Type 0
+abbrev pub Greatest : Files → Listings → Text → Text → Result Text FindReason → Type 0
 Greatest files listings dir name o = (v : Text) × IsGreatest (IsCandidate files listings dir name) v × (o ≡ Ok v)
 
 -- the candidate that default files name, or else the greatest
-abbrev pub NamedOrGreatest : Files → Listings → Text → Text → Option Text → Result Text Reason → Type 0
+abbrev pub NamedOrGreatest : Files → Listings → Text → Text → Option Text → Result Text FindReason → Type 0
 NamedOrGreatest files listings dir name (Some v) = Is (Ok v)
 NamedOrGreatest files listings dir name None = Greatest files listings dir name
 
 -- the default candidate of a folder: the one that its default files name, or else the greatest
 abbrev pub Default : (Text → Text → Option DefaultFileResult → Type 0) → Files → Listings → Text → Text
-    → Result Text Reason → Type 0
+    → Result Text FindReason → Type 0
 Default results files listings dir name =
     NamedDefault results files listings dir name >> NamedOrGreatest files listings dir name
 
@@ -73,20 +73,20 @@ pub record FoundModule : Type 0 where
   pub text : Text
 
 -- the module of this full name at a path, by what the path holds
-abbrev pub read : Text → Text → Held → Result FoundModule Reason
+abbrev pub read : Text → Text → FileContent → Result FoundModule FindReason
 read name path absent = Err (not_found name)
 read name path no_cookie = Err (not_found name)
 read name path not_utf8 = Err (not_utf8_at path)
 read name path (script text) = Ok (record { name = name; path = path; text = text })
 
 -- the module of this full name below a directory
-abbrev pub ModuleAt : Files → Text → Text → Result FoundModule Reason → Type 0
+abbrev pub ModuleAt : Files → Text → Text → Result FoundModule FindReason → Type 0
 ModuleAt files dir name = Is (read name (path_of dir name) (modulefile (files (path_of dir name))))
 
 -- The module of the first directory that gives one: the file of this name, or else the default candidate of the folder
 -- of this name.
 abbrev pub FoundAlong : (Text → Text → Option DefaultFileResult → Type 0) → Files → Listings → Text → List Text
-    → Result FoundModule Reason → Type 0
+    → Result FoundModule FindReason → Type 0
 FoundAlong results files listings name [] = Is (Err (not_found name))
 FoundAlong results files listings name (dir ∷ dirs) =
     Where (IsModuleAt files (path_of dir name)) (ModuleAt files dir name) (
@@ -96,7 +96,7 @@ FoundAlong results files listings name (dir ∷ dirs) =
 
 -- What a name means along a MODULEPATH.
 abbrev pub Found : (Text → Text → Option DefaultFileResult → Type 0) → Files → Listings → Text → Text
-    → Result FoundModule Reason
+    → Result FoundModule FindReason
     → Type 0
 Found results files listings modulepath name =
     If (is_module_name name) (FoundAlong results files listings name (directories modulepath))

@@ -8,7 +8,7 @@ use Rattle.modulename.specs.Versions.{version_order}
 use Rattle.filetree.specs.Agreement.{Files, Listings}
 use Rattle.filetree.specs.Modulefiles.{directories, path_of}
 use Rattle.search.specs.Single.{is_single}
-use Rattle.search.specs.Reasons.{Reason}
+use Rattle.search.specs.Reasons.{FindReason}
 use Rattle.search.specs.DefaultFiles.{DefaultFileResult, VersionIn, Names, by_command, by_variable}
 use Rattle.search.specs.Found.{IsModuleAt, HasEntry, IsCandidate, HasCandidates, IsSomeCandidate}
 use Rattle.search.specs.Found.{NamedDefault, default_file}
@@ -60,7 +60,7 @@ abbrev pub NamesNoCandidate : (Text → Text → Option DefaultFileResult → Ty
     → Type 0
 NamesNoCandidate results files listings dir name =
     NamedDefault results files listings dir name (Ok None)
-    ⊎ ((r : Reason) × NamedDefault results files listings dir name (Err r))
+    ⊎ ((r : FindReason) × NamedDefault results files listings dir name (Err r))
 
 -- the paths that are looked at in the folder of a name: none where no entry can be a version
 abbrev pub LooksInFolder : (Text → Text → Option DefaultFileResult → Type 0) → Files → Listings → Text → Text → Text

@@ -2,12 +2,12 @@
 use Rattle.modulename.specs.ModuleName.{Text}
 
 -- a reason, with the name or the path that it is about
-pub data Reason : Type 0 where
+pub data FindReason : Type 0 where
   -- the name is ill-spelled
-  bad_name : (name : Text) → Reason
+  bad_name : (name : Text) → FindReason
   -- no directory gives a module of this name
-  not_found : (name : Text) → Reason
+  not_found : (name : Text) → FindReason
   -- the default file at this path has a fault
-  bad_default : (path : Text) → Reason
+  bad_default : (path : Text) → FindReason
   -- the module's file isn't UTF-8
-  not_utf8_at : (path : Text) → Reason
+  not_utf8_at : (path : Text) → FindReason

@@ -2,9 +2,9 @@
 use Rattle.std.specs.Prelude.{Option, Some, None, Result, Ok, Err}
 use Rattle.modulename.specs.ModuleName.{Text}
 use Rattle.filetree.specs.Agreement.{Files, Listings}
-use Rattle.filetree.specs.Modulefiles.{Held, absent, no_cookie, not_utf8, script, modulefile, path_of}
+use Rattle.filetree.specs.Modulefiles.{FileContent, absent, no_cookie, not_utf8, script, modulefile, path_of}
 use Rattle.filetree.specs.Relations.{Is, Where, ◌>>◌}
-use Rattle.search.specs.Reasons.{Reason, not_utf8_at}
+use Rattle.search.specs.Reasons.{FindReason, not_utf8_at}
 use Rattle.search.specs.DefaultFiles.{DefaultFileResult}
 use Rattle.filetree.specs.Causes.{Cause, because}
 use Rattle.filetree.specs.declared.find_fault.FindFault.{FindFault}
@@ -12,41 +12,41 @@ use Rattle.search.specs.Answers.{cause_of}
 use Rattle.search.specs.Found.{FoundModule, IsModuleAt, HasCandidates, Default}
 
 -- a call's result, by its value or the cause of its fault
-abbrev pub caused : {X Y : Type 0} → (X → Y) → Result X FindFault → Result Y (Cause Reason)
+abbrev pub caused : {X Y : Type 0} → (X → Y) → Result X FindFault → Result Y (Cause FindReason)
 caused view (Ok x) = Ok (view x)
 caused view (Err e) = Err (cause_of e)
 
 -- a definition's outcome, with its reason as a cause
-abbrev pub because_of : {Y : Type 0} → Result Y Reason → Result Y (Cause Reason)
+abbrev pub because_of : {Y : Type 0} → Result Y FindReason → Result Y (Cause FindReason)
 because_of (Ok y) = Ok y
 because_of (Err r) = Err (because r)
 
 -- the module of this full name that a path holds, if it holds one
-abbrev pub module_in : Text → Text → Held → Result (Option FoundModule) Reason
+abbrev pub module_in : Text → Text → FileContent → Result (Option FoundModule) FindReason
 module_in name path absent = Ok None
 module_in name path no_cookie = Ok None
 module_in name path not_utf8 = Err (not_utf8_at path)
 module_in name path (script text) = Ok (Some (record { name = name; path = path; text = text }))
 
 -- the module of this full name below a directory, if there is one
-abbrev pub module_at : Files → Text → Text → Result (Option FoundModule) Reason
+abbrev pub module_at : Files → Text → Text → Result (Option FoundModule) FindReason
 module_at files dir name = module_in name (path_of dir name) (modulefile (files (path_of dir name)))
 
 -- the default candidate of a folder, if it has a candidate
 abbrev pub DefaultIn : (Text → Text → Option DefaultFileResult → Type 0) → Files → Listings → Text → Text
-    → Result (Option Text) Reason → Type 0
+    → Result (Option Text) FindReason → Type 0
 DefaultIn results files listings dir name =
     Where (HasCandidates files listings dir name) (Default results files listings dir name >> (λ v. Is (Ok (Some v))))
     (Is (Ok None))
 
 -- the module of the default candidate, if there is one
-abbrev pub OfDefault : Files → Text → Text → Option Text → Result (Option FoundModule) Reason → Type 0
+abbrev pub OfDefault : Files → Text → Text → Option Text → Result (Option FoundModule) FindReason → Type 0
 OfDefault files dir name None = Is (Ok None)
 OfDefault files dir name (Some v) = Is (module_at files dir (path_of name v))
 
 -- the module that one directory gives, if it gives one
 abbrev pub FoundBelow : (Text → Text → Option DefaultFileResult → Type 0) → Files → Listings → Text → Text
-    → Result (Option FoundModule) Reason → Type 0
+    → Result (Option FoundModule) FindReason → Type 0
 FoundBelow results files listings dir name =
     Where (IsModuleAt files (path_of dir name)) (Is (module_at files dir name))
     (DefaultIn results files listings dir name >> OfDefault files dir name)

@@ -4,15 +4,13 @@ use Rattle.std.specs.Prelude.{◌≡◌, Option, Some, None, Result, Ok, Err, st
 use Rattle.modulename.specs.ModuleName.{Text}
 use Rattle.filetree.specs.Agreement.{Files, Listings}
 use Rattle.filetree.specs.Relations.{Is, Where, ◌>>◌}
-use Rattle.search.specs.Reasons.{Reason, bad_default}
+use Rattle.search.specs.Reasons.{FindReason, bad_default}
 use Rattle.search.specs.DefaultFiles.{DefaultFileResult, VersionIn, Names, by_command, by_variable}
 use Rattle.search.specs.Found.{IsCandidate, IsSomeCandidate, default_file}
 use Rattle.search.specs.declared.version_named.DefaultFile.{DefaultFile}
 use Rattle.search.specs.declared.version_named.DefaultFile.TheVariants.{Modulerc, Version}
 use Rattle.search.specs.declared.defaults.NamedVersion.{NamedVersion}
 use Rattle.search.specs.declared.defaults.NamedVersion.TheVariants as versions
-use Rattle.search.specs.declared.defaults.NamedCandidate.{NamedCandidate}
-use Rattle.search.specs.declared.defaults.NamedCandidate.TheVariants as candidates
 
 -- the name of a default file in its folder
 abbrev pub file_name : DefaultFile → Text
@@ -24,17 +22,11 @@ abbrev pub says : DefaultFile → Text → VersionIn
 says Modulerc name = by_command name
 says Version name = by_variable
 
--- the version that a default file names: one, none, or the reason that is its fault
-abbrev pub named_version_view : NamedVersion → Result (Option Text) Reason
+-- the version that default files name: one, none, or the reason that is the fault of a default file
+abbrev pub named_version_view : NamedVersion → Result (Option Text) FindReason
 named_version_view versions.Nothing = Ok None
 named_version_view (versions.Version version) = Ok (Some (string_bytes version))
 named_version_view (versions.BadFile path) = Err (bad_default (string_bytes path))
-
--- the candidate that default files name: one, none, or the reason that is the fault of a default file
-abbrev pub named_candidate_view : NamedCandidate → Result (Option Text) Reason
-named_candidate_view candidates.Nothing = Ok None
-named_candidate_view (candidates.Candidate version) = Ok (Some (string_bytes version))
-named_candidate_view (candidates.BadFile path) = Err (bad_default (string_bytes path))
 
 -- the version, where it is a candidate, or else none
 abbrev pub IsCandidateIfAny : (Text → Type 0) → Text → Option Text → Type 0
@@ -43,7 +35,7 @@ IsCandidateIfAny IsOne version (Some v) = IsOne version × (v ≡ version)
 
 -- the candidate that one of the default files names, if it names one
 abbrev pub NamedBy : (Text → Text → Option DefaultFileResult → Type 0) → Files → Listings → Text → Text → DefaultFile
-    → Result (Option Text) Reason → Type 0
+    → Result (Option Text) FindReason → Type 0
 NamedBy results files listings dir name file =
     Names results files (says file name) (default_file dir name (file_name file)) >> (λ v.
     Where (IsSomeCandidate (IsCandidate files listings dir name) v) (Is (Ok v)) (Is (Ok None)))

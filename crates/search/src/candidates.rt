@@ -1,12 +1,33 @@
-//! Whether a version in the folder of a name is a module.
+//! Whether a full name below a directory, or a version of a name, is that of a module.
 ghost use Rattle.std.specs.Prelude.{◌≡◌, IfOk};
-ghost use Rattle.filetree.specs.Agreement.{FailsAt, InEachPair, Narrows, HasCause, is_device};
+ghost use Rattle.filetree.specs.Agreement.{FailsAt, InEachPair, Narrows, FailsOnlyByDevice, is_device};
 ghost use Rattle.filetree.specs.Modulefiles.{path_of};
+ghost use Rattle.search.specs.BelowFolder.{is_module_below};
 ghost use Rattle.search.specs.Versions.{is_module_in};
 
 use crate::paths::path_of;
 use filetree::{Tree, TreeFault, holds_module};
 use std::alloc::Global;
+
+/// Whether the file of this full name, below the directory, begins with `#%Module`.
+///
+/// It fails as the tree does, at the path of that file, and for want of memory.
+pub(crate) fn is_module_below<T: Tree>(
+    alloc: Global,
+    tree: &mut T,
+    dir: &str,
+    name: &str,
+) -> Result<bool, TreeFault>
+    ensures narrows { Narrows (T.agrees tree.old) (T.agrees tree.new) }
+    ensures answer { IfOk result (λ r. InEachPair (T.agrees tree.new) (λ files listings.
+        is_module_below files dir.now name.now ≡ r)) }
+    ensures cause { FailsOnlyByDevice (T.failures tree.old) (T.failures tree.new) result }
+    ensures failed { FailsAt is_device (T.failed tree.old) (T.failed tree.new) result (λ at.
+        at ≡ path_of dir.now name.now) }
+{
+    let path = path_of(alloc, dir, name)?;
+    holds_module(tree, &path)
+}
 
 /// Whether the file of a version of a name, below the directory, begins with `#%Module`.
 ///
@@ -21,11 +42,10 @@ pub(crate) fn is_module_in<T: Tree>(
     ensures narrows { Narrows (T.agrees tree.old) (T.agrees tree.new) }
     ensures answer { IfOk result (λ r. InEachPair (T.agrees tree.new) (λ files listings.
         is_module_in files dir.now name.now version.now ≡ r)) }
-    ensures cause { HasCause (T.failures tree.old) (T.failures tree.new) result }
+    ensures cause { FailsOnlyByDevice (T.failures tree.old) (T.failures tree.new) result }
     ensures failed { FailsAt is_device (T.failed tree.old) (T.failed tree.new) result (λ at.
         at ≡ path_of dir.now (path_of name.now version.now)) }
 {
     let full = path_of(alloc, name, version)?;
-    let path = path_of(alloc, dir, &full)?;
-    holds_module(tree, &path)
+    is_module_below(alloc, tree, dir, &full)
 }

@@ -1,11 +1,11 @@
 //! The default that the default files of a folder name: `.modulerc`, or else `.version` (modulefile(5)).
 ghost use Rattle.std.specs.Prelude.{◌≡◌, map, Some, IfOk, string_bytes};
-ghost use Rattle.filetree.specs.Agreement.{FailsAt, InEachPair, Narrows, HasCause, is_device};
+ghost use Rattle.filetree.specs.Agreement.{FailsAt, FailsWhere, InEachPair, Narrows, FailsOnlyByDevice, is_device};
 ghost use Rattle.filetree.specs.Modulefiles.{path_of};
 ghost use Rattle.search.specs.DefaultFiles.{Names, version_named};
 ghost use Rattle.search.specs.Found.{IsCandidate, NamedDefault, default_file};
 ghost use Rattle.search.specs.Looked.{LooksAtVersion, LooksAtDefaultFile, LooksForNamed};
-ghost use Rattle.search.specs.VersionsNamed.{file_name, says, named_version_view, named_candidate_view, IsCandidateIfAny, NamedBy};
+ghost use Rattle.search.specs.VersionsNamed.{file_name, says, named_version_view, IsCandidateIfAny, NamedBy};
 ghost use Rattle.std.specs.Option.{option_map};
 ghost use Rattle.search.specs.Ended.{ended_view};
 
@@ -14,26 +14,15 @@ use crate::default_files::{DefaultFiles, Ended};
 use crate::paths::{has, path_of};
 use crate::version_named::DefaultFile;
 use crate::versions::is_version;
-use filetree::{Modulefile, Tree, TreeFault, read_modulefile};
+use filetree::{FileContent, Tree, TreeFault, read_modulefile};
 use std::alloc::{AllocError, Global};
 
-/// The candidate that default files name.
+/// What default files name.
 #[derive(Debug, Drop)]
-pub enum NamedCandidate {
-    /// They name no candidate.
+pub enum NamedVersion {
+    /// They name no version, are absent, or have no cookie.
     Nothing,
-    /// The candidate of this version.
-    Candidate(String),
-    /// The default file at this path has a fault.
-    BadFile(String),
-}
-
-/// The version that a default file names.
-#[derive(Drop)]
-enum NamedVersion {
-    /// It names no version, or is absent, or has no cookie.
-    Nothing,
-    /// It names this version, which may be no candidate.
+    /// They name this version.
     Version(String),
     /// The default file at this path has a fault.
     BadFile(String),
@@ -74,17 +63,16 @@ fn version_named_by<T: Tree, D: DefaultFiles>(
     ensures answer { IfOk result (λ s. InEachPair (T.agrees tree.new) (λ files listings.
         Names (D.results default_files.now) files (says file name.now)
         (default_file dir.now name.now (file_name file)) (named_version_view s))) }
-    ensures cause { HasCause (T.failures tree.old) (T.failures tree.new) result }
+    ensures cause { FailsOnlyByDevice (T.failures tree.old) (T.failures tree.new) result }
     ensures failed { FailsAt is_device (T.failed tree.old) (T.failed tree.new) result (λ at.
         at ≡ default_file dir.now name.now (file_name file)) }
 {
     let folder = path_of(alloc, dir, name)?;
     let path = path_of(alloc, &folder, file.file_name())?;
     match read_modulefile(tree, &path)? {
-        Modulefile::Absent => Ok(NamedVersion::Nothing),
-        Modulefile::NoCookie => Ok(NamedVersion::Nothing),
-        Modulefile::NotUtf8 => Ok(NamedVersion::BadFile(path)),
-        Modulefile::Script(text) => {
+        FileContent::Absent | FileContent::NoCookie => Ok(NamedVersion::Nothing),
+        FileContent::NotUtf8 => Ok(NamedVersion::BadFile(path)),
+        FileContent::Script(text) => {
             let ended = default_files.evaluate(alloc, &path, &text)?;
             Ok(version_named_in(alloc, file, name, path, ended)?)
         }
@@ -107,10 +95,9 @@ fn candidate_of<T: Tree>(
     ensures answer { IfOk result (λ r. InEachPair (T.agrees tree.new) (λ files listings.
         IsCandidateIfAny (IsCandidate files listings dir.now name.now) (string_bytes version)
         (option_map string_bytes r))) }
-    ensures cause { HasCause (T.failures tree.old) (T.failures tree.new) result }
-    ensures failed { FailsAt is_device (T.failed tree.old) (T.failed tree.new) result (λ at.
-        InEachPair (T.agrees tree.new) (λ files listings.
-        LooksAtVersion listings dir.now name.now (string_bytes version) at)) }
+    ensures cause { FailsOnlyByDevice (T.failures tree.old) (T.failures tree.new) result }
+    ensures failed { FailsWhere is_device T.agrees T.failed tree.old tree.new result (λ files listings.
+        LooksAtVersion listings dir.now name.now (string_bytes version)) }
 {
     if !has(entries, &version) || !is_version(alloc, name, &version)? {
         return Ok(None);
@@ -122,7 +109,8 @@ fn candidate_of<T: Tree>(
     }
 }
 
-/// The candidate that one of the default files in the folder of a name names, if it names one.
+/// The candidate that one of the default files in the folder of a name names, if it names one; a version that is no
+/// candidate counts as none.
 fn named_by<T: Tree, D: DefaultFiles>(
     alloc: Global,
     tree: &mut T,
@@ -131,27 +119,25 @@ fn named_by<T: Tree, D: DefaultFiles>(
     name: &str,
     entries: &[String],
     file: DefaultFile,
-) -> Result<NamedCandidate, TreeFault>
+) -> Result<NamedVersion, TreeFault>
     requires { InEachPair (T.agrees tree.old) (λ files listings.
         listings (path_of dir.now name.now) ≡ Some (map string_bytes entries.now)) }
     ensures narrows { Narrows (T.agrees tree.old) (T.agrees tree.new) }
     ensures answer { IfOk result (λ n. InEachPair (T.agrees tree.new) (λ files listings.
-        NamedBy (D.results default_files.now) files listings dir.now name.now file (named_candidate_view n))) }
-    ensures cause { HasCause (T.failures tree.old) (T.failures tree.new) result }
-    ensures failed { FailsAt is_device (T.failed tree.old) (T.failed tree.new) result (λ at.
-        InEachPair (T.agrees tree.new) (λ files listings. LooksAtDefaultFile
-        (D.results default_files.now) files listings
-        dir.now name.now (says file name.now) (file_name file) at)) }
+        NamedBy (D.results default_files.now) files listings dir.now name.now file (named_version_view n))) }
+    ensures cause { FailsOnlyByDevice (T.failures tree.old) (T.failures tree.new) result }
+    ensures failed { FailsWhere is_device T.agrees T.failed tree.old tree.new result (λ files listings.
+        LooksAtDefaultFile (D.results default_files.now) files listings dir.now name.now
+        (says file name.now) (file_name file)) }
 {
     match version_named_by(alloc, tree, default_files, dir, name, file)? {
-        NamedVersion::Nothing => Ok(NamedCandidate::Nothing),
-        NamedVersion::BadFile(path) => Ok(NamedCandidate::BadFile(path)),
         NamedVersion::Version(version) => match candidate_of(
             alloc, tree, dir, name, entries, version,
         )? {
-            None => Ok(NamedCandidate::Nothing),
-            Some(version) => Ok(NamedCandidate::Candidate(version)),
+            None => Ok(NamedVersion::Nothing),
+            Some(version) => Ok(NamedVersion::Version(version)),
         },
+        no_version => Ok(no_version),
     }
 }
 
@@ -167,16 +153,15 @@ pub fn named_default<T: Tree, D: DefaultFiles>(
     dir: &str,
     name: &str,
     entries: &[String],
-) -> Result<NamedCandidate, TreeFault>
+) -> Result<NamedVersion, TreeFault>
     requires { InEachPair (T.agrees tree.old) (λ files listings.
         listings (path_of dir.now name.now) ≡ Some (map string_bytes entries.now)) }
     ensures narrows { Narrows (T.agrees tree.old) (T.agrees tree.new) }
     ensures answer { IfOk result (λ n. InEachPair (T.agrees tree.new) (λ files listings.
-        NamedDefault (D.results default_files.now) files listings dir.now name.now (named_candidate_view n))) }
-    ensures cause { HasCause (T.failures tree.old) (T.failures tree.new) result }
-    ensures failed { FailsAt is_device (T.failed tree.old) (T.failed tree.new) result (λ at.
-        InEachPair (T.agrees tree.new) (λ files listings.
-        LooksForNamed (D.results default_files.now) files listings dir.now name.now at)) }
+        NamedDefault (D.results default_files.now) files listings dir.now name.now (named_version_view n))) }
+    ensures cause { FailsOnlyByDevice (T.failures tree.old) (T.failures tree.new) result }
+    ensures failed { FailsWhere is_device T.agrees T.failed tree.old tree.new result (λ files listings.
+        LooksForNamed (D.results default_files.now) files listings dir.now name.now) }
 {
     match named_by(
         alloc,
@@ -187,7 +172,7 @@ pub fn named_default<T: Tree, D: DefaultFiles>(
         entries,
         DefaultFile::Modulerc,
     )? {
-        NamedCandidate::Nothing => named_by(
+        NamedVersion::Nothing => named_by(
             alloc,
             tree,
             default_files,

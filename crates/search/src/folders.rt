@@ -1,14 +1,14 @@
 //! The walk through the folders below a directory of MODULEPATH that lists their modules.
 ghost use Rattle.std.specs.Prelude.{◌≡◌, ◌++◌, ◌+◌, ◌≤◌, List, map, Some, length, OnOk, IfOk, string_bytes};
 ghost use Rattle.std.specs.Option.{option_map};
-ghost use Rattle.filetree.specs.Agreement.{FailsAt, InEachPair, Narrows, HasCause, is_device};
+ghost use Rattle.filetree.specs.Agreement.{FailsWhere, InEachPair, Narrows, FailsOnlyByDevice, is_device};
 ghost use Rattle.search.specs.Listed as listed;
 ghost use Rattle.search.specs.BelowFolder.{folder_path, parts_of, names_in, IsUnder, AreEntriesOfFiles, AreListingEntries, IsDefaultOf};
 ghost use Rattle.search.specs.BelowFolder.{LooksForDefault, LooksFromFolder};
 ghost use Rattle.search.specs.ListingEntries.{listing_entry_view};
 
 use crate::default_files::DefaultFiles;
-use crate::defaults::{NamedCandidate, named_default};
+use crate::defaults::{NamedVersion, named_default};
 use crate::listing_entries::{ListingEntry, push_listing_entries};
 use crate::names::{folder_path, modules_among, names_in};
 use crate::paths::path_of;
@@ -43,11 +43,10 @@ impl<D: DefaultFiles> Walk<'_, D> {
             IsDefaultOf (D.results self.now.default_files.now) files folders self.now.dir.now
             (option_map (λ f. f.now) prefix.entry)
             (option_map string_bytes default))) }
-        ensures cause { HasCause (T.failures tree.old) (T.failures tree.new) result }
-        ensures failed { FailsAt is_device (T.failed tree.old) (T.failed tree.new) result (λ at.
-            InEachPair (T.agrees tree.new) (λ files folders. LooksForDefault
-            (D.results self.now.default_files.now) files folders
-            self.now.dir.now (option_map (λ f. f.now) prefix.entry) at)) }
+        ensures cause { FailsOnlyByDevice (T.failures tree.old) (T.failures tree.new) result }
+        ensures failed { FailsWhere is_device T.agrees T.failed tree.old tree.new result (λ files folders.
+            LooksForDefault (D.results self.now.default_files.now) files folders self.now.dir.now
+            (option_map (λ f. f.now) prefix.entry)) }
     {
         let Some(prefix) = prefix else {
             return Ok(None);
@@ -60,9 +59,9 @@ impl<D: DefaultFiles> Walk<'_, D> {
             prefix,
             entries,
         )? {
-            NamedCandidate::Candidate(version) => Ok(Some(path_of(self.alloc, prefix, &version)?)),
-            NamedCandidate::Nothing => Ok(None),
-            NamedCandidate::BadFile(_) => Ok(None),
+            NamedVersion::Version(version) => Ok(Some(path_of(self.alloc, prefix, &version)?)),
+            NamedVersion::Nothing => Ok(None),
+            NamedVersion::BadFile(_) => Ok(None),
         }
     }
 
@@ -86,18 +85,17 @@ impl<D: DefaultFiles> Walk<'_, D> {
             × (map listing_entry_view listing_entries.new.items ≡ map listing_entry_view listing_entries.old.items ++ more)
             × AreEntriesOfFiles (D.results self.now.default_files.now) files folders self.now.dir.now
             (map string_bytes names.now) more)) }
-        ensures cause { HasCause (T.failures tree.old) (T.failures tree.new) result }
-        ensures failed { FailsAt is_device (T.failed tree.old) (T.failed tree.new) result (λ at.
-            InEachPair (T.agrees tree.new) (λ files folders. LooksFromFolder
-            (D.results self.now.default_files.now) files folders
-            self.now.dir.now (option_map (λ f. f.now) prefix.entry) at)) }
+        ensures cause { FailsOnlyByDevice (T.failures tree.old) (T.failures tree.new) result }
+        ensures failed { FailsWhere is_device T.agrees T.failed tree.old tree.new result (λ files folders.
+            LooksFromFolder (D.results self.now.default_files.now) files folders self.now.dir.now
+            (option_map (λ f. f.now) prefix.entry)) }
     {
         let modules = modules_among(self.alloc, tree, self.dir, names)?;
         if modules.is_empty() {
             return Ok(());
         }
         let default = self.default_name(tree, prefix, entries)?;
-        push_listing_entries(self.alloc, listing_entries, &modules, as_text(&default))?;
+        push_listing_entries(self.alloc, listing_entries, &modules, default.as_deref())?;
         Ok(())
     }
 
@@ -116,11 +114,10 @@ impl<D: DefaultFiles> Walk<'_, D> {
             × (map listing_entry_view listing_entries.new.items ≡ map listing_entry_view listing_entries.old.items ++ more)
             × AreListingEntries (D.results self.now.default_files.now) files folders self.now.dir.now
             (IsUnder files folders self.now.dir.now (option_map (λ f. f.now) prefix.entry)) more)) }
-        ensures cause { HasCause (T.failures tree.old) (T.failures tree.new) result }
-        ensures failed { FailsAt is_device (T.failed tree.old) (T.failed tree.new) result (λ at.
-            InEachPair (T.agrees tree.new) (λ files folders. LooksFromFolder
-            (D.results self.now.default_files.now) files folders
-            self.now.dir.now (option_map (λ f. f.now) prefix.entry) at)) }
+        ensures cause { FailsOnlyByDevice (T.failures tree.old) (T.failures tree.new) result }
+        ensures failed { FailsWhere is_device T.agrees T.failed tree.old tree.new result (λ files folders.
+            LooksFromFolder (D.results self.now.default_files.now) files folders self.now.dir.now
+            (option_map (λ f. f.now) prefix.entry)) }
     {
         if levels == 0 {
             return Ok(());
@@ -131,21 +128,9 @@ impl<D: DefaultFiles> Walk<'_, D> {
         };
         let names = names_in(self.alloc, prefix, &entries)?;
         self.list_files(tree, prefix, &entries, &names, listing_entries)?;
-        let mut rest = names.as_slice();
-        while let [name, after @ ..] = rest {
+        for name in &names {
             self.list_folder(tree, Some(name.as_str()), levels - 1, listing_entries)?;
-            rest = after;
         }
         Ok(())
-    }
-}
-
-/// The text of an optional string, borrowed.
-fn as_text(text: &Option<String>) -> Option<&str>
-    ensures { option_map (λ t. t.now) result ≡ option_map string_bytes text.now }
-{
-    match text {
-        None => None,
-        Some(text) => Some(text.as_str()),
     }
 }

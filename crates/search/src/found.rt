@@ -2,20 +2,20 @@
 ghost use Rattle.std.specs.Prelude.{◌≡◌, ◌⊎◌, ◌<◌, map, false, Some, IfOk, string_bytes};
 ghost use Rattle.std.specs.Option.{option_map};
 ghost use Rattle.modulename.specs.ModuleName.{is_module_name};
-ghost use Rattle.filetree.specs.Agreement.{FailsAt, InEachPair, ReadsOn};
+ghost use Rattle.filetree.specs.Agreement.{FailsAt, FailsWhere, InEachPair, ReadsOn};
 ghost use Rattle.filetree.specs.Modulefiles.{path_of, directories};
 ghost use Rattle.filetree.specs.Relations.{Is};
 ghost use Rattle.search.specs.Found as meaning;
-ghost use Rattle.filetree.specs.Answers.{modulefile_view};
+ghost use Rattle.filetree.specs.Answers.{file_content_view};
 ghost use Rattle.search.specs.Looked.{LooksInFolder, LooksBelow, LooksAlong, LooksAt};
-ghost use Rattle.search.specs.Answers.{AnswersOverTree, found_view, is_failure};
+ghost use Rattle.search.specs.Answers.{FindAnswersOverTree, found_view, is_failure};
 ghost use Rattle.search.specs.Steps.{caused, because_of, module_in, module_at, DefaultIn, FoundBelow};
 
 use crate::default_files::DefaultFiles;
-use crate::defaults::{NamedCandidate, named_default};
+use crate::defaults::{NamedVersion, named_default};
 use crate::paths::path_of;
 use crate::versions::{greatest_candidate, has_version};
-use filetree::{FindFault, Modulefile, Tree, read_modulefile};
+use filetree::{FileContent, FindFault, Tree, read_modulefile};
 use modulename::is_module_name;
 use std::alloc::{AllocError, Global};
 
@@ -33,15 +33,14 @@ pub struct Found {
 /// The module of this full name at a path, by what the path holds; `None` where that is no module.
 ///
 /// It fails with `NotUtf8` where it is a module that is not UTF-8.
-fn found_in(name: String, path: String, file: Modulefile) -> Result<Option<Found>, FindFault>
+fn found_in(name: String, path: String, file: FileContent) -> Result<Option<Found>, FindFault>
     ensures { caused (option_map found_view) result
-        ≡ because_of (module_in (string_bytes name) (string_bytes path) (modulefile_view file)) }
+        ≡ because_of (module_in (string_bytes name) (string_bytes path) (file_content_view file)) }
 {
     match file {
-        Modulefile::Absent => Ok(None),
-        Modulefile::NoCookie => Ok(None),
-        Modulefile::NotUtf8 => Err(FindFault::NotUtf8(path)),
-        Modulefile::Script(text) => Ok(Some(Found { name, path, text })),
+        FileContent::Absent | FileContent::NoCookie => Ok(None),
+        FileContent::NotUtf8 => Err(FindFault::NotUtf8(path)),
+        FileContent::Script(text) => Ok(Some(Found { name, path, text })),
     }
 }
 
@@ -55,7 +54,7 @@ fn module_at<T: Tree>(
     name: &str,
 ) -> Result<Option<Found>, FindFault>
     ensures reads { ReadsOn T.agrees T.failures tree.old tree.new }
-    ensures over_tree { AnswersOverTree (T.agrees tree.new) (T.failures tree.old < T.failures tree.new)
+    ensures over_tree { FindAnswersOverTree (T.agrees tree.new) (T.failures tree.old < T.failures tree.new)
         (option_map found_view) result
         (λ files listings. Is (module_at files dir.now name.now)) }
     ensures failed { FailsAt is_failure (T.failed tree.old) (T.failed tree.new) result (λ at.
@@ -82,22 +81,19 @@ fn default_of<T: Tree, D: DefaultFiles>(
     requires { InEachPair (T.agrees tree.old) (λ files listings.
         listings (path_of dir.now name.now) ≡ Some (map string_bytes entries.now)) }
     ensures reads { ReadsOn T.agrees T.failures tree.old tree.new }
-    ensures over_tree { AnswersOverTree (T.agrees tree.new) (T.failures tree.old < T.failures tree.new)
+    ensures over_tree { FindAnswersOverTree (T.agrees tree.new) (T.failures tree.old < T.failures tree.new)
         (option_map string_bytes) result
         (λ files listings. DefaultIn (D.results default_files.now) files listings dir.now name.now) }
-    ensures failed { FailsAt is_failure (T.failed tree.old) (T.failed tree.new) result (λ at.
-        InEachPair (T.agrees tree.new) (λ files listings.
-        LooksInFolder (D.results default_files.now) files listings dir.now name.now at)) }
+    ensures failed { FailsWhere is_failure T.agrees T.failed tree.old tree.new result (λ files listings.
+        LooksInFolder (D.results default_files.now) files listings dir.now name.now) }
 {
     if !has_version(alloc, name, entries)? {
         return Ok(None);
     }
     match named_default(alloc, tree, default_files, dir, name, entries)? {
-        NamedCandidate::Candidate(version) => Ok(Some(version)),
-        NamedCandidate::Nothing => Ok(greatest_candidate(alloc, tree, dir, name, entries)?),
-        NamedCandidate::BadFile(path) => match greatest_candidate(
-            alloc, tree, dir, name, entries,
-        )? {
+        NamedVersion::Version(version) => Ok(Some(version)),
+        NamedVersion::Nothing => Ok(greatest_candidate(alloc, tree, dir, name, entries)?),
+        NamedVersion::BadFile(path) => match greatest_candidate(alloc, tree, dir, name, entries)? {
             None => Ok(None),
             Some(_) => Err(FindFault::BadDefaultFile(path)),
         },
@@ -113,12 +109,12 @@ fn default_in<T: Tree, D: DefaultFiles>(
     name: &str,
 ) -> Result<Option<String>, FindFault>
     ensures reads { ReadsOn T.agrees T.failures tree.old tree.new }
-    ensures over_tree { AnswersOverTree (T.agrees tree.new) (T.failures tree.old < T.failures tree.new)
+    ensures over_tree { FindAnswersOverTree (T.agrees tree.new) (T.failures tree.old < T.failures tree.new)
         (option_map string_bytes) result
         (λ files listings. DefaultIn (D.results default_files.now) files listings dir.now name.now) }
-    ensures failed { FailsAt is_failure (T.failed tree.old) (T.failed tree.new) result (λ at.
-        InEachPair (T.agrees tree.new) (λ files listings. (at ≡ path_of dir.now name.now)
-        ⊎ LooksInFolder (D.results default_files.now) files listings dir.now name.now at)) }
+    ensures failed { FailsWhere is_failure T.agrees T.failed tree.old tree.new result (λ files listings at.
+        (at ≡ path_of dir.now name.now)
+        ⊎ LooksInFolder (D.results default_files.now) files listings dir.now name.now at) }
 {
     let folder = path_of(alloc, dir, name)?;
     match tree.entries(&folder)? {
@@ -137,12 +133,11 @@ fn module_below<T: Tree, D: DefaultFiles>(
     name: &str,
 ) -> Result<Option<Found>, FindFault>
     ensures reads { ReadsOn T.agrees T.failures tree.old tree.new }
-    ensures over_tree { AnswersOverTree (T.agrees tree.new) (T.failures tree.old < T.failures tree.new)
+    ensures over_tree { FindAnswersOverTree (T.agrees tree.new) (T.failures tree.old < T.failures tree.new)
         (option_map found_view) result
         (λ files listings. FoundBelow (D.results default_files.now) files listings dir.now name.now) }
-    ensures failed { FailsAt is_failure (T.failed tree.old) (T.failed tree.new) result (λ at.
-        InEachPair (T.agrees tree.new) (λ files listings.
-        LooksBelow (D.results default_files.now) files listings dir.now name.now at)) }
+    ensures failed { FailsWhere is_failure T.agrees T.failed tree.old tree.new result (λ files listings.
+        LooksBelow (D.results default_files.now) files listings dir.now name.now) }
 {
     if let Some(found) = module_at(alloc, tree, dir, name)? {
         return Ok(Some(found));
@@ -179,20 +174,17 @@ fn module_along<T: Tree, D: DefaultFiles>(
     name: &str,
 ) -> Result<Found, FindFault>
     ensures reads { ReadsOn T.agrees T.failures tree.old tree.new }
-    ensures over_tree { AnswersOverTree (T.agrees tree.new)
+    ensures over_tree { FindAnswersOverTree (T.agrees tree.new)
         (T.failures tree.old < T.failures tree.new) found_view result
         (λ files listings. meaning.FoundAlong (D.results default_files.now) files listings name.now
         (map (λ dir. dir.now) dirs.now)) }
-    ensures failed { FailsAt is_failure (T.failed tree.old) (T.failed tree.new) result (λ at.
-        InEachPair (T.agrees tree.new) (λ files listings.
-        LooksAlong (D.results default_files.now) files listings name.now (map (λ dir. dir.now) dirs.now) at)) }
+    ensures failed { FailsWhere is_failure T.agrees T.failed tree.old tree.new result (λ files listings.
+        LooksAlong (D.results default_files.now) files listings name.now (map (λ dir. dir.now) dirs.now)) }
 {
-    let mut rest = dirs;
-    while let [dir, after @ ..] = rest {
+    for dir in dirs {
         if let Some(found) = module_below(alloc, tree, default_files, dir, name)? {
             return Ok(found);
         }
-        rest = after;
     }
     Err(FindFault::NotFound(String::from_str(alloc, name)?))
 }
@@ -213,12 +205,11 @@ pub fn locate<T: Tree, D: DefaultFiles>(
     name: &str,
 ) -> Result<Found, FindFault>
     ensures reads { ReadsOn T.agrees T.failures tree.old tree.new }
-    ensures over_tree { AnswersOverTree (T.agrees tree.new)
+    ensures over_tree { FindAnswersOverTree (T.agrees tree.new)
         (T.failures tree.old < T.failures tree.new) found_view result
         (λ files listings. meaning.Found (D.results default_files.now) files listings modulepath.now name.now) }
-    ensures failed { FailsAt is_failure (T.failed tree.old) (T.failed tree.new) result (λ at.
-        InEachPair (T.agrees tree.new) (λ files listings.
-        LooksAt (D.results default_files.now) files listings modulepath.now name.now at)) }
+    ensures failed { FailsWhere is_failure T.agrees T.failed tree.old tree.new result (λ files listings.
+        LooksAt (D.results default_files.now) files listings modulepath.now name.now) }
     ensures unread { is_module_name name.now ≡ false → tree.new ≡ tree.old }
 {
     if !is_module_name(name) {

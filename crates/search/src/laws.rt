@@ -2,7 +2,7 @@
 ghost use Rattle.std.specs.Prelude.{◌≡◌, [], ◌∷◌, List, Result, codes, Some, None};
 ghost use Rattle.modulename.specs.ModuleName.{Text};
 ghost use Rattle.filetree.specs.Agreement.{Files, Listings};
-ghost use Rattle.search.specs.Reasons.{Reason};
+ghost use Rattle.search.specs.Reasons.{FindReason};
 ghost use Rattle.search.specs.DefaultFiles.{last_default};
 ghost use Rattle.search.specs.Found.{FoundModule, Found};
 ghost use Rattle.search.specs.Listed.{Listing, Listed};
@@ -12,7 +12,7 @@ use crate::default_files::DefaultFiles;
 /// For the same files and directories, a name along a MODULEPATH means one module at most, and there is one reason at
 /// most why it means none.
 pub fn one_found<D: DefaultFiles>(default_files: &D)
-    ensures { (files : Files) (listings : Listings) (modulepath name : Text) (o p : Result FoundModule Reason)
+    ensures { (files : Files) (listings : Listings) (modulepath name : Text) (o p : Result FoundModule FindReason)
         → Found (D.results default_files.now) files listings modulepath name o
         → Found (D.results default_files.now) files listings modulepath name p → o ≡ p }
 {

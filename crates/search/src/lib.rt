@@ -17,7 +17,7 @@ mod version_named;
 mod versions;
 
 pub use default_files::{DefaultFiles, Ended};
-pub use defaults::{NamedCandidate, named_default};
+pub use defaults::{NamedVersion, named_default};
 pub use found::{Found, directories, locate};
 pub use laws::{one_found, one_listed, rows_of_defaults};
 pub use listing_entries::ListingEntry;

@@ -27,13 +27,11 @@ pub(crate) fn push_listing_entries(
         ≡ map listing_entry_view listing_entries.old.items
         ++ map (listing_entry_of (option_map (λ d. d.now) default.entry)) (map (λ m. m.now) modules.now)) }
 {
-    let mut rest = modules;
-    while let [name, after @ ..] = rest {
+    for name in modules {
         listing_entries.push(ListingEntry {
             name: String::from_str(alloc, name)?,
             is_default: default == Some(*name),
         })?;
-        rest = after;
     }
     Ok(())
 }

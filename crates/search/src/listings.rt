@@ -1,6 +1,6 @@
 //! The listing of all modules along a MODULEPATH, directory by directory (module(1), avail).
 ghost use Rattle.std.specs.Prelude.{◌≡◌, map, IfOk, string_bytes};
-ghost use Rattle.filetree.specs.Agreement.{FailsAt, InEachPair, Narrows, HasCause, is_device};
+ghost use Rattle.filetree.specs.Agreement.{FailsWhere, InEachPair, Narrows, FailsOnlyByDevice, is_device};
 ghost use Rattle.search.specs.Listed.{IsListing, AreListings, Listed};
 ghost use Rattle.search.specs.Looked.{LooksForListing, ListingLooksAt};
 ghost use Rattle.search.specs.ListingEntries.{listing_entry_view};
@@ -33,10 +33,9 @@ fn modules_of<T: Tree, D: DefaultFiles>(
     ensures narrows { Narrows (T.agrees tree.old) (T.agrees tree.new) }
     ensures answer { IfOk result (λ listing_entries. InEachPair (T.agrees tree.new) (λ files folders.
         IsListing (D.results default_files.now) files folders dir.now (map listing_entry_view listing_entries.items))) }
-    ensures cause { HasCause (T.failures tree.old) (T.failures tree.new) result }
-    ensures failed { FailsAt is_device (T.failed tree.old) (T.failed tree.new) result (λ at.
-        InEachPair (T.agrees tree.new) (λ files folders.
-        LooksForListing (D.results default_files.now) files folders dir.now at)) }
+    ensures cause { FailsOnlyByDevice (T.failures tree.old) (T.failures tree.new) result }
+    ensures failed { FailsWhere is_device T.agrees T.failed tree.old tree.new result (λ files folders.
+        LooksForListing (D.results default_files.now) files folders dir.now) }
 {
     let walk = Walk {
         alloc,
@@ -65,21 +64,18 @@ pub fn available<T: Tree, D: DefaultFiles>(
     ensures narrows { Narrows (T.agrees tree.old) (T.agrees tree.new) }
     ensures listed { IfOk result (λ listings. InEachPair (T.agrees tree.new) (λ files folders.
         Listed (D.results default_files.now) files folders modulepath.now (map listing_view listings.items))) }
-    ensures cause { HasCause (T.failures tree.old) (T.failures tree.new) result }
-    ensures failed { FailsAt is_device (T.failed tree.old) (T.failed tree.new) result (λ at.
-        InEachPair (T.agrees tree.new) (λ files folders.
-        ListingLooksAt (D.results default_files.now) files folders modulepath.now at)) }
+    ensures cause { FailsOnlyByDevice (T.failures tree.old) (T.failures tree.new) result }
+    ensures failed { FailsWhere is_device T.agrees T.failed tree.old tree.new result (λ files folders.
+        ListingLooksAt (D.results default_files.now) files folders modulepath.now) }
 {
     let dirs = directories(alloc, modulepath)?;
     let mut listings = Vec::new(alloc);
-    let mut rest = dirs.as_slice();
-    while let [dir, after @ ..] = rest {
+    for dir in &dirs {
         let modules = modules_of(alloc, tree, default_files, dir)?;
         listings.push(Listing {
             dir: String::from_str(alloc, dir)?,
             modules,
         })?;
-        rest = after;
     }
     Ok(listings)
 }

@@ -1,12 +1,13 @@
 //! Full names and paths of what stands below a directory, folder by folder.
 ghost use Rattle.std.specs.Prelude.{◌≡◌, map, filter, IfOk, string_bytes};
 ghost use Rattle.std.specs.Option.{option_map};
-ghost use Rattle.filetree.specs.Agreement.{FailsAt, InEachPair, Narrows, HasCause, is_device};
+ghost use Rattle.filetree.specs.Agreement.{FailsAt, InEachPair, Narrows, FailsOnlyByDevice, is_device};
 ghost use Rattle.search.specs.Single.{is_single};
 ghost use Rattle.search.specs.BelowFolder.{folder_path, name_below, names_in, is_module_below, LooksAmong};
 
+use crate::candidates::is_module_below;
 use crate::paths::{is_single, path_of};
-use filetree::{Tree, TreeFault, holds_module};
+use filetree::{Tree, TreeFault};
 use modulename::is_module_name;
 use std::alloc::{AllocError, Global};
 
@@ -44,15 +45,13 @@ pub(crate) fn names_in(
         map string_bytes names.items ≡ names_in (option_map (λ f. f.now) prefix.entry) (map string_bytes entries.now)) }
 {
     let mut names = Vec::new(alloc);
-    let mut rest = entries;
-    while let [entry, after @ ..] = rest {
+    for entry in entries {
         if is_single(entry) {
             let name = name_below(alloc, prefix, entry)?;
             if is_module_name(&name) {
                 names.push(name)?;
             }
         }
-        rest = after;
     }
     Ok(names)
 }
@@ -69,18 +68,15 @@ pub(crate) fn modules_among<'a, T: Tree>(
     ensures narrows { Narrows (T.agrees tree.old) (T.agrees tree.new) }
     ensures answer { IfOk result (λ modules. InEachPair (T.agrees tree.new) (λ files folders.
         map (λ m. m.now) modules.items ≡ filter (is_module_below files dir.now) (map string_bytes names.entry.now))) }
-    ensures cause { HasCause (T.failures tree.old) (T.failures tree.new) result }
+    ensures cause { FailsOnlyByDevice (T.failures tree.old) (T.failures tree.new) result }
     ensures failed { FailsAt is_device (T.failed tree.old) (T.failed tree.new) result
         (LooksAmong dir.now (map string_bytes names.entry.now)) }
 {
     let mut modules = Vec::new(alloc);
-    let mut rest = names;
-    while let [name, after @ ..] = rest {
-        let path = path_of(alloc, dir, name)?;
-        if holds_module(tree, &path)? {
+    for name in names {
+        if is_module_below(alloc, tree, dir, name)? {
             modules.push(name.as_str())?;
         }
-        rest = after;
     }
     Ok(modules)
 }

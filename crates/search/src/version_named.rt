@@ -1,5 +1,6 @@
 //! The version that a default file names, by the result of its evaluation (modulefile(5)).
 ghost use Rattle.std.specs.Prelude.{◌≡◌, ◌++◌, ◌∷◌, [], map, option_map, string_bytes};
+ghost use Rattle.modulename.specs.ModuleName.{slash};
 ghost use Rattle.search.specs.DefaultFiles.{after_prefix, version_in, default_by, last_default};
 ghost use Rattle.search.specs.Ended.{ended_view};
 ghost use Rattle.search.specs.VersionsNamed.{file_name, says};
@@ -33,10 +34,7 @@ impl DefaultFile {
     {
         match self {
             DefaultFile::Modulerc => last_default(name, &ended.commands),
-            DefaultFile::Version => match &ended.version {
-                None => None,
-                Some(version) => Some(version.as_str()),
-            },
+            DefaultFile::Version => ended.version.as_deref(),
         }
     }
 }
@@ -50,12 +48,9 @@ fn after_prefix<'a>(prefix: &str, text: &'a str) -> Option<&'a str>
 
 /// The rest of a text after `name/`; `None` where it doesn't begin so.
 fn below_name<'a>(name: &str, spelled: &'a str) -> Option<&'a str>
-    ensures { option_map (λ v. v.now) result ≡ after_prefix (name.now ++ 47 ∷ []) spelled.entry.now }
+    ensures { option_map (λ v. v.now) result ≡ after_prefix (name.now ++ slash ∷ []) spelled.entry.now }
 {
-    match after_prefix(name, spelled) {
-        None => None,
-        Some(rest) => after_prefix("/", rest),
-    }
+    after_prefix("/", after_prefix(name, spelled)?)
 }
 
 /// The version V in the folder of a name that is spelled `name/V`, `/V` or `./V`.
@@ -91,12 +86,10 @@ fn last_default<'a>(name: &str, commands: &'a [Vec<String>]) -> Option<&'a str>
         ≡ last_default name.now (map (λ words. map string_bytes words.items) commands.entry.now) }
 {
     let mut last = None;
-    let mut rest = commands;
-    while let [words, after @ ..] = rest {
+    for words in commands {
         if let Some(version) = default_by(name, words) {
             last = Some(version);
         }
-        rest = after;
     }
     last
 }

@@ -3,7 +3,7 @@ ghost use Rattle.std.specs.Prelude.{◌≡◌, map, filter, find, Some, OnOk, If
 ghost use Rattle.std.specs.List.{list_any};
 ghost use Rattle.std.specs.List.Sorted.{IsPermutation, IsSortedBy};
 ghost use Rattle.std.specs.Option.{option_map};
-ghost use Rattle.filetree.specs.Agreement.{FailsAt, InEachPair, Narrows, HasCause, is_device};
+ghost use Rattle.filetree.specs.Agreement.{FailsWhere, InEachPair, Narrows, FailsOnlyByDevice, is_device};
 ghost use Rattle.filetree.specs.Modulefiles.{path_of};
 ghost use Rattle.search.specs.Looked.{LooksForGreatest};
 ghost use Rattle.search.specs.Versions.{is_version, is_module_in, goes_before, IsGreatestOf, LooksFromGreatest};
@@ -30,12 +30,10 @@ pub(crate) fn is_version(alloc: Global, name: &str, entry: &str) -> Result<bool,
 pub(crate) fn has_version(alloc: Global, name: &str, entries: &[String]) -> Result<bool, AllocError>
     ensures { IfOk result (λ r. r ≡ list_any (is_version name.now) (map string_bytes entries.now)) }
 {
-    let mut rest = entries;
-    while let [entry, after @ ..] = rest {
+    for entry in entries {
         if is_version(alloc, name, entry)? {
             return Ok(true);
         }
-        rest = after;
     }
     Ok(false)
 }
@@ -50,12 +48,10 @@ fn versions_in<'a>(
         map (λ v. v.now) versions.items ≡ filter (is_version name.now) (map string_bytes entries.entry.now)) }
 {
     let mut versions = Vec::new(alloc);
-    let mut rest = entries;
-    while let [entry, after @ ..] = rest {
+    for entry in entries {
         if is_version(alloc, name, entry)? {
             versions.push(entry.as_str())?;
         }
-        rest = after;
     }
     Ok(versions)
 }
@@ -80,17 +76,14 @@ fn first_module<T: Tree>(
     ensures narrows { Narrows (T.agrees tree.old) (T.agrees tree.new) }
     ensures answer { IfOk result (λ r. InEachPair (T.agrees tree.new) (λ files listings.
         option_map string_bytes r ≡ find (is_module_in files dir.now name.now) (map (λ v. v.now) versions.now))) }
-    ensures cause { HasCause (T.failures tree.old) (T.failures tree.new) result }
-    ensures failed { FailsAt is_device (T.failed tree.old) (T.failed tree.new) result (λ at.
-        InEachPair (T.agrees tree.new) (λ files listings.
-        LooksFromGreatest files dir.now name.now (map (λ v. v.now) versions.now) at)) }
+    ensures cause { FailsOnlyByDevice (T.failures tree.old) (T.failures tree.new) result }
+    ensures failed { FailsWhere is_device T.agrees T.failed tree.old tree.new result (λ files listings.
+        LooksFromGreatest files dir.now name.now (map (λ v. v.now) versions.now)) }
 {
-    let mut rest = versions;
-    while let [version, after @ ..] = rest {
+    for version in versions {
         if is_module_in(alloc, tree, dir, name, version)? {
             return Ok(Some(String::from_str(alloc, version)?));
         }
-        rest = after;
     }
     Ok(None)
 }
@@ -111,9 +104,9 @@ pub(crate) fn greatest_candidate<T: Tree>(
     ensures narrows { Narrows (T.agrees tree.old) (T.agrees tree.new) }
     ensures answer { IfOk result (λ r. InEachPair (T.agrees tree.new) (λ files listings.
         IsGreatestOf files listings dir.now name.now (option_map string_bytes r))) }
-    ensures cause { HasCause (T.failures tree.old) (T.failures tree.new) result }
-    ensures failed { FailsAt is_device (T.failed tree.old) (T.failed tree.new) result (λ at.
-        InEachPair (T.agrees tree.new) (λ files listings. LooksForGreatest files listings dir.now name.now at)) }
+    ensures cause { FailsOnlyByDevice (T.failures tree.old) (T.failures tree.new) result }
+    ensures failed { FailsWhere is_device T.agrees T.failed tree.old tree.new result (λ files listings.
+        LooksForGreatest files listings dir.now name.now) }
 {
     let mut versions = versions_in(alloc, name, entries)?;
     sort_down(&mut versions)?;

@@ -3,7 +3,7 @@ use Rattle.std.proofs.lemmas.Result.{IfOk-weaker, err_from_is_err_and}
 use Rattle.filetree.specs.Agreement.{InEachPair, is_device}
 use Rattle.search.specs.Found.{NamedDefault}
 use Rattle.search.specs.Looked.{LooksAtDefaultFile, LooksForNamed}
-use Rattle.search.specs.VersionsNamed.{file_name, says, named_candidate_view, NamedBy}
+use Rattle.search.specs.VersionsNamed.{file_name, says, named_version_view, NamedBy}
 use Rattle.search.specs.declared.version_named.DefaultFile.TheVariants.{Modulerc, Version}
 use Rattle.search.proofs.FailureLemmas.{fails_then, fails_last}
 use Rattle.search.proofs.NamedLemmas.{modulerc_names_no_candidate, named_second}
@@ -16,10 +16,10 @@ returns-in-Nothing-clause-answer g c =
     let name = c.args.name.now in
     let agrees = g.T.Tree.agrees c.named_by-in-Nothing.new.tree in
     IfOk-weaker c.named_by-in-Nothing.result
-    (λ n. InEachPair agrees (λ files listings. NamedBy results files listings dir name Version (named_candidate_view n)))
-    (λ n. InEachPair agrees (λ files listings. NamedDefault results files listings dir name (named_candidate_view n)))
-    (λ n h files listings agree. named_second results files listings dir name (named_candidate_view n)
-    (subst (λ m. NamedBy results files listings dir name Modulerc (named_candidate_view m)) c.in-Nothing.is (c.in_ok-named.ensures.answer files listings (c.named_by-in-Nothing.ensures.narrows files listings agree)))
+    (λ n. InEachPair agrees (λ files listings. NamedBy results files listings dir name Version (named_version_view n)))
+    (λ n. InEachPair agrees (λ files listings. NamedDefault results files listings dir name (named_version_view n)))
+    (λ n h files listings agree. named_second results files listings dir name (named_version_view n)
+    (subst (λ m. NamedBy results files listings dir name Modulerc (named_version_view m)) c.in-Nothing.is (c.in_ok-named.ensures.answer files listings (c.named_by-in-Nothing.ensures.narrows files listings agree)))
     (h files listings agree))
     c.named_by-in-Nothing.ensures.answer
 
@@ -48,7 +48,7 @@ returns-in-Nothing-clause-failed g c =
     c.in_ok-named.ensures.failed
     (λ at h files listings a. inr (
       modulerc_names_no_candidate results files listings dir name
-          (subst (λ m. NamedBy results files listings dir name Modulerc (named_candidate_view m)) c.in-Nothing.is (c.in_ok-named.ensures.answer files listings (c.named_by-in-Nothing.ensures.narrows files listings a))),
+          (subst (λ m. NamedBy results files listings dir name Modulerc (named_version_view m)) c.in-Nothing.is (c.in_ok-named.ensures.answer files listings (c.named_by-in-Nothing.ensures.narrows files listings a))),
       h files listings a,
     ))
     c.named_by-in-Nothing.ensures.failed

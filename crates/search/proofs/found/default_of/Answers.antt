@@ -7,20 +7,20 @@ use Rattle.search.specs.Reasons.{bad_default}
 use Rattle.search.specs.Found.{NamedDefault}
 use Rattle.search.specs.Looked.{LooksForNamed, LooksForGreatest, LooksInFolder}
 use Rattle.search.specs.Answers.{is_failure}
-use Rattle.search.specs.VersionsNamed.{named_candidate_view}
+use Rattle.search.specs.VersionsNamed.{named_version_view}
 use Rattle.search.specs.Versions.{IsGreatestOf, is_version}
 use Rattle.search.proofs.StepLemmas.{default_named, default_greatest, default_bad, default_none}
 use Rattle.search.proofs.FailureLemmas.{fails_then, same_failure}
 use Rattle.search.proofs.VersionLemmas.{no_candidates, some_version}
 use Rattle.search.proofs.found.default_of.Goals as goal
 
-pub returns-in-Candidate-clause-over_tree : goal.returns-in-Candidate-clause-over_tree
-returns-in-Candidate-clause-over_tree g c = λ files listings agree.
+pub returns-in-Version-clause-over_tree : goal.returns-in-Version-clause-over_tree
+returns-in-Version-clause-over_tree g c = λ files listings agree.
     let results = g.D.DefaultFiles.results c.args.default_files.now in
     let dir = c.args.dir.now in
     let name = c.args.name.now in
-    default_named results files listings dir name (string_bytes c.in-Candidate.version)
-    (subst (λ m. NamedDefault results files listings dir name (named_candidate_view m)) c.in-Candidate.is (c.in_ok-version.ensures.answer files listings agree))
+    default_named results files listings dir name (string_bytes c.in-Version.version)
+    (subst (λ m. NamedDefault results files listings dir name (named_version_view m)) c.in-Version.is (c.in_ok-version.ensures.answer files listings agree))
 
 pub returns-in_ok-greatest_candidate-in-Nothing-clause-over_tree : goal.returns-in_ok-greatest_candidate-in-Nothing-clause-over_tree
 returns-in_ok-greatest_candidate-in-Nothing-clause-over_tree g c = λ files listings agree.
@@ -28,7 +28,7 @@ returns-in_ok-greatest_candidate-in-Nothing-clause-over_tree g c = λ files list
     let dir = c.args.dir.now in
     let name = c.args.name.now in
     default_greatest results files listings dir name (option_map string_bytes c.in_ok-greatest_candidate-in-Nothing.field-0)
-    (subst (λ m. NamedDefault results files listings dir name (named_candidate_view m)) c.in-Nothing.is (c.in_ok-version.ensures.answer files listings (c.greatest_candidate.ensures.narrows files listings agree)))
+    (subst (λ m. NamedDefault results files listings dir name (named_version_view m)) c.in-Nothing.is (c.in_ok-version.ensures.answer files listings (c.greatest_candidate.ensures.narrows files listings agree)))
     (c.in_ok-greatest_candidate-in-Nothing.ensures.answer files listings agree)
 
 pub returns-in-Some-clause-over_tree : goal.returns-in-Some-clause-over_tree
@@ -37,7 +37,7 @@ returns-in-Some-clause-over_tree g c = λ files listings agree.
     let dir = c.args.dir.now in
     let name = c.args.name.now in
     default_bad results files listings dir name (string_bytes c.in-Some.field-0) (bad_default (string_bytes c.in-BadFile.path))
-    (subst (λ m. NamedDefault results files listings dir name (named_candidate_view m)) c.in-BadFile.is (c.in_ok-version.ensures.answer files listings (c.greatest_candidate-in-BadFile.ensures.narrows files listings agree)))
+    (subst (λ m. NamedDefault results files listings dir name (named_version_view m)) c.in-BadFile.is (c.in_ok-version.ensures.answer files listings (c.greatest_candidate-in-BadFile.ensures.narrows files listings agree)))
     (subst (λ o. IsGreatestOf files listings dir name (option_map string_bytes o)) c.in-Some.is (c.in_ok-greatest_candidate-in-BadFile.ensures.answer files listings agree))
 
 pub returns-then-not-branch-clause-over_tree : goal.returns-then-not-branch-clause-over_tree
@@ -81,7 +81,7 @@ returns-in_err-greatest_candidate-in-Nothing-clause-failed g c =
     (λ at h files listings a.
     let b = c.greatest_candidate.ensures.narrows files listings a in (
       some_version files listings dir name entries (c.requires files listings (c.named_default.ensures.narrows files listings b)) some,
-      inr (inl (subst (λ m. NamedDefault results files listings dir name (named_candidate_view m)) c.in-Nothing.is (c.in_ok-version.ensures.answer files listings b)), h files listings a),
+      inr (inl (subst (λ m. NamedDefault results files listings dir name (named_version_view m)) c.in-Nothing.is (c.in_ok-version.ensures.answer files listings b)), h files listings a),
     ))
     c.in_err-greatest_candidate-in-Nothing.ensures.failed)
 
@@ -101,6 +101,6 @@ returns-in_err-greatest_candidate-in-BadFile-clause-failed g c =
     (λ at h files listings a.
     let b = c.greatest_candidate-in-BadFile.ensures.narrows files listings a in (
       some_version files listings dir name entries (c.requires files listings (c.named_default.ensures.narrows files listings b)) some,
-      inr (inr (bad_default (string_bytes c.in-BadFile.path), subst (λ m. NamedDefault results files listings dir name (named_candidate_view m)) c.in-BadFile.is (c.in_ok-version.ensures.answer files listings b)), h files listings a),
+      inr (inr (bad_default (string_bytes c.in-BadFile.path), subst (λ m. NamedDefault results files listings dir name (named_version_view m)) c.in-BadFile.is (c.in_ok-version.ensures.answer files listings b)), h files listings a),
     ))
     c.in_err-greatest_candidate-in-BadFile.ensures.failed)

@@ -1,11 +1,8 @@
-use Rattle.std.proofs.Common.{◌≡◌, ◌++◌, length, map, option_map}
+use Rattle.std.proofs.Common.{◌≡◌, ◌++◌, drop, map, option_map}
 use Rattle.search.specs.ListingEntries.{listing_entry_view, listing_entry_of}
 use Rattle.search.proofs.listing_entries.push_listing_entries.Given as goal
 
-abbrev pub invariant-loop-rest : goal.invariant-loop-rest
-invariant-loop-rest l =
+abbrev pub invariant-loop-name : goal.invariant-loop-name
+invariant-loop-name l =
     map listing_entry_view l.initial.listing_entries.items ++ map (listing_entry_of (option_map (λ d. d.now) l.default)) (map (λ m. m.now) l.modules)
-    ≡ map listing_entry_view l.listing_entries.items ++ map (listing_entry_of (option_map (λ d. d.now) l.default)) (map (λ m. m.now) l.rest)
-
-abbrev pub decreases-loop-rest : goal.decreases-loop-rest
-decreases-loop-rest l = length l.rest
+    ≡ map listing_entry_view l.listing_entries.items ++ map (listing_entry_of (option_map (λ d. d.now) l.default)) (map (λ m. m.now) (drop l.name-index l.modules))

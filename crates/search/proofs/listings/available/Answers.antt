@@ -1,5 +1,6 @@
+use Rattle.std.proofs.lemmas.List.{drop_all}
 use Rattle.std.proofs.lemmas.Result.{err_from_is_err_and}
-use Rattle.std.proofs.Common.{◌≡◌, ◌<◌, ◌≤◌, ◌-◌, ℕ, true, take, drop, Bor, List, [], ◌∷◌, ◌++◌, Option, length, get_or, map, refl, sym, ap, ◌∙◌, subst, append-nil, string_bytes, vec_items, arith}
+use Rattle.std.proofs.Common.{◌≡◌, ℕ, true, Bor, List, [], ◌∷◌, ◌++◌, Option, get_or, map, refl, sym, ap, ◌∙◌, subst, append-nil, string_bytes, vec_items, arith}
 use Rattle.modulename.specs.ModuleName.{Text}
 use Rattle.filetree.specs.Agreement.{Files, Listings, InEachPair, is_device}
 use Rattle.filetree.specs.Modulefiles.{directories}
@@ -7,7 +8,7 @@ use Rattle.search.specs.DefaultFiles.{DefaultFileResult}
 use Rattle.search.specs.Listed.{Listing, IsListing, AreListings}
 use Rattle.search.specs.Looked.{LooksForListing, ListingLooksAt}
 use Rattle.search.proofs.FailureLemmas.{fails_then}
-use Rattle.search.proofs.VersionLemmas.{has, split_first}
+use Rattle.search.proofs.VersionLemmas.{has, first_of}
 use Rattle.search.specs.ListingEntries.{listing_entry_view}
 use Rattle.search.specs.Listings.{listing_view}
 use Rattle.search.proofs.ListingLookLemmas.{first_has, later_has}
@@ -16,17 +17,12 @@ use Rattle.search.proofs.listings.available.Goals as goal
 nothing : Bor (List ℕ)
 nothing = record { ref_ptr = (0, 0); now = [] }
 
-none_left : (results : Text → Text → Option DefaultFileResult → Type 0) (files : Files) (folders : Listings) {X : Type 0} (view : X → Text) (rest : List X) → length rest < 1
-    → AreListings results files folders (map view rest) []
-none_left results files folders view [] h = tt
-none_left results files folders view (x ∷ xs) h = absurd (omega arith)
-
--- the listing of the first remaining directory, before those of the others
-listed_first : (results : Text → Text → Option DefaultFileResult → Type 0) (files : Files) (folders : Listings) {X : Type 0} (view : X → Text) (d : X) (rest : List X) → 1 ≤ length rest
-    → (l : Listing) → l.0 ≡ view (get_or rest 0 d) → IsListing results files folders (view (get_or rest 0 d)) l.1
-    → (more : List Listing) → AreListings results files folders (map view (take (length rest - 1) (drop 1 rest))) more → AreListings results files folders (map view rest) (l ∷ more)
-listed_first results files folders view d rest some l dir listing_entries more h =
-    subst (λ dirs. AreListings results files folders dirs (l ∷ more)) (sym (split_first view d rest some)) (dir, listing_entries, h)
+-- the listing of the first of the directories from one on, before those of the others
+listed_first : (results : Text → Text → Option DefaultFileResult → Type 0) (files : Files) (folders : Listings) (first : Text) (after rest : List Text) → rest ≡ first ∷ after
+    → (l : Listing) → l.0 ≡ first → IsListing results files folders first l.1
+    → (more : List Listing) → AreListings results files folders after more → AreListings results files folders rest (l ∷ more)
+listed_first results files folders first after rest split l dir listing_entries more h =
+    subst (λ dirs. AreListings results files folders dirs (l ∷ more)) (sym split) (dir, listing_entries, h)
 
 pushed : {X Y : Type 0} (view : X → Y) (xs ys : List X) (x : X) → ys ≡ xs ++ x ∷ [] → (more : List Y) → map view xs ++ view x ∷ more ≡ map view ys ++ more
 pushed view xs ys x e more = sym (ap (λ zs. map view zs ++ more) e ∙ at xs)
@@ -38,55 +34,57 @@ pushed view xs ys x e more = sym (ap (λ zs. map view zs ++ more) e ∙ at xs)
 pub returns-clause-listed : goal.returns-clause-listed
 returns-clause-listed g c = λ files folders a.
     let results = g.D.DefaultFiles.results c.args.default_files.now in
-    let listings = map listing_view c.loop-rest.listings.items in
+    let listings = map listing_view c.loop-dir.listings.items in
     subst (AreListings results files folders (directories c.args.modulepath.now)) (append-nil listings)
-    (subst (λ dirs. AreListings results files folders dirs (listings ++ [])) (ap (map (λ dir. dir.now)) c.as_slice-rest.ensures.value ∙ c.in_ok-dirs.ensures)
-    (c.loop-rest.invariant.so_far files folders a [] (none_left results files folders (λ dir. dir.now) c.loop-rest.rest.now c.in_default.len_below)))
+    (subst (λ dirs. AreListings results files folders dirs (listings ++ [])) (ap (map (λ dir. dir.now)) c.deref-dir-items.ensures.value ∙ c.in_ok-dirs.ensures)
+    (c.loop-dir.invariant.so_far files folders a []
+    (subst (λ rest. AreListings results files folders (map (λ dir. dir.now) rest) []) (sym (drop_all c.loop-dir.dir-index c.deref-dir-items.result.now c.loop-dir-test.false)) tt)))
 
 pub returns-clause-failed : goal.returns-clause-failed
-returns-clause-failed g c = c.loop-rest.invariant.unfailed
+returns-clause-failed g c = c.loop-dir.invariant.unfailed
 
 pub returns-in_err-from_str-clause-failed : goal.returns-in_err-from_str-clause-failed
 returns-in_err-from_str-clause-failed g c =
     let p = err_from_is_err_and c.from_residual-in_err-from_str.result c.from_residual-in_err-from_str.ensures.1 in
-    rw (p.1, p.2) (c.in_ok-modules.ensures.failed ∙ c.loop-rest.invariant.unfailed)
+    rw (p.1, p.2) (c.in_ok-modules.ensures.failed ∙ c.loop-dir.invariant.unfailed)
 
 pub returns-in_err-push-clause-failed : goal.returns-in_err-push-clause-failed
 returns-in_err-push-clause-failed g c =
     let p = err_from_is_err_and c.from_residual-in_err-push.result c.from_residual-in_err-push.ensures.1 in
-    rw (p.1, p.2) (c.in_ok-modules.ensures.failed ∙ c.loop-rest.invariant.unfailed)
+    rw (p.1, p.2) (c.in_ok-modules.ensures.failed ∙ c.loop-dir.invariant.unfailed)
 
 pub returns-in_err-modules-clause-failed : goal.returns-in_err-modules-clause-failed
 unfolding nothing
 returns-in_err-modules-clause-failed g c =
     let results = g.D.DefaultFiles.results c.args.default_files.now in
     let modulepath = c.args.modulepath.now in
-    let rest = c.loop-rest.rest.now in
-    let dir = (get_or rest 0 nothing).now in
+    let dirs = c.deref-dir-items.result.now in
+    let i = c.loop-dir.dir-index in
+    let dir = (get_or dirs i nothing).now in
     let agrees = g.T.Tree.agrees c.modules_of.new.tree in
     let fails = is_device c.in_err-modules.field-0.0 in
     let p = err_from_is_err_and c.from_residual-in_err-modules.result c.from_residual-in_err-modules.ensures.1 in
     let among : has dir (directories modulepath) ≡ true =
-    ap (has dir) (sym (ap (map (λ d. d.now)) c.as_slice-rest.ensures.value ∙ c.in_ok-dirs.ensures))
-    ∙ c.loop-rest.invariant.among dir (first_has (λ d. d.now) nothing rest c.in-len1-up.len_at_least) in
-    rw (p.1, p.2) (fails_then fails fails (g.T.Tree.failed c.args.tree.now) (g.T.Tree.failed c.loop-rest.tree) (g.T.Tree.failed c.modules_of.new.tree)
+    ap (has dir) (sym (ap (map (λ dir. dir.now)) c.deref-dir-items.ensures.value ∙ c.in_ok-dirs.ensures))
+    ∙ c.loop-dir.invariant.among dir (first_has _ _ _ (first_of (λ d. d.now) nothing dirs i c.loop-dir-test.true)) in
+    rw (p.1, p.2) (fails_then fails fails (g.T.Tree.failed c.args.tree.now) (g.T.Tree.failed c.loop-dir.tree) (g.T.Tree.failed c.modules_of.new.tree)
     (λ at. InEachPair agrees (λ files folders. LooksForListing results files folders dir at))
-    (λ at. InEachPair agrees (λ files folders. ListingLooksAt results files folders modulepath at)) c.loop-rest.invariant.unfailed refl
+    (λ at. InEachPair agrees (λ files folders. ListingLooksAt results files folders modulepath at)) c.loop-dir.invariant.unfailed refl
     (λ at h files folders a. (dir, among, h files folders a)) c.in_err-modules.ensures.failed)
 
-pub loop-rest-preserved : goal.loop-rest-preserved
+pub loop-dir-preserved : goal.loop-dir-preserved
 unfolding nothing
-loop-rest-preserved g c = record {
-  reads = record { narrows = λ files folders a. c.loop-rest.invariant.reads.narrows files folders (c.modules_of.ensures.narrows files folders a); later = omega arith };
+loop-dir-preserved g c = record {
+  reads = record { narrows = λ files folders a. c.loop-dir.invariant.reads.narrows files folders (c.modules_of.ensures.narrows files folders a); later = omega arith };
   so_far = λ files folders a more h.
       let results = g.D.DefaultFiles.results c.args.default_files.now in
       let b = c.modules_of.ensures.narrows files folders a in
       let listing : Listing = (string_bytes c.in_ok-from_str.field-0, map listing_entry_view (vec_items c.in_ok-modules.modules)) in
-      subst (AreListings results files folders (map (λ d. d.now) c.as_slice-rest.result.now))
-      (pushed listing_view c.loop-rest.listings.items c.push.new.self.items _ c.in_ok-push.ensures.items more)
-      (c.loop-rest.invariant.so_far files folders b (listing ∷ more)
-      (listed_first results files folders (λ d. d.now) nothing c.loop-rest.rest.now c.in-len1-up.len_at_least listing c.in_ok-from_str.ensures.ok
+      subst (AreListings results files folders (map (λ d. d.now) c.deref-dir-items.result.now))
+      (pushed listing_view c.loop-dir.listings.items c.push.new.self.items _ c.in_ok-push.ensures.items more)
+      (c.loop-dir.invariant.so_far files folders b (listing ∷ more)
+      (listed_first results files folders _ _ _ (first_of (λ d. d.now) nothing c.deref-dir-items.result.now c.loop-dir.dir-index c.loop-dir-test.true) listing c.in_ok-from_str.ensures.ok
       (c.in_ok-modules.ensures.answer files folders a) more h));
-  unfailed = c.in_ok-modules.ensures.failed ∙ c.loop-rest.invariant.unfailed;
-  among = λ d h. c.loop-rest.invariant.among d (later_has (λ dir. dir.now) nothing c.loop-rest.rest.now c.in-len1-up.len_at_least d h);
+  unfailed = c.in_ok-modules.ensures.failed ∙ c.loop-dir.invariant.unfailed;
+  among = λ d h. c.loop-dir.invariant.among d (later_has _ _ _ (first_of (λ dir. dir.now) nothing c.deref-dir-items.result.now c.loop-dir.dir-index c.loop-dir-test.true) d h);
 }

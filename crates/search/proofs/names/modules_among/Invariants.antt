@@ -1,18 +1,15 @@
-use Rattle.std.proofs.Common.{◌≡◌, ◌++◌, true, length, filter, map, string_bytes}
+use Rattle.std.proofs.Common.{◌≡◌, ◌++◌, true, drop, filter, map, string_bytes}
 use Rattle.filetree.specs.Agreement.{InEachPair, ReadsOn}
 use Rattle.modulename.specs.ModuleName.{Text}
 use Rattle.search.proofs.VersionLemmas.{has}
 use Rattle.search.specs.BelowFolder.{is_module_below}
 use Rattle.search.proofs.names.modules_among.Given as goal
 
-abbrev pub invariant-loop-rest : goal.invariant-loop-rest
-invariant-loop-rest g l = record {
+abbrev pub invariant-loop-name : goal.invariant-loop-name
+invariant-loop-name g l = record {
   reads : ReadsOn g.T.Tree.agrees g.T.Tree.failures l.initial.tree l.tree;
   so_far : InEachPair (g.T.Tree.agrees l.tree) (λ files folders.
-      filter (is_module_below files l.dir) (map string_bytes l.names) ≡ map (λ m. m.now) l.modules.items ++ filter (is_module_below files l.dir) (map string_bytes l.rest));
+      filter (is_module_below files l.dir) (map string_bytes l.names) ≡ map (λ m. m.now) l.modules.items ++ filter (is_module_below files l.dir) (map string_bytes (drop l.name-index l.names)));
   unfailed : g.T.Tree.failed l.tree ≡ g.T.Tree.failed l.initial.tree;
-  among : (n : Text) → has n (map string_bytes l.rest) ≡ true → has n (map string_bytes l.names) ≡ true;
+  among : (n : Text) → has n (map string_bytes (drop l.name-index l.names)) ≡ true → has n (map string_bytes l.names) ≡ true;
 }
-
-abbrev pub decreases-loop-rest : goal.decreases-loop-rest
-decreases-loop-rest g l = length l.rest

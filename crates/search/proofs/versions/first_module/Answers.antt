@@ -4,24 +4,24 @@ use Rattle.filetree.specs.Agreement.{InEachPair, is_device}
 use Rattle.filetree.specs.Modulefiles.{path_of}
 use Rattle.search.specs.Versions.{is_module_in, LooksFromGreatest}
 use Rattle.search.proofs.FailureLemmas.{fails_then}
-use Rattle.search.proofs.VersionLemmas.{find_later, looks_first, looks_later}
+use Rattle.search.proofs.VersionLemmas.{first_of, find_later, looks_first, looks_later}
 use Rattle.search.proofs.versions.first_module.Goals as goal
 
 nothing : Bor (List ℕ)
 nothing = record { ref_ptr = (0, 0); now = [] }
 
-pub loop-rest-preserved : goal.loop-rest-preserved
+pub loop-version-preserved : goal.loop-version-preserved
 unfolding nothing
-loop-rest-preserved g c = record {
-  reads = record { narrows = λ files listings a. c.loop-rest.invariant.reads.narrows files listings (c.is_module_in.ensures.narrows files listings a); later = omega arith };
+loop-version-preserved g c = record {
+  reads = record { narrows = λ files listings a. c.loop-version.invariant.reads.narrows files listings (c.is_module_in.ensures.narrows files listings a); later = omega arith };
   none_yet = λ files listings a.
-      c.loop-rest.invariant.none_yet files listings (c.is_module_in.ensures.narrows files listings a)
-      ∙ find_later (λ v. v.now) (is_module_in files c.args.dir.now c.args.name.now) nothing c.loop-rest.rest.now c.in-len1-up.len_at_least
+      c.loop-version.invariant.none_yet files listings (c.is_module_in.ensures.narrows files listings a)
+      ∙ find_later (is_module_in files c.args.dir.now c.args.name.now) _ _ _ (first_of (λ v. v.now) nothing c.args.versions.now c.loop-version.version-index c.loop-version-test.true)
       (c.in_ok-is_module_in.ensures.answer files listings a ∙ c.if-branch.false);
-  unfailed = c.in_ok-is_module_in.ensures.failed ∙ c.loop-rest.invariant.unfailed;
+  unfailed = c.in_ok-is_module_in.ensures.failed ∙ c.loop-version.invariant.unfailed;
   looked = λ files listings a at h.
-      c.loop-rest.invariant.looked files listings (c.is_module_in.ensures.narrows files listings a) at
-      (looks_later (λ v. v.now) files c.args.dir.now c.args.name.now nothing c.loop-rest.rest.now c.in-len1-up.len_at_least at
+      c.loop-version.invariant.looked files listings (c.is_module_in.ensures.narrows files listings a) at
+      (looks_later files c.args.dir.now c.args.name.now _ _ _ (first_of (λ v. v.now) nothing c.args.versions.now c.loop-version.version-index c.loop-version-test.true) at
       (c.in_ok-is_module_in.ensures.answer files listings a ∙ c.if-branch.false) h);
 }
 
@@ -30,24 +30,25 @@ unfolding nothing
 returns-in_err-is_module_in-clause-failed g c =
     let dir = c.args.dir.now in
     let name = c.args.name.now in
-    let rest = c.loop-rest.rest.now in
+    let versions = c.args.versions.now in
+    let i = c.loop-version.version-index in
     let p = err_from_is_err_and c.from_residual.result c.from_residual.ensures.1 in
     rw (p.1, p.2) (fails_then (is_device c.in_err-is_module_in.field-0.0) (is_device c.in_err-is_module_in.field-0.0)
-    (g.T.Tree.failed c.args.tree.now) (g.T.Tree.failed c.loop-rest.tree) (g.T.Tree.failed c.is_module_in.new.tree)
-    (λ at. at ≡ path_of dir (path_of name (get_or rest 0 nothing).now))
-    (λ at. InEachPair (g.T.Tree.agrees c.is_module_in.new.tree) (λ files listings. LooksFromGreatest files dir name (map (λ v. v.now) c.args.versions.now) at))
-    c.loop-rest.invariant.unfailed refl
-    (λ at e files listings a. c.loop-rest.invariant.looked files listings (c.is_module_in.ensures.narrows files listings a) at
-    (looks_first (λ v. v.now) files dir name nothing rest c.in-len1-up.len_at_least at e))
+    (g.T.Tree.failed c.args.tree.now) (g.T.Tree.failed c.loop-version.tree) (g.T.Tree.failed c.is_module_in.new.tree)
+    (λ at. at ≡ path_of dir (path_of name (get_or versions i nothing).now))
+    (λ at. InEachPair (g.T.Tree.agrees c.is_module_in.new.tree) (λ files listings. LooksFromGreatest files dir name (map (λ v. v.now) versions) at))
+    c.loop-version.invariant.unfailed refl
+    (λ at e files listings a. c.loop-version.invariant.looked files listings (c.is_module_in.ensures.narrows files listings a) at
+    (looks_first files dir name _ _ _ (first_of (λ v. v.now) nothing versions i c.loop-version-test.true) at e))
     c.in_err-is_module_in.ensures.failed)
 
 pub returns-in_err-from_str-clause-failed : goal.returns-in_err-from_str-clause-failed
 returns-in_err-from_str-clause-failed g c =
     let p = err_from_is_err_and c.from_residual-in_err-from_str.result c.from_residual-in_err-from_str.ensures.1 in
-    rw (p.1, p.2) (c.in_ok-is_module_in.ensures.failed ∙ c.loop-rest.invariant.unfailed)
+    rw (p.1, p.2) (c.in_ok-is_module_in.ensures.failed ∙ c.loop-version.invariant.unfailed)
 
 pub returns-then-branch-clause-failed : goal.returns-then-branch-clause-failed
-returns-then-branch-clause-failed g c = c.in_ok-is_module_in.ensures.failed ∙ c.loop-rest.invariant.unfailed
+returns-then-branch-clause-failed g c = c.in_ok-is_module_in.ensures.failed ∙ c.loop-version.invariant.unfailed
 
 pub returns-clause-failed : goal.returns-clause-failed
-returns-clause-failed g c = c.loop-rest.invariant.unfailed
+returns-clause-failed g c = c.loop-version.invariant.unfailed

@@ -13,14 +13,14 @@ returns-clause-added g c = λ files folders a.
     let results = g.D.DefaultFiles.results c.args.self.now.default_files.now in
     let dir = c.args.self.now.dir.now in
     let prefix = option_map (λ f. f.now) c.args.prefix in
-    let default = option_map (λ t. t.now) c.as_text.result in
+    let default = option_map (λ t. t.now) c.as_deref.result in
     let before = c.default_name.ensures.narrows files folders a in (
       map (listing_entry_of default) (map (λ m. m.now) c.deref.result.now),
       c.in_ok-push_listing_entries.ensures,
       files_made results files folders dir prefix default (map string_bytes c.args.entries.now)
           (map string_bytes c.args.names.now) (map (λ m. m.now) c.deref.result.now) c.requires.named
           (ap (map (λ m. m.now)) c.deref.ensures.value ∙ c.in_ok-modules.ensures.answer files folders before)
-          (subst (IsDefaultOf results files folders dir prefix) (sym c.as_text.ensures) (c.in_ok-default.ensures.answer files folders a)),
+          (subst (IsDefaultOf results files folders dir prefix) (sym c.as_deref.ensures.value) (c.in_ok-default.ensures.answer files folders a)),
     )
 
 pub returns-in_err-modules-clause-failed : goal.returns-in_err-modules-clause-failed
