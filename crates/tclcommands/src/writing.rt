@@ -131,13 +131,11 @@ fn extended(text: String, values: &[String], limit: usize) -> Result<String, Val
     ensures { GivesText result (limited limit (string_bytes text ++ joined [] (map string_bytes values.now))) }
 {
     let mut text = text;
-    let mut rest = values;
-    while let [value, after @ ..] = rest {
+    for value in values {
         if value.len() > limit.saturating_sub(text.len()) {
             return Err(ValueFault::ValueTooLong);
         }
         text.push_str(value)?;
-        rest = after;
     }
     if text.len() > limit {
         return Err(ValueFault::ValueTooLong);
