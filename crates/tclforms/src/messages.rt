@@ -1,11 +1,11 @@
-//! The errors of core commands that catch(n) sees, and the fault of an option or subcommand that is unsupported.
-ghost use Rattle.std.specs.Prelude.{◌≡◌, ◌++◌, codes, IfOk, string_bytes};
-ghost use Rattle.tcloperators.specs.Faults.{HasReason, error, unsupported};
+//! The errors of core commands that catch(n) sees.
+ghost use Rattle.std.specs.Prelude.{◌≡◌, IfOk, string_bytes};
+ghost use Rattle.tcloperators.specs.Faults.{HasReason, error};
 ghost use Rattle.tclrules.specs.Messages.{bad_option, no_body};
-ghost use Rattle.tclrules.specs.Messages.{in_quotes, no_command, outside_loop, cannot_unset, no_loop_variable, cannot_redefine};
+ghost use Rattle.tclrules.specs.Messages.{no_command, outside_loop, cannot_unset, no_loop_variable, cannot_redefine};
 
 use std::alloc::{AllocError, Global};
-use tcloperators::{ValueFault, tcl_error};
+use tcloperators::{ValueFault, in_quotes, tcl_error};
 
 /// switch(n) has no such option.
 #[tactic(auto, unfolding(tclrules::specs::Messages::bad_option))]
@@ -21,33 +21,6 @@ pub(crate) fn no_body(alloc: Global, pattern: &str) -> ValueFault
     ensures { HasReason (error (no_body pattern.now)) result }
 {
     tcl_error(format!(in alloc; "no body for pattern \"{pattern}\""))
-}
-
-/// The fault of a command or an option of this name that is unsupported.
-pub(crate) fn unsupported(alloc: Global, name: &str) -> ValueFault
-    ensures { HasReason (unsupported name.now) result }
-{
-    match String::from_str(alloc, name) {
-        Ok(name) => ValueFault::LeftOut(name),
-        Err(_) => ValueFault::OutOfMemory,
-    }
-}
-
-/// The fault of a subcommand of info(n) that is unsupported.
-pub(crate) fn unsupported_info(alloc: Global, word: &str) -> ValueFault
-    ensures { HasReason (unsupported (codes "info " ++ word.now)) result }
-{
-    match format!(in alloc; "info {word}") {
-        Ok(name) => ValueFault::LeftOut(name),
-        Err(_) => ValueFault::OutOfMemory,
-    }
-}
-
-/// The text between double quotes.
-fn in_quotes(alloc: Global, text: &str) -> Result<String, AllocError>
-    ensures { IfOk result (λ t. string_bytes t ≡ in_quotes text.now) }
-{
-    format!(in alloc; "\"{text}\"")
 }
 
 /// Neither Tcl, nor a procedure, nor the host has a command of this name.

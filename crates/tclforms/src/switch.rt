@@ -7,9 +7,9 @@ ghost use Rattle.tclrules.specs.Forms.{is_option, options, glob_option, by_glob,
 ghost use Rattle.tclforms.specs.Views.{texts_of, in_pairs, pattern_texts, form_view};
 
 use crate::form::{Form, Patterns};
-use crate::messages::{bad_option, no_body, unsupported};
+use crate::messages::{bad_option, no_body};
 use std::alloc::Global;
-use tcloperators::{ValueFault, elements, not_a_list, wrong_words};
+use tcloperators::{ValueFault, elements, not_a_list, unsupported, wrong_words};
 
 /// Whether a word is an option: it begins with `-`, and more than one word follows it.
 fn is_option(word: &str, following: &[String]) -> bool

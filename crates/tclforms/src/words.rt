@@ -7,9 +7,8 @@ ghost use Rattle.tclforms.specs.Views.{form_view, texts_of};
 ghost use Rattle.std.specs.Prelude.{◌≡◌};
 
 use crate::form::{Form, Simple};
-use crate::messages::{unsupported, unsupported_info};
 use std::alloc::Global;
-use tcloperators::{ValueFault, wrong_words};
+use tcloperators::{ValueFault, unsupported, unsupported_subcommand, wrong_words};
 
 /// `set name ?value?`
 pub(crate) fn set_form(alloc: Global, words: &[String]) -> Result<Form<'_>, ValueFault>
@@ -175,7 +174,7 @@ pub(crate) fn info_form(alloc: Global, words: &[String]) -> Result<Form<'_>, Val
         [subcommand, operands @ ..] if subcommand.as_str() == "exists" => {
             exists_form(alloc, operands)
         }
-        [subcommand, ..] => Err(unsupported_info(alloc, subcommand)),
+        [subcommand, ..] => Err(unsupported_subcommand(alloc, "info", subcommand)),
     }
 }
 

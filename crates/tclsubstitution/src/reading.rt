@@ -6,22 +6,16 @@ ghost use Rattle.tclrules.specs.Plans as plans;
 ghost use Rattle.tclrules.specs.Plans.{Job, Next};
 ghost use Rattle.tclrules.specs.Words.{found, read, read_element, read_location, read_scalar};
 ghost use Rattle.tcloperators.specs.Faults.{HasReason, error};
-ghost use Rattle.tclrules.specs.Messages.{in_quotes, is_array, no_variable};
+ghost use Rattle.tcloperators.specs.Messages.{in_quotes};
+ghost use Rattle.tclrules.specs.Messages.{is_array, no_variable};
 ghost use Rattle.tclsubstitution.specs.Stops.{after};
 ghost use Rattle.tclvariables.specs.Locations.{is_global, location_view};
 
 use crate::stop::Stop;
 use std::alloc::{AllocError, Global};
-use tcloperators::{ValueFault, tcl_error};
+use tcloperators::{ValueFault, in_quotes, tcl_error};
 use tclrules::Host;
 use tclvariables::{Location, Scalar, Scope, Variables, location_named, location_of};
-
-/// A text in double quotes, as messages have names.
-fn in_quotes(alloc: Global, text: &str) -> Result<String, AllocError>
-    ensures { IfOk result (λ t. string_bytes t ≡ in_quotes text.now) }
-{
-    format!(in alloc; "\"{text}\"")
-}
 
 /// The message that a variable can't be read, with what it ends with.
 fn cannot_read(alloc: Global, name: &str, ending: &str) -> Result<String, AllocError>

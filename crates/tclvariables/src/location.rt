@@ -1,13 +1,13 @@
 //! The location that the name of a variable denotes (Tcl(n), rule 8; global(n)).
 ghost use Rattle.std.specs.Prelude.{◌≡◌, option_map};
 ghost use Rattle.tclchars.specs.Answers.{Gives};
-ghost use Rattle.tclvalue.specs.Faults.{reason_of, HasReason, unsupported};
+ghost use Rattle.tclvalue.specs.Faults.{reason_of};
 ghost use Rattle.tclrules.specs.Variables.{name_and_index, has_colons, unqualified, indexed, location_of, location_named, writable};
 ghost use Rattle.tclvariables.specs.Locations.{is_env, is_global, location_view, scalar_view, shared_name};
 
 use crate::variables::Variables;
 use std::alloc::Global;
-use tclvalue::ValueFault;
+use tclvalue::{ValueFault, unsupported};
 
 /// Whose variables a name denotes one of.
 #[derive(Clone, Copy)]
@@ -43,16 +43,6 @@ pub enum Location<'a> {
     Scalar(Scalar<'a>),
     /// The element with this index of the array `env` of this scope.
     Element(Scope, &'a str),
-}
-
-/// The fault of a kind of variable that is unsupported.
-fn unsupported(alloc: Global, name: &str) -> ValueFault
-    ensures { HasReason (unsupported name.now) result }
-{
-    match String::from_str(alloc, name) {
-        Ok(name) => ValueFault::LeftOut(name),
-        Err(_) => ValueFault::OutOfMemory,
-    }
 }
 
 /// Whether two colons follow one another in a name, which part its namespaces.
