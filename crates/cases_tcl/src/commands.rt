@@ -10,8 +10,8 @@ use tclcommands::{
 };
 use tclexpr::{OwnedExpr, own_expr};
 use tclforms::{Form, Simple, core_form};
-use tclrules::{Limits, Recorder};
-use tclsubstitution::{Control, Halt, Step, Stop, SubstitutionContext, advance};
+use tclrules::{EvalFault, Host, Limits, Recorder};
+use tclsubstitution::{Control, Step, Stop, SubstitutionContext, advance};
 use tclvalue::elements;
 use tclvariables::{Local, Variables};
 
@@ -68,7 +68,7 @@ fn performed<'a>(alloc: Global, state: &mut State, form: Simple<'a>) -> Result<V
         Simple::Global(names) => global(alloc, variables, names),
         Simple::Put(words) => put(alloc, variables, host, words),
         Simple::Return(_) | Simple::Break | Simple::Continue | Simple::Exit | Simple::Error(_) => {
-            Err(Stop::Halted(Halt::Stopped))
+            Err(Stop::Fault(EvalFault::Stopped))
         }
     }
 }
@@ -85,7 +85,7 @@ fn body(alloc: Global, variables: &Variables, name: &str) -> Result<String, Allo
 fn done(step: Result<Step<'_>, Stop>) -> Result<String, Stop> {
     match step? {
         Step::Done(text) => Ok(text),
-        Step::Next(_) | Step::Bracket(_) => Err(Stop::Halted(Halt::Stopped)),
+        Step::Next(_) | Step::Bracket(_) => Err(Stop::Fault(EvalFault::Stopped)),
     }
 }
 
@@ -106,7 +106,7 @@ fn expression_value(alloc: Global, state: &mut State, owned: &OwnedExpr) -> Resu
 fn value(alloc: Global, state: &mut State, text: &str) -> Result<String, Stop> {
     match own_expr(alloc, String::from_str(alloc, text)?) {
         Ok(owned) => expression_value(alloc, state, &owned),
-        Err(fault) => Err(Stop::from_text_fault(fault)),
+        Err(fault) => Err(Stop::from(fault)),
     }
 }
 
@@ -134,7 +134,7 @@ fn simple_form<'a>(
     let form = core_form(alloc, name, words)?;
     match &form {
         Some(Form::Simple(simple)) => Ok(Some(*simple)),
-        Some(_) => Err(Stop::Halted(Halt::Stopped)),
+        Some(_) => Err(Stop::Fault(EvalFault::Stopped)),
         None => Ok(None),
     }
 }
@@ -200,14 +200,15 @@ fn result(alloc: Global, state: &mut State, words: &[String]) -> Result<String, 
     }
 }
 
-/// What halted an evaluation, in words.
-fn halted(alloc: Global, halt: Halt) -> Result<String, AllocError> {
-    match halt {
-        Halt::LeftOut(name) => format!(in alloc; "halted: left out {name}"),
-        Halt::ValueTooLong => String::from_str(alloc, "halted: value too long"),
-        Halt::NumberTooLarge => String::from_str(alloc, "halted: number too large"),
-        Halt::FractionOperand => String::from_str(alloc, "halted: fraction"),
-        Halt::Host(number) => format!(in alloc; "halted: refused by {number}"),
+/// What ended an evaluation early, in words.
+fn faulted(alloc: Global, fault: EvalFault) -> Result<String, AllocError> {
+    match fault {
+        EvalFault::TclError(message, _) => format!(in alloc; "raised {message}"),
+        EvalFault::LeftOut(name) => format!(in alloc; "halted: left out {name}"),
+        EvalFault::ValueTooLong => String::from_str(alloc, "halted: value too long"),
+        EvalFault::NumberTooLarge => String::from_str(alloc, "halted: number too large"),
+        EvalFault::FractionOperand => String::from_str(alloc, "halted: fraction"),
+        EvalFault::Host(number) => format!(in alloc; "halted: refused by {number}"),
         _ => String::from_str(alloc, "halted"),
     }
 }
@@ -216,8 +217,7 @@ fn halted(alloc: Global, halt: Halt) -> Result<String, AllocError> {
 fn shown(alloc: Global, answer: Result<String, Stop>) -> Result<String, AllocError> {
     match answer {
         Ok(text) => format!(in alloc; "ok {text}"),
-        Err(Stop::Raised(message)) => format!(in alloc; "raised {message}"),
-        Err(Stop::Halted(halt)) => halted(alloc, halt),
+        Err(Stop::Fault(fault)) => faulted(alloc, fault),
         Err(_) => String::from_str(alloc, "stopped"),
     }
 }
