@@ -1,7 +1,8 @@
 //! The names of commands that are reserved: no procedure may have them.
-ghost use Rattle.std.specs.Prelude.{◌≡◌, map, is_some};
-ghost use Rattle.tclvalue.specs.Commands.{command_named};
+ghost use Rattle.std.specs.Prelude.{◌≡◌, map};
 ghost use Rattle.tclrules.specs.Names.{is_among, is_reserved, core_commands, unsupported_commands};
+
+use tclvalue::is_value_command;
 
 /// Commands of Tcl that are unsupported.
 const UNSUPPORTED: [&str; 57] = [
@@ -64,12 +65,7 @@ const UNSUPPORTED: [&str; 57] = [
     "vwait",
 ];
 
-/// Commands of values: those that tclvalue computes.
-const VALUES: [&str; 8] = [
-    "list", "llength", "lindex", "lrange", "split", "join", "concat", "string",
-];
-
-/// The other core commands.
+/// The core commands but those of values, which tclvalue computes.
 const CORE: [&str; 21] = [
     "set", "unset", "append", "lappend", "incr", "expr", "if", "while", "for", "foreach", "switch",
     "proc", "return", "break", "continue", "exit", "error", "catch", "info", "global", "puts",
@@ -79,14 +75,7 @@ const CORE: [&str; 21] = [
 pub fn is_in(names: &[&str], name: &str) -> bool
     ensures { result ≡ is_among (map (λ n. n.now) names.now) name.now }
 {
-    let mut rest = names;
-    while let [first, after @ ..] = rest {
-        if name == *first {
-            return true;
-        }
-        rest = after;
-    }
-    false
+    names.iter().any(|known| name == *known)
 }
 
 /// Whether Tcl has a command of this name that is unsupported.
@@ -105,16 +94,9 @@ fn is_core(name: &str) -> bool
     is_in(&CORE, name)
 }
 
-/// Whether a command of values has this name.
-fn is_of_values(name: &str) -> bool
-    ensures { result ≡ is_some (command_named name.now) }
-{
-    is_in(&VALUES, name)
-}
-
 /// Whether no procedure may have this name: that of any command of Tcl, supported or not, or one that the host reserves.
 pub fn is_reserved(of_host: &[&str], name: &str) -> bool
     ensures { result ≡ is_reserved (map (λ n. n.now) of_host.now) name.now }
 {
-    is_core(name) || is_of_values(name) || is_unsupported(name) || is_in(of_host, name)
+    is_core(name) || is_value_command(name) || is_unsupported(name) || is_in(of_host, name)
 }

@@ -22,6 +22,7 @@ pub use concat::concatenated;
 pub use index::count_of;
 pub use laws::string_match;
 pub use lists::{joined, list_text};
+pub use names::is_value_command;
 pub use pattern::glob;
 pub use tcloperators::{
     ValueFault, binary, bits, division, elements, in_quotes, is_among, sum, text_order, truth,

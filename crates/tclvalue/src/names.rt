@@ -1,5 +1,5 @@
 //! The commands of values and the subcommands of `string`, by their names.
-ghost use Rattle.std.specs.Prelude.{◌≡◌, option_map};
+ghost use Rattle.std.specs.Prelude.{◌≡◌, is_some, option_map};
 ghost use Rattle.tclvalue.specs.Commands.{command_named, subcommand_named, is_option};
 ghost use Rattle.tclvalue.specs.Views.{command_view, subcommand_view, takes_options};
 
@@ -49,6 +49,13 @@ pub(crate) fn command_named(name: &str) -> Option<ValueCommand>
         "string" => Some(ValueCommand::String),
         _ => None,
     }
+}
+
+/// Whether a command of values has this name.
+pub fn is_value_command(name: &str) -> bool
+    ensures { result ≡ is_some (command_named name.now) }
+{
+    command_named(name).is_some()
 }
 
 /// The subcommand of `string` that a word names.
