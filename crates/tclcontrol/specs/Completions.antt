@@ -1,17 +1,13 @@
 -- How the rules of evaluation continue after a script (own), by its completion (catch(n)); and when the text of a
 -- result may be dropped.
-use Rattle.std.specs.Prelude.{◌≡◌, ℕ, ◌≤◌, length, [], Bool, true, false, Option, Some, None, Result, Ok, Err, string_bytes, String}
+use Rattle.std.specs.Prelude.{◌≡◌, ℕ, ◌≤◌, length, [], Bool, true, false, Result, Ok, Err, string_bytes, String}
 use Rattle.std.specs.declared.alloc.Global.{Global}
-use Rattle.std.specs.declared.rc.Rc.{Rc}
 use Rattle.tclchars.specs.Runs.{Text}
 use Rattle.tclchars.specs.declared.fault.TextFault.{TextFault}
 use Rattle.tclchars.specs.declared.fault.TextFault.TheVariants as texts
 use Rattle.tcloperators.specs.declared.fault.ValueFault.{ValueFault}
 use Rattle.tcloperators.specs.declared.fault.ValueFault.TheVariants as faults
 use Rattle.tclvalue.specs.Faults.{HasReason}
-use Rattle.tclscript.specs.Text.{script_of}
-use Rattle.tclscript.specs.Owned as scripts
-use Rattle.tclscript.specs.declared.owned.OwnedScript.{OwnedScript}
 use Rattle.tclexpr.specs.Tree.{Expr}
 use Rattle.tclexpr.specs.Operands.{Operand}
 use Rattle.tclnumber.specs.Numerals.{numeral}
@@ -20,40 +16,36 @@ use Rattle.tclrules.specs.Expressions.{fault_of, expr, normal}
 use Rattle.tclrules.specs.Variables.{State}
 use Rattle.tclrules.specs.Plans.{Completion, Normal, Raised, Returned, Broken, Continued, Bounds, Next, Step, ended, halt, given, sized}
 use Rattle.tclrules.specs.Rules.{turn}
-use Rattle.tclsubstitution.specs.Stops.{halt_of}
+use Rattle.tclsubstitution.specs.Stops.{error_or_halt}
 use Rattle.tclsubstitution.specs.declared.stop.Stop.{Stop}
 use Rattle.tclsubstitution.specs.declared.stop.Stop.TheVariants as stops
+use Rattle.tclcontrol.specs.declared.result_use.ResultUse.{ResultUse}
+use Rattle.tclcontrol.specs.declared.result_use.ResultUse.TheVariants.{Needed}
 
 -- the plan of a script that ended with its last command, whose result is this text
 abbrev pub finish : Text → State → Step
 finish t s = ended (Normal t s)
-
--- a tree that was parsed already, if one was, is that of this text as a script
-abbrev pub IsScriptTree : Text → Option (Rc OwnedScript Global) → Type 0
-IsScriptTree text None = Unit {0}
-IsScriptTree text (Some tree) = script_of text ≡ Ok (scripts.owned_view tree.value)
 
 -- what follows a result, with the result judged by the limit on values first
 abbrev pub sized_next : ℕ → Next → Next
 sized_next limit k t s = sized limit t (k t s)
 
 -- this is the text of a result: it is within the limit, and where the result is needed the call gave it
-abbrev pub IsTextOfResult : Bool → ℕ → Text → Result (String Global) Stop → Type 0
-IsTextOfResult needs_result limit t (Ok v) = (length t ≤ limit) × (needs_result ≡ true → string_bytes v ≡ t)
-IsTextOfResult needs_result limit t (Err f) = Unit {0}
+abbrev pub IsTextOfResult : ResultUse → ℕ → Text → Result (String Global) Stop → Type 0
+IsTextOfResult result_use limit t (Ok v) = (length t ≤ limit) × (result_use ≡ Needed → string_bytes v ≡ t)
+IsTextOfResult result_use limit t (Err f) = Unit {0}
 
 -- a call has a result with such a text, of which this holds
-abbrev pub EvaluatesToText : Bool → ℕ → Result (String Global) Stop → (Text → Type 0) → Type 0
-EvaluatesToText needs_result limit result p = (t : Text) × IsTextOfResult needs_result limit t result × p t
+abbrev pub EvaluatesToText : ResultUse → ℕ → Result (String Global) Stop → (Text → Type 0) → Type 0
+EvaluatesToText result_use limit result p = (t : Text) × IsTextOfResult result_use limit t result × p t
 
 -- the plan that follows a script, by its completion; a halt ends it
 abbrev pub completed : Result (String Global) Stop → (Completion → Step) → State → Step
 completed (Ok t) k s = k (Normal (string_bytes t) s)
-completed (Err (stops.Raised m)) k s = k (Raised (string_bytes m) s)
+completed (Err (stops.Fault f)) k s = error_or_halt (λ m. k (Raised m s)) halt f
 completed (Err (stops.Returned t)) k s = k (Returned (string_bytes t) s)
 completed (Err stops.Broken) k s = k (Broken s)
 completed (Err stops.Continued) k s = k (Continued s)
-completed (Err (stops.Halted h)) k s = halt (halt_of h)
 
 -- the plan of a loop that continues with another turn, or has ended with an empty result
 abbrev pub loop_continuation : (State → Step) → Bool → State → Step

@@ -1,5 +1,5 @@
 //! Commands that evaluate no script: the core commands by their forms, and commands of other names by the host.
-ghost use Rattle.std.specs.Prelude.{◌≡◌, ◌∷◌, ℕ, None, map, string_bytes};
+ghost use Rattle.std.specs.Prelude.{ℕ, None, map, drop, string_bytes};
 ghost use Rattle.tclrules.specs.Simulates.{Simulates, Point, point};
 ghost use Rattle.tclrules.specs.Variables.{State};
 ghost use Rattle.tclrules.specs.Plans as plans;
@@ -9,16 +9,19 @@ ghost use Rattle.tclforms.specs.Views.{simple_view};
 ghost use Rattle.tclsubstitution.specs.Machine.{bounds};
 ghost use Rattle.tclsubstitution.specs.Stops.{after, stopped};
 ghost use Rattle.tclcommands.specs.Continuations.{value_text};
-ghost use Rattle.tclcontrol.specs.Completions.{EvaluatesToText};
+ghost use Rattle.tclcontrol.specs.CommandTexts.{name_of};
+ghost use Rattle.tclcontrol.specs.Completions.{EvaluatesToText, sized_next};
 
+use crate::command_words::CommandWords;
 use crate::fault::unsupported;
+use crate::result_use::ResultUse;
 use std::alloc::Global;
 use tclcommands::{
     Value, append, consult, define, exists, get, global, increase, list_append, put, set, unset,
 };
 use tclforms::{Simple, is_unsupported};
-use tclrules::{Host, Limits};
-use tclsubstitution::{Halt, Stop};
+use tclrules::{EvalFault, Host, Limits};
+use tclsubstitution::Stop;
 use tclvariables::Variables;
 
 /// The completion of return(n), with this result.
@@ -38,7 +41,7 @@ fn raised(alloc: Global, message: &str) -> Stop
         → Simulates most r (raise message.now s) x (stopped result s) x }
 {
     match String::from_str(alloc, message) {
-        Ok(message) => Stop::Raised(message),
+        Ok(message) => Stop::Fault(EvalFault::TclError(message, 0)),
         Err(error) => Stop::from(error),
     }
 }
@@ -73,7 +76,7 @@ fn simple_value<'a, H: Host>(
         Simple::Error(message) => Err(raised(alloc, message)),
         Simple::Break => Err(Stop::Broken),
         Simple::Continue => Err(Stop::Continued),
-        Simple::Exit => Err(Stop::Halted(Halt::Stopped)),
+        Simple::Exit => Err(Stop::Fault(EvalFault::Stopped)),
     }
 }
 
@@ -83,25 +86,25 @@ fn result_text(
     alloc: Global,
     variables: &Variables,
     limits: Limits,
-    needs_result: bool,
+    result_use: ResultUse,
     value: Value<'_>,
 ) -> Result<String, Stop>
-    ensures { EvaluatesToText needs_result limits.value_bytes result
+    ensures { EvaluatesToText result_use limits.value_bytes result
         (λ t. (most : ℕ) (r : Job → plans.Step) (k : Next) (x : Point)
         → Simulates most r (sized limits.value_bytes (value_text value.entry variables.now) (k (value_text value.entry
         variables.now) variables.now)) x (after result (λ _ s. k t s) variables.now) x) }
 {
     if value.len(variables) > limits.value_bytes {
-        return Err(Stop::Halted(Halt::ValueTooLong));
+        return Err(Stop::Fault(EvalFault::ValueTooLong));
     }
-    if needs_result {
-        return Ok(value.into_text(alloc, variables)?);
+    match result_use {
+        ResultUse::Needed => Ok(value.into_text(alloc, variables)?),
+        ResultUse::Dropped => Ok(String::new(alloc)),
     }
-    Ok(String::new(alloc))
 }
 
 /// Does a core command that evaluates no script, by its form, and answers the text of its result; an empty text where
-/// `needs_result` says that the result isn't needed.
+/// the result isn't needed.
 ///
 /// Errors: those of the command (`return`, `break`, `continue`, `error` and `exit` among them), and a halt where the
 /// result has more bytes than the limit.
@@ -110,23 +113,23 @@ pub fn simple_command<H: Host>(
     variables: &mut Variables,
     host: &mut H,
     limits: Limits,
-    needs_result: bool,
+    result_use: ResultUse,
     form: Simple<'_>,
 ) -> Result<String, Stop>
-    ensures { EvaluatesToText needs_result limits.value_bytes result
+    ensures { EvaluatesToText result_use limits.value_bytes result
         (λ t. (most remaining used : ℕ) (r : Job → plans.Step) (k : Next)
         → Simulates most r (rules.form (bounds limits.value_bytes remaining) (simple_view form.entry) variables.old
-        (λ u s. sized limits.value_bytes u (k u s)))
+        (sized_next limits.value_bytes k))
         (point (H.oracle host.old) (H.trace host.old) used)
         (after result (λ _ s. k t s) variables.new)
         (point (H.oracle host.new) (H.trace host.new) used)) }
 {
     let value = simple_value(alloc, variables, host, limits, form)?;
-    result_text(alloc, variables, limits, needs_result, value)
+    result_text(alloc, variables, limits, result_use, value)
 }
 
 /// A command whose name is neither a core command's nor a procedure's: one of Tcl that is unsupported on purpose, or
-/// one that the host does. `words` has all words, the name first, and `operands` those after it.
+/// one that the host does.
 ///
 /// Errors: a halt for a name that is unsupported or a result with more bytes than the limit; else those of
 /// `tclcommands::consult`.
@@ -135,25 +138,20 @@ pub fn unknown_command<H: Host>(
     variables: &Variables,
     host: &mut H,
     limits: Limits,
-    needs_result: bool,
-    name: &str,
-    operands: &[String],
-    words: &[String],
+    result_use: ResultUse,
+    command: CommandWords<'_>,
 ) -> Result<String, Stop>
-    requires { map string_bytes words.now ≡ name.now ∷ map string_bytes operands.now }
-    ensures { EvaluatesToText needs_result limits.value_bytes result
-        (λ t. (most used : ℕ) (b : Bounds) (r : Job → plans.Step) (k :
-        Next)
-        → Simulates most r (rules.other_command b name.now (map string_bytes operands.now) variables.now
-        (λ u s. sized limits.value_bytes u (k u s)) None)
+    ensures { EvaluatesToText result_use limits.value_bytes result
+        (λ t. (most used : ℕ) (b : Bounds) (r : Job → plans.Step) (k : Next)
+        → Simulates most r (rules.other_command b (name_of command.entry.words.now)
+        (map string_bytes (drop 1 command.entry.words.now)) variables.now (sized_next limits.value_bytes k) None)
         (point (H.oracle host.old) (H.trace host.old) used)
         (after result (λ _ s. k t s) variables.now)
         (point (H.oracle host.new) (H.trace host.new) used)) }
 {
-    let _operands = operands;
-    if is_unsupported(name) {
-        return Err(Stop::from(unsupported(alloc, name)));
+    if is_unsupported(command.name()) {
+        return Err(Stop::from(unsupported(alloc, command.name())));
     }
-    let value = consult(alloc, variables, host, words)?;
-    result_text(alloc, variables, limits, needs_result, value)
+    let value = consult(alloc, variables, host, command.words)?;
+    result_text(alloc, variables, limits, result_use, value)
 }

@@ -14,7 +14,7 @@ ghost use Rattle.tclcontrol.specs.Completions.{completed, loop_continuation};
 use std::alloc::Global;
 use tclcommands::write;
 use tclforms::outside_loop;
-use tclrules::Limits;
+use tclrules::{EvalFault, Limits};
 use tclsubstitution::Stop;
 use tclvariables::Variables;
 
@@ -63,11 +63,13 @@ fn catch_outcome(alloc: Global, outcome: Result<String, Stop>) -> Result<Caught,
 {
     let (code, value) = match outcome {
         Ok(value) => ("0", value),
-        Err(Stop::Raised(message)) => ("1", message),
         Err(Stop::Returned(value)) => ("2", value),
         Err(Stop::Broken) => ("3", String::new(alloc)),
         Err(Stop::Continued) => ("4", String::new(alloc)),
-        Err(stop) => return Err(stop),
+        Err(Stop::Fault(fault)) => match fault {
+            EvalFault::TclError(message, _) => ("1", message),
+            fault => return Err(Stop::Fault(fault)),
+        },
     };
     Ok(Caught { code, value })
 }

@@ -12,7 +12,7 @@ use Rattle.tclscript.specs.declared.tree.Word as rust_word
 use Rattle.tclrules.specs.Derivation.{Runs, TooDeep}
 use Rattle.tclrules.specs.Variables.{State}
 use Rattle.tclrules.specs.Plans as plans
-use Rattle.tclrules.specs.Plans.{Bounds, Completion, Normal, Items, ended, Job, Step, Next, on_normal, begin, halt, sized}
+use Rattle.tclrules.specs.Plans.{Bounds, Completion, Normal, Raised, Items, ended, Job, Step, Next, on_normal, begin, halt, sized}
 use Rattle.tclrules.specs.Simulates.{Point, Simulates}
 use Rattle.tclrules.proofs.Leading.{stay, continue_with, starve, run_on, run_halts}
 use Rattle.tclchars.specs.Runs.{Text}
@@ -28,84 +28,96 @@ use Rattle.tclrules.specs.Expressions.{decide}
 use Rattle.tclrules.specs.Forms.{Form}
 use Rattle.tclforms.specs.Views.{transposed, pair_texts}
 use Rattle.tclsubstitution.proofs.Leading.{sized_on, sized_stops}
-use Rattle.tclsubstitution.specs.Stops.{after, stopped, stop_of, text_stop}
+use Rattle.tclsubstitution.specs.Stops.{after, error_or_halt, stopped, stop_of, text_stop}
+use Rattle.tclrules.specs.declared.outcome.EvalFault.{EvalFault}
+use Rattle.tclrules.specs.declared.outcome.EvalFault.TheVariants as evals
 use Rattle.tclsubstitution.specs.declared.stop.Stop.{Stop}
 use Rattle.tclsubstitution.specs.declared.stop.Stop.TheVariants as stops
+use Rattle.tclcontrol.specs.declared.result_use.ResultUse.{ResultUse}
+use Rattle.tclcontrol.specs.declared.result_use.ResultUse.TheVariants.{Needed, Dropped}
 use Rattle.tclcontrol.specs.Completions.{EvaluatesToText, finish, sized_next, completed}
 use Rattle.tclcache.specs.Trees.{BeginsWith}
 use Rattle.tclcache.specs.Cache.{Cache, BeginWith}
 use Rattle.tclevaluator.specs.OnlyGrows.{OnlyGrows}
 use Rattle.tclevaluator.specs.declared.evaluator.Evaluator.{Evaluator}
 
+-- a job that stopped by a fault: an error goes on, all else halts
+fault_on : {most : ℕ} {r : Job → Step} {j : Job} {x y : Point} (k : Completion → Step) (s : State) (f : EvalFault) → Simulates most r (r j) x (stopped (stops.Fault f) s) y → Simulates most r (Runs j k) x (error_or_halt (λ m. k (Raised m s)) halt f) y
+fault_on k s evals.OutOfMemory h = run_halts h
+fault_on k s (evals.Text t) h = run_halts h
+fault_on k s (evals.TclError m line) h = run_on h
+fault_on k s evals.TooManyCommands h = run_halts h
+fault_on k s evals.TooDeep h = run_halts h
+fault_on k s evals.ValueTooLong h = run_halts h
+fault_on k s evals.NumberTooLarge h = run_halts h
+fault_on k s evals.FractionOperand h = run_halts h
+fault_on k s (evals.LeftOut name) h = run_halts h
+fault_on k s evals.Stopped h = run_halts h
+fault_on k s (evals.Host n) h = run_halts h
+
 -- a file that was evaluated, in what goes on with how it ended
 pub run_after : {most : ℕ} {r : Job → Step} {j : Job} {x y : Point} (k : Completion → Step) (s : State) (res : Result (String Global) Stop) → Simulates most r (r j) x (after res (λ v s'. finish (string_bytes v) s') s) y → Simulates most r (Runs j k) x (completed res k s) y
 run_after k s (Ok v) h = run_on h
-run_after k s (Err (stops.Raised m)) h = run_on h
 run_after k s (Err (stops.Returned u)) h = run_on h
 run_after k s (Err stops.Broken) h = run_on h
 run_after k s (Err stops.Continued) h = run_on h
-run_after k s (Err (stops.Halted f)) h = run_halts h
+run_after k s (Err (stops.Fault f)) h = fault_on k s f h
 
 -- a script whose result is wanted, in what goes on with how it ended, and with its result alone
-pub run_known : {most : ℕ} {r : Job → Step} {j : Job} {x y : Point} (k : Completion → Step) (s : State) (limit : ℕ) (res : Result (String Global) Stop) → EvaluatesToText true limit res (λ u. Simulates most r (r j) x (after res (λ v s'. finish u s') s) y) → Simulates most r (Runs j k) x (completed res k s) y
+pub run_known : {most : ℕ} {r : Job → Step} {j : Job} {x y : Point} (k : Completion → Step) (s : State) (limit : ℕ) (res : Result (String Global) Stop) → EvaluatesToText Needed limit res (λ u. Simulates most r (r j) x (after res (λ v s'. finish u s') s) y) → Simulates most r (Runs j k) x (completed res k s) y
 run_known k s limit (Ok v) h = rw (h.1.1 refl) (run_on h.2)
-run_known k s limit (Err (stops.Raised m)) h = run_on h.2
 run_known k s limit (Err (stops.Returned u)) h = run_on h.2
 run_known k s limit (Err stops.Broken) h = run_on h.2
 run_known k s limit (Err stops.Continued) h = run_on h.2
-run_known k s limit (Err (stops.Halted f)) h = run_halts h.2
+run_known k s limit (Err (stops.Fault f)) h = fault_on k s f h.2
 
-pub run_normal : {most : ℕ} {r : Job → Step} {j : Job} {x y : Point} (k : Next) (s : State) (limit : ℕ) (res : Result (String Global) Stop) → EvaluatesToText true limit res (λ u. Simulates most r (r j) x (after res (λ v s'. finish u s') s) y) → Simulates most r (Runs j (on_normal k)) x (after res (λ v s'. k (string_bytes v) s') s) y
+pub run_normal : {most : ℕ} {r : Job → Step} {j : Job} {x y : Point} (k : Next) (s : State) (limit : ℕ) (res : Result (String Global) Stop) → EvaluatesToText Needed limit res (λ u. Simulates most r (r j) x (after res (λ v s'. finish u s') s) y) → Simulates most r (Runs j (on_normal k)) x (after res (λ v s'. k (string_bytes v) s') s) y
 run_normal k s limit (Ok v) h = rw (h.1.1 refl) (run_on h.2)
-run_normal k s limit (Err (stops.Raised m)) h = run_on h.2
 run_normal k s limit (Err (stops.Returned u)) h = run_on h.2
 run_normal k s limit (Err stops.Broken) h = run_on h.2
 run_normal k s limit (Err stops.Continued) h = run_on h.2
-run_normal k s limit (Err (stops.Halted f)) h = run_halts h.2
+run_normal k s limit (Err (stops.Fault f)) h = fault_on (on_normal k) s f h.2
 
 -- a script whose result is that of a command
-pub run_comes : {most : ℕ} {r : Job → Step} {j : Job} {x y : Point} (needs_result : Bool) (limit : ℕ) (s : State) (res : Result (String Global) Stop) → EvaluatesToText needs_result limit res (λ u. Simulates most r (r j) x (after res (λ v s'. finish u s') s) y) → EvaluatesToText needs_result limit res (λ u. (k : Next) → Simulates most r (Runs j (on_normal (sized_next limit k))) x (after res (λ v s'. k u s') s) y)
-run_comes needs_result limit s (Ok v) h = (h.0, h.1, λ k. continue_with (run_on h.2) (sized_on limit h.0 _ h.1.0))
-run_comes needs_result limit s (Err (stops.Raised m)) h = (h.0, h.1, λ k. run_on h.2)
-run_comes needs_result limit s (Err (stops.Returned u)) h = (h.0, h.1, λ k. run_on h.2)
-run_comes needs_result limit s (Err stops.Broken) h = (h.0, h.1, λ k. run_on h.2)
-run_comes needs_result limit s (Err stops.Continued) h = (h.0, h.1, λ k. run_on h.2)
-run_comes needs_result limit s (Err (stops.Halted f)) h = (h.0, h.1, λ k. run_halts h.2)
+pub run_comes : {most : ℕ} {r : Job → Step} {j : Job} {x y : Point} (result_use : ResultUse) (limit : ℕ) (s : State) (res : Result (String Global) Stop) → EvaluatesToText result_use limit res (λ u. Simulates most r (r j) x (after res (λ v s'. finish u s') s) y) → EvaluatesToText result_use limit res (λ u. (k : Next) → Simulates most r (Runs j (on_normal (sized_next limit k))) x (after res (λ v s'. k u s') s) y)
+run_comes result_use limit s (Ok v) h = (h.0, h.1, λ k. continue_with (run_on h.2) (sized_on limit h.0 _ h.1.0))
+run_comes result_use limit s (Err (stops.Returned u)) h = (h.0, h.1, λ k. run_on h.2)
+run_comes result_use limit s (Err stops.Broken) h = (h.0, h.1, λ k. run_on h.2)
+run_comes result_use limit s (Err stops.Continued) h = (h.0, h.1, λ k. run_on h.2)
+run_comes result_use limit s (Err (stops.Fault f)) h = (h.0, h.1, λ k. fault_on (on_normal (sized_next limit k)) s f h.2)
 
 -- a script whose result nobody looks at: a turn of a loop, and what stands between turns
-pub run_turn : {most : ℕ} {r : Job → Step} {j : Job} {x y : Point} (again : State → Step) (s : State) (limit : ℕ) (res : Result (String Global) Stop) → EvaluatesToText false limit res (λ u. Simulates most r (r j) x (after res (λ v s'. finish u s') s) y) → Simulates most r (Runs j (after_turn again)) x (completed res (after_turn again) s) y
+pub run_turn : {most : ℕ} {r : Job → Step} {j : Job} {x y : Point} (again : State → Step) (s : State) (limit : ℕ) (res : Result (String Global) Stop) → EvaluatesToText Dropped limit res (λ u. Simulates most r (r j) x (after res (λ v s'. finish u s') s) y) → Simulates most r (Runs j (after_turn again)) x (completed res (after_turn again) s) y
 run_turn again s limit (Ok v) h = run_on h.2
-run_turn again s limit (Err (stops.Raised m)) h = run_on h.2
 run_turn again s limit (Err (stops.Returned u)) h = run_on h.2
 run_turn again s limit (Err stops.Broken) h = run_on h.2
 run_turn again s limit (Err stops.Continued) h = run_on h.2
-run_turn again s limit (Err (stops.Halted f)) h = run_halts h.2
+run_turn again s limit (Err (stops.Fault f)) h = fault_on (after_turn again) s f h.2
 
-pub run_next : {most : ℕ} {r : Job → Step} {j : Job} {x y : Point} (again : State → Step) (s : State) (limit : ℕ) (res : Result (String Global) Stop) → EvaluatesToText false limit res (λ u. Simulates most r (r j) x (after res (λ v s'. finish u s') s) y) → Simulates most r (Runs j (after_next again)) x (completed res (after_next again) s) y
+pub run_next : {most : ℕ} {r : Job → Step} {j : Job} {x y : Point} (again : State → Step) (s : State) (limit : ℕ) (res : Result (String Global) Stop) → EvaluatesToText Dropped limit res (λ u. Simulates most r (r j) x (after res (λ v s'. finish u s') s) y) → Simulates most r (Runs j (after_next again)) x (completed res (after_next again) s) y
 run_next again s limit (Ok v) h = run_on h.2
-run_next again s limit (Err (stops.Raised m)) h = run_on h.2
 run_next again s limit (Err (stops.Returned u)) h = run_on h.2
 run_next again s limit (Err stops.Broken) h = run_on h.2
 run_next again s limit (Err stops.Continued) h = run_on h.2
-run_next again s limit (Err (stops.Halted f)) h = run_halts h.2
+run_next again s limit (Err (stops.Fault f)) h = fault_on (after_next again) s f h.2
 
 -- a command that stops, and a script
-pub comes_stopped : {most : ℕ} {r : Job → Step} {p : Next → Step} {x y : Point} (needs_result : Bool) (limit : ℕ) (s : State) (e : Stop) (res : Result (String Global) Stop) → IsErrAnd res (λ f. f ≡ e) → ((k : Next) → Simulates most r (p k) x (stopped e s) y) → EvaluatesToText needs_result limit res (λ u. (k : Next) → Simulates most r (p k) x (after res (λ v s'. k u s') s) y)
-comes_stopped needs_result limit s e (Ok v) h l = absurd h
-comes_stopped needs_result limit s e (Err f) h l = ([], tt, λ k. rw h (l k))
+pub comes_stopped : {most : ℕ} {r : Job → Step} {p : Next → Step} {x y : Point} (result_use : ResultUse) (limit : ℕ) (s : State) (e : Stop) (res : Result (String Global) Stop) → IsErrAnd res (λ f. f ≡ e) → ((k : Next) → Simulates most r (p k) x (stopped e s) y) → EvaluatesToText result_use limit res (λ u. (k : Next) → Simulates most r (p k) x (after res (λ v s'. k u s') s) y)
+comes_stopped result_use limit s e (Ok v) h l = absurd h
+comes_stopped result_use limit s e (Err f) h l = ([], tt, λ k. rw h (l k))
 
-pub comes_cut : {most : ℕ} {r : Job → Step} {p : Step} {x y : Point} (needs_result : Bool) (limit : ℕ) (s : State) (e : Stop) (res : Result (String Global) Stop) → IsErrAnd res (λ f. f ≡ e) → Simulates most r p x (stopped e s) y → EvaluatesToText needs_result limit res (λ u. Simulates most r p x (after res (λ v s'. finish u s') s) y)
-comes_cut needs_result limit s e (Ok v) h l = absurd h
-comes_cut needs_result limit s e (Err f) h l = ([], tt, rw h l)
+pub comes_cut : {most : ℕ} {r : Job → Step} {p : Step} {x y : Point} (result_use : ResultUse) (limit : ℕ) (s : State) (e : Stop) (res : Result (String Global) Stop) → IsErrAnd res (λ f. f ≡ e) → Simulates most r p x (stopped e s) y → EvaluatesToText result_use limit res (λ u. Simulates most r p x (after res (λ v s'. finish u s') s) y)
+comes_cut result_use limit s e (Ok v) h l = absurd h
+comes_cut result_use limit s e (Err f) h l = ([], tt, rw h l)
 
 -- a result within the limit
-pub sized_comes : (needs_result : Bool) (limit : ℕ) (s : State) (p : Next → Step) (res : Result (String Global) Stop) → IfOk res (λ v. length (string_bytes v) ≤ limit) → ((most : ℕ) (r : Job → Step) (k : Next) (x : Point) → Simulates most r (p k) x (after res (λ v s'. k (string_bytes v) s') s) x) → EvaluatesToText needs_result limit res (λ u. (most : ℕ) (r : Job → Step) (k : Next) (x : Point) → Simulates most r (p k) x (after res (λ v s'. k u s') s) x)
-sized_comes needs_result limit s p (Ok v) h l = (string_bytes v, (h, λ e. refl), l)
-sized_comes needs_result limit s p (Err f) h l = ([], tt, l)
+pub sized_comes : (result_use : ResultUse) (limit : ℕ) (s : State) (p : Next → Step) (res : Result (String Global) Stop) → IfOk res (λ v. length (string_bytes v) ≤ limit) → ((most : ℕ) (r : Job → Step) (k : Next) (x : Point) → Simulates most r (p k) x (after res (λ v s'. k (string_bytes v) s') s) x) → EvaluatesToText result_use limit res (λ u. (most : ℕ) (r : Job → Step) (k : Next) (x : Point) → Simulates most r (p k) x (after res (λ v s'. k u s') s) x)
+sized_comes result_use limit s p (Ok v) h l = (string_bytes v, (h, λ e. refl), l)
+sized_comes result_use limit s p (Err f) h l = ([], tt, l)
 
 -- a script that may begin, and one that is too deep
-pub begin_on : {most : ℕ} {r : Job → Step} {x : Point} (remaining : ℕ) (p : Step) → (remaining ≡ 0 → ⊥) → Simulates most r (begin remaining p) x p x
-begin_on remaining p h = rw (ne_eqb remaining 0 h) stay
+pub begin_on : {most : ℕ} {r : Job → Step} {x : Point} (remaining : ℕ) (p : Step) → 0 < remaining → Simulates most r (begin remaining p) x p x
+begin_on remaining p h = rw (ne_eqb remaining 0 (λ e. omega (arith, h, e))) stay
 
 pub begin_stops : {most : ℕ} {r : Job → Step} {x : Point} (remaining : ℕ) (p : Step) → remaining ≡ 0 → Simulates most r (begin remaining p) x (halt TooDeep) x
 begin_stops remaining p h = rw h stay

@@ -1,1 +1,3 @@
 pub mod OnlyGrows
+pub mod EvaluatesTo
+pub mod LoopBodies

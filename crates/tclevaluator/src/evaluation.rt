@@ -1,15 +1,10 @@
 //! Scripts, commands, words and expressions, which evaluate one another: one cycle of methods, which ends since each
 //! script in another has less depth remaining, and each command and each turn of a loop is counted.
-//!
-//! Parameters that most methods have: `remaining` is how many scripts may still begin inside this one, `source`
-//! the text of which the pieces of the tree are ranges. `needs_result` says whether the result is needed; where it
-//! isn't, an empty text may be answered instead.
-ghost use Rattle.std.specs.Prelude.{◌≡◌, ◌<◌, ◌∷◌, [], Bool, true, false, List, map, option_map, IfOk, string_bytes};
+ghost use Rattle.std.specs.Prelude.{◌≡◌, ◌<◌, ◌∷◌, [], Bool, true, false, List, drop, map, option_map, IfOk, string_bytes};
 ghost use Rattle.tclchars.specs.Runs.{Text};
 ghost use Rattle.tclscript.specs.Tree.{commands_of, words_of};
 ghost use Rattle.tclscript.specs.View.{script_view, command_view, word_view, parts_view};
 ghost use Rattle.tclrules.specs.Derivation.{Counts, Runs};
-ghost use Rattle.tclrules.specs.Simulates.{Simulates, point};
 ghost use Rattle.tclrules.specs.Variables.{State, lookup};
 ghost use Rattle.tclvariables.specs.Views.{procedure_view};
 ghost use Rattle.tclrules.specs.Plans as plans;
@@ -20,27 +15,34 @@ ghost use Rattle.tclrules.specs.Rules as rules;
 ghost use Rattle.tclrules.specs.Rules.{rule, called, turn};
 ghost use Rattle.tclrules.specs.Forms as forms;
 ghost use Rattle.tclforms.specs.Views.{form_view, pair_texts};
-ghost use Rattle.tclsubstitution.specs.Machine.{range_text, bounds, control_plan};
-ghost use Rattle.tclsubstitution.specs.Stops.{after};
+ghost use Rattle.tclsubstitution.specs.Machine.{range_text, control_plan};
 ghost use Rattle.tclexpr.specs.Owned as expression;
-ghost use Rattle.tclcontrol.specs.Completions.{EvaluatesToText, IsScriptTree, finish, sized_next, loop_continuation, guarded, expression_plan, condition_plan};
+ghost use Rattle.tclcontrol.specs.CommandTexts.{name_of};
+ghost use Rattle.tclcontrol.specs.declared.result_use.ResultUse.TheVariants.{Dropped};
+ghost use Rattle.tclcontrol.specs.Completions.{EvaluatesToText, finish, sized_next, loop_continuation, guarded, expression_plan, condition_plan};
+ghost use Rattle.tclevaluator.specs.EvaluatesTo.{EvaluatesTo, bounds_of, with_text};
+ghost use Rattle.tclevaluator.specs.LoopBodies.{HasItsTree, IsSameBody};
 ghost use Rattle.tclevaluator.specs.OnlyGrows.{OnlyGrows};
 
+use crate::bounds::Bounds;
 use crate::evaluator::{Evaluator, sized, within};
 use crate::literals::literal_form;
-use crate::trees::{expression_tree, normal, repeated_tree};
+use crate::loop_body::LoopBody;
+use crate::loops::{ForLoop, WhileLoop};
+use crate::sourced::Sourced;
+use crate::trees::{expression_tree, normal};
 use crate::turns::begin_turn;
 use crate::words::{literal, push_words};
-use std::rc::Rc;
 use tclcommands::assign;
 use tclcontrol::{
-    after_call, after_catch, after_next, after_turn, simple_command, unknown_command,
+    CommandWords, ResultUse, after_call, after_catch, after_next, after_turn, simple_command,
+    unknown_command,
 };
 use tclexpr::OwnedExpr;
 use tclforms::{Form, Loops, chosen, core_form, parameter_values};
-use tclrules::{Host, Limits};
-use tclscript::{ByteRange, Command, OwnedScript, Part, Script, Word};
-use tclsubstitution::{Control, Halt, Step, Stop, SubstitutionContext, advance};
+use tclrules::Host;
+use tclscript::{ByteRange, Command, Part, Script, Word};
+use tclsubstitution::{Control, Step, Stop, SubstitutionContext, advance};
 use tclvalue::{concatenated, truth, value_command};
 use tclvariables::Procedure;
 
@@ -51,70 +53,56 @@ impl Evaluator {
     pub(crate) fn script<H: Host>(
         &mut self,
         host: &mut H,
-        limits: Limits,
-        remaining: u32,
+        bounds: Bounds,
         text: &str,
-        needs_result: bool,
+        result_use: ResultUse,
     ) -> Result<String, Stop>
-        ensures evaluates_to { EvaluatesToText needs_result limits.value_bytes result
-            (λ t. Simulates limits.commands (rule limits.value_bytes)
-            (rule limits.value_bytes (plans.Script remaining text.now self.old.variables))
-            (point (H.oracle host.old) (H.trace host.old) self.old.used)
-            (after result (λ _ s. finish t s) self.new.variables)
-            (point (H.oracle host.new) (H.trace host.new) self.new.used)) }
+        ensures evaluates_to { EvaluatesToText result_use bounds.limits.value_bytes result
+            (λ t. EvaluatesTo H.oracle H.trace bounds
+            (rule bounds.limits.value_bytes (plans.Script bounds.remaining text.now self.old.variables))
+            (host.old, self.old) result (λ _ s. finish t s) (host.new, self.new)) }
         ensures only_grows { OnlyGrows self.old self.new }
     {
-        if remaining == 0 {
-            return Err(Stop::Halted(Halt::TooDeep));
-        }
+        let inside = bounds.inside()?;
         match self.cache.script_tree(text) {
-            Ok(tree) => self.commands(
-                host,
-                limits,
-                remaining - 1,
-                tree.text.as_str(),
-                &tree.script,
-                needs_result,
-            ),
-            Err(fault) => Err(Stop::from_text_fault(fault)),
+            Ok(tree) => {
+                let script = Sourced {
+                    source: tree.text.as_str(),
+                    tree: &tree.script,
+                };
+                self.commands(host, inside, script, result_use)
+            }
+            Err(fault) => Err(Stop::from(fault)),
         }
     }
 
-    /// Evaluates a text as a script that a loop evaluates in each turn. The first evaluation leaves its tree in
-    /// `parsed`. The result isn't needed.
+    /// Evaluates a script that a loop evaluates in each turn. The result isn't needed.
     #[cycle(evaluate)]
     #[tactic(none)]
     fn repeated_script<H: Host>(
         &mut self,
         host: &mut H,
-        limits: Limits,
-        remaining: u32,
-        text: &str,
-        parsed: &mut Option<Rc<OwnedScript>>,
+        bounds: Bounds,
+        body: &mut LoopBody<'_>,
     ) -> Result<String, Stop>
-        requires { IsScriptTree text.now parsed.old }
-        ensures evaluates_to { EvaluatesToText false limits.value_bytes result
-            (λ t. Simulates limits.commands (rule limits.value_bytes)
-            (rule limits.value_bytes (plans.Script remaining text.now self.old.variables))
-            (point (H.oracle host.old) (H.trace host.old) self.old.used)
-            (after result (λ _ s. finish t s) self.new.variables)
-            (point (H.oracle host.new) (H.trace host.new) self.new.used)) }
+        requires { HasItsTree body.old }
+        ensures evaluates_to { EvaluatesToText Dropped bounds.limits.value_bytes result
+            (λ t. EvaluatesTo H.oracle H.trace bounds
+            (rule bounds.limits.value_bytes (plans.Script bounds.remaining body.old.text.now self.old.variables))
+            (host.old, self.old) result (λ _ s. finish t s) (host.new, self.new)) }
         ensures only_grows { OnlyGrows self.old self.new }
-        ensures parsed { IsScriptTree text.now parsed.new }
+        ensures kept { IsSameBody body.old body.new }
     {
-        if remaining == 0 {
-            return Err(Stop::Halted(Halt::TooDeep));
-        }
-        match repeated_tree(&mut self.cache, text, parsed) {
-            Ok(tree) => self.commands(
-                host,
-                limits,
-                remaining - 1,
-                tree.text.as_str(),
-                &tree.script,
-                false,
-            ),
-            Err(fault) => Err(Stop::from_text_fault(fault)),
+        let inside = bounds.inside()?;
+        match body.tree(&mut self.cache) {
+            Ok(tree) => {
+                let script = Sourced {
+                    source: tree.text.as_str(),
+                    tree: &tree.script,
+                };
+                self.commands(host, inside, script, ResultUse::Dropped)
+            }
+            Err(fault) => Err(Stop::from(fault)),
         }
     }
 
@@ -124,23 +112,16 @@ impl Evaluator {
     fn bracket<H: Host>(
         &mut self,
         host: &mut H,
-        limits: Limits,
-        remaining: u32,
-        source: &str,
-        script: &Script<ByteRange>,
+        bounds: Bounds,
+        script: Sourced<'_, &Script<ByteRange>>,
     ) -> Result<String, Stop>
-        ensures evaluates_to { (k : Next) → Simulates limits.commands (rule limits.value_bytes)
-            (Runs (plans.Bracket remaining (script_view (range_text source.now) script.now) self.old.variables)
-            (on_normal k))
-            (point (H.oracle host.old) (H.trace host.old) self.old.used)
-            (after result (λ t s. k (string_bytes t) s) self.new.variables)
-            (point (H.oracle host.new) (H.trace host.new) self.new.used) }
+        ensures evaluates_to { (k : Next) → EvaluatesTo H.oracle H.trace bounds
+            (Runs (plans.Bracket bounds.remaining
+            (script_view (range_text script.entry.source.now) script.entry.tree.now) self.old.variables) (on_normal k))
+            (host.old, self.old) result (with_text k) (host.new, self.new) }
         ensures only_grows { OnlyGrows self.old self.new }
     {
-        if remaining == 0 {
-            return Err(Stop::Halted(Halt::TooDeep));
-        }
-        self.commands(host, limits, remaining - 1, source, script, true)
+        self.commands(host, bounds.inside()?, script, ResultUse::Needed)
     }
 
     /// Evaluates the commands of a script in turn; the result is the last command's.
@@ -149,24 +130,24 @@ impl Evaluator {
     fn commands<H: Host>(
         &mut self,
         host: &mut H,
-        limits: Limits,
-        remaining: u32,
-        source: &str,
-        script: &Script<ByteRange>,
-        needs_result: bool,
+        bounds: Bounds,
+        script: Sourced<'_, &Script<ByteRange>>,
+        result_use: ResultUse,
     ) -> Result<String, Stop>
-        ensures evaluates_to { EvaluatesToText needs_result limits.value_bytes result
-            (λ t. Simulates limits.commands (rule limits.value_bytes)
-            (rules.commands (bounds limits.value_bytes remaining) (script_view (range_text source.now) script.now) []
-            self.old.variables)
-            (point (H.oracle host.old) (H.trace host.old) self.old.used)
-            (after result (λ _ s. finish t s) self.new.variables)
-            (point (H.oracle host.new) (H.trace host.new) self.new.used)) }
+        ensures evaluates_to { EvaluatesToText result_use bounds.limits.value_bytes result
+            (λ t. EvaluatesTo H.oracle H.trace bounds
+            (rules.commands (bounds_of bounds)
+            (script_view (range_text script.entry.source.now) script.entry.tree.now) [] self.old.variables)
+            (host.old, self.old) result (λ _ s. finish t s) (host.new, self.new)) }
         ensures only_grows { OnlyGrows self.old self.new }
     {
         let mut last = String::new(self.alloc);
-        for command in &script.commands {
-            last = self.command(host, limits, remaining, source, command, needs_result)?;
+        for command in &script.tree.commands {
+            let command = Sourced {
+                source: script.source,
+                tree: command,
+            };
+            last = self.command(host, bounds, command, result_use)?;
         }
         Ok(last)
     }
@@ -179,29 +160,28 @@ impl Evaluator {
     pub fn command<H: Host>(
         &mut self,
         host: &mut H,
-        limits: Limits,
-        remaining: u32,
-        source: &str,
-        command: &Command<ByteRange>,
-        needs_result: bool,
+        bounds: Bounds,
+        command: Sourced<'_, &Command<ByteRange>>,
+        result_use: ResultUse,
     ) -> Result<String, Stop>
-        ensures evaluates_to { EvaluatesToText needs_result limits.value_bytes result (λ t. (k : Next)
-            → Simulates limits.commands (rule limits.value_bytes)
-            (Counts (pieces.words (bounds limits.value_bytes remaining) (command_view (range_text source.now)
-            command.now).words []
-            self.old.variables (λ texts s1. called (bounds limits.value_bytes remaining) texts s1
-            (λ u s2. sized limits.value_bytes u (k u s2)))))
-            (point (H.oracle host.old) (H.trace host.old) self.old.used)
-            (after result (λ _ s. k t s) self.new.variables)
-            (point (H.oracle host.new) (H.trace host.new) self.new.used)) }
+        ensures evaluates_to { EvaluatesToText result_use bounds.limits.value_bytes result
+            (λ t. (k : Next) → EvaluatesTo H.oracle H.trace bounds
+            (Counts (pieces.words (bounds_of bounds)
+            (command_view (range_text command.entry.source.now) command.entry.tree.now).words [] self.old.variables
+            (λ texts s1. called (bounds_of bounds) texts s1 (sized_next bounds.limits.value_bytes k))))
+            (host.old, self.old) result (λ _ s. k t s) (host.new, self.new)) }
         ensures only_grows { OnlyGrows self.old self.new }
     {
-        self.count(limits)?;
-        if let Some(form) = literal_form(limits, source, &command.words) {
-            return self.form(host, limits, remaining, form, needs_result);
+        self.count(bounds.limits)?;
+        let words = Sourced {
+            source: command.source,
+            tree: command.tree.words.as_slice(),
+        };
+        if let Some(form) = literal_form(bounds.limits, words) {
+            return self.form(host, bounds, form, result_use);
         }
-        let texts = self.words(host, limits, remaining, source, &command.words)?;
-        self.called(host, limits, remaining, &texts, needs_result)
+        let texts = self.words(host, bounds, words)?;
+        self.called(host, bounds, &texts, result_use)
     }
 
     /// The values of the words of a command, from left to right, with the words that `{*}` makes.
@@ -210,24 +190,23 @@ impl Evaluator {
     fn words<H: Host>(
         &mut self,
         host: &mut H,
-        limits: Limits,
-        remaining: u32,
-        source: &str,
-        words: &[Word<ByteRange>],
+        bounds: Bounds,
+        words: Sourced<'_, &[Word<ByteRange>]>,
     ) -> Result<Vec<String>, Stop>
-        ensures evaluates_to { (k : List Text → State → plans.Step) → Simulates limits.commands
-            (rule limits.value_bytes)
-            (pieces.words (bounds limits.value_bytes remaining)
-            (words_of (map (word_view (range_text source.now)) words.now)) []
+        ensures evaluates_to { (k : List Text → State → plans.Step) → EvaluatesTo H.oracle H.trace bounds
+            (pieces.words (bounds_of bounds)
+            (words_of (map (word_view (range_text words.entry.source.now)) words.entry.tree.now)) []
             self.old.variables k)
-            (point (H.oracle host.old) (H.trace host.old) self.old.used)
-            (after result (λ ts s. k (map string_bytes ts.items) s) self.new.variables)
-            (point (H.oracle host.new) (H.trace host.new) self.new.used) }
+            (host.old, self.old) result (λ ts s. k (map string_bytes ts.items) s) (host.new, self.new) }
         ensures only_grows { OnlyGrows self.old self.new }
     {
         let mut texts = Vec::new(self.alloc);
-        for word in words {
-            let text = self.word(host, limits, remaining, source, word.parts.as_slice())?;
+        for word in words.tree {
+            let parts = Sourced {
+                source: words.source,
+                tree: word.parts.as_slice(),
+            };
+            let text = self.word(host, bounds, parts)?;
             push_words(self.alloc, &mut texts, word.expands, text)?;
         }
         Ok(texts)
@@ -239,43 +218,37 @@ impl Evaluator {
     fn word<H: Host>(
         &mut self,
         host: &mut H,
-        limits: Limits,
-        remaining: u32,
-        source: &str,
-        parts: &[Part<ByteRange>],
+        bounds: Bounds,
+        parts: Sourced<'_, &[Part<ByteRange>]>,
     ) -> Result<String, Stop>
-        ensures evaluates_to { (k : Next) → Simulates limits.commands (rule limits.value_bytes)
-            (pieces.parts (bounds limits.value_bytes remaining) (parts_view (range_text source.now) parts.now) []
+        ensures evaluates_to { (k : Next) → EvaluatesTo H.oracle H.trace bounds
+            (pieces.parts (bounds_of bounds) (parts_view (range_text parts.entry.source.now) parts.entry.tree.now) []
             self.old.variables k)
-            (point (H.oracle host.old) (H.trace host.old) self.old.used)
-            (after result (λ t s. k (string_bytes t) s) self.new.variables)
-            (point (H.oracle host.new) (H.trace host.new) self.new.used) }
+            (host.old, self.old) result (with_text k) (host.new, self.new) }
         ensures only_grows { OnlyGrows self.old self.new }
     {
-        if let Some(range) = literal(parts) {
-            let text = String::from_str(self.alloc, range.of(source))?;
-            return sized(limits, text);
+        if let Some(range) = literal(parts.tree) {
+            let text = String::from_str(self.alloc, range.of(parts.source))?;
+            return sized(bounds.limits, text);
         }
-        let start = Control::Parts(String::new(self.alloc), parts);
-        self.value(host, limits, remaining, source, start)
+        let start = Control::Parts(String::new(self.alloc), parts.tree);
+        self.value(host, bounds, parts.source, start)
     }
 
-    /// The value of a word or of an expression: steps of the substitution, between which brackets are evaluated.
+    /// The value of a word or of an expression of a source text: steps of the substitution, between which brackets are
+    /// evaluated.
     #[cycle(evaluate)]
     #[tactic(none)]
     fn value<'a, H: Host>(
         &mut self,
         host: &mut H,
-        limits: Limits,
-        remaining: u32,
+        bounds: Bounds,
         source: &'a str,
         start: Control<'a>,
     ) -> Result<String, Stop>
-        ensures evaluates_to { (k : Next) → Simulates limits.commands (rule limits.value_bytes)
-            (control_plan source.entry.now (bounds limits.value_bytes remaining) start.entry self.old.variables k)
-            (point (H.oracle host.old) (H.trace host.old) self.old.used)
-            (after result (λ t s. k (string_bytes t) s) self.new.variables)
-            (point (H.oracle host.new) (H.trace host.new) self.new.used) }
+        ensures evaluates_to { (k : Next) → EvaluatesTo H.oracle H.trace bounds
+            (control_plan source.entry.now (bounds_of bounds) start.entry self.old.variables k)
+            (host.old, self.old) result (with_text k) (host.new, self.new) }
         ensures only_grows { OnlyGrows self.old self.new }
     {
         let mut stack = Vec::new(self.alloc);
@@ -283,15 +256,15 @@ impl Evaluator {
         loop {
             let context = SubstitutionContext {
                 alloc: self.alloc,
-                limits,
+                limits: bounds.limits,
                 source,
                 variables: &self.variables,
             };
             match advance(context, host, &mut stack, control)? {
                 Step::Next(next) => control = next,
                 Step::Done(value) => return Ok(value),
-                Step::Bracket(script) => {
-                    let value = self.bracket(host, limits, remaining, source, script)?;
+                Step::Bracket(tree) => {
+                    let value = self.bracket(host, bounds, Sourced { source, tree })?;
                     control = Control::Value(value);
                 }
             }
@@ -301,22 +274,14 @@ impl Evaluator {
     /// The value of a text as an expression (expr(n)).
     #[cycle(evaluate)]
     #[tactic(none)]
-    fn express<H: Host>(
-        &mut self,
-        host: &mut H,
-        limits: Limits,
-        remaining: u32,
-        text: &str,
-    ) -> Result<String, Stop>
-        ensures evaluates_to { (k : Next) → Simulates limits.commands (rule limits.value_bytes)
-            (express (bounds limits.value_bytes remaining) text.now self.old.variables k)
-            (point (H.oracle host.old) (H.trace host.old) self.old.used)
-            (after result (λ t s. k (string_bytes t) s) self.new.variables)
-            (point (H.oracle host.new) (H.trace host.new) self.new.used) }
+    fn express<H: Host>(&mut self, host: &mut H, bounds: Bounds, text: &str) -> Result<String, Stop>
+        ensures evaluates_to { (k : Next) → EvaluatesTo H.oracle H.trace bounds
+            (express (bounds_of bounds) text.now self.old.variables k)
+            (host.old, self.old) result (with_text k) (host.new, self.new) }
         ensures only_grows { OnlyGrows self.old self.new }
     {
         let tree = expression_tree(self.alloc, &mut self.cache, text)?;
-        self.expression_value(host, limits, remaining, &tree)
+        self.expression_value(host, bounds, &tree)
     }
 
     /// The value of an expression whose text is parsed; a whole number is written in decimal.
@@ -325,43 +290,31 @@ impl Evaluator {
     fn expression_value<H: Host>(
         &mut self,
         host: &mut H,
-        limits: Limits,
-        remaining: u32,
+        bounds: Bounds,
         tree: &OwnedExpr,
     ) -> Result<String, Stop>
-        ensures evaluates_to { (k : Next) → Simulates limits.commands (rule limits.value_bytes)
-            (expression_plan (bounds limits.value_bytes remaining)
-            (expression.owned_view tree.now) self.old.variables k)
-            (point (H.oracle host.old) (H.trace host.old) self.old.used)
-            (after result (λ t s. k (string_bytes t) s) self.new.variables)
-            (point (H.oracle host.new) (H.trace host.new) self.new.used) }
+        ensures evaluates_to { (k : Next) → EvaluatesTo H.oracle H.trace bounds
+            (expression_plan (bounds_of bounds) (expression.owned_view tree.now) self.old.variables k)
+            (host.old, self.old) result (with_text k) (host.new, self.new) }
         ensures only_grows { OnlyGrows self.old self.new }
     {
         let start = Control::Expression(&tree.expression);
-        let value = self.value(host, limits, remaining, tree.text.as_str(), start)?;
+        let value = self.value(host, bounds, tree.text.as_str(), start)?;
         let value = normal(self.alloc, value)?;
-        sized(limits, value)
+        sized(bounds.limits, value)
     }
 
     /// Whether a text holds as a condition.
     #[cycle(evaluate)]
     #[tactic(none)]
-    fn decide<H: Host>(
-        &mut self,
-        host: &mut H,
-        limits: Limits,
-        remaining: u32,
-        text: &str,
-    ) -> Result<bool, Stop>
-        ensures evaluates_to { (k : Bool → State → plans.Step) → Simulates limits.commands (rule limits.value_bytes)
-            (decide (bounds limits.value_bytes remaining) text.now self.old.variables k)
-            (point (H.oracle host.old) (H.trace host.old) self.old.used)
-            (after result k self.new.variables)
-            (point (H.oracle host.new) (H.trace host.new) self.new.used) }
+    fn decide<H: Host>(&mut self, host: &mut H, bounds: Bounds, text: &str) -> Result<bool, Stop>
+        ensures evaluates_to { (k : Bool → State → plans.Step) → EvaluatesTo H.oracle H.trace bounds
+            (decide (bounds_of bounds) text.now self.old.variables k)
+            (host.old, self.old) result k (host.new, self.new) }
         ensures only_grows { OnlyGrows self.old self.new }
     {
         let tree = expression_tree(self.alloc, &mut self.cache, text)?;
-        self.holds(host, limits, remaining, &tree)
+        self.holds(host, bounds, &tree)
     }
 
     /// Whether an expression whose text is parsed holds as a condition.
@@ -370,21 +323,18 @@ impl Evaluator {
     fn holds<H: Host>(
         &mut self,
         host: &mut H,
-        limits: Limits,
-        remaining: u32,
+        bounds: Bounds,
         tree: &OwnedExpr,
     ) -> Result<bool, Stop>
-        ensures evaluates_to { (k : Bool → State → plans.Step) → Simulates limits.commands (rule limits.value_bytes)
-            (condition_plan (bounds limits.value_bytes remaining) (expression.owned_view tree.now) self.old.variables k)
-            (point (H.oracle host.old) (H.trace host.old) self.old.used)
-            (after result k self.new.variables)
-            (point (H.oracle host.new) (H.trace host.new) self.new.used) }
+        ensures evaluates_to { (k : Bool → State → plans.Step) → EvaluatesTo H.oracle H.trace bounds
+            (condition_plan (bounds_of bounds) (expression.owned_view tree.now) self.old.variables k)
+            (host.old, self.old) result k (host.new, self.new) }
         ensures only_grows { OnlyGrows self.old self.new }
     {
-        if let Some(holds) = self.comparison(limits, tree)? {
+        if let Some(holds) = self.comparison(bounds.limits, tree)? {
             return Ok(holds);
         }
-        let value = self.expression_value(host, limits, remaining, tree)?;
+        let value = self.expression_value(host, bounds, tree)?;
         Ok(truth(self.alloc, value.as_str())?)
     }
 
@@ -394,23 +344,20 @@ impl Evaluator {
     fn turn<H: Host>(
         &mut self,
         host: &mut H,
-        limits: Limits,
-        remaining: u32,
-        body: &str,
-        parsed: &mut Option<Rc<OwnedScript>>,
+        bounds: Bounds,
+        body: &mut LoopBody<'_>,
     ) -> Result<bool, Stop>
-        requires { IsScriptTree body.now parsed.old }
-        ensures evaluates_to { (again : State → plans.Step) → Simulates limits.commands (rule limits.value_bytes)
-            (turn (bounds limits.value_bytes remaining) body.now self.old.variables again)
-            (point (H.oracle host.old) (H.trace host.old) self.old.used)
-            (after result (loop_continuation again) self.new.variables)
-            (point (H.oracle host.new) (H.trace host.new) self.new.used) }
+        requires { HasItsTree body.old }
+        ensures evaluates_to { (again : State → plans.Step) → EvaluatesTo H.oracle H.trace bounds
+            (turn (bounds_of bounds) body.old.text.now self.old.variables again)
+            (host.old, self.old) result (loop_continuation again) (host.new, self.new) }
         ensures only_grows { OnlyGrows self.old self.new }
-        ensures parsed { IsScriptTree body.now parsed.new }
-        ensures counted { IfOk result (λ more. (self.old.used < limits.commands) × (self.old.used < self.new.used)) }
+        ensures kept { IsSameBody body.old body.new }
+        ensures counted { IfOk result (λ more.
+            (self.old.used < bounds.limits.commands) × (self.old.used < self.new.used)) }
     {
-        self.count(limits)?;
-        after_turn(self.repeated_script(host, limits, remaining, body, parsed))
+        self.count(bounds.limits)?;
+        after_turn(self.repeated_script(host, bounds, body))
     }
 
     /// The condition of a loop and, where it holds, a turn; whether the loop continues.
@@ -419,27 +366,22 @@ impl Evaluator {
     fn guarded_turn<H: Host>(
         &mut self,
         host: &mut H,
-        limits: Limits,
-        remaining: u32,
+        bounds: Bounds,
         condition: &OwnedExpr,
-        body: &str,
-        parsed: &mut Option<Rc<OwnedScript>>,
+        body: &mut LoopBody<'_>,
     ) -> Result<bool, Stop>
-        requires { IsScriptTree body.now parsed.old }
-        ensures evaluates_to { (again : State → plans.Step) → Simulates limits.commands (rule limits.value_bytes)
-            (condition_plan (bounds limits.value_bytes remaining)
-            (expression.owned_view condition.now) self.old.variables
-            (guarded (bounds limits.value_bytes remaining) body.now again))
-            (point (H.oracle host.old) (H.trace host.old) self.old.used)
-            (after result (loop_continuation again) self.new.variables)
-            (point (H.oracle host.new) (H.trace host.new) self.new.used) }
+        requires { HasItsTree body.old }
+        ensures evaluates_to { (again : State → plans.Step) → EvaluatesTo H.oracle H.trace bounds
+            (condition_plan (bounds_of bounds) (expression.owned_view condition.now) self.old.variables
+            (guarded (bounds_of bounds) body.old.text.now again))
+            (host.old, self.old) result (loop_continuation again) (host.new, self.new) }
         ensures only_grows { OnlyGrows self.old self.new }
-        ensures parsed { IsScriptTree body.now parsed.new }
+        ensures kept { IsSameBody body.old body.new }
         ensures counted { IfOk result (λ more. more ≡ true
-            → (self.old.used < limits.commands) × (self.old.used < self.new.used)) }
+            → (self.old.used < bounds.limits.commands) × (self.old.used < self.new.used)) }
     {
-        if self.holds(host, limits, remaining, condition)? {
-            return self.turn(host, limits, remaining, body, parsed);
+        if self.holds(host, bounds, condition)? {
+            return self.turn(host, bounds, body);
         }
         Ok(false)
     }
@@ -450,22 +392,19 @@ impl Evaluator {
     fn while_turns<H: Host>(
         &mut self,
         host: &mut H,
-        limits: Limits,
-        remaining: u32,
-        condition: &str,
-        body: &str,
+        bounds: Bounds,
+        parts: WhileLoop<'_>,
     ) -> Result<String, Stop>
-        ensures evaluates_to { (k : Next) → Simulates limits.commands (rule limits.value_bytes)
-            (Runs (plans.While remaining condition.now body.now self.old.variables) (on_normal k))
-            (point (H.oracle host.old) (H.trace host.old) self.old.used)
-            (after result (λ t s. k (string_bytes t) s) self.new.variables)
-            (point (H.oracle host.new) (H.trace host.new) self.new.used) }
+        ensures evaluates_to { (k : Next) → EvaluatesTo H.oracle H.trace bounds
+            (Runs (plans.While bounds.remaining parts.entry.condition.now parts.entry.body.now self.old.variables)
+            (on_normal k))
+            (host.old, self.old) result (with_text k) (host.new, self.new) }
         ensures only_grows { OnlyGrows self.old self.new }
     {
-        let tree = expression_tree(self.alloc, &mut self.cache, condition)?;
-        let mut parsed = None;
+        let condition = expression_tree(self.alloc, &mut self.cache, parts.condition)?;
+        let mut body = LoopBody::new(parts.body);
         loop {
-            if !self.guarded_turn(host, limits, remaining, &tree, body, &mut parsed)? {
+            if !self.guarded_turn(host, bounds, &condition, &mut body)? {
                 return Ok(String::new(self.alloc));
             }
         }
@@ -477,23 +416,17 @@ impl Evaluator {
     fn for_loop<H: Host>(
         &mut self,
         host: &mut H,
-        limits: Limits,
-        remaining: u32,
-        start: &str,
-        condition: &str,
-        next: &str,
-        body: &str,
+        bounds: Bounds,
+        parts: ForLoop<'_>,
     ) -> Result<String, Stop>
-        ensures evaluates_to { (k : Next) → Simulates limits.commands (rule limits.value_bytes)
-            (rules.form (bounds limits.value_bytes remaining) (forms.For start.now condition.now next.now body.now)
-            self.old.variables k)
-            (point (H.oracle host.old) (H.trace host.old) self.old.used)
-            (after result (λ t s. k (string_bytes t) s) self.new.variables)
-            (point (H.oracle host.new) (H.trace host.new) self.new.used) }
+        ensures evaluates_to { (k : Next) → EvaluatesTo H.oracle H.trace bounds
+            (rules.form (bounds_of bounds) (forms.For parts.entry.start.now parts.entry.condition.now
+            parts.entry.next.now parts.entry.body.now) self.old.variables k)
+            (host.old, self.old) result (with_text k) (host.new, self.new) }
         ensures only_grows { OnlyGrows self.old self.new }
     {
-        let _ = self.script(host, limits, remaining, start, false)?;
-        self.for_turns(host, limits, remaining, condition, next, body)
+        let _ = self.script(host, bounds, parts.start, ResultUse::Dropped)?;
+        self.for_turns(host, bounds, parts)
     }
 
     /// The turns of for(n), with the script `next` between them.
@@ -502,27 +435,23 @@ impl Evaluator {
     fn for_turns<H: Host>(
         &mut self,
         host: &mut H,
-        limits: Limits,
-        remaining: u32,
-        condition: &str,
-        next: &str,
-        body: &str,
+        bounds: Bounds,
+        parts: ForLoop<'_>,
     ) -> Result<String, Stop>
-        ensures evaluates_to { (k : Next) → Simulates limits.commands (rule limits.value_bytes)
-            (Runs (plans.For remaining condition.now next.now body.now self.old.variables) (on_normal k))
-            (point (H.oracle host.old) (H.trace host.old) self.old.used)
-            (after result (λ t s. k (string_bytes t) s) self.new.variables)
-            (point (H.oracle host.new) (H.trace host.new) self.new.used) }
+        ensures evaluates_to { (k : Next) → EvaluatesTo H.oracle H.trace bounds
+            (Runs (plans.For bounds.remaining parts.entry.condition.now parts.entry.next.now parts.entry.body.now
+            self.old.variables) (on_normal k))
+            (host.old, self.old) result (with_text k) (host.new, self.new) }
         ensures only_grows { OnlyGrows self.old self.new }
     {
-        let tree = expression_tree(self.alloc, &mut self.cache, condition)?;
-        let mut parsed = None;
-        let mut between = None;
+        let condition = expression_tree(self.alloc, &mut self.cache, parts.condition)?;
+        let mut body = LoopBody::new(parts.body);
+        let mut next = LoopBody::new(parts.next);
         loop {
-            if !self.guarded_turn(host, limits, remaining, &tree, body, &mut parsed)? {
+            if !self.guarded_turn(host, bounds, &condition, &mut body)? {
                 return Ok(String::new(self.alloc));
             }
-            if !after_next(self.repeated_script(host, limits, remaining, next, &mut between))? {
+            if !after_next(self.repeated_script(host, bounds, &mut next))? {
                 return Ok(String::new(self.alloc));
             }
         }
@@ -534,24 +463,20 @@ impl Evaluator {
     fn otherwise<H: Host>(
         &mut self,
         host: &mut H,
-        limits: Limits,
-        remaining: u32,
+        bounds: Bounds,
         body: Option<&str>,
-        needs_result: bool,
+        result_use: ResultUse,
     ) -> Result<String, Stop>
-        ensures evaluates_to { EvaluatesToText needs_result limits.value_bytes result (λ t. (k : Next)
-            → Simulates limits.commands (rule limits.value_bytes)
-            (rules.otherwise (bounds limits.value_bytes remaining)
-            (option_map (λ t. t.now) body.entry) self.old.variables
-            (sized_next limits.value_bytes k))
-            (point (H.oracle host.old) (H.trace host.old) self.old.used)
-            (after result (λ _ s. k t s) self.new.variables)
-            (point (H.oracle host.new) (H.trace host.new) self.new.used)) }
+        ensures evaluates_to { EvaluatesToText result_use bounds.limits.value_bytes result
+            (λ t. (k : Next) → EvaluatesTo H.oracle H.trace bounds
+            (rules.otherwise (bounds_of bounds) (option_map (λ t. t.now) body.entry) self.old.variables
+            (sized_next bounds.limits.value_bytes k))
+            (host.old, self.old) result (λ _ s. k t s) (host.new, self.new)) }
         ensures only_grows { OnlyGrows self.old self.new }
     {
         match body {
             None => Ok(String::new(self.alloc)),
-            Some(body) => self.script(host, limits, remaining, body, needs_result),
+            Some(body) => self.script(host, bounds, body, result_use),
         }
     }
 
@@ -561,28 +486,24 @@ impl Evaluator {
     fn branches<H: Host>(
         &mut self,
         host: &mut H,
-        limits: Limits,
-        remaining: u32,
+        bounds: Bounds,
         branches: &[(&str, &str)],
         other: Option<&str>,
-        needs_result: bool,
+        result_use: ResultUse,
     ) -> Result<String, Stop>
-        ensures evaluates_to { EvaluatesToText needs_result limits.value_bytes result (λ t. (k : Next)
-            → Simulates limits.commands (rule limits.value_bytes)
-            (rules.branches (bounds limits.value_bytes remaining) (pair_texts branches.now) (option_map (λ t. t.now)
-            other.entry)
-            self.old.variables (sized_next limits.value_bytes k))
-            (point (H.oracle host.old) (H.trace host.old) self.old.used)
-            (after result (λ _ s. k t s) self.new.variables)
-            (point (H.oracle host.new) (H.trace host.new) self.new.used)) }
+        ensures evaluates_to { EvaluatesToText result_use bounds.limits.value_bytes result
+            (λ t. (k : Next) → EvaluatesTo H.oracle H.trace bounds
+            (rules.branches (bounds_of bounds) (pair_texts branches.now) (option_map (λ t. t.now) other.entry)
+            self.old.variables (sized_next bounds.limits.value_bytes k))
+            (host.old, self.old) result (λ _ s. k t s) (host.new, self.new)) }
         ensures only_grows { OnlyGrows self.old self.new }
     {
         for (condition, body) in branches {
-            if self.decide(host, limits, remaining, condition)? {
-                return self.script(host, limits, remaining, body, needs_result);
+            if self.decide(host, bounds, condition)? {
+                return self.script(host, bounds, body, result_use);
             }
         }
-        self.otherwise(host, limits, remaining, other, needs_result)
+        self.otherwise(host, bounds, other, result_use)
     }
 
     /// catch(n). The result of its script is always made, also where no variable takes it.
@@ -591,22 +512,42 @@ impl Evaluator {
     fn catch<H: Host>(
         &mut self,
         host: &mut H,
-        limits: Limits,
-        remaining: u32,
+        bounds: Bounds,
         body: &str,
         name: Option<&str>,
     ) -> Result<String, Stop>
-        ensures evaluates_to { (k : Next) → Simulates limits.commands (rule limits.value_bytes)
-            (rules.form (bounds limits.value_bytes remaining)
-            (forms.Catch body.now (option_map (λ v. v.now) name.entry))
+        ensures evaluates_to { (k : Next) → EvaluatesTo H.oracle H.trace bounds
+            (rules.form (bounds_of bounds) (forms.Catch body.now (option_map (λ v. v.now) name.entry))
             self.old.variables k)
-            (point (H.oracle host.old) (H.trace host.old) self.old.used)
-            (after result (λ t s. k (string_bytes t) s) self.new.variables)
-            (point (H.oracle host.new) (H.trace host.new) self.new.used) }
+            (host.old, self.old) result (with_text k) (host.new, self.new) }
         ensures only_grows { OnlyGrows self.old self.new }
     {
-        let outcome = self.script(host, limits, remaining, body, true);
-        after_catch(self.alloc, &mut self.variables, limits, name, outcome)
+        let outcome = self.script(host, bounds, body, ResultUse::Needed);
+        after_catch(
+            self.alloc,
+            &mut self.variables,
+            bounds.limits,
+            name,
+            outcome,
+        )
+    }
+
+    /// expr(n), of which the words make one text.
+    #[cycle(evaluate)]
+    #[tactic(none)]
+    fn express_words<H: Host>(
+        &mut self,
+        host: &mut H,
+        bounds: Bounds,
+        words: &[String],
+    ) -> Result<String, Stop>
+        ensures evaluates_to { (k : Next) → EvaluatesTo H.oracle H.trace bounds
+            (rules.form (bounds_of bounds) (forms.Express (map string_bytes words.now)) self.old.variables k)
+            (host.old, self.old) result (with_text k) (host.new, self.new) }
+        ensures only_grows { OnlyGrows self.old self.new }
+    {
+        let text = concatenated(self.alloc, words, bounds.limits.value_bytes)?;
+        self.express(host, bounds, text.as_str())
     }
 
     /// Does a core command, by its form.
@@ -615,68 +556,52 @@ impl Evaluator {
     fn form<H: Host>(
         &mut self,
         host: &mut H,
-        limits: Limits,
-        remaining: u32,
+        bounds: Bounds,
         form: Form<'_>,
-        needs_result: bool,
+        result_use: ResultUse,
     ) -> Result<String, Stop>
-        ensures evaluates_to { EvaluatesToText needs_result limits.value_bytes result (λ t. (k : Next)
-            → Simulates limits.commands (rule limits.value_bytes)
-            (rules.form (bounds limits.value_bytes remaining) (form_view form.entry) self.old.variables (sized_next
-            limits.value_bytes k))
-            (point (H.oracle host.old) (H.trace host.old) self.old.used)
-            (after result (λ _ s. k t s) self.new.variables)
-            (point (H.oracle host.new) (H.trace host.new) self.new.used)) }
+        ensures evaluates_to { EvaluatesToText result_use bounds.limits.value_bytes result
+            (λ t. (k : Next) → EvaluatesTo H.oracle H.trace bounds
+            (rules.form (bounds_of bounds) (form_view form.entry) self.old.variables
+            (sized_next bounds.limits.value_bytes k))
+            (host.old, self.old) result (λ _ s. k t s) (host.new, self.new)) }
         ensures only_grows { OnlyGrows self.old self.new }
     {
+        let limits = bounds.limits;
         match form {
-            Form::Express(texts) => {
-                let text = concatenated(self.alloc, texts, limits.value_bytes)?;
-                within(limits, self.express(host, limits, remaining, text.as_str()))
-            }
+            Form::Express(words) => within(limits, self.express_words(host, bounds, words)),
             Form::If(branches, other) => {
-                self.branches(
-                    host,
-                    limits,
-                    remaining,
-                    branches.as_slice(),
-                    other,
-                    needs_result,
-                )
+                self.branches(host, bounds, branches.as_slice(), other, result_use)
             }
             Form::While(condition, body) => {
-                within(
-                    limits,
-                    self.while_turns(host, limits, remaining, condition, body),
-                )
+                let parts = WhileLoop { condition, body };
+                within(limits, self.while_turns(host, bounds, parts))
             }
             Form::For(start, condition, next, body) => {
-                let outcome = self.for_loop(host, limits, remaining, start, condition, next, body);
-                within(limits, outcome)
+                let parts = ForLoop {
+                    start,
+                    condition,
+                    next,
+                    body,
+                };
+                within(limits, self.for_loop(host, bounds, parts))
             }
             Form::Foreach(lists, body) => {
-                within(
-                    limits,
-                    self.foreach(host, limits, remaining, lists.as_slice(), body),
-                )
+                within(limits, self.foreach(host, bounds, lists.as_slice(), body))
             }
             Form::Switch(by_glob, text, patterns) => {
                 let body = chosen(by_glob, text, patterns.as_slice());
-                self.otherwise(host, limits, remaining, body, needs_result)
+                self.otherwise(host, bounds, body, result_use)
             }
-            Form::Catch(body, name) => {
-                within(limits, self.catch(host, limits, remaining, body, name))
-            }
-            Form::Simple(form) => {
-                simple_command(
-                    self.alloc,
-                    &mut self.variables,
-                    host,
-                    limits,
-                    needs_result,
-                    form,
-                )
-            }
+            Form::Catch(body, name) => within(limits, self.catch(host, bounds, body, name)),
+            Form::Simple(form) => simple_command(
+                self.alloc,
+                &mut self.variables,
+                host,
+                limits,
+                result_use,
+                form,
+            ),
         }
     }
 
@@ -687,73 +612,48 @@ impl Evaluator {
     fn called<H: Host>(
         &mut self,
         host: &mut H,
-        limits: Limits,
-        remaining: u32,
+        bounds: Bounds,
         words: &[String],
-        needs_result: bool,
+        result_use: ResultUse,
     ) -> Result<String, Stop>
-        ensures evaluates_to { EvaluatesToText needs_result limits.value_bytes result (λ t. (k : Next)
-            → Simulates limits.commands (rule limits.value_bytes)
-            (called (bounds limits.value_bytes remaining) (map string_bytes words.now) self.old.variables (sized_next
-            limits.value_bytes k))
-            (point (H.oracle host.old) (H.trace host.old) self.old.used)
-            (after result (λ _ s. k t s) self.new.variables)
-            (point (H.oracle host.new) (H.trace host.new) self.new.used)) }
+        ensures evaluates_to { EvaluatesToText result_use bounds.limits.value_bytes result
+            (λ t. (k : Next) → EvaluatesTo H.oracle H.trace bounds
+            (called (bounds_of bounds) (map string_bytes words.now) self.old.variables
+            (sized_next bounds.limits.value_bytes k))
+            (host.old, self.old) result (λ _ s. k t s) (host.new, self.new)) }
         ensures only_grows { OnlyGrows self.old self.new }
     {
-        let Some((name, operands)) = words.split_first() else {
+        let Some(command) = CommandWords::of(words) else {
             return Ok(String::new(self.alloc));
         };
-        match value_command(self.alloc, words, limits.value_bytes)? {
-            Some(value) => within(limits, Ok(value)),
-            None => self.core_command(
-                host,
-                limits,
-                remaining,
-                name.as_str(),
-                operands,
-                words,
-                needs_result,
-            ),
+        match value_command(self.alloc, words, bounds.limits.value_bytes)? {
+            Some(value) => within(bounds.limits, Ok(value)),
+            None => self.core_command(host, bounds, command, result_use),
         }
     }
 
-    /// Does a core command, or one of another name. `words` has all words, the name first, and `operands` those after
-    /// it.
+    /// Does a core command, or one of another name.
     #[cycle(evaluate)]
     #[tactic(none)]
     fn core_command<H: Host>(
         &mut self,
         host: &mut H,
-        limits: Limits,
-        remaining: u32,
-        name: &str,
-        operands: &[String],
-        words: &[String],
-        needs_result: bool,
+        bounds: Bounds,
+        command: CommandWords<'_>,
+        result_use: ResultUse,
     ) -> Result<String, Stop>
-        requires { map string_bytes words.now ≡ name.now ∷ map string_bytes operands.now }
-        ensures evaluates_to { EvaluatesToText needs_result limits.value_bytes result (λ t. (k : Next)
-            → Simulates limits.commands (rule limits.value_bytes)
-            (rules.core_command (bounds limits.value_bytes remaining) name.now (map string_bytes operands.now)
-            self.old.variables (sized_next limits.value_bytes k)
-            (forms.core_form name.now (map string_bytes operands.now)))
-            (point (H.oracle host.old) (H.trace host.old) self.old.used)
-            (after result (λ _ s. k t s) self.new.variables)
-            (point (H.oracle host.new) (H.trace host.new) self.new.used)) }
+        ensures evaluates_to { EvaluatesToText result_use bounds.limits.value_bytes result
+            (λ t. (k : Next) → EvaluatesTo H.oracle H.trace bounds
+            (rules.core_command (bounds_of bounds) (name_of command.entry.words.now)
+            (map string_bytes (drop 1 command.entry.words.now)) self.old.variables
+            (sized_next bounds.limits.value_bytes k)
+            (forms.core_form (name_of command.entry.words.now) (map string_bytes (drop 1 command.entry.words.now))))
+            (host.old, self.old) result (λ _ s. k t s) (host.new, self.new)) }
         ensures only_grows { OnlyGrows self.old self.new }
     {
-        match core_form(self.alloc, name, operands)? {
-            Some(form) => self.form(host, limits, remaining, form, needs_result),
-            None => self.other_command(
-                host,
-                limits,
-                remaining,
-                name,
-                operands,
-                words,
-                needs_result,
-            ),
+        match core_form(self.alloc, command.name(), command.operands())? {
+            Some(form) => self.form(host, bounds, form, result_use),
+            None => self.other_command(host, bounds, command, result_use),
         }
     }
 
@@ -764,70 +664,65 @@ impl Evaluator {
     fn other_command<H: Host>(
         &mut self,
         host: &mut H,
-        limits: Limits,
-        remaining: u32,
-        name: &str,
-        operands: &[String],
-        words: &[String],
-        needs_result: bool,
+        bounds: Bounds,
+        command: CommandWords<'_>,
+        result_use: ResultUse,
     ) -> Result<String, Stop>
-        requires { map string_bytes words.now ≡ name.now ∷ map string_bytes operands.now }
-        ensures evaluates_to { EvaluatesToText needs_result limits.value_bytes result (λ t. (k : Next)
-            → Simulates limits.commands (rule limits.value_bytes)
-            (rules.other_command (bounds limits.value_bytes remaining) name.now (map string_bytes operands.now)
-            self.old.variables (sized_next limits.value_bytes k)
-            (lookup self.old.variables.procedures name.now))
-            (point (H.oracle host.old) (H.trace host.old) self.old.used)
-            (after result (λ _ s. k t s) self.new.variables)
-            (point (H.oracle host.new) (H.trace host.new) self.new.used)) }
+        ensures evaluates_to { EvaluatesToText result_use bounds.limits.value_bytes result
+            (λ t. (k : Next) → EvaluatesTo H.oracle H.trace bounds
+            (rules.other_command (bounds_of bounds) (name_of command.entry.words.now)
+            (map string_bytes (drop 1 command.entry.words.now)) self.old.variables
+            (sized_next bounds.limits.value_bytes k)
+            (lookup self.old.variables.procedures (name_of command.entry.words.now)))
+            (host.old, self.old) result (λ _ s. k t s) (host.new, self.new)) }
         ensures only_grows { OnlyGrows self.old self.new }
     {
-        match self.variables.procedure(name) {
+        match self.variables.procedure(command.name()) {
             Some(procedure) => {
                 let procedure = procedure.clone()?;
-                within(
-                    limits,
-                    self.call(host, limits, remaining, name, &procedure, operands),
-                )
+                within(bounds.limits, self.call(host, bounds, command, &procedure))
             }
             None => unknown_command(
                 self.alloc,
                 &self.variables,
                 host,
-                limits,
-                needs_result,
-                name,
-                operands,
-                words,
+                bounds.limits,
+                result_use,
+                command,
             ),
         }
     }
 
-    /// Calls a procedure with these words: binds its parameters in a frame of its own, and evaluates its body.
+    /// Calls a procedure by its command: binds its parameters in a frame of its own, and evaluates its body.
     #[cycle(evaluate)]
     #[tactic(none)]
     fn call<H: Host>(
         &mut self,
         host: &mut H,
-        limits: Limits,
-        remaining: u32,
-        name: &str,
+        bounds: Bounds,
+        command: CommandWords<'_>,
         procedure: &Procedure,
-        words: &[String],
     ) -> Result<String, Stop>
-        ensures evaluates_to { (k : Next) → Simulates limits.commands (rule limits.value_bytes)
-            (rules.call (bounds limits.value_bytes remaining) name.now (procedure_view procedure.now) (map string_bytes
-            words.now)
-            self.old.variables k)
-            (point (H.oracle host.old) (H.trace host.old) self.old.used)
-            (after result (λ t s. k (string_bytes t) s) self.new.variables)
-            (point (H.oracle host.new) (H.trace host.new) self.new.used) }
+        ensures evaluates_to { (k : Next) → EvaluatesTo H.oracle H.trace bounds
+            (rules.call (bounds_of bounds) (name_of command.entry.words.now) (procedure_view procedure.now)
+            (map string_bytes (drop 1 command.entry.words.now)) self.old.variables k)
+            (host.old, self.old) result (with_text k) (host.new, self.new) }
         ensures only_grows { OnlyGrows self.old self.new }
     {
-        let values = parameter_values(self.alloc, name, &procedure.parameters, words)?;
+        let values = parameter_values(
+            self.alloc,
+            command.name(),
+            &procedure.parameters,
+            command.operands(),
+        )?;
         let caller = self.variables.enter(self.alloc);
-        assign(self.alloc, &mut self.variables, limits.value_bytes, values)?;
-        let outcome = self.script(host, limits, remaining, procedure.body.as_str(), true);
+        assign(
+            self.alloc,
+            &mut self.variables,
+            bounds.limits.value_bytes,
+            values,
+        )?;
+        let outcome = self.script(host, bounds, procedure.body.as_str(), ResultUse::Needed);
         self.variables.leave(caller);
         after_call(self.alloc, outcome)
     }
@@ -838,21 +733,17 @@ impl Evaluator {
     fn foreach<H: Host>(
         &mut self,
         host: &mut H,
-        limits: Limits,
-        remaining: u32,
+        bounds: Bounds,
         lists: &[(&str, &str)],
         body: &str,
     ) -> Result<String, Stop>
-        ensures evaluates_to { (k : Next) → Simulates limits.commands (rule limits.value_bytes)
-            (rules.form (bounds limits.value_bytes remaining) (forms.Foreach (pair_texts lists.now) body.now)
-            self.old.variables k)
-            (point (H.oracle host.old) (H.trace host.old) self.old.used)
-            (after result (λ t s. k (string_bytes t) s) self.new.variables)
-            (point (H.oracle host.new) (H.trace host.new) self.new.used) }
+        ensures evaluates_to { (k : Next) → EvaluatesTo H.oracle H.trace bounds
+            (rules.form (bounds_of bounds) (forms.Foreach (pair_texts lists.now) body.now) self.old.variables k)
+            (host.old, self.old) result (with_text k) (host.new, self.new) }
         ensures only_grows { OnlyGrows self.old self.new }
     {
         let mut loops = Loops::of(self.alloc, lists)?;
-        self.foreach_turns(host, limits, remaining, &mut loops, body)
+        self.foreach_turns(host, bounds, &mut loops, body)
     }
 
     /// The turns of foreach(n), until the items of all lists are used.
@@ -861,25 +752,22 @@ impl Evaluator {
     fn foreach_turns<H: Host>(
         &mut self,
         host: &mut H,
-        limits: Limits,
-        remaining: u32,
+        bounds: Bounds,
         loops: &mut Loops,
         body: &str,
     ) -> Result<String, Stop>
-        ensures evaluates_to { (k : Next) → Simulates limits.commands (rule limits.value_bytes)
-            (Runs (plans.Foreach remaining loops.old body.now self.old.variables) (on_normal k))
-            (point (H.oracle host.old) (H.trace host.old) self.old.used)
-            (after result (λ t s. k (string_bytes t) s) self.new.variables)
-            (point (H.oracle host.new) (H.trace host.new) self.new.used) }
+        ensures evaluates_to { (k : Next) → EvaluatesTo H.oracle H.trace bounds
+            (Runs (plans.Foreach bounds.remaining loops.old body.now self.old.variables) (on_normal k))
+            (host.old, self.old) result (with_text k) (host.new, self.new) }
         ensures only_grows { OnlyGrows self.old self.new }
     {
-        let mut parsed = None;
+        let mut script = LoopBody::new(body);
         loop {
             if loops.are_done() {
                 return Ok(String::new(self.alloc));
             }
-            begin_turn(self.alloc, &mut self.variables, limits, loops)?;
-            if !self.turn(host, limits, remaining, body, &mut parsed)? {
+            begin_turn(self.alloc, &mut self.variables, bounds.limits, loops)?;
+            if !self.turn(host, bounds, &mut script)? {
                 return Ok(String::new(self.alloc));
             }
         }

@@ -7,17 +7,18 @@ ghost use Rattle.tclrules.specs.Plans.{Job, Next, sized};
 ghost use Rattle.tclsubstitution.specs.Stops.{after, stopped};
 ghost use Rattle.tclexpr.specs.Owned as expression;
 ghost use Rattle.tclsubstitution.specs.Machine.{bounds};
+ghost use Rattle.tclcontrol.specs.declared.result_use.ResultUse.{ResultUse};
 ghost use Rattle.tclcontrol.specs.Completions.{EvaluatesToText, condition_plan};
 ghost use Rattle.tcloperators.specs.declared.operators.Computed.TheVariants.{Truth};
-ghost use Rattle.tclsubstitution.specs.declared.stop.Stop.TheVariants.{Halted};
-ghost use Rattle.tclsubstitution.specs.declared.stop.Halt.TheVariants.{TooManyCommands};
+ghost use Rattle.tclsubstitution.specs.declared.stop.Stop.TheVariants.{Fault};
+ghost use Rattle.tclrules.specs.declared.outcome.EvalFault.TheVariants.{TooManyCommands};
 
 use std::alloc::Global;
 use tclcache::Cache;
 use tclexpr::OwnedExpr;
 use tcloperators::Computed;
-use tclrules::Limits;
-use tclsubstitution::{Halt, Stop, SubstitutionContext, compute_borrowed};
+use tclrules::{EvalFault, Limits};
+use tclsubstitution::{Stop, SubstitutionContext, compute_borrowed};
 use tclvariables::Variables;
 
 /// The state of an evaluation.
@@ -38,13 +39,13 @@ impl Evaluator {
     pub(crate) fn count(&mut self, limits: Limits) -> Result<(), Stop>
         ensures counted { MatchResult result
             (λ _. (self.old.used < limits.commands) × (self.new.used ≡ self.old.used + 1))
-            (λ stop. (limits.commands ≤ self.old.used) × (self.new.used ≡ self.old.used) × (stop ≡ Halted
+            (λ stop. (limits.commands ≤ self.old.used) × (self.new.used ≡ self.old.used) × (stop ≡ Fault
             TooManyCommands)) }
         ensures variables { self.new.variables ≡ self.old.variables }
         ensures cache { self.new.cache ≡ self.old.cache }
     {
         if self.used >= limits.commands {
-            return Err(Stop::Halted(Halt::TooManyCommands));
+            return Err(Stop::Fault(EvalFault::TooManyCommands));
         }
         self.used += 1;
         Ok(())
@@ -97,7 +98,7 @@ pub(crate) fn sized(limits: Limits, text: String) -> Result<String, Stop>
         (after result (λ t s. k (string_bytes t) s) s) x }
 {
     if text.len() > limits.value_bytes {
-        return Err(Stop::Halted(Halt::ValueTooLong));
+        return Err(Stop::Fault(EvalFault::ValueTooLong));
     }
     Ok(text)
 }
@@ -105,7 +106,7 @@ pub(crate) fn sized(limits: Limits, text: String) -> Result<String, Stop>
 /// The completion of a command, with its result judged by the limit on values.
 #[tactic(none)]
 pub(crate) fn within(limits: Limits, outcome: Result<String, Stop>) -> Result<String, Stop>
-    ensures { (needs_result : Bool) (s : State) → EvaluatesToText needs_result limits.value_bytes result
+    ensures { (result_use : ResultUse) (s : State) → EvaluatesToText result_use limits.value_bytes result
         (λ t. (most : ℕ) (r : Job →
         plans.Step)
         (k : Next) (x : Point) → Simulates most r

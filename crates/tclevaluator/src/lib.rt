@@ -3,11 +3,17 @@
 //! Used by tcleval, which evaluates whole files.
 #![tactic(auto)]
 
+mod bounds;
 mod evaluation;
 mod evaluator;
 mod literals;
+mod loop_body;
+mod loops;
+mod sourced;
 mod trees;
 mod turns;
 mod words;
 
+pub use bounds::Bounds;
 pub use evaluator::Evaluator;
+pub use sourced::Sourced;

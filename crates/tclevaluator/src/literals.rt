@@ -14,6 +14,7 @@ ghost use Rattle.tclrules.specs.Forms.{core_form};
 ghost use Rattle.tclforms.specs.Views.{form_view};
 ghost use Rattle.tclsubstitution.specs.Machine.{range_text, bounds};
 
+use crate::sourced::Sourced;
 use crate::words::literal;
 use tclforms::{Form, Simple};
 use tclrules::Limits;
@@ -78,16 +79,16 @@ fn form_of_two<'t>(name: &str, first: &'t str, second: &'t str) -> Option<Form<'
 /// The form of such a command; None for any other command, whose words are substituted.
 pub(crate) fn literal_form<'t>(
     limits: Limits,
-    source: &'t str,
-    words: &'t [Word<ByteRange>],
+    words: Sourced<'t, &'t [Word<ByteRange>]>,
 ) -> Option<Form<'t>>
     ensures { IfSome result (λ form. (remaining : ℕ) (s : State) (k : Next)
         → pieces.words (bounds limits.value_bytes remaining)
-        (words_of (map (word_view (range_text source.entry.now)) words.entry.now)) [] s
+        (words_of (map (word_view (range_text words.entry.source.now)) words.entry.tree.now)) [] s
         (λ texts s1. rules.called (bounds limits.value_bytes remaining) texts s1 k)
         ≡ rules.form (bounds limits.value_bytes remaining) (form_view form) s k) }
 {
-    match words {
+    let source = words.source;
+    match words.tree {
         [name] => form_alone(literal_text(limits, source, name)?),
         [name, word] => form_of_one(
             literal_text(limits, source, name)?,

@@ -1,22 +1,18 @@
-//! The trees of scripts and expressions at their evaluation, with the faults of texts that have none; and how the value
-//! of a whole expression is written.
-ghost use Rattle.std.specs.Prelude.{◌≡◌, if◌then◌else◌, IfOk, Some, None, MatchOption, MatchResult, drop, option_map, string_bytes};
+//! The trees of expressions at their evaluation, with the faults of texts that have none; and how the value of a whole
+//! expression is written.
+ghost use Rattle.std.specs.Prelude.{◌≡◌, if◌then◌else◌, IfOk, Some, None, MatchOption, drop, option_map, string_bytes};
 ghost use Rattle.std.specs.Fmt.{signed_decimal};
-ghost use Rattle.tclscript.specs.Text.{script_of};
-ghost use Rattle.tclscript.specs.Owned as scripts;
 ghost use Rattle.tclexpr.specs.Text.{expr_of};
 ghost use Rattle.tclexpr.specs.Owned as expressions;
 ghost use Rattle.tclnumber.specs.Numerals.{numeral};
 ghost use Rattle.tclchars.specs.Answers.{Gives};
-ghost use Rattle.tclchars.specs.Whole.{Reads};
-ghost use Rattle.tclchars.specs.declared.fault.TextFault.TheVariants.{OutOfMemory};
 ghost use Rattle.tclvalue.specs.Faults.{reason_of, GivesText};
 ghost use Rattle.tclchars.specs.Runs.{begins, take_while};
 ghost use Rattle.tclexpr.specs.UnsupportedSyntax.{begins_power, is_letter, is_operator_word, names_function, unsupported_at};
 ghost use Rattle.tclchars.specs.Classes.{is_name, begins_in};
 ghost use Rattle.tclrules.specs.Expressions.{fault_of, parsed, normal};
 ghost use Rattle.tclcache.specs.Cache.{BeginWith};
-ghost use Rattle.tclcontrol.specs.Completions.{IsScriptTree, IsExpressionFault, value_fault};
+ghost use Rattle.tclcontrol.specs.Completions.{IsExpressionFault, value_fault};
 
 use std::alloc::{AllocError, Global};
 use std::rc::Rc;
@@ -25,7 +21,6 @@ use tclchars::{Class, TextFault, split_run};
 use tclcontrol::unsupported;
 use tclexpr::OwnedExpr;
 use tclnumber::{Numeral, read_number};
-use tclscript::OwnedScript;
 use tclvalue::ValueFault;
 
 /// The rest of a text from a byte offset on, where a character begins there. Where none does, no name that is
@@ -145,38 +140,6 @@ pub(crate) fn expression_tree(
     match cache.expr_tree(text) {
         Ok(tree) => Ok(tree),
         Err(fault) => Err(expression_fault(alloc, text, fault)),
-    }
-}
-
-/// The tree of a script that a loop evaluates in each turn: that in `parsed`, or else one that is parsed or taken from
-/// the cache, and stands in `parsed` from then on.
-///
-/// Errors: the fault of the text, or that memory ran out.
-pub(crate) fn repeated_tree(
-    cache: &mut Cache,
-    text: &str,
-    parsed: &mut Option<Rc<OwnedScript>>,
-) -> Result<Rc<OwnedScript>, TextFault>
-    requires { IsScriptTree text.now parsed.old }
-    ensures tree { Reads (λ tree. scripts.owned_view tree.value) result (script_of text.now) }
-    ensures parsed { IsScriptTree text.now parsed.new }
-    ensures begins { BeginWith cache.old cache.new }
-{
-    if let Some(tree) = parsed {
-        return share_tree(tree);
-    }
-    let tree = cache.script_tree(text)?;
-    *parsed = Some(share_tree(&tree)?);
-    Ok(tree)
-}
-
-/// Another owner of a tree, which isn't copied.
-fn share_tree(tree: &Rc<OwnedScript>) -> Result<Rc<OwnedScript>, TextFault>
-    ensures { MatchResult result (λ copy. copy.value ≡ tree.now.value) (λ fault. fault ≡ OutOfMemory) }
-{
-    match tree.clone() {
-        Ok(copy) => Ok(copy),
-        Err(_) => Err(TextFault::OutOfMemory),
     }
 }
 

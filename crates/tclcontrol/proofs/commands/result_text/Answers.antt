@@ -10,17 +10,17 @@ returns-then-len-limits c =
     let h : c.args.limits.value_bytes < length (value_text c.args.value c.args.variables.now) = omega (arith, c.len.ensures, c.if-len-limits.true) in
     ([], tt, λ most r k x. sized_stops _ _ _ h)
 
-pub returns-in_err-into_text : goal.returns-in_err-into_text
-returns-in_err-into_text c =
+pub returns-in_err-into_text-in-Needed : goal.returns-in_err-into_text-in-Needed
+returns-in_err-into_text-in-Needed c =
     let p = err_from_is_err_and c.from_residual.result c.from_residual.ensures.1 in
     rw (p.1, p.2) ([], tt, λ most r k x. starve)
 
-pub returns-then-needs_result : goal.returns-then-needs_result
-returns-then-needs_result c =
+pub returns-in_ok-into_text-in-Needed : goal.returns-in_ok-into_text-in-Needed
+returns-in_ok-into_text-in-Needed c =
     let h : length (value_text c.args.value c.args.variables.now) ≤ c.args.limits.value_bytes = omega (arith, c.len.ensures, c.if-len-limits.false) in
-    (value_text c.args.value c.args.variables.now, (h, λ e. c.in_ok-into_text.ensures), λ most r k x. sized_on _ _ _ h)
+    (value_text c.args.value c.args.variables.now, (h, λ e. c.in_ok-into_text-in-Needed.ensures), λ most r k x. sized_on _ _ _ h)
 
-pub returns : goal.returns
-returns c =
+pub returns-in-Dropped : goal.returns-in-Dropped
+returns-in-Dropped c =
     let h : length (value_text c.args.value c.args.variables.now) ≤ c.args.limits.value_bytes = omega (arith, c.len.ensures, c.if-len-limits.false) in
-    (value_text c.args.value c.args.variables.now, (h, λ e. absurd (let q = c.if-needs_result.false in cc)), λ most r k x. sized_on _ _ _ h)
+    (value_text c.args.value c.args.variables.now, (h, λ e. absurd (let q = c.in-Dropped.is in cc)), λ most r k x. sized_on _ _ _ h)

@@ -10,8 +10,10 @@ use Rattle.tclrules.specs.Words as pieces
 use Rattle.tclrules.specs.Plans.{Next, sized}
 use Rattle.tclrules.specs.Rules.{rule, called, turn}
 use Rattle.tclforms.specs.Views.{pair_texts}
-use Rattle.tclsubstitution.specs.Machine.{range_text, bounds}
+use Rattle.tclsubstitution.specs.Machine.{range_text}
+use Rattle.tclevaluator.specs.EvaluatesTo.{bounds_of}
 use Rattle.tclcontrol.specs.Completions.{sized_next, guarded, condition_plan}
+use Rattle.tclsubstitution.specs.Stops.{stop_of}
 use Rattle.tclsubstitution.proofs.AtHand.{from_same}
 use Rattle.tclrules.specs.Rules as table
 use Rattle.std.proofs.lemmas.Bool.{false≢true}
@@ -27,28 +29,29 @@ use Rattle.tclrules.proofs.Leading.{stay, continue_with, starve, count_on, count
 use Rattle.tclsubstitution.proofs.Leading.{passed_on, starved_end, given_on, given_stops, value_stops, sized_on, run_stops}
 use Rattle.tclsubstitution.proofs.Trees.{empty_of}
 use Rattle.tclcontrol.proofs.Stopping.{same_as}
+use Rattle.tclcontrol.proofs.CommandWordLemmas.{whole}
 use Rattle.tclevaluator.proofs.Running.{run_known, run_normal, run_comes, run_turn, run_next, comes_stopped, comes_cut, begin_on, begin_stops, drop_here, script_commands, command_words, word_parts, later_refl, later_on, later_still, later_counted, later_beside, later_begun, later_parsed, text_stops, limited_stops, limited_on, ok_any, counted_on, core_stops, turned_some, turned_none, foreach_done, foreach_more, on_branch, branch_on}
 use Rattle.tclevaluator.proofs.evaluator.Evaluator.+evaluate.Goals as goal
 
 pub bracket-commands-requires : goal.bracket-commands-requires
 bracket-commands-requires g t c κs within = search rules
 
-pub bracket-overflow_sub-remaining : goal.bracket-overflow_sub-remaining
-bracket-overflow_sub-remaining g t c = omega arith
-
 pub bracket-returns-clause-evaluates_to : goal.bracket-returns-clause-evaluates_to
 bracket-returns-clause-evaluates_to g t c = λ k.
-    let h = c.commands.ensures.evaluates_to in
-    run_normal k _ _ _ (h.0, h.1, continue_with (begin_on _ _ c.if-remaining-eq0.false) h.2)
+    let i = c.in_ok-inside.ensures in
+    let h = rw i.1 at c.commands.ensures.evaluates_to in
+    run_normal k _ _ _ (h.0, h.1, continue_with (begin_on _ _ i.0) h.2)
 
 pub bracket-returns-clause-only_grows : goal.bracket-returns-clause-only_grows
 bracket-returns-clause-only_grows g t c = c.commands.ensures.only_grows
 
-pub bracket-returns-then-remaining-eq0-clause-evaluates_to : goal.bracket-returns-then-remaining-eq0-clause-evaluates_to
-bracket-returns-then-remaining-eq0-clause-evaluates_to g t c = λ k. run_halts (begin_stops _ _ c.if-remaining-eq0.true)
+pub bracket-returns-in_err-inside-clause-evaluates_to : goal.bracket-returns-in_err-inside-clause-evaluates_to
+bracket-returns-in_err-inside-clause-evaluates_to g t c = λ k.
+    let i = c.in_err-inside.ensures in
+    passed_on _ _ _ _ c.from_residual.ensures.1 (rw i.1 (run_halts (begin_stops _ _ i.0)))
 
-pub bracket-returns-then-remaining-eq0-clause-only_grows : goal.bracket-returns-then-remaining-eq0-clause-only_grows
-bracket-returns-then-remaining-eq0-clause-only_grows g t c = later_refl
+pub bracket-returns-in_err-inside-clause-only_grows : goal.bracket-returns-in_err-inside-clause-only_grows
+bracket-returns-in_err-inside-clause-only_grows g t c = later_refl
 
 pub branches-decide-requires : goal.branches-decide-requires
 branches-decide-requires g t c κs within = search rules
@@ -59,7 +62,7 @@ branches-loop-condition-init g t c = record { evaluates_to = λ k. stay; only_gr
 pub branches-loop-condition-preserved : goal.branches-loop-condition-preserved
 branches-loop-condition-preserved g t c = record {
   evaluates_to = λ k.
-      let b = bounds c.args.limits.value_bytes c.args.remaining in
+      let b = bounds_of c.args.bounds in
       let i = c.loop-condition.condition-index in
       let d : Bor (List ℕ) × Bor (List ℕ) = (record { ref_ptr = (0, 0); now = [] }, record { ref_ptr = (0, 0); now = [] }) in
       let other = option_map (λ (t : Bor (List ℕ)). t.now) c.args.other in
@@ -83,19 +86,19 @@ pub branches-returns-clause-evaluates_to : goal.branches-returns-clause-evaluate
 branches-returns-clause-evaluates_to g t c =
     let h = c.otherwise.ensures.evaluates_to in
     let d = drop_all _ _ c.loop-condition-test.false in
-    (h.0, h.1, λ k. continue_with (rw d at (c.loop-condition.invariant.evaluates_to (sized_next c.args.limits.value_bytes k))) (h.2 k))
+    (h.0, h.1, λ k. continue_with (rw d at (c.loop-condition.invariant.evaluates_to (sized_next c.args.bounds.limits.value_bytes k))) (h.2 k))
 
 pub branches-returns-clause-only_grows : goal.branches-returns-clause-only_grows
 branches-returns-clause-only_grows g t c = later_on c.loop-condition.invariant.only_grows c.otherwise.ensures.only_grows
 
 pub branches-returns-in_err-decide-clause-evaluates_to : goal.branches-returns-in_err-decide-clause-evaluates_to
 branches-returns-in_err-decide-clause-evaluates_to g t c =
-    let b = bounds c.args.limits.value_bytes c.args.remaining in
+    let b = bounds_of c.args.bounds in
     let i = c.loop-condition.condition-index in
     let d : Bor (List ℕ) × Bor (List ℕ) = (record { ref_ptr = (0, 0); now = [] }, record { ref_ptr = (0, 0); now = [] }) in
     let other = option_map (λ (t : Bor (List ℕ)). t.now) c.args.other in
-    let next = λ (k : Next). on_branch b (get_or c.args.branches.now i d).1.now (pair_texts (drop (i + 1) c.args.branches.now)) other (sized_next c.args.limits.value_bytes k) in
-    let l = λ (k : Next). branch_on b c.args.branches.now i d other c.loop-condition.self.variables (sized_next c.args.limits.value_bytes k) c.loop-condition-test.true (c.loop-condition.invariant.evaluates_to (sized_next c.args.limits.value_bytes k)) in
+    let next = λ (k : Next). on_branch b (get_or c.args.branches.now i d).1.now (pair_texts (drop (i + 1) c.args.branches.now)) other (sized_next c.args.bounds.limits.value_bytes k) in
+    let l = λ (k : Next). branch_on b c.args.branches.now i d other c.loop-condition.self.variables (sized_next c.args.bounds.limits.value_bytes k) c.loop-condition-test.true (c.loop-condition.invariant.evaluates_to (sized_next c.args.bounds.limits.value_bytes k)) in
     comes_stopped _ _ _ _ _ c.from_residual.ensures.1 (λ k. continue_with (l k) (c.in_err-decide.ensures.evaluates_to (next k)))
 
 pub branches-returns-in_err-decide-clause-only_grows : goal.branches-returns-in_err-decide-clause-only_grows
@@ -103,12 +106,12 @@ branches-returns-in_err-decide-clause-only_grows g t c = later_on c.loop-conditi
 
 pub branches-returns-then-branch-clause-evaluates_to : goal.branches-returns-then-branch-clause-evaluates_to
 branches-returns-then-branch-clause-evaluates_to g t c =
-    let b = bounds c.args.limits.value_bytes c.args.remaining in
+    let b = bounds_of c.args.bounds in
     let i = c.loop-condition.condition-index in
     let d : Bor (List ℕ) × Bor (List ℕ) = (record { ref_ptr = (0, 0); now = [] }, record { ref_ptr = (0, 0); now = [] }) in
     let other = option_map (λ (t : Bor (List ℕ)). t.now) c.args.other in
-    let next = λ (k : Next). on_branch b (get_or c.args.branches.now i d).1.now (pair_texts (drop (i + 1) c.args.branches.now)) other (sized_next c.args.limits.value_bytes k) in
-    let l = λ (k : Next). branch_on b c.args.branches.now i d other c.loop-condition.self.variables (sized_next c.args.limits.value_bytes k) c.loop-condition-test.true (c.loop-condition.invariant.evaluates_to (sized_next c.args.limits.value_bytes k)) in
+    let next = λ (k : Next). on_branch b (get_or c.args.branches.now i d).1.now (pair_texts (drop (i + 1) c.args.branches.now)) other (sized_next c.args.bounds.limits.value_bytes k) in
+    let l = λ (k : Next). branch_on b c.args.branches.now i d other c.loop-condition.self.variables (sized_next c.args.bounds.limits.value_bytes k) c.loop-condition-test.true (c.loop-condition.invariant.evaluates_to (sized_next c.args.bounds.limits.value_bytes k)) in
     let n = run_comes _ _ _ _ c.script.ensures.evaluates_to in
     (n.0, n.1, λ k. continue_with (continue_with (l k) (rw c.if-branch.true at (c.in_ok-decide.ensures.evaluates_to (next k)))) (n.2 k))
 
@@ -129,10 +132,10 @@ call-parameter_values-requires-text-name g t c κs = search rules
 
 pub call-returns-clause-evaluates_to : goal.call-returns-clause-evaluates_to
 call-returns-clause-evaluates_to g t c = λ k.
-    let b = bounds c.args.limits.value_bytes c.args.remaining in
+    let b = bounds_of c.args.bounds in
     let next = λ (s' : State). table.body b (string_bytes c.args.procedure.now.body) s' (table.after_call c.args.self.now.variables.frame k) in
-    let v = rw c.deref.ensures.value at c.in_ok-values.ensures in
-    let a = rw c.enter-caller.ensures.entered at (c.in_ok-assign.ensures c.args.limits.commands c.args.remaining (rule c.args.limits.value_bytes) next (point (g.H.Host.oracle c.args.host.now) (g.H.Host.trace c.args.host.now) c.args.self.now.used)) in
+    let v = rw (c.name.ensures, c.operands.ensures, c.deref.ensures.value) at c.in_ok-values.ensures in
+    let a = rw c.enter-caller.ensures.entered at (c.in_ok-assign.ensures c.args.bounds.limits.commands c.args.bounds.remaining (rule c.args.bounds.limits.value_bytes) next (point (g.H.Host.oracle c.args.host.now) (g.H.Host.trace c.args.host.now) c.args.self.now.used)) in
     let r = rw c.as_str.ensures.value at c.script-outcome.ensures.evaluates_to in
     let l = continue_with (continue_with (given_on _ _ _ _ v) a) (run_known _ _ _ _ r) in
     rw (c.leave.ensures, c.enter-caller.ensures.caller) (continue_with l (c.after_call.ensures _ _ c.args.self.now.variables.frame k _ _))
@@ -142,10 +145,10 @@ call-returns-clause-only_grows g t c = later_beside refl refl refl refl c.script
 
 pub call-returns-in_err-assign-clause-evaluates_to : goal.call-returns-in_err-assign-clause-evaluates_to
 call-returns-in_err-assign-clause-evaluates_to g t c = λ k.
-    let b = bounds c.args.limits.value_bytes c.args.remaining in
+    let b = bounds_of c.args.bounds in
     let next = λ (s' : State). table.body b (string_bytes c.args.procedure.now.body) s' (table.after_call c.args.self.now.variables.frame k) in
-    let v = rw c.deref.ensures.value at c.in_ok-values.ensures in
-    let a = rw c.enter-caller.ensures.entered at (c.in_err-assign.ensures c.args.limits.commands c.args.remaining (rule c.args.limits.value_bytes) next (point (g.H.Host.oracle c.args.host.now) (g.H.Host.trace c.args.host.now) c.args.self.now.used)) in
+    let v = rw (c.name.ensures, c.operands.ensures, c.deref.ensures.value) at c.in_ok-values.ensures in
+    let a = rw c.enter-caller.ensures.entered at (c.in_err-assign.ensures c.args.bounds.limits.commands c.args.bounds.remaining (rule c.args.bounds.limits.value_bytes) next (point (g.H.Host.oracle c.args.host.now) (g.H.Host.trace c.args.host.now) c.args.self.now.used)) in
     passed_on _ _ _ _ c.from_residual-in_err-assign.ensures.1 (continue_with (given_on _ _ _ _ v) a)
 
 pub call-returns-in_err-assign-clause-only_grows : goal.call-returns-in_err-assign-clause-only_grows
@@ -153,7 +156,7 @@ call-returns-in_err-assign-clause-only_grows g t c = later_still refl refl
 
 pub call-returns-in_err-values-clause-evaluates_to : goal.call-returns-in_err-values-clause-evaluates_to
 call-returns-in_err-values-clause-evaluates_to g t c = λ k.
-    let h = rw c.deref.ensures.value at c.in_err-values.ensures in
+    let h = rw (c.name.ensures, c.operands.ensures, c.deref.ensures.value) at c.in_err-values.ensures in
     value_stops _ _ _ _ _ _ c.from_residual.ensures.1 h
 
 pub call-returns-in_err-values-clause-only_grows : goal.call-returns-in_err-values-clause-only_grows
@@ -163,15 +166,14 @@ pub call-script-outcome-requires : goal.call-script-outcome-requires
 call-script-outcome-requires g t c κs within = search rules
 
 pub called-core_command-requires : goal.called-core_command-requires
-called-core_command-requires g t c κs within =
-    let e = rw (← c.as_str.ensures.value) at (ap (map string_bytes) c.in-Some.ensures.cases.0) in
-    (search rules, (search rules, e))
+called-core_command-requires g t c κs within = search rules
 
 pub called-returns-in-None-clause-evaluates_to : goal.called-returns-in-None-clause-evaluates_to
 called-returns-in-None-clause-evaluates_to g t c =
-    let e = c.in-Some.ensures.cases.0 in
+    let command = c.in-Some.command in
+    let e = ap (map string_bytes) (sym c.in-Some.ensures) ∙ whole command.words.now command.not_empty in
     let v = rw (e, c.in-None.is) at c.in_ok-value.ensures in
-    let h = rw c.as_str.ensures.value at c.core_command.ensures.evaluates_to in
+    let h = c.core_command.ensures.evaluates_to in
     (h.0, h.1, λ k. rw e (continue_with (given_on _ _ _ _ v) (h.2 k)))
 
 pub called-returns-in-None-clause-only_grows : goal.called-returns-in-None-clause-only_grows
@@ -179,9 +181,10 @@ called-returns-in-None-clause-only_grows g t c = c.core_command.ensures.only_gro
 
 pub called-returns-in-Some-2-clause-evaluates_to : goal.called-returns-in-Some-2-clause-evaluates_to
 called-returns-in-Some-2-clause-evaluates_to g t c =
-    let e = c.in-Some.ensures.cases.0 in
+    let command = c.in-Some.command in
+    let e = ap (map string_bytes) (sym c.in-Some.ensures) ∙ whole command.words.now command.not_empty in
     let h = rw (e, c.in-Some-2.is) at c.in_ok-value.ensures in
-    let w = c.within.ensures c.args.needs_result c.args.self.now.variables in
+    let w = c.within.ensures c.args.result_use c.args.self.now.variables in
     (w.0, w.1, λ k. rw e (continue_with (given_on _ _ _ _ h) (w.2 _ _ k _)))
 
 pub called-returns-in-Some-2-clause-only_grows : goal.called-returns-in-Some-2-clause-only_grows
@@ -189,15 +192,15 @@ called-returns-in-Some-2-clause-only_grows g t c = later_refl
 
 pub called-returns-in_default-clause-evaluates_to : goal.called-returns-in_default-clause-evaluates_to
 called-returns-in_default-clause-evaluates_to g t c =
-    let e : c.args.words.now ≡ [] = empty_of _ (omega (arith, c.in_default.ensures.cases)) in
-    ([], (omega arith, λ q. c.new.ensures.bytes), λ k. rw e (sized_on c.args.limits.value_bytes [] (k [] c.args.self.now.variables) (omega arith)))
+    ([], (omega arith, λ q. c.new.ensures.bytes), λ k. rw c.in_default.ensures (sized_on c.args.bounds.limits.value_bytes [] (k [] c.args.self.now.variables) (omega arith)))
 
 pub called-returns-in_default-clause-only_grows : goal.called-returns-in_default-clause-only_grows
 called-returns-in_default-clause-only_grows g t c = later_refl
 
 pub called-returns-in_err-value-clause-evaluates_to : goal.called-returns-in_err-value-clause-evaluates_to
 called-returns-in_err-value-clause-evaluates_to g t c =
-    let e = c.in-Some.ensures.cases.0 in
+    let command = c.in-Some.command in
+    let e = ap (map string_bytes) (sym c.in-Some.ensures) ∙ whole command.words.now command.not_empty in
     let h = rw e at c.in_err-value.ensures in
     comes_stopped _ _ _ _ _ c.from_residual.ensures.1 (λ k. rw e (given_stops _ _ _ _ h))
 
@@ -205,7 +208,7 @@ pub called-returns-in_err-value-clause-only_grows : goal.called-returns-in_err-v
 called-returns-in_err-value-clause-only_grows g t c = later_refl
 
 pub catch-returns-clause-evaluates_to : goal.catch-returns-clause-evaluates_to
-catch-returns-clause-evaluates_to g t c = λ k. continue_with (run_known _ _ _ _ c.script-outcome.ensures.evaluates_to) (c.after_catch.ensures _ c.args.remaining _ k _)
+catch-returns-clause-evaluates_to g t c = λ k. continue_with (run_known _ _ _ _ c.script-outcome.ensures.evaluates_to) (c.after_catch.ensures _ c.args.bounds.remaining _ k _)
 
 pub catch-returns-clause-only_grows : goal.catch-returns-clause-only_grows
 catch-returns-clause-only_grows g t c = later_beside refl refl refl refl c.script-outcome.ensures.only_grows
@@ -218,11 +221,11 @@ command-called-requires g t c κs within = search rules
 
 pub command-returns-clause-evaluates_to : goal.command-returns-clause-evaluates_to
 command-returns-clause-evaluates_to g t c =
-    let b = bounds c.args.limits.value_bytes c.args.remaining in
+    let b = bounds_of c.args.bounds in
     let h = c.in_ok-count.ensures in
-    let v = command_words (range_text c.args.source.now) c.args.command.now in
-    let a = rw c.deref-3.ensures.value at c.called.ensures.evaluates_to in
-    let w = λ (k : Next). rw (h.variables, h.counted.1, c.deref-2.ensures.value) at (c.in_ok-texts.ensures.evaluates_to (λ texts s1. called b texts s1 (sized_next c.args.limits.value_bytes k))) in
+    let v = command_words (range_text c.args.command.source.now) c.args.command.tree.now in
+    let a = rw c.deref.ensures.value at c.called.ensures.evaluates_to in
+    let w = λ (k : Next). rw (h.variables, h.counted.1, c.as_slice.ensures.value) at (c.in_ok-texts.ensures.evaluates_to (λ texts s1. called b texts s1 (sized_next c.args.bounds.limits.value_bytes k))) in
     (a.0, a.1, λ k. rw v (continue_with (continue_with (count_on h.counted.0) (w k)) (a.2 k)))
 
 pub command-returns-clause-only_grows : goal.command-returns-clause-only_grows
@@ -238,10 +241,10 @@ command-returns-in_err-count-clause-only_grows g t c = later_still c.in_err-coun
 
 pub command-returns-in_err-texts-clause-evaluates_to : goal.command-returns-in_err-texts-clause-evaluates_to
 command-returns-in_err-texts-clause-evaluates_to g t c =
-    let b = bounds c.args.limits.value_bytes c.args.remaining in
+    let b = bounds_of c.args.bounds in
     let h = c.in_ok-count.ensures in
-    let v = command_words (range_text c.args.source.now) c.args.command.now in
-    let w = λ (k : Next). rw (h.variables, h.counted.1, c.deref-2.ensures.value) at (c.in_err-texts.ensures.evaluates_to (λ texts s1. called b texts s1 (sized_next c.args.limits.value_bytes k))) in
+    let v = command_words (range_text c.args.command.source.now) c.args.command.tree.now in
+    let w = λ (k : Next). rw (h.variables, h.counted.1, c.as_slice.ensures.value) at (c.in_err-texts.ensures.evaluates_to (λ texts s1. called b texts s1 (sized_next c.args.bounds.limits.value_bytes k))) in
     comes_stopped _ _ _ _ _ c.from_residual-in_err-texts.ensures.1 (λ k. rw v (continue_with (count_on h.counted.0) (w k)))
 
 pub command-returns-in_err-texts-clause-only_grows : goal.command-returns-in_err-texts-clause-only_grows
@@ -254,7 +257,7 @@ pub commands-command-requires : goal.commands-command-requires
 commands-command-requires g t c κs within = search rules
 
 pub commands-loop-command-init : goal.commands-loop-command-init
-commands-loop-command-init g t c = record { evaluates_to = ([], (omega arith, λ q. c.new-last.ensures.bytes), rw (script_commands (range_text c.args.source.now) c.args.script.now) stay); only_grows = later_refl }
+commands-loop-command-init g t c = record { evaluates_to = ([], (omega arith, λ q. c.new-last.ensures.bytes), rw (script_commands (range_text c.args.script.source.now) c.args.script.tree.now) stay); only_grows = later_refl }
 
 pub commands-loop-command-preserved : goal.commands-loop-command-preserved
 commands-loop-command-preserved g t c =
@@ -297,11 +300,11 @@ pub core_command-form-requires : goal.core_command-form-requires
 core_command-form-requires g t c κs within = search rules
 
 pub core_command-other_command-requires : goal.core_command-other_command-requires
-core_command-other_command-requires g t c κs within = (search rules, (search rules, search rules))
+core_command-other_command-requires g t c κs within = search rules
 
 pub core_command-returns-in-None-clause-evaluates_to : goal.core_command-returns-in-None-clause-evaluates_to
 core_command-returns-in-None-clause-evaluates_to g t c =
-    let h = rw c.in-None.is at c.in_ok-form.ensures in
+    let h = rw (c.name.ensures, c.operands.ensures, c.in-None.is) at c.in_ok-form.ensures in
     let a = c.other_command.ensures.evaluates_to in
     (a.0, a.1, λ k. rw (turned_none _ h) (a.2 k))
 
@@ -310,7 +313,7 @@ core_command-returns-in-None-clause-only_grows g t c = c.other_command.ensures.o
 
 pub core_command-returns-in-Some-clause-evaluates_to : goal.core_command-returns-in-Some-clause-evaluates_to
 core_command-returns-in-Some-clause-evaluates_to g t c =
-    let h = rw c.in-Some.is at c.in_ok-form.ensures in
+    let h = rw (c.name.ensures, c.operands.ensures, c.in-Some.is) at c.in_ok-form.ensures in
     let a = c.form.ensures.evaluates_to in
     (a.0, a.1, λ k. rw (turned_some _ _ h) (a.2 k))
 
@@ -319,7 +322,8 @@ core_command-returns-in-Some-clause-only_grows g t c = c.form.ensures.only_grows
 
 pub core_command-returns-in_err-form-clause-evaluates_to : goal.core_command-returns-in_err-form-clause-evaluates_to
 core_command-returns-in_err-form-clause-evaluates_to g t c =
-    comes_stopped _ _ _ _ _ c.from_residual.ensures.1 (λ k. core_stops (bounds c.args.limits.value_bytes c.args.remaining) c.args.name.now (map string_bytes c.args.operands.now) c.args.self.now.variables (sized_next c.args.limits.value_bytes k) _ _ c.in_err-form.ensures)
+    let h = rw (c.name.ensures, c.operands.ensures) at c.in_err-form.ensures in
+    comes_stopped _ _ _ _ _ c.from_residual.ensures.1 (λ k. core_stops (bounds_of c.args.bounds) _ _ c.args.self.now.variables (sized_next c.args.bounds.limits.value_bytes k) _ _ h)
 
 pub core_command-returns-in_err-form-clause-only_grows : goal.core_command-returns-in_err-form-clause-only_grows
 core_command-returns-in_err-form-clause-only_grows g t c = later_refl
@@ -343,74 +347,74 @@ pub for_loop-script-requires : goal.for_loop-script-requires
 for_loop-script-requires g t c κs within = search rules
 
 pub for_turns-guarded_turn-requires : goal.for_turns-guarded_turn-requires
-for_turns-guarded_turn-requires g t c κs within = (search rules, (search rules, c.loop-between.invariant.parsed))
+for_turns-guarded_turn-requires g t c κs within = (search rules, (search rules, c.loop-next.invariant.body.1))
 
-pub for_turns-loop-between-init : goal.for_turns-loop-between-init
-for_turns-loop-between-init g t c = record { evaluates_to = λ k. stay; parsed = tt; between = tt; only_grows = later_begun refl c.in_ok-tree.ensures.begins }
+pub for_turns-loop-next-init : goal.for_turns-loop-next-init
+for_turns-loop-next-init g t c = record { evaluates_to = λ k. stay; body = c.new-body.ensures; next = c.new-next.ensures; only_grows = later_begun refl c.in_ok-condition.ensures.begins }
 
-pub for_turns-loop-between-preserved : goal.for_turns-loop-between-preserved
-for_turns-loop-between-preserved g t c = record {
+pub for_turns-loop-next-preserved : goal.for_turns-loop-next-preserved
+for_turns-loop-next-preserved g t c = record {
   evaluates_to = λ k.
-      let again = λ (s3 : State). Runs (plans.For c.args.remaining c.args.condition.now c.args.next.now c.args.body.now s3) plans.ended in
-      let between = λ (s2 : State). table.body (bounds c.args.limits.value_bytes c.args.remaining) c.args.next.now s2 (table.after_next again) in
-      let h = rw c.if-not-branch.false at (continue_with (given_on _ _ c.loop-between.self.variables (λ e. condition_plan (bounds c.args.limits.value_bytes c.args.remaining) e c.loop-between.self.variables (guarded (bounds c.args.limits.value_bytes c.args.remaining) c.args.body.now between)) c.in_ok-tree.ensures.tree) (rw c.deref.ensures at (c.in_ok-guarded_turn.ensures.evaluates_to between))) in
-      let n = continue_with h (run_next again _ _ _ c.repeated_script.ensures.evaluates_to) in
+      let again = λ (s3 : State). Runs (plans.For c.args.bounds.remaining c.args.parts.condition.now c.args.parts.next.now c.args.parts.body.now s3) plans.ended in
+      let between = λ (s2 : State). table.body (bounds_of c.args.bounds) c.args.parts.next.now s2 (table.after_next again) in
+      let h = rw c.if-not-branch.false at (continue_with (given_on _ _ c.loop-next.self.variables (λ e. condition_plan (bounds_of c.args.bounds) e c.loop-next.self.variables (guarded (bounds_of c.args.bounds) c.args.parts.body.now between)) c.in_ok-condition.ensures.tree) (rw (c.deref.ensures, c.loop-next.invariant.body.0) at (c.in_ok-guarded_turn.ensures.evaluates_to between))) in
+      let n = continue_with h (run_next again _ _ _ (rw c.loop-next.invariant.next.0 at c.repeated_script.ensures.evaluates_to)) in
       let e = rw c.if-not-branch-2.false at (c.in_ok-after_next.ensures again c.repeated_script.new.self.variables) in
-      continue_with (c.loop-between.invariant.evaluates_to k) (run_tail (same_as e n));
-  parsed = c.in_ok-guarded_turn.ensures.parsed;
-  between = c.repeated_script.ensures.parsed;
-  only_grows = later_on (later_on c.loop-between.invariant.only_grows c.in_ok-guarded_turn.ensures.only_grows) c.repeated_script.ensures.only_grows;
+      continue_with (c.loop-next.invariant.evaluates_to k) (run_tail (same_as e n));
+  body = (c.in_ok-guarded_turn.ensures.kept.0 ∙ c.loop-next.invariant.body.0, c.in_ok-guarded_turn.ensures.kept.1);
+  next = (c.repeated_script.ensures.kept.0 ∙ c.loop-next.invariant.next.0, c.repeated_script.ensures.kept.1);
+  only_grows = later_on (later_on c.loop-next.invariant.only_grows c.in_ok-guarded_turn.ensures.only_grows) c.repeated_script.ensures.only_grows;
 }
 
-pub for_turns-loop-between-smaller : goal.for_turns-loop-between-smaller
-for_turns-loop-between-smaller g t c =
+pub for_turns-loop-next-smaller : goal.for_turns-loop-next-smaller
+for_turns-loop-next-smaller g t c =
     let h = c.in_ok-guarded_turn.ensures.counted c.if-not-branch.false in
     omega (arith, h.0, h.1, c.repeated_script.ensures.only_grows.rises)
 
 pub for_turns-returns-in_err-after_next-clause-evaluates_to : goal.for_turns-returns-in_err-after_next-clause-evaluates_to
 for_turns-returns-in_err-after_next-clause-evaluates_to g t c = λ k.
-    let again = λ (s3 : State). Runs (plans.For c.args.remaining c.args.condition.now c.args.next.now c.args.body.now s3) plans.ended in
-    let between = λ (s2 : State). table.body (bounds c.args.limits.value_bytes c.args.remaining) c.args.next.now s2 (table.after_next again) in
-    let h = rw c.if-not-branch.false at (continue_with (given_on _ _ c.loop-between.self.variables (λ e. condition_plan (bounds c.args.limits.value_bytes c.args.remaining) e c.loop-between.self.variables (guarded (bounds c.args.limits.value_bytes c.args.remaining) c.args.body.now between)) c.in_ok-tree.ensures.tree) (rw c.deref.ensures at (c.in_ok-guarded_turn.ensures.evaluates_to between))) in
-    let n = continue_with h (run_next again _ _ _ c.repeated_script.ensures.evaluates_to) in
-    passed_on _ _ _ _ c.from_residual-in_err-after_next.ensures.1 (continue_with (c.loop-between.invariant.evaluates_to k) (run_stops _ _ (same_as (c.in_err-after_next.ensures again _) n)))
+    let again = λ (s3 : State). Runs (plans.For c.args.bounds.remaining c.args.parts.condition.now c.args.parts.next.now c.args.parts.body.now s3) plans.ended in
+    let between = λ (s2 : State). table.body (bounds_of c.args.bounds) c.args.parts.next.now s2 (table.after_next again) in
+    let h = rw c.if-not-branch.false at (continue_with (given_on _ _ c.loop-next.self.variables (λ e. condition_plan (bounds_of c.args.bounds) e c.loop-next.self.variables (guarded (bounds_of c.args.bounds) c.args.parts.body.now between)) c.in_ok-condition.ensures.tree) (rw (c.deref.ensures, c.loop-next.invariant.body.0) at (c.in_ok-guarded_turn.ensures.evaluates_to between))) in
+    let n = continue_with h (run_next again _ _ _ (rw c.loop-next.invariant.next.0 at c.repeated_script.ensures.evaluates_to)) in
+    passed_on _ _ _ _ c.from_residual-in_err-after_next.ensures.1 (continue_with (c.loop-next.invariant.evaluates_to k) (run_stops _ _ (same_as (c.in_err-after_next.ensures again _) n)))
 
 pub for_turns-returns-in_err-after_next-clause-only_grows : goal.for_turns-returns-in_err-after_next-clause-only_grows
-for_turns-returns-in_err-after_next-clause-only_grows g t c = later_on (later_on c.loop-between.invariant.only_grows c.in_ok-guarded_turn.ensures.only_grows) c.repeated_script.ensures.only_grows
+for_turns-returns-in_err-after_next-clause-only_grows g t c = later_on (later_on c.loop-next.invariant.only_grows c.in_ok-guarded_turn.ensures.only_grows) c.repeated_script.ensures.only_grows
 
 pub for_turns-returns-in_err-guarded_turn-clause-evaluates_to : goal.for_turns-returns-in_err-guarded_turn-clause-evaluates_to
 for_turns-returns-in_err-guarded_turn-clause-evaluates_to g t c = λ k.
-    let again = λ (s3 : State). Runs (plans.For c.args.remaining c.args.condition.now c.args.next.now c.args.body.now s3) plans.ended in
-    let between = λ (s2 : State). table.body (bounds c.args.limits.value_bytes c.args.remaining) c.args.next.now s2 (table.after_next again) in
-    passed_on _ _ _ _ c.from_residual-in_err-guarded_turn.ensures.1 (continue_with (c.loop-between.invariant.evaluates_to k) (run_stops _ _ (continue_with (given_on _ _ c.loop-between.self.variables (λ e. condition_plan (bounds c.args.limits.value_bytes c.args.remaining) e c.loop-between.self.variables (guarded (bounds c.args.limits.value_bytes c.args.remaining) c.args.body.now between)) c.in_ok-tree.ensures.tree) (rw c.deref.ensures at (c.in_err-guarded_turn.ensures.evaluates_to between)))))
+    let again = λ (s3 : State). Runs (plans.For c.args.bounds.remaining c.args.parts.condition.now c.args.parts.next.now c.args.parts.body.now s3) plans.ended in
+    let between = λ (s2 : State). table.body (bounds_of c.args.bounds) c.args.parts.next.now s2 (table.after_next again) in
+    passed_on _ _ _ _ c.from_residual-in_err-guarded_turn.ensures.1 (continue_with (c.loop-next.invariant.evaluates_to k) (run_stops _ _ (continue_with (given_on _ _ c.loop-next.self.variables (λ e. condition_plan (bounds_of c.args.bounds) e c.loop-next.self.variables (guarded (bounds_of c.args.bounds) c.args.parts.body.now between)) c.in_ok-condition.ensures.tree) (rw (c.deref.ensures, c.loop-next.invariant.body.0) at (c.in_err-guarded_turn.ensures.evaluates_to between)))))
 
 pub for_turns-returns-in_err-guarded_turn-clause-only_grows : goal.for_turns-returns-in_err-guarded_turn-clause-only_grows
-for_turns-returns-in_err-guarded_turn-clause-only_grows g t c = later_on c.loop-between.invariant.only_grows c.in_err-guarded_turn.ensures.only_grows
+for_turns-returns-in_err-guarded_turn-clause-only_grows g t c = later_on c.loop-next.invariant.only_grows c.in_err-guarded_turn.ensures.only_grows
 
 pub for_turns-returns-then-not-branch-2-clause-evaluates_to : goal.for_turns-returns-then-not-branch-2-clause-evaluates_to
 for_turns-returns-then-not-branch-2-clause-evaluates_to g t c = λ k.
-    let again = λ (s3 : State). Runs (plans.For c.args.remaining c.args.condition.now c.args.next.now c.args.body.now s3) plans.ended in
-    let between = λ (s2 : State). table.body (bounds c.args.limits.value_bytes c.args.remaining) c.args.next.now s2 (table.after_next again) in
-    let h = rw c.if-not-branch.false at (continue_with (given_on _ _ c.loop-between.self.variables (λ e. condition_plan (bounds c.args.limits.value_bytes c.args.remaining) e c.loop-between.self.variables (guarded (bounds c.args.limits.value_bytes c.args.remaining) c.args.body.now between)) c.in_ok-tree.ensures.tree) (rw c.deref.ensures at (c.in_ok-guarded_turn.ensures.evaluates_to between))) in
-    let n = continue_with h (run_next again _ _ _ c.repeated_script.ensures.evaluates_to) in
+    let again = λ (s3 : State). Runs (plans.For c.args.bounds.remaining c.args.parts.condition.now c.args.parts.next.now c.args.parts.body.now s3) plans.ended in
+    let between = λ (s2 : State). table.body (bounds_of c.args.bounds) c.args.parts.next.now s2 (table.after_next again) in
+    let h = rw c.if-not-branch.false at (continue_with (given_on _ _ c.loop-next.self.variables (λ e. condition_plan (bounds_of c.args.bounds) e c.loop-next.self.variables (guarded (bounds_of c.args.bounds) c.args.parts.body.now between)) c.in_ok-condition.ensures.tree) (rw (c.deref.ensures, c.loop-next.invariant.body.0) at (c.in_ok-guarded_turn.ensures.evaluates_to between))) in
+    let n = continue_with h (run_next again _ _ _ (rw c.loop-next.invariant.next.0 at c.repeated_script.ensures.evaluates_to)) in
     let e = rw c.if-not-branch-2.true at (c.in_ok-after_next.ensures again c.repeated_script.new.self.variables) in
-    rw c.new-then-not-branch-2.ensures.bytes (continue_with (c.loop-between.invariant.evaluates_to k) (run_on (same_as e n)))
+    rw c.new-then-not-branch-2.ensures.bytes (continue_with (c.loop-next.invariant.evaluates_to k) (run_on (same_as e n)))
 
 pub for_turns-returns-then-not-branch-2-clause-only_grows : goal.for_turns-returns-then-not-branch-2-clause-only_grows
-for_turns-returns-then-not-branch-2-clause-only_grows g t c = later_on (later_on c.loop-between.invariant.only_grows c.in_ok-guarded_turn.ensures.only_grows) c.repeated_script.ensures.only_grows
+for_turns-returns-then-not-branch-2-clause-only_grows g t c = later_on (later_on c.loop-next.invariant.only_grows c.in_ok-guarded_turn.ensures.only_grows) c.repeated_script.ensures.only_grows
 
 pub for_turns-returns-then-not-branch-clause-evaluates_to : goal.for_turns-returns-then-not-branch-clause-evaluates_to
 for_turns-returns-then-not-branch-clause-evaluates_to g t c = λ k.
-    let again = λ (s3 : State). Runs (plans.For c.args.remaining c.args.condition.now c.args.next.now c.args.body.now s3) plans.ended in
-    let between = λ (s2 : State). table.body (bounds c.args.limits.value_bytes c.args.remaining) c.args.next.now s2 (table.after_next again) in
-    let h = rw c.if-not-branch.true at (continue_with (given_on _ _ c.loop-between.self.variables (λ e. condition_plan (bounds c.args.limits.value_bytes c.args.remaining) e c.loop-between.self.variables (guarded (bounds c.args.limits.value_bytes c.args.remaining) c.args.body.now between)) c.in_ok-tree.ensures.tree) (rw c.deref.ensures at (c.in_ok-guarded_turn.ensures.evaluates_to between))) in
-    rw c.new.ensures.bytes (continue_with (c.loop-between.invariant.evaluates_to k) (run_on h))
+    let again = λ (s3 : State). Runs (plans.For c.args.bounds.remaining c.args.parts.condition.now c.args.parts.next.now c.args.parts.body.now s3) plans.ended in
+    let between = λ (s2 : State). table.body (bounds_of c.args.bounds) c.args.parts.next.now s2 (table.after_next again) in
+    let h = rw c.if-not-branch.true at (continue_with (given_on _ _ c.loop-next.self.variables (λ e. condition_plan (bounds_of c.args.bounds) e c.loop-next.self.variables (guarded (bounds_of c.args.bounds) c.args.parts.body.now between)) c.in_ok-condition.ensures.tree) (rw (c.deref.ensures, c.loop-next.invariant.body.0) at (c.in_ok-guarded_turn.ensures.evaluates_to between))) in
+    rw c.new.ensures.bytes (continue_with (c.loop-next.invariant.evaluates_to k) (run_on h))
 
 pub for_turns-returns-then-not-branch-clause-only_grows : goal.for_turns-returns-then-not-branch-clause-only_grows
-for_turns-returns-then-not-branch-clause-only_grows g t c = later_on c.loop-between.invariant.only_grows c.in_ok-guarded_turn.ensures.only_grows
+for_turns-returns-then-not-branch-clause-only_grows g t c = later_on c.loop-next.invariant.only_grows c.in_ok-guarded_turn.ensures.only_grows
 
 pub for_turns-repeated_script-requires : goal.for_turns-repeated_script-requires
-for_turns-repeated_script-requires g t c κs within = (search rules, (search rules, c.loop-between.invariant.between))
+for_turns-repeated_script-requires g t c κs within = (search rules, (search rules, c.loop-next.invariant.next.1))
 
 pub foreach-foreach_turns-requires : goal.foreach-foreach_turns-requires
 foreach-foreach_turns-requires g t c κs within = search rules
@@ -427,80 +431,80 @@ foreach-returns-in_err-loops-clause-evaluates_to g t c = λ k. value_stops _ _ _
 pub foreach-returns-in_err-loops-clause-only_grows : goal.foreach-returns-in_err-loops-clause-only_grows
 foreach-returns-in_err-loops-clause-only_grows g t c = later_refl
 
-pub foreach_turns-loop-limits-init : goal.foreach_turns-loop-limits-init
-foreach_turns-loop-limits-init g t c = record { evaluates_to = λ k. stay; parsed = tt; only_grows = later_refl }
+pub foreach_turns-loop-bounds-init : goal.foreach_turns-loop-bounds-init
+foreach_turns-loop-bounds-init g t c = record { evaluates_to = λ k. stay; script = c.new-script.ensures; only_grows = later_refl }
 
-pub foreach_turns-loop-limits-preserved : goal.foreach_turns-loop-limits-preserved
-foreach_turns-loop-limits-preserved g t c = record {
+pub foreach_turns-loop-bounds-preserved : goal.foreach_turns-loop-bounds-preserved
+foreach_turns-loop-bounds-preserved g t c = record {
   evaluates_to = λ k.
-      let b = bounds c.args.limits.value_bytes c.args.remaining in
+      let b = bounds_of c.args.bounds in
       let e = sym c.are_done.ensures ∙ c.if-are_done.false in
-      let again = λ (s2 : State). Runs (plans.Foreach c.args.remaining (table.shortened c.loop-limits.loops) c.args.body.now s2) plans.ended in
+      let again = λ (s2 : State). Runs (plans.Foreach c.args.bounds.remaining (table.shortened c.loop-bounds.loops) c.args.body.now s2) plans.ended in
       let next = λ (s1 : State). turn b c.args.body.now s1 again in
-      let here = point (g.H.Host.oracle c.loop-limits.host) (g.H.Host.trace c.loop-limits.host) c.loop-limits.self.used in
-      let a = continue_with (foreach_more b c.loop-limits.loops c.args.body.now c.loop-limits.self.variables e) (c.in_ok-begin_turn.ensures.evaluates_to c.args.limits.commands c.args.remaining (rule c.args.limits.value_bytes) next here) in
-      let h = rw c.if-not-branch.false at (c.in_ok-turn.ensures.evaluates_to again) in
-      rw c.in_ok-begin_turn.ensures.rest (continue_with (c.loop-limits.invariant.evaluates_to k) (run_tail (continue_with a h)));
-  parsed = c.in_ok-turn.ensures.parsed;
-  only_grows = later_on c.loop-limits.invariant.only_grows (later_beside refl refl refl refl c.in_ok-turn.ensures.only_grows);
+      let here = point (g.H.Host.oracle c.loop-bounds.host) (g.H.Host.trace c.loop-bounds.host) c.loop-bounds.self.used in
+      let a = continue_with (foreach_more b c.loop-bounds.loops c.args.body.now c.loop-bounds.self.variables e) (c.in_ok-begin_turn.ensures.evaluates_to c.args.bounds.limits.commands c.args.bounds.remaining (rule c.args.bounds.limits.value_bytes) next here) in
+      let h = rw (c.if-not-branch.false, c.loop-bounds.invariant.script.0) at (c.in_ok-turn.ensures.evaluates_to again) in
+      rw c.in_ok-begin_turn.ensures.rest (continue_with (c.loop-bounds.invariant.evaluates_to k) (run_tail (continue_with a h)));
+  script = (c.in_ok-turn.ensures.kept.0 ∙ c.loop-bounds.invariant.script.0, c.in_ok-turn.ensures.kept.1);
+  only_grows = later_on c.loop-bounds.invariant.only_grows (later_beside refl refl refl refl c.in_ok-turn.ensures.only_grows);
 }
 
-pub foreach_turns-loop-limits-smaller : goal.foreach_turns-loop-limits-smaller
-foreach_turns-loop-limits-smaller g t c =
+pub foreach_turns-loop-bounds-smaller : goal.foreach_turns-loop-bounds-smaller
+foreach_turns-loop-bounds-smaller g t c =
     let h = c.in_ok-turn.ensures.counted in
     omega (arith, h.0, h.1)
 
 pub foreach_turns-returns-in_err-begin_turn-clause-evaluates_to : goal.foreach_turns-returns-in_err-begin_turn-clause-evaluates_to
 foreach_turns-returns-in_err-begin_turn-clause-evaluates_to g t c = λ k.
-    let b = bounds c.args.limits.value_bytes c.args.remaining in
+    let b = bounds_of c.args.bounds in
     let e = sym c.are_done.ensures ∙ c.if-are_done.false in
-    let again = λ (s2 : State). Runs (plans.Foreach c.args.remaining (table.shortened c.loop-limits.loops) c.args.body.now s2) plans.ended in
+    let again = λ (s2 : State). Runs (plans.Foreach c.args.bounds.remaining (table.shortened c.loop-bounds.loops) c.args.body.now s2) plans.ended in
     let next = λ (s1 : State). turn b c.args.body.now s1 again in
-    let here = point (g.H.Host.oracle c.loop-limits.host) (g.H.Host.trace c.loop-limits.host) c.loop-limits.self.used in
-    let a = continue_with (foreach_more b c.loop-limits.loops c.args.body.now c.loop-limits.self.variables e) (c.in_err-begin_turn.ensures.evaluates_to c.args.limits.commands c.args.remaining (rule c.args.limits.value_bytes) next here) in
-    passed_on _ _ _ _ c.from_residual.ensures.1 (continue_with (c.loop-limits.invariant.evaluates_to k) (run_stops _ _ a))
+    let here = point (g.H.Host.oracle c.loop-bounds.host) (g.H.Host.trace c.loop-bounds.host) c.loop-bounds.self.used in
+    let a = continue_with (foreach_more b c.loop-bounds.loops c.args.body.now c.loop-bounds.self.variables e) (c.in_err-begin_turn.ensures.evaluates_to c.args.bounds.limits.commands c.args.bounds.remaining (rule c.args.bounds.limits.value_bytes) next here) in
+    passed_on _ _ _ _ c.from_residual.ensures.1 (continue_with (c.loop-bounds.invariant.evaluates_to k) (run_stops _ _ a))
 
 pub foreach_turns-returns-in_err-begin_turn-clause-only_grows : goal.foreach_turns-returns-in_err-begin_turn-clause-only_grows
-foreach_turns-returns-in_err-begin_turn-clause-only_grows g t c = later_beside refl refl refl refl c.loop-limits.invariant.only_grows
+foreach_turns-returns-in_err-begin_turn-clause-only_grows g t c = later_beside refl refl refl refl c.loop-bounds.invariant.only_grows
 
 pub foreach_turns-returns-in_err-turn-clause-evaluates_to : goal.foreach_turns-returns-in_err-turn-clause-evaluates_to
 foreach_turns-returns-in_err-turn-clause-evaluates_to g t c = λ k.
-    let b = bounds c.args.limits.value_bytes c.args.remaining in
+    let b = bounds_of c.args.bounds in
     let e = sym c.are_done.ensures ∙ c.if-are_done.false in
-    let again = λ (s2 : State). Runs (plans.Foreach c.args.remaining (table.shortened c.loop-limits.loops) c.args.body.now s2) plans.ended in
+    let again = λ (s2 : State). Runs (plans.Foreach c.args.bounds.remaining (table.shortened c.loop-bounds.loops) c.args.body.now s2) plans.ended in
     let next = λ (s1 : State). turn b c.args.body.now s1 again in
-    let here = point (g.H.Host.oracle c.loop-limits.host) (g.H.Host.trace c.loop-limits.host) c.loop-limits.self.used in
-    let a = continue_with (foreach_more b c.loop-limits.loops c.args.body.now c.loop-limits.self.variables e) (c.in_ok-begin_turn.ensures.evaluates_to c.args.limits.commands c.args.remaining (rule c.args.limits.value_bytes) next here) in
-    passed_on _ _ _ _ c.from_residual-in_err-turn.ensures.1 (continue_with (c.loop-limits.invariant.evaluates_to k) (run_stops _ _ (continue_with a (c.in_err-turn.ensures.evaluates_to again))))
+    let here = point (g.H.Host.oracle c.loop-bounds.host) (g.H.Host.trace c.loop-bounds.host) c.loop-bounds.self.used in
+    let a = continue_with (foreach_more b c.loop-bounds.loops c.args.body.now c.loop-bounds.self.variables e) (c.in_ok-begin_turn.ensures.evaluates_to c.args.bounds.limits.commands c.args.bounds.remaining (rule c.args.bounds.limits.value_bytes) next here) in
+    passed_on _ _ _ _ c.from_residual-in_err-turn.ensures.1 (continue_with (c.loop-bounds.invariant.evaluates_to k) (run_stops _ _ (continue_with a (rw c.loop-bounds.invariant.script.0 at (c.in_err-turn.ensures.evaluates_to again)))))
 
 pub foreach_turns-returns-in_err-turn-clause-only_grows : goal.foreach_turns-returns-in_err-turn-clause-only_grows
-foreach_turns-returns-in_err-turn-clause-only_grows g t c = later_on c.loop-limits.invariant.only_grows (later_beside refl refl refl refl c.in_err-turn.ensures.only_grows)
+foreach_turns-returns-in_err-turn-clause-only_grows g t c = later_on c.loop-bounds.invariant.only_grows (later_beside refl refl refl refl c.in_err-turn.ensures.only_grows)
 
 pub foreach_turns-returns-then-are_done-clause-evaluates_to : goal.foreach_turns-returns-then-are_done-clause-evaluates_to
 foreach_turns-returns-then-are_done-clause-evaluates_to g t c = λ k.
-    let b = bounds c.args.limits.value_bytes c.args.remaining in
+    let b = bounds_of c.args.bounds in
     let e = sym c.are_done.ensures ∙ c.if-are_done.true in
-    rw c.new.ensures.bytes (continue_with (c.loop-limits.invariant.evaluates_to k) (run_on (foreach_done b c.loop-limits.loops c.args.body.now c.loop-limits.self.variables e)))
+    rw c.new.ensures.bytes (continue_with (c.loop-bounds.invariant.evaluates_to k) (run_on (foreach_done b c.loop-bounds.loops c.args.body.now c.loop-bounds.self.variables e)))
 
 pub foreach_turns-returns-then-are_done-clause-only_grows : goal.foreach_turns-returns-then-are_done-clause-only_grows
-foreach_turns-returns-then-are_done-clause-only_grows g t c = c.loop-limits.invariant.only_grows
+foreach_turns-returns-then-are_done-clause-only_grows g t c = c.loop-bounds.invariant.only_grows
 
 pub foreach_turns-returns-then-not-branch-clause-evaluates_to : goal.foreach_turns-returns-then-not-branch-clause-evaluates_to
 foreach_turns-returns-then-not-branch-clause-evaluates_to g t c = λ k.
-    let b = bounds c.args.limits.value_bytes c.args.remaining in
+    let b = bounds_of c.args.bounds in
     let e = sym c.are_done.ensures ∙ c.if-are_done.false in
-    let again = λ (s2 : State). Runs (plans.Foreach c.args.remaining (table.shortened c.loop-limits.loops) c.args.body.now s2) plans.ended in
+    let again = λ (s2 : State). Runs (plans.Foreach c.args.bounds.remaining (table.shortened c.loop-bounds.loops) c.args.body.now s2) plans.ended in
     let next = λ (s1 : State). turn b c.args.body.now s1 again in
-    let here = point (g.H.Host.oracle c.loop-limits.host) (g.H.Host.trace c.loop-limits.host) c.loop-limits.self.used in
-    let a = continue_with (foreach_more b c.loop-limits.loops c.args.body.now c.loop-limits.self.variables e) (c.in_ok-begin_turn.ensures.evaluates_to c.args.limits.commands c.args.remaining (rule c.args.limits.value_bytes) next here) in
-    let h = rw c.if-not-branch.true at (c.in_ok-turn.ensures.evaluates_to again) in
-    rw c.new-then-not-branch.ensures.bytes (continue_with (c.loop-limits.invariant.evaluates_to k) (run_on (continue_with a h)))
+    let here = point (g.H.Host.oracle c.loop-bounds.host) (g.H.Host.trace c.loop-bounds.host) c.loop-bounds.self.used in
+    let a = continue_with (foreach_more b c.loop-bounds.loops c.args.body.now c.loop-bounds.self.variables e) (c.in_ok-begin_turn.ensures.evaluates_to c.args.bounds.limits.commands c.args.bounds.remaining (rule c.args.bounds.limits.value_bytes) next here) in
+    let h = rw (c.if-not-branch.true, c.loop-bounds.invariant.script.0) at (c.in_ok-turn.ensures.evaluates_to again) in
+    rw c.new-then-not-branch.ensures.bytes (continue_with (c.loop-bounds.invariant.evaluates_to k) (run_on (continue_with a h)))
 
 pub foreach_turns-returns-then-not-branch-clause-only_grows : goal.foreach_turns-returns-then-not-branch-clause-only_grows
-foreach_turns-returns-then-not-branch-clause-only_grows g t c = later_on c.loop-limits.invariant.only_grows (later_beside refl refl refl refl c.in_ok-turn.ensures.only_grows)
+foreach_turns-returns-then-not-branch-clause-only_grows g t c = later_on c.loop-bounds.invariant.only_grows (later_beside refl refl refl refl c.in_ok-turn.ensures.only_grows)
 
 pub foreach_turns-turn-requires : goal.foreach_turns-turn-requires
-foreach_turns-turn-requires g t c κs within = (search rules, (search rules, c.loop-limits.invariant.parsed))
+foreach_turns-turn-requires g t c κs within = (search rules, (search rules, c.loop-bounds.invariant.script.1))
 
 pub form-branches-requires : goal.form-branches-requires
 form-branches-requires g t c κs within = search rules
@@ -511,11 +515,11 @@ form-catch-requires g t c κs within = search rules
 pub form-chosen-body-requires-text-text : goal.form-chosen-body-requires-text-text
 form-chosen-body-requires-text-text g t c κs = search rules
 
-pub form-express-requires : goal.form-express-requires
-form-express-requires g t c κs within = search rules
+pub form-express_words-requires : goal.form-express_words-requires
+form-express_words-requires g t c κs within = search rules
 
-pub form-for_loop-outcome-requires : goal.form-for_loop-outcome-requires
-form-for_loop-outcome-requires g t c κs within = search rules
+pub form-for_loop-requires : goal.form-for_loop-requires
+form-for_loop-requires g t c κs within = search rules
 
 pub form-foreach-requires : goal.form-foreach-requires
 form-foreach-requires g t c κs within = search rules
@@ -525,27 +529,27 @@ form-otherwise-requires g t c κs within = search rules
 
 pub form-returns-in-Catch-clause-evaluates_to : goal.form-returns-in-Catch-clause-evaluates_to
 form-returns-in-Catch-clause-evaluates_to g t c =
-    let w = c.within-in-Catch.ensures c.args.needs_result c.catch.new.self.variables in
-    (w.0, w.1, λ k. rw c.in-Catch.is (continue_with (c.catch.ensures.evaluates_to (sized_next c.args.limits.value_bytes k)) (w.2 _ _ k _)))
+    let w = c.within-in-Catch.ensures c.args.result_use c.catch.new.self.variables in
+    (w.0, w.1, λ k. rw c.in-Catch.is (continue_with (c.catch.ensures.evaluates_to (sized_next c.args.bounds.limits.value_bytes k)) (w.2 _ _ k _)))
 
 pub form-returns-in-Catch-clause-only_grows : goal.form-returns-in-Catch-clause-only_grows
 form-returns-in-Catch-clause-only_grows g t c = c.catch.ensures.only_grows
 
 pub form-returns-in-For-clause-evaluates_to : goal.form-returns-in-For-clause-evaluates_to
 form-returns-in-For-clause-evaluates_to g t c =
-    let w = c.within-in-For.ensures c.args.needs_result c.for_loop-outcome.new.self.variables in
-    (w.0, w.1, λ k. rw c.in-For.is (continue_with (c.for_loop-outcome.ensures.evaluates_to (sized_next c.args.limits.value_bytes k)) (w.2 _ _ k _)))
+    let w = c.within-in-For.ensures c.args.result_use c.for_loop.new.self.variables in
+    (w.0, w.1, λ k. rw c.in-For.is (continue_with (c.for_loop.ensures.evaluates_to (sized_next c.args.bounds.limits.value_bytes k)) (w.2 _ _ k _)))
 
 pub form-returns-in-For-clause-only_grows : goal.form-returns-in-For-clause-only_grows
-form-returns-in-For-clause-only_grows g t c = c.for_loop-outcome.ensures.only_grows
+form-returns-in-For-clause-only_grows g t c = c.for_loop.ensures.only_grows
 
 pub form-returns-in-Foreach-clause-evaluates_to : goal.form-returns-in-Foreach-clause-evaluates_to
 form-returns-in-Foreach-clause-evaluates_to g t c =
-    let w = c.within-in-Foreach.ensures c.args.needs_result c.foreach.new.self.variables in (
+    let w = c.within-in-Foreach.ensures c.args.result_use c.foreach.new.self.variables in (
       w.0,
       w.1,
       λ k.
-          let h = rw c.as_slice-in-Foreach.ensures.value at (c.foreach.ensures.evaluates_to (sized_next c.args.limits.value_bytes k)) in
+          let h = rw c.as_slice-in-Foreach.ensures.value at (c.foreach.ensures.evaluates_to (sized_next c.args.bounds.limits.value_bytes k)) in
           rw c.in-Foreach.is (continue_with h (w.2 _ _ k _)),
     )
 
@@ -571,38 +575,17 @@ form-returns-in-Switch-clause-only_grows g t c = c.otherwise.ensures.only_grows
 
 pub form-returns-in-While-clause-evaluates_to : goal.form-returns-in-While-clause-evaluates_to
 form-returns-in-While-clause-evaluates_to g t c =
-    let w = c.within-in-While.ensures c.args.needs_result c.while_turns.new.self.variables in
-    (w.0, w.1, λ k. rw c.in-While.is (continue_with (c.while_turns.ensures.evaluates_to (sized_next c.args.limits.value_bytes k)) (w.2 _ _ k _)))
+    let w = c.within-in-While.ensures c.args.result_use c.while_turns.new.self.variables in
+    (w.0, w.1, λ k. rw c.in-While.is (continue_with (c.while_turns.ensures.evaluates_to (sized_next c.args.bounds.limits.value_bytes k)) (w.2 _ _ k _)))
 
 pub form-returns-in-While-clause-only_grows : goal.form-returns-in-While-clause-only_grows
 form-returns-in-While-clause-only_grows g t c = c.while_turns.ensures.only_grows
 
 pub form-returns-in-Simple-clause-evaluates_to : goal.form-returns-in-Simple-clause-evaluates_to
-form-returns-in-Simple-clause-evaluates_to g t c = (c.simple_command.ensures.0, c.simple_command.ensures.1, λ k. rw c.in-Simple.is (c.simple_command.ensures.2 _ c.args.remaining c.args.self.now.used _ k))
+form-returns-in-Simple-clause-evaluates_to g t c = (c.simple_command.ensures.0, c.simple_command.ensures.1, λ k. rw c.in-Simple.is (c.simple_command.ensures.2 _ c.args.bounds.remaining c.args.self.now.used _ k))
 
 pub form-returns-in-Simple-clause-only_grows : goal.form-returns-in-Simple-clause-only_grows
 form-returns-in-Simple-clause-only_grows g t c = later_still refl refl
-
-pub form-returns-in_err-text-in-Express-clause-evaluates_to : goal.form-returns-in_err-text-in-Express-clause-evaluates_to
-form-returns-in_err-text-in-Express-clause-evaluates_to g t c =
-    comes_stopped _ _ _ _ _ c.from_residual.ensures.1 (λ k. rw c.in-Express.is (limited_stops _ _ _ _ _ c.in_err-text-in-Express.ensures))
-
-pub form-returns-in_err-text-in-Express-clause-only_grows : goal.form-returns-in_err-text-in-Express-clause-only_grows
-form-returns-in_err-text-in-Express-clause-only_grows g t c = later_refl
-
-pub form-returns-in_ok-text-in-Express-clause-evaluates_to : goal.form-returns-in_ok-text-in-Express-clause-evaluates_to
-form-returns-in_ok-text-in-Express-clause-evaluates_to g t c =
-    let q = limited_on _ _ _ c.in_ok-text-in-Express.ensures in
-    let w = c.within.ensures c.args.needs_result c.express.new.self.variables in (
-      w.0,
-      w.1,
-      λ k.
-          let h = rw (c.as_str.ensures.value, q.1) at (c.express.ensures.evaluates_to (sized_next c.args.limits.value_bytes k)) in
-          rw c.in-Express.is (continue_with (sized_on _ _ _ q.0) (continue_with h (w.2 _ _ k _))),
-    )
-
-pub form-returns-in_ok-text-in-Express-clause-only_grows : goal.form-returns-in_ok-text-in-Express-clause-only_grows
-form-returns-in_ok-text-in-Express-clause-only_grows g t c = c.express.ensures.only_grows
 
 pub form-while_turns-requires : goal.form-while_turns-requires
 form-while_turns-requires g t c κs within = search rules
@@ -612,7 +595,7 @@ guarded_turn-holds-requires g t c κs within = search rules
 
 pub guarded_turn-returns-clause-evaluates_to : goal.guarded_turn-returns-clause-evaluates_to
 guarded_turn-returns-clause-evaluates_to g t c = λ again.
-    let g = guarded (bounds c.args.limits.value_bytes c.args.remaining) c.args.body.now again in
+    let g = guarded (bounds_of c.args.bounds) c.args.body.now.text.now again in
     rw c.if-branch.false at (c.in_ok-holds.ensures.evaluates_to g)
 
 pub guarded_turn-returns-clause-counted : goal.guarded_turn-returns-clause-counted
@@ -621,14 +604,14 @@ guarded_turn-returns-clause-counted g t c = λ e. absurd (false≢true e)
 pub guarded_turn-returns-clause-only_grows : goal.guarded_turn-returns-clause-only_grows
 guarded_turn-returns-clause-only_grows g t c = c.in_ok-holds.ensures.only_grows
 
-pub guarded_turn-returns-clause-parsed : goal.guarded_turn-returns-clause-parsed
-guarded_turn-returns-clause-parsed g t c = c.requires.1.1.1
+pub guarded_turn-returns-clause-kept : goal.guarded_turn-returns-clause-kept
+guarded_turn-returns-clause-kept g t c = (refl, c.requires)
 
-pub guarded_turn-returns-in_err-holds-clause-parsed : goal.guarded_turn-returns-in_err-holds-clause-parsed
-guarded_turn-returns-in_err-holds-clause-parsed g t c = c.requires.1.1.1
+pub guarded_turn-returns-in_err-holds-clause-kept : goal.guarded_turn-returns-in_err-holds-clause-kept
+guarded_turn-returns-in_err-holds-clause-kept g t c = (refl, c.requires)
 
-pub guarded_turn-returns-then-branch-clause-parsed : goal.guarded_turn-returns-then-branch-clause-parsed
-guarded_turn-returns-then-branch-clause-parsed g t c = c.turn.ensures.parsed
+pub guarded_turn-returns-then-branch-clause-kept : goal.guarded_turn-returns-then-branch-clause-kept
+guarded_turn-returns-then-branch-clause-kept g t c = c.turn.ensures.kept
 
 pub guarded_turn-returns-in_err-holds-clause-evaluates_to : goal.guarded_turn-returns-in_err-holds-clause-evaluates_to
 guarded_turn-returns-in_err-holds-clause-evaluates_to g t c = λ again. passed_on _ _ _ _ c.from_residual.ensures.1 (c.in_err-holds.ensures.evaluates_to _)
@@ -643,18 +626,18 @@ guarded_turn-returns-in_err-holds-clause-only_grows g t c = c.in_err-holds.ensur
 
 pub guarded_turn-returns-then-branch-clause-evaluates_to : goal.guarded_turn-returns-then-branch-clause-evaluates_to
 guarded_turn-returns-then-branch-clause-evaluates_to g t c = λ again.
-    let g = guarded (bounds c.args.limits.value_bytes c.args.remaining) c.args.body.now again in
+    let g = guarded (bounds_of c.args.bounds) c.args.body.now.text.now again in
     let h = rw c.if-branch.true at (c.in_ok-holds.ensures.evaluates_to g) in
     continue_with h (c.turn.ensures.evaluates_to again)
 
 pub guarded_turn-returns-then-branch-clause-counted : goal.guarded_turn-returns-then-branch-clause-counted
-guarded_turn-returns-then-branch-clause-counted g t c = counted_on c.args.limits.commands c.turn.new.self.used c.args.self.now.used c.holds.new.self.used c.turn.result c.in_ok-holds.ensures.only_grows.rises c.turn.ensures.counted
+guarded_turn-returns-then-branch-clause-counted g t c = counted_on c.args.bounds.limits.commands c.turn.new.self.used c.args.self.now.used c.holds.new.self.used c.turn.result c.in_ok-holds.ensures.only_grows.rises c.turn.ensures.counted
 
 pub guarded_turn-returns-then-branch-clause-only_grows : goal.guarded_turn-returns-then-branch-clause-only_grows
 guarded_turn-returns-then-branch-clause-only_grows g t c = later_on c.in_ok-holds.ensures.only_grows c.turn.ensures.only_grows
 
 pub guarded_turn-turn-requires : goal.guarded_turn-turn-requires
-guarded_turn-turn-requires g t c κs within = (search rules, (search rules, c.requires.1.1.1))
+guarded_turn-turn-requires g t c κs within = (search rules, (search rules, c.requires))
 
 pub other_command-call-requires : goal.other_command-call-requires
 other_command-call-requires g t c κs within = search rules
@@ -665,7 +648,8 @@ other_command-procedure-requires-text-name g t c κs = search rules
 pub other_command-returns-in-None-clause-evaluates_to : goal.other_command-returns-in-None-clause-evaluates_to
 other_command-returns-in-None-clause-evaluates_to g t c =
     let a = c.unknown_command.ensures in
-    (a.0, a.1, λ k. rw (← c.in-None.ensures) (a.2 c.args.limits.commands c.args.self.now.used (bounds c.args.limits.value_bytes c.args.remaining) (rule c.args.limits.value_bytes) k))
+    let n = rw c.name.ensures at c.in-None.ensures in
+    (a.0, a.1, λ k. rw (← n) (a.2 c.args.bounds.limits.commands c.args.self.now.used (bounds_of c.args.bounds) (rule c.args.bounds.limits.value_bytes) k))
 
 pub other_command-returns-in-None-clause-only_grows : goal.other_command-returns-in-None-clause-only_grows
 other_command-returns-in-None-clause-only_grows g t c = later_refl
@@ -680,31 +664,29 @@ other_command-returns-in_err-procedure-in-Some-clause-only_grows g t c = later_r
 pub other_command-returns-in_ok-procedure-in-Some-clause-evaluates_to : goal.other_command-returns-in_ok-procedure-in-Some-clause-evaluates_to
 other_command-returns-in_ok-procedure-in-Some-clause-evaluates_to g t c =
     let d = c.deref.ensures in
+    let n = rw c.name.ensures at c.in-Some.ensures in
     let q = c.in_ok-procedure-in-Some.ensures in
-    let w = c.within.ensures c.args.needs_result c.call.new.self.variables in (
+    let w = c.within.ensures c.args.result_use c.call.new.self.variables in (
       w.0,
       w.1,
       λ k.
-          let h = rw (d, q.cases) at (c.call.ensures.evaluates_to (sized_next c.args.limits.value_bytes k)) in
-          rw (← c.in-Some.ensures) (continue_with h (w.2 _ _ k _)),
+          let h = rw (d, q.cases) at (c.call.ensures.evaluates_to (sized_next c.args.bounds.limits.value_bytes k)) in
+          rw (← n) (continue_with h (w.2 _ _ k _)),
     )
 
 pub other_command-returns-in_ok-procedure-in-Some-clause-only_grows : goal.other_command-returns-in_ok-procedure-in-Some-clause-only_grows
 other_command-returns-in_ok-procedure-in-Some-clause-only_grows g t c = c.call.ensures.only_grows
 
-pub other_command-unknown_command-requires : goal.other_command-unknown_command-requires
-other_command-unknown_command-requires g t c = search rules
-
 pub otherwise-returns-in-None-clause-evaluates_to : goal.otherwise-returns-in-None-clause-evaluates_to
 otherwise-returns-in-None-clause-evaluates_to g t c =
-    ([], (omega arith, λ q. c.new.ensures.bytes), λ k. rw c.in-None.is (sized_on c.args.limits.value_bytes [] (k [] c.args.self.now.variables) (omega arith)))
+    ([], (omega arith, λ q. c.new.ensures.bytes), λ k. rw c.in-None.is (sized_on c.args.bounds.limits.value_bytes [] (k [] c.args.self.now.variables) (omega arith)))
 
 pub otherwise-returns-in-None-clause-only_grows : goal.otherwise-returns-in-None-clause-only_grows
 otherwise-returns-in-None-clause-only_grows g t c = later_refl
 
 pub otherwise-returns-in-Some-clause-evaluates_to : goal.otherwise-returns-in-Some-clause-evaluates_to
 otherwise-returns-in-Some-clause-evaluates_to g t c =
-    let n = run_comes {j = plans.Script c.args.remaining c.in-Some.body.now c.args.self.now.variables} _ _ _ _ c.script.ensures.evaluates_to in
+    let n = run_comes {j = plans.Script c.args.bounds.remaining c.in-Some.body.now c.args.self.now.variables} _ _ _ _ c.script.ensures.evaluates_to in
     (n.0, n.1, λ k. rw c.in-Some.is (n.2 k))
 
 pub otherwise-returns-in-Some-clause-only_grows : goal.otherwise-returns-in-Some-clause-only_grows
@@ -716,75 +698,69 @@ otherwise-script-requires g t c κs within = search rules
 pub script-commands-requires : goal.script-commands-requires
 script-commands-requires g t c κs within = search rules
 
-pub script-overflow_sub-remaining : goal.script-overflow_sub-remaining
-script-overflow_sub-remaining g t c = omega arith
-
 pub script-returns-in-Err-clause-evaluates_to : goal.script-returns-in-Err-clause-evaluates_to
-script-returns-in-Err-clause-evaluates_to g t c = ([], tt, rw c.from_text_fault.ensures (continue_with (begin_on _ _ c.if-remaining-eq0.false) (text_stops _ _ _ _ c.in-Err.ensures.tree)))
+script-returns-in-Err-clause-evaluates_to g t c = ([], tt, rw c.from.ensures (continue_with (begin_on _ _ c.in_ok-inside.ensures.0) (text_stops _ _ _ _ c.in-Err.ensures.tree)))
 
 pub script-returns-in-Err-clause-only_grows : goal.script-returns-in-Err-clause-only_grows
 script-returns-in-Err-clause-only_grows g t c = later_begun refl c.script_tree.ensures.begins
 
 pub script-returns-in-Ok-clause-evaluates_to : goal.script-returns-in-Ok-clause-evaluates_to
 script-returns-in-Ok-clause-evaluates_to g t c =
-    let h = rw (c.as_str.ensures.value, c.deref.ensures, c.deref-in-Ok.ensures) at c.commands.ensures.evaluates_to in
-    (h.0, h.1, rw c.in-Ok.ensures.tree (continue_with (begin_on _ _ c.if-remaining-eq0.false) h.2))
+    let i = c.in_ok-inside.ensures in
+    let h = rw (i.1, c.as_str.ensures.value, c.deref.ensures, c.deref-in-Ok.ensures) at c.commands.ensures.evaluates_to in
+    (h.0, h.1, rw c.in-Ok.ensures.tree (continue_with (begin_on _ _ i.0) h.2))
 
 pub script-returns-in-Ok-clause-only_grows : goal.script-returns-in-Ok-clause-only_grows
 script-returns-in-Ok-clause-only_grows g t c = later_parsed refl c.script_tree.ensures.begins c.commands.ensures.only_grows
 
-pub script-returns-then-remaining-eq0-clause-evaluates_to : goal.script-returns-then-remaining-eq0-clause-evaluates_to
-script-returns-then-remaining-eq0-clause-evaluates_to g t c = ([], tt, begin_stops _ _ c.if-remaining-eq0.true)
+pub script-returns-in_err-inside-clause-evaluates_to : goal.script-returns-in_err-inside-clause-evaluates_to
+script-returns-in_err-inside-clause-evaluates_to g t c =
+    let i = c.in_err-inside.ensures in
+    comes_cut _ _ _ _ _ c.from_residual.ensures.1 (rw i.1 (begin_stops _ _ i.0))
 
-pub script-returns-then-remaining-eq0-clause-only_grows : goal.script-returns-then-remaining-eq0-clause-only_grows
-script-returns-then-remaining-eq0-clause-only_grows g t c = later_refl
+pub script-returns-in_err-inside-clause-only_grows : goal.script-returns-in_err-inside-clause-only_grows
+script-returns-in_err-inside-clause-only_grows g t c = later_refl
 
 pub script-script_tree-requires-text-text : goal.script-script_tree-requires-text-text
 script-script_tree-requires-text-text g t c κs = search rules
 
+pub repeated_script-tree-requires : goal.repeated_script-tree-requires
+repeated_script-tree-requires g t c = c.requires
+
 pub repeated_script-commands-requires : goal.repeated_script-commands-requires
 repeated_script-commands-requires g t c κs within = search rules
 
-pub repeated_script-overflow_sub-remaining : goal.repeated_script-overflow_sub-remaining
-repeated_script-overflow_sub-remaining g t c = omega arith
-
 pub repeated_script-returns-in-Err-clause-evaluates_to : goal.repeated_script-returns-in-Err-clause-evaluates_to
-repeated_script-returns-in-Err-clause-evaluates_to g t c = ([], tt, rw c.from_text_fault.ensures (continue_with (begin_on _ _ c.if-remaining-eq0.false) (text_stops _ _ _ _ c.in-Err.ensures.tree)))
+repeated_script-returns-in-Err-clause-evaluates_to g t c = ([], tt, rw c.from.ensures (continue_with (begin_on _ _ c.in_ok-inside.ensures.0) (text_stops _ _ _ _ c.in-Err.ensures.tree)))
 
-pub repeated_script-returns-in-Err-clause-parsed : goal.repeated_script-returns-in-Err-clause-parsed
-repeated_script-returns-in-Err-clause-parsed g t c = c.repeated_tree.ensures.parsed
+pub repeated_script-returns-in-Err-clause-kept : goal.repeated_script-returns-in-Err-clause-kept
+repeated_script-returns-in-Err-clause-kept g t c = c.tree.ensures.kept
 
-pub repeated_script-returns-in-Ok-clause-parsed : goal.repeated_script-returns-in-Ok-clause-parsed
-repeated_script-returns-in-Ok-clause-parsed g t c = c.repeated_tree.ensures.parsed
+pub repeated_script-returns-in-Ok-clause-kept : goal.repeated_script-returns-in-Ok-clause-kept
+repeated_script-returns-in-Ok-clause-kept g t c = c.tree.ensures.kept
 
-pub repeated_script-returns-then-remaining-eq0-clause-parsed : goal.repeated_script-returns-then-remaining-eq0-clause-parsed
-repeated_script-returns-then-remaining-eq0-clause-parsed g t c = c.requires.1.1.1
+pub repeated_script-returns-in_err-inside-clause-kept : goal.repeated_script-returns-in_err-inside-clause-kept
+repeated_script-returns-in_err-inside-clause-kept g t c = (refl, c.requires)
 
 pub repeated_script-returns-in-Err-clause-only_grows : goal.repeated_script-returns-in-Err-clause-only_grows
-repeated_script-returns-in-Err-clause-only_grows g t c = later_begun refl c.repeated_tree.ensures.begins
+repeated_script-returns-in-Err-clause-only_grows g t c = later_begun refl c.tree.ensures.begins
 
 pub repeated_script-returns-in-Ok-clause-evaluates_to : goal.repeated_script-returns-in-Ok-clause-evaluates_to
 repeated_script-returns-in-Ok-clause-evaluates_to g t c =
-    let h = rw (c.as_str.ensures.value, c.deref.ensures, c.deref-in-Ok.ensures) at c.commands.ensures.evaluates_to in
-    (h.0, h.1, rw c.in-Ok.ensures.tree (continue_with (begin_on _ _ c.if-remaining-eq0.false) h.2))
+    let i = c.in_ok-inside.ensures in
+    let h = rw (i.1, c.as_str.ensures.value, c.deref.ensures, c.deref-in-Ok.ensures) at c.commands.ensures.evaluates_to in
+    (h.0, h.1, rw c.in-Ok.ensures.tree (continue_with (begin_on _ _ i.0) h.2))
 
 pub repeated_script-returns-in-Ok-clause-only_grows : goal.repeated_script-returns-in-Ok-clause-only_grows
-repeated_script-returns-in-Ok-clause-only_grows g t c = later_parsed refl c.repeated_tree.ensures.begins c.commands.ensures.only_grows
+repeated_script-returns-in-Ok-clause-only_grows g t c = later_parsed refl c.tree.ensures.begins c.commands.ensures.only_grows
 
-pub repeated_script-returns-then-remaining-eq0-clause-evaluates_to : goal.repeated_script-returns-then-remaining-eq0-clause-evaluates_to
-repeated_script-returns-then-remaining-eq0-clause-evaluates_to g t c = ([], tt, begin_stops _ _ c.if-remaining-eq0.true)
+pub repeated_script-returns-in_err-inside-clause-evaluates_to : goal.repeated_script-returns-in_err-inside-clause-evaluates_to
+repeated_script-returns-in_err-inside-clause-evaluates_to g t c =
+    let i = c.in_err-inside.ensures in
+    comes_cut _ _ _ _ _ c.from_residual.ensures.1 (rw i.1 (begin_stops _ _ i.0))
 
-pub repeated_script-returns-then-remaining-eq0-clause-only_grows : goal.repeated_script-returns-then-remaining-eq0-clause-only_grows
-repeated_script-returns-then-remaining-eq0-clause-only_grows g t c = later_refl
-
-pub repeated_script-repeated_tree-requires : goal.repeated_script-repeated_tree-requires
-repeated_script-repeated_tree-requires g t c = c.requires.1.1.1
-
-pub repeated_script-commands-requires-text-source : goal.repeated_script-commands-requires-text-source
-repeated_script-commands-requires-text-source g t c κs within = search rules
-
-pub repeated_script-repeated_tree-requires-text-text : goal.repeated_script-repeated_tree-requires-text-text
-repeated_script-repeated_tree-requires-text-text g t c κs = search rules
+pub repeated_script-returns-in_err-inside-clause-only_grows : goal.repeated_script-returns-in_err-inside-clause-only_grows
+repeated_script-returns-in_err-inside-clause-only_grows g t c = later_refl
 
 pub turn-returns-clause-evaluates_to : goal.turn-returns-clause-evaluates_to
 turn-returns-clause-evaluates_to g t c = λ again.
@@ -795,17 +771,17 @@ turn-returns-clause-evaluates_to g t c = λ again.
 pub turn-returns-clause-counted : goal.turn-returns-clause-counted
 turn-returns-clause-counted g t c =
     let h = c.in_ok-count.ensures.counted in
-    let p : (c.args.self.now.used < c.args.limits.commands) × (c.args.self.now.used < c.repeated_script.new.self.used) = (h.0, omega (arith, h.1, c.repeated_script.ensures.only_grows.rises)) in
+    let p : (c.args.self.now.used < c.args.bounds.limits.commands) × (c.args.self.now.used < c.repeated_script.new.self.used) = (h.0, omega (arith, h.1, c.repeated_script.ensures.only_grows.rises)) in
     ok_any c.after_turn.result _ p
 
 pub turn-returns-clause-only_grows : goal.turn-returns-clause-only_grows
 turn-returns-clause-only_grows g t c = later_on (later_counted c.in_ok-count.ensures.counted.1 c.in_ok-count.ensures.cache) c.repeated_script.ensures.only_grows
 
-pub turn-returns-clause-parsed : goal.turn-returns-clause-parsed
-turn-returns-clause-parsed g t c = c.repeated_script.ensures.parsed
+pub turn-returns-clause-kept : goal.turn-returns-clause-kept
+turn-returns-clause-kept g t c = c.repeated_script.ensures.kept
 
-pub turn-returns-in_err-count-clause-parsed : goal.turn-returns-in_err-count-clause-parsed
-turn-returns-in_err-count-clause-parsed g t c = c.requires.1.1.1
+pub turn-returns-in_err-count-clause-kept : goal.turn-returns-in_err-count-clause-kept
+turn-returns-in_err-count-clause-kept g t c = (refl, c.requires)
 
 pub turn-returns-in_err-count-clause-evaluates_to : goal.turn-returns-in_err-count-clause-evaluates_to
 turn-returns-in_err-count-clause-evaluates_to g t c = λ again.
@@ -821,7 +797,7 @@ pub turn-returns-in_err-count-clause-only_grows : goal.turn-returns-in_err-count
 turn-returns-in_err-count-clause-only_grows g t c = later_still c.in_err-count.ensures.counted.1 c.in_err-count.ensures.cache
 
 pub turn-repeated_script-requires : goal.turn-repeated_script-requires
-turn-repeated_script-requires g t c κs within = (search rules, (search rules, c.requires.1.1.1))
+turn-repeated_script-requires g t c κs within = (search rules, (search rules, c.requires))
 
 pub value-bracket-requires : goal.value-bracket-requires
 value-bracket-requires g t c κs within = search rules
@@ -836,14 +812,14 @@ pub value-loop-stack-preserved : goal.value-loop-stack-preserved
 value-loop-stack-preserved g t c =
     let h = rw c.in-Bracket.is at c.in_ok-next.ensures in
     record {
-      evaluates_to = λ k. continue_with (continue_with (c.loop-stack.invariant.evaluates_to k) (h.0 _ c.loop-stack.self.used c.args.remaining _ k)) (c.in_ok-value-in-Bracket.ensures.evaluates_to _);
+      evaluates_to = λ k. continue_with (continue_with (c.loop-stack.invariant.evaluates_to k) (h.0 _ c.loop-stack.self.used c.args.bounds.remaining _ k)) (c.in_ok-value-in-Bracket.ensures.evaluates_to _);
       only_grows = later_on c.loop-stack.invariant.only_grows c.in_ok-value-in-Bracket.ensures.only_grows;
     }
 
 pub value-loop-stack-preserved-in-Next : goal.value-loop-stack-preserved-in-Next
 value-loop-stack-preserved-in-Next g t c =
     let h = rw c.in-Next.is at c.in_ok-next.ensures in
-    record { evaluates_to = λ k. continue_with (c.loop-stack.invariant.evaluates_to k) (h.0 _ c.loop-stack.self.used c.args.remaining _ k); only_grows = c.loop-stack.invariant.only_grows }
+    record { evaluates_to = λ k. continue_with (c.loop-stack.invariant.evaluates_to k) (h.0 _ c.loop-stack.self.used c.args.bounds.remaining _ k); only_grows = c.loop-stack.invariant.only_grows }
 
 pub value-loop-stack-smaller : goal.value-loop-stack-smaller
 value-loop-stack-smaller g t c =
@@ -858,13 +834,13 @@ value-loop-stack-smaller-in-Next g t c =
 pub value-returns-in-Done-clause-evaluates_to : goal.value-returns-in-Done-clause-evaluates_to
 value-returns-in-Done-clause-evaluates_to g t c = λ k.
     let h = rw c.in-Done.is at c.in_ok-next.ensures in
-    continue_with (c.loop-stack.invariant.evaluates_to k) (h.0 _ c.loop-stack.self.used c.args.remaining _ k)
+    continue_with (c.loop-stack.invariant.evaluates_to k) (h.0 _ c.loop-stack.self.used c.args.bounds.remaining _ k)
 
 pub value-returns-in-Done-clause-only_grows : goal.value-returns-in-Done-clause-only_grows
 value-returns-in-Done-clause-only_grows g t c = c.loop-stack.invariant.only_grows
 
 pub value-returns-in_err-next-clause-evaluates_to : goal.value-returns-in_err-next-clause-evaluates_to
-value-returns-in_err-next-clause-evaluates_to g t c = λ k. passed_on _ _ _ _ c.from_residual.ensures.1 (continue_with (c.loop-stack.invariant.evaluates_to k) (c.in_err-next.ensures.0 _ c.loop-stack.self.used c.args.remaining _ k))
+value-returns-in_err-next-clause-evaluates_to g t c = λ k. passed_on _ _ _ _ c.from_residual.ensures.1 (continue_with (c.loop-stack.invariant.evaluates_to k) (c.in_err-next.ensures.0 _ c.loop-stack.self.used c.args.bounds.remaining _ k))
 
 pub value-returns-in_err-next-clause-only_grows : goal.value-returns-in_err-next-clause-only_grows
 value-returns-in_err-next-clause-only_grows g t c = c.loop-stack.invariant.only_grows
@@ -872,48 +848,48 @@ value-returns-in_err-next-clause-only_grows g t c = c.loop-stack.invariant.only_
 pub value-returns-in_err-value-in-Bracket-clause-evaluates_to : goal.value-returns-in_err-value-in-Bracket-clause-evaluates_to
 value-returns-in_err-value-in-Bracket-clause-evaluates_to g t c = λ k.
     let h = rw c.in-Bracket.is at c.in_ok-next.ensures in
-    passed_on _ _ _ _ c.from_residual-in_err-value-in-Bracket.ensures.1 (continue_with (continue_with (c.loop-stack.invariant.evaluates_to k) (h.0 _ c.loop-stack.self.used c.args.remaining _ k)) (c.in_err-value-in-Bracket.ensures.evaluates_to _))
+    passed_on _ _ _ _ c.from_residual-in_err-value-in-Bracket.ensures.1 (continue_with (continue_with (c.loop-stack.invariant.evaluates_to k) (h.0 _ c.loop-stack.self.used c.args.bounds.remaining _ k)) (c.in_err-value-in-Bracket.ensures.evaluates_to _))
 
 pub value-returns-in_err-value-in-Bracket-clause-only_grows : goal.value-returns-in_err-value-in-Bracket-clause-only_grows
 value-returns-in_err-value-in-Bracket-clause-only_grows g t c = later_on c.loop-stack.invariant.only_grows c.in_err-value-in-Bracket.ensures.only_grows
 
 pub while_turns-guarded_turn-requires : goal.while_turns-guarded_turn-requires
-while_turns-guarded_turn-requires g t c κs within = (search rules, (search rules, c.loop-parsed.invariant.parsed))
+while_turns-guarded_turn-requires g t c κs within = (search rules, (search rules, c.loop-body.invariant.body.1))
 
-pub while_turns-loop-parsed-init : goal.while_turns-loop-parsed-init
-while_turns-loop-parsed-init g t c = record { evaluates_to = λ k. stay; parsed = tt; only_grows = later_begun refl c.in_ok-tree.ensures.begins }
+pub while_turns-loop-body-init : goal.while_turns-loop-body-init
+while_turns-loop-body-init g t c = record { evaluates_to = λ k. stay; body = c.new-body.ensures; only_grows = later_begun refl c.in_ok-condition.ensures.begins }
 
-pub while_turns-loop-parsed-preserved : goal.while_turns-loop-parsed-preserved
-while_turns-loop-parsed-preserved g t c = record {
+pub while_turns-loop-body-preserved : goal.while_turns-loop-body-preserved
+while_turns-loop-body-preserved g t c = record {
   evaluates_to = λ k.
-      let again = λ (s2 : State). Runs (plans.While c.args.remaining c.args.condition.now c.args.body.now s2) plans.ended in
-      let h = rw c.if-not-branch.false at (continue_with (given_on _ _ c.loop-parsed.self.variables (λ e. condition_plan (bounds c.args.limits.value_bytes c.args.remaining) e c.loop-parsed.self.variables (guarded (bounds c.args.limits.value_bytes c.args.remaining) c.args.body.now again)) c.in_ok-tree.ensures.tree) (rw c.deref.ensures at (c.in_ok-guarded_turn.ensures.evaluates_to again))) in
-      continue_with (c.loop-parsed.invariant.evaluates_to k) (run_tail h);
-  parsed = c.in_ok-guarded_turn.ensures.parsed;
-  only_grows = later_on c.loop-parsed.invariant.only_grows c.in_ok-guarded_turn.ensures.only_grows;
+      let again = λ (s2 : State). Runs (plans.While c.args.bounds.remaining c.args.parts.condition.now c.args.parts.body.now s2) plans.ended in
+      let h = rw c.if-not-branch.false at (continue_with (given_on _ _ c.loop-body.self.variables (λ e. condition_plan (bounds_of c.args.bounds) e c.loop-body.self.variables (guarded (bounds_of c.args.bounds) c.args.parts.body.now again)) c.in_ok-condition.ensures.tree) (rw (c.deref.ensures, c.loop-body.invariant.body.0) at (c.in_ok-guarded_turn.ensures.evaluates_to again))) in
+      continue_with (c.loop-body.invariant.evaluates_to k) (run_tail h);
+  body = (c.in_ok-guarded_turn.ensures.kept.0 ∙ c.loop-body.invariant.body.0, c.in_ok-guarded_turn.ensures.kept.1);
+  only_grows = later_on c.loop-body.invariant.only_grows c.in_ok-guarded_turn.ensures.only_grows;
 }
 
-pub while_turns-loop-parsed-smaller : goal.while_turns-loop-parsed-smaller
-while_turns-loop-parsed-smaller g t c =
+pub while_turns-loop-body-smaller : goal.while_turns-loop-body-smaller
+while_turns-loop-body-smaller g t c =
     let h = c.in_ok-guarded_turn.ensures.counted c.if-not-branch.false in
     omega (arith, h.0, h.1)
 
 pub while_turns-returns-in_err-guarded_turn-clause-evaluates_to : goal.while_turns-returns-in_err-guarded_turn-clause-evaluates_to
 while_turns-returns-in_err-guarded_turn-clause-evaluates_to g t c = λ k.
-    let again = λ (s2 : State). Runs (plans.While c.args.remaining c.args.condition.now c.args.body.now s2) plans.ended in
-    passed_on _ _ _ _ c.from_residual-in_err-guarded_turn.ensures.1 (continue_with (c.loop-parsed.invariant.evaluates_to k) (run_stops _ _ (continue_with (given_on _ _ c.loop-parsed.self.variables (λ e. condition_plan (bounds c.args.limits.value_bytes c.args.remaining) e c.loop-parsed.self.variables (guarded (bounds c.args.limits.value_bytes c.args.remaining) c.args.body.now again)) c.in_ok-tree.ensures.tree) (rw c.deref.ensures at (c.in_err-guarded_turn.ensures.evaluates_to again)))))
+    let again = λ (s2 : State). Runs (plans.While c.args.bounds.remaining c.args.parts.condition.now c.args.parts.body.now s2) plans.ended in
+    passed_on _ _ _ _ c.from_residual-in_err-guarded_turn.ensures.1 (continue_with (c.loop-body.invariant.evaluates_to k) (run_stops _ _ (continue_with (given_on _ _ c.loop-body.self.variables (λ e. condition_plan (bounds_of c.args.bounds) e c.loop-body.self.variables (guarded (bounds_of c.args.bounds) c.args.parts.body.now again)) c.in_ok-condition.ensures.tree) (rw (c.deref.ensures, c.loop-body.invariant.body.0) at (c.in_err-guarded_turn.ensures.evaluates_to again)))))
 
 pub while_turns-returns-in_err-guarded_turn-clause-only_grows : goal.while_turns-returns-in_err-guarded_turn-clause-only_grows
-while_turns-returns-in_err-guarded_turn-clause-only_grows g t c = later_on c.loop-parsed.invariant.only_grows c.in_err-guarded_turn.ensures.only_grows
+while_turns-returns-in_err-guarded_turn-clause-only_grows g t c = later_on c.loop-body.invariant.only_grows c.in_err-guarded_turn.ensures.only_grows
 
 pub while_turns-returns-then-not-branch-clause-evaluates_to : goal.while_turns-returns-then-not-branch-clause-evaluates_to
 while_turns-returns-then-not-branch-clause-evaluates_to g t c = λ k.
-    let again = λ (s2 : State). Runs (plans.While c.args.remaining c.args.condition.now c.args.body.now s2) plans.ended in
-    let h = rw c.if-not-branch.true at (continue_with (given_on _ _ c.loop-parsed.self.variables (λ e. condition_plan (bounds c.args.limits.value_bytes c.args.remaining) e c.loop-parsed.self.variables (guarded (bounds c.args.limits.value_bytes c.args.remaining) c.args.body.now again)) c.in_ok-tree.ensures.tree) (rw c.deref.ensures at (c.in_ok-guarded_turn.ensures.evaluates_to again))) in
-    rw c.new.ensures.bytes (continue_with (c.loop-parsed.invariant.evaluates_to k) (run_on h))
+    let again = λ (s2 : State). Runs (plans.While c.args.bounds.remaining c.args.parts.condition.now c.args.parts.body.now s2) plans.ended in
+    let h = rw c.if-not-branch.true at (continue_with (given_on _ _ c.loop-body.self.variables (λ e. condition_plan (bounds_of c.args.bounds) e c.loop-body.self.variables (guarded (bounds_of c.args.bounds) c.args.parts.body.now again)) c.in_ok-condition.ensures.tree) (rw (c.deref.ensures, c.loop-body.invariant.body.0) at (c.in_ok-guarded_turn.ensures.evaluates_to again))) in
+    rw c.new.ensures.bytes (continue_with (c.loop-body.invariant.evaluates_to k) (run_on h))
 
 pub while_turns-returns-then-not-branch-clause-only_grows : goal.while_turns-returns-then-not-branch-clause-only_grows
-while_turns-returns-then-not-branch-clause-only_grows g t c = later_on c.loop-parsed.invariant.only_grows c.in_ok-guarded_turn.ensures.only_grows
+while_turns-returns-then-not-branch-clause-only_grows g t c = later_on c.loop-body.invariant.only_grows c.in_ok-guarded_turn.ensures.only_grows
 
 pub words-loop-word-init : goal.words-loop-word-init
 words-loop-word-init g t c = record { evaluates_to = λ k. rw c.new-texts.ensures.items stay; only_grows = later_refl }
@@ -921,11 +897,11 @@ words-loop-word-init g t c = record { evaluates_to = λ k. rw c.new-texts.ensure
 pub words-loop-word-preserved : goal.words-loop-word-preserved
 words-loop-word-preserved g t c = record {
   evaluates_to = λ k.
-      let b = bounds c.args.limits.value_bytes c.args.remaining in
+      let b = bounds_of c.args.bounds in
       let d = drop_here _ _ _ c.loop-word-test.true c.word-item.is in
-      let l = rw (d, word_parts (range_text c.args.source.now) c.word-item.result) at (c.loop-word.invariant.evaluates_to k) in
+      let l = rw (d, word_parts (range_text c.args.words.source.now) c.word-item.result) at (c.loop-word.invariant.evaluates_to k) in
       let item = out-Word ByteRange c.word-item.result in
-      let rest = words_of (map (word_view (range_text c.args.source.now)) (drop (c.loop-word.word-index + 1) c.args.words.now)) in
+      let rest = words_of (map (word_view (range_text c.args.words.source.now)) (drop (c.loop-word.word-index + 1) c.args.words.tree.now)) in
       let next = λ (t : Text) (s' : State). given (expanded item.expands t) s' (λ ts. pieces.words b rest (map string_bytes c.loop-word.texts.items ++ ts) s' k) in
       let w = rw c.as_slice.ensures.value at (c.in_ok-text.ensures.evaluates_to next) in
       let p = c.in_ok-push_words.ensures in
@@ -936,8 +912,8 @@ words-loop-word-preserved g t c = record {
 pub words-loop-word-smaller : goal.words-loop-word-smaller
 words-loop-word-smaller g t c = omega arith
 
-pub words-offset_bounds-words-word-index : goal.words-offset_bounds-words-word-index
-words-offset_bounds-words-word-index g t c = omega arith
+pub words-offset_bounds-word-items-word-index : goal.words-offset_bounds-word-items-word-index
+words-offset_bounds-word-items-word-index g t c = omega arith
 
 pub words-returns-clause-evaluates_to : goal.words-returns-clause-evaluates_to
 words-returns-clause-evaluates_to g t c = λ k.
@@ -949,11 +925,11 @@ words-returns-clause-only_grows g t c = c.loop-word.invariant.only_grows
 
 pub words-returns-in_err-push_words-clause-evaluates_to : goal.words-returns-in_err-push_words-clause-evaluates_to
 words-returns-in_err-push_words-clause-evaluates_to g t c = λ k.
-    let b = bounds c.args.limits.value_bytes c.args.remaining in
+    let b = bounds_of c.args.bounds in
     let d = drop_here _ _ _ c.loop-word-test.true c.word-item.is in
-    let l = rw (d, word_parts (range_text c.args.source.now) c.word-item.result) at (c.loop-word.invariant.evaluates_to k) in
+    let l = rw (d, word_parts (range_text c.args.words.source.now) c.word-item.result) at (c.loop-word.invariant.evaluates_to k) in
     let item = out-Word ByteRange c.word-item.result in
-    let rest = words_of (map (word_view (range_text c.args.source.now)) (drop (c.loop-word.word-index + 1) c.args.words.now)) in
+    let rest = words_of (map (word_view (range_text c.args.words.source.now)) (drop (c.loop-word.word-index + 1) c.args.words.tree.now)) in
     let next = λ (t : Text) (s' : State). given (expanded item.expands t) s' (λ ts. pieces.words b rest (map string_bytes c.loop-word.texts.items ++ ts) s' k) in
     let w = rw c.as_slice.ensures.value at (c.in_ok-text.ensures.evaluates_to next) in
     continue_with (continue_with l w) (value_stops _ _ _ _ _ _ c.from_residual-in_err-push_words.ensures.1 c.in_err-push_words.ensures)
@@ -963,11 +939,11 @@ words-returns-in_err-push_words-clause-only_grows g t c = later_on c.loop-word.i
 
 pub words-returns-in_err-text-clause-evaluates_to : goal.words-returns-in_err-text-clause-evaluates_to
 words-returns-in_err-text-clause-evaluates_to g t c = λ k.
-    let b = bounds c.args.limits.value_bytes c.args.remaining in
+    let b = bounds_of c.args.bounds in
     let d = drop_here _ _ _ c.loop-word-test.true c.word-item.is in
-    let l = rw (d, word_parts (range_text c.args.source.now) c.word-item.result) at (c.loop-word.invariant.evaluates_to k) in
+    let l = rw (d, word_parts (range_text c.args.words.source.now) c.word-item.result) at (c.loop-word.invariant.evaluates_to k) in
     let item = out-Word ByteRange c.word-item.result in
-    let rest = words_of (map (word_view (range_text c.args.source.now)) (drop (c.loop-word.word-index + 1) c.args.words.now)) in
+    let rest = words_of (map (word_view (range_text c.args.words.source.now)) (drop (c.loop-word.word-index + 1) c.args.words.tree.now)) in
     let next = λ (t : Text) (s' : State). given (expanded item.expands t) s' (λ ts. pieces.words b rest (map string_bytes c.loop-word.texts.items ++ ts) s' k) in
     let w = rw c.as_slice.ensures.value at (c.in_err-text.ensures.evaluates_to next) in
     passed_on _ _ _ _ c.from_residual.ensures.1 (continue_with l w)
@@ -978,12 +954,6 @@ words-returns-in_err-text-clause-only_grows g t c = later_on c.loop-word.invaria
 pub words-word-requires : goal.words-word-requires
 words-word-requires g t c κs within = search rules
 
-pub other_command-unknown_command-requires-text-name : goal.other_command-unknown_command-requires-text-name
-other_command-unknown_command-requires-text-name g t c κs = search rules
-
-pub bracket-commands-requires-text-source : goal.bracket-commands-requires-text-source
-bracket-commands-requires-text-source g t c κs within = search rules
-
 pub branches-decide-requires-text-text : goal.branches-decide-requires-text-text
 branches-decide-requires-text-text g t c κs within = search rules
 
@@ -993,65 +963,14 @@ branches-script-requires-text-text g t c κs within = search rules
 pub call-script-outcome-requires-text-text : goal.call-script-outcome-requires-text-text
 call-script-outcome-requires-text-text g t c κs within = search rules
 
-pub called-core_command-requires-text-name : goal.called-core_command-requires-text-name
-called-core_command-requires-text-name g t c κs within = search rules
-
 pub catch-script-outcome-requires-text-text : goal.catch-script-outcome-requires-text-text
 catch-script-outcome-requires-text-text g t c κs within = search rules
-
-pub command-words-requires-text-source : goal.command-words-requires-text-source
-command-words-requires-text-source g t c κs within = search rules
-
-pub commands-command-requires-text-source : goal.commands-command-requires-text-source
-commands-command-requires-text-source g t c κs within = search rules
-
-pub core_command-other_command-requires-text-name : goal.core_command-other_command-requires-text-name
-core_command-other_command-requires-text-name g t c κs within = search rules
 
 pub for_loop-script-requires-text-text : goal.for_loop-script-requires-text-text
 for_loop-script-requires-text-text g t c κs within = search rules
 
-pub for_loop-for_turns-requires-text-condition : goal.for_loop-for_turns-requires-text-condition
-for_loop-for_turns-requires-text-condition g t c κs within = search rules
-
-pub for_loop-for_turns-requires-text-next : goal.for_loop-for_turns-requires-text-next
-for_loop-for_turns-requires-text-next g t c κs within = search rules
-
-pub for_loop-for_turns-requires-text-body : goal.for_loop-for_turns-requires-text-body
-for_loop-for_turns-requires-text-body g t c κs within = search rules
-
-pub for_turns-guarded_turn-requires-text-body : goal.for_turns-guarded_turn-requires-text-body
-for_turns-guarded_turn-requires-text-body g t c κs within = search rules
-
-pub for_turns-repeated_script-requires-text-text : goal.for_turns-repeated_script-requires-text-text
-for_turns-repeated_script-requires-text-text g t c κs within = search rules
-
 pub foreach-foreach_turns-requires-text-body : goal.foreach-foreach_turns-requires-text-body
 foreach-foreach_turns-requires-text-body g t c κs within = search rules
-
-pub foreach_turns-turn-requires-text-body : goal.foreach_turns-turn-requires-text-body
-foreach_turns-turn-requires-text-body g t c κs within = search rules
-
-pub form-express-requires-text-text : goal.form-express-requires-text-text
-form-express-requires-text-text g t c κs within = search rules
-
-pub form-while_turns-requires-text-condition : goal.form-while_turns-requires-text-condition
-form-while_turns-requires-text-condition g t c κs within = search rules
-
-pub form-while_turns-requires-text-body : goal.form-while_turns-requires-text-body
-form-while_turns-requires-text-body g t c κs within = search rules
-
-pub form-for_loop-outcome-requires-text-start : goal.form-for_loop-outcome-requires-text-start
-form-for_loop-outcome-requires-text-start g t c κs within = search rules
-
-pub form-for_loop-outcome-requires-text-condition : goal.form-for_loop-outcome-requires-text-condition
-form-for_loop-outcome-requires-text-condition g t c κs within = search rules
-
-pub form-for_loop-outcome-requires-text-next : goal.form-for_loop-outcome-requires-text-next
-form-for_loop-outcome-requires-text-next g t c κs within = search rules
-
-pub form-for_loop-outcome-requires-text-body : goal.form-for_loop-outcome-requires-text-body
-form-for_loop-outcome-requires-text-body g t c κs within = search rules
 
 pub form-foreach-requires-text-body : goal.form-foreach-requires-text-body
 form-foreach-requires-text-body g t c κs within = search rules
@@ -1059,29 +978,8 @@ form-foreach-requires-text-body g t c κs within = search rules
 pub form-catch-requires-text-body : goal.form-catch-requires-text-body
 form-catch-requires-text-body g t c κs within = search rules
 
-pub guarded_turn-turn-requires-text-body : goal.guarded_turn-turn-requires-text-body
-guarded_turn-turn-requires-text-body g t c κs within = search rules
-
-pub other_command-call-requires-text-name : goal.other_command-call-requires-text-name
-other_command-call-requires-text-name g t c κs within = search rules
-
 pub otherwise-script-requires-text-text : goal.otherwise-script-requires-text-text
 otherwise-script-requires-text-text g t c κs within = search rules
-
-pub script-commands-requires-text-source : goal.script-commands-requires-text-source
-script-commands-requires-text-source g t c κs within = search rules
-
-pub turn-repeated_script-requires-text-text : goal.turn-repeated_script-requires-text-text
-turn-repeated_script-requires-text-text g t c κs within = search rules
-
-pub value-bracket-requires-text-source : goal.value-bracket-requires-text-source
-value-bracket-requires-text-source g t c κs within = search rules
-
-pub while_turns-guarded_turn-requires-text-body : goal.while_turns-guarded_turn-requires-text-body
-while_turns-guarded_turn-requires-text-body g t c κs within = search rules
-
-pub words-word-requires-text-source : goal.words-word-requires-text-source
-words-word-requires-text-source g t c κs within = search rules
 
 pub word-value-requires : goal.word-value-requires
 word-value-requires g t c κs within = search rules
@@ -1098,7 +996,7 @@ word-returns-clause-only_grows g t c = c.value.ensures.only_grows
 pub word-returns-in-Some-clause-evaluates_to : goal.word-returns-in-Some-clause-evaluates_to
 word-returns-in-Some-clause-evaluates_to g t c = λ k.
     let e = c.in_ok-text.ensures.ok ∙ c.of.ensures in
-    rw (c.in-Some.ensures c.args.source.now, ← e) (c.sized.ensures.evaluates_to _ _ k _ _)
+    rw (c.in-Some.ensures c.args.parts.source.now, ← e) (c.sized.ensures.evaluates_to _ _ k _ _)
 
 pub word-returns-in-Some-clause-only_grows : goal.word-returns-in-Some-clause-only_grows
 word-returns-in-Some-clause-only_grows g t c = later_refl
@@ -1115,18 +1013,15 @@ word-of-requires-text-text g t c κs = search rules
 pub word-from_str-requires-text-s : goal.word-from_str-requires-text-s
 word-from_str-requires-text-s g t c κs = search rules
 
-pub command-literal_form-requires-text-source : goal.command-literal_form-requires-text-source
-command-literal_form-requires-text-source g t c κs = search rules
-
 pub command-form-requires : goal.command-form-requires
 command-form-requires g t c κs within = search rules
 
 pub command-returns-in-Some-clause-evaluates_to : goal.command-returns-in-Some-clause-evaluates_to
 command-returns-in-Some-clause-evaluates_to g t c =
     let h = c.in_ok-count.ensures in
-    let v = command_words (range_text c.args.source.now) c.args.command.now in
+    let v = command_words (range_text c.args.command.source.now) c.args.command.tree.now in
     let a = c.form.ensures.evaluates_to in
-    let e = λ (k : Next). rw c.deref.ensures.value at (c.in-Some.ensures c.args.remaining c.args.self.now.variables (sized_next c.args.limits.value_bytes k)) in
+    let e = λ (k : Next). rw c.as_slice.ensures.value at (c.in-Some.ensures c.args.bounds.remaining c.args.self.now.variables (sized_next c.args.bounds.limits.value_bytes k)) in
     let w = λ (k : Next). rw (h.variables, h.counted.1) at (a.2 k) in
     (a.0, a.1, λ k. rw v (continue_with (count_on h.counted.0) (from_same (e k) (w k))))
 
@@ -1159,7 +1054,7 @@ expression_value-value-requires-text-source g t c κs within = search rules
 
 pub expression_value-returns-clause-evaluates_to : goal.expression_value-returns-clause-evaluates_to
 expression_value-returns-clause-evaluates_to g t c = λ k.
-    let h = rw c.as_str.ensures.value at (c.in_ok-value.ensures.evaluates_to (λ v s'. given (normal v (numeral v)) s' (λ u. sized c.args.limits.value_bytes u (k u s')))) in
+    let h = rw c.as_str.ensures.value at (c.in_ok-value.ensures.evaluates_to (λ v s'. given (normal v (numeral v)) s' (λ u. sized c.args.bounds.limits.value_bytes u (k u s')))) in
     continue_with (continue_with h (given_on _ _ _ _ c.in_ok-value-2.ensures)) (c.sized.ensures.evaluates_to _ _ k _ _)
 
 pub expression_value-returns-clause-only_grows : goal.expression_value-returns-clause-only_grows
@@ -1167,7 +1062,7 @@ expression_value-returns-clause-only_grows g t c = c.in_ok-value.ensures.only_gr
 
 pub expression_value-returns-in_err-value-2-clause-evaluates_to : goal.expression_value-returns-in_err-value-2-clause-evaluates_to
 expression_value-returns-in_err-value-2-clause-evaluates_to g t c = λ k.
-    let h = rw c.as_str.ensures.value at (c.in_ok-value.ensures.evaluates_to (λ v s'. given (normal v (numeral v)) s' (λ u. sized c.args.limits.value_bytes u (k u s')))) in
+    let h = rw c.as_str.ensures.value at (c.in_ok-value.ensures.evaluates_to (λ v s'. given (normal v (numeral v)) s' (λ u. sized c.args.bounds.limits.value_bytes u (k u s')))) in
     continue_with h (value_stops _ _ _ _ _ _ c.from_residual-in_err-value-2.ensures.1 c.in_err-value-2.ensures)
 
 pub expression_value-returns-in_err-value-2-clause-only_grows : goal.expression_value-returns-in_err-value-2-clause-only_grows
@@ -1175,7 +1070,7 @@ expression_value-returns-in_err-value-2-clause-only_grows g t c = c.in_ok-value.
 
 pub expression_value-returns-in_err-value-clause-evaluates_to : goal.expression_value-returns-in_err-value-clause-evaluates_to
 expression_value-returns-in_err-value-clause-evaluates_to g t c = λ k.
-    let h = rw c.as_str.ensures.value at (c.in_err-value.ensures.evaluates_to (λ v s'. given (normal v (numeral v)) s' (λ u. sized c.args.limits.value_bytes u (k u s')))) in
+    let h = rw c.as_str.ensures.value at (c.in_err-value.ensures.evaluates_to (λ v s'. given (normal v (numeral v)) s' (λ u. sized c.args.bounds.limits.value_bytes u (k u s')))) in
     passed_on _ _ _ _ c.from_residual.ensures.1 h
 
 pub expression_value-returns-in_err-value-clause-only_grows : goal.expression_value-returns-in_err-value-clause-only_grows
@@ -1244,26 +1139,103 @@ holds-returns-clause-only_grows g t c = c.in_ok-value.ensures.only_grows
 pub while_turns-expression_tree-requires-text-text : goal.while_turns-expression_tree-requires-text-text
 while_turns-expression_tree-requires-text-text g t c κs = search rules
 
-pub while_turns-returns-in_err-tree-clause-evaluates_to : goal.while_turns-returns-in_err-tree-clause-evaluates_to
-while_turns-returns-in_err-tree-clause-evaluates_to g t c = λ k.
-    let b = bounds c.args.limits.value_bytes c.args.remaining in
+pub while_turns-returns-in_err-condition-clause-evaluates_to : goal.while_turns-returns-in_err-condition-clause-evaluates_to
+while_turns-returns-in_err-condition-clause-evaluates_to g t c = λ k.
+    let b = bounds_of c.args.bounds in
     let s = c.args.self.now.variables in
-    let again = λ (s2 : State). Runs (plans.While c.args.remaining c.args.condition.now c.args.body.now s2) plans.ended in
-    passed_on _ _ _ _ c.from_residual.ensures.1 (run_stops _ _ (given_stops _ _ s (λ e. condition_plan b e s (guarded b c.args.body.now again)) c.in_err-tree.ensures.tree))
+    let again = λ (s2 : State). Runs (plans.While c.args.bounds.remaining c.args.parts.condition.now c.args.parts.body.now s2) plans.ended in
+    passed_on _ _ _ _ c.from_residual.ensures.1 (run_stops s (stop_of c.before.in_err-condition.field-0.0) (given_stops _ _ s (λ e. condition_plan b e s (guarded b c.args.parts.body.now again)) c.in_err-condition.ensures.tree))
 
-pub while_turns-returns-in_err-tree-clause-only_grows : goal.while_turns-returns-in_err-tree-clause-only_grows
-while_turns-returns-in_err-tree-clause-only_grows g t c = later_begun refl c.in_err-tree.ensures.begins
+pub while_turns-returns-in_err-condition-clause-only_grows : goal.while_turns-returns-in_err-condition-clause-only_grows
+while_turns-returns-in_err-condition-clause-only_grows g t c = later_begun refl c.in_err-condition.ensures.begins
 
 pub for_turns-expression_tree-requires-text-text : goal.for_turns-expression_tree-requires-text-text
 for_turns-expression_tree-requires-text-text g t c κs = search rules
 
-pub for_turns-returns-in_err-tree-clause-evaluates_to : goal.for_turns-returns-in_err-tree-clause-evaluates_to
-for_turns-returns-in_err-tree-clause-evaluates_to g t c = λ k.
-    let b = bounds c.args.limits.value_bytes c.args.remaining in
+pub for_turns-returns-in_err-condition-clause-evaluates_to : goal.for_turns-returns-in_err-condition-clause-evaluates_to
+for_turns-returns-in_err-condition-clause-evaluates_to g t c = λ k.
+    let b = bounds_of c.args.bounds in
     let s = c.args.self.now.variables in
-    let again = λ (s3 : State). Runs (plans.For c.args.remaining c.args.condition.now c.args.next.now c.args.body.now s3) plans.ended in
-    let between = λ (s2 : State). table.body b c.args.next.now s2 (table.after_next again) in
-    passed_on _ _ _ _ c.from_residual.ensures.1 (run_stops _ _ (given_stops _ _ s (λ e. condition_plan b e s (guarded b c.args.body.now between)) c.in_err-tree.ensures.tree))
+    let again = λ (s3 : State). Runs (plans.For c.args.bounds.remaining c.args.parts.condition.now c.args.parts.next.now c.args.parts.body.now s3) plans.ended in
+    let between = λ (s2 : State). table.body b c.args.parts.next.now s2 (table.after_next again) in
+    passed_on _ _ _ _ c.from_residual.ensures.1 (run_stops s (stop_of c.before.in_err-condition.field-0.0) (given_stops _ _ s (λ e. condition_plan b e s (guarded b c.args.parts.body.now between)) c.in_err-condition.ensures.tree))
 
-pub for_turns-returns-in_err-tree-clause-only_grows : goal.for_turns-returns-in_err-tree-clause-only_grows
-for_turns-returns-in_err-tree-clause-only_grows g t c = later_begun refl c.in_err-tree.ensures.begins
+pub for_turns-returns-in_err-condition-clause-only_grows : goal.for_turns-returns-in_err-condition-clause-only_grows
+for_turns-returns-in_err-condition-clause-only_grows g t c = later_begun refl c.in_err-condition.ensures.begins
+
+pub form-returns-in-Express-clause-evaluates_to : goal.form-returns-in-Express-clause-evaluates_to
+form-returns-in-Express-clause-evaluates_to g t c =
+    let w = c.within.ensures c.args.result_use c.express_words.new.self.variables in
+    (w.0, w.1, λ k. rw c.in-Express.is (continue_with (c.express_words.ensures.evaluates_to (sized_next c.args.bounds.limits.value_bytes k)) (w.2 _ _ k _)))
+
+pub form-returns-in-Express-clause-only_grows : goal.form-returns-in-Express-clause-only_grows
+form-returns-in-Express-clause-only_grows g t c = c.express_words.ensures.only_grows
+
+pub express_words-express-requires : goal.express_words-express-requires
+express_words-express-requires g t c κs within = search rules
+
+pub express_words-express-requires-text-text : goal.express_words-express-requires-text-text
+express_words-express-requires-text-text g t c κs within = search rules
+
+pub express_words-returns-clause-evaluates_to : goal.express_words-returns-clause-evaluates_to
+express_words-returns-clause-evaluates_to g t c = λ k.
+    let q = limited_on _ _ _ c.in_ok-text.ensures in
+    let h = rw (c.as_str.ensures.value, q.1) at (c.express.ensures.evaluates_to k) in
+    continue_with (sized_on _ _ _ q.0) h
+
+pub express_words-returns-clause-only_grows : goal.express_words-returns-clause-only_grows
+express_words-returns-clause-only_grows g t c = c.express.ensures.only_grows
+
+pub express_words-returns-in_err-text-clause-evaluates_to : goal.express_words-returns-in_err-text-clause-evaluates_to
+express_words-returns-in_err-text-clause-evaluates_to g t c = λ k. passed_on _ _ _ _ c.from_residual.ensures.1 (limited_stops _ _ _ _ _ c.in_err-text.ensures)
+
+pub express_words-returns-in_err-text-clause-only_grows : goal.express_words-returns-in_err-text-clause-only_grows
+express_words-returns-in_err-text-clause-only_grows g t c = later_refl
+
+pub command-fact_in-words : goal.command-fact_in-words
+command-fact_in-words g t c = search rules
+
+pub commands-fact_in-command : goal.commands-fact_in-command
+commands-fact_in-command g t c = search rules
+
+pub form-fact_in-body-in-For : goal.form-fact_in-body-in-For
+form-fact_in-body-in-For g t c = search rules
+
+pub form-fact_in-body : goal.form-fact_in-body
+form-fact_in-body g t c = search rules
+
+pub form-fact_in-condition-in-For : goal.form-fact_in-condition-in-For
+form-fact_in-condition-in-For g t c = search rules
+
+pub form-fact_in-condition : goal.form-fact_in-condition
+form-fact_in-condition g t c = search rules
+
+pub form-fact_in-next : goal.form-fact_in-next
+form-fact_in-next g t c = search rules
+
+pub form-fact_in-start : goal.form-fact_in-start
+form-fact_in-start g t c = search rules
+
+pub repeated_script-fact_in-script : goal.repeated_script-fact_in-script
+repeated_script-fact_in-script g t c = search rules
+
+pub script-fact_in-script : goal.script-fact_in-script
+script-fact_in-script g t c = search rules
+
+pub value-fact_in-source-in-Bracket : goal.value-fact_in-source-in-Bracket
+value-fact_in-source-in-Bracket g t c = search rules
+
+pub words-fact_in-parts : goal.words-fact_in-parts
+words-fact_in-parts g t c = search rules
+
+pub for_turns-new-body-requires-text-text : goal.for_turns-new-body-requires-text-text
+for_turns-new-body-requires-text-text g t c κs = search rules
+
+pub for_turns-new-next-requires-text-text : goal.for_turns-new-next-requires-text-text
+for_turns-new-next-requires-text-text g t c κs = search rules
+
+pub foreach_turns-new-script-requires-text-text : goal.foreach_turns-new-script-requires-text-text
+foreach_turns-new-script-requires-text-text g t c κs = search rules
+
+pub while_turns-new-body-requires-text-text : goal.while_turns-new-body-requires-text-text
+while_turns-new-body-requires-text-text g t c κs = search rules

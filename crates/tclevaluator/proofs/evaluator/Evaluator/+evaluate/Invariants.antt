@@ -1,4 +1,4 @@
-use Rattle.std.proofs.Common.{[], List, map, option_map, reverse, drop, Ok, string_bytes, ◌+◌, ◌-◌, ◌*◌}
+use Rattle.std.proofs.Common.{◌≡◌, [], List, map, option_map, reverse, drop, Ok, string_bytes, ◌+◌, ◌-◌, ◌*◌}
 use Rattle.tclchars.specs.Runs.{Text}
 use Rattle.tclscript.specs.Tree.{commands_of, words_of}
 use Rattle.tclscript.specs.View.{script_view, command_view, word_view}
@@ -13,100 +13,105 @@ use Rattle.tclrules.specs.Rules as rules
 use Rattle.tclrules.specs.Plans.{Next, on_normal}
 use Rattle.tclrules.specs.Rules.{rule}
 use Rattle.tclforms.specs.Views.{pair_texts}
-use Rattle.tclsubstitution.specs.Machine.{range_text, bounds, control_plan, stack_continuation, control_weight, frames_weight}
-use Rattle.tclcontrol.specs.Completions.{EvaluatesToText, IsScriptTree}
+use Rattle.tclsubstitution.specs.Machine.{range_text, control_plan, stack_continuation, control_weight, frames_weight}
+use Rattle.tclcontrol.specs.Completions.{EvaluatesToText}
+use Rattle.tclevaluator.specs.EvaluatesTo.{bounds_of}
+use Rattle.tclevaluator.specs.LoopBodies.{HasItsTree}
 use Rattle.tclevaluator.specs.OnlyGrows.{OnlyGrows}
 use Rattle.tclevaluator.proofs.evaluator.Evaluator.+evaluate.Given as goal
 
 abbrev pub decreases-bracket : goal.decreases-bracket
-decreases-bracket g l = 16 * l.remaining
+decreases-bracket g l = 16 * l.bounds.remaining
 
 abbrev pub decreases-script : goal.decreases-script
-decreases-script g l = 16 * l.remaining
+decreases-script g l = 16 * l.bounds.remaining
 
 abbrev pub decreases-repeated_script : goal.decreases-repeated_script
-decreases-repeated_script g l = 16 * l.remaining
+decreases-repeated_script g l = 16 * l.bounds.remaining
 
 abbrev pub decreases-value : goal.decreases-value
-decreases-value g l = 16 * l.remaining + 1
+decreases-value g l = 16 * l.bounds.remaining + 1
 
 abbrev pub decreases-express : goal.decreases-express
-decreases-express g l = 16 * l.remaining + 3
+decreases-express g l = 16 * l.bounds.remaining + 3
 
 abbrev pub decreases-expression_value : goal.decreases-expression_value
-decreases-expression_value g l = 16 * l.remaining + 2
+decreases-expression_value g l = 16 * l.bounds.remaining + 2
 
 abbrev pub decreases-holds : goal.decreases-holds
-decreases-holds g l = 16 * l.remaining + 3
+decreases-holds g l = 16 * l.bounds.remaining + 3
 
 abbrev pub decreases-decide : goal.decreases-decide
-decreases-decide g l = 16 * l.remaining + 4
+decreases-decide g l = 16 * l.bounds.remaining + 4
 
 abbrev pub decreases-turn : goal.decreases-turn
-decreases-turn g l = 16 * l.remaining + 3
+decreases-turn g l = 16 * l.bounds.remaining + 3
 
 abbrev pub decreases-guarded_turn : goal.decreases-guarded_turn
-decreases-guarded_turn g l = 16 * l.remaining + 4
+decreases-guarded_turn g l = 16 * l.bounds.remaining + 4
 
 abbrev pub decreases-while_turns : goal.decreases-while_turns
-decreases-while_turns g l = 16 * l.remaining + 5
+decreases-while_turns g l = 16 * l.bounds.remaining + 5
 
 abbrev pub decreases-for_turns : goal.decreases-for_turns
-decreases-for_turns g l = 16 * l.remaining + 5
+decreases-for_turns g l = 16 * l.bounds.remaining + 5
 
 abbrev pub decreases-for_loop : goal.decreases-for_loop
-decreases-for_loop g l = 16 * l.remaining + 6
+decreases-for_loop g l = 16 * l.bounds.remaining + 6
 
 abbrev pub decreases-otherwise : goal.decreases-otherwise
-decreases-otherwise g l = 16 * l.remaining + 1
+decreases-otherwise g l = 16 * l.bounds.remaining + 1
 
 abbrev pub decreases-branches : goal.decreases-branches
-decreases-branches g l = 16 * l.remaining + 5
+decreases-branches g l = 16 * l.bounds.remaining + 5
 
 abbrev pub decreases-catch : goal.decreases-catch
-decreases-catch g l = 16 * l.remaining + 1
+decreases-catch g l = 16 * l.bounds.remaining + 1
+
+abbrev pub decreases-express_words : goal.decreases-express_words
+decreases-express_words g l = 16 * l.bounds.remaining + 4
 
 abbrev pub decreases-form : goal.decreases-form
-decreases-form g l = 16 * l.remaining + 7
+decreases-form g l = 16 * l.bounds.remaining + 7
 
 abbrev pub decreases-called : goal.decreases-called
-decreases-called g l = 16 * l.remaining + 9
+decreases-called g l = 16 * l.bounds.remaining + 9
 
 abbrev pub decreases-core_command : goal.decreases-core_command
-decreases-core_command g l = 16 * l.remaining + 8
+decreases-core_command g l = 16 * l.bounds.remaining + 8
 
 abbrev pub decreases-other_command : goal.decreases-other_command
-decreases-other_command g l = 16 * l.remaining + 2
+decreases-other_command g l = 16 * l.bounds.remaining + 2
 
 abbrev pub decreases-call : goal.decreases-call
-decreases-call g l = 16 * l.remaining + 1
+decreases-call g l = 16 * l.bounds.remaining + 1
 
 abbrev pub decreases-foreach : goal.decreases-foreach
-decreases-foreach g l = 16 * l.remaining + 5
+decreases-foreach g l = 16 * l.bounds.remaining + 5
 
 abbrev pub decreases-foreach_turns : goal.decreases-foreach_turns
-decreases-foreach_turns g l = 16 * l.remaining + 4
+decreases-foreach_turns g l = 16 * l.bounds.remaining + 4
 
 abbrev pub decreases-words : goal.decreases-words
-decreases-words g l = 16 * l.remaining + 3
+decreases-words g l = 16 * l.bounds.remaining + 3
 
 abbrev pub decreases-word : goal.decreases-word
-decreases-word g l = 16 * l.remaining + 2
+decreases-word g l = 16 * l.bounds.remaining + 2
 
 abbrev pub decreases-command : goal.decreases-command
-decreases-command g l = 16 * l.remaining + 10
+decreases-command g l = 16 * l.bounds.remaining + 10
 
 abbrev pub decreases-commands : goal.decreases-commands
-decreases-commands g l = 16 * l.remaining + 11
+decreases-commands g l = 16 * l.bounds.remaining + 11
 
 abbrev pub invariant-branches-loop-condition : goal.invariant-branches-loop-condition
 invariant-branches-loop-condition g l =
     let o = g.H.Host.oracle in
     let t = g.H.Host.trace in
-    let b = bounds l.limits.value_bytes l.remaining in
+    let b = bounds_of l.bounds in
     let other = option_map (λ t. t.now) l.other in
     record {
-      evaluates_to : (k : Next) → Simulates l.limits.commands (rule l.limits.value_bytes) (rules.branches b (pair_texts l.branches) other l.fn.self.variables k) (point (o l.fn.host) (t l.fn.host) l.fn.self.used) (rules.branches b (pair_texts (drop l.condition-index l.branches)) other l.self.variables k) (point (o l.host) (t l.host) l.self.used);
+      evaluates_to : (k : Next) → Simulates l.bounds.limits.commands (rule l.bounds.limits.value_bytes) (rules.branches b (pair_texts l.branches) other l.fn.self.variables k) (point (o l.fn.host) (t l.fn.host) l.fn.self.used) (rules.branches b (pair_texts (drop l.condition-index l.branches)) other l.self.variables k) (point (o l.host) (t l.host) l.self.used);
       only_grows : OnlyGrows l.fn.self l.self;
     }
 
@@ -114,47 +119,47 @@ abbrev pub invariant-commands-loop-command : goal.invariant-commands-loop-comman
 invariant-commands-loop-command g l =
     let o = g.H.Host.oracle in
     let t = g.H.Host.trace in
-    let b = bounds l.limits.value_bytes l.remaining in
-    let view = map (command_view (range_text l.source)) in
+    let b = bounds_of l.bounds in
+    let view = map (command_view (range_text l.script.source.now)) in
     record {
-      evaluates_to : EvaluatesToText l.needs_result l.limits.value_bytes (Ok l.last) (λ u. Simulates l.limits.commands (rule l.limits.value_bytes) (rules.commands b (script_view (range_text l.source) l.script) [] l.fn.self.variables) (point (o l.fn.host) (t l.fn.host) l.fn.self.used) (rules.commands b (commands_of (view (drop l.command-index (out-Script ByteRange l.script).commands.items))) u l.self.variables) (point (o l.host) (t l.host) l.self.used));
+      evaluates_to : EvaluatesToText l.result_use l.bounds.limits.value_bytes (Ok l.last) (λ u. Simulates l.bounds.limits.commands (rule l.bounds.limits.value_bytes) (rules.commands b (script_view (range_text l.script.source.now) l.script.tree.now) [] l.fn.self.variables) (point (o l.fn.host) (t l.fn.host) l.fn.self.used) (rules.commands b (commands_of (view (drop l.command-index (out-Script ByteRange l.script.tree.now).commands.items))) u l.self.variables) (point (o l.host) (t l.host) l.self.used));
       only_grows : OnlyGrows l.fn.self l.self;
     }
 
-abbrev pub invariant-for_turns-loop-between : goal.invariant-for_turns-loop-between
-invariant-for_turns-loop-between g l =
+abbrev pub invariant-for_turns-loop-next : goal.invariant-for_turns-loop-next
+invariant-for_turns-loop-next g l =
     let o = g.H.Host.oracle in
     let t = g.H.Host.trace in
     record {
-      evaluates_to : (k : Next) → Simulates l.limits.commands (rule l.limits.value_bytes) (Runs (plans.For l.remaining l.condition l.next l.body l.fn.self.variables) (on_normal k)) (point (o l.fn.host) (t l.fn.host) l.fn.self.used) (Runs (plans.For l.remaining l.condition l.next l.body l.self.variables) (on_normal k)) (point (o l.host) (t l.host) l.self.used);
-      parsed : IsScriptTree l.body l.parsed;
-      between : IsScriptTree l.next l.between;
+      evaluates_to : (k : Next) → Simulates l.bounds.limits.commands (rule l.bounds.limits.value_bytes) (Runs (plans.For l.bounds.remaining l.parts.condition.now l.parts.next.now l.parts.body.now l.fn.self.variables) (on_normal k)) (point (o l.fn.host) (t l.fn.host) l.fn.self.used) (Runs (plans.For l.bounds.remaining l.parts.condition.now l.parts.next.now l.parts.body.now l.self.variables) (on_normal k)) (point (o l.host) (t l.host) l.self.used);
+      body : (l.body.text.now ≡ l.parts.body.now) × HasItsTree l.body;
+      next : (l.next.text.now ≡ l.parts.next.now) × HasItsTree l.next;
       only_grows : OnlyGrows l.fn.self l.self;
     }
 
-abbrev pub decreases-for_turns-loop-between : goal.decreases-for_turns-loop-between
-decreases-for_turns-loop-between g l = l.limits.commands - l.self.used
+abbrev pub decreases-for_turns-loop-next : goal.decreases-for_turns-loop-next
+decreases-for_turns-loop-next g l = l.bounds.limits.commands - l.self.used
 
-abbrev pub invariant-while_turns-loop-parsed : goal.invariant-while_turns-loop-parsed
-invariant-while_turns-loop-parsed g l =
+abbrev pub invariant-while_turns-loop-body : goal.invariant-while_turns-loop-body
+invariant-while_turns-loop-body g l =
     let o = g.H.Host.oracle in
     let t = g.H.Host.trace in
     record {
-      evaluates_to : (k : Next) → Simulates l.limits.commands (rule l.limits.value_bytes) (Runs (plans.While l.remaining l.condition l.body l.fn.self.variables) (on_normal k)) (point (o l.fn.host) (t l.fn.host) l.fn.self.used) (Runs (plans.While l.remaining l.condition l.body l.self.variables) (on_normal k)) (point (o l.host) (t l.host) l.self.used);
-      parsed : IsScriptTree l.body l.parsed;
+      evaluates_to : (k : Next) → Simulates l.bounds.limits.commands (rule l.bounds.limits.value_bytes) (Runs (plans.While l.bounds.remaining l.parts.condition.now l.parts.body.now l.fn.self.variables) (on_normal k)) (point (o l.fn.host) (t l.fn.host) l.fn.self.used) (Runs (plans.While l.bounds.remaining l.parts.condition.now l.parts.body.now l.self.variables) (on_normal k)) (point (o l.host) (t l.host) l.self.used);
+      body : (l.body.text.now ≡ l.parts.body.now) × HasItsTree l.body;
       only_grows : OnlyGrows l.fn.self l.self;
     }
 
-abbrev pub decreases-while_turns-loop-parsed : goal.decreases-while_turns-loop-parsed
-decreases-while_turns-loop-parsed g l = l.limits.commands - l.self.used
+abbrev pub decreases-while_turns-loop-body : goal.decreases-while_turns-loop-body
+decreases-while_turns-loop-body g l = l.bounds.limits.commands - l.self.used
 
 abbrev pub invariant-value-loop-stack : goal.invariant-value-loop-stack
 invariant-value-loop-stack g l =
     let o = g.H.Host.oracle in
     let t = g.H.Host.trace in
-    let b = bounds l.limits.value_bytes l.remaining in
+    let b = bounds_of l.bounds in
     record {
-      evaluates_to : (k : Next) → Simulates l.limits.commands (rule l.limits.value_bytes) (control_plan l.source b l.fn.start l.fn.self.variables k) (point (o l.fn.host) (t l.fn.host) l.fn.self.used) (control_plan l.source b l.control l.self.variables (stack_continuation l.source b (reverse l.stack.items) k)) (point (o l.host) (t l.host) l.self.used);
+      evaluates_to : (k : Next) → Simulates l.bounds.limits.commands (rule l.bounds.limits.value_bytes) (control_plan l.source b l.fn.start l.fn.self.variables k) (point (o l.fn.host) (t l.fn.host) l.fn.self.used) (control_plan l.source b l.control l.self.variables (stack_continuation l.source b (reverse l.stack.items) k)) (point (o l.host) (t l.host) l.self.used);
       only_grows : OnlyGrows l.fn.self l.self;
     }
 
@@ -165,22 +170,22 @@ abbrev pub invariant-words-loop-word : goal.invariant-words-loop-word
 invariant-words-loop-word g l =
     let o = g.H.Host.oracle in
     let t = g.H.Host.trace in
-    let b = bounds l.limits.value_bytes l.remaining in
-    let view = map (word_view (range_text l.source)) in
+    let b = bounds_of l.bounds in
+    let view = map (word_view (range_text l.words.source.now)) in
     record {
-      evaluates_to : (k : List Text → State → plans.Step) → Simulates l.limits.commands (rule l.limits.value_bytes) (pieces.words b (words_of (view l.words)) [] l.fn.self.variables k) (point (o l.fn.host) (t l.fn.host) l.fn.self.used) (pieces.words b (words_of (view (drop l.word-index l.words))) (map string_bytes l.texts.items) l.self.variables k) (point (o l.host) (t l.host) l.self.used);
+      evaluates_to : (k : List Text → State → plans.Step) → Simulates l.bounds.limits.commands (rule l.bounds.limits.value_bytes) (pieces.words b (words_of (view l.words.tree.now)) [] l.fn.self.variables k) (point (o l.fn.host) (t l.fn.host) l.fn.self.used) (pieces.words b (words_of (view (drop l.word-index l.words.tree.now))) (map string_bytes l.texts.items) l.self.variables k) (point (o l.host) (t l.host) l.self.used);
       only_grows : OnlyGrows l.fn.self l.self;
     }
 
-abbrev pub invariant-foreach_turns-loop-limits : goal.invariant-foreach_turns-loop-limits
-invariant-foreach_turns-loop-limits g l =
+abbrev pub invariant-foreach_turns-loop-bounds : goal.invariant-foreach_turns-loop-bounds
+invariant-foreach_turns-loop-bounds g l =
     let o = g.H.Host.oracle in
     let t = g.H.Host.trace in
     record {
-      evaluates_to : (k : Next) → Simulates l.limits.commands (rule l.limits.value_bytes) (Runs (plans.Foreach l.remaining l.fn.loops l.body l.fn.self.variables) (on_normal k)) (point (o l.fn.host) (t l.fn.host) l.fn.self.used) (Runs (plans.Foreach l.remaining l.loops l.body l.self.variables) (on_normal k)) (point (o l.host) (t l.host) l.self.used);
-      parsed : IsScriptTree l.body l.parsed;
+      evaluates_to : (k : Next) → Simulates l.bounds.limits.commands (rule l.bounds.limits.value_bytes) (Runs (plans.Foreach l.bounds.remaining l.fn.loops l.fn.body l.fn.self.variables) (on_normal k)) (point (o l.fn.host) (t l.fn.host) l.fn.self.used) (Runs (plans.Foreach l.bounds.remaining l.loops l.fn.body l.self.variables) (on_normal k)) (point (o l.host) (t l.host) l.self.used);
+      script : (l.script.text.now ≡ l.fn.body) × HasItsTree l.script;
       only_grows : OnlyGrows l.fn.self l.self;
     }
 
-abbrev pub decreases-foreach_turns-loop-limits : goal.decreases-foreach_turns-loop-limits
-decreases-foreach_turns-loop-limits g l = l.limits.commands - l.self.used
+abbrev pub decreases-foreach_turns-loop-bounds : goal.decreases-foreach_turns-loop-bounds
+decreases-foreach_turns-loop-bounds g l = l.bounds.limits.commands - l.self.used
