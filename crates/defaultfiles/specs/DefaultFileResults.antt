@@ -63,7 +63,7 @@ result_of (Ended (Continued s)) trace = None
 result_of (Halted halt) trace = None
 
 -- The text of a default file at a path has this result under these limits.
-abbrev pub Leaves : Limits → Text → Text → Option DefaultFileResult → Type 0
-Leaves limits path text file_result =
+abbrev pub HasResult : Limits → Text → Text → Option DefaultFileResult → Type 0
+HasResult limits path text file_result =
     (o : Outcome Completion) × (w : World) × EvaluatesTo (default_setting limits path text) o w ×
     (file_result ≡ result_of o w.trace)

@@ -55,10 +55,10 @@ fn is_out_of_memory(fault: &EvalFault) -> bool
 }
 
 impl DefaultFiles for Evaluated {
-    ghost use Rattle.defaultfiles.specs.DefaultFileResults.{Leaves};
+    ghost use Rattle.defaultfiles.specs.DefaultFileResults.{HasResult};
     ghost use Rattle.defaultfiles.specs.OneResult.{one_result};
 
-    ghost results = { λ e. Leaves e.limits };
+    ghost results = { λ e. HasResult e.limits };
 
     ghost one = { λ e. one_result e.limits };
 

@@ -3,17 +3,17 @@ ghost use Rattle.std.specs.Prelude.{◌≡◌, Option};
 ghost use Rattle.modulename.specs.ModuleName.{Text};
 ghost use Rattle.tclrules.specs.declared.limits.Limits.{Limits};
 ghost use Rattle.search.specs.DefaultFiles.{DefaultFileResult};
-ghost use Rattle.defaultfiles.specs.DefaultFileResults.{Leaves};
+ghost use Rattle.defaultfiles.specs.DefaultFileResults.{HasResult};
 
 /// A default file has one result at most.
 pub fn one_result()
     ensures { (limits : Limits) (path text : Text) (o p : Option DefaultFileResult)
-        → Leaves limits path text o → Leaves limits path text p → o ≡ p }
+        → HasResult limits path text o → HasResult limits path text p → o ≡ p }
 {}
 
 /// Each default file has a result, which is none where it has a fault.
 pub fn some_result()
-    ensures { (limits : Limits) (path text : Text) → (o : Option DefaultFileResult) × Leaves limits path text o }
+    ensures { (limits : Limits) (path text : Text) → (o : Option DefaultFileResult) × HasResult limits path text o }
 {
     tclrules::some_outcome();
 }

@@ -1,12 +1,12 @@
 //! All modules along MODULEPATH, in one list with their directories (module(1), avail).
-ghost use Rattle.std.specs.Prelude.{◌≡◌, ◌<◌, ◌≤◌, ◌++◌, map, IfOk, IfErr, OnOk};
-ghost use Rattle.filetree.specs.Agreement.{FailsAt, Narrows, InEachPair};
+ghost use Rattle.std.specs.Prelude.{◌≡◌, ◌<◌, ◌++◌, map, IfOk, IfErr, OnOk};
+ghost use Rattle.filetree.specs.Agreement.{FailsWhere, InEachPair, ReadsOn};
 ghost use Rattle.filetree.specs.Causes.{Applies};
 ghost use Rattle.search.specs.Looked.{ListingLooksAt};
 ghost use Rattle.search.specs.Answers.{cause_of, is_failure};
 ghost use Rattle.search.specs.Listings.{listing_view};
 ghost use Rattle.search.specs.ListingEntries.{listing_entry_view};
-ghost use Rattle.defaultfiles.specs.DefaultFileResults.{Leaves};
+ghost use Rattle.defaultfiles.specs.DefaultFileResults.{HasResult};
 ghost use Rattle.lookup.specs.Lines.{line_of, lines_of, Available};
 ghost use Rattle.lookup.specs.LineViews.{line_view};
 
@@ -37,14 +37,12 @@ fn push_modules(
     ensures { OnOk result (map line_view listings.new.items
         ≡ map line_view listings.old.items ++ map (line_of dir.now) (map listing_entry_view modules.now)) }
 {
-    let mut rest = modules;
-    while let [module, after @ ..] = rest {
+    for module in modules {
         listings.push(Listing {
             dir: String::from_str(alloc, dir)?,
             name: String::from_str(alloc, &module.name)?,
             is_default: module.is_default,
         })?;
-        rest = after;
     }
     Ok(())
 }
@@ -55,10 +53,8 @@ fn joined(alloc: Global, directories: &[search::Listing]) -> Result<Vec<Listing>
         map line_view listings.items ≡ lines_of (map listing_view directories.now)) }
 {
     let mut listings = Vec::new(alloc);
-    let mut rest = directories;
-    while let [directory, after @ ..] = rest {
+    for directory in directories {
         push_modules(alloc, &mut listings, &directory.dir, &directory.modules)?;
-        rest = after;
     }
     Ok(listings)
 }
@@ -76,15 +72,13 @@ pub fn available<T: Tree>(
     modulepath: &str,
     limits: Limits,
 ) -> Result<Vec<Listing>, FindFault>
-    ensures before { Narrows (T.agrees tree.old) (T.agrees tree.new) }
-    ensures later { T.failures tree.old ≤ T.failures tree.new }
+    ensures reads { ReadsOn T.agrees T.failures tree.old tree.new }
     ensures listed { IfOk result (λ listings. InEachPair (T.agrees tree.new) (λ files folders.
-        Available (Leaves limits) files folders modulepath.now (map line_view listings.items))) }
+        Available (HasResult limits) files folders modulepath.now (map line_view listings.items))) }
     ensures fault { IfErr result (λ e.
         Applies (cause_of e) (T.failures tree.old < T.failures tree.new) (λ reason. ⊥)) }
-    ensures failed { FailsAt is_failure (T.failed tree.old) (T.failed tree.new) result (λ at.
-        InEachPair (T.agrees tree.new) (λ files folders.
-        ListingLooksAt (Leaves limits) files folders modulepath.now at)) }
+    ensures failed { FailsWhere is_failure T.agrees T.failed tree.old tree.new result (λ files folders.
+        ListingLooksAt (HasResult limits) files folders modulepath.now) }
 {
     let default_files = Evaluated { limits };
     let directories = search::available(alloc, tree, &default_files, modulepath)?;

@@ -1,10 +1,10 @@
 //! The search for the module that a name means, with the path of its file (module(1)).
-ghost use Rattle.std.specs.Prelude.{◌≡◌, ◌<◌, ◌≤◌, false};
+ghost use Rattle.std.specs.Prelude.{◌≡◌, ◌<◌, false};
 ghost use Rattle.modulename.specs.ModuleName.{is_module_name};
-ghost use Rattle.filetree.specs.Agreement.{FailsAt, Narrows, InEachPair};
+ghost use Rattle.filetree.specs.Agreement.{FailsWhere, ReadsOn};
 ghost use Rattle.search.specs.Looked.{LooksAt};
-ghost use Rattle.search.specs.Answers.{AnswersOverTree, is_failure};
-ghost use Rattle.defaultfiles.specs.DefaultFileResults.{Leaves};
+ghost use Rattle.search.specs.Answers.{FindAnswersOverTree, is_failure};
+ghost use Rattle.defaultfiles.specs.DefaultFileResults.{HasResult};
 ghost use Rattle.lookup.specs.Located.{Located};
 ghost use Rattle.lookup.specs.LocatedViews.{located_module_view};
 
@@ -38,14 +38,12 @@ pub fn locate<T: Tree>(
     name: &str,
     limits: Limits,
 ) -> Result<Found, FindFault>
-    ensures before { Narrows (T.agrees tree.old) (T.agrees tree.new) }
-    ensures later { T.failures tree.old ≤ T.failures tree.new }
-    ensures over_tree { AnswersOverTree (T.agrees tree.new)
+    ensures reads { ReadsOn T.agrees T.failures tree.old tree.new }
+    ensures over_tree { FindAnswersOverTree (T.agrees tree.new)
         (T.failures tree.old < T.failures tree.new) located_module_view result
-        (λ files folders. Located (Leaves limits) files folders modulepath.now name.now) }
-    ensures failed { FailsAt is_failure (T.failed tree.old) (T.failed tree.new) result (λ at.
-        InEachPair (T.agrees tree.new) (λ files folders.
-        LooksAt (Leaves limits) files folders modulepath.now name.now at)) }
+        (λ files folders. Located (HasResult limits) files folders modulepath.now name.now) }
+    ensures failed { FailsWhere is_failure T.agrees T.failed tree.old tree.new result (λ files folders.
+        LooksAt (HasResult limits) files folders modulepath.now name.now) }
     ensures unread { is_module_name name.now ≡ false → tree.new ≡ tree.old }
 {
     let default_files = Evaluated { limits };

@@ -1,13 +1,10 @@
-use Rattle.std.proofs.Common.{◌≡◌, ◌++◌, length, map}
+use Rattle.std.proofs.Common.{◌≡◌, ◌++◌, drop, map}
 use Rattle.search.specs.Listings.{listing_view}
 use Rattle.lookup.specs.Lines.{lines_of}
 use Rattle.lookup.specs.LineViews.{line_view}
 use Rattle.lookup.proofs.listings.joined.Given as goal
 
-abbrev pub invariant-loop-rest : goal.invariant-loop-rest
-invariant-loop-rest l =
+abbrev pub invariant-loop-directory : goal.invariant-loop-directory
+invariant-loop-directory l =
     lines_of (map listing_view l.directories)
-    ≡ map line_view l.listings.items ++ lines_of (map listing_view l.rest)
-
-abbrev pub decreases-loop-rest : goal.decreases-loop-rest
-decreases-loop-rest l = length l.rest
+    ≡ map line_view l.listings.items ++ lines_of (map listing_view (drop l.directory-index l.directories))

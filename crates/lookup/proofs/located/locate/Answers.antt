@@ -1,6 +1,6 @@
 use Rattle.std.proofs.Common.{◌<◌, Ok, Err, refl}
 use Rattle.std.proofs.lemmas.Result.{err_from_is_err_and}
-use Rattle.defaultfiles.specs.DefaultFileResults.{Leaves}
+use Rattle.defaultfiles.specs.DefaultFileResults.{HasResult}
 use Rattle.search.specs.Found.{Found}
 use Rattle.search.specs.Answers.{found_view}
 use Rattle.search.proofs.StepLemmas.{over_tree_fault}
@@ -10,7 +10,7 @@ use Rattle.lookup.proofs.located.locate.Goals as goal
 
 pub returns-in_err-module-clause-over_tree : goal.returns-in_err-module-clause-over_tree
 returns-in_err-module-clause-over_tree g c =
-    let results = Leaves c.args.limits in
+    let results = HasResult c.args.limits in
     let modulepath = c.args.modulepath.now in
     let name = c.args.name.now in
     let rose = g.T.Tree.failures c.args.tree.now < g.T.Tree.failures c.locate.new.tree in
