@@ -15,13 +15,20 @@ use Rattle.tclrules.specs.declared.outcome.EvalFault.{EvalFault}
 use Rattle.tclrules.specs.declared.outcome.EvalFault.TheVariants as fault
 use Rattle.tclrules.proofs.Outcomes.{unstarved}
 use Rattle.tcleval.specs.Files.{failure_outcome, after_file, AnswersFile}
-use Rattle.tcleval.specs.declared.file.FileFailure.{FileFailure}
-use Rattle.tcleval.specs.declared.file.FileFailure.TheVariants as failures
 
 -- a file that is cut has its outcome
-cut_ends : (failure : FileFailure) (s : State) → after_file (Err failure) s ≡ Ends (failure_outcome failure s)
-cut_ends (failures.Raised m) s = refl
-cut_ends (failures.Halted h) s = refl
+cut_ends : (f : EvalFault) (s : State) → after_file (Err f) s ≡ Ends (failure_outcome f s)
+cut_ends fault.OutOfMemory s = refl
+cut_ends (fault.Text t) s = refl
+cut_ends (fault.TclError m n) s = refl
+cut_ends fault.TooManyCommands s = refl
+cut_ends fault.TooDeep s = refl
+cut_ends fault.ValueTooLong s = refl
+cut_ends fault.NumberTooLarge s = refl
+cut_ends fault.FractionOperand s = refl
+cut_ends (fault.LeftOut name) s = refl
+cut_ends fault.Stopped s = refl
+cut_ends (fault.Host n) s = refl
 
 -- a fault that isn't want of memory reports an outcome that memory has no part in
 fed : {J : Type 0} {oracle : Oracle} {most : ℕ} {r : J → Plan J plans.Completion} {p : Plan J plans.Completion} {w w' : World} {o : Outcome plans.Completion} (script : Text) (f : EvalFault) → ReportsFault script f o → Eval true oracle most r p w o w' → Eval (is_out_of_memory f) oracle most r p w o w'
@@ -37,7 +44,7 @@ fed script (fault.LeftOut name) h d = unstarved d (λ e. cc)
 fed script fault.Stopped h d = unstarved d (λ e. cc)
 fed script (fault.Host n) h d = unstarved d (λ e. cc)
 
-pub evaluated : (l : Limits) (script : Text) (globals : Variables) (oracle oracle' : Oracle) (trace trace' : Trace) (s : State) (used : ℕ) (res : Result (String Global) FileFailure) (result : Result Ending EvalFault) → Simulates l.commands (rule l.value_bytes) (plan_of l script oracle.reserved globals) (point oracle trace 0) (after_file res s) (point oracle' trace' used) → AnswersFile script s used res result → Evaluates l script globals oracle trace result trace'
+pub evaluated : (l : Limits) (script : Text) (globals : Variables) (oracle oracle' : Oracle) (trace trace' : Trace) (s : State) (used : ℕ) (res : Result (String Global) EvalFault) (result : Result Ending EvalFault) → Simulates l.commands (rule l.value_bytes) (plan_of l script oracle.reserved globals) (point oracle trace 0) (after_file res s) (point oracle' trace' used) → AnswersFile script s used res result → Evaluates l script globals oracle trace result trace'
 evaluated l script globals oracle oracle' trace trace' s used (Ok t) (Ok end) led a = (s, rw (a.0, a.1) (unstarved (led.by _ _ ends) (λ q. cc)), a.2)
 evaluated l script globals oracle oracle' trace trace' s used (Ok t) (Err f) led a = rw a (Halted OutOfMemory, used, refl, led.by (Halted OutOfMemory) (record { used = used; trace = trace' }) (lacks_memory false refl))
 evaluated l script globals oracle oracle' trace trace' s used (Err failure) (Ok end) led a = absurd a

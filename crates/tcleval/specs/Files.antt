@@ -11,28 +11,24 @@ use Rattle.tclrules.specs.Promise.{ReportsFault, texts_of}
 use Rattle.tclrules.specs.declared.outcome.Ending.{Ending}
 use Rattle.tclrules.specs.declared.outcome.EvalFault.{EvalFault}
 use Rattle.tclrules.specs.declared.outcome.EvalFault.TheVariants as fault
-use Rattle.tclsubstitution.specs.Stops.{halt_of}
-use Rattle.tcleval.specs.declared.file.FileFailure.{FileFailure}
-use Rattle.tcleval.specs.declared.file.FileFailure.TheVariants as failures
+use Rattle.tclsubstitution.specs.Stops.{error_or_halt}
 
 -- the outcome of a file that fails in this state
-abbrev pub failure_outcome : FileFailure → State → Outcome plans.Completion
-failure_outcome (failures.Raised m) s = Ended (Raised (string_bytes m) s)
-failure_outcome (failures.Halted h) s = Halted (halt_of h)
+abbrev pub failure_outcome : EvalFault → State → Outcome plans.Completion
+failure_outcome f s = error_or_halt (λ m. Ended (Raised m s)) Halted f
 
 -- the plan of the rules at the end of a file
-abbrev pub after_file : Result (String Global) FileFailure → State → Step
+abbrev pub after_file : Result (String Global) EvalFault → State → Step
 after_file (Ok t) s = ended (Normal (string_bytes t) s)
-after_file (Err (failures.Raised m)) s = raise (string_bytes m) s
-after_file (Err (failures.Halted h)) s = halt (halt_of h)
+after_file (Err f) s = error_or_halt (λ m. raise m s) halt f
 
 -- a fault reports the failure of a file whose current command begins at this byte offset
-abbrev pub ReportsFailure : Text → ℕ → FileFailure → EvalFault → Type 0
+abbrev pub ReportsFailure : Text → ℕ → EvalFault → EvalFault → Type 0
 ReportsFailure script offset failure f = (s : State) → s.offset ≡ offset → ReportsFault script f
     (failure_outcome failure s)
 
 -- the answer for a file that ended with these variables and this count of commands
-abbrev pub AnswersFile : Text → State → ℕ → Result (String Global) FileFailure → Result Ending EvalFault → Type 0
+abbrev pub AnswersFile : Text → State → ℕ → Result (String Global) EvalFault → Result Ending EvalFault → Type 0
 AnswersFile script s used (Ok t) (Ok end) =
     (string_bytes end.result ≡ string_bytes t) × (end.used_commands ≡ used)
     × (s.globals ≡ texts_of end.globals.items)

@@ -1,18 +1,15 @@
 //! A text evaluated as a file, and the fault of a file with its line.
 ghost use Rattle.std.specs.Prelude.{◌≡◌, ◌≤◌, ◌==◌, length, [], take, count_by, min, IfOk, string_bytes};
-ghost use Rattle.tclchars.specs.Runs.{Text};
-ghost use Rattle.tclrules.specs.Derivation.{Halted};
 ghost use Rattle.tclscript.specs.View.{script_view};
-ghost use Rattle.tclrules.specs.Simulates.{Simulates, point};
 ghost use Rattle.tclrules.specs.Variables.{State};
 ghost use Rattle.tclrules.specs.Plans as plans;
 ghost use Rattle.tclrules.specs.Rules as rules;
 ghost use Rattle.tclrules.specs.Rules.{rule, file_ended};
 ghost use Rattle.tclrules.specs.Meaning.{line_at};
-ghost use Rattle.tclrules.specs.Promise.{Evaluates, ReportsFault, texts_of};
-ghost use Rattle.tclsubstitution.specs.Machine.{range_text, bounds};
-ghost use Rattle.tclsubstitution.specs.Stops.{after, halt_of};
+ghost use Rattle.tclrules.specs.Promise.{Evaluates, texts_of};
+ghost use Rattle.tclsubstitution.specs.Machine.{range_text};
 ghost use Rattle.tclcache.specs.Cache.{BeginWith};
+ghost use Rattle.tclevaluator.specs.EvaluatesTo.{EvaluatesTo, bounds_of};
 ghost use Rattle.tclevaluator.specs.OnlyGrows.{OnlyGrows};
 ghost use Rattle.tclcontrol.specs.Completions.{finish, completed};
 ghost use Rattle.tcleval.specs.Files.{after_file, ReportsFailure, AnswersFile};
@@ -21,10 +18,11 @@ use std::alloc::Global;
 use std::mem;
 use tclcache::Cache;
 use tclcommands::initial_variables;
-use tclevaluator::Evaluator;
+use tclcontrol::ResultUse;
+use tclevaluator::{Bounds, Evaluator, Sourced};
 use tclrules::{Ending, EvalFault, Host, Limits};
 use tclscript::{ByteRange, Script};
-use tclsubstitution::{Halt, Stop};
+use tclsubstitution::Stop;
 use tclvariables::Variables;
 
 /// Evaluates the commands of a file in turn. The byte offset of the current one is noted, for the line of an error.
@@ -32,23 +30,23 @@ use tclvariables::Variables;
 fn file_commands<H: Host>(
     evaluator: &mut Evaluator,
     host: &mut H,
-    limits: Limits,
-    remaining: u32,
-    source: &str,
-    script: &Script<ByteRange>,
+    bounds: Bounds,
+    file: Sourced<'_, &Script<ByteRange>>,
 ) -> Result<String, Stop>
-    ensures evaluates_to { Simulates limits.commands (rule limits.value_bytes)
-        (rules.file_commands (bounds limits.value_bytes remaining) (script_view (range_text source.now) script.now) []
+    ensures evaluates_to { EvaluatesTo H.oracle H.trace bounds
+        (rules.file_commands (bounds_of bounds) (script_view (range_text file.entry.source.now) file.entry.tree.now) []
         evaluator.old.variables)
-        (point (H.oracle host.old) (H.trace host.old) evaluator.old.used)
-        (after result (λ t s. finish (string_bytes t) s) evaluator.new.variables)
-        (point (H.oracle host.new) (H.trace host.new) evaluator.new.used) }
+        (host.old, evaluator.old) result (λ t s. finish (string_bytes t) s) (host.new, evaluator.new) }
     ensures only_grows { OnlyGrows evaluator.old evaluator.new }
 {
     let mut last = String::new(evaluator.alloc);
-    for command in &script.commands {
+    for command in &file.tree.commands {
         evaluator.variables.set_offset(command.offset);
-        last = evaluator.command(host, limits, remaining, source, command, true)?;
+        let command = Sourced {
+            source: file.source,
+            tree: command,
+        };
+        last = evaluator.command(host, bounds, command, ResultUse::Needed)?;
     }
     Ok(last)
 }
@@ -58,49 +56,37 @@ fn file_commands<H: Host>(
 fn run_file<H: Host>(
     evaluator: &mut Evaluator,
     host: &mut H,
-    limits: Limits,
-    remaining: u32,
+    bounds: Bounds,
     text: &str,
 ) -> Result<String, Stop>
-    ensures evaluates_to { Simulates limits.commands (rule limits.value_bytes)
-        (rule limits.value_bytes (plans.File remaining text.now evaluator.old.variables))
-        (point (H.oracle host.old) (H.trace host.old) evaluator.old.used)
-        (after result (λ t s. finish (string_bytes t) s) evaluator.new.variables)
-        (point (H.oracle host.new) (H.trace host.new) evaluator.new.used) }
+    ensures evaluates_to { EvaluatesTo H.oracle H.trace bounds
+        (rule bounds.limits.value_bytes (plans.File bounds.remaining text.now evaluator.old.variables))
+        (host.old, evaluator.old) result (λ t s. finish (string_bytes t) s) (host.new, evaluator.new) }
     ensures only_grows { OnlyGrows evaluator.old evaluator.new }
 {
-    if remaining == 0 {
-        return Err(Stop::Halted(Halt::TooDeep));
-    }
+    let inside = bounds.inside()?;
     match evaluator.cache.script_tree(text) {
         Ok(tree) => {
-            let source = tree.text.as_str();
-            file_commands(evaluator, host, limits, remaining - 1, source, &tree.script)
+            let file = Sourced {
+                source: tree.text.as_str(),
+                tree: &tree.script,
+            };
+            file_commands(evaluator, host, inside, file)
         }
-        Err(fault) => Err(Stop::from_text_fault(fault)),
+        Err(fault) => Err(Stop::from(fault)),
     }
-}
-
-/// Why a file failed.
-#[derive(Drop)]
-enum FileFailure {
-    /// An error, with its message.
-    Raised(String),
-    /// A halt, which no catch(n) sees.
-    Halted(Halt),
 }
 
 /// The result of a file, by the completion of its commands: `return` and `continue` end it, `break` halts it.
-fn file_completion(alloc: Global, outcome: Result<String, Stop>) -> Result<String, FileFailure>
+fn file_completion(alloc: Global, outcome: Result<String, Stop>) -> Result<String, EvalFault>
     ensures { (s : State) → completed outcome file_ended s ≡ after_file result s }
 {
     match outcome {
         Ok(result) => Ok(result),
         Err(Stop::Returned(result)) => Ok(result),
         Err(Stop::Continued) => Ok(String::new(alloc)),
-        Err(Stop::Broken) => Err(FileFailure::Halted(Halt::Stopped)),
-        Err(Stop::Raised(message)) => Err(FileFailure::Raised(message)),
-        Err(Stop::Halted(halt)) => Err(FileFailure::Halted(halt)),
+        Err(Stop::Broken) => Err(EvalFault::Stopped),
+        Err(Stop::Fault(fault)) => Err(fault),
     }
 }
 
@@ -130,31 +116,13 @@ fn line_at(script: &str, offset: usize) -> usize
     1 + newlines(prefix(script.as_bytes(), offset))
 }
 
-/// The fault that an evaluation answers for a halt.
-fn fault_of_halt(halt: Halt) -> EvalFault
-    ensures { (script : Text) → ReportsFault script result (Halted (halt_of halt)) }
+/// The fault of a file that failed in the command at this byte offset: an error gets the line.
+fn with_line(script: &str, offset: usize, fault: EvalFault) -> EvalFault
+    ensures { ReportsFailure script.now offset fault result }
 {
-    match halt {
-        Halt::OutOfMemory => EvalFault::OutOfMemory,
-        Halt::Text(fault) => EvalFault::Text(fault),
-        Halt::TooManyCommands => EvalFault::TooManyCommands,
-        Halt::TooDeep => EvalFault::TooDeep,
-        Halt::ValueTooLong => EvalFault::ValueTooLong,
-        Halt::NumberTooLarge => EvalFault::NumberTooLarge,
-        Halt::FractionOperand => EvalFault::FractionOperand,
-        Halt::LeftOut(name) => EvalFault::LeftOut(name),
-        Halt::Stopped => EvalFault::Stopped,
-        Halt::Host(number) => EvalFault::Host(number),
-    }
-}
-
-/// The fault of a file that failed in the command at this byte offset.
-fn fault_of(script: &str, offset: usize, failure: FileFailure) -> EvalFault
-    ensures { ReportsFailure script.now offset failure result }
-{
-    match failure {
-        FileFailure::Raised(message) => EvalFault::TclError(message, line_at(script, offset)),
-        FileFailure::Halted(halt) => fault_of_halt(halt),
+    match fault {
+        EvalFault::TclError(message, _) => EvalFault::TclError(message, line_at(script, offset)),
+        fault => fault,
     }
 }
 
@@ -171,7 +139,7 @@ fn file_answer(
     variables: Variables,
     used_commands: u64,
     script: &str,
-    outcome: Result<String, FileFailure>,
+    outcome: Result<String, EvalFault>,
 ) -> Result<Ending, EvalFault>
     ensures { AnswersFile script.now variables used_commands outcome result }
 {
@@ -184,7 +152,7 @@ fn file_answer(
                 used_commands,
             })
         }
-        Err(failure) => Err(fault_of(script, variables.offset(), failure)),
+        Err(fault) => Err(with_line(script, variables.offset(), fault)),
     }
 }
 
@@ -219,7 +187,11 @@ pub fn evaluate_with<H: Host>(
         variables,
         used: 0,
     };
-    let outcome = run_file(&mut evaluator, host, limits, depth_limit(limits), script);
+    let bounds = Bounds {
+        limits,
+        remaining: depth_limit(limits),
+    };
+    let outcome = run_file(&mut evaluator, host, bounds, script);
     let Evaluator {
         alloc: _,
         cache: trees,

@@ -6,7 +6,8 @@ use Rattle.tclscript.specs.declared.piece.ByteRange.{ByteRange}
 use Rattle.tclrules.specs.Simulates.{Simulates, point}
 use Rattle.tclrules.specs.Rules as rules
 use Rattle.tclrules.specs.Rules.{rule}
-use Rattle.tclsubstitution.specs.Machine.{range_text, bounds}
+use Rattle.tclsubstitution.specs.Machine.{range_text}
+use Rattle.tclevaluator.specs.EvaluatesTo.{bounds_of}
 use Rattle.tclevaluator.specs.OnlyGrows.{OnlyGrows}
 use Rattle.tcleval.proofs.file.file_commands.Given as goal
 
@@ -14,9 +15,9 @@ abbrev pub invariant-loop-command : goal.invariant-loop-command
 invariant-loop-command g l =
     let o = g.H.Host.oracle in
     let t = g.H.Host.trace in
-    let b = bounds l.limits.value_bytes l.remaining in
-    let view = map (command_view (range_text l.source)) in
+    let b = bounds_of l.bounds in
+    let view = map (command_view (range_text l.file.source.now)) in
     record {
-      evaluates_to : Simulates l.limits.commands (rule l.limits.value_bytes) (rules.file_commands b (script_view (range_text l.source) l.script) [] l.fn.evaluator.variables) (point (o l.fn.host) (t l.fn.host) l.fn.evaluator.used) (rules.file_commands b (commands_of (view (drop l.command-index (out-Script ByteRange l.script).commands.items))) (string_bytes l.last) l.evaluator.variables) (point (o l.host) (t l.host) l.evaluator.used);
+      evaluates_to : Simulates l.bounds.limits.commands (rule l.bounds.limits.value_bytes) (rules.file_commands b (script_view (range_text l.file.source.now) l.file.tree.now) [] l.fn.evaluator.variables) (point (o l.fn.host) (t l.fn.host) l.fn.evaluator.used) (rules.file_commands b (commands_of (view (drop l.command-index (out-Script ByteRange l.file.tree.now).commands.items))) (string_bytes l.last) l.evaluator.variables) (point (o l.host) (t l.host) l.evaluator.used);
       only_grows : OnlyGrows l.fn.evaluator l.evaluator;
     }
