@@ -1,6 +1,5 @@
 -- Sessions grow by one request at their end.
-use Rattle.std.proofs.Common.{◌≡◌, ℕ, true, ◌+◌, ◌-◌, ◌≤◌, ◌<◌, List, [], ◌∷◌, ◌++◌, map, length, take, drop, get_or, refl, sym, subst, ap, ◌∙◌, Ok, Err, append_assoc, append-nil, arith}
-use Rattle.std.proofs.lemmas.List.{take_all}
+use Rattle.std.proofs.Common.{◌≡◌, ℕ, true, ◌+◌, ◌≤◌, ◌<◌, List, [], ◌∷◌, ◌++◌, map, refl, sym, subst, ap, ◌∙◌, Ok, Err, append_assoc, append-nil, arith}
 use Rattle.envvars.specs.Environment.{Environment}
 use Rattle.requests.specs.Laws.{SessionsReturn, StepsAreMade}
 use Rattle.requests.specs.Reasons.{RequestReason}
@@ -136,19 +135,10 @@ session_taken s start e new asked rs all sofar grown o os run is_response end mo
     let Q : List Response → Type 0 = λ x. Session s start all x in
     subst Q (sym (append_assoc sofar (o ∷ []) os) ∙ ap (λ x. x ++ os) (sym more)) (run (is_response, subst P end rest))
 
--- the first of the remaining requests
-pub split_first : {X Y : Type 0} (view : X → Y) (x : X) (rest : List X) → 1 ≤ length rest → x ≡ get_or rest 0 x → map view rest ≡ view x ∷ map view (take (length rest - 1) (drop 1 rest))
-split_first view x [] some is = absurd (omega arith)
-split_first view x (y ∷ ys) some is =
-    ap (λ z. view z ∷ map view ys) (sym is) ∙ ap (λ zs. view x ∷ map view zs) (sym (take_all (length (y ∷ ys) - 1) ys (omega arith)))
-
-no_more : (s : Site) (e : Environment) (rest : List code.Request) → length rest < 1 → Session s e (map request_view rest) []
-no_more s e [] none = tt
-no_more s e (r ∷ rs) none = absurd (omega arith)
-
 -- no request remains
-pub session_done : (s : Site) (start e : Environment) (rest : List code.Request) (all : List Request) (sofar : List Response) → length rest < 1
+pub session_done : (s : Site) (start e : Environment) (rest : List code.Request) (all : List Request) (sofar : List Response) → rest ≡ []
     → ((os : List Response) → Session s e (map request_view rest) os → Session s start all (sofar ++ os)) → Session s start all sofar
 session_done s start e rest all sofar none run =
-    let P : List Response → Type 0 = λ x. Session s start all x in
-    subst P (append-nil sofar) (run [] (no_more s e rest none))
+    let Whole : List Response → Type 0 = λ x. Session s start all x in
+    let Rest : List code.Request → Type 0 = λ rs. Session s e (map request_view rs) [] in
+    subst Whole (append-nil sofar) (run [] (subst Rest (sym none) tt))

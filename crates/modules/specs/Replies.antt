@@ -3,17 +3,10 @@ use Rattle.std.specs.Prelude.{string_bytes}
 use Rattle.envvars.specs.Environment.{Environment}
 use Rattle.envvars.specs.Texts.{texts_in}
 use Rattle.envvars.specs.Changes.{applied, new_values_in}
-use Rattle.filetree.specs.Agreement.{Files, Listings}
-use Rattle.shells.specs.declared.shell.Shell.{Shell}
-use Rattle.tclrules.specs.declared.limits.Limits.{Limits}
 use Rattle.requeststep.specs.MoveViews.{moves_of}
 use Rattle.modules.specs.declared.reply.Changed.{Changed}
 use Rattle.modules.specs.declared.reply.Reply.{Reply}
-use Rattle.requests.specs.Steps.{Site, Done}
-
--- what a request is run over
-abbrev pub site_in : Limits → Shell → Files → Listings → Site
-site_in limits shell files listings = record { files = files; listings = listings; limits = limits; shell = shell }
+use Rattle.requests.specs.Steps.{Done}
 
 -- the environment with these changes made in it
 abbrev pub changed_env : Environment → Changed → Environment

@@ -1,13 +1,13 @@
 //! Runs one request over an environment that doesn't change.
-ghost use Rattle.std.specs.Prelude.{◌<◌, ◌≤◌, IfOk, IfErr};
+ghost use Rattle.std.specs.Prelude.{◌<◌, IfOk, IfErr};
 ghost use Rattle.envvars.specs.Changes.{AreChanges, new_values_in};
-ghost use Rattle.filetree.specs.Agreement.{FailsAt, InEachPair, Narrows};
+ghost use Rattle.filetree.specs.Agreement.{FailsAt, InEachPair, ReadsOn};
 ghost use Rattle.requests.specs.RequestViews.{action_view};
-ghost use Rattle.requests.specs.Steps.{RequestStep};
+ghost use Rattle.requests.specs.Steps.{RequestStep, site_in};
 ghost use Rattle.requests.specs.Looked.{RequestLooksAt};
-ghost use Rattle.requeststep.specs.Answers.{AnswersOverTree, is_failure};
+ghost use Rattle.requeststep.specs.Answers.{StepAnswersOverTree, is_failure};
 ghost use Rattle.requeststep.specs.Messages.{MemoryNumberAmong, memory_numbers};
-ghost use Rattle.modules.specs.Replies.{changed_env, changed_view, reply_view, site_in};
+ghost use Rattle.modules.specs.Replies.{changed_env, changed_view, reply_view};
 
 use crate::reply::{Changed, Reply};
 use envvars::{Env, Vars, Working};
@@ -30,9 +30,8 @@ pub fn run_changes<T: Tree>(
     tree: &mut T,
     limits: Limits,
 ) -> Result<Changed, Refusal>
-    ensures before { Narrows (T.agrees tree.old) (T.agrees tree.new) }
-    ensures later { T.failures tree.old ≤ T.failures tree.new }
-    ensures answer { AnswersOverTree (T.agrees tree.new) (T.failures tree.old < T.failures tree.new)
+    ensures reads { ReadsOn T.agrees T.failures tree.old tree.new }
+    ensures over_tree { StepAnswersOverTree (T.agrees tree.new) (T.failures tree.old < T.failures tree.new)
         (changed_view env.now) result
         (λ files listings. RequestStep (site_in limits request.now.shell files listings) env.now
         (action_view request.now.action)) }
@@ -66,9 +65,9 @@ pub fn run<T: Tree>(
     tree: &mut T,
     limits: Limits,
 ) -> Result<Reply, Refusal>
-    ensures before { Narrows (T.agrees tree.old) (T.agrees tree.new) }
-    ensures later { T.failures tree.old ≤ T.failures tree.new }
-    ensures answer { AnswersOverTree (T.agrees tree.new) (T.failures tree.old < T.failures tree.new) reply_view result
+    ensures reads { ReadsOn T.agrees T.failures tree.old tree.new }
+    ensures over_tree { StepAnswersOverTree (T.agrees tree.new)
+        (T.failures tree.old < T.failures tree.new) reply_view result
         (λ files listings. RequestStep (site_in limits request.now.shell files listings) env.now
         (action_view request.now.action)) }
     ensures out_of_memory { IfErr result (MemoryNumberAmong (memory_numbers (action_view request.now.action))) }

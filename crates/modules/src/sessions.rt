@@ -1,15 +1,14 @@
 //! Runs requests one after another, each with its outcome; a refused one changes nothing.
 ghost use Rattle.std.specs.Prelude.{◌≡◌, ◌<◌, ◌≤◌, ◌+◌, [], ◌∷◌, map, IfOk, IfErr, OnErr};
-ghost use Rattle.filetree.specs.Agreement.{FailsAt, FailsIf, InEachPair, Narrows};
+ghost use Rattle.filetree.specs.Agreement.{FailsAt, FailsIf, InEachPair, Narrows, ReadsOn};
 ghost use Rattle.shells.specs.declared.shell.Shell.{Shell};
 ghost use Rattle.requests.specs.RequestViews.{action_view, request_view};
 ghost use Rattle.requests.specs.Sessions.{Session, IsResponse, env_after, end_environment};
-ghost use Rattle.requests.specs.Steps.{RequestStep};
+ghost use Rattle.requests.specs.Steps.{RequestStep, site_in};
 ghost use Rattle.requests.specs.Looked.{RequestLooksAt};
-ghost use Rattle.requeststep.specs.Answers.{AnswersOverTree, is_failure};
+ghost use Rattle.requeststep.specs.Answers.{StepAnswersOverTree, is_failure};
 ghost use Rattle.requeststep.specs.Views.{done_view};
 ghost use Rattle.requeststep.specs.declared.refusal.Refusal.TheVariants as refusals;
-ghost use Rattle.modules.specs.Replies.{site_in};
 ghost use Rattle.modules.specs.Responses.{response_of, responses, has_failed, count_failed, Returns};
 
 use crate::running::run_changes;
@@ -37,9 +36,8 @@ fn change<T: Tree>(
     tree: &mut T,
     limits: Limits,
 ) -> Result<Done, Refusal>
-    ensures before { Narrows (T.agrees tree.old) (T.agrees tree.new) }
-    ensures later { T.failures tree.old ≤ T.failures tree.new }
-    ensures answer { AnswersOverTree (T.agrees tree.new) (T.failures tree.old < T.failures tree.new)
+    ensures reads { ReadsOn T.agrees T.failures tree.old tree.new }
+    ensures over_tree { StepAnswersOverTree (T.agrees tree.new) (T.failures tree.old < T.failures tree.new)
         (λ done. done_view done env.new) result
         (λ files listings. RequestStep (site_in limits request.now.shell files listings) env.old
         (action_view request.now.action)) }
@@ -71,7 +69,7 @@ pub fn respond<T: Tree>(
     tree: &mut T,
     limits: Limits,
 ) -> Outcome
-    ensures before { Narrows (T.agrees tree.old) (T.agrees tree.new) }
+    ensures narrows { Narrows (T.agrees tree.old) (T.agrees tree.new) }
     ensures failures { T.failures tree.old + count_failed (result ∷ []) ≤ T.failures tree.new }
     ensures answer { InEachPair (T.agrees tree.new) (λ files listings.
         IsResponse (site_in limits request.now.shell files listings) env.old (action_view request.now.action)
@@ -109,7 +107,7 @@ pub fn session<T: Tree>(
     tree: &mut T,
     limits: Limits,
 ) -> Result<(Env, Vec<Outcome>), Refusal>
-    ensures before { Narrows (T.agrees tree.old) (T.agrees tree.new) }
+    ensures narrows { Narrows (T.agrees tree.old) (T.agrees tree.new) }
     ensures failures { IfOk result (λ p. T.failures tree.old + count_failed p.1.items ≤ T.failures tree.new) }
     ensures ran { IfOk result (λ p. InEachPair (T.agrees tree.new) (λ files listings. (shell : Shell)
         → Session (site_in limits shell files listings) env (map request_view requests.now)
@@ -123,11 +121,9 @@ pub fn session<T: Tree>(
     requests::session_returns();
     let mut after = env;
     let mut outcomes = Vec::new(alloc);
-    let mut rest = requests;
-    while let [request, later @ ..] = rest {
+    for request in requests {
         let outcome = respond(alloc, request, &mut after, tree, limits);
         outcomes.push(outcome)?;
-        rest = later;
     }
     Ok((after, outcomes))
 }

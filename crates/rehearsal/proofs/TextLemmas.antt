@@ -1,5 +1,5 @@
 -- One request with its text, and rehearsals that go on by one.
-use Rattle.std.proofs.Common.{◌≡◌, ℕ, ◌+◌, ◌≤◌, ◌<◌, true, false, List, [], ◌∷◌, ◌++◌, Option, Some, None, length, map, Result, Ok, Err, refl, ap, ◌∙◌, subst, arith}
+use Rattle.std.proofs.Common.{◌≡◌, ℕ, ◌+◌, ◌≤◌, ◌<◌, true, false, List, [], ◌∷◌, ◌++◌, Option, Some, None, map, Result, Ok, Err, refl, sym, ap, ◌∙◌, subst, arith}
 use Rattle.std.specs.Prelude.{◌==◌, string_bytes}
 use Rattle.std.specs.declared.alloc.Global.{Global}
 use Rattle.std.specs.declared.string.String.{String}
@@ -17,14 +17,13 @@ use Rattle.requests.specs.Reasons.{RequestReason}
 use Rattle.requests.specs.Requests.{Request}
 use Rattle.requests.specs.RequestViews.{request_view}
 use Rattle.requests.specs.declared.action.Request as code
-use Rattle.requests.specs.Steps.{Site, Done, RequestStep}
+use Rattle.requests.specs.Steps.{Site, Done, RequestStep, site_in}
 use Rattle.requests.specs.Sessions.{accepted, refused, given_up, is_given_up_by, Session, end_environment}
 use Rattle.filetree.specs.Causes.{Cause, Applies, memory, device, because}
 use Rattle.requeststep.specs.Answers.{cause_of}
 use Rattle.requeststep.specs.Messages.{memory_number}
 use Rattle.requeststep.proofs.MemoryNumberLemmas.{of_three}
 use Rattle.requeststep.specs.declared.refusal.Refusal.{Refusal}
-use Rattle.modules.specs.Replies.{site_in}
 use Rattle.rehearsal.specs.Rehearsals.{ArePrints, Rehearsal, one_failed, count_failed}
 use Rattle.rehearsal.specs.Parts.{PrintsFor, print_view, prints}
 
@@ -99,7 +98,7 @@ module _ (agrees : Files → Listings → Type 0) (limits : Limits) (r : Request
     unsaid_came (NotSayable name) h = record {
       response = given_up 62;
       answers = λ files listings agreed. refl;
-      printed = λ files listings agreed shell. (refl, λ is. (d, cs, string_bytes name, step files listings agreed, changes, h));
+      printed = λ files listings agreed shell. (refl, λ is. (d, string_bytes name, step files listings agreed, (cs, changes, h)));
       end = refl;
       failures = none_more before after later;
     }
@@ -115,17 +114,14 @@ module _ (agrees : Files → Listings → Type 0) (limits : Limits) (r : Request
 
 -- ---- rehearsals
 
--- of no request
-rehearsed_none : (s : Site) (e : Environment) (n : ℕ) → Rehearsal s e [] [] e n n
-rehearsed_none s e n = record {
-  rehearsed = record { responses = []; session = tt; prints = tt; leaves = refl };
-  failures = none_more n n (omega arith);
-}
-
 -- no request remains
-pub no_requests : (s : Site) (e : Environment) (rest : List code.Request) (n : ℕ) → length rest < 1 → Rehearsal s e (map request_view rest) [] e n n
-no_requests s e [] n none = rehearsed_none s e n
-no_requests s e (r ∷ rs) n none = absurd (omega arith)
+pub no_requests : (s : Site) (e : Environment) (rest : List code.Request) (n : ℕ) → rest ≡ [] → Rehearsal s e (map request_view rest) [] e n n
+no_requests s e rest n none =
+    let Rest : List code.Request → Type 0 = λ rs. Rehearsal s e (map request_view rs) [] e n n in
+    subst Rest (sym none) (record {
+      rehearsed = record { responses = []; session = tt; prints = tt; leaves = refl };
+      failures = none_more n n (omega arith);
+    })
 
 -- of a request before others
 pub rehearsed_on : (agrees : Files → Listings → Type 0) (limits : Limits) (files : Files) (listings : Listings) (shell : Shell) → agrees files listings

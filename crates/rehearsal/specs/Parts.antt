@@ -10,7 +10,7 @@ use Rattle.shells.specs.declared.shell.Shell.{Shell}
 use Rattle.tclrules.specs.declared.limits.Limits.{Limits}
 use Rattle.requests.specs.Requests.{Request}
 use Rattle.requests.specs.Sessions.{Response, IsResponse, env_after}
-use Rattle.modules.specs.Replies.{site_in}
+use Rattle.requests.specs.Steps.{site_in}
 use Rattle.rehearsal.specs.Rehearsals.{IsPrint, one_failed}
 
 -- Over each pair of maps that agrees, a request has this response, this is printed for it, and the environment after it

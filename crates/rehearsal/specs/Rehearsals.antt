@@ -3,6 +3,7 @@ use Rattle.std.specs.Prelude.{ℕ, ◌≡◌, ◌≤◌, ◌+◌, ◌==◌, List
 use Rattle.envvars.specs.Texts.{Text}
 use Rattle.envvars.specs.Environment.{Environment}
 use Rattle.envvars.specs.Changes.{NewValue, AreChanges}
+use Rattle.shells.specs.declared.shell.Shell.{Shell}
 use Rattle.shelltext.specs.Reading.{SaysDifference}
 use Rattle.shelltext.specs.Printing.{IsUnsayable}
 use Rattle.shelltext.specs.Sequences.{ShellRun, TextsMake}
@@ -14,11 +15,15 @@ use Rattle.reversal.specs.VariableUses.{VariableUse}
 use Rattle.reversal.specs.Starts.{IsStart}
 use Rattle.reversal.specs.Runs.{live_after}
 
+-- The changes from one environment to the other have no text in the shell: the first variable that no line can set or
+-- unset is this one.
+abbrev pub LacksText : Shell → Environment → Environment → Text → Type 0
+LacksText shell old new name = (cs : List NewValue) × AreChanges old new cs × IsUnsayable shell cs name
+
 -- the step has changes for which the shell has no text
-abbrev pub LacksText : Site → Environment → Request → Type 0
-LacksText s e r =
-    (d : Done) × (changes : List NewValue) × (name : Text) × RequestStep (in_shell s r.0) e r.1 (Ok d)
-    × AreChanges e d.env changes × IsUnsayable r.0 changes name
+abbrev pub StepLacksText : Site → Environment → Request → Type 0
+StepLacksText s e r =
+    (d : Done) × (name : Text) × RequestStep (in_shell s r.0) e r.1 (Ok d) × LacksText r.0 e d.env name
 
 -- what is printed for a request with this response: for an accepted one a text that says the difference between the
 -- environment before it and the one after it, for another none; one that is given up by 62 has changes without a text
@@ -26,7 +31,7 @@ abbrev pub IsPrint : Site → Environment → Request → Response → Option Te
 IsPrint s e r (accepted d) (Some text) = SaysDifference r.0 text e d.env
 IsPrint s e r (accepted d) None = ⊥
 IsPrint s e r (refused reason) print = print ≡ None
-IsPrint s e r (given_up number) print = (print ≡ None) × (number ≡ 62 → LacksText s e r)
+IsPrint s e r (given_up number) print = (print ≡ None) × (number ≡ 62 → StepLacksText s e r)
 
 -- for each request what is printed, in the environment after those before it
 abbrev pub ArePrints : Site → Environment → List Request → List Response → List (Option Text) → Type 0

@@ -4,7 +4,7 @@ ghost use Rattle.filetree.specs.Agreement.{Narrows, InEachPair};
 ghost use Rattle.shells.specs.declared.shell.Shell.{Shell};
 ghost use Rattle.requests.specs.RequestViews.{request_view};
 ghost use Rattle.requeststep.specs.declared.refusal.Refusal.TheVariants as refusals;
-ghost use Rattle.modules.specs.Replies.{site_in};
+ghost use Rattle.requests.specs.Steps.{site_in};
 ghost use Rattle.rehearsal.specs.Rehearsals.{Rehearsal, MakesSession, TextsReturnToStart};
 ghost use Rattle.rehearsal.specs.Parts.{PrintsFor, print_view, prints};
 
@@ -24,7 +24,7 @@ fn print_request<T: Tree>(
     tree: &mut T,
     limits: Limits,
 ) -> Option<String>
-    ensures before { Narrows (T.agrees tree.old) (T.agrees tree.new) }
+    ensures narrows { Narrows (T.agrees tree.old) (T.agrees tree.new) }
     ensures prints_for { PrintsFor (T.agrees tree.new) limits (request_view request.now) env.old env.new
         (print_view result)
         (T.failures tree.old) (T.failures tree.new) }
@@ -60,7 +60,7 @@ pub fn rehearse<T: Tree>(
     tree: &mut T,
     limits: Limits,
 ) -> Result<(Env, Vec<Option<String>>), Refusal>
-    ensures before { Narrows (T.agrees tree.old) (T.agrees tree.new) }
+    ensures narrows { Narrows (T.agrees tree.old) (T.agrees tree.new) }
     ensures rehearsed { IfOk result (λ p. InEachPair (T.agrees tree.new) (λ files listings. (shell : Shell)
         → Rehearsal (site_in limits shell files listings) env (map request_view requests.now) (prints p.1.items) p.0
         (T.failures tree.old) (T.failures tree.new))) }
@@ -76,11 +76,9 @@ pub fn rehearse<T: Tree>(
     crate::texts_return_to_start();
     let mut after = env;
     let mut texts = Vec::new(alloc);
-    let mut rest = requests;
-    while let [request, later @ ..] = rest {
+    for request in requests {
         let text = print_request(alloc, request, &mut after, tree, limits);
         texts.push(text)?;
-        rest = later;
     }
     Ok((after, texts))
 }

@@ -1,18 +1,17 @@
 -- A session of modules that were judged plain is one of plain files, whose records unloading undoes.
-use Rattle.std.proofs.Common.{◌≡◌, true, false, List, [], ◌∷◌, ◌++◌, ◌∙◌, sym, subst}
+use Rattle.std.proofs.Common.{◌≡◌, true, false, List, [], ◌∷◌, ◌++◌, sym, subst}
 use Rattle.std.specs.List.{list_all}
-use Rattle.std.proofs.lemmas.Bool.{and_parts}
 use Rattle.envvars.specs.Texts.{Text}
-use Rattle.modulerecords.specs.Records.{Record}
 use Rattle.modulerecords.specs.Moves.{Module, Move, Loads, Unloads}
 use Rattle.modulefile.specs.Files.{Ran}
 use Rattle.modulefile.specs.Laws.{PlainFilesAgree}
-use Rattle.reversal.specs.VariableUses.{VariableUse, is_reversible, AllSuit}
+use Rattle.reversal.specs.VariableUses.{VariableUse, is_reversible}
 use Rattle.reversal.specs.Runs.{without_live, IsReversibleBeside}
+use Rattle.reversal.proofs.Parts.{all_suit}
 use Rattle.requests.specs.Steps.{Site}
 use Rattle.requests.specs.Sessions.{session_moves}
 use Rattle.requests.specs.PlainRuns.{HasEvaluatedTo, IsPlain, ArePlain}
-use Rattle.requests.specs.JudgedRuns.{IsJudgedPlain, AllFollowUses, IsApart, AreJudged, JudgedIsReversible, JudgedSessionsReturn}
+use Rattle.requests.specs.JudgedRuns.{IsJudgedPlain, IsApart, AreJudged, JudgedIsReversible, JudgedSessionsReturn}
 use Rattle.requests.specs.Laws.{PlainSessionsReturn}
 use Rattle.requests.proofs.Judging.{judged_left}
 use Rattle.requests.proofs.Origins.{IsFrom, AllFrom}
@@ -24,10 +23,6 @@ judged_of s name path j =
     let (m, found, ran, left, unasked, undone) = judged_left s j.env j.typed j.judged in
     let at = j.means m found in
     (ran, moved_left s m.name name m.path path ran at.0 at.1 left, unasked, undone)
-
-all_suit : (uses : Text → VariableUse) (rs : List Record) → list_all is_reversible rs ≡ true → AllFollowUses uses rs → AllSuit uses rs
-all_suit uses [] h k = tt
-all_suit uses (r ∷ rs) h k = let p = and_parts (is_reversible r) (list_all is_reversible rs) h in ((p.0, k.0), all_suit uses rs p.1 k.1)
 
 pub judged_is_reversible : PlainFilesAgree → JudgedIsReversible
 judged_is_reversible agree s name path other j left =

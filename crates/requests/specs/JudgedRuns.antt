@@ -4,10 +4,9 @@ use Rattle.std.specs.List.{list_all}
 use Rattle.std.specs.Option.{is_some}
 use Rattle.envvars.specs.Texts.{Text}
 use Rattle.envvars.specs.Environment.{Environment}
-use Rattle.modulerecords.specs.Records.{Record}
 use Rattle.modulerecords.specs.Moves.{Module, Move, Loads, Unloads}
 use Rattle.modulefile.specs.Files.{Ran}
-use Rattle.reversal.specs.VariableUses.{VariableUse, is_reversible, FollowsUse}
+use Rattle.reversal.specs.VariableUses.{VariableUse, is_reversible, AllFollowUses}
 use Rattle.reversal.specs.Live.{last_set, live_set}
 use Rattle.reversal.specs.Starts.{IsStart}
 use Rattle.reversal.specs.Runs.{live_after, without_live}
@@ -27,11 +26,6 @@ pub record IsJudgedPlain (s : Site) (name path : Text) : Type 0 where
   pub typed : Text
   pub judged : HasVerdict s env typed (Ok plain)
   pub means : (m : search.FoundModule) → Finds s env typed (Ok m) → (m.name ≡ name) × (m.path ≡ path)
-
--- Each record uses its variable as the variable is used by all modules.
-abbrev pub AllFollowUses : (Text → VariableUse) → List Record → Type 0
-AllFollowUses uses [] = Unit {0}
-AllFollowUses uses (r ∷ rs) = FollowsUse uses r × AllFollowUses uses rs
 
 -- The module is apart from the live ones: it uses each variable as all modules do, and sets or unsets none that a live
 -- module sets or unsets.

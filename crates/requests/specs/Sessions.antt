@@ -8,7 +8,7 @@ use Rattle.reversal.specs.Requests as moves
 use Rattle.reversal.specs.Requests.{all_moves}
 use Rattle.requests.specs.Reasons.{RequestReason}
 use Rattle.requests.specs.Requests.{RequestedAction, Request}
-use Rattle.requests.specs.Steps.{Site, Done, RequestStep}
+use Rattle.requests.specs.Steps.{Site, Done, RequestStep, site_in}
 
 -- The response to a request: accepted; refused for its reason; or given up because memory ran out, a device failed or
 -- the shell has no text for a value. The number is that of the cause.
@@ -41,7 +41,7 @@ end_environment e (o ∷ os) = end_environment (env_after e o) os
 
 -- what a request is run over, for another shell
 abbrev pub in_shell : Site → Shell → Site
-in_shell s shell = record { files = s.files; listings = s.listings; limits = s.limits; shell = shell }
+in_shell s shell = site_in s.limits shell s.files s.listings
 
 -- From an environment, the requests have these responses: each in the environment after those before it.
 abbrev pub Session : Site → Environment → List Request → List Response → Type 0

@@ -39,6 +39,10 @@ pub record Site : Type 0 where
   pub limits : Limits
   pub shell : Shell
 
+-- what a request is run over, by its parts
+abbrev pub site_in : Limits → Shell → Files → Listings → Site
+site_in limits shell files listings = record { files = files; listings = listings; limits = limits; shell = shell }
+
 -- What a request has done so far: its moves and what they made of the environment, the messages of its files, and its
 -- report.
 pub record Done : Type 0 where

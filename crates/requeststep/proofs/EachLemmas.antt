@@ -1,12 +1,12 @@
 -- Names in turn, and whole commands, by what their parts answered.
-use Rattle.std.proofs.Common.{◌≡◌, ◌≤◌, ◌-◌, ◌<◌, ℕ, suc, Bor, Bool, true, false, nat_eq, List, [], ◌∷◌, ◌++◌, length, get_or, map, take, drop, string_bytes, String, Option, Some, None, MatchOption, Result, Ok, Err, inl, inr, refl, sym, ap, ◌∙◌, subst, arith, lit<}
+use Rattle.std.proofs.Common.{◌≡◌, ◌<◌, ◌+◌, ℕ, suc, Bor, Bool, true, false, nat_eq, List, [], ◌∷◌, ◌++◌, length, get_or, map, drop, string_bytes, String, Option, Some, None, MatchOption, Result, Ok, Err, inl, inr, refl, sym, ap, ◌∙◌, subst, arith, lit<}
 use Rattle.std.specs.Prelude.{◌==◌}
 use Rattle.std.specs.List.{slice_split, onto_first}
 use Rattle.std.specs.declared.alloc.Global.{Global}
 use Rattle.std.proofs.lemmas.Bool.Decides.{nat_tests}
 use Rattle.std.proofs.lemmas.List.Splits.{slice_split-cons_no}
 use Rattle.std.proofs.lemmas.Str.Pattern.{IsSplitOnceResult, split_parts}
-use Rattle.std.proofs.lemmas.List.{take_all}
+use Rattle.std.proofs.lemmas.List.{drop_more}
 use Rattle.envvars.specs.Texts.{Text}
 use Rattle.envvars.specs.Environment.{Environment}
 use Rattle.filetree.specs.Relations.{After}
@@ -17,26 +17,25 @@ use Rattle.requests.specs.Reasons.{RequestReason}
 use Rattle.requests.specs.Looked.{EachLooksAt}
 use Rattle.requests.specs.Steps.{Site, Done, nothing_done, Each, NeedsNames, ShowsName, ShowsNames, first_part}
 
-split_first : {X : Type 0} (view : X → Text) (x : X) (rest : List X) → 1 ≤ length rest → x ≡ get_or rest 0 x
-    → map view rest ≡ view x ∷ map view (take (length rest - 1) (drop 1 rest))
-split_first view x [] some is = absurd (omega arith)
-split_first view x (y ∷ ys) some is =
-    ap (λ z. view z ∷ map view ys) (sym is) ∙ ap (λ zs. view x ∷ map view zs) (sym (take_all (length (y ∷ ys) - 1) ys (omega arith)))
+-- the item of a turn, before those after it
+pub split_at : {X Y : Type 0} (view : X → Y) (xs : List X) (i : ℕ) (x : X) → i < length xs → x ≡ get_or xs i x
+    → map view (drop i xs) ≡ view x ∷ map view (drop (i + 1) xs)
+split_at view xs i x below is = ap (map view) (drop_more xs i x below) ∙ ap (λ z. view z ∷ map view (drop (i + 1) xs)) (sym is)
 
-module _ {X : Type 0} (view : X → Text) (Does : Text → Done → Result Done RequestReason → Type 0) (x : X) (rest : List X) (some : 1 ≤ length rest) (is : x ≡ get_or rest 0 x) (d : Done) where
-  pub each_refused : (r : RequestReason) → Does (view x) d (Err r) → Each Does (map view rest) d (Err r)
-  each_refused r h = subst (λ names. Each Does names d (Err r)) (sym (split_first view x rest some is)) (Err r, h, refl)
+module _ {X : Type 0} (view : X → Text) (Does : Text → Done → Result Done RequestReason → Type 0) (xs : List X) (i : ℕ) (x : X) (below : i < length xs) (is : x ≡ get_or xs i x) (d : Done) where
+  pub each_refused : (r : RequestReason) → Does (view x) d (Err r) → Each Does (map view (drop i xs)) d (Err r)
+  each_refused r h = subst (λ names. Each Does names d (Err r)) (sym (split_at view xs i x below is)) (Err r, h, refl)
 
-  pub each_on : (mid : Done) → Does (view x) d (Ok mid) → (o : Result Done RequestReason) → Each Does (map view (take (length rest - 1) (drop 1 rest))) mid o → Each Does (map view rest) d o
-  each_on mid h o k = subst (λ names. Each Does names d o) (sym (split_first view x rest some is)) (Ok mid, h, k)
+  pub each_on : (mid : Done) → Does (view x) d (Ok mid) → (o : Result Done RequestReason) → Each Does (map view (drop (i + 1) xs)) mid o → Each Does (map view (drop i xs)) d o
+  each_on mid h o k = subst (λ names. Each Does names d o) (sym (split_at view xs i x below is)) (Ok mid, h, k)
 
   -- and where they look
   module _ (Looks : Text → Done → Text → Type 0) (at : Text) where
-    pub looks_first : Looks (view x) d at → EachLooksAt Does Looks (map view rest) d at
-    looks_first h = subst (λ names. EachLooksAt Does Looks names d at) (sym (split_first view x rest some is)) (inl h)
+    pub looks_first : Looks (view x) d at → EachLooksAt Does Looks (map view (drop i xs)) d at
+    looks_first h = subst (λ names. EachLooksAt Does Looks names d at) (sym (split_at view xs i x below is)) (inl h)
 
-    pub looks_on : (mid : Done) → Does (view x) d (Ok mid) → EachLooksAt Does Looks (map view (take (length rest - 1) (drop 1 rest))) mid at → EachLooksAt Does Looks (map view rest) d at
-    looks_on mid h k = subst (λ names. EachLooksAt Does Looks names d at) (sym (split_first view x rest some is)) (inr (mid, h, k))
+    pub looks_on : (mid : Done) → Does (view x) d (Ok mid) → EachLooksAt Does Looks (map view (drop (i + 1) xs)) mid at → EachLooksAt Does Looks (map view (drop i xs)) d at
+    looks_on mid h k = subst (λ names. EachLooksAt Does Looks names d at) (sym (split_at view xs i x below is)) (inr (mid, h, k))
 
 -- a request with names
 pub named_some : (names : List (String Global)) (b : Bool) → b ≡ nat_eq (length names) 0 → b ≡ false → (Comes : Result Done RequestReason → Type 0) (o : Result Done RequestReason) → Comes o

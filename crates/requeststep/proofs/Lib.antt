@@ -7,3 +7,4 @@ pub mod EachLemmas
 pub mod VerdictLemmas
 pub mod MemoryNumberLemmas
 pub mod FailureLemmas
+pub mod ActionLemmas

@@ -25,7 +25,7 @@ use Rattle.requests.specs.Refusals.{refused_as, unless, RefusedAs}
 use Rattle.requests.specs.Conditions.{load_objection}
 use Rattle.requests.specs.Steps.{Done, with_move, continued, joins}
 use Rattle.requeststep.specs.declared.refusal.Refusal.{Refusal}
-use Rattle.requeststep.specs.Answers.{GivesOrRefuses, AnswersOverTree, by_reason, by_search, cause_of}
+use Rattle.requeststep.specs.Answers.{GivesOrRefuses, StepAnswersOverTree, by_reason, by_search, cause_of}
 use Rattle.requeststep.specs.declared.files.ReportKind.{ReportKind}
 use Rattle.requeststep.specs.declared.files.ReportKind.TheVariants.{Commands, Whatis}
 use Rattle.requeststep.specs.Parts.{added, objection, report_mode}
@@ -47,7 +47,7 @@ stands_each (because r) agrees before P Q then h = λ files listings a. then fil
 pub over_tree_given : {X Y : Type 0} (agrees : Files → Listings → Type 0) (before : Type 0) (view : X → Y) (r : Result X Refusal)
     (Gave Comes : Files → Listings → Result Y RequestReason → Type 0)
     → ((files : Files) (listings : Listings) (o : Result Y RequestReason) → agrees files listings → Gave files listings o → Comes files listings o)
-    → ((files : Files) (listings : Listings) → GivesOrRefuses view r (Gave files listings)) → AnswersOverTree agrees before view r Comes
+    → ((files : Files) (listings : Listings) → GivesOrRefuses view r (Gave files listings)) → StepAnswersOverTree agrees before view r Comes
 over_tree_given agrees before view (Ok x) Gave Comes then h = λ files listings a. then files listings (Ok (view x)) a (h files listings)
 over_tree_given agrees before view (Err e) Gave Comes then h =
     stands_each (cause_of e) agrees before (λ files listings r. Gave files listings (Err r)) (λ files listings r. Comes files listings (Err r))
@@ -57,21 +57,21 @@ over_tree_given agrees before view (Err e) Gave Comes then h =
 pub over_tree_same : {X Y : Type 0} (agrees : Files → Listings → Type 0) (failed before : Type 0) (view : X → Y) (r : Result X Refusal)
     (Trace Comes : Files → Listings → Result Y RequestReason → Type 0)
     → (failed → before) → ((files : Files) (listings : Listings) (o : Result Y RequestReason) → agrees files listings → Trace files listings o → Comes files listings o)
-    → AnswersOverTree agrees failed view r Trace → AnswersOverTree agrees before view r Comes
+    → StepAnswersOverTree agrees failed view r Trace → StepAnswersOverTree agrees before view r Comes
 over_tree_same agrees failed before view (Ok x) Trace Comes later then h = λ files listings a. then files listings (Ok (view x)) a (h files listings a)
 over_tree_same agrees failed before view (Err e) Trace Comes later then h =
     stands_as (cause_of e) failed before _ _ later (λ r k files listings a. then files listings (Err r) a (k files listings a)) h
 
 -- the answer for a value is that for what equals it
 pub over_tree_of : {A X Y : Type 0} (agrees : Files → Listings → Type 0) (before : Type 0) (view : X → Y) (r : Result X Refusal)
-    (Comes : A → Files → Listings → Result Y RequestReason → Type 0) (x y : A) → x ≡ y → AnswersOverTree agrees before view r (Comes y) → AnswersOverTree agrees before view r (Comes x)
-over_tree_of agrees before view r Comes x y e h = subst (λ z. AnswersOverTree agrees before view r (Comes z)) (sym e) h
+    (Comes : A → Files → Listings → Result Y RequestReason → Type 0) (x y : A) → x ≡ y → StepAnswersOverTree agrees before view r (Comes y) → StepAnswersOverTree agrees before view r (Comes x)
+over_tree_of agrees before view r Comes x y e h = subst (λ z. StepAnswersOverTree agrees before view r (Comes z)) (sym e) h
 
 -- a refusal of one step is a refusal of the whole
 pub over_tree_refused : {X Y V W : Type 0} (agrees : Files → Listings → Type 0) (failed before : Type 0) (view : X → Y) (view' : V → W) (e : Refusal)
     (Trace : Files → Listings → Result Y RequestReason → Type 0) (Comes : Files → Listings → Result W RequestReason → Type 0)
     → (failed → before) → ((files : Files) (listings : Listings) (r : RequestReason) → agrees files listings → Trace files listings (Err r) → Comes files listings (Err r))
-    → AnswersOverTree agrees failed view (Err e) Trace → AnswersOverTree agrees before view' (Err e) Comes
+    → StepAnswersOverTree agrees failed view (Err e) Trace → StepAnswersOverTree agrees before view' (Err e) Comes
 over_tree_refused agrees failed before view view' e Trace Comes later then h =
     stands_as (cause_of e) failed before _ _ later (λ r k files listings a. then files listings r a (k files listings a)) h
 
@@ -79,7 +79,7 @@ over_tree_refused agrees failed before view view' e Trace Comes later then h =
 pub gives_refused : {X Y V W : Type 0} (agrees : Files → Listings → Type 0) (before : Type 0) (view : X → Y) (view' : V → W) (e : Refusal)
     (Gave : Result Y RequestReason → Type 0) (Comes : Files → Listings → Result W RequestReason → Type 0)
     → ((files : Files) (listings : Listings) (r : RequestReason) → agrees files listings → Gave (Err r) → Comes files listings (Err r))
-    → GivesOrRefuses view (Err e) Gave → AnswersOverTree agrees before view' (Err e) Comes
+    → GivesOrRefuses view (Err e) Gave → StepAnswersOverTree agrees before view' (Err e) Comes
 gives_refused agrees before view view' e Gave Comes then h =
     stands_as (cause_of e) ⊥ before _ _ (λ q. absurd q) (λ r k files listings a. then files listings r a k) h
 

@@ -12,7 +12,7 @@ use Rattle.requests.specs.Verdicts.{HasVerdict, PlainHolds, verdict_of}
 use Rattle.requeststep.specs.declared.refusal.Refusal.{Refusal}
 use Rattle.requeststep.specs.declared.judged.Verdict.{Verdict}
 use Rattle.requeststep.specs.declared.judged.Verdict.TheVariants.{Plain, Asked, OneWay}
-use Rattle.requeststep.specs.Answers.{AnswersOverTree}
+use Rattle.requeststep.specs.Answers.{StepAnswersOverTree}
 use Rattle.requeststep.specs.Verdicts.{verdict_view, in_sh, PlainVerdictHolds}
 
 by_tests : (ran : Ran) (asked ends : Bool) → ran.asked ≡ asked → list_all is_reversible ran.records ≡ ends
@@ -27,7 +27,7 @@ one_way_by ran a b = by_tests ran false false a b
 
 -- what a plain verdict means, by the law of verdicts
 pub plain_over_tree : PlainHolds → (agrees : Files → Listings → Type 0) (failed : Type 0) (limits : Limits) (e : Environment) (name : Text) (r : Result Verdict Refusal)
-    → AnswersOverTree agrees failed verdict_view r (λ files listings. HasVerdict (in_sh limits files listings) e name)
+    → StepAnswersOverTree agrees failed verdict_view r (λ files listings. HasVerdict (in_sh limits files listings) e name)
     → IfOk r (λ verdict. InEachPair agrees (λ files listings. PlainVerdictHolds (in_sh limits files listings) e name verdict))
 plain_over_tree law agrees failed limits e name (Ok Plain) h = λ files listings a. law (in_sh limits files listings) e name (h files listings a)
 plain_over_tree law agrees failed limits e name (Ok Asked) h = λ files listings a. tt

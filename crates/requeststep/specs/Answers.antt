@@ -61,9 +61,9 @@ GivesOrRefuses view (Ok x) Comes = Comes (Ok (view x))
 GivesOrRefuses view (Err e) Comes = Applies (cause_of e) ⊥ (λ r. Comes (Err r))
 
 -- the answer of a call over a tree, whose faults are refusals
-abbrev pub AnswersOverTree : {X Y : Type 0} → (Files → Listings → Type 0) → Type 0 → (X → Y) → Result X Refusal
+abbrev pub StepAnswersOverTree : {X Y : Type 0} → (Files → Listings → Type 0) → Type 0 → (X → Y) → Result X Refusal
     → (Files → Listings → Result Y RequestReason → Type 0) → Type 0
-AnswersOverTree = causes.AnswersOverTree cause_of
+StepAnswersOverTree = causes.AnswersOverTree cause_of
 
 -- a tree's fault, as a refusal
 abbrev pub refused_read : TreeFault → Refusal

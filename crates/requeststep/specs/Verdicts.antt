@@ -9,7 +9,7 @@ use Rattle.tclrules.specs.declared.limits.Limits.{Limits}
 use Rattle.modulefile.specs.Files.{Ran}
 use Rattle.search.specs.Found as search
 use Rattle.reversal.specs.VariableUses.{is_reversible}
-use Rattle.requests.specs.Steps.{Site, Finds}
+use Rattle.requests.specs.Steps.{Site, Finds, site_in}
 use Rattle.requests.specs.Verdicts as verdicts
 use Rattle.requests.specs.Verdicts.{AlwaysRecords}
 use Rattle.requeststep.specs.declared.judged.Verdict.{Verdict}
@@ -17,7 +17,7 @@ use Rattle.requeststep.specs.declared.judged.Verdict.TheVariants.{Plain, Asked, 
 
 -- what a verdict is given over: files evaluated for sh
 abbrev pub in_sh : Limits → Files → Listings → Site
-in_sh limits files listings = record { files = files; listings = listings; limits = limits; shell = Sh }
+in_sh limits files listings = site_in limits Sh files listings
 
 -- the verdict
 abbrev pub verdict_view : Verdict → verdicts.Verdict

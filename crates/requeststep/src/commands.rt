@@ -1,22 +1,22 @@
 //! The subcommands, each over all its names: `load`, `unload`, `switch`, `purge`, `list`, `avail`, `show`, `whatis`.
-ghost use Rattle.std.specs.Prelude.{◌≡◌, ◌<◌, ◌≤◌, [], ◌∷◌, Some, IfOk, IfErr, map, reverse, string_bytes};
+ghost use Rattle.std.specs.Prelude.{◌≡◌, ◌<◌, [], ◌∷◌, Some, IfOk, IfErr, map, reverse, string_bytes};
 ghost use Rattle.std.specs.Option.{option_map};
 ghost use Rattle.envvars.specs.Environment.{Environment};
 ghost use Rattle.envvars.specs.Texts.{texts_in};
 ghost use Rattle.envloaded.specs.Loaded.{names_of};
 ghost use Rattle.envloaded.specs.LoadedEntries.{entry_of};
 ghost use Rattle.filetree.specs.Relations.{Then};
-ghost use Rattle.filetree.specs.Agreement.{FailsAt, InEachPair, Narrows};
+ghost use Rattle.filetree.specs.Agreement.{FailsAt, InEachPair, ReadsOn};
 ghost use Rattle.defaultfiles.specs.DefaultFileResults.{Leaves};
 ghost use Rattle.search.specs.Looked.{ListingLooksAt};
 ghost use Rattle.modulename.specs.ModuleName.{parts};
 ghost use Rattle.requests.specs.Requests as actions;
 ghost use Rattle.requests.specs.RequestViews.{action_view};
 ghost use Rattle.requests.specs.Steps as steps;
-ghost use Rattle.requests.specs.Steps.{nothing_done, Each, EndsRequest, NeedsNames, Changes, ShowsNames, ListsLoaded, ListsAll, RequestStep};
+ghost use Rattle.requests.specs.Steps.{nothing_done, Each, EndsRequest, NeedsNames, Changes, ShowsNames, ListsLoaded, ListsAll, RequestStep, site_in};
 ghost use Rattle.requests.specs.Looked.{PurgeLooksAt, SwitchLooksAt, RequestLooksAt};
 ghost use Rattle.requeststep.specs.Views.{site_of, done_view};
-ghost use Rattle.requeststep.specs.Answers.{GivesOrRefuses, AnswersOverTree, is_failure};
+ghost use Rattle.requeststep.specs.Answers.{GivesOrRefuses, StepAnswersOverTree, is_failure};
 ghost use Rattle.requeststep.specs.Messages.{MemoryNumberAmong, memory_numbers};
 ghost use Rattle.requeststep.specs.declared.commands.NameAction.TheVariants.{ReportOn};
 ghost use Rattle.requeststep.specs.Parts.{NameActionStep, NameActionLooksAt, EachActionLooksAt, report_mode, report_text};
@@ -57,10 +57,9 @@ fn act_on_name<T: Tree, V: Vars>(
     tree: &mut T,
     done: &mut Done,
 ) -> Result<(), Refusal>
-    ensures before { Narrows (T.agrees tree.old) (T.agrees tree.new) }
-    ensures later { T.failures tree.old ≤ T.failures tree.new }
+    ensures reads { ReadsOn T.agrees T.failures tree.old tree.new }
     ensures base { V.base env.new ≡ V.base env.old }
-    ensures over_tree { AnswersOverTree (T.agrees tree.new) (T.failures tree.old < T.failures tree.new)
+    ensures over_tree { StepAnswersOverTree (T.agrees tree.new) (T.failures tree.old < T.failures tree.new)
         (λ u. done_view done.new (V.vars env.new)) result
         (λ files listings. NameActionStep name_action (site_of settings files listings) typed.now
         (done_view done.old (V.vars env.old))) }
@@ -99,10 +98,9 @@ fn act_on_each<T: Tree, V: Vars>(
     tree: &mut T,
     done: &mut Done,
 ) -> Result<(), Refusal>
-    ensures before { Narrows (T.agrees tree.old) (T.agrees tree.new) }
-    ensures later { T.failures tree.old ≤ T.failures tree.new }
+    ensures reads { ReadsOn T.agrees T.failures tree.old tree.new }
     ensures base { V.base env.new ≡ V.base env.old }
-    ensures over_tree { AnswersOverTree (T.agrees tree.new) (T.failures tree.old < T.failures tree.new)
+    ensures over_tree { StepAnswersOverTree (T.agrees tree.new) (T.failures tree.old < T.failures tree.new)
         (λ u. done_view done.new (V.vars env.new)) result
         (λ files listings. Each (NameActionStep name_action (site_of settings files listings))
         (map string_bytes names.now)
@@ -112,10 +110,8 @@ fn act_on_each<T: Tree, V: Vars>(
         EachActionLooksAt name_action (site_of settings files listings) (map string_bytes names.now)
         (done_view done.old (V.vars env.old)) at)) }
 {
-    let mut rest = names;
-    while let [name, after @ ..] = rest {
+    for name in names {
         act_on_name(alloc, settings, name_action, name.as_str(), env, tree, done)?;
-        rest = after;
     }
     Ok(())
 }
@@ -147,10 +143,9 @@ fn change_each<T: Tree, V: Vars>(
     env: &mut V,
     tree: &mut T,
 ) -> Result<Done, Refusal>
-    ensures before { Narrows (T.agrees tree.old) (T.agrees tree.new) }
-    ensures later { T.failures tree.old ≤ T.failures tree.new }
+    ensures reads { ReadsOn T.agrees T.failures tree.old tree.new }
     ensures base { V.base env.new ≡ V.base env.old }
-    ensures over_tree { AnswersOverTree (T.agrees tree.new) (T.failures tree.old < T.failures tree.new)
+    ensures over_tree { StepAnswersOverTree (T.agrees tree.new) (T.failures tree.old < T.failures tree.new)
         (λ done. done_view done (V.vars env.new)) result
         (λ files listings. Then (Each (NameActionStep name_action (site_of settings files listings))
         (map string_bytes names.now)
@@ -175,10 +170,9 @@ fn change_names<T: Tree, V: Vars>(
     env: &mut V,
     tree: &mut T,
 ) -> Result<Done, Refusal>
-    ensures before { Narrows (T.agrees tree.old) (T.agrees tree.new) }
-    ensures later { T.failures tree.old ≤ T.failures tree.new }
+    ensures reads { ReadsOn T.agrees T.failures tree.old tree.new }
     ensures base { V.base env.new ≡ V.base env.old }
-    ensures over_tree { AnswersOverTree (T.agrees tree.new) (T.failures tree.old < T.failures tree.new)
+    ensures over_tree { StepAnswersOverTree (T.agrees tree.new) (T.failures tree.old < T.failures tree.new)
         (λ done. done_view done (V.vars env.new)) result
         (λ files listings. NeedsNames (map string_bytes names.now) (Changes (V.vars env.old)
         (λ before. Each (NameActionStep name_action (site_of settings files listings)) (map string_bytes names.now)))) }
@@ -218,10 +212,9 @@ fn purge<T: Tree, V: Vars>(
     env: &mut V,
     tree: &mut T,
 ) -> Result<Done, Refusal>
-    ensures before { Narrows (T.agrees tree.old) (T.agrees tree.new) }
-    ensures later { T.failures tree.old ≤ T.failures tree.new }
+    ensures reads { ReadsOn T.agrees T.failures tree.old tree.new }
     ensures base { V.base env.new ≡ V.base env.old }
-    ensures over_tree { AnswersOverTree (T.agrees tree.new) (T.failures tree.old < T.failures tree.new)
+    ensures over_tree { StepAnswersOverTree (T.agrees tree.new) (T.failures tree.old < T.failures tree.new)
         (λ done. done_view done (V.vars env.new)) result
         (λ files listings. RequestStep (site_of settings files listings) (V.vars env.old) actions.purge) }
     ensures failed { FailsAt is_failure (T.failed tree.old) (T.failed tree.new) result (λ at.
@@ -271,10 +264,9 @@ fn switch_names<T: Tree, V: Vars>(
     tree: &mut T,
     done: &mut Done,
 ) -> Result<(), Refusal>
-    ensures before { Narrows (T.agrees tree.old) (T.agrees tree.new) }
-    ensures later { T.failures tree.old ≤ T.failures tree.new }
+    ensures reads { ReadsOn T.agrees T.failures tree.old tree.new }
     ensures base { V.base env.new ≡ V.base env.old }
-    ensures over_tree { AnswersOverTree (T.agrees tree.new) (T.failures tree.old < T.failures tree.new)
+    ensures over_tree { StepAnswersOverTree (T.agrees tree.new) (T.failures tree.old < T.failures tree.new)
         (λ u. done_view done.new (V.vars env.new)) result
         (λ files listings. steps.Switches (site_of settings files listings) (Some old.now) new.now
         (done_view done.old (V.vars env.old))) }
@@ -305,10 +297,9 @@ fn switch<T: Tree, V: Vars>(
     env: &mut V,
     tree: &mut T,
 ) -> Result<Done, Refusal>
-    ensures before { Narrows (T.agrees tree.old) (T.agrees tree.new) }
-    ensures later { T.failures tree.old ≤ T.failures tree.new }
+    ensures reads { ReadsOn T.agrees T.failures tree.old tree.new }
     ensures base { V.base env.new ≡ V.base env.old }
-    ensures over_tree { AnswersOverTree (T.agrees tree.new) (T.failures tree.old < T.failures tree.new)
+    ensures over_tree { StepAnswersOverTree (T.agrees tree.new) (T.failures tree.old < T.failures tree.new)
         (λ done. done_view done (V.vars env.new)) result
         (λ files listings. RequestStep (site_of settings files listings) (V.vars env.old)
         (actions.switch (option_map (λ x. x.now) old.entry) new.now)) }
@@ -341,10 +332,9 @@ fn report_names<T: Tree, V: Vars>(
     env: &mut V,
     tree: &mut T,
 ) -> Result<Done, Refusal>
-    ensures before { Narrows (T.agrees tree.old) (T.agrees tree.new) }
-    ensures later { T.failures tree.old ≤ T.failures tree.new }
+    ensures reads { ReadsOn T.agrees T.failures tree.old tree.new }
     ensures base { V.base env.new ≡ V.base env.old }
-    ensures over_tree { AnswersOverTree (T.agrees tree.new) (T.failures tree.old < T.failures tree.new)
+    ensures over_tree { StepAnswersOverTree (T.agrees tree.new) (T.failures tree.old < T.failures tree.new)
         (λ done. done_view done (V.vars env.new)) result
         (λ files listings. NeedsNames (map string_bytes names.now)
         (ShowsNames (site_of settings files listings) (report_mode report_kind)
@@ -399,9 +389,8 @@ fn avail<T: Tree, V: Vars>(
     env: &V,
     tree: &mut T,
 ) -> Result<Done, Refusal>
-    ensures before { Narrows (T.agrees tree.old) (T.agrees tree.new) }
-    ensures later { T.failures tree.old ≤ T.failures tree.new }
-    ensures over_tree { AnswersOverTree (T.agrees tree.new) (T.failures tree.old < T.failures tree.new)
+    ensures reads { ReadsOn T.agrees T.failures tree.old tree.new }
+    ensures over_tree { StepAnswersOverTree (T.agrees tree.new) (T.failures tree.old < T.failures tree.new)
         (λ done. done_view done (V.vars env.now)) result
         (λ files listings. ListsAll (site_of settings files listings) (V.vars env.now) (map string_bytes texts.now)) }
     ensures out_of_memory { IfErr result (MemoryNumberAmong (31 ∷ 41 ∷ [])) }
@@ -431,75 +420,38 @@ pub fn step<T: Tree, V: Vars>(
     tree: &mut T,
     limits: Limits,
 ) -> Result<Done, Refusal>
-    ensures before { Narrows (T.agrees tree.old) (T.agrees tree.new) }
-    ensures later { T.failures tree.old ≤ T.failures tree.new }
+    ensures reads { ReadsOn T.agrees T.failures tree.old tree.new }
     ensures base { V.base env.new ≡ V.base env.old }
-    ensures over_tree { AnswersOverTree (T.agrees tree.new) (T.failures tree.old < T.failures tree.new)
+    ensures over_tree { StepAnswersOverTree (T.agrees tree.new) (T.failures tree.old < T.failures tree.new)
         (λ done. done_view done (V.vars env.new)) result
-        (λ files listings. RequestStep (record {
-          files = files;
-          listings = listings;
-          limits = limits;
-          shell = request.now.shell;
-        }) (V.vars env.old) (action_view request.now.action)) }
+        (λ files listings. RequestStep (site_in limits request.now.shell files listings) (V.vars env.old)
+        (action_view request.now.action)) }
     ensures out_of_memory { IfErr result (MemoryNumberAmong (memory_numbers (action_view request.now.action))) }
     ensures failed { FailsAt is_failure (T.failed tree.old) (T.failed tree.new) result (λ at.
         InEachPair (T.agrees tree.new) (λ files listings.
-        RequestLooksAt (record {
-          files = files;
-          listings = listings;
-          limits = limits;
-          shell = request.now.shell;
-        }) (V.vars env.old) (action_view request.now.action) at)) }
+        RequestLooksAt (site_in limits request.now.shell files listings) (V.vars env.old)
+        (action_view request.now.action) at)) }
 {
     let settings = EvaluationSettings {
         limits,
         shell: request.shell,
     };
     match &request.action {
-        Action::Load(names) => change_names(
-            alloc,
-            settings,
-            NameAction::Load,
-            names.as_slice(),
-            env,
-            tree,
-        ),
+        Action::Load(names) => change_names(alloc, settings, NameAction::Load, names, env, tree),
         Action::Unload(names) => {
-            change_names(
-                alloc,
-                settings,
-                NameAction::Unload,
-                names.as_slice(),
-                env,
-                tree,
-            )
+            change_names(alloc, settings, NameAction::Unload, names, env, tree)
         }
         Action::Switch(old, new) => {
             switch(alloc, settings, old.as_deref(), new.as_str(), env, tree)
         }
         Action::Purge => purge(alloc, settings, env, tree),
         Action::List => list(alloc, env),
-        Action::Avail(texts) => avail(alloc, settings, texts.as_slice(), env, tree),
+        Action::Avail(texts) => avail(alloc, settings, texts, env, tree),
         Action::Show(names) => {
-            report_names(
-                alloc,
-                settings,
-                ReportKind::Commands,
-                names.as_slice(),
-                env,
-                tree,
-            )
+            report_names(alloc, settings, ReportKind::Commands, names, env, tree)
         }
         Action::Whatis(names) => {
-            report_names(
-                alloc,
-                settings,
-                ReportKind::Whatis,
-                names.as_slice(),
-                env,
-                tree,
-            )
+            report_names(alloc, settings, ReportKind::Whatis, names, env, tree)
         }
     }
 }

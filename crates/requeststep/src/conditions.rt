@@ -1,5 +1,6 @@
 //! Where conflicts and prereqs are judged: which loaded modules forbid a load, and which have lost what they need.
-//! `judge` of `entries.rt` asks these in their order for a load, `end` of `commands.rt` for the whole request.
+//! `judge` of `entries.rt` asks these in their order for a load, `refuse_lost_prereqs` of `commands.rt` for the whole
+//! request.
 ghost use Rattle.std.specs.Prelude.{◌≡◌, ◌&&◌, not, map, find, string_bytes};
 ghost use Rattle.std.specs.List.{list_any};
 ghost use Rattle.std.specs.Option.{option_map};
@@ -77,12 +78,10 @@ pub(crate) fn own_conflict<'a>(names: &[&str], entries: &'a [Loaded]) -> Option<
     ensures { option_map (λ x. entry_of x.now) result
         ≡ own_conflict (slice_texts names.now) (map entry_of entries.entry.now) }
 {
-    let mut rest = names;
-    while let [name, later @ ..] = rest {
+    for name in names {
         if let Some(entry) = first_meant(entries, name) {
             return Some(entry);
         }
-        rest = later;
     }
     None
 }

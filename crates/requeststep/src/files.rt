@@ -1,8 +1,8 @@
 //! One name of a request: its module is found, the module's file is evaluated, and the module is loaded, unloaded or
 //! reported on.
-ghost use Rattle.std.specs.Prelude.{◌≡◌, ◌<◌, ◌≤◌, IfOk, map, string_bytes};
+ghost use Rattle.std.specs.Prelude.{◌≡◌, ◌<◌, IfOk, map, string_bytes};
 ghost use Rattle.envloaded.specs.LoadedEntries.{entry_of};
-ghost use Rattle.filetree.specs.Agreement.{Files, Listings, FailsAt, InEachPair, Narrows};
+ghost use Rattle.filetree.specs.Agreement.{Files, Listings, FailsAt, InEachPair, ReadsOn};
 ghost use Rattle.filetree.specs.Modulefiles.{modulefile};
 ghost use Rattle.filetree.specs.Relations.{Is};
 ghost use Rattle.modulefile.specs.RecordViews.{mode_view, record_view};
@@ -14,7 +14,7 @@ ghost use Rattle.requests.specs.Refusals.{RefusedAs};
 ghost use Rattle.requests.specs.Steps.{Finds, LoadsFound, LoadsName, UnloadsEntry, UnloadsName, ShowsName, script_at};
 ghost use Rattle.requests.specs.Looked.{SearchLooksAt, LoadLooksAt, UnloadLooksAt, ShowLooksAt};
 ghost use Rattle.requeststep.specs.Views.{site_of, done_view};
-ghost use Rattle.requeststep.specs.Answers.{GivesOrRefuses, AnswersOverTree, is_failure};
+ghost use Rattle.requeststep.specs.Answers.{GivesOrRefuses, StepAnswersOverTree, is_failure};
 ghost use Rattle.requeststep.specs.Parts.{file_context, UnloadsByScript, ReportsFound, report_mode, report_text};
 
 use crate::conditions::{is_loaded, last_meant};
@@ -51,6 +51,21 @@ pub(crate) struct File<'a> {
     pub(crate) text: &'a str,
 }
 
+impl<'a> File<'a> {
+    /// The file of a module that was found.
+    pub(crate) fn of(found: &'a Found) -> File<'a>
+        ensures name { result.name.now ≡ string_bytes found.entry.now.name }
+        ensures path { result.path.now ≡ string_bytes found.entry.now.path }
+        ensures text { result.text.now ≡ string_bytes found.entry.now.text }
+    {
+        File {
+            name: found.name.as_str(),
+            path: found.path.as_str(),
+            text: found.text.as_str(),
+        }
+    }
+}
+
 /// Which report is made of a module's records.
 #[derive(Clone, Copy)]
 pub(crate) enum ReportKind {
@@ -67,9 +82,8 @@ pub(crate) fn find_module<T: Tree, V: Vars>(
     env: &V,
     tree: &mut T,
 ) -> Result<Found, Refusal>
-    ensures before { Narrows (T.agrees tree.old) (T.agrees tree.new) }
-    ensures later { T.failures tree.old ≤ T.failures tree.new }
-    ensures over_tree { AnswersOverTree (T.agrees tree.new)
+    ensures reads { ReadsOn T.agrees T.failures tree.old tree.new }
+    ensures over_tree { StepAnswersOverTree (T.agrees tree.new)
         (T.failures tree.old < T.failures tree.new) found_view result
         (λ files listings. Finds (site_of name_request.entry.settings files listings)
         (V.vars env.now) name_request.entry.typed.now) }
@@ -141,11 +155,7 @@ fn load_found<V: Vars>(
     if is_loaded(entries, found.name.as_str()) {
         return Ok(());
     }
-    let file = File {
-        name: found.name.as_str(),
-        path: found.path.as_str(),
-        text: found.text.as_str(),
-    };
+    let file = File::of(&found);
     let ran = evaluate(alloc, name_request, Mode::Load, entries, file, env)?;
     let loading = Module {
         name: found.name,
@@ -165,10 +175,9 @@ pub(crate) fn load_name<T: Tree, V: Vars>(
     tree: &mut T,
     done: &mut Done,
 ) -> Result<(), Refusal>
-    ensures before { Narrows (T.agrees tree.old) (T.agrees tree.new) }
-    ensures later { T.failures tree.old ≤ T.failures tree.new }
+    ensures reads { ReadsOn T.agrees T.failures tree.old tree.new }
     ensures base { V.base env.new ≡ V.base env.old }
-    ensures over_tree { AnswersOverTree (T.agrees tree.new) (T.failures tree.old < T.failures tree.new)
+    ensures over_tree { StepAnswersOverTree (T.agrees tree.new) (T.failures tree.old < T.failures tree.new)
         (λ u. done_view done.new (V.vars env.new)) result
         (λ files listings. LoadsName (site_of name_request.entry.settings files listings) name_request.entry.in_switch
         name_request.entry.typed.now (done_view done.old (V.vars env.old))) }
@@ -188,9 +197,8 @@ pub(crate) fn load_name<T: Tree, V: Vars>(
 /// The script in the file of a loaded module: 54 where no file is there, 55 where it has no cookie, 46 where it isn't
 /// UTF-8.
 fn script_at<T: Tree>(alloc: Global, tree: &mut T, path: &str) -> Result<String, Refusal>
-    ensures before { Narrows (T.agrees tree.old) (T.agrees tree.new) }
-    ensures later { T.failures tree.old ≤ T.failures tree.new }
-    ensures over_tree { AnswersOverTree (T.agrees tree.new) (T.failures tree.old < T.failures tree.new)
+    ensures reads { ReadsOn T.agrees T.failures tree.old tree.new }
+    ensures over_tree { StepAnswersOverTree (T.agrees tree.new) (T.failures tree.old < T.failures tree.new)
         (λ text. string_bytes text)
         result (λ files listings. Is (script_at path.now (modulefile (files path.now)))) }
     ensures failed { FailsAt is_failure (T.failed tree.old) (T.failed tree.new) result (λ at. at ≡ path.now) }
@@ -240,10 +248,9 @@ fn unload_entry<T: Tree, V: Vars>(
     tree: &mut T,
     done: &mut Done,
 ) -> Result<(), Refusal>
-    ensures before { Narrows (T.agrees tree.old) (T.agrees tree.new) }
-    ensures later { T.failures tree.old ≤ T.failures tree.new }
+    ensures reads { ReadsOn T.agrees T.failures tree.old tree.new }
     ensures base { V.base env.new ≡ V.base env.old }
-    ensures over_tree { AnswersOverTree (T.agrees tree.new) (T.failures tree.old < T.failures tree.new)
+    ensures over_tree { StepAnswersOverTree (T.agrees tree.new) (T.failures tree.old < T.failures tree.new)
         (λ u. done_view done.new (V.vars env.new)) result
         (λ files listings. UnloadsEntry
         (site_of name_request.entry.settings files listings) name_request.entry.in_switch
@@ -269,10 +276,9 @@ pub(crate) fn unload_name<T: Tree, V: Vars>(
     tree: &mut T,
     done: &mut Done,
 ) -> Result<(), Refusal>
-    ensures before { Narrows (T.agrees tree.old) (T.agrees tree.new) }
-    ensures later { T.failures tree.old ≤ T.failures tree.new }
+    ensures reads { ReadsOn T.agrees T.failures tree.old tree.new }
     ensures base { V.base env.new ≡ V.base env.old }
-    ensures over_tree { AnswersOverTree (T.agrees tree.new) (T.failures tree.old < T.failures tree.new)
+    ensures over_tree { StepAnswersOverTree (T.agrees tree.new) (T.failures tree.old < T.failures tree.new)
         (λ u. done_view done.new (V.vars env.new)) result
         (λ files listings. UnloadsName (site_of name_request.entry.settings files listings) name_request.entry.in_switch
         name_request.entry.typed.now (done_view done.old (V.vars env.old))) }
@@ -339,11 +345,7 @@ fn report_found<V: Vars>(
         (done_view done.old (V.vars env.old))) }
     ensures base { V.base env.new ≡ V.base env.old }
 {
-    let file = File {
-        name: found.name.as_str(),
-        path: found.path.as_str(),
-        text: found.text.as_str(),
-    };
+    let file = File::of(found);
     let ran = evaluate(
         alloc,
         name_request,
@@ -367,10 +369,9 @@ pub(crate) fn report_name<T: Tree, V: Vars>(
     tree: &mut T,
     done: &mut Done,
 ) -> Result<(), Refusal>
-    ensures before { Narrows (T.agrees tree.old) (T.agrees tree.new) }
-    ensures later { T.failures tree.old ≤ T.failures tree.new }
+    ensures reads { ReadsOn T.agrees T.failures tree.old tree.new }
     ensures base { V.base env.new ≡ V.base env.old }
-    ensures over_tree { AnswersOverTree (T.agrees tree.new) (T.failures tree.old < T.failures tree.new)
+    ensures over_tree { StepAnswersOverTree (T.agrees tree.new) (T.failures tree.old < T.failures tree.new)
         (λ u. done_view done.new (V.vars env.new)) result
         (λ files listings. ShowsName (site_of settings files listings) (report_mode report_kind)
         (report_text report_kind) typed.now

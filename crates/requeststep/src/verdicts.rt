@@ -1,9 +1,9 @@
-//! Judges the module that a name means: whether its file is plain.
-ghost use Rattle.std.specs.Prelude.{◌<◌, ◌≤◌, IfOk};
-ghost use Rattle.filetree.specs.Agreement.{FailsAt, InEachPair, Narrows};
+//! The verdict on the module that a name means: whether its file is plain.
+ghost use Rattle.std.specs.Prelude.{◌<◌, IfOk};
+ghost use Rattle.filetree.specs.Agreement.{FailsAt, InEachPair, ReadsOn};
 ghost use Rattle.requests.specs.Looked.{SearchLooksAt};
 ghost use Rattle.requests.specs.Verdicts.{HasVerdict};
-ghost use Rattle.requeststep.specs.Answers.{AnswersOverTree, is_failure};
+ghost use Rattle.requeststep.specs.Answers.{StepAnswersOverTree, is_failure};
 ghost use Rattle.requeststep.specs.Verdicts.{verdict_view, in_sh, PlainVerdictHolds};
 
 use crate::done::EvaluationSettings;
@@ -20,16 +20,15 @@ use tclrules::Limits;
 
 /// The verdict on the module that a name means; its file is evaluated over these variables, and has its effects on
 /// them.
-fn judge<T: Tree, V: Vars>(
+fn give_verdict<T: Tree, V: Vars>(
     alloc: Global,
     typed: &str,
     env: &mut V,
     tree: &mut T,
     limits: Limits,
 ) -> Result<Verdict, Refusal>
-    ensures before { Narrows (T.agrees tree.old) (T.agrees tree.new) }
-    ensures later { T.failures tree.old ≤ T.failures tree.new }
-    ensures over_tree { AnswersOverTree (T.agrees tree.new)
+    ensures reads { ReadsOn T.agrees T.failures tree.old tree.new }
+    ensures over_tree { StepAnswersOverTree (T.agrees tree.new)
         (T.failures tree.old < T.failures tree.new) verdict_view result
         (λ files listings. HasVerdict (in_sh limits files listings) (V.vars env.old) typed.now) }
     ensures failed { FailsAt is_failure (T.failed tree.old) (T.failed tree.new) result (λ at.
@@ -47,11 +46,7 @@ fn judge<T: Tree, V: Vars>(
     };
     let entries = entries_of(alloc, env)?;
     let found = find_module(alloc, name_request, env, tree)?;
-    let file = File {
-        name: found.name.as_str(),
-        path: found.path.as_str(),
-        text: found.text.as_str(),
-    };
+    let file = File::of(&found);
     let ran = evaluate(
         alloc,
         name_request,
@@ -79,9 +74,9 @@ pub fn verdict<T: Tree>(
     tree: &mut T,
     limits: Limits,
 ) -> Result<Verdict, Refusal>
-    ensures before { Narrows (T.agrees tree.old) (T.agrees tree.new) }
-    ensures later { T.failures tree.old ≤ T.failures tree.new }
-    ensures judged { AnswersOverTree (T.agrees tree.new) (T.failures tree.old < T.failures tree.new) verdict_view result
+    ensures reads { ReadsOn T.agrees T.failures tree.old tree.new }
+    ensures judged { StepAnswersOverTree (T.agrees tree.new)
+        (T.failures tree.old < T.failures tree.new) verdict_view result
         (λ files listings. HasVerdict (in_sh limits files listings) env.now name.now) }
     ensures plain { IfOk result (λ verdict. InEachPair (T.agrees tree.new) (λ files listings.
         PlainVerdictHolds (in_sh limits files listings) env.now name.now verdict)) }
@@ -90,5 +85,5 @@ pub fn verdict<T: Tree>(
         SearchLooksAt (in_sh limits files listings) env.now name.now at)) }
 {
     requests::verdicts();
-    judge(alloc, name, &mut Working::over(env), tree, limits)
+    give_verdict(alloc, name, &mut Working::over(env), tree, limits)
 }

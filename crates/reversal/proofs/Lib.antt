@@ -11,4 +11,4 @@ mod Requests
 mod Losses
 mod Histories
 mod Lost
-mod Parts
+pub mod Parts

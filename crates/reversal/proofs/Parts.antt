@@ -5,11 +5,12 @@ use Rattle.envvars.specs.Texts.{Text}
 use Rattle.envvars.proofs.EditLemmas.{both_true}
 use Rattle.modulerecords.specs.Records.{Record}
 use Rattle.modulerecords.specs.Moves.{Module, Move, Loads, Unloads}
-use Rattle.reversal.specs.VariableUses.{VariableUse, AllSuit, is_reversible}
+use Rattle.reversal.specs.VariableUses.{VariableUse, AllFollowUses, AllSuit, is_reversible}
 use Rattle.reversal.specs.Runs.{without_live, AreReversible}
-use Rattle.reversal.specs.Examples.{Part, of_kind, follows_use, apart, alive, unchanged, AllFollowUses, HasPart, PartsAreAll}
+use Rattle.reversal.specs.Examples.{Part, of_kind, follows_use, apart, alive, unchanged, HasPart, PartsAreAll}
 
-all_suit : (uses : Text → VariableUse) (rs : List Record) → list_all is_reversible rs ≡ true → AllFollowUses uses rs → AllSuit uses rs
+-- records that each suit in kind and in use
+pub all_suit : (uses : Text → VariableUse) (rs : List Record) → list_all is_reversible rs ≡ true → AllFollowUses uses rs → AllSuit uses rs
 all_suit uses [] k w = tt
 all_suit uses (r ∷ rs) k w = let b = both_true (is_reversible r) (list_all is_reversible rs) k in ((b.0, w.0), all_suit uses rs b.1 w.1)
 

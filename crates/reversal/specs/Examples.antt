@@ -8,7 +8,7 @@ use Rattle.envvars.specs.Fields.{colon}
 use Rattle.envloaded.specs.Loaded.{AreLoadedInOrder}
 use Rattle.modulerecords.specs.Records.{Record, Set, Unset, Push, Front, Back, Remove}
 use Rattle.modulerecords.specs.Moves.{Module, Move, Loads, Unloads, MovesReach}
-use Rattle.reversal.specs.VariableUses.{VariableUse, Untouched, Fixed, Pathed, Stacked, is_reversible, FollowsUse, AllSuit}
+use Rattle.reversal.specs.VariableUses.{VariableUse, Untouched, Fixed, Pathed, Stacked, is_reversible, AllFollowUses, AllSuit}
 use Rattle.reversal.specs.Live.{last_set, live_set}
 use Rattle.reversal.specs.Starts.{IsStart, IsStartWith}
 use Rattle.reversal.specs.Runs.{live_named, without_live, live_after, AreReversible}
@@ -52,11 +52,6 @@ pub data Part : Type 0 where
   alive : Part
   -- and it has the records of its load.
   unchanged : Part
-
--- all records follow the uses of their variables
-abbrev pub AllFollowUses : (Text → VariableUse) → List Record → Type 0
-AllFollowUses uses [] = Unit {0}
-AllFollowUses uses (r ∷ rs) = FollowsUse uses r × AllFollowUses uses rs
 
 -- what a part means for a load, and for an unload, while these modules are live
 abbrev pub OfLoad : Part → (Text → VariableUse) → List Module → Module → Type 0

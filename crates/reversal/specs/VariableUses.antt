@@ -40,6 +40,11 @@ FollowsUse uses (Conflict names) = Unit {0}
 FollowsUse uses (Prereq names) = Unit {0}
 FollowsUse uses (Whatis text) = Unit {0}
 
+-- Each record uses its variable as the variable is used by all modules.
+abbrev pub AllFollowUses : (Text → VariableUse) → List Record → Type 0
+AllFollowUses uses [] = Unit {0}
+AllFollowUses uses (r ∷ rs) = FollowsUse uses r × AllFollowUses uses rs
+
 -- it is of a kind that unloading undoes, and follows the use of its variable
 abbrev pub Suits : (Text → VariableUse) → Record → Type 0
 Suits uses r = (is_reversible r ≡ true) × FollowsUse uses r

@@ -8,7 +8,7 @@ use Rattle.filetree.specs.Agreement.{Files, Listings, InEachPair, Narrows}
 use Rattle.shells.specs.declared.shell.Shell.{Shell}
 use Rattle.tclrules.specs.declared.limits.Limits.{Limits}
 use Rattle.requests.specs.Sessions.{end_environment}
-use Rattle.modules.specs.Replies.{site_in}
+use Rattle.requests.specs.Steps.{site_in}
 use Rattle.modules.specs.Responses.{count_failed, responses}
 use Rattle.sessioncheck.specs.Checks.{IsCheck}
 use Rattle.sessioncheck.specs.Judgments.{AreJudgments, count_failed_judgments}

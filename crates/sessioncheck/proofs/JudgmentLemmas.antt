@@ -1,6 +1,6 @@
 -- Verdicts one after another, and the names that are judged.
-use Rattle.std.proofs.Common.{◌≡◌, ℕ, ◌+◌, ◌<◌, ◌≤◌, ◌-◌, List, [], ◌∷◌, ◌++◌, length, take, drop, get_or, Bor, string_bytes, Result, Ok, Err, refl, sym, subst, ap, ◌∙◌, arith, append_assoc}
-use Rattle.std.proofs.lemmas.List.{take_all}
+use Rattle.std.proofs.Common.{◌≡◌, ℕ, ◌+◌, ◌<◌, ◌≤◌, List, [], ◌∷◌, ◌++◌, length, take, get_or, Bor, string_bytes, Result, Ok, Err, refl, sym, subst, ap, ◌∙◌, arith}
+use Rattle.std.proofs.lemmas.List.{map-append, take_more}
 use Rattle.std.specs.List.{flat_map}
 use Rattle.envvars.specs.Texts.{Text, slice_texts, texts_in}
 use Rattle.envvars.specs.Environment.{Environment}
@@ -11,7 +11,7 @@ use Rattle.tclrules.specs.declared.limits.Limits.{Limits}
 use Rattle.requests.specs.Reasons.{RequestReason}
 use Rattle.requests.specs.Sessions.{Response, session_moves, env_after}
 use Rattle.requests.specs.Verdicts as verdicts
-use Rattle.requeststep.specs.Answers.{AnswersOverTree, cause_of}
+use Rattle.requeststep.specs.Answers.{StepAnswersOverTree, cause_of}
 use Rattle.requeststep.specs.Verdicts.{in_sh, verdict_view}
 use Rattle.requeststep.specs.MoveViews.{moves_of}
 use Rattle.requeststep.specs.declared.judged.Verdict.{Verdict}
@@ -34,7 +34,7 @@ narrowed_cause (because r) agrees agrees' failed failed' Is narrows fails h = λ
 
 narrowed : {X Y : Type 0} (view : X → Y) (agrees agrees' : Files → Listings → Type 0) (failed failed' : Type 0) (r : Result X Refusal)
     (Comes : Files → Listings → Result Y RequestReason → Type 0)
-    → Narrows agrees agrees' → (failed → failed') → AnswersOverTree agrees failed view r Comes → AnswersOverTree agrees' failed' view r Comes
+    → Narrows agrees agrees' → (failed → failed') → StepAnswersOverTree agrees failed view r Comes → StepAnswersOverTree agrees' failed' view r Comes
 narrowed view agrees agrees' failed failed' (Ok x) Comes narrows fails h = λ files listings a. h files listings (narrows files listings a)
 narrowed view agrees agrees' failed failed' (Err e) Comes narrows fails h =
     narrowed_cause (cause_of e) agrees agrees' failed failed' (λ r files listings. Comes files listings (Err r)) narrows fails h
@@ -93,7 +93,7 @@ cause_counts device before now Is later h = one_failed before now h
 cause_counts (because r) before now Is later h = none_failed before now later
 
 pub verdict_counts : (agrees : Files → Listings → Type 0) (before now : ℕ) (r : Result Verdict Refusal) (Comes : Files → Listings → Result verdicts.Verdict RequestReason → Type 0)
-    → before ≤ now → AnswersOverTree agrees (before < now) verdict_view r Comes → before + count_unjudged r ≤ now
+    → before ≤ now → StepAnswersOverTree agrees (before < now) verdict_view r Comes → before + count_unjudged r ≤ now
 verdict_counts agrees before now (Ok v) Comes later h = none_failed before now later
 verdict_counts agrees before now (Err refusal) Comes later h = cause_counts (cause_of refusal) before now (λ r. InEachPair agrees (λ files listings. Comes files listings (Err r))) later h
 
@@ -105,20 +105,19 @@ more_below a b c h k = omega arith
 pub below_more : (a b c : ℕ) → a ≤ b → b < c → a < c
 below_more a b c h k = omega arith
 
-pub moves_on : (done : List Text) (name : Text) (d : Bor Text) (rest : List (Bor Text)) (all : List Text) → 1 ≤ length rest → name ≡ (get_or rest 0 d).now
-    → done ++ slice_texts rest ≡ all → (done ++ name ∷ []) ++ slice_texts (take (length rest - 1) (drop 1 rest)) ≡ all
-moves_on done name d [] all some is h = absurd (omega arith)
-moves_on done name d (x ∷ xs) all some is h =
-    let whole : take (length (x ∷ xs) - 1) xs ≡ xs = take_all _ xs (omega arith) in
-    rw (whole, is) (append_assoc done (x.now ∷ []) (slice_texts xs) ∙ h)
+pub named_so_far : (names : List (Bor Text)) (i : ℕ) (d : Bor Text) (name : Text) → i < length names → name ≡ (get_or names i d).now
+    → slice_texts (take (i + 1) names) ≡ slice_texts (take i names) ++ name ∷ []
+named_so_far names i d name below same =
+    ap slice_texts (take_more names i d below)
+    ∙ (map-append (λ (x : Bor Text). x.now) (take i names) (get_or names i d ∷ []) ∙ ap (λ (t : Text). slice_texts (take i names) ++ t ∷ []) (sym same))
 
 -- a judgment of a name that was copied
 pub judged_name : (agrees : Files → Listings → Type 0) (failed failed' : Type 0) (limits : Limits) (e : Environment) (name : Text) (j : Judgment)
     → string_bytes j.name ≡ name → (failed → failed')
-    → AnswersOverTree agrees failed verdict_view j.verdict (λ files listings. verdicts.HasVerdict (in_sh limits files listings) e name)
+    → StepAnswersOverTree agrees failed verdict_view j.verdict (λ files listings. verdicts.HasVerdict (in_sh limits files listings) e name)
     → IsJudgment agrees failed' limits e (string_bytes j.name) j
 judged_name agrees failed failed' limits e name j same fails h =
-    let P : Text → Type 0 = λ n. AnswersOverTree agrees failed' verdict_view j.verdict (λ files listings. verdicts.HasVerdict (in_sh limits files listings) e n) in
+    let P : Text → Type 0 = λ n. StepAnswersOverTree agrees failed' verdict_view j.verdict (λ files listings. verdicts.HasVerdict (in_sh limits files listings) e n) in
     (refl, subst P (sym same) (narrowed verdict_view agrees agrees failed failed' j.verdict _ (λ files listings a. a) fails h))
 
 -- ---- the names of what was loaded

@@ -1,5 +1,5 @@
 -- Sessions of lines grow by one line at their end.
-use Rattle.std.proofs.Common.{◌≡◌, ℕ, ◌<◌, ◌≤◌, ◌+◌, true, List, [], ◌∷◌, ◌++◌, map, length, refl, sym, subst, ap, ◌∙◌, Ok, Err, append_assoc, append-nil, arith}
+use Rattle.std.proofs.Common.{◌≡◌, ℕ, ◌<◌, ◌≤◌, ◌+◌, true, List, [], ◌∷◌, ◌++◌, map, refl, sym, subst, ap, ◌∙◌, Ok, Err, append_assoc, append-nil, arith}
 use Rattle.envvars.specs.Texts.{Text}
 use Rattle.envvars.specs.Environment.{Environment}
 use Rattle.filetree.specs.Causes.{Cause, Applies, memory, device, because}
@@ -55,13 +55,10 @@ lines_taken s start e new words lines all sofar grown o os run is_response end m
     let Q : List Response → Type 0 = λ x. LineSession s start all x in
     subst Q (sym (append_assoc sofar (o ∷ []) os) ∙ ap (λ x. x ++ os) (sym more)) (run (is_response, subst P end rest))
 
-no_more : {W : Type 0} (view : W → List Text) (s : Site) (e : Environment) (rest : List W) → length rest < 1 → LineSession s e (map view rest) []
-no_more view s e [] none = tt
-no_more view s e (w ∷ ws) none = absurd (omega arith)
-
 -- no line remains
-pub lines_done : {W : Type 0} (view : W → List Text) (s : Site) (start e : Environment) (rest : List W) (all : List (List Text)) (sofar : List Response) → length rest < 1
+pub lines_done : {W : Type 0} (view : W → List Text) (s : Site) (start e : Environment) (rest : List W) (all : List (List Text)) (sofar : List Response) → rest ≡ []
     → ((os : List Response) → LineSession s e (map view rest) os → LineSession s start all (sofar ++ os)) → LineSession s start all sofar
-lines_done view s start e rest all sofar none run =
-    let P : List Response → Type 0 = λ x. LineSession s start all x in
-    subst P (append-nil sofar) (run [] (no_more view s e rest none))
+lines_done {W} view s start e rest all sofar none run =
+    let Whole : List Response → Type 0 = λ x. LineSession s start all x in
+    let Rest : List W → Type 0 = λ ws. LineSession s e (map view ws) [] in
+    subst Whole (append-nil sofar) (run [] (subst Rest (sym none) tt))

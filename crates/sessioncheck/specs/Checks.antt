@@ -7,7 +7,7 @@ use Rattle.filetree.specs.Agreement.{Files, Listings, InEachPair}
 use Rattle.shells.specs.declared.shell.Shell.{Shell}
 use Rattle.tclrules.specs.declared.limits.Limits.{Limits}
 use Rattle.requests.specs.Sessions.{Response, end_environment}
-use Rattle.modules.specs.Replies.{site_in}
+use Rattle.requests.specs.Steps.{site_in}
 use Rattle.modules.specs.Responses.{count_failed, responses}
 use Rattle.modules.specs.declared.sessions.Outcome.{Outcome}
 use Rattle.modules.specs.declared.sessions.Outcome.TheVariants.{Accepted, Refused}

@@ -8,7 +8,7 @@ use Rattle.modulerecords.specs.Moves.{loaded_names}
 use Rattle.tclrules.specs.declared.limits.Limits.{Limits}
 use Rattle.requests.specs.Sessions.{Response, session_moves}
 use Rattle.requests.specs.Verdicts.{HasVerdict}
-use Rattle.requeststep.specs.Answers.{AnswersOverTree, cause_of}
+use Rattle.requeststep.specs.Answers.{StepAnswersOverTree, cause_of}
 use Rattle.requeststep.specs.Verdicts.{verdict_view, in_sh}
 use Rattle.requeststep.specs.declared.judged.Verdict.{Verdict}
 use Rattle.requeststep.specs.declared.refusal.Refusal.{Refusal}
@@ -23,7 +23,7 @@ names_loaded os = without_repeats (loaded_names (session_moves os))
 abbrev pub IsJudgment : (Files → Listings → Type 0) → Type 0 → Limits → Environment → Text → Judgment → Type 0
 IsJudgment agrees failed limits e name judgment =
     (string_bytes judgment.name ≡ name)
-    × AnswersOverTree agrees failed verdict_view judgment.verdict
+    × StepAnswersOverTree agrees failed verdict_view judgment.verdict
     (λ files listings. HasVerdict (in_sh limits files listings) e name)
 
 -- the verdicts on the modules of these names, one for each, in order

@@ -2,13 +2,13 @@
 ghost use Rattle.std.specs.Prelude.{◌≡◌, ◌<◌, ◌≤◌, ◌+◌, IfOk, IfErr};
 ghost use Rattle.std.specs.List.{flat_map};
 ghost use Rattle.envvars.specs.Fields.{without_repeats};
-ghost use Rattle.filetree.specs.Agreement.{Narrows};
+ghost use Rattle.filetree.specs.Agreement.{ReadsOn};
 ghost use Rattle.requeststep.specs.declared.refusal.Refusal.TheVariants as refusals;
 ghost use Rattle.sessioncheck.specs.Judgments.{AreJudgments, count_failed_judgments};
 ghost use Rattle.sessioncheck.specs.Parts.{loaded_in};
 ghost use Rattle.sessioncheck.specs.Checks.{IsCheck, all_accepted, was_accepted};
 
-use crate::judging::{Judgment, judge};
+use crate::judging::{Judgment, give_verdicts};
 use crate::lines::lines_in;
 use crate::loading::names_loaded;
 use crate::running::run_lines;
@@ -54,8 +54,7 @@ fn judge_loaded<T: Tree>(
     tree: &mut T,
     limits: Limits,
 ) -> Result<Vec<Judgment>, AllocError>
-    ensures before { Narrows (T.agrees tree.old) (T.agrees tree.new) }
-    ensures later { T.failures tree.old ≤ T.failures tree.new }
+    ensures reads { ReadsOn T.agrees T.failures tree.old tree.new }
     ensures judged { IfOk result (λ judgments.
         AreJudgments (T.agrees tree.new) (T.failures tree.old < T.failures tree.new) limits env.now
         (without_repeats (flat_map loaded_in outcomes.now)) judgments.items) }
@@ -63,7 +62,7 @@ fn judge_loaded<T: Tree>(
         T.failures tree.old + count_failed_judgments judgments.items ≤ T.failures tree.new) }
 {
     let names = names_loaded(alloc, outcomes)?;
-    judge(alloc, names.as_slice(), env, tree, limits)
+    give_verdicts(alloc, names.as_slice(), env, tree, limits)
 }
 
 /// Runs the requests of lines one after another from an environment, which doesn't change, over a tree of modulefiles,
@@ -83,8 +82,7 @@ pub fn check<T: Tree>(
     tree: &mut T,
     limits: Limits,
 ) -> Result<Findings, Refusal>
-    ensures before { Narrows (T.agrees tree.old) (T.agrees tree.new) }
-    ensures later { T.failures tree.old ≤ T.failures tree.new }
+    ensures reads { ReadsOn T.agrees T.failures tree.old tree.new }
     ensures checked { IfOk result (IsCheck (T.agrees tree.new) (T.failures tree.old) (T.failures tree.new)
         limits shell env.now text.now) }
     ensures only { IfErr result (λ refusal. refusal ≡ refusals.OutOfMemory) }

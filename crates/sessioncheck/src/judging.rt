@@ -1,7 +1,7 @@
-//! Judges modules by their names, each with a verdict or why there is none.
+//! The verdicts on modules by their names, or why there is none.
 ghost use Rattle.std.specs.Prelude.{◌<◌, ◌≤◌, ◌+◌, IfOk};
 ghost use Rattle.envvars.specs.Texts.{slice_texts};
-ghost use Rattle.filetree.specs.Agreement.{Narrows};
+ghost use Rattle.filetree.specs.Agreement.{ReadsOn};
 ghost use Rattle.sessioncheck.specs.Judgments.{AreJudgments, count_failed_judgments};
 
 use envvars::Env;
@@ -19,16 +19,15 @@ pub struct Judgment {
     pub verdict: Result<Verdict, Refusal>,
 }
 
-/// Judges the modules of these names in an environment.
-pub(crate) fn judge<T: Tree>(
+/// The verdicts on the modules of these names, in an environment.
+pub(crate) fn give_verdicts<T: Tree>(
     alloc: Global,
     names: &[&str],
     env: &Env,
     tree: &mut T,
     limits: Limits,
 ) -> Result<Vec<Judgment>, AllocError>
-    ensures before { Narrows (T.agrees tree.old) (T.agrees tree.new) }
-    ensures later { T.failures tree.old ≤ T.failures tree.new }
+    ensures reads { ReadsOn T.agrees T.failures tree.old tree.new }
     ensures judged { IfOk result (λ judgments.
         AreJudgments (T.agrees tree.new) (T.failures tree.old < T.failures tree.new) limits env.now
         (slice_texts names.now)
@@ -37,15 +36,13 @@ pub(crate) fn judge<T: Tree>(
         T.failures tree.old + count_failed_judgments judgments.items ≤ T.failures tree.new) }
 {
     let mut judgments = Vec::new(alloc);
-    let mut rest = names;
-    while let [name, later @ ..] = rest {
+    for name in names {
         let answer = verdict(alloc, name, env, tree, limits);
         let full_name = String::from_str(alloc, name)?;
         judgments.push(Judgment {
             name: full_name,
             verdict: answer,
         })?;
-        rest = later;
     }
     Ok(judgments)
 }

@@ -21,11 +21,8 @@ fn push_word(alloc: Global, word: &str, words: &mut Vec<String>) -> Result<(), A
 fn push_words(alloc: Global, text: &str, words: &mut Vec<String>) -> Result<(), AllocError>
     ensures { OnOk result (texts_in words.new ≡ texts_in words.old ++ words_between_tabs text.now) }
 {
-    let between = parts(alloc, text, '\t')?;
-    let mut rest = between.as_slice();
-    while let [word, later @ ..] = rest {
+    for word in &parts(alloc, text, '\t')? {
         push_word(alloc, word, words)?;
-        rest = later;
     }
     Ok(())
 }
@@ -35,11 +32,8 @@ fn words_in(alloc: Global, line: &str) -> Result<Vec<String>, AllocError>
     ensures { IfOk result (λ words. texts_in words ≡ spec.words_in line.now) }
 {
     let mut words = Vec::new(alloc);
-    let between = parts(alloc, line, ' ')?;
-    let mut rest = between.as_slice();
-    while let [text, later @ ..] = rest {
+    for text in &parts(alloc, line, ' ')? {
         push_words(alloc, text, &mut words)?;
-        rest = later;
     }
     Ok(words)
 }
@@ -60,11 +54,8 @@ pub(crate) fn lines_in(alloc: Global, text: &str) -> Result<Vec<Vec<String>>, Al
     ensures { IfOk result (λ lines. map texts_in lines.items ≡ spec.lines_in text.now) }
 {
     let mut lines = Vec::new(alloc);
-    let between = parts(alloc, text, '\n')?;
-    let mut rest = between.as_slice();
-    while let [line, later @ ..] = rest {
+    for line in &parts(alloc, text, '\n')? {
         push_line(alloc, line, &mut lines)?;
-        rest = later;
     }
     Ok(lines)
 }

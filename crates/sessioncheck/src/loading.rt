@@ -13,10 +13,8 @@ use std::alloc::{AllocError, Global};
 fn push_names<'a>(names: &mut Vec<&'a str>, loaded: &'a [String]) -> Result<(), AllocError>
     ensures { OnOk result (slice_texts names.new.items ≡ slice_texts names.old.items ++ map string_bytes loaded.now) }
 {
-    let mut rest = loaded;
-    while let [name, later @ ..] = rest {
+    for name in loaded {
         names.push(name.as_str())?;
-        rest = later;
     }
     Ok(())
 }
@@ -26,12 +24,10 @@ pub(crate) fn names_loaded(alloc: Global, outcomes: &[Outcome]) -> Result<Vec<&s
     ensures { IfOk result (λ names. slice_texts names.items ≡ without_repeats (flat_map loaded_in outcomes.now)) }
 {
     let mut names = Vec::new(alloc);
-    let mut rest = outcomes;
-    while let [outcome, later @ ..] = rest {
+    for outcome in outcomes {
         if let Outcome::Accepted(done) = outcome {
-            push_names(&mut names, done.loaded.as_slice())?;
+            push_names(&mut names, &done.loaded)?;
         }
-        rest = later;
     }
     deduplicated(alloc, names.as_slice())
 }

@@ -36,8 +36,8 @@ fn judgment_line(alloc: Global, judgment: &Judgment) -> Result<String, AllocErro
 fn push_outcomes(alloc: Global, report: &mut String, outcomes: &[Outcome]) -> Result<(), AllocError>
     ensures { OnOk result (string_bytes report.new ≡ string_bytes report.old ++ spec.outcome_lines 1 outcomes.now) }
 {
-    for i in 0..outcomes.len() {
-        report.push_str(outcome_line(alloc, i + 1, &outcomes[i])?.as_str())?;
+    for (index, outcome) in outcomes.iter().enumerate() {
+        report.push_str(outcome_line(alloc, index + 1, outcome)?.as_str())?;
     }
     Ok(())
 }
@@ -51,10 +51,8 @@ fn push_judgments(
     ensures { OnOk result (string_bytes report.new
         ≡ string_bytes report.old ++ flat_map spec.judgment_line judgments.now) }
 {
-    let mut rest = judgments;
-    while let [judgment, later @ ..] = rest {
+    for judgment in judgments {
         report.push_str(judgment_line(alloc, judgment)?.as_str())?;
-        rest = later;
     }
     Ok(())
 }

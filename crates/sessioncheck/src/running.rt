@@ -1,9 +1,9 @@
 //! Runs lines one after another, each by the request that its words make.
 ghost use Rattle.std.specs.Prelude.{◌≡◌, ◌≤◌, ◌+◌, [], ◌∷◌, map, IfOk, IfErr, string_bytes};
 ghost use Rattle.envvars.specs.Texts.{texts_in};
-ghost use Rattle.filetree.specs.Agreement.{Narrows, InEachPair};
+ghost use Rattle.filetree.specs.Agreement.{Narrows, InEachPair, ReadsOn};
 ghost use Rattle.requeststep.specs.declared.refusal.Refusal.TheVariants as refusals;
-ghost use Rattle.modules.specs.Replies.{site_in};
+ghost use Rattle.requests.specs.Steps.{site_in};
 ghost use Rattle.modules.specs.Responses.{response_of, responses, count_failed};
 ghost use Rattle.requests.specs.Sessions.{env_after, end_environment};
 ghost use Rattle.sessioncheck.specs.Sessions.{IsLineResponse, LineSession};
@@ -24,7 +24,7 @@ fn respond_to<T: Tree>(
     tree: &mut T,
     limits: Limits,
 ) -> Outcome
-    ensures before { Narrows (T.agrees tree.old) (T.agrees tree.new) }
+    ensures narrows { Narrows (T.agrees tree.old) (T.agrees tree.new) }
     ensures failures { T.failures tree.old + count_failed (result ∷ []) ≤ T.failures tree.new }
     ensures answer { InEachPair (T.agrees tree.new) (λ files listings.
         IsLineResponse (site_in limits shell files listings) env.old (map string_bytes words.now)
@@ -47,8 +47,7 @@ pub(crate) fn run_lines<T: Tree>(
     tree: &mut T,
     limits: Limits,
 ) -> Result<Vec<Outcome>, Refusal>
-    ensures before { Narrows (T.agrees tree.old) (T.agrees tree.new) }
-    ensures later { T.failures tree.old ≤ T.failures tree.new }
+    ensures reads { ReadsOn T.agrees T.failures tree.old tree.new }
     ensures failures { IfOk result (λ outcomes.
         T.failures tree.old + count_failed outcomes.items ≤ T.failures tree.new) }
     ensures ran { IfOk result (λ outcomes. InEachPair (T.agrees tree.new) (λ files listings.
@@ -59,11 +58,9 @@ pub(crate) fn run_lines<T: Tree>(
     ensures only { IfErr result (λ refusal. refusal ≡ refusals.OutOfMemory) }
 {
     let mut outcomes = Vec::new(alloc);
-    let mut rest = lines;
-    while let [words, later @ ..] = rest {
+    for words in lines {
         let outcome = respond_to(alloc, shell, words.as_slice(), env, tree, limits);
         outcomes.push(outcome)?;
-        rest = later;
     }
     Ok(outcomes)
 }

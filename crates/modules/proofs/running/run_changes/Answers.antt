@@ -3,15 +3,14 @@ use Rattle.std.proofs.lemmas.Result.{err_from_is_err_and}
 use Rattle.envvars.specs.Environment.{Environment}
 use Rattle.envvars.specs.Changes.{new_values_in}
 use Rattle.requests.specs.RequestViews.{action_view}
-use Rattle.requests.specs.Steps.{RequestStep}
+use Rattle.requests.specs.Steps.{RequestStep, site_in}
 use Rattle.requeststep.specs.Views.{done_view}
 use Rattle.requeststep.proofs.MemoryNumberLemmas.{own_number}
-use Rattle.modules.specs.Replies.{site_in}
 use Rattle.modules.proofs.RunLemmas.{left_of, exact_of}
 use Rattle.modules.proofs.running.run_changes.Goals as goal
 
-pub returns-clause-answer : goal.returns-clause-answer
-returns-clause-answer g c =
+pub returns-clause-over_tree : goal.returns-clause-over_tree
+returns-clause-over_tree g c =
     λ files listings agreed.
     let site = site_in c.args.limits c.args.request.now.shell files listings in
     let asked = action_view c.args.request.now.action in

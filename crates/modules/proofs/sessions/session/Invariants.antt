@@ -1,21 +1,18 @@
-use Rattle.std.proofs.Common.{◌≡◌, ◌≤◌, ◌+◌, ◌++◌, List, length, map}
-use Rattle.filetree.specs.Agreement.{InEachPair}
+use Rattle.std.proofs.Common.{◌≡◌, ◌≤◌, ◌+◌, ◌++◌, List, drop, map}
+use Rattle.filetree.specs.Agreement.{InEachPair, Narrows}
 use Rattle.shells.specs.declared.shell.Shell.{Shell}
 use Rattle.requests.specs.RequestViews.{request_view}
 use Rattle.requests.specs.Sessions.{Response, Session, end_environment}
-use Rattle.modules.specs.Replies.{site_in}
+use Rattle.requests.specs.Steps.{site_in}
 use Rattle.modules.specs.Responses.{responses, count_failed}
 use Rattle.modules.proofs.sessions.session.Given as goal
 
-abbrev pub invariant-loop-rest : goal.invariant-loop-rest
-invariant-loop-rest g l = record {
-  before : InEachPair (g.T.Tree.agrees l.tree) (λ files listings. g.T.Tree.agrees l.initial.tree files listings);
+abbrev pub invariant-loop-request : goal.invariant-loop-request
+invariant-loop-request g l = record {
+  narrows : Narrows (g.T.Tree.agrees l.initial.tree) (g.T.Tree.agrees l.tree);
   failures : g.T.Tree.failures l.initial.tree + count_failed l.outcomes.items ≤ g.T.Tree.failures l.tree;
   end : InEachPair (g.T.Tree.agrees l.tree) (λ files listings. l.after ≡ end_environment l.initial.after (responses l.initial.after l.outcomes.items));
   ran : InEachPair (g.T.Tree.agrees l.tree) (λ files listings. (shell : Shell) (os : List Response)
-      → Session (site_in l.limits shell files listings) l.after (map request_view l.rest) os
+      → Session (site_in l.limits shell files listings) l.after (map request_view (drop l.request-index l.requests)) os
       → Session (site_in l.limits shell files listings) l.initial.after (map request_view l.requests) (responses l.initial.after l.outcomes.items ++ os));
 }
-
-abbrev pub decreases-loop-rest : goal.decreases-loop-rest
-decreases-loop-rest g l = length l.rest

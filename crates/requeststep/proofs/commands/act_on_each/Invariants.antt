@@ -1,5 +1,5 @@
-use Rattle.std.proofs.Common.{◌≡◌, ◌≤◌, List, ℕ, Result, length, map, string_bytes}
-use Rattle.filetree.specs.Agreement.{InEachPair, Narrows}
+use Rattle.std.proofs.Common.{◌≡◌, List, ℕ, Result, drop, map, string_bytes}
+use Rattle.filetree.specs.Agreement.{InEachPair, ReadsOn}
 use Rattle.requests.specs.Reasons.{RequestReason}
 use Rattle.requests.specs.Steps as steps
 use Rattle.requests.specs.Steps.{Each}
@@ -7,19 +7,15 @@ use Rattle.requeststep.specs.Views.{site_of, done_view}
 use Rattle.requeststep.specs.Parts.{NameActionStep, EachActionLooksAt}
 use Rattle.requeststep.proofs.commands.act_on_each.Given as goal
 
-abbrev pub invariant-loop-rest : goal.invariant-loop-rest
-invariant-loop-rest g l = record {
-  before : Narrows (g.T.Tree.agrees l.initial.tree) (g.T.Tree.agrees l.tree);
+abbrev pub invariant-loop-name : goal.invariant-loop-name
+invariant-loop-name g l = record {
+  reads : ReadsOn g.T.Tree.agrees g.T.Tree.failures l.initial.tree l.tree;
   done_so : InEachPair (g.T.Tree.agrees l.tree) (λ files listings. (o : Result steps.Done RequestReason)
-      → Each (NameActionStep l.name_action (site_of l.settings files listings)) (map string_bytes l.rest) (done_view l.done (g.V.Vars.vars l.env)) o
+      → Each (NameActionStep l.name_action (site_of l.settings files listings)) (map string_bytes (drop l.name-index l.names)) (done_view l.done (g.V.Vars.vars l.env)) o
       → Each (NameActionStep l.name_action (site_of l.settings files listings)) (map string_bytes l.names) (done_view l.initial.done (g.V.Vars.vars l.initial.env)) o);
-  later : g.T.Tree.failures l.initial.tree ≤ g.T.Tree.failures l.tree;
   base : g.V.Vars.base l.env ≡ g.V.Vars.base l.initial.env;
   unfailed : g.T.Tree.failed l.tree ≡ g.T.Tree.failed l.initial.tree;
   looked : InEachPair (g.T.Tree.agrees l.tree) (λ files listings. (at : List ℕ)
-      → EachActionLooksAt l.name_action (site_of l.settings files listings) (map string_bytes l.rest) (done_view l.done (g.V.Vars.vars l.env)) at
+      → EachActionLooksAt l.name_action (site_of l.settings files listings) (map string_bytes (drop l.name-index l.names)) (done_view l.done (g.V.Vars.vars l.env)) at
       → EachActionLooksAt l.name_action (site_of l.settings files listings) (map string_bytes l.names) (done_view l.initial.done (g.V.Vars.vars l.initial.env)) at);
 }
-
-abbrev pub decreases-loop-rest : goal.decreases-loop-rest
-decreases-loop-rest g l = length l.rest

@@ -10,48 +10,32 @@ use Rattle.requeststep.specs.declared.done.EvaluationSettings.{EvaluationSetting
 use Rattle.requeststep.specs.declared.done.Done.{Done}
 use Rattle.requeststep.specs.Messages.{MemoryNumberAmong, memory_numbers}
 use Rattle.requeststep.specs.Views.{site_of, done_view}
-use Rattle.requeststep.proofs.StepLemmas.{over_tree_given, over_tree_of}
+use Rattle.requeststep.proofs.ActionLemmas.{answers_action, fails_at_action}
+use Rattle.requeststep.proofs.StepLemmas.{over_tree_given}
 use Rattle.requeststep.proofs.MemoryNumberLemmas.{wants_any}
-use Rattle.requests.specs.Looked.{RequestLooksAt}
-use Rattle.requeststep.proofs.FailureLemmas.{fails_of, gives_unfailed}
+use Rattle.requeststep.proofs.FailureLemmas.{gives_unfailed}
 use Rattle.requeststep.proofs.commands.step.Goals as goal
 
 pub returns-in-Load-clause-over_tree : goal.returns-in-Load-clause-over_tree
 returns-in-Load-clause-over_tree g c =
-    let e = g.V.Vars.vars c.args.env.now in
-    let settings : EvaluationSettings = record { limits = c.args.limits; shell = c.args.request.now.shell } in
-    let rose = g.T.Tree.failures c.args.tree.now < g.T.Tree.failures c.change_names.new.tree in
-    let over_tree = rw c.as_slice.ensures.value at c.change_names.ensures.over_tree in
-    over_tree_of (g.T.Tree.agrees c.change_names.new.tree) rose (λ (x : Done). done_view x (g.V.Vars.vars c.change_names.new.env)) c.change_names.result
-    (λ (action : Action) files listings. RequestStep (site_of settings files listings) e (action_view action)) c.args.request.now.action (actions.Load c.in-Load.names) c.in-Load.is over_tree
+    answers_action (g.T.Tree.agrees c.change_names.new.tree) c.args.limits c.args.request.now.shell (g.V.Vars.vars c.args.env.now) c.args.request.now.action (actions.Load c.in-Load.names) c.in-Load.is c.change_names.result
+    (g.T.Tree.failures c.args.tree.now < g.T.Tree.failures c.change_names.new.tree) (λ (x : Done). done_view x (g.V.Vars.vars c.change_names.new.env)) (rw c.deref.ensures.value at c.change_names.ensures.over_tree)
 
 pub returns-in-Unload-clause-over_tree : goal.returns-in-Unload-clause-over_tree
 returns-in-Unload-clause-over_tree g c =
-    let e = g.V.Vars.vars c.args.env.now in
-    let settings : EvaluationSettings = record { limits = c.args.limits; shell = c.args.request.now.shell } in
-    let rose = g.T.Tree.failures c.args.tree.now < g.T.Tree.failures c.change_names-in-Unload.new.tree in
-    let over_tree = rw c.as_slice-in-Unload.ensures.value at c.change_names-in-Unload.ensures.over_tree in
-    over_tree_of (g.T.Tree.agrees c.change_names-in-Unload.new.tree) rose (λ (x : Done). done_view x (g.V.Vars.vars c.change_names-in-Unload.new.env)) c.change_names-in-Unload.result
-    (λ (action : Action) files listings. RequestStep (site_of settings files listings) e (action_view action)) c.args.request.now.action (actions.Unload c.in-Unload.names) c.in-Unload.is over_tree
+    answers_action (g.T.Tree.agrees c.change_names-in-Unload.new.tree) c.args.limits c.args.request.now.shell (g.V.Vars.vars c.args.env.now) c.args.request.now.action (actions.Unload c.in-Unload.names) c.in-Unload.is c.change_names-in-Unload.result
+    (g.T.Tree.failures c.args.tree.now < g.T.Tree.failures c.change_names-in-Unload.new.tree) (λ (x : Done). done_view x (g.V.Vars.vars c.change_names-in-Unload.new.env)) (rw c.deref-in-Unload.ensures.value at c.change_names-in-Unload.ensures.over_tree)
 
 pub returns-in-Switch-clause-over_tree : goal.returns-in-Switch-clause-over_tree
 returns-in-Switch-clause-over_tree g c =
-    let e = g.V.Vars.vars c.args.env.now in
-    let settings : EvaluationSettings = record { limits = c.args.limits; shell = c.args.request.now.shell } in
-    let rose = g.T.Tree.failures c.args.tree.now < g.T.Tree.failures c.switch.new.tree in
     let old : option_map (λ (x : Bor Text). x.now) c.as_deref.result ≡ option_map (λ (s : String Global). string_bytes s) c.in-Switch.old = c.as_deref.ensures.value in
-    let over_tree = rw (old, c.as_str.ensures.value) at c.switch.ensures.over_tree in
-    over_tree_of (g.T.Tree.agrees c.switch.new.tree) rose (λ (x : Done). done_view x (g.V.Vars.vars c.switch.new.env)) c.switch.result
-    (λ (action : Action) files listings. RequestStep (site_of settings files listings) e (action_view action)) c.args.request.now.action (actions.Switch c.in-Switch.old c.in-Switch.new) c.in-Switch.is over_tree
+    answers_action (g.T.Tree.agrees c.switch.new.tree) c.args.limits c.args.request.now.shell (g.V.Vars.vars c.args.env.now) c.args.request.now.action (actions.Switch c.in-Switch.old c.in-Switch.new) c.in-Switch.is c.switch.result
+    (g.T.Tree.failures c.args.tree.now < g.T.Tree.failures c.switch.new.tree) (λ (x : Done). done_view x (g.V.Vars.vars c.switch.new.env)) (rw (old, c.as_str.ensures.value) at c.switch.ensures.over_tree)
 
 pub returns-in-Purge-clause-over_tree : goal.returns-in-Purge-clause-over_tree
 returns-in-Purge-clause-over_tree g c =
-    let e = g.V.Vars.vars c.args.env.now in
-    let settings : EvaluationSettings = record { limits = c.args.limits; shell = c.args.request.now.shell } in
-    let rose = g.T.Tree.failures c.args.tree.now < g.T.Tree.failures c.purge.new.tree in
-    let over_tree = c.purge.ensures.over_tree in
-    over_tree_of (g.T.Tree.agrees c.purge.new.tree) rose (λ (x : Done). done_view x (g.V.Vars.vars c.purge.new.env)) c.purge.result
-    (λ (action : Action) files listings. RequestStep (site_of settings files listings) e (action_view action)) c.args.request.now.action actions.Purge c.in-Purge.is over_tree
+    answers_action (g.T.Tree.agrees c.purge.new.tree) c.args.limits c.args.request.now.shell (g.V.Vars.vars c.args.env.now) c.args.request.now.action actions.Purge c.in-Purge.is c.purge.result
+    (g.T.Tree.failures c.args.tree.now < g.T.Tree.failures c.purge.new.tree) (λ (x : Done). done_view x (g.V.Vars.vars c.purge.new.env)) c.purge.ensures.over_tree
 
 pub returns-in-List-clause-over_tree : goal.returns-in-List-clause-over_tree
 returns-in-List-clause-over_tree g c =
@@ -64,30 +48,18 @@ returns-in-List-clause-over_tree g c =
 
 pub returns-in-Avail-clause-over_tree : goal.returns-in-Avail-clause-over_tree
 returns-in-Avail-clause-over_tree g c =
-    let e = g.V.Vars.vars c.args.env.now in
-    let settings : EvaluationSettings = record { limits = c.args.limits; shell = c.args.request.now.shell } in
-    let rose = g.T.Tree.failures c.args.tree.now < g.T.Tree.failures c.avail.new.tree in
-    let over_tree = rw c.as_slice-in-Avail.ensures.value at c.avail.ensures.over_tree in
-    over_tree_of (g.T.Tree.agrees c.avail.new.tree) rose (λ (x : Done). done_view x (g.V.Vars.vars c.args.env.now)) c.avail.result
-    (λ (action : Action) files listings. RequestStep (site_of settings files listings) e (action_view action)) c.args.request.now.action (actions.Avail c.in-Avail.texts) c.in-Avail.is over_tree
+    answers_action (g.T.Tree.agrees c.avail.new.tree) c.args.limits c.args.request.now.shell (g.V.Vars.vars c.args.env.now) c.args.request.now.action (actions.Avail c.in-Avail.texts) c.in-Avail.is c.avail.result
+    (g.T.Tree.failures c.args.tree.now < g.T.Tree.failures c.avail.new.tree) (λ (x : Done). done_view x (g.V.Vars.vars c.args.env.now)) (rw c.deref-in-Avail.ensures.value at c.avail.ensures.over_tree)
 
 pub returns-in-Show-clause-over_tree : goal.returns-in-Show-clause-over_tree
 returns-in-Show-clause-over_tree g c =
-    let e = g.V.Vars.vars c.args.env.now in
-    let settings : EvaluationSettings = record { limits = c.args.limits; shell = c.args.request.now.shell } in
-    let rose = g.T.Tree.failures c.args.tree.now < g.T.Tree.failures c.report_names.new.tree in
-    let over_tree = rw c.as_slice-in-Show.ensures.value at c.report_names.ensures.over_tree in
-    over_tree_of (g.T.Tree.agrees c.report_names.new.tree) rose (λ (x : Done). done_view x (g.V.Vars.vars c.report_names.new.env)) c.report_names.result
-    (λ (action : Action) files listings. RequestStep (site_of settings files listings) e (action_view action)) c.args.request.now.action (actions.Show c.in-Show.names) c.in-Show.is over_tree
+    answers_action (g.T.Tree.agrees c.report_names.new.tree) c.args.limits c.args.request.now.shell (g.V.Vars.vars c.args.env.now) c.args.request.now.action (actions.Show c.in-Show.names) c.in-Show.is c.report_names.result
+    (g.T.Tree.failures c.args.tree.now < g.T.Tree.failures c.report_names.new.tree) (λ (x : Done). done_view x (g.V.Vars.vars c.report_names.new.env)) (rw c.deref-in-Show.ensures.value at c.report_names.ensures.over_tree)
 
 pub returns-in-Whatis-clause-over_tree : goal.returns-in-Whatis-clause-over_tree
 returns-in-Whatis-clause-over_tree g c =
-    let e = g.V.Vars.vars c.args.env.now in
-    let settings : EvaluationSettings = record { limits = c.args.limits; shell = c.args.request.now.shell } in
-    let rose = g.T.Tree.failures c.args.tree.now < g.T.Tree.failures c.report_names-in-Whatis.new.tree in
-    let over_tree = rw c.as_slice-in-Whatis.ensures.value at c.report_names-in-Whatis.ensures.over_tree in
-    over_tree_of (g.T.Tree.agrees c.report_names-in-Whatis.new.tree) rose (λ (x : Done). done_view x (g.V.Vars.vars c.report_names-in-Whatis.new.env)) c.report_names-in-Whatis.result
-    (λ (action : Action) files listings. RequestStep (site_of settings files listings) e (action_view action)) c.args.request.now.action (actions.Whatis c.in-Whatis.names) c.in-Whatis.is over_tree
+    answers_action (g.T.Tree.agrees c.report_names-in-Whatis.new.tree) c.args.limits c.args.request.now.shell (g.V.Vars.vars c.args.env.now) c.args.request.now.action (actions.Whatis c.in-Whatis.names) c.in-Whatis.is c.report_names-in-Whatis.result
+    (g.T.Tree.failures c.args.tree.now < g.T.Tree.failures c.report_names-in-Whatis.new.tree) (λ (x : Done). done_view x (g.V.Vars.vars c.report_names-in-Whatis.new.env)) (rw c.deref-in-Whatis.ensures.value at c.report_names-in-Whatis.ensures.over_tree)
 
 pub returns-in-Load-clause-out_of_memory : goal.returns-in-Load-clause-out_of_memory
 returns-in-Load-clause-out_of_memory g c =
@@ -123,36 +95,24 @@ returns-in-Whatis-clause-out_of_memory g c =
 
 pub returns-in-Load-clause-failed : goal.returns-in-Load-clause-failed
 returns-in-Load-clause-failed g c =
-    let e = g.V.Vars.vars c.args.env.now in
-    let settings : EvaluationSettings = record { limits = c.args.limits; shell = c.args.request.now.shell } in
-    let failed = rw c.as_slice.ensures.value at c.change_names.ensures.failed in
-    fails_of (g.T.Tree.agrees c.change_names.new.tree) (g.T.Tree.failed c.args.tree.now) (g.T.Tree.failed c.change_names.new.tree) c.change_names.result
-    (λ (action : Action) files listings. RequestLooksAt (site_of settings files listings) e (action_view action)) c.args.request.now.action (actions.Load c.in-Load.names) c.in-Load.is failed
+    fails_at_action (g.T.Tree.agrees c.change_names.new.tree) c.args.limits c.args.request.now.shell (g.V.Vars.vars c.args.env.now) c.args.request.now.action (actions.Load c.in-Load.names) c.in-Load.is c.change_names.result
+    (g.T.Tree.failed c.args.tree.now) (g.T.Tree.failed c.change_names.new.tree) (rw c.deref.ensures.value at c.change_names.ensures.failed)
 
 pub returns-in-Unload-clause-failed : goal.returns-in-Unload-clause-failed
 returns-in-Unload-clause-failed g c =
-    let e = g.V.Vars.vars c.args.env.now in
-    let settings : EvaluationSettings = record { limits = c.args.limits; shell = c.args.request.now.shell } in
-    let failed = rw c.as_slice-in-Unload.ensures.value at c.change_names-in-Unload.ensures.failed in
-    fails_of (g.T.Tree.agrees c.change_names-in-Unload.new.tree) (g.T.Tree.failed c.args.tree.now) (g.T.Tree.failed c.change_names-in-Unload.new.tree) c.change_names-in-Unload.result
-    (λ (action : Action) files listings. RequestLooksAt (site_of settings files listings) e (action_view action)) c.args.request.now.action (actions.Unload c.in-Unload.names) c.in-Unload.is failed
+    fails_at_action (g.T.Tree.agrees c.change_names-in-Unload.new.tree) c.args.limits c.args.request.now.shell (g.V.Vars.vars c.args.env.now) c.args.request.now.action (actions.Unload c.in-Unload.names) c.in-Unload.is c.change_names-in-Unload.result
+    (g.T.Tree.failed c.args.tree.now) (g.T.Tree.failed c.change_names-in-Unload.new.tree) (rw c.deref-in-Unload.ensures.value at c.change_names-in-Unload.ensures.failed)
 
 pub returns-in-Switch-clause-failed : goal.returns-in-Switch-clause-failed
 returns-in-Switch-clause-failed g c =
-    let e = g.V.Vars.vars c.args.env.now in
-    let settings : EvaluationSettings = record { limits = c.args.limits; shell = c.args.request.now.shell } in
     let old : option_map (λ (x : Bor Text). x.now) c.as_deref.result ≡ option_map (λ (s : String Global). string_bytes s) c.in-Switch.old = c.as_deref.ensures.value in
-    let failed = rw (old, c.as_str.ensures.value) at c.switch.ensures.failed in
-    fails_of (g.T.Tree.agrees c.switch.new.tree) (g.T.Tree.failed c.args.tree.now) (g.T.Tree.failed c.switch.new.tree) c.switch.result
-    (λ (action : Action) files listings. RequestLooksAt (site_of settings files listings) e (action_view action)) c.args.request.now.action (actions.Switch c.in-Switch.old c.in-Switch.new) c.in-Switch.is failed
+    fails_at_action (g.T.Tree.agrees c.switch.new.tree) c.args.limits c.args.request.now.shell (g.V.Vars.vars c.args.env.now) c.args.request.now.action (actions.Switch c.in-Switch.old c.in-Switch.new) c.in-Switch.is c.switch.result
+    (g.T.Tree.failed c.args.tree.now) (g.T.Tree.failed c.switch.new.tree) (rw (old, c.as_str.ensures.value) at c.switch.ensures.failed)
 
 pub returns-in-Purge-clause-failed : goal.returns-in-Purge-clause-failed
 returns-in-Purge-clause-failed g c =
-    let e = g.V.Vars.vars c.args.env.now in
-    let settings : EvaluationSettings = record { limits = c.args.limits; shell = c.args.request.now.shell } in
-    let failed = c.purge.ensures.failed in
-    fails_of (g.T.Tree.agrees c.purge.new.tree) (g.T.Tree.failed c.args.tree.now) (g.T.Tree.failed c.purge.new.tree) c.purge.result
-    (λ (action : Action) files listings. RequestLooksAt (site_of settings files listings) e (action_view action)) c.args.request.now.action actions.Purge c.in-Purge.is failed
+    fails_at_action (g.T.Tree.agrees c.purge.new.tree) c.args.limits c.args.request.now.shell (g.V.Vars.vars c.args.env.now) c.args.request.now.action actions.Purge c.in-Purge.is c.purge.result
+    (g.T.Tree.failed c.args.tree.now) (g.T.Tree.failed c.purge.new.tree) c.purge.ensures.failed
 
 pub returns-in-List-clause-failed : goal.returns-in-List-clause-failed
 returns-in-List-clause-failed g c =
@@ -162,24 +122,15 @@ returns-in-List-clause-failed g c =
 
 pub returns-in-Avail-clause-failed : goal.returns-in-Avail-clause-failed
 returns-in-Avail-clause-failed g c =
-    let e = g.V.Vars.vars c.args.env.now in
-    let settings : EvaluationSettings = record { limits = c.args.limits; shell = c.args.request.now.shell } in
-    let failed = c.avail.ensures.failed in
-    fails_of (g.T.Tree.agrees c.avail.new.tree) (g.T.Tree.failed c.args.tree.now) (g.T.Tree.failed c.avail.new.tree) c.avail.result
-    (λ (action : Action) files listings. RequestLooksAt (site_of settings files listings) e (action_view action)) c.args.request.now.action (actions.Avail c.in-Avail.texts) c.in-Avail.is failed
+    fails_at_action (g.T.Tree.agrees c.avail.new.tree) c.args.limits c.args.request.now.shell (g.V.Vars.vars c.args.env.now) c.args.request.now.action (actions.Avail c.in-Avail.texts) c.in-Avail.is c.avail.result
+    (g.T.Tree.failed c.args.tree.now) (g.T.Tree.failed c.avail.new.tree) c.avail.ensures.failed
 
 pub returns-in-Show-clause-failed : goal.returns-in-Show-clause-failed
 returns-in-Show-clause-failed g c =
-    let e = g.V.Vars.vars c.args.env.now in
-    let settings : EvaluationSettings = record { limits = c.args.limits; shell = c.args.request.now.shell } in
-    let failed = rw c.as_slice-in-Show.ensures.value at c.report_names.ensures.failed in
-    fails_of (g.T.Tree.agrees c.report_names.new.tree) (g.T.Tree.failed c.args.tree.now) (g.T.Tree.failed c.report_names.new.tree) c.report_names.result
-    (λ (action : Action) files listings. RequestLooksAt (site_of settings files listings) e (action_view action)) c.args.request.now.action (actions.Show c.in-Show.names) c.in-Show.is failed
+    fails_at_action (g.T.Tree.agrees c.report_names.new.tree) c.args.limits c.args.request.now.shell (g.V.Vars.vars c.args.env.now) c.args.request.now.action (actions.Show c.in-Show.names) c.in-Show.is c.report_names.result
+    (g.T.Tree.failed c.args.tree.now) (g.T.Tree.failed c.report_names.new.tree) (rw c.deref-in-Show.ensures.value at c.report_names.ensures.failed)
 
 pub returns-in-Whatis-clause-failed : goal.returns-in-Whatis-clause-failed
 returns-in-Whatis-clause-failed g c =
-    let e = g.V.Vars.vars c.args.env.now in
-    let settings : EvaluationSettings = record { limits = c.args.limits; shell = c.args.request.now.shell } in
-    let failed = rw c.as_slice-in-Whatis.ensures.value at c.report_names-in-Whatis.ensures.failed in
-    fails_of (g.T.Tree.agrees c.report_names-in-Whatis.new.tree) (g.T.Tree.failed c.args.tree.now) (g.T.Tree.failed c.report_names-in-Whatis.new.tree) c.report_names-in-Whatis.result
-    (λ (action : Action) files listings. RequestLooksAt (site_of settings files listings) e (action_view action)) c.args.request.now.action (actions.Whatis c.in-Whatis.names) c.in-Whatis.is failed
+    fails_at_action (g.T.Tree.agrees c.report_names-in-Whatis.new.tree) c.args.limits c.args.request.now.shell (g.V.Vars.vars c.args.env.now) c.args.request.now.action (actions.Whatis c.in-Whatis.names) c.in-Whatis.is c.report_names-in-Whatis.result
+    (g.T.Tree.failed c.args.tree.now) (g.T.Tree.failed c.report_names-in-Whatis.new.tree) (rw c.deref-in-Whatis.ensures.value at c.report_names-in-Whatis.ensures.failed)

@@ -26,8 +26,8 @@ returns-clause-over_tree g c =
     over_tree_same (g.T.Tree.agrees c.load_name.new.tree) (g.T.Tree.failures c.unload_name.new.tree < g.T.Tree.failures c.load_name.new.tree) (g.T.Tree.failures c.args.tree.now < g.T.Tree.failures c.load_name.new.tree)
     (λ (u : Unit {0}). done_view c.load_name.new.done (g.V.Vars.vars c.load_name.new.env)) c.load_name.result
     (λ files listings. LoadsName (site_of c.args.settings files listings) true c.args.new.now mid)
-    (λ files listings. Switches (site_of c.args.settings files listings) (Some c.args.old.now) c.args.new.now d) (λ q. omega arith)
-    (λ files listings o a h. (Ok mid, c.in_ok-unload_name.ensures.over_tree files listings (c.load_name.ensures.before files listings a), h))
+    (λ files listings. Switches (site_of c.args.settings files listings) (Some c.args.old.now) c.args.new.now d) (λ q. omega (arith, c.unload_name.ensures.reads.later))
+    (λ files listings o a h. (Ok mid, c.in_ok-unload_name.ensures.over_tree files listings (c.load_name.ensures.reads.narrows files listings a), h))
     c.load_name.ensures.over_tree
 
 pub returns-in_err-unload_name-clause-failed : goal.returns-in_err-unload_name-clause-failed
@@ -49,5 +49,5 @@ returns-clause-failed g c =
     fails_last is_failure (g.T.Tree.failed c.args.tree.now) (g.T.Tree.failed c.unload_name.new.tree) (g.T.Tree.failed c.load_name.new.tree) c.load_name.result
     (λ at. InEachPair agrees (λ files listings. LoadLooksAt (site_of c.args.settings files listings) c.args.new.now mid at))
     (λ at. InEachPair agrees (λ files listings. SwitchLooksAt (site_of c.args.settings files listings) c.args.old.now c.args.new.now d at)) c.in_ok-unload_name.ensures.failed
-    (λ at h files listings a. inr (mid, c.in_ok-unload_name.ensures.over_tree files listings (c.load_name.ensures.before files listings a), h files listings a))
+    (λ at h files listings a. inr (mid, c.in_ok-unload_name.ensures.over_tree files listings (c.load_name.ensures.reads.narrows files listings a), h files listings a))
     c.load_name.ensures.failed

@@ -25,7 +25,7 @@ returns-in_err-ran-clause-given g c = λ files listings.
     let xs = map entry_of c.args.entries.now in
     let m = found_view c.args.found in
     let no : has m.name (names_of xs) ≡ false = ap (λ (n : Text). has n (names_of xs)) (sym c.as_str.ensures.value) ∙ (sym c.is_loaded.ensures ∙ c.if-is_loaded.false) in
-    let given = rw (c.as_str-2.ensures.value, c.as_str-3.ensures.value, c.as_str-4.ensures.value) at c.in_err-ran.ensures.given in
+    let given = rw (c.of-file.ensures.name, c.of-file.ensures.path, c.of-file.ensures.text) at c.in_err-ran.ensures.given in
     rw (p.1, p.2) (stands_as (cause_of c.in_err-ran.field-0.0) ⊥ ⊥ (λ r. RefusedAs file_refused (RunsFile a.settings.limits (file_context a modes.load m.name m.path xs d.env) m.text) (Err r))
     (λ r. LoadsFound (site_of a.settings files listings) a.in_switch a.typed.now d xs m (Err r)) (λ q. q)
     (λ r h. found_stopped (site_of a.settings files listings) a.in_switch a.typed.now d xs m no r h) given)
@@ -40,7 +40,7 @@ returns-in_err-join_loaded-clause-given g c = λ files listings.
     let no : has m.name (names_of xs) ≡ false = ap (λ (n : Text). has n (names_of xs)) (sym c.as_str.ensures.value) ∙ (sym c.is_loaded.ensures ∙ c.if-is_loaded.false) in
     let mid = g.V.Vars.vars c.evaluate.new.env in
     let ran = ran_view c.in_ok-ran.ran mid in
-    let given = rw (c.as_str-2.ensures.value, c.as_str-3.ensures.value, c.as_str-4.ensures.value) at c.in_ok-ran.ensures.given in
+    let given = rw (c.of-file.ensures.name, c.of-file.ensures.path, c.of-file.ensures.text) at c.in_ok-ran.ensures.given in
     let made = run_made a.settings.limits (file_context a modes.load m.name m.path xs d.env) m.text ran given in
     let loading = module_of m.name m.path ran in
     rw (p.1, p.2) (stands_as (cause_of c.in_err-join_loaded.field-0.0) ⊥ ⊥ (λ r. Err r ≡ added xs loading mid)
@@ -57,7 +57,7 @@ returns-clause-given g c = λ files listings.
     let mid = g.V.Vars.vars c.evaluate.new.env in
     let last = g.V.Vars.vars c.join_loaded.new.env in
     let ran = ran_view c.in_ok-ran.ran mid in
-    let given = rw (c.as_str-2.ensures.value, c.as_str-3.ensures.value, c.as_str-4.ensures.value) at c.in_ok-ran.ensures.given in
+    let given = rw (c.of-file.ensures.name, c.of-file.ensures.path, c.of-file.ensures.text) at c.in_ok-ran.ensures.given in
     let made = run_made a.settings.limits (file_context a modes.load m.name m.path xs d.env) m.text ran given in
     let loading = module_of m.name m.path ran in
     found_joins (site_of a.settings files listings) a.in_switch a.typed.now d xs m no ran given (Ok (done_view c.continue_with.new.self last))

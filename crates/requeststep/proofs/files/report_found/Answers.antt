@@ -22,7 +22,7 @@ returns-in_err-ran-clause-given g c =
     let m = found_view c.args.found.now in
     let d = done_view c.args.done.now (g.V.Vars.vars c.args.env.now) in
     let xs = map entry_of c.args.entries.now in
-    let given = rw (c.mode_of_report.ensures, c.as_str.ensures.value, c.as_str-2.ensures.value, c.as_str-3.ensures.value) at c.in_err-ran.ensures.given in
+    let given = rw (c.mode_of_report.ensures, c.of-file.ensures.name, c.of-file.ensures.path, c.of-file.ensures.text) at c.in_err-ran.ensures.given in
     rw (p.1, p.2) (stands_as (cause_of c.in_err-ran.field-0.0) ⊥ ⊥ (λ r. RefusedAs file_refused (RunsFile a.settings.limits (file_context a (report_mode c.args.report_kind) m.name m.path xs d.env) m.text) (Err r))
     (λ r. ReportsFound a c.args.report_kind m xs d (Err r)) (λ q. q) (λ r h. (Err r, h, refl)) given)
 
@@ -35,12 +35,12 @@ returns-clause-given g c =
     let xs = map entry_of c.args.entries.now in
     let last = g.V.Vars.vars c.evaluate.new.env in
     let ran = ran_view c.in_ok-ran.ran last in
-    let given = rw (c.mode_of_report.ensures, c.as_str.ensures.value, c.as_str-2.ensures.value, c.as_str-3.ensures.value) at c.in_ok-ran.ensures.given in
+    let given = rw (c.mode_of_report.ensures, c.of-file.ensures.name, c.of-file.ensures.path, c.of-file.ensures.text) at c.in_ok-ran.ensures.given in
     let made = run_made a.settings.limits (file_context a (report_mode c.args.report_kind) m.name m.path xs d.env) m.text ran given in
     let same : last ≡ e = topic_same c.args.report_kind m.name ran.records e last made in
-    let said : c.as_str-4.result.now ≡ report_text c.args.report_kind m ran.records = c.as_str-4.ensures.value ∙ c.in_ok-text.ensures in (
+    let said : c.as_str.result.now ≡ report_text c.args.report_kind m ran.records = c.as_str.ensures.value ∙ c.in_ok-text.ensures in (
       Ok ran,
       given,
       ap Ok (c.in_ok-report_on.ensures last
-          ∙ (ap (λ (x : Environment). with_report (done_view c.args.done.now x) ran.messages c.as_str-4.result.now) same ∙ ap (λ (t : Text). with_report d ran.messages t) said)),
+          ∙ (ap (λ (x : Environment). with_report (done_view c.args.done.now x) ran.messages c.as_str.result.now) same ∙ ap (λ (t : Text). with_report d ran.messages t) said)),
     )

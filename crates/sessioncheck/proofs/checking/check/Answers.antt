@@ -14,6 +14,6 @@ returns-clause-checked g c =
     checked (g.T.Tree.agrees c.run_lines.new.tree) (g.T.Tree.agrees c.judge_loaded.new.tree) first was is c.args.limits c.args.shell c.args.env.now c.in-Ok.after c.args.text.now
     (map texts_in c.as_slice.result.now) (without_repeats (flat_map loaded_in c.as_slice-2.result.now))
     (record { env = c.run_lines.new.env; outcomes = c.in_ok-outcomes.outcomes; judgments = c.in_ok-judgments.judgments })
-    c.judge_loaded.ensures.before c.in_ok-outcomes.ensures.failures c.in_ok-judgments.ensures.failures c.in-Ok.ensures.ok
+    c.judge_loaded.ensures.reads.narrows c.in_ok-outcomes.ensures.failures c.in_ok-judgments.ensures.failures c.in-Ok.ensures.ok
     (ap (map texts_in) c.as_slice.ensures.value ∙ c.in_ok-lines.ensures) c.in_ok-outcomes.ensures.ran c.in_ok-outcomes.ensures.end
     (ap (λ xs. without_repeats (flat_map loaded_in xs)) c.as_slice-2.ensures.value) c.in_ok-judgments.ensures.judged

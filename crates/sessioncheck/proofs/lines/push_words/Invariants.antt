@@ -1,11 +1,8 @@
-use Rattle.std.proofs.Common.{◌≡◌, ◌++◌, length, map}
+use Rattle.std.proofs.Common.{◌≡◌, ◌++◌, take}
 use Rattle.std.specs.List.{flat_map}
-use Rattle.envvars.specs.Texts.{texts_in}
-use Rattle.sessioncheck.specs.Lines.{unless_empty, words_between_tabs}
+use Rattle.envvars.specs.Texts.{slice_texts, texts_in}
+use Rattle.sessioncheck.specs.Lines.{unless_empty}
 use Rattle.sessioncheck.proofs.lines.push_words.Given as goal
 
-abbrev pub invariant-loop-rest : goal.invariant-loop-rest
-invariant-loop-rest l = texts_in l.words ++ flat_map unless_empty (map (λ x. x.now) l.rest) ≡ texts_in l.initial.words ++ words_between_tabs l.text
-
-abbrev pub decreases-loop-rest : goal.decreases-loop-rest
-decreases-loop-rest l = length l.rest
+abbrev pub invariant-loop-word : goal.invariant-loop-word
+invariant-loop-word l = texts_in l.words ≡ texts_in l.initial.words ++ flat_map unless_empty (slice_texts (take l.word-index l.word-items))

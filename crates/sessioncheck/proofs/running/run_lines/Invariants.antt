@@ -1,21 +1,18 @@
-use Rattle.std.proofs.Common.{◌≡◌, ◌≤◌, ◌+◌, ◌++◌, List, length, map}
+use Rattle.std.proofs.Common.{◌≡◌, ◌≤◌, ◌+◌, ◌++◌, List, drop, map}
 use Rattle.envvars.specs.Texts.{texts_in}
-use Rattle.filetree.specs.Agreement.{InEachPair}
+use Rattle.filetree.specs.Agreement.{InEachPair, Narrows}
 use Rattle.requests.specs.Sessions.{Response, end_environment}
-use Rattle.modules.specs.Replies.{site_in}
+use Rattle.requests.specs.Steps.{site_in}
 use Rattle.modules.specs.Responses.{responses, count_failed}
 use Rattle.sessioncheck.specs.Sessions.{LineSession}
 use Rattle.sessioncheck.proofs.running.run_lines.Given as goal
 
-abbrev pub invariant-loop-rest : goal.invariant-loop-rest
-invariant-loop-rest g l = record {
-  before : InEachPair (g.T.Tree.agrees l.tree) (λ files listings. g.T.Tree.agrees l.initial.tree files listings);
+abbrev pub invariant-loop-words : goal.invariant-loop-words
+invariant-loop-words g l = record {
+  narrows : Narrows (g.T.Tree.agrees l.initial.tree) (g.T.Tree.agrees l.tree);
   failures : g.T.Tree.failures l.initial.tree + count_failed l.outcomes.items ≤ g.T.Tree.failures l.tree;
   end : InEachPair (g.T.Tree.agrees l.tree) (λ files listings. l.env ≡ end_environment l.initial.env (responses l.initial.env l.outcomes.items));
   ran : InEachPair (g.T.Tree.agrees l.tree) (λ files listings. (os : List Response)
-      → LineSession (site_in l.limits l.shell files listings) l.env (map texts_in l.rest) os
+      → LineSession (site_in l.limits l.shell files listings) l.env (map texts_in (drop l.words-index l.lines)) os
       → LineSession (site_in l.limits l.shell files listings) l.initial.env (map texts_in l.lines) (responses l.initial.env l.outcomes.items ++ os));
 }
-
-abbrev pub decreases-loop-rest : goal.decreases-loop-rest
-decreases-loop-rest g l = length l.rest

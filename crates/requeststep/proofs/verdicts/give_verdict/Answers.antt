@@ -16,7 +16,7 @@ use Rattle.filetree.specs.Agreement.{InEachPair}
 use Rattle.requests.specs.Looked.{SearchLooksAt}
 use Rattle.requeststep.specs.Answers.{is_failure}
 use Rattle.requeststep.proofs.FailureLemmas.{unfailed}
-use Rattle.requeststep.proofs.verdicts.judge.Goals as goal
+use Rattle.requeststep.proofs.verdicts.give_verdict.Goals as goal
 
 pub returns-in_err-found-clause-over_tree : goal.returns-in_err-found-clause-over_tree
 returns-in_err-found-clause-over_tree g c =
@@ -35,7 +35,7 @@ returns-in_err-ran-clause-over_tree g c =
     let e = g.V.Vars.vars c.args.env.now in
     let xs = map entry_of c.in_ok-entries.entries.items in
     let m = found_view c.in_ok-found.found in
-    let given = rw (c.as_str.ensures.value, c.as_str-2.ensures.value, c.as_str-3.ensures.value, c.as_slice.ensures.value) at c.in_err-ran.ensures.given in
+    let given = rw (c.of-file.ensures.name, c.of-file.ensures.path, c.of-file.ensures.text, c.as_slice.ensures.value) at c.in_err-ran.ensures.given in
     rw (p.1, p.2) (gives_refused (g.T.Tree.agrees c.find_module.new.tree) (g.T.Tree.failures c.args.tree.now < g.T.Tree.failures c.find_module.new.tree)
     (λ ran. ran_view ran (g.V.Vars.vars c.evaluate.new.env)) verdict_view c.in_err-ran.field-0.0
     (RefusedAs file_refused (RunsFile c.args.limits (verdict_context (in_sh c.args.limits (λ path. None) (λ path. None)) c.args.typed.now m xs e) m.text))
@@ -47,7 +47,7 @@ returns-clause-over_tree g c = λ files listings a.
     let xs = map entry_of c.in_ok-entries.entries.items in
     let m = found_view c.in_ok-found.found in
     let last = g.V.Vars.vars c.evaluate.new.env in
-    let given = rw (c.as_str.ensures.value, c.as_str-2.ensures.value, c.as_str-3.ensures.value, c.as_slice.ensures.value) at c.in_ok-ran.ensures.given in (
+    let given = rw (c.of-file.ensures.name, c.of-file.ensures.path, c.of-file.ensures.text, c.as_slice.ensures.value) at c.in_ok-ran.ensures.given in (
       Ok xs,
       c.in_ok-entries.ensures.given,
       (
@@ -79,6 +79,6 @@ returns-in_err-ran-clause-failed g c =
     let e = g.V.Vars.vars c.args.env.now in
     let m = found_view c.in_ok-found.found in
     let xs = map entry_of c.in_ok-entries.entries.items in
-    let given = rw (c.as_str.ensures.value, c.as_str-2.ensures.value, c.as_str-3.ensures.value, c.as_slice.ensures.value) at c.in_err-ran.ensures.given in
+    let given = rw (c.of-file.ensures.name, c.of-file.ensures.path, c.of-file.ensures.text, c.as_slice.ensures.value) at c.in_err-ran.ensures.given in
     rw (p.1, p.2) (unfailed c.in_err-ran.field-0.0 (λ r. RefusedAs file_refused (RunsFile c.args.limits (verdict_context (in_sh c.args.limits (λ path. None) (λ path. None)) c.args.typed.now m xs e) m.text) (Err r))
     (g.T.Tree.failed c.args.tree.now) (g.T.Tree.failed c.find_module.new.tree) _ given c.in_ok-found.ensures.failed)

@@ -1,0 +1,13 @@
+use Rattle.std.proofs.Common.{◌+◌, ◌<◌, ◌≤◌, take}
+use Rattle.envvars.specs.Texts.{slice_texts}
+use Rattle.filetree.specs.Agreement.{ReadsOn}
+use Rattle.sessioncheck.specs.Judgments.{AreJudgments, count_failed_judgments}
+use Rattle.sessioncheck.proofs.judging.give_verdicts.Given as goal
+
+abbrev pub invariant-loop-name : goal.invariant-loop-name
+invariant-loop-name g l = record {
+  reads : ReadsOn g.T.Tree.agrees g.T.Tree.failures l.initial.tree l.tree;
+  failures : g.T.Tree.failures l.initial.tree + count_failed_judgments l.judgments.items ≤ g.T.Tree.failures l.tree;
+  judged : AreJudgments (g.T.Tree.agrees l.tree) (g.T.Tree.failures l.initial.tree < g.T.Tree.failures l.tree) l.limits l.env
+      (slice_texts (take l.name-index l.names)) l.judgments.items;
+}
