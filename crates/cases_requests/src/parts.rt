@@ -3,7 +3,7 @@
 use crate::texts::push_all;
 use crate::trees::file_text;
 use defaultfiles::Evaluated;
-use filetree::{MemoryTree, Modulefile, read_modulefile};
+use filetree::{FileContent, MemoryTree, read_modulefile};
 use lookup::{Limits, version_order};
 use search::{DefaultFiles, Ended, directories, locate, path_of};
 use std::alloc::{AllocError, Global};
@@ -35,10 +35,10 @@ fn text_found(
 /// What a path holds as a modulefile.
 fn read_text(alloc: Global, tree: &mut MemoryTree, path: &str) -> Result<String, AllocError> {
     match read_modulefile(tree, path) {
-        Ok(Modulefile::Absent) => String::from_str(alloc, "absent"),
-        Ok(Modulefile::NoCookie) => String::from_str(alloc, "no cookie"),
-        Ok(Modulefile::NotUtf8) => String::from_str(alloc, "not UTF-8"),
-        Ok(Modulefile::Script(text)) => {
+        Ok(FileContent::Absent) => String::from_str(alloc, "absent"),
+        Ok(FileContent::NoCookie) => String::from_str(alloc, "no cookie"),
+        Ok(FileContent::NotUtf8) => String::from_str(alloc, "not UTF-8"),
+        Ok(FileContent::Script(text)) => {
             let text = in_one_line(alloc, &text)?;
             format!(in alloc; "script {text}")
         }

@@ -2,7 +2,7 @@
 use Rattle.std.proofs.Common.{◌≡◌, inl, inr, true, false, Bool, List, [], ◌∷◌, Option, Ok, Err, refl, subst}
 use Rattle.modulename.specs.ModuleName.{Text, is_module_name}
 use Rattle.filetree.specs.Agreement.{Files, Listings}
-use Rattle.filetree.specs.Modulefiles.{Held, absent, no_cookie, not_utf8, script, modulefile, directories, path_of}
+use Rattle.filetree.specs.Modulefiles.{FileContent, absent, no_cookie, not_utf8, script, modulefile, directories, path_of}
 use Rattle.filetree.specs.Relations.{Is, If}
 use Rattle.search.specs.Reasons.{bad_name, not_found}
 use Rattle.search.specs.DefaultFiles.{DefaultFileResult}
@@ -12,7 +12,7 @@ use Rattle.requests.proofs.Bound.{went_on}
 abbrev pub IsScript : Files → FoundModule → Type 0
 IsScript files m = modulefile (files m.path) ≡ script m.text
 
-at_held : (files : Files) (name path : Text) (held : Held) (m : FoundModule) → modulefile (files path) ≡ held → Ok m ≡ read name path held → IsScript files m
+at_held : (files : Files) (name path : Text) (held : FileContent) (m : FoundModule) → modulefile (files path) ≡ held → Ok m ≡ read name path held → IsScript files m
 at_held files name path absent m e h = absurd (cc)
 at_held files name path no_cookie m e h = absurd (cc)
 at_held files name path not_utf8 m e h = absurd (cc)

@@ -15,7 +15,7 @@ use Rattle.modulerecords.specs.Moves.{Unloads}
 use Rattle.modulefile.specs.Answers.{FileContext}
 use Rattle.modulefile.specs.Files.{RunsFile}
 use Rattle.modulefile.specs.Laws as files
-use Rattle.defaultfiles.specs.DefaultFileResults.{Leaves}
+use Rattle.defaultfiles.specs.DefaultFileResults.{HasResult}
 use Rattle.search.specs.DefaultFiles.{DefaultFileResult}
 use Rattle.search.specs.Reasons.{bad_name}
 use Rattle.search.specs.Found as search
@@ -32,13 +32,13 @@ use Rattle.requests.proofs.Bound.{one_refused_as}
 
 -- a default file leaves one thing
 abbrev pub OneResult : Type 0
-OneResult = (limits : Limits) (path text : Text) (o p : Option DefaultFileResult) → Leaves limits path text o → Leaves limits path text p → o ≡ p
+OneResult = (limits : Limits) (path text : Text) (o p : Option DefaultFileResult) → HasResult limits path text o → HasResult limits path text p → o ≡ p
 
 pub one_run : files.OneOutcome → (limits : Limits) (c : FileContext) (text : Text) → IsOne (RefusedAs file_refused (RunsFile limits c text))
 one_run file limits c text = one_refused_as {f = file_refused} {First = RunsFile limits c text} (file limits c text)
 
 pub one_finds : OneResult → (s : Site) (e : Environment) (name : Text) → IsOne (Finds s e name)
-one_finds left s e name = one_refused_as {f = missed} {First = Found (Leaves s.limits) s.files s.listings (modulepath e) name} (one_module (Leaves s.limits) (left s.limits) s.files s.listings (modulepath e) name)
+one_finds left s e name = one_refused_as {f = missed} {First = Found (HasResult s.limits) s.files s.listings (modulepath e) name} (one_module (HasResult s.limits) (left s.limits) s.files s.listings (modulepath e) name)
 
 one_loads_found : files.OneOutcome → (s : Site) (w : Bool) (typed : Text) (d : Done) (xs : List Entry) (m : search.FoundModule) → IsOne (LoadsFound s w typed d xs m)
 one_loads_found file s w typed d xs m =
@@ -101,7 +101,7 @@ one_shown file left s mode text_of e names =
 
 one_lists : (s : Site) (e : Environment) (texts : List Text) → IsOne (ListsAll s e texts)
 one_lists s e texts o p (ls, h, g) (ks, k, f) =
-    g ∙ (ap (λ x. Ok (with_report (nothing_done e) [] (avail_text texts x))) (one_listed (Leaves s.limits) s.files s.listings (modulepath e) ls ks h k) ∙ sym f)
+    g ∙ (ap (λ x. Ok (with_report (nothing_done e) [] (avail_text texts x))) (one_listed (HasResult s.limits) s.files s.listings (modulepath e) ls ks h k) ∙ sym f)
 
 pub one_step : files.OneOutcome → OneResult → (s : Site) (e : Environment) (asked : RequestedAction) → IsOne (RequestStep s e asked)
 one_step file left s e (load names) =

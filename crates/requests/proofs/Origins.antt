@@ -4,14 +4,14 @@ use Rattle.modulename.specs.ModuleName.{is_module_name}
 use Rattle.envvars.specs.Texts.{Text, has}
 use Rattle.envvars.specs.Environment.{Environment}
 use Rattle.envloaded.specs.Loaded.{Entry, names_of}
-use Rattle.filetree.specs.Modulefiles.{Held, absent, no_cookie, not_utf8, script, modulefile}
+use Rattle.filetree.specs.Modulefiles.{FileContent, absent, no_cookie, not_utf8, script, modulefile}
 use Rattle.filetree.specs.Relations.{Is, Then, If}
 use Rattle.modulerecords.specs.Effects as modes
 use Rattle.modulerecords.specs.Moves.{Module, Move, Loads, Unloads, moved}
 use Rattle.modulerecords.specs.Moves as moves
 use Rattle.modulefile.specs.Answers.{FileContext}
 use Rattle.modulefile.specs.Files.{Ran, RunsFile}
-use Rattle.defaultfiles.specs.DefaultFileResults.{Leaves}
+use Rattle.defaultfiles.specs.DefaultFileResults.{HasResult}
 use Rattle.search.specs.Reasons.{bad_name}
 use Rattle.search.specs.Found as search
 use Rattle.search.specs.Found.{Found}
@@ -65,8 +65,8 @@ as_ok s c text ran h = subst (RunsFile s.limits c text) (ok_of_refused_as file_r
 
 pub found_script : (s : Site) (e : Environment) (name : Text) (m : search.FoundModule) → Finds s e name (Ok m) → IsScript s.files m
 found_script s e name m h =
-    found_text (Leaves s.limits) s.files s.listings (modulepath e) name m
-    (subst (Found (Leaves s.limits) s.files s.listings (modulepath e) name) (ok_of_refused_as missed h.0 m (sym h.2)) h.1)
+    found_text (HasResult s.limits) s.files s.listings (modulepath e) name m
+    (subst (Found (HasResult s.limits) s.files s.listings (modulepath e) name) (ok_of_refused_as missed h.0 m (sym h.2)) h.1)
 
 trace_found : (s : Site) (w : Bool) (typed : Text) (d : Done) (xs : List Entry) (m : search.FoundModule) → IsScript s.files m → AllFrom s d.moves → Traces s (LoadsFound s w typed d xs m)
 trace_found s w typed d xs m file from =
@@ -81,7 +81,7 @@ trace_load s w typed d from =
     trace_if s (has typed (names_of xs)) _ _ (trace_same s d from) (trace_then s (λ m g.
     trace_found s w typed d xs m (found_script s d.env typed m g) from)))
 
-script_held : (path text : Text) (held : Held) → Ok text ≡ script_at path held → held ≡ script text
+script_held : (path text : Text) (held : FileContent) → Ok text ≡ script_at path held → held ≡ script text
 script_held path text absent h = absurd (cc)
 script_held path text no_cookie h = absurd (cc)
 script_held path text not_utf8 h = absurd (cc)

@@ -9,7 +9,7 @@ use Rattle.modulename.specs.ModuleName.{Text, is_module_name}
 use Rattle.modulename.specs.Versions.{IsGreatest, IsIn, greater}
 use Rattle.modulename.proofs.GreatestLemmas.{greatest_of_more, greatest_of_one}
 use Rattle.filetree.specs.Agreement.{Files, Listings}
-use Rattle.filetree.specs.Modulefiles.{Held, absent, no_cookie, not_utf8, script, modulefile, is_module, directories, path_of}
+use Rattle.filetree.specs.Modulefiles.{FileContent, absent, no_cookie, not_utf8, script, modulefile, is_module, directories, path_of}
 use Rattle.filetree.specs.Relations.{Is, After, Then, If, Where}
 use Rattle.search.specs.Reasons.{bad_name, not_found, bad_default}
 use Rattle.search.specs.Single.{is_single}
@@ -155,7 +155,7 @@ some_greatest files listings dir name (v, c) =
 abbrev Leaving : (Text → Text → Option DefaultFileResult → Type 0) → Type 0
 Leaving results = (path text : Text) → (o : Option DefaultFileResult) × results path text o
 
-some_names_in : (results : Text → Text → Option DefaultFileResult → Type 0) → Leaving results → (says : VersionIn) (path : Text) (held : Held) → IsSome (NamesIn results says path held)
+some_names_in : (results : Text → Text → Option DefaultFileResult → Type 0) → Leaving results → (says : VersionIn) (path : Text) (held : FileContent) → IsSome (NamesIn results says path held)
 some_names_in results law says path absent = (Ok None, refl)
 some_names_in results law says path no_cookie = (Ok None, refl)
 some_names_in results law says path not_utf8 = (Err (bad_default path), refl)

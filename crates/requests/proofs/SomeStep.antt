@@ -14,7 +14,7 @@ use Rattle.modulerecords.specs.Moves.{Unloads}
 use Rattle.modulefile.specs.Answers.{FileContext}
 use Rattle.modulefile.specs.Files.{RunsFile}
 use Rattle.modulefile.specs.Laws as files
-use Rattle.defaultfiles.specs.DefaultFileResults.{Leaves}
+use Rattle.defaultfiles.specs.DefaultFileResults.{HasResult}
 use Rattle.search.specs.DefaultFiles.{DefaultFileResult}
 use Rattle.search.specs.Reasons.{bad_name}
 use Rattle.search.specs.Found as search
@@ -30,13 +30,13 @@ use Rattle.requests.proofs.SomeFound.{IsSome, some_is, some_then, some_if, some_
 
 -- a default file leaves something
 abbrev pub SomeLeft : Type 0
-SomeLeft = (limits : Limits) (path text : Text) → (o : Option DefaultFileResult) × Leaves limits path text o
+SomeLeft = (limits : Limits) (path text : Text) → (o : Option DefaultFileResult) × HasResult limits path text o
 
 pub some_run : files.SomeOutcome → (limits : Limits) (c : FileContext) (text : Text) → IsSome (RefusedAs file_refused (RunsFile limits c text))
 some_run file limits c text = some_refused_as {f = file_refused} {First = RunsFile limits c text} (file limits c text)
 
 pub some_finds : SomeLeft → (s : Site) (e : Environment) (name : Text) → IsSome (Finds s e name)
-some_finds left s e name = some_refused_as {f = missed} {First = Found (Leaves s.limits) s.files s.listings (modulepath e) name} (some_found (Leaves s.limits) (left s.limits) s.files s.listings (modulepath e) name)
+some_finds left s e name = some_refused_as {f = missed} {First = Found (HasResult s.limits) s.files s.listings (modulepath e) name} (some_found (HasResult s.limits) (left s.limits) s.files s.listings (modulepath e) name)
 
 some_loads_found : files.SomeOutcome → (s : Site) (w : Bool) (typed : Text) (d : Done) (xs : List Entry) (m : search.FoundModule) → IsSome (LoadsFound s w typed d xs m)
 some_loads_found file s w typed d xs m =

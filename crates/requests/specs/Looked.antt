@@ -5,7 +5,7 @@ use Rattle.modulename.specs.ModuleName.{is_module_name}
 use Rattle.envvars.specs.Texts.{Text, has}
 use Rattle.envvars.specs.Environment.{Environment}
 use Rattle.envloaded.specs.Loaded.{Entry, names_of}
-use Rattle.defaultfiles.specs.DefaultFileResults.{Leaves}
+use Rattle.defaultfiles.specs.DefaultFileResults.{HasResult}
 use Rattle.modulerecords.specs.Effects as modes
 use Rattle.search.specs.Looked as search
 use Rattle.requests.specs.Reasons.{RequestReason}
@@ -15,7 +15,7 @@ use Rattle.requests.specs.Steps.{LoadsName, UnloadsName, ShowsName, shown_text, 
 
 -- The search for what a name means now looks at this path. The file of the module that is found is one of these.
 abbrev pub SearchLooksAt : Site → Environment → Text → Text → Type 0
-SearchLooksAt s e name at = search.LooksAt (Leaves s.limits) s.files s.listings (modulepath e) name at
+SearchLooksAt s e name at = search.LooksAt (HasResult s.limits) s.files s.listings (modulepath e) name at
 
 -- to load a name: where it is searched, unless it is exactly a loaded module's
 pub record LoadLooksAt (s : Site) (typed : Text) (d : Done) (at : Text) : Type 0 where
@@ -69,7 +69,7 @@ RequestLooksAt s e (switch old new) at = SwitchLooksAt s (old_name old new) new 
 RequestLooksAt s e purge at = PurgeLooksAt s e at
 RequestLooksAt s e list at = ⊥
 RequestLooksAt s e (avail texts) at =
-    search.ListingLooksAt (Leaves s.limits) s.files s.listings (modulepath e) at
+    search.ListingLooksAt (HasResult s.limits) s.files s.listings (modulepath e) at
 RequestLooksAt s e (show names) at =
     EachLooksAt (ShowsName s modes.display shown_text) (ShowLooksAt s) names (nothing_done e) at
 RequestLooksAt s e (whatis names) at =

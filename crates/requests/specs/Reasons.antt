@@ -14,7 +14,7 @@ pub data RequestReason : Type 0 where
   -- no subcommand has this name
   unknown_subcommand : (word : Text) → RequestReason
   -- a name is ill-spelled, or the search finds no module, or none that can be read
-  missed : search.Reason → RequestReason
+  missed : search.FindReason → RequestReason
   -- no file is at the path of a loaded module
   file_gone : (path : Text) → RequestReason
   -- the file at the path of a loaded module is no modulefile
@@ -31,7 +31,7 @@ pub data RequestReason : Type 0 where
   refused_edit : RecordReason → RequestReason
 
 -- the numbers of the reasons that a search has
-abbrev pub search_number : search.Reason → ℕ
+abbrev pub search_number : search.FindReason → ℕ
 search_number (bad_name name) = 44
 search_number (not_found name) = 42
 search_number (bad_default path) = 45

@@ -9,7 +9,7 @@ use Rattle.envloaded.specs.Loaded.{Entry, names_of, loaded_in}
 use Rattle.tclrules.specs.declared.limits.Limits.{Limits}
 use Rattle.shells.specs.declared.shell.Shell.{Shell}
 use Rattle.filetree.specs.Agreement.{Files, Listings}
-use Rattle.filetree.specs.Modulefiles.{Held, absent, no_cookie, not_utf8, script, modulefile}
+use Rattle.filetree.specs.Modulefiles.{FileContent, absent, no_cookie, not_utf8, script, modulefile}
 use Rattle.filetree.specs.Relations.{Is, If, ◌>>◌}
 use Rattle.modulerecords.specs.Records.{Record}
 use Rattle.modulerecords.specs.Judgments.{bad_edit}
@@ -20,7 +20,7 @@ use Rattle.modulefile.specs.Results.{◌>>=◌}
 use Rattle.modulefile.specs.Answers.{FileContext}
 use Rattle.modulefile.specs.Files.{Ran, RunsFile}
 use Rattle.modulefile.specs.Reports.{show_text, whatis_text}
-use Rattle.defaultfiles.specs.DefaultFileResults.{Leaves}
+use Rattle.defaultfiles.specs.DefaultFileResults.{HasResult}
 use Rattle.search.specs.Reasons.{bad_name, not_utf8_at}
 use Rattle.search.specs.Found as search
 use Rattle.search.specs.Found.{Found}
@@ -102,7 +102,7 @@ module_of name path ran = record { name = name; path = path; records = ran.recor
 
 -- what a name means in an environment, by the search along its MODULEPATH
 abbrev pub Finds : Site → Environment → Text → Result search.FoundModule RequestReason → Type 0
-Finds s e name = RefusedAs missed (Found (Leaves s.limits) s.files s.listings (modulepath e) name)
+Finds s e name = RefusedAs missed (Found (HasResult s.limits) s.files s.listings (modulepath e) name)
 
 -- ---- load
 
@@ -129,7 +129,7 @@ LoadsName s in_switch typed d =
 -- ---- unload
 
 -- the script in a loaded module's file
-abbrev pub script_at : Text → Held → Result Text RequestReason
+abbrev pub script_at : Text → FileContent → Result Text RequestReason
 script_at path absent = Err (file_gone path)
 script_at path no_cookie = Err (not_a_modulefile path)
 script_at path not_utf8 = Err (missed (not_utf8_at path))
@@ -228,7 +228,7 @@ ListsLoaded e = Is (entries_of e) >> (λ xs. Is (Ok (with_report (nothing_done e
 -- the modules along MODULEPATH are reported, whatever is loaded
 abbrev pub ListsAll : Site → Environment → List Text → Result Done RequestReason → Type 0
 ListsAll s e texts o =
-    (listings : List Listing) × Listed (Leaves s.limits) s.files s.listings (modulepath e) listings
+    (listings : List Listing) × Listed (HasResult s.limits) s.files s.listings (modulepath e) listings
     × (o ≡ Ok (with_report (nothing_done e) [] (avail_text texts listings)))
 
 -- The step of a request.

@@ -92,7 +92,7 @@ if_no true Yes No o e h = absurd (cc)
 if_no false Yes No o e h = h
 
 -- a search, as a part of the step
-pub search_stands : (k : Cause search.Reason) (failed : Type 0) (P : search.Reason → Type 0) (Q : RequestReason → Type 0) → ((r : search.Reason) → P r → Q (missed r)) → Applies k failed P → Applies (by_search k) failed Q
+pub search_stands : (k : Cause search.FindReason) (failed : Type 0) (P : search.FindReason → Type 0) (Q : RequestReason → Type 0) → ((r : search.FindReason) → P r → Q (missed r)) → Applies k failed P → Applies (by_search k) failed Q
 search_stands memory failed P Q then h = tt
 search_stands device failed P Q then h = h
 search_stands (because r) failed P Q then h = then r h

@@ -24,7 +24,7 @@ by_reason view None = memory
 by_reason view (Some r) = because (view r)
 
 -- the cause of a search, as that of a request
-abbrev pub by_search : Cause search.Reason → Cause RequestReason
+abbrev pub by_search : Cause search.FindReason → Cause RequestReason
 by_search memory = memory
 by_search device = device
 by_search (because r) = because (missed r)

@@ -7,7 +7,7 @@ ghost use Rattle.envloaded.specs.Loaded.{names_of};
 ghost use Rattle.envloaded.specs.LoadedEntries.{entry_of};
 ghost use Rattle.filetree.specs.Relations.{Then};
 ghost use Rattle.filetree.specs.Agreement.{FailsAt, InEachPair, ReadsOn};
-ghost use Rattle.defaultfiles.specs.DefaultFileResults.{Leaves};
+ghost use Rattle.defaultfiles.specs.DefaultFileResults.{HasResult};
 ghost use Rattle.search.specs.Looked.{ListingLooksAt};
 ghost use Rattle.modulename.specs.ModuleName.{parts};
 ghost use Rattle.requests.specs.Requests as actions;
@@ -396,7 +396,7 @@ fn avail<T: Tree, V: Vars>(
     ensures out_of_memory { IfErr result (MemoryNumberAmong (31 ∷ 41 ∷ [])) }
     ensures failed { FailsAt is_failure (T.failed tree.old) (T.failed tree.new) result (λ at.
         InEachPair (T.agrees tree.new) (λ files listings.
-        ListingLooksAt (Leaves settings.limits) files listings (steps.modulepath (V.vars env.now)) at)) }
+        ListingLooksAt (HasResult settings.limits) files listings (steps.modulepath (V.vars env.now)) at)) }
 {
     let default_files = Evaluated {
         limits: settings.limits,

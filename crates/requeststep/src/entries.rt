@@ -21,7 +21,7 @@ use crate::missing::MissingNames;
 use crate::refusal::Refusal;
 use envloaded::{Loaded, add_loaded, loaded};
 use envvars::Vars;
-use envvars::fields::{copies, deduplicated, slices};
+use envvars::fields::{copies, deduplicated, owned, slices};
 use modulefile::Record;
 use std::alloc::{AllocError, Global};
 
@@ -81,14 +81,6 @@ fn conflict_names(alloc: Global, records: &[Record]) -> Result<Vec<&str>, AllocE
     Ok(all)
 }
 
-/// A copy of the names.
-fn copy_names(alloc: Global, names: &[String]) -> Result<Vec<String>, AllocError>
-    ensures { IfOk result (λ v. texts_in v ≡ map string_bytes names.now) }
-{
-    let names = slices(alloc, names)?;
-    copies(alloc, names.as_slice())
-}
-
 /// Adds the alternatives of a `prereq`; other records have none.
 fn push_group(
     alloc: Global,
@@ -99,7 +91,7 @@ fn push_group(
         ≡ map texts_in groups.old.items ++ prereq_groups (record_view recorded.now ∷ [])) }
 {
     if let Record::Prereq(names) = recorded {
-        groups.push(copy_names(alloc, names.as_slice())?)?;
+        groups.push(copies(alloc, names.as_slice())?)?;
     }
     Ok(())
 }
@@ -157,7 +149,7 @@ fn entry_for(
     Ok(Loaded {
         name: String::from_str(alloc, loading.name.as_str())?,
         path: String::from_str(alloc, loading.path.as_str())?,
-        conflicts: copies(alloc, conflicts.as_slice())?,
+        conflicts: owned(alloc, conflicts.as_slice())?,
         prereqs,
     })
 }

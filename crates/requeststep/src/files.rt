@@ -24,7 +24,7 @@ use crate::refusal::Refusal;
 use defaultfiles::Evaluated;
 use envloaded::{Loaded, drop_loaded};
 use envvars::Vars;
-use filetree::{FindFault, Modulefile, Tree, read_modulefile};
+use filetree::{FileContent, FindFault, Tree, read_modulefile};
 use modulefile::Mode;
 use modulename::is_module_name;
 use modulerun::{FileContext, Ran, run_file};
@@ -204,10 +204,10 @@ fn script_at<T: Tree>(alloc: Global, tree: &mut T, path: &str) -> Result<String,
     ensures failed { FailsAt is_failure (T.failed tree.old) (T.failed tree.new) result (λ at. at ≡ path.now) }
 {
     match read_modulefile(tree, path)? {
-        Modulefile::Script(text) => Ok(text),
-        Modulefile::Absent => Err(Refusal::FileGone(String::from_str(alloc, path)?)),
-        Modulefile::NoCookie => Err(Refusal::NotAModulefile(String::from_str(alloc, path)?)),
-        Modulefile::NotUtf8 => Err(Refusal::Find(FindFault::NotUtf8(String::from_str(
+        FileContent::Script(text) => Ok(text),
+        FileContent::Absent => Err(Refusal::FileGone(String::from_str(alloc, path)?)),
+        FileContent::NoCookie => Err(Refusal::NotAModulefile(String::from_str(alloc, path)?)),
+        FileContent::NotUtf8 => Err(Refusal::Find(FindFault::NotUtf8(String::from_str(
             alloc, path,
         )?))),
     }

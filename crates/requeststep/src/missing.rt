@@ -24,7 +24,7 @@ impl MissingNames {
     {
         let names = slices(alloc, group)?;
         Ok(MissingNames {
-            names: copies(alloc, names.as_slice())?,
+            names: copies(alloc, group)?,
             text: join(alloc, names.as_slice(), ' ')?,
         })
     }

@@ -3,7 +3,7 @@ use Rattle.envvars.specs.Texts.{Text}
 use Rattle.search.specs.Listed.{Listed}
 use Rattle.search.specs.Listings.{listing_view}
 use Rattle.search.specs.declared.listings.Listing as code
-use Rattle.defaultfiles.specs.DefaultFileResults.{Leaves}
+use Rattle.defaultfiles.specs.DefaultFileResults.{HasResult}
 use Rattle.requests.specs.Reports.{avail_text}
 use Rattle.requests.specs.Steps.{nothing_done, with_report, modulepath}
 use Rattle.filetree.specs.Agreement.{InEachPair, is_device}
@@ -20,7 +20,7 @@ returns-clause-over_tree g c = λ files listings a.
     let ls = map listing_view c.in_ok-listings.listings.items in
     let texts = map string_bytes c.args.texts.now in (
       ls,
-      subst (λ (path : Text). Listed (Leaves c.args.settings.limits) files listings path ls) c.modulepath.ensures (c.in_ok-listings.ensures.listed files listings a),
+      subst (λ (path : Text). Listed (HasResult c.args.settings.limits) files listings path ls) c.modulepath.ensures (c.in_ok-listings.ensures.listed files listings a),
       ap Ok (c.in_ok-done_with_report.ensures e ∙ ap (λ (t : Text). with_report (nothing_done e) [] t) (c.as_str.ensures.value ∙ (c.in_ok-text.ensures ∙ ap (λ (vs : List code.Listing). avail_text texts (map listing_view vs)) c.as_slice.ensures.value))),
     )
 
@@ -28,7 +28,7 @@ pub returns-in_err-listings-clause-failed : goal.returns-in_err-listings-clause-
 returns-in_err-listings-clause-failed g c =
     let p = err_from_is_err_and c.from_residual.result c.from_residual.ensures.1 in
     let fault = c.in_err-listings.field-0.0 in
-    let results = Leaves c.args.settings.limits in
+    let results = HasResult c.args.settings.limits in
     let before = g.T.Tree.failed c.args.tree.now in
     let agrees = g.T.Tree.agrees c.available.new.tree in
     rw (p.1, p.2) (fails_then (is_device fault) (is_failure (refused_read fault)) before before (g.T.Tree.failed c.available.new.tree)

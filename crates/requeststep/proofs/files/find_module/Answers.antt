@@ -1,6 +1,6 @@
 use Rattle.std.proofs.Common.{◌<◌, Ok, Err, refl, subst}
 use Rattle.std.proofs.lemmas.Result.{err_from_is_err_and}
-use Rattle.defaultfiles.specs.DefaultFileResults.{Leaves}
+use Rattle.defaultfiles.specs.DefaultFileResults.{HasResult}
 use Rattle.search.specs.Found.{Found}
 use Rattle.search.specs.Answers.{cause_of, found_view, is_failure}
 use Rattle.requeststep.proofs.StepLemmas.{search_stands}
@@ -17,13 +17,13 @@ pub returns-in_err-locate-clause-over_tree : goal.returns-in_err-locate-clause-o
 returns-in_err-locate-clause-over_tree g c =
     let p = err_from_is_err_and c.from_residual.result c.from_residual.ensures.1 in
     rw (p.1, p.2) (search_stands (cause_of c.in_err-locate.field-0.0) (g.T.Tree.failures c.args.tree.now < g.T.Tree.failures c.locate.new.tree) _ _
-    (λ r h files listings a. (Err r, subst (λ path. Found (Leaves c.args.name_request.settings.limits) files listings path c.args.name_request.typed.now (Err r)) c.modulepath.ensures (h files listings a), refl))
+    (λ r h files listings a. (Err r, subst (λ path. Found (HasResult c.args.name_request.settings.limits) files listings path c.args.name_request.typed.now (Err r)) c.modulepath.ensures (h files listings a), refl))
     c.in_err-locate.ensures.over_tree)
 
 pub returns-clause-over_tree : goal.returns-clause-over_tree
 returns-clause-over_tree g c = λ files listings a. (
   Ok (found_view c.in_ok-locate.field-0),
-  subst (λ path. Found (Leaves c.args.name_request.settings.limits) files listings path c.args.name_request.typed.now (Ok (found_view c.in_ok-locate.field-0))) c.modulepath.ensures (c.in_ok-locate.ensures.over_tree files listings a),
+  subst (λ path. Found (HasResult c.args.name_request.settings.limits) files listings path c.args.name_request.typed.now (Ok (found_view c.in_ok-locate.field-0))) c.modulepath.ensures (c.in_ok-locate.ensures.over_tree files listings a),
   refl,
 )
 
@@ -31,7 +31,7 @@ pub returns-in_err-locate-clause-failed : goal.returns-in_err-locate-clause-fail
 returns-in_err-locate-clause-failed g c =
     let p = err_from_is_err_and c.from_residual.result c.from_residual.ensures.1 in
     let fault = c.in_err-locate.field-0.0 in
-    let results = Leaves c.args.name_request.settings.limits in
+    let results = HasResult c.args.name_request.settings.limits in
     let typed = c.args.name_request.typed.now in
     let before = g.T.Tree.failed c.args.tree.now in
     let agrees = g.T.Tree.agrees c.locate.new.tree in
