@@ -1,11 +1,11 @@
-use Rattle.std.proofs.Common.{refl, false}
+use Rattle.std.proofs.Common.{map, refl, false}
 use Rattle.std.proofs.lemmas.Result.{err_from_is_err_and}
 use Rattle.tclrules.specs.Derivation.{OutOfMemory, Halted, lacks_memory}
 use Rattle.tclrules.specs.Rules.{file_ended}
 use Rattle.tclrules.specs.Promise.{texts_of}
 use Rattle.tclcontrol.proofs.Stopping.{same_as}
 use Rattle.tclevaluator.proofs.Running.{run_after, begins_refl}
-use Rattle.tcleval.proofs.Whole.{evaluated}
+use Rattle.tcleval.proofs.Whole.{evaluated_alike}
 use Rattle.tcleval.proofs.file.evaluate_with.Goals as goal
 
 pub returns-in_err-variables-clause-evaluates : goal.returns-in_err-variables-clause-evaluates
@@ -20,7 +20,7 @@ pub returns-clause-evaluates : goal.returns-clause-evaluates
 returns-clause-evaluates g c =
     let f = rw (c.in_ok-variables.ensures, c.depth_limit.ensures) at c.run_file-outcome.ensures.evaluates_to in
     let l = same_as (c.file_completion.ensures _) (run_after file_ended _ _ f) in
-    evaluated c.args.limits c.args.script.now (texts_of c.args.globals.items) _ _ _ _ _ _ _ _ l c.file_answer.ensures
+    evaluated_alike (map (λ n. n.now) c.reserved.result.now) c.args.limits c.args.script.now (texts_of c.args.globals.items) _ _ _ _ _ _ _ _ c.reserved.ensures.names l c.file_answer.ensures
 
 pub returns-clause-same : goal.returns-clause-same
 returns-clause-same g c = c.run_file-outcome.ensures.evaluates_to.same
