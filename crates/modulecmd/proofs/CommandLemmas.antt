@@ -15,15 +15,15 @@ use Rattle.filetree.specs.Relations.{After}
 use Rattle.requests.specs.Laws.{CommandsReturn, OneOutcome}
 use Rattle.requests.specs.Reasons.{RequestReason}
 use Rattle.requests.specs.Requests.{RequestedAction, Request}
-use Rattle.requests.specs.Steps.{Site, Done, RequestStep}
+use Rattle.requests.specs.Steps.{Site, Done, RequestStep, site_in}
 use Rattle.filetree.specs.Causes.{Cause, memory, device, because, Applies}
 use Rattle.requeststep.specs.Answers.{cause_of}
 use Rattle.requeststep.specs.Messages.{memory_number, number_by}
-use Rattle.modules.specs.Replies.{site_in, changed_env, changed_view}
+use Rattle.modules.specs.Replies.{changed_env, changed_view}
 use Rattle.modulecmd.specs.declared.command_fault.CommandFault.{CommandFault}
 use Rattle.modulecmd.specs.declared.command_fault.CommandFault.TheVariants.{Refused, Unprinted, UnknownShell, WriteFailed}
 use Rattle.modulecmd.specs.Command as command
-use Rattle.modulecmd.specs.Command.{CommandReason, CommandResult, CommandHasResult, HasReason, IsNumbered, command_of, standard, with_shell}
+use Rattle.modulecmd.specs.Command.{CommandReason, CommandResult, CommandHasResult, IsCausedBy, IsNumbered, command_of, standard, with_shell}
 use Rattle.modulecmd.specs.declared.command.Answer.{Answer}
 use Rattle.modulecmd.specs.Output.{IsAnswer, ReturnsToStart}
 use Rattle.modulecmd.specs.Words.{effect_in}
@@ -42,23 +42,23 @@ stands_so device Is Is' failed failed' more fails h = fails h
 stands_so (because r) Is Is' failed failed' more fails h = more r h
 
 -- the cause of a fault, where each reason gives another
-pub has_reason : (fault : CommandFault) (Is Is' : CommandReason → Type 0) (Lacks Lacks' : Text → Type 0) (failed failed' : Type 0)
+pub caused_otherwise : (fault : CommandFault) (Is Is' : CommandReason → Type 0) (Lacks Lacks' : Text → Type 0) (failed failed' : Type 0)
     → ((r : CommandReason) → Is r → Is' r) → ((name : Text) → Lacks name → Lacks' name) → (failed → failed')
-    → HasReason fault Is Lacks failed → HasReason fault Is' Lacks' failed'
-has_reason (Refused refusal) Is Is' Lacks Lacks' failed failed' more lacks fails h =
-    stands_so (cause_of refusal) (λ r. Is (command.because r)) (λ r. Is' (command.because r)) failed failed' (λ r. more (command.because r)) fails h
-has_reason (UnknownShell word) Is Is' Lacks Lacks' failed failed' more lacks fails h = more _ h
-has_reason (Unprinted prints.OutOfMemory) Is Is' Lacks Lacks' failed failed' more lacks fails h = tt
-has_reason (Unprinted (prints.NotSayable name)) Is Is' Lacks Lacks' failed failed' more lacks fails h = lacks _ h
-has_reason WriteFailed Is Is' Lacks Lacks' failed failed' more lacks fails h = absurd h
+    → IsCausedBy fault Is Lacks failed → IsCausedBy fault Is' Lacks' failed'
+caused_otherwise (Refused refusal) Is Is' Lacks Lacks' failed failed' more lacks fails h =
+    stands_so (cause_of refusal) (λ r. Is (command.refused_for r)) (λ r. Is' (command.refused_for r)) failed failed' (λ r. more (command.refused_for r)) fails h
+caused_otherwise (UnknownShell word) Is Is' Lacks Lacks' failed failed' more lacks fails h = more _ h
+caused_otherwise (Unprinted prints.OutOfMemory) Is Is' Lacks Lacks' failed failed' more lacks fails h = tt
+caused_otherwise (Unprinted (prints.NotSayable name)) Is Is' Lacks Lacks' failed failed' more lacks fails h = lacks _ h
+caused_otherwise WriteFailed Is Is' Lacks Lacks' failed failed' more lacks fails h = absurd h
 
-cause_numbered : (out_of_memory : ℕ) (c : Cause RequestReason) → Applies c (number_by out_of_memory c ≡ 43) (λ r. number_by out_of_memory c ≡ command.reason_number (command.because r))
+cause_numbered : (out_of_memory : ℕ) (c : Cause RequestReason) → Applies c (number_by out_of_memory c ≡ 43) (λ r. number_by out_of_memory c ≡ command.reason_number (command.refused_for r))
 cause_numbered out_of_memory memory = tt
 cause_numbered out_of_memory device = refl
 cause_numbered out_of_memory (because r) = refl
 
 -- a fault with a cause has the number of that
-pub numbered : (fault : CommandFault) (Is : CommandReason → Type 0) (Lacks : Text → Type 0) (failed : Type 0) → HasReason fault Is Lacks failed → IsNumbered fault
+pub numbered : (fault : CommandFault) (Is : CommandReason → Type 0) (Lacks : Text → Type 0) (failed : Type 0) → IsCausedBy fault Is Lacks failed → IsNumbered fault
 numbered (Refused refusal) Is Lacks failed h = cause_numbered (memory_number refusal) (cause_of refusal)
 numbered (UnknownShell word) Is Lacks failed h = refl
 numbered (Unprinted prints.OutOfMemory) Is Lacks failed h = tt
@@ -90,7 +90,7 @@ returns_to_start returns one makes s e asked f text step says =
 
 -- the cause of a text that isn't there
 pub unprinted : (shell : Shell) (ss : List NewValue) (fault : PrintFault) (Is : CommandReason → Type 0) (Lacks : Text → Type 0) (failed : Type 0)
-    → ((name : Text) → IsUnsayable shell ss name → Lacks name) → IsPrintFault shell ss fault → HasReason (Unprinted fault) Is Lacks failed
+    → ((name : Text) → IsUnsayable shell ss name → Lacks name) → IsPrintFault shell ss fault → IsCausedBy (Unprinted fault) Is Lacks failed
 unprinted shell ss prints.OutOfMemory Is Lacks failed lacks h = tt
 unprinted shell ss (prints.NotSayable name) Is Lacks failed lacks h = lacks (string_bytes name) h
 

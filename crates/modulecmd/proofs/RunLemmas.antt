@@ -13,8 +13,7 @@ use Rattle.requests.specs.Laws as requests
 use Rattle.requests.specs.Reasons.{RequestReason}
 use Rattle.requests.specs.Requests.{Request}
 use Rattle.requests.specs.Returning.{AreNew, AreFitting}
-use Rattle.requests.specs.Steps.{Done, RequestStep}
-use Rattle.modules.specs.Replies.{site_in}
+use Rattle.requests.specs.Steps.{Done, RequestStep, site_in}
 use Rattle.modulecmd.specs.Command.{CommandResult, CommandHasResult, standard, with_shell}
 use Rattle.modulecmd.specs.Output.{ReturnsToStart}
 use Rattle.modulecmd.specs.Runs.{PrintedCommand, ShellsHold, moves_in, ShellsReturn}

@@ -20,8 +20,9 @@ use Rattle.modulecmd.specs.declared.checking.CheckExit.TheVariants as exits
 use Rattle.modulecmd.specs.declared.command_exit.Exit.{Exit}
 use Rattle.modulecmd.specs.declared.command_exit.Exit.TheVariants.{Success, Reported, CutShort}
 use Rattle.modulecmd.specs.declared.command_fault.CommandFault.{CommandFault}
-use Rattle.modulecmd.specs.Command.{CommandReason, HasReason, LacksText, because, of_input, standard, unknown_shell}
+use Rattle.modulecmd.specs.Command.{CommandReason, IsCausedBy, refused_for, of_input, standard, unknown_shell}
 use Rattle.modulecmd.specs.Output.{FinishesWriting, Refuses}
+use Rattle.rehearsal.specs.Rehearsals.{LacksText}
 
 -- the shell that a word names
 abbrev pub shell_or : Text → Option Shell → Result Shell CommandReason
@@ -30,9 +31,9 @@ shell_or word (Some shell) = Ok shell
 
 -- the shell that the one argument names
 abbrev pub shell_of : List Text → Result Shell CommandReason
-shell_of [] = Err (because bad_arguments)
+shell_of [] = Err (refused_for bad_arguments)
 shell_of (word ∷ []) = shell_or word (shell_named word)
-shell_of (word ∷ other ∷ more) = Err (because bad_arguments)
+shell_of (word ∷ other ∷ more) = Err (refused_for bad_arguments)
 
 -- The whole input, which is UTF-8 and no longer than an input may be, is checked for the shell of the arguments. The
 -- numbers say how often the device had failed before, and has now.
@@ -89,7 +90,7 @@ CheckLacksText agrees before now e arguments input input' name =
 abbrev pub IsCheckFault : (Files → Listings → Type 0) → ℕ → ℕ → Environment → List Text → Option Text → Option Text
     → CommandFault → Type 0
 IsCheckFault agrees before now e arguments input input' fault =
-    HasReason fault (IsUnnamed arguments input input') (CheckLacksText agrees before now e arguments input input') ⊥
+    IsCausedBy fault (IsUnnamed arguments input input') (CheckLacksText agrees before now e arguments input input') ⊥
     ⊎ IsUnread arguments input input' fault
 
 -- What a check writes, by how it ended: what it found, or a fault and nothing else.

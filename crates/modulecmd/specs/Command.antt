@@ -2,23 +2,21 @@
 use Rattle.std.specs.Prelude.{◌≡◌, ℕ, List, [], ◌∷◌, Option, Some, None, Result, Ok, Err, string_bytes}
 use Rattle.envvars.specs.Texts.{Text}
 use Rattle.envvars.specs.Environment.{Environment}
-use Rattle.envvars.specs.Changes.{NewValue, AreChanges}
 use Rattle.filetree.specs.Agreement.{Files, Listings}
 use Rattle.filetree.specs.Relations.{Is, ◌>>◌}
 use Rattle.shells.specs.declared.shell.Shell.{Shell}
 use Rattle.shells.specs.Shells.{shell_named}
 use Rattle.shelltext.specs.declared.print.PrintFault.TheVariants as prints
-use Rattle.shelltext.specs.Printing.{IsUnsayable, print_fault_number}
+use Rattle.shelltext.specs.Printing.{print_fault_number}
 use Rattle.tclrules.specs.declared.limits.Limits.{Limits}
 use Rattle.requests.specs.Reasons as requests
 use Rattle.requests.specs.Reasons.{RequestReason, bad_arguments}
 use Rattle.requests.specs.Requests.{RequestedAction, Request, request_of}
-use Rattle.requests.specs.Steps.{Done, RequestStep}
+use Rattle.requests.specs.Steps.{Done, RequestStep, site_in}
 use Rattle.filetree.specs.Causes.{Applies}
 use Rattle.requeststep.specs.Answers.{cause_of}
 use Rattle.requeststep.specs.Messages as texts
 use Rattle.requeststep.specs.declared.refusal.Refusal.TheVariants as refusals
-use Rattle.modules.specs.Replies.{site_in}
 use Rattle.filetree.specs.declared.find_fault.FindFault.TheVariants as finds
 use Rattle.processinput.specs.declared.input.InputFault.{InputFault}
 use Rattle.processinput.specs.declared.input.InputFault.TheVariants as inputs
@@ -30,12 +28,12 @@ use Rattle.modulecmd.specs.declared.command_fault.CommandFault.TheVariants.{Refu
 -- Why a command is refused, apart from want of memory, a failed device, a failed write and changes without a text.
 pub data CommandReason : Type 0 where
   unknown_shell : (word : Text) → CommandReason
-  because : (reason : RequestReason) → CommandReason
+  refused_for : (reason : RequestReason) → CommandReason
 
 -- the request for this shell, or the reason why the words make none
 abbrev pub for_shell : Shell → Result RequestedAction RequestReason → Result Request CommandReason
 for_shell shell (Ok asked) = Ok (shell, asked)
-for_shell shell (Err reason) = Err (because reason)
+for_shell shell (Err reason) = Err (refused_for reason)
 
 -- the request of these words, for the shell that the word names
 abbrev pub by_shell : Text → List Text → Option Shell → Result Request CommandReason
@@ -45,7 +43,7 @@ by_shell word words (Some shell) = for_shell shell (request_of words)
 -- the request that the arguments make: the name of the shell that is to read the text, and then the words of the
 -- request
 abbrev pub command_of : List Text → Result Request CommandReason
-command_of [] = Err (because bad_arguments)
+command_of [] = Err (refused_for bad_arguments)
 command_of (word ∷ words) = by_shell word words (shell_named word)
 
 -- what every command may use: 100,000 commands in a modulefile, evaluations nested 200 deep, 1,048,576 bytes in a value
@@ -59,7 +57,7 @@ CommandResult = Shell × Done
 -- what the step has done, with the shell that reads the text
 abbrev pub with_shell : Shell → Result Done RequestReason → Result CommandResult CommandReason
 with_shell shell (Ok done) = Ok (shell, done)
-with_shell shell (Err reason) = Err (because reason)
+with_shell shell (Err reason) = Err (refused_for reason)
 
 -- the effect of a request, or its reason: by its step under the standard limits
 abbrev pub RequestHasEffect : Request → Environment → Files → Listings → Result CommandResult CommandReason → Type 0
@@ -71,19 +69,14 @@ RequestHasEffect r e files listings o =
 abbrev pub CommandHasResult : List Text → Environment → Files → Listings → Result CommandResult CommandReason → Type 0
 CommandHasResult arguments e files listings = Is (command_of arguments) >> (λ r. RequestHasEffect r e files listings)
 
--- The changes from one environment to the other have no text in the shell: the first variable that no line can set or
--- unset is this one.
-abbrev pub LacksText : Shell → Environment → Environment → Text → Type 0
-LacksText shell old new name = (cs : List NewValue) × AreChanges old new cs × IsUnsayable shell cs name
-
 -- The cause of a refusal: memory is wanting, a device has failed, the changes have no text, or the command has a
 -- reason.
-abbrev pub HasReason : CommandFault → (CommandReason → Type 0) → (Text → Type 0) → Type 0 → Type 0
-HasReason (Refused refusal) Has Lacks failed = Applies (cause_of refusal) failed (λ reason. Has (because reason))
-HasReason (UnknownShell word) Has Lacks failed = Has (unknown_shell (string_bytes word))
-HasReason (Unprinted prints.OutOfMemory) Has Lacks failed = Unit {0}
-HasReason (Unprinted (prints.NotSayable name)) Has Lacks failed = Lacks (string_bytes name)
-HasReason WriteFailed Has Lacks failed = ⊥
+abbrev pub IsCausedBy : CommandFault → (CommandReason → Type 0) → (Text → Type 0) → Type 0 → Type 0
+IsCausedBy (Refused refusal) Has Lacks failed = Applies (cause_of refusal) failed (λ reason. Has (refused_for reason))
+IsCausedBy (UnknownShell word) Has Lacks failed = Has (unknown_shell (string_bytes word))
+IsCausedBy (Unprinted prints.OutOfMemory) Has Lacks failed = Unit {0}
+IsCausedBy (Unprinted (prints.NotSayable name)) Has Lacks failed = Lacks (string_bytes name)
+IsCausedBy WriteFailed Has Lacks failed = ⊥
 
 -- the number of each refusal
 abbrev pub number_of : CommandFault → ℕ
@@ -95,12 +88,12 @@ number_of WriteFailed = 64
 -- the number of a command's reason
 abbrev pub reason_number : CommandReason → ℕ
 reason_number (unknown_shell word) = 63
-reason_number (because reason) = requests.reason_number reason
+reason_number (refused_for reason) = requests.reason_number reason
 
 -- the number of a refusal is that of its cause: the reason's own, 62 for changes without a text, 43 for a failed device
 abbrev pub IsNumbered : CommandFault → Type 0
 IsNumbered fault =
-    HasReason fault (λ reason. number_of fault ≡ reason_number reason) (λ name. number_of fault ≡ 62)
+    IsCausedBy fault (λ reason. number_of fault ≡ reason_number reason) (λ name. number_of fault ≡ 62)
     (number_of fault ≡ 43)
 
 -- arguments that can't be handed on, as a refusal

@@ -10,13 +10,14 @@ use Rattle.reversal.specs.Starts.{IsInOrder, IsStart, IsStartWith}
 use Rattle.reversal.specs.Runs.{live_after, AreReversibleTogether}
 use Rattle.reversal.specs.Laws.{Holds}
 use Rattle.requests.specs.Steps.{Done}
+use Rattle.rehearsal.specs.Rehearsals.{LacksText}
 use Rattle.requests.specs.Returning.{AreNew, AreFitting}
 use Rattle.filetree.specs.Agreement.{Files, Listings, InEachPair}
 use Rattle.shelltext.specs.Reading.{TextMakes, SaysDifference}
 use Rattle.modulecmd.specs.declared.command_fault.CommandFault.{CommandFault}
 use Rattle.modulecmd.specs.declared.command_fault.CommandFault.TheVariants.{WriteFailed}
 use Rattle.modulecmd.specs.Writing.{AppendsPart}
-use Rattle.modulecmd.specs.Command.{CommandResult, CommandReason, HasReason, IsNumbered, LacksText}
+use Rattle.modulecmd.specs.Command.{CommandResult, CommandReason, IsCausedBy, IsNumbered}
 use Rattle.modulecmd.specs.declared.command_exit.Exit.{Exit}
 use Rattle.modulecmd.specs.declared.command_exit.Exit.TheVariants.{Success, Reported, CutShort}
 use Rattle.modulecmd.specs.Lines.{line_of}
@@ -92,7 +93,7 @@ ResultLacksText agrees e Does name = (f : CommandResult) × HasResultInEachPair 
 -- command's own in each pair of maps that agrees with the tree.
 abbrev pub IsCaused : (Files → Listings → Type 0) → Type 0 → Environment → ResultRelation → CommandFault → Type 0
 IsCaused agrees failed e Does fault =
-    HasReason fault (λ reason. HasResultInEachPair agrees Does (Err reason)) (ResultLacksText agrees e Does) failed
+    IsCausedBy fault (λ reason. HasResultInEachPair agrees Does (Err reason)) (ResultLacksText agrees e Does) failed
 
 -- A fault refuses a command over a tree, by the number of its cause.
 abbrev pub IsRefused : (Files → Listings → Type 0) → Type 0 → Environment → ResultRelation → CommandFault → Type 0

@@ -1,10 +1,10 @@
 //! Runs a check (modcheck(1)): the lines of an input, what their requests would change, and the verdicts on modules.
-ghost use Rattle.std.specs.Prelude.{◌≡◌, ◌≤◌, map, Ok, Err, IfOk, IfErr, string_bytes};
-ghost use Rattle.filetree.specs.Agreement.{Narrows};
+ghost use Rattle.std.specs.Prelude.{◌≡◌, map, Ok, Err, IfOk, IfErr, string_bytes};
+ghost use Rattle.filetree.specs.Agreement.{ReadsOn};
 ghost use Rattle.modulecmd.specs.Checking as spec;
 ghost use Rattle.modulecmd.specs.Checking.{EndsCheck, IsCheckFault, check_status};
 ghost use Rattle.modulecmd.specs.CheckWords.{IsCheckAnswer, exit_of};
-ghost use Rattle.modulecmd.specs.Command.{HasReason};
+ghost use Rattle.modulecmd.specs.Command.{IsCausedBy};
 ghost use Rattle.modulecmd.specs.declared.checking.CheckExit.{CheckExit};
 
 use crate::command::STANDARD;
@@ -61,7 +61,7 @@ struct CheckAnswer {
 fn shell_of(args: &[String]) -> Result<Shell, CommandFault>
     ensures named { IfOk result (λ shell. spec.shell_of (map string_bytes args.now) ≡ Ok shell) }
     ensures refused { IfErr result (λ fault.
-        HasReason fault (λ o. spec.shell_of (map string_bytes args.now) ≡ Err o) (λ name. ⊥) ⊥) }
+        IsCausedBy fault (λ o. spec.shell_of (map string_bytes args.now) ≡ Err o) (λ name. ⊥) ⊥) }
 {
     let [word] = args else {
         return Err(CommandFault::Refused(Refusal::BadArguments));
@@ -80,8 +80,7 @@ fn answer_of<T: Tree, R: Read>(
     env: &Env,
     tree: &mut T,
 ) -> Result<CheckAnswer, CommandFault>
-    ensures before { Narrows (T.agrees tree.old) (T.agrees tree.new) }
-    ensures later { T.failures tree.old ≤ T.failures tree.new }
+    ensures reads { ReadsOn T.agrees T.failures tree.old tree.new }
     ensures answered { IfOk result (IsCheckAnswer (T.agrees tree.new) (T.failures tree.old) (T.failures tree.new)
         env.now (map string_bytes args.now) (R.remaining input.old) (R.remaining input.new)) }
     ensures refused { IfErr result (IsCheckFault (T.agrees tree.new) (T.failures tree.old) (T.failures tree.new)
@@ -130,8 +129,7 @@ pub fn run_check<T: Tree, R: Read, W: Write, E: Write>(
     out: &mut W,
     err: &mut E,
 ) -> CheckExit
-    ensures before { Narrows (T.agrees tree.old) (T.agrees tree.new) }
-    ensures later { T.failures tree.old ≤ T.failures tree.new }
+    ensures reads { ReadsOn T.agrees T.failures tree.old tree.new }
     ensures ended { EndsCheck result (T.agrees tree.new) (T.failures tree.old) (T.failures tree.new) env
         (map string_bytes args.now) (R.remaining input.old) (R.remaining input.new)
         (W.contents out.old) (W.contents out.new) (E.contents err.old) (E.contents err.new) }
@@ -155,8 +153,7 @@ pub fn modcheck<T: Tree, R: Read, W: Write, E: Write>(
     out: &mut W,
     err: &mut E,
 ) -> u8
-    ensures before { Narrows (T.agrees tree.old) (T.agrees tree.new) }
-    ensures later { T.failures tree.old ≤ T.failures tree.new }
+    ensures reads { ReadsOn T.agrees T.failures tree.old tree.new }
     ensures ended { (exit : CheckExit) × (result ≡ check_status exit)
         × EndsCheck exit (T.agrees tree.new) (T.failures tree.old) (T.failures tree.new) env
         (map string_bytes args.now) (R.remaining input.old) (R.remaining input.new)

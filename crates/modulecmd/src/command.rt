@@ -1,10 +1,10 @@
 //! Runs one command: the words of a command line in, the text for the shell and the messages out.
-ghost use Rattle.std.specs.Prelude.{◌≡◌, ◌<◌, ◌≤◌, map, Ok, Err, IfOk, IfErr, string_bytes};
-ghost use Rattle.filetree.specs.Agreement.{Narrows};
+ghost use Rattle.std.specs.Prelude.{◌≡◌, ◌<◌, map, Ok, Err, IfOk, IfErr, string_bytes};
+ghost use Rattle.filetree.specs.Agreement.{ReadsOn};
 ghost use Rattle.requests.specs.RequestViews.{request_view};
 ghost use Rattle.modulecmd.specs.declared.command_exit.Exit.{Exit};
 ghost use Rattle.modulecmd.specs.Command as spec;
-ghost use Rattle.modulecmd.specs.Command.{CommandHasResult, HasReason};
+ghost use Rattle.modulecmd.specs.Command.{CommandHasResult, IsCausedBy};
 ghost use Rattle.modulecmd.specs.Output.{EndsCommand, IsAnswer, IsCaused, status_of};
 ghost use Rattle.modulecmd.specs.Words.{effect_in};
 
@@ -41,7 +41,7 @@ struct Answer {
 fn command_of(alloc: Global, args: &[String]) -> Result<Request, CommandFault>
     ensures made { IfOk result (λ r. spec.command_of (map string_bytes args.now) ≡ Ok (request_view r)) }
     ensures refused { IfErr result (λ fault.
-        HasReason fault (λ o. spec.command_of (map string_bytes args.now) ≡ Err o) (λ name. ⊥) ⊥) }
+        IsCausedBy fault (λ o. spec.command_of (map string_bytes args.now) ≡ Err o) (λ name. ⊥) ⊥) }
 {
     let [word, words @ ..] = args else {
         return Err(CommandFault::Refused(Refusal::BadArguments));
@@ -59,8 +59,7 @@ fn answer_of<T: Tree>(
     env: &Env,
     tree: &mut T,
 ) -> Result<Answer, CommandFault>
-    ensures before { Narrows (T.agrees tree.old) (T.agrees tree.new) }
-    ensures later { T.failures tree.old ≤ T.failures tree.new }
+    ensures reads { ReadsOn T.agrees T.failures tree.old tree.new }
     ensures answered { IfOk result (λ a.
         IsAnswer (T.agrees tree.new) env.now (CommandHasResult (map string_bytes args.now) env.now)
         (effect_in env.now a)
@@ -105,8 +104,7 @@ pub fn run_command<T: Tree, W: Write, E: Write>(
     out: &mut W,
     err: &mut E,
 ) -> Exit
-    ensures before { Narrows (T.agrees tree.old) (T.agrees tree.new) }
-    ensures later { T.failures tree.old ≤ T.failures tree.new }
+    ensures reads { ReadsOn T.agrees T.failures tree.old tree.new }
     ensures ended { EndsCommand result (T.agrees tree.new) (T.failures tree.old < T.failures tree.new)
         env (CommandHasResult (map string_bytes args.now) env)
         (W.contents out.old) (W.contents out.new) (E.contents err.old) (E.contents err.new) }
@@ -132,8 +130,7 @@ pub fn modulecmd<T: Tree, W: Write, E: Write>(
     out: &mut W,
     err: &mut E,
 ) -> u8
-    ensures before { Narrows (T.agrees tree.old) (T.agrees tree.new) }
-    ensures later { T.failures tree.old ≤ T.failures tree.new }
+    ensures reads { ReadsOn T.agrees T.failures tree.old tree.new }
     ensures ended { (exit : Exit) × (result ≡ status_of exit)
         × EndsCommand exit (T.agrees tree.new) (T.failures tree.old < T.failures tree.new)
         env (CommandHasResult (map string_bytes args.now) env)

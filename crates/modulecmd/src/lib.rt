@@ -1,5 +1,5 @@
 //! A whole command: the words of a command line in, the text for a shell and the messages out (module(1)).
-//! Takes memory; reads the files and directories (`Tree`) and the input, and writes to the writers, that it is given.
+//! Takes memory; reads the tree and input and writes to the writers that it is given; one call asks the process.
 //! Used by the programs modulecmd_main and modcheck, and by every caller of the library.
 #![tactic(auto)]
 
@@ -9,6 +9,7 @@ mod command_exit;
 mod command_fault;
 mod finishing;
 mod laws;
+mod process;
 mod writers;
 
 pub use checking::{CheckExit, modcheck, run_check};
@@ -26,6 +27,7 @@ pub use modules::{
     Action, Changed, Done, Limits, MissingNames, Module, Move, Outcome, Refusal, Reply, Request,
     Verdict, request, run, run_changes, session, verdict,
 };
+pub use process::process_input;
 pub use processinput::{
     ArgumentsFault, InputFault, arguments, environment_block, environment_of, read_input,
 };

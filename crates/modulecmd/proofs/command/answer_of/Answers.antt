@@ -14,7 +14,7 @@ returns-clause-answered g c =
     answers c.command_returns.ensures c.one_effect.ensures c.difference_makes.ensures (g.T.Tree.agrees c.run_changes.new.tree)
     (map (λ (s : String Global). string_bytes s) c.args.args.now) c.args.env.now (request_view c.in_ok-request.request)
     (record { shell = c.in_ok-request.request.shell; changed = c.in_ok-changed.changed; text = c.in_ok-text.text })
-    c.in_ok-request.ensures.made refl c.in_ok-changed.ensures.answer c.in_ok-changed.ensures.exact
+    c.in_ok-request.ensures.made refl c.in_ok-changed.ensures.over_tree c.in_ok-changed.ensures.exact
     (rw c.as_slice.ensures.value at c.in_ok-text.ensures.text)
 
 pub returns-in_err-text-clause-refused : goal.returns-in_err-text-clause-refused
@@ -29,7 +29,7 @@ returns-in_err-text-clause-refused g c =
     (g.T.Tree.failures c.args.tree.now < g.T.Tree.failures c.run_changes.new.tree)
     (λ name unsayable. (
       (r.0, changed_view e changed),
-      λ files listings agreed. does arguments e files listings r (Ok (changed_view e changed)) c.in_ok-request.ensures.made (c.in_ok-changed.ensures.answer files listings agreed),
+      λ files listings agreed. does arguments e files listings r (Ok (changed_view e changed)) c.in_ok-request.ensures.made (c.in_ok-changed.ensures.over_tree files listings agreed),
       (new_values_in changed.changes, c.in_ok-changed.ensures.exact, unsayable),
     ))
     (rw c.as_slice.ensures.value at c.in_err-text.ensures.fault))

@@ -1,0 +1,17 @@
+//! What a process is given, for the programs over this library: its arguments and its environment.
+
+use crate::command_fault::CommandFault;
+use processinput::{arguments, environment_block, environment_of};
+use std::rt::{Env, Files};
+
+/// The arguments after the program's name, and the environment of the process.
+///
+/// Errors: want of memory (31); an argument that isn't UTF-8 (56).
+pub fn process_input<R: Env + Files + AllocGlobal>(
+    rt: &R,
+) -> Result<(Vec<String>, envvars::Env), CommandFault> {
+    let arguments = arguments(rt)?;
+    let block = environment_block(rt)?;
+    let env = environment_of(rt.alloc(), block.as_slice())?;
+    Ok((arguments, env))
+}
