@@ -3,12 +3,12 @@ ghost use Rattle.std.specs.Prelude.{Some};
 
 use crate::failing::{Failing, Poor};
 use crate::shown::{held, marked};
-use crate::texts::{meant, number, parted, words};
+use crate::texts::{environment, meant, number, parted, words};
 use crate::trees::put;
 use crate::writers::{Limited, kind};
 use anyhow::Result;
 use filetree::{MemoryTree, Tree};
-use modulecmd::{CheckExit, Env, environment_of, modcheck, run_check};
+use modulecmd::{CheckExit, Env, modcheck, run_check};
 use std::alloc::Global;
 use std::io;
 use std::io::{ErrorKind, Read};
@@ -47,16 +47,6 @@ struct Checks {
     tree: MemoryTree,
     env: Env,
     arguments: Vec<String>,
-}
-
-/// The environment of `NAME=VALUE` words.
-fn environment(alloc: Global, rest: &str) -> Result<Env> {
-    let mut block = Vec::new(alloc);
-    for entry in &words(alloc, rest)? {
-        block.extend_from_slice(entry.as_bytes())?;
-        block.push(0)?;
-    }
-    Ok(environment_of(alloc, block.as_slice())?)
 }
 
 /// The words for how a check ended.

@@ -1,19 +1,17 @@
 //! Questions about whole commands, requests, sessions and verdicts, over one tree and one environment.
 use crate::calls::difference;
 use crate::failing::{Failing, Poor};
-use crate::rehearsed::{request_of, requests, shown_rehearsal};
+use crate::rehearsed::{request_of, requests_for_sh, shown_rehearsal};
 use crate::shown::{
     differences, exit_name, held, marked, shown_changed, shown_outcome, shown_refusal, variables,
     verdict_line,
 };
-use crate::texts::{STANDARD, limits_of, meant, number, parted, words};
+use crate::texts::{STANDARD, environment, limits_of, meant, number, parted, words};
 use crate::writers::{Limited, kind};
 use anyhow::Result;
 use envvars::{Vars, changes};
 use filetree::{MemoryTree, Tree};
-use modulecmd::{
-    CommandFault, Exit, environment_of, modulecmd, print_changes, run_command, write_refusal,
-};
+use modulecmd::{CommandFault, Exit, modulecmd, print_changes, run_command, write_refusal};
 use modules::{
     Change, Changed, Env, Limits, Refusal, Request, Shell, request, run, run_changes, session,
     verdict,
@@ -65,7 +63,7 @@ fn command<T: Tree>(alloc: Global, args: &[String], env: &Env, tree: &mut T) -> 
 
 /// Runs requests one after another, and shows the outcome of each, and the difference of the environment at the end.
 fn shown_session<T: Tree>(alloc: Global, line: &str, env: &Env, tree: &mut T) -> Result<String> {
-    let requests = requests(alloc, line, false)?;
+    let requests = requests_for_sh(alloc, line)?;
     let (after, outcomes) = session(alloc, requests.as_slice(), env.copy()?, tree, STANDARD)?;
     let mut text = String::new(alloc);
     for outcome in &outcomes {
@@ -187,12 +185,7 @@ impl Session {
 
     /// Sets the environment.
     fn begin(&mut self, rest: &str) -> Result<String> {
-        let mut block = Vec::new(self.alloc);
-        for entry in &words(self.alloc, rest)? {
-            block.extend_from_slice(entry.as_bytes())?;
-            block.push(0)?;
-        }
-        self.env = environment_of(self.alloc, block.as_slice())?;
+        self.env = environment(self.alloc, rest)?;
         Ok(String::new(self.alloc))
     }
 

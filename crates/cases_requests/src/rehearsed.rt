@@ -26,14 +26,20 @@ pub(crate) fn request_of(alloc: Global, shell: Shell, line: &str) -> Result<Requ
     }
 }
 
-/// The requests of a line, parted by commas: each after the name of its shell, or all for sh.
-pub(crate) fn requests(alloc: Global, line: &str, have_shells: bool) -> Result<Vec<Request>> {
+/// The requests of a line for sh, parted by commas.
+pub(crate) fn requests_for_sh(alloc: Global, line: &str) -> Result<Vec<Request>> {
     let mut requests = Vec::new(alloc);
     for part in line.split(',') {
-        let (name, rest) = match parted(part.trim()) {
-            (name, rest) if have_shells => (name, rest),
-            _ => ("sh", part),
-        };
+        requests.push(request_of(alloc, Shell::Sh, part)?)?;
+    }
+    Ok(requests)
+}
+
+/// The requests of a line, parted by commas, each after the name of its shell.
+fn requests_with_shells(alloc: Global, line: &str) -> Result<Vec<Request>> {
+    let mut requests = Vec::new(alloc);
+    for part in line.split(',') {
+        let (name, rest) = parted(part.trim());
         let shell = Shell::named(name).unwrap_or(Shell::Sh);
         requests.push(request_of(alloc, shell, rest)?)?;
     }
@@ -63,7 +69,7 @@ pub(crate) fn shown_rehearsal<T: Tree>(
     tree: &mut T,
     limits: Limits,
 ) -> Result<String> {
-    let requests = requests(alloc, line, true)?;
+    let requests = requests_with_shells(alloc, line)?;
     let (end, prints) = rehearse(alloc, requests.as_slice(), env.copy()?, tree, limits)?;
     let prints = shown_prints(alloc, prints.as_slice())?;
     let end = variables(alloc, &end)?;

@@ -13,7 +13,7 @@ const COOKIE: &str = "#%Module\n";
 
 /// A modulefile, what it is run over, and the records that its last run made.
 #[derive(Drop)]
-struct Row {
+struct FileRun {
     alloc: Global,
     env: Env,
     shell: Shell,
@@ -89,10 +89,10 @@ fn names(alloc: Global, words: &str) -> Result<Vec<String>, AllocError> {
     Ok(names)
 }
 
-impl Row {
+impl FileRun {
     /// An example at its beginning.
-    fn new(alloc: Global) -> Result<Row, AllocError> {
-        Ok(Row {
+    fn new(alloc: Global) -> Result<FileRun, AllocError> {
+        Ok(FileRun {
             alloc,
             env: Env::new(alloc),
             shell: Shell::Sh,
@@ -210,12 +210,12 @@ impl Row {
 
 /// Answers lines of examples.
 pub(crate) fn answer(rt: &HostRuntime, lines: &[String]) -> io::Result<()> {
-    let mut row = Row::new(rt.alloc())?;
+    let mut run = FileRun::new(rt.alloc())?;
     for line in lines {
         if line.starts_with('#') {
-            row = Row::new(rt.alloc())?;
+            run = FileRun::new(rt.alloc())?;
             println!(rt; "{line}")?;
-        } else if let Some(answer) = row.answer(line)? {
+        } else if let Some(answer) = run.answer(line)? {
             println!(rt; "> {line}\n{answer}")?;
         }
     }

@@ -1,4 +1,6 @@
 //! Texts of lines: what escapes in them mean, their words, and limits.
+use anyhow::Result;
+use modulecmd::{Env, environment_of};
 use std::alloc::{AllocError, Global};
 use tclrules::Limits;
 
@@ -31,6 +33,16 @@ pub(crate) fn words(alloc: Global, line: &str) -> Result<Vec<String>, AllocError
         }
     }
     Ok(words)
+}
+
+/// The environment of `NAME=VALUE` words.
+pub(crate) fn environment(alloc: Global, line: &str) -> Result<Env> {
+    let mut block = Vec::new(alloc);
+    for entry in &words(alloc, line)? {
+        block.extend_from_slice(entry.as_bytes())?;
+        block.push(0)?;
+    }
+    Ok(environment_of(alloc, block.as_slice())?)
 }
 
 /// The character that this one means after a backslash.

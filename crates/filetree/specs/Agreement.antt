@@ -1,6 +1,7 @@
 -- What the answers of a tree of files say: pairs of maps from paths to files and directories, those that agree with the
 -- answers, and where the device failed. Paths and bytes are as POSIX has them.
 use Rattle.std.proofs.Common.{ap}
+use Rattle.message.specs.Messages.{out_of_memory}
 use Rattle.std.specs.Prelude.{◌≡◌, ◌⊎◌, ℕ, ◌<◌, ◌≤◌, Bool, true, false, List, length, map, nat_eq, Option, Some, None, Result, Ok, Err, IsErrOf, codes, if◌then◌else◌, string_bytes, vec_items}
 use Rattle.std.specs.declared.alloc.Global.{Global}
 use Rattle.std.specs.List.{starts_with}
@@ -98,7 +99,7 @@ tree_number Device = 43
 
 -- the message of each fault
 abbrev pub tree_message : TreeFault → List ℕ
-tree_message OutOfMemory = codes "Out of memory"
+tree_message OutOfMemory = out_of_memory
 tree_message Device = codes "Reading failed"
 
 -- the map with this value at this path

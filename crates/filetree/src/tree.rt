@@ -4,7 +4,7 @@ ghost use Rattle.filetree.specs.declared.tree.TreeFault.TheVariants.{OutOfMemory
 ghost use Rattle.message.specs.Messages.{text_of};
 ghost use Rattle.filetree.specs.Agreement.{FailsAt, Files, Listings, InEachPair, FailsOnlyByDevice, IsSatisfiable, begins_with, file_answer, is_device, listing_answer, tree_message, tree_number, Narrows};
 
-use message::Message;
+use message::{Message, out_of_memory};
 use std::alloc::{AllocError, AllocFailed};
 use std::error::Error;
 use std::fmt;
@@ -35,7 +35,7 @@ impl TreeFault {
         ensures { text_of result ≡ tree_message self.now }
     {
         match self {
-            TreeFault::OutOfMemory => Message::of_text("Out of memory"),
+            TreeFault::OutOfMemory => out_of_memory(),
             TreeFault::Device => Message::of_text("Reading failed"),
         }
     }

@@ -3,26 +3,15 @@
 //! Nothing stands above it; it has no clause, so it has little code.
 #![tactic(auto)]
 
-use modulecmd::{
-    CommandFault, DiskTree, Env, arguments, environment_block, environment_of, modcheck,
-    write_refusal,
-};
+use modulecmd::{DiskTree, modcheck, process_input, write_refusal};
 use std::process::ExitCode;
-
-/// The arguments after the program's name, and the environment of the process.
-fn given(rt: &HostRuntime) -> Result<(Vec<String>, Env), CommandFault> {
-    let arguments = arguments(rt)?;
-    let block = environment_block(rt)?;
-    let env = environment_of(rt.alloc(), block.as_slice())?;
-    Ok((arguments, env))
-}
 
 /// Checks standard input, and ends with the status of the check.
 fn main(rt: HostRuntime) -> ExitCode {
     let mut input = rt.stdin();
     let mut out = rt.stdout();
     let mut err = rt.stderr();
-    let (arguments, env) = match given(&rt) {
+    let (arguments, env) = match process_input(&rt) {
         Ok(given) => given,
         Err(fault) => {
             let _ = write_refusal(&fault, &mut err);

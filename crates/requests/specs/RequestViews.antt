@@ -4,7 +4,7 @@ use Rattle.std.specs.Option.{option_map}
 use Rattle.std.specs.declared.alloc.Global.{Global}
 use Rattle.std.specs.declared.vec.Vec.{Vec}
 use Rattle.envvars.specs.Texts.{Text}
-use Rattle.message.specs.Messages.{quoting}
+use Rattle.message.specs.Messages.{quoting, out_of_memory}
 use Rattle.requests.specs.declared.request_fault.RequestFault.{RequestFault}
 use Rattle.requests.specs.declared.request_fault.RequestFault.TheVariants as faults
 use Rattle.requests.specs.declared.action.Action.{Action}
@@ -46,6 +46,6 @@ fault_number (faults.UnknownSubcommand word) = 57
 
 -- the texts of the faults
 abbrev pub fault_message : RequestFault → Text
-fault_message faults.OutOfMemory = codes "Out of memory"
+fault_message faults.OutOfMemory = out_of_memory
 fault_message faults.BadArguments = codes "Bad arguments"
 fault_message (faults.UnknownSubcommand word) = quoting (codes "Unknown subcommand '") (string_bytes word)

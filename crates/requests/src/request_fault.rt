@@ -4,7 +4,7 @@ ghost use Rattle.message.specs.Messages.{text_of};
 ghost use Rattle.requests.specs.declared.request_fault.RequestFault.TheVariants as faults;
 ghost use Rattle.requests.specs.RequestViews.{fault_number, fault_message};
 
-use message::Message;
+use message::{Message, out_of_memory};
 use std::alloc::{AllocError, AllocFailed};
 use std::error::Error;
 use std::fmt;
@@ -38,7 +38,7 @@ impl RequestFault {
         ensures { text_of result ≡ fault_message self.now }
     {
         match self {
-            RequestFault::OutOfMemory => Message::of_text("Out of memory"),
+            RequestFault::OutOfMemory => out_of_memory(),
             RequestFault::BadArguments => Message::of_text("Bad arguments"),
             RequestFault::UnknownSubcommand(word) => {
                 Message::quoting("Unknown subcommand '", word.as_str())

@@ -1,5 +1,5 @@
 //! Parses the words of a command line into a request (module(1)).
-ghost use Rattle.std.specs.Prelude.{◌≡◌, List, map, IfOk, string_bytes, vec_items, Ok};
+ghost use Rattle.std.specs.Prelude.{◌≡◌, List, map, IfOk, string_bytes, Ok};
 ghost use Rattle.envvars.specs.Texts.{Text};
 ghost use Rattle.requests.specs.Requests.{RequestedAction, some_names, switch_of, no_names, request_of};
 ghost use Rattle.message.specs.Answers.{Gives};
@@ -7,19 +7,9 @@ ghost use Rattle.requests.specs.RequestViews.{reason_of, action_view, texts_of};
 
 use crate::action::{Action, Request};
 use crate::request_fault::RequestFault;
+use envvars::fields::copies;
 use shells::Shell;
-use std::alloc::{AllocError, Global};
-
-/// A copy of the words.
-fn copied(alloc: Global, words: &[String]) -> Result<Vec<String>, AllocError>
-    ensures { IfOk result (λ names. map string_bytes (vec_items names) ≡ map string_bytes words.now) }
-{
-    let mut names = Vec::new(alloc);
-    for word in words {
-        names.push(word.clone()?)?;
-    }
-    Ok(names)
-}
+use std::alloc::Global;
 
 /// A copy of the names that follow a subcommand which needs at least one; 56 where there is none.
 fn some_names(alloc: Global, words: &[String]) -> Result<Vec<String>, RequestFault>
@@ -29,7 +19,7 @@ fn some_names(alloc: Global, words: &[String]) -> Result<Vec<String>, RequestFau
     if words.is_empty() {
         return Err(RequestFault::BadArguments);
     }
-    Ok(copied(alloc, words)?)
+    Ok(copies(alloc, words)?)
 }
 
 /// The action, where no name follows the subcommand; else 56.
@@ -66,7 +56,7 @@ fn action_of(alloc: Global, words: &[String]) -> Result<Action, RequestFault>
         "switch" | "swap" => switch_of(names),
         "purge" => no_names(Action::Purge, names),
         "list" => no_names(Action::List, names),
-        "avail" => Ok(Action::Avail(copied(alloc, names)?)),
+        "avail" => Ok(Action::Avail(copies(alloc, names)?)),
         "show" | "display" => some_names(alloc, names).map(Action::Show),
         "whatis" => some_names(alloc, names).map(Action::Whatis),
         other => Err(RequestFault::UnknownSubcommand(String::from_str(alloc, other)?)),

@@ -5,7 +5,7 @@ use Rattle.envvars.specs.Reasons as edits
 use Rattle.envvars.specs.Texts.{texts_in}
 use Rattle.filetree.specs.Answers.{find_message}
 use Rattle.filetree.specs.Causes.{Cause, memory, device, because}
-use Rattle.message.specs.Messages.{Text, quoting}
+use Rattle.message.specs.Messages.{Text, quoting, out_of_memory}
 use Rattle.modulerun.specs.Messages as runs
 use Rattle.modulerun.specs.declared.run_fault.RunFault.{RunFault}
 use Rattle.modulerun.specs.declared.run_fault.RunFault.TheVariants as faults
@@ -65,7 +65,7 @@ number_of refusal = number_by (memory_number refusal) (cause_of refusal)
 
 -- the text of each refusal
 abbrev pub message_of : Refusal → Text
-message_of refusals.OutOfMemory = codes "Out of memory"
+message_of refusals.OutOfMemory = out_of_memory
 message_of (refusals.Run fault) = runs.message_of fault
 message_of (refusals.Find fault) = find_message fault
 message_of (refusals.Env fault) = edits.message_of fault

@@ -10,7 +10,7 @@ ghost use Rattle.requeststep.specs.Messages.{number_by, number_of, message_of, r
 use crate::missing::MissingNames;
 use envvars::EnvFault;
 use filetree::{FindFault, TreeFault};
-use message::Message;
+use message::{Message, out_of_memory};
 use modulerun::RunFault;
 use requests::RequestFault;
 use std::alloc::{AllocError, AllocFailed};
@@ -78,7 +78,7 @@ impl Refusal {
         ensures { text_of result ≡ message_of self.now }
     {
         match self {
-            Refusal::OutOfMemory => Message::of_text("Out of memory"),
+            Refusal::OutOfMemory => out_of_memory(),
             Refusal::Run(fault) => fault.message(),
             Refusal::Find(fault) => fault.message(),
             Refusal::Env(fault) => fault.message(),

@@ -1,6 +1,6 @@
 -- The faults of texts by number and message, and the limits of a text that is parsed (own).
 use Rattle.std.specs.Prelude.{ℕ, codes}
-use Rattle.message.specs.Messages.{Text, at_byte}
+use Rattle.message.specs.Messages.{Text, at_byte, out_of_memory}
 use Rattle.tclchars.specs.declared.fault.TextFault.{TextFault}
 use Rattle.tclchars.specs.declared.fault.TextFault.TheVariants.{OutOfMemory, OpenBrace, OpenQuote, OpenBracket, JoinedToClose, TooDeep, BadCharacter, BadExpression, TooLong}
 
@@ -26,7 +26,7 @@ fault_number TooLong = 9
 
 -- the message of a fault, with its byte offset
 abbrev pub fault_message : TextFault → Text
-fault_message OutOfMemory = codes "Out of memory"
+fault_message OutOfMemory = out_of_memory
 fault_message (OpenBrace at) = at_byte (codes "Missing close-brace at byte ") at
 fault_message (OpenQuote at) = at_byte (codes "Missing close-quote at byte ") at
 fault_message (OpenBracket at) = at_byte (codes "Missing close-bracket at byte ") at

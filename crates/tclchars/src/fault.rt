@@ -5,7 +5,7 @@ ghost use Rattle.tclchars.specs.Faults.{fault_message, fault_number};
 ghost use Rattle.tclchars.specs.Reading.{remaining_of, with_offset};
 ghost use Rattle.tclchars.specs.declared.fault.ReadError.TheVariants.{Memory};
 
-use message::Message;
+use message::{Message, out_of_memory};
 use std::alloc::{AllocError, AllocFailed};
 use std::error::Error;
 use std::fmt;
@@ -57,7 +57,7 @@ impl TextFault {
         ensures { text_of result ≡ fault_message self.now }
     {
         match self {
-            TextFault::OutOfMemory => Message::of_text("Out of memory"),
+            TextFault::OutOfMemory => out_of_memory(),
             TextFault::OpenBrace(at) => Message::at_byte("Missing close-brace at byte ", *at),
             TextFault::OpenQuote(at) => Message::at_byte("Missing close-quote at byte ", *at),
             TextFault::OpenBracket(at) => Message::at_byte("Missing close-bracket at byte ", *at),

@@ -1,6 +1,6 @@
 -- The faults of an evaluation: their numbers, their texts, and what they are made of.
 use Rattle.std.specs.Prelude.{ℕ, [], codes, decimal, string_bytes}
-use Rattle.message.specs.Messages.{Text, around, at_line}
+use Rattle.message.specs.Messages.{Text, around, at_line, out_of_memory}
 use Rattle.tclchars.specs.Faults.{fault_message}
 use Rattle.tclchars.specs.declared.fault.TextFault.{TextFault}
 use Rattle.tclchars.specs.declared.fault.TextFault.TheVariants as texts
@@ -25,7 +25,7 @@ number_of (fault.Host n) = 21
 
 -- the text of a fault
 abbrev pub message_of : EvalFault → Text
-message_of fault.OutOfMemory = codes "Out of memory"
+message_of fault.OutOfMemory = out_of_memory
 message_of (fault.Text f) = fault_message f
 message_of (fault.TclError message line) = at_line (string_bytes message) line
 message_of fault.TooManyCommands = codes "Too many commands"

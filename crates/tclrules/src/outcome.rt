@@ -4,7 +4,7 @@ ghost use Rattle.message.specs.Messages.{text_of};
 ghost use Rattle.tclrules.specs.declared.outcome.EvalFault.TheVariants as faults;
 ghost use Rattle.tclrules.specs.Faults.{number_of, message_of, fault_of_text, fault_of_value};
 
-use message::Message;
+use message::{Message, out_of_memory};
 use std::alloc::{AllocError, AllocFailed};
 use std::error::Error;
 use std::fmt;
@@ -77,7 +77,7 @@ impl EvalFault {
         ensures { text_of result ≡ message_of self.now }
     {
         match self {
-            EvalFault::OutOfMemory => Message::of_text("Out of memory"),
+            EvalFault::OutOfMemory => out_of_memory(),
             EvalFault::Text(fault) => fault.message(),
             EvalFault::TclError(message, line) => Message::at_line(message.as_str(), *line),
             EvalFault::TooManyCommands => Message::of_text("Too many commands"),
