@@ -13,7 +13,6 @@ ghost use Rattle.tclcontrol.specs.CommandTexts.{name_of};
 ghost use Rattle.tclcontrol.specs.Completions.{EvaluatesToText, sized_next};
 
 use crate::command_words::CommandWords;
-use crate::fault::unsupported;
 use crate::result_use::ResultUse;
 use std::alloc::Global;
 use tclcommands::{
@@ -22,6 +21,7 @@ use tclcommands::{
 use tclforms::{Simple, is_unsupported};
 use tclrules::{EvalFault, Host, Limits};
 use tclsubstitution::Stop;
+use tclvalue::unsupported;
 use tclvariables::Variables;
 
 /// The completion of return(n), with this result.
@@ -69,7 +69,7 @@ fn simple_value<'a, H: Host>(
         Simple::Increase(name, numbers) => increase(alloc, variables, limit, name, numbers),
         Simple::Exists(name) => exists(alloc, variables, host, name),
         Simple::Global(names) => global(alloc, variables, names),
-        Simple::Unset(quiet, names) => unset(alloc, variables, quiet, names),
+        Simple::Unset(missing, names) => unset(alloc, variables, missing, names),
         Simple::Define(name, parameters, body) => define(alloc, variables, name, parameters, body),
         Simple::Put(words) => put(alloc, variables, host, words),
         Simple::Return(text) => Err(returned(alloc, text)),

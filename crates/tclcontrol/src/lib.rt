@@ -6,11 +6,9 @@
 mod command_words;
 mod commands;
 mod completion;
-mod fault;
 mod result_use;
 
 pub use command_words::CommandWords;
 pub use commands::{simple_command, unknown_command};
 pub use completion::{after_call, after_catch, after_next, after_turn};
-pub use fault::unsupported;
 pub use result_use::ResultUse;

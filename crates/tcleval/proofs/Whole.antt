@@ -54,4 +54,4 @@ evaluated l script globals oracle oracle' trace trace' s used (Err failure) (Err
 pub evaluated_alike : (names : List Text) (l : Limits) (script : Text) (globals : Variables) (oracle oracle' : Oracle) (trace trace' : Trace) (s : State) (used : ℕ) (res : Result (String Global) EvalFault) (result : Result Ending EvalFault) → names ≡ oracle.reserved → Simulates l.commands (rule l.value_bytes) (plan_of l script names globals) (point oracle trace 0) (after_file res s) (point oracle' trace' used) → AnswersFile script s used res result → Evaluates l script globals oracle trace result trace'
 evaluated_alike names l script globals oracle oracle' trace trace' s used res result same led a =
     evaluated l script globals oracle oracle' trace trace' s used res result
-        (subst (λ (ns : List Text). Simulates l.commands (rule l.value_bytes) (plan_of l script ns globals) (point oracle trace 0) (after_file res s) (point oracle' trace' used)) same led) a
+    (subst (λ (ns : List Text). Simulates l.commands (rule l.value_bytes) (plan_of l script ns globals) (point oracle trace 0) (after_file res s) (point oracle' trace' used)) same led) a

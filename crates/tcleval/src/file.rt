@@ -9,7 +9,7 @@ ghost use Rattle.tclrules.specs.Meaning.{line_at};
 ghost use Rattle.tclrules.specs.Promise.{Evaluates, texts_of};
 ghost use Rattle.tclsubstitution.specs.Machine.{range_text};
 ghost use Rattle.tclcache.specs.Cache.{BeginWith};
-ghost use Rattle.tclevaluator.specs.EvaluatesTo.{EvaluatesTo, bounds_of};
+ghost use Rattle.tclevaluator.specs.Continues.{Continues, bounds_of};
 ghost use Rattle.tclevaluator.specs.OnlyGrows.{OnlyGrows};
 ghost use Rattle.tclcontrol.specs.Completions.{finish, completed};
 ghost use Rattle.tcleval.specs.Files.{after_file, ReportsFailure, AnswersFile};
@@ -33,7 +33,7 @@ fn file_commands<H: Host>(
     bounds: Bounds,
     file: Sourced<'_, &Script<ByteRange>>,
 ) -> Result<String, Stop>
-    ensures evaluates_to { EvaluatesTo H.oracle H.trace bounds
+    ensures evaluates_to { Continues H.oracle H.trace bounds
         (rules.file_commands (bounds_of bounds) (script_view (range_text file.entry.source.now) file.entry.tree.now) []
         evaluator.old.variables)
         (host.old, evaluator.old) result (λ t s. finish (string_bytes t) s) (host.new, evaluator.new) }
@@ -59,7 +59,7 @@ fn run_file<H: Host>(
     bounds: Bounds,
     text: &str,
 ) -> Result<String, Stop>
-    ensures evaluates_to { EvaluatesTo H.oracle H.trace bounds
+    ensures evaluates_to { Continues H.oracle H.trace bounds
         (rule bounds.limits.value_bytes (plans.File bounds.remaining text.now evaluator.old.variables))
         (host.old, evaluator.old) result (λ t s. finish (string_bytes t) s) (host.new, evaluator.new) }
     ensures only_grows { OnlyGrows evaluator.old evaluator.new }

@@ -1,3 +1,3 @@
 pub mod OnlyGrows
-pub mod EvaluatesTo
+pub mod Continues
 pub mod LoopBodies

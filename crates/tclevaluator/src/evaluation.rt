@@ -20,7 +20,7 @@ ghost use Rattle.tclexpr.specs.Owned as expression;
 ghost use Rattle.tclcontrol.specs.CommandTexts.{name_of};
 ghost use Rattle.tclcontrol.specs.declared.result_use.ResultUse.TheVariants.{Dropped};
 ghost use Rattle.tclcontrol.specs.Completions.{EvaluatesToText, finish, sized_next, loop_continuation, guarded, expression_plan, condition_plan};
-ghost use Rattle.tclevaluator.specs.EvaluatesTo.{EvaluatesTo, bounds_of, with_text};
+ghost use Rattle.tclevaluator.specs.Continues.{Continues, bounds_of, with_text};
 ghost use Rattle.tclevaluator.specs.LoopBodies.{HasItsTree, IsSameBody};
 ghost use Rattle.tclevaluator.specs.OnlyGrows.{OnlyGrows};
 
@@ -28,7 +28,6 @@ use crate::bounds::Bounds;
 use crate::evaluator::{Evaluator, sized, within};
 use crate::literals::literal_form;
 use crate::loop_body::LoopBody;
-use crate::loops::{ForLoop, WhileLoop};
 use crate::sourced::Sourced;
 use crate::trees::{expression_tree, normal};
 use crate::turns::begin_turn;
@@ -39,7 +38,7 @@ use tclcontrol::{
     unknown_command,
 };
 use tclexpr::OwnedExpr;
-use tclforms::{Form, Loops, chosen, core_form, parameter_values};
+use tclforms::{ForLoop, Form, Loops, WhileLoop, chosen, core_form, parameter_values};
 use tclrules::Host;
 use tclscript::{ByteRange, Command, Part, Script, Word};
 use tclsubstitution::{Control, Step, Stop, SubstitutionContext, advance};
@@ -58,7 +57,7 @@ impl Evaluator {
         result_use: ResultUse,
     ) -> Result<String, Stop>
         ensures evaluates_to { EvaluatesToText result_use bounds.limits.value_bytes result
-            (λ t. EvaluatesTo H.oracle H.trace bounds
+            (λ t. Continues H.oracle H.trace bounds
             (rule bounds.limits.value_bytes (plans.Script bounds.remaining text.now self.old.variables))
             (host.old, self.old) result (λ _ s. finish t s) (host.new, self.new)) }
         ensures only_grows { OnlyGrows self.old self.new }
@@ -87,7 +86,7 @@ impl Evaluator {
     ) -> Result<String, Stop>
         requires { HasItsTree body.old }
         ensures evaluates_to { EvaluatesToText Dropped bounds.limits.value_bytes result
-            (λ t. EvaluatesTo H.oracle H.trace bounds
+            (λ t. Continues H.oracle H.trace bounds
             (rule bounds.limits.value_bytes (plans.Script bounds.remaining body.old.text.now self.old.variables))
             (host.old, self.old) result (λ _ s. finish t s) (host.new, self.new)) }
         ensures only_grows { OnlyGrows self.old self.new }
@@ -115,7 +114,7 @@ impl Evaluator {
         bounds: Bounds,
         script: Sourced<'_, &Script<ByteRange>>,
     ) -> Result<String, Stop>
-        ensures evaluates_to { (k : Next) → EvaluatesTo H.oracle H.trace bounds
+        ensures evaluates_to { (k : Next) → Continues H.oracle H.trace bounds
             (Runs (plans.Bracket bounds.remaining
             (script_view (range_text script.entry.source.now) script.entry.tree.now) self.old.variables) (on_normal k))
             (host.old, self.old) result (with_text k) (host.new, self.new) }
@@ -135,7 +134,7 @@ impl Evaluator {
         result_use: ResultUse,
     ) -> Result<String, Stop>
         ensures evaluates_to { EvaluatesToText result_use bounds.limits.value_bytes result
-            (λ t. EvaluatesTo H.oracle H.trace bounds
+            (λ t. Continues H.oracle H.trace bounds
             (rules.commands (bounds_of bounds)
             (script_view (range_text script.entry.source.now) script.entry.tree.now) [] self.old.variables)
             (host.old, self.old) result (λ _ s. finish t s) (host.new, self.new)) }
@@ -165,7 +164,7 @@ impl Evaluator {
         result_use: ResultUse,
     ) -> Result<String, Stop>
         ensures evaluates_to { EvaluatesToText result_use bounds.limits.value_bytes result
-            (λ t. (k : Next) → EvaluatesTo H.oracle H.trace bounds
+            (λ t. (k : Next) → Continues H.oracle H.trace bounds
             (Counts (pieces.words (bounds_of bounds)
             (command_view (range_text command.entry.source.now) command.entry.tree.now).words [] self.old.variables
             (λ texts s1. called (bounds_of bounds) texts s1 (sized_next bounds.limits.value_bytes k))))
@@ -193,7 +192,7 @@ impl Evaluator {
         bounds: Bounds,
         words: Sourced<'_, &[Word<ByteRange>]>,
     ) -> Result<Vec<String>, Stop>
-        ensures evaluates_to { (k : List Text → State → plans.Step) → EvaluatesTo H.oracle H.trace bounds
+        ensures evaluates_to { (k : List Text → State → plans.Step) → Continues H.oracle H.trace bounds
             (pieces.words (bounds_of bounds)
             (words_of (map (word_view (range_text words.entry.source.now)) words.entry.tree.now)) []
             self.old.variables k)
@@ -221,7 +220,7 @@ impl Evaluator {
         bounds: Bounds,
         parts: Sourced<'_, &[Part<ByteRange>]>,
     ) -> Result<String, Stop>
-        ensures evaluates_to { (k : Next) → EvaluatesTo H.oracle H.trace bounds
+        ensures evaluates_to { (k : Next) → Continues H.oracle H.trace bounds
             (pieces.parts (bounds_of bounds) (parts_view (range_text parts.entry.source.now) parts.entry.tree.now) []
             self.old.variables k)
             (host.old, self.old) result (with_text k) (host.new, self.new) }
@@ -246,7 +245,7 @@ impl Evaluator {
         source: &'a str,
         start: Control<'a>,
     ) -> Result<String, Stop>
-        ensures evaluates_to { (k : Next) → EvaluatesTo H.oracle H.trace bounds
+        ensures evaluates_to { (k : Next) → Continues H.oracle H.trace bounds
             (control_plan source.entry.now (bounds_of bounds) start.entry self.old.variables k)
             (host.old, self.old) result (with_text k) (host.new, self.new) }
         ensures only_grows { OnlyGrows self.old self.new }
@@ -275,7 +274,7 @@ impl Evaluator {
     #[cycle(evaluate)]
     #[tactic(none)]
     fn express<H: Host>(&mut self, host: &mut H, bounds: Bounds, text: &str) -> Result<String, Stop>
-        ensures evaluates_to { (k : Next) → EvaluatesTo H.oracle H.trace bounds
+        ensures evaluates_to { (k : Next) → Continues H.oracle H.trace bounds
             (express (bounds_of bounds) text.now self.old.variables k)
             (host.old, self.old) result (with_text k) (host.new, self.new) }
         ensures only_grows { OnlyGrows self.old self.new }
@@ -293,7 +292,7 @@ impl Evaluator {
         bounds: Bounds,
         tree: &OwnedExpr,
     ) -> Result<String, Stop>
-        ensures evaluates_to { (k : Next) → EvaluatesTo H.oracle H.trace bounds
+        ensures evaluates_to { (k : Next) → Continues H.oracle H.trace bounds
             (expression_plan (bounds_of bounds) (expression.owned_view tree.now) self.old.variables k)
             (host.old, self.old) result (with_text k) (host.new, self.new) }
         ensures only_grows { OnlyGrows self.old self.new }
@@ -308,7 +307,7 @@ impl Evaluator {
     #[cycle(evaluate)]
     #[tactic(none)]
     fn decide<H: Host>(&mut self, host: &mut H, bounds: Bounds, text: &str) -> Result<bool, Stop>
-        ensures evaluates_to { (k : Bool → State → plans.Step) → EvaluatesTo H.oracle H.trace bounds
+        ensures evaluates_to { (k : Bool → State → plans.Step) → Continues H.oracle H.trace bounds
             (decide (bounds_of bounds) text.now self.old.variables k)
             (host.old, self.old) result k (host.new, self.new) }
         ensures only_grows { OnlyGrows self.old self.new }
@@ -326,7 +325,7 @@ impl Evaluator {
         bounds: Bounds,
         tree: &OwnedExpr,
     ) -> Result<bool, Stop>
-        ensures evaluates_to { (k : Bool → State → plans.Step) → EvaluatesTo H.oracle H.trace bounds
+        ensures evaluates_to { (k : Bool → State → plans.Step) → Continues H.oracle H.trace bounds
             (condition_plan (bounds_of bounds) (expression.owned_view tree.now) self.old.variables k)
             (host.old, self.old) result k (host.new, self.new) }
         ensures only_grows { OnlyGrows self.old self.new }
@@ -348,7 +347,7 @@ impl Evaluator {
         body: &mut LoopBody<'_>,
     ) -> Result<bool, Stop>
         requires { HasItsTree body.old }
-        ensures evaluates_to { (again : State → plans.Step) → EvaluatesTo H.oracle H.trace bounds
+        ensures evaluates_to { (again : State → plans.Step) → Continues H.oracle H.trace bounds
             (turn (bounds_of bounds) body.old.text.now self.old.variables again)
             (host.old, self.old) result (loop_continuation again) (host.new, self.new) }
         ensures only_grows { OnlyGrows self.old self.new }
@@ -371,7 +370,7 @@ impl Evaluator {
         body: &mut LoopBody<'_>,
     ) -> Result<bool, Stop>
         requires { HasItsTree body.old }
-        ensures evaluates_to { (again : State → plans.Step) → EvaluatesTo H.oracle H.trace bounds
+        ensures evaluates_to { (again : State → plans.Step) → Continues H.oracle H.trace bounds
             (condition_plan (bounds_of bounds) (expression.owned_view condition.now) self.old.variables
             (guarded (bounds_of bounds) body.old.text.now again))
             (host.old, self.old) result (loop_continuation again) (host.new, self.new) }
@@ -395,7 +394,7 @@ impl Evaluator {
         bounds: Bounds,
         parts: WhileLoop<'_>,
     ) -> Result<String, Stop>
-        ensures evaluates_to { (k : Next) → EvaluatesTo H.oracle H.trace bounds
+        ensures evaluates_to { (k : Next) → Continues H.oracle H.trace bounds
             (Runs (plans.While bounds.remaining parts.entry.condition.now parts.entry.body.now self.old.variables)
             (on_normal k))
             (host.old, self.old) result (with_text k) (host.new, self.new) }
@@ -419,7 +418,7 @@ impl Evaluator {
         bounds: Bounds,
         parts: ForLoop<'_>,
     ) -> Result<String, Stop>
-        ensures evaluates_to { (k : Next) → EvaluatesTo H.oracle H.trace bounds
+        ensures evaluates_to { (k : Next) → Continues H.oracle H.trace bounds
             (rules.form (bounds_of bounds) (forms.For parts.entry.start.now parts.entry.condition.now
             parts.entry.next.now parts.entry.body.now) self.old.variables k)
             (host.old, self.old) result (with_text k) (host.new, self.new) }
@@ -438,7 +437,7 @@ impl Evaluator {
         bounds: Bounds,
         parts: ForLoop<'_>,
     ) -> Result<String, Stop>
-        ensures evaluates_to { (k : Next) → EvaluatesTo H.oracle H.trace bounds
+        ensures evaluates_to { (k : Next) → Continues H.oracle H.trace bounds
             (Runs (plans.For bounds.remaining parts.entry.condition.now parts.entry.next.now parts.entry.body.now
             self.old.variables) (on_normal k))
             (host.old, self.old) result (with_text k) (host.new, self.new) }
@@ -468,7 +467,7 @@ impl Evaluator {
         result_use: ResultUse,
     ) -> Result<String, Stop>
         ensures evaluates_to { EvaluatesToText result_use bounds.limits.value_bytes result
-            (λ t. (k : Next) → EvaluatesTo H.oracle H.trace bounds
+            (λ t. (k : Next) → Continues H.oracle H.trace bounds
             (rules.otherwise (bounds_of bounds) (option_map (λ t. t.now) body.entry) self.old.variables
             (sized_next bounds.limits.value_bytes k))
             (host.old, self.old) result (λ _ s. k t s) (host.new, self.new)) }
@@ -492,7 +491,7 @@ impl Evaluator {
         result_use: ResultUse,
     ) -> Result<String, Stop>
         ensures evaluates_to { EvaluatesToText result_use bounds.limits.value_bytes result
-            (λ t. (k : Next) → EvaluatesTo H.oracle H.trace bounds
+            (λ t. (k : Next) → Continues H.oracle H.trace bounds
             (rules.branches (bounds_of bounds) (pair_texts branches.now) (option_map (λ t. t.now) other.entry)
             self.old.variables (sized_next bounds.limits.value_bytes k))
             (host.old, self.old) result (λ _ s. k t s) (host.new, self.new)) }
@@ -516,7 +515,7 @@ impl Evaluator {
         body: &str,
         name: Option<&str>,
     ) -> Result<String, Stop>
-        ensures evaluates_to { (k : Next) → EvaluatesTo H.oracle H.trace bounds
+        ensures evaluates_to { (k : Next) → Continues H.oracle H.trace bounds
             (rules.form (bounds_of bounds) (forms.Catch body.now (option_map (λ v. v.now) name.entry))
             self.old.variables k)
             (host.old, self.old) result (with_text k) (host.new, self.new) }
@@ -541,7 +540,7 @@ impl Evaluator {
         bounds: Bounds,
         words: &[String],
     ) -> Result<String, Stop>
-        ensures evaluates_to { (k : Next) → EvaluatesTo H.oracle H.trace bounds
+        ensures evaluates_to { (k : Next) → Continues H.oracle H.trace bounds
             (rules.form (bounds_of bounds) (forms.Express (map string_bytes words.now)) self.old.variables k)
             (host.old, self.old) result (with_text k) (host.new, self.new) }
         ensures only_grows { OnlyGrows self.old self.new }
@@ -561,7 +560,7 @@ impl Evaluator {
         result_use: ResultUse,
     ) -> Result<String, Stop>
         ensures evaluates_to { EvaluatesToText result_use bounds.limits.value_bytes result
-            (λ t. (k : Next) → EvaluatesTo H.oracle H.trace bounds
+            (λ t. (k : Next) → Continues H.oracle H.trace bounds
             (rules.form (bounds_of bounds) (form_view form.entry) self.old.variables
             (sized_next bounds.limits.value_bytes k))
             (host.old, self.old) result (λ _ s. k t s) (host.new, self.new)) }
@@ -573,24 +572,13 @@ impl Evaluator {
             Form::If(branches, other) => {
                 self.branches(host, bounds, branches.as_slice(), other, result_use)
             }
-            Form::While(condition, body) => {
-                let parts = WhileLoop { condition, body };
-                within(limits, self.while_turns(host, bounds, parts))
-            }
-            Form::For(start, condition, next, body) => {
-                let parts = ForLoop {
-                    start,
-                    condition,
-                    next,
-                    body,
-                };
-                within(limits, self.for_loop(host, bounds, parts))
-            }
+            Form::While(parts) => within(limits, self.while_turns(host, bounds, parts)),
+            Form::For(parts) => within(limits, self.for_loop(host, bounds, parts)),
             Form::Foreach(lists, body) => {
                 within(limits, self.foreach(host, bounds, lists.as_slice(), body))
             }
-            Form::Switch(by_glob, text, patterns) => {
-                let body = chosen(by_glob, text, patterns.as_slice());
+            Form::Switch(comparison, text, patterns) => {
+                let body = chosen(comparison, text, patterns.as_slice());
                 self.otherwise(host, bounds, body, result_use)
             }
             Form::Catch(body, name) => within(limits, self.catch(host, bounds, body, name)),
@@ -617,7 +605,7 @@ impl Evaluator {
         result_use: ResultUse,
     ) -> Result<String, Stop>
         ensures evaluates_to { EvaluatesToText result_use bounds.limits.value_bytes result
-            (λ t. (k : Next) → EvaluatesTo H.oracle H.trace bounds
+            (λ t. (k : Next) → Continues H.oracle H.trace bounds
             (called (bounds_of bounds) (map string_bytes words.now) self.old.variables
             (sized_next bounds.limits.value_bytes k))
             (host.old, self.old) result (λ _ s. k t s) (host.new, self.new)) }
@@ -643,7 +631,7 @@ impl Evaluator {
         result_use: ResultUse,
     ) -> Result<String, Stop>
         ensures evaluates_to { EvaluatesToText result_use bounds.limits.value_bytes result
-            (λ t. (k : Next) → EvaluatesTo H.oracle H.trace bounds
+            (λ t. (k : Next) → Continues H.oracle H.trace bounds
             (rules.core_command (bounds_of bounds) (name_of command.entry.words.now)
             (map string_bytes (drop 1 command.entry.words.now)) self.old.variables
             (sized_next bounds.limits.value_bytes k)
@@ -669,7 +657,7 @@ impl Evaluator {
         result_use: ResultUse,
     ) -> Result<String, Stop>
         ensures evaluates_to { EvaluatesToText result_use bounds.limits.value_bytes result
-            (λ t. (k : Next) → EvaluatesTo H.oracle H.trace bounds
+            (λ t. (k : Next) → Continues H.oracle H.trace bounds
             (rules.other_command (bounds_of bounds) (name_of command.entry.words.now)
             (map string_bytes (drop 1 command.entry.words.now)) self.old.variables
             (sized_next bounds.limits.value_bytes k)
@@ -703,7 +691,7 @@ impl Evaluator {
         command: CommandWords<'_>,
         procedure: &Procedure,
     ) -> Result<String, Stop>
-        ensures evaluates_to { (k : Next) → EvaluatesTo H.oracle H.trace bounds
+        ensures evaluates_to { (k : Next) → Continues H.oracle H.trace bounds
             (rules.call (bounds_of bounds) (name_of command.entry.words.now) (procedure_view procedure.now)
             (map string_bytes (drop 1 command.entry.words.now)) self.old.variables k)
             (host.old, self.old) result (with_text k) (host.new, self.new) }
@@ -737,7 +725,7 @@ impl Evaluator {
         lists: &[(&str, &str)],
         body: &str,
     ) -> Result<String, Stop>
-        ensures evaluates_to { (k : Next) → EvaluatesTo H.oracle H.trace bounds
+        ensures evaluates_to { (k : Next) → Continues H.oracle H.trace bounds
             (rules.form (bounds_of bounds) (forms.Foreach (pair_texts lists.now) body.now) self.old.variables k)
             (host.old, self.old) result (with_text k) (host.new, self.new) }
         ensures only_grows { OnlyGrows self.old self.new }
@@ -756,7 +744,7 @@ impl Evaluator {
         loops: &mut Loops,
         body: &str,
     ) -> Result<String, Stop>
-        ensures evaluates_to { (k : Next) → EvaluatesTo H.oracle H.trace bounds
+        ensures evaluates_to { (k : Next) → Continues H.oracle H.trace bounds
             (Runs (plans.Foreach bounds.remaining loops.old body.now self.old.variables) (on_normal k))
             (host.old, self.old) result (with_text k) (host.new, self.new) }
         ensures only_grows { OnlyGrows self.old self.new }

@@ -8,7 +8,6 @@ mod evaluation;
 mod evaluator;
 mod literals;
 mod loop_body;
-mod loops;
 mod sourced;
 mod trees;
 mod turns;

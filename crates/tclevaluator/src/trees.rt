@@ -18,10 +18,9 @@ use std::alloc::{AllocError, Global};
 use std::rc::Rc;
 use tclcache::Cache;
 use tclchars::{Class, TextFault, split_run};
-use tclcontrol::unsupported;
 use tclexpr::OwnedExpr;
 use tclnumber::{Numeral, read_number};
-use tclvalue::ValueFault;
+use tclvalue::{ValueFault, unsupported};
 
 /// The rest of a text from a byte offset on, where a character begins there. Where none does, no name that is
 /// unsupported begins there either.

@@ -1,5 +1,5 @@
 -- What the forms of the program stand for in the rules (tclrules/specs/Forms.antt). Own.
-use Rattle.std.specs.Prelude.{ℕ, List, [], ◌∷◌, map, string_bytes, String, Option, Some, None, Ok, Err}
+use Rattle.std.specs.Prelude.{ℕ, Bool, true, false, List, [], ◌∷◌, map, string_bytes, String, Option, Some, None, Ok, Err}
 use Rattle.std.specs.Borrow.{Bor}
 use Rattle.std.specs.Option.{option_map}
 use Rattle.std.specs.declared.alloc.Global.{Global}
@@ -10,6 +10,10 @@ use Rattle.tclforms.specs.declared.form.Form.{Form}
 use Rattle.tclforms.specs.declared.form.Form.TheVariants as form
 use Rattle.tclforms.specs.declared.form.Simple.{Simple}
 use Rattle.tclforms.specs.declared.form.Simple.TheVariants as simple
+use Rattle.tclforms.specs.declared.form.Comparison.{Comparison}
+use Rattle.tclforms.specs.declared.form.Comparison.TheVariants as comparisons
+use Rattle.tclforms.specs.declared.form.Missing.{Missing}
+use Rattle.tclforms.specs.declared.form.Missing.TheVariants as missing
 use Rattle.tclforms.specs.declared.form.Patterns.{Patterns}
 use Rattle.tclforms.specs.declared.form.Patterns.TheVariants as patterns
 
@@ -32,11 +36,21 @@ abbrev pub pattern_texts : Patterns → List Text
 pattern_texts (patterns.Words ws) = texts_of ws.now
 pattern_texts (patterns.Elements es) = texts_of es.items
 
+-- switch compares by glob
+abbrev pub is_glob : Comparison → Bool
+is_glob comparisons.Exact = false
+is_glob comparisons.Glob = true
+
+-- unset makes nothing of a variable that isn't set
+abbrev pub is_ignored : Missing → Bool
+is_ignored missing.Ignored = true
+is_ignored missing.IsError = false
+
 -- a form of a command that evaluates no script
 abbrev pub simple_view : Simple → forms.Form
 simple_view (simple.Get v) = forms.Get v.now
 simple_view (simple.Set v x) = forms.Set v.now x.now
-simple_view (simple.Unset quiet vs) = forms.Unset quiet (texts_of vs.now)
+simple_view (simple.Unset absent vs) = forms.Unset (is_ignored absent) (texts_of vs.now)
 simple_view (simple.Append v xs) = forms.Append v.now (texts_of xs.now)
 simple_view (simple.ListAppend v xs) = forms.ListAppend v.now (texts_of xs.now)
 simple_view (simple.Increase v ns) = forms.Increase v.now (texts_of ns.now)
@@ -55,10 +69,10 @@ abbrev pub form_view : Form → forms.Form
 form_view (form.Simple s) = simple_view s
 form_view (form.Express xs) = forms.Express (texts_of xs.now)
 form_view (form.If ps other) = forms.If (pair_texts ps.items) (option_map (λ b. b.now) other)
-form_view (form.While c b) = forms.While c.now b.now
-form_view (form.For s c n b) = forms.For s.now c.now n.now b.now
+form_view (form.While l) = forms.While l.condition.now l.body.now
+form_view (form.For l) = forms.For l.start.now l.condition.now l.next.now l.body.now
 form_view (form.Foreach ps b) = forms.Foreach (pair_texts ps.items) b.now
-form_view (form.Switch by_glob t ps) = forms.Switch by_glob t.now (in_pairs (pattern_texts ps))
+form_view (form.Switch comparison t ps) = forms.Switch (is_glob comparison) t.now (in_pairs (pattern_texts ps))
 form_view (form.Catch s v) = forms.Catch s.now (option_map (λ v. v.now) v)
 
 -- an optional answer as the answer of an option

@@ -1,8 +1,9 @@
 //! The body that switch(n) chooses.
 ghost use Rattle.std.specs.Prelude.{◌≡◌, map, string_bytes, option_map};
-ghost use Rattle.tclforms.specs.Views.{in_pairs};
+ghost use Rattle.tclforms.specs.Views.{in_pairs, is_glob};
 ghost use Rattle.tclrules.specs.Rules.{is_default, fits, fall_through, chosen};
 
+use crate::form::Comparison;
 use tclvalue::glob;
 
 /// Whether a pattern is the default: it is `default`, and no pattern follows.
@@ -12,14 +13,13 @@ fn is_default(pattern: &str, following: &[String]) -> bool
     pattern == "default" && following.len() < 2
 }
 
-/// Whether a text matches a pattern: by glob, or as it is.
-fn fits(by_glob: bool, text: &str, pattern: &str) -> bool
-    ensures { result ≡ fits by_glob text.now pattern.now }
+/// Whether a text matches a pattern.
+fn fits(comparison: Comparison, text: &str, pattern: &str) -> bool
+    ensures { result ≡ fits (is_glob comparison) text.now pattern.now }
 {
-    if by_glob {
-        glob(pattern, text)
-    } else {
-        pattern == text
+    match comparison {
+        Comparison::Exact => pattern == text,
+        Comparison::Glob => glob(pattern, text),
     }
 }
 
@@ -41,16 +41,16 @@ fn fall_through<'a>(body: &'a str, following: &'a [String]) -> &'a str
 
 /// The body of the first pattern that matches a text, or of `default` where that is the last pattern. Patterns and
 /// bodies are given by turns.
-pub fn chosen<'a>(by_glob: bool, text: &str, patterns: &'a [String]) -> Option<&'a str>
+pub fn chosen<'a>(comparison: Comparison, text: &str, patterns: &'a [String]) -> Option<&'a str>
     ensures { option_map (λ body. body.now) result
-        ≡ chosen by_glob text.now (in_pairs (map string_bytes patterns.entry.now)) }
+        ≡ chosen (is_glob comparison) text.now (in_pairs (map string_bytes patterns.entry.now)) }
 {
     let mut rest = patterns;
     while let [pattern, body, after @ ..] = rest {
         if is_default(pattern, after) {
             return Some(body);
         }
-        if fits(by_glob, text, pattern) {
+        if fits(comparison, text, pattern) {
             return Some(fall_through(body, after));
         }
         rest = after;

@@ -12,15 +12,55 @@ pub enum Form<'a> {
     /// `if`: conditions with their bodies, and the last body.
     If(Vec<(&'a str, &'a str)>, Option<&'a str>),
     /// `while c b`
-    While(&'a str, &'a str),
+    While(WhileLoop<'a>),
     /// `for s c n b`
-    For(&'a str, &'a str, &'a str, &'a str),
+    For(ForLoop<'a>),
     /// `foreach`: names with their lists, and the body.
     Foreach(Vec<(&'a str, &'a str)>, &'a str),
-    /// `switch`: whether patterns are compared by glob (`-glob`), the text, and the patterns with their bodies.
-    Switch(bool, &'a str, Patterns<'a>),
+    /// `switch`: how patterns are compared, the text, and the patterns with their bodies.
+    Switch(Comparison, &'a str, Patterns<'a>),
     /// `catch s v`
     Catch(&'a str, Option<&'a str>),
+}
+
+/// The texts of while(n).
+#[derive(Clone, Copy)]
+pub struct WhileLoop<'a> {
+    /// The condition, an expression.
+    pub condition: &'a str,
+    /// The script of a turn.
+    pub body: &'a str,
+}
+
+/// The texts of for(n).
+#[derive(Clone, Copy)]
+pub struct ForLoop<'a> {
+    /// The script before the first turn.
+    pub start: &'a str,
+    /// The condition, an expression.
+    pub condition: &'a str,
+    /// The script between two turns.
+    pub next: &'a str,
+    /// The script of a turn.
+    pub body: &'a str,
+}
+
+/// How switch(n) compares its text with a pattern.
+#[derive(Clone, Copy)]
+pub enum Comparison {
+    /// As they are (`-exact`).
+    Exact,
+    /// By the rules of glob patterns (`-glob`).
+    Glob,
+}
+
+/// What unset(n) makes of a variable that isn't set.
+#[derive(Clone, Copy)]
+pub enum Missing {
+    /// Nothing (`-nocomplain`).
+    Ignored,
+    /// An error.
+    IsError,
 }
 
 /// The form of a core command that evaluates no script.
@@ -30,8 +70,8 @@ pub enum Simple<'a> {
     Get(&'a str),
     /// `set v x`
     Set(&'a str, &'a str),
-    /// `unset v...`; the flag is that of `-nocomplain`: an absent variable is no error.
-    Unset(bool, &'a [String]),
+    /// `unset v...`, with or without `-nocomplain`.
+    Unset(Missing, &'a [String]),
     /// `append v x...`
     Append(&'a str, &'a [String]),
     /// `lappend v x...`

@@ -20,7 +20,7 @@ mod words;
 pub use calls::parameter_values;
 pub use choice::chosen;
 pub use commands::core_form;
-pub use form::{Form, Patterns, Simple};
+pub use form::{Comparison, ForLoop, Form, Missing, Patterns, Simple, WhileLoop};
 pub use loops::Loops;
 pub use messages::{cannot_unset, no_command, outside_loop};
 pub use names::{is_in, is_reserved, is_unsupported};

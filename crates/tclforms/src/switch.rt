@@ -4,9 +4,9 @@ ghost use Rattle.std.specs.Option.{option_map};
 ghost use Rattle.tclchars.specs.Answers.{Gives};
 ghost use Rattle.tcloperators.specs.Faults.{reason_of};
 ghost use Rattle.tclrules.specs.Forms.{is_option, options, glob_option, by_glob, paired, patterns_in, bodiless, with_patterns, switch_with, even_pairs, switch_form};
-ghost use Rattle.tclforms.specs.Views.{texts_of, in_pairs, pattern_texts, form_view};
+ghost use Rattle.tclforms.specs.Views.{texts_of, in_pairs, is_glob, pattern_texts, form_view};
 
-use crate::form::{Form, Patterns};
+use crate::form::{Comparison, Form, Patterns};
 use crate::messages::{bad_option, no_body};
 use std::alloc::Global;
 use tcloperators::{ValueFault, elements, not_a_list, unsupported, wrong_words};
@@ -48,27 +48,27 @@ fn split_options(words: &[String]) -> Split<'_>
     }
 }
 
-/// Whether an option asks for patterns that are compared by glob.
-fn glob_option(alloc: Global, option: &str) -> Result<bool, ValueFault>
-    ensures { Gives reason_of (λ b. b) result (glob_option option.now) }
+/// How patterns are compared by an option.
+fn option_comparison(alloc: Global, option: &str) -> Result<Comparison, ValueFault>
+    ensures { Gives reason_of is_glob result (glob_option option.now) }
 {
     match option {
-        "-exact" => Ok(false),
-        "-glob" => Ok(true),
+        "-exact" => Ok(Comparison::Exact),
+        "-glob" => Ok(Comparison::Glob),
         "-regexp" => Err(unsupported(alloc, option)),
         _ => Err(bad_option(alloc, option)),
     }
 }
 
-/// Whether patterns are compared by glob: the last option decides, and without one they are compared exactly.
-fn by_glob(alloc: Global, options: &[String]) -> Result<bool, ValueFault>
-    ensures { Gives reason_of (λ b. b) result (by_glob false (map string_bytes options.now)) }
+/// How patterns are compared: the last option decides, and without one they are compared exactly.
+fn comparison(alloc: Global, options: &[String]) -> Result<Comparison, ValueFault>
+    ensures { Gives reason_of is_glob result (by_glob false (map string_bytes options.now)) }
 {
-    let mut glob = false;
+    let mut comparison = Comparison::Exact;
     for option in options {
-        glob = glob_option(alloc, option)?;
+        comparison = option_comparison(alloc, option)?;
     }
-    Ok(glob)
+    Ok(comparison)
 }
 
 /// The last pattern, where its body is `-`, which would be that of the next.
@@ -95,16 +95,16 @@ fn last_pattern<'a>(pattern: &'a str, body: &str) -> Option<&'a str>
 /// The form with these patterns, unless the last body is `-`.
 fn with_patterns<'a>(
     alloc: Global,
-    by_glob: bool,
+    comparison: Comparison,
     text: &'a str,
     patterns: Patterns<'a>,
 ) -> Result<Form<'a>, ValueFault>
     ensures { Gives reason_of form_view result
-        (with_patterns by_glob text.entry.now (in_pairs (pattern_texts patterns.entry))) }
+        (with_patterns (is_glob comparison) text.entry.now (in_pairs (pattern_texts patterns.entry))) }
 {
     match bodiless(patterns.as_slice()) {
         Some(pattern) => Err(no_body(alloc, pattern)),
-        None => Ok(Form::Switch(by_glob, text, patterns)),
+        None => Ok(Form::Switch(comparison, text, patterns)),
     }
 }
 
@@ -122,8 +122,8 @@ fn of_words<'a>(
     if patterns.len() % 2 == 1 {
         return Err(wrong_words(alloc, "switch"));
     }
-    let by_glob = by_glob(alloc, options)?;
-    with_patterns(alloc, by_glob, text, Patterns::Words(patterns))
+    let comparison = comparison(alloc, options)?;
+    with_patterns(alloc, comparison, text, Patterns::Words(patterns))
 }
 
 /// The form with patterns and bodies that are the elements of one list.
@@ -137,12 +137,12 @@ fn of_list<'a>(
     ensures { Gives reason_of form_view result
         (switch_with text.entry.now (map string_bytes options.now) (patterns_in list.now)) }
 {
-    let by_glob = by_glob(alloc, options)?;
+    let comparison = comparison(alloc, options)?;
     let patterns = elements(alloc, list)?;
     if patterns.len() % 2 == 1 {
         return Err(not_a_list(alloc));
     }
-    with_patterns(alloc, by_glob, text, Patterns::Elements(patterns))
+    with_patterns(alloc, comparison, text, Patterns::Elements(patterns))
 }
 
 /// `switch ?options? text pattern body ?pattern body?...`, or with the patterns and bodies in one list.

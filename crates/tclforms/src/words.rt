@@ -6,7 +6,7 @@ ghost use Rattle.tclrules.specs.Forms.{set_form, after_dashes, unset_form, appen
 ghost use Rattle.tclforms.specs.Views.{form_view, texts_of};
 ghost use Rattle.std.specs.Prelude.{◌≡◌};
 
-use crate::form::{Form, Simple};
+use crate::form::{ForLoop, Form, Missing, Simple, WhileLoop};
 use std::alloc::Global;
 use tcloperators::{ValueFault, unsupported, unsupported_subcommand, wrong_words};
 
@@ -37,9 +37,9 @@ pub(crate) fn unset_form(words: &[String]) -> Form<'_>
 {
     match words {
         [word, rest @ ..] if word.as_str() == "-nocomplain" => {
-            Form::Simple(Simple::Unset(true, after_dashes(rest)))
+            Form::Simple(Simple::Unset(Missing::Ignored, after_dashes(rest)))
         }
-        _ => Form::Simple(Simple::Unset(false, after_dashes(words))),
+        _ => Form::Simple(Simple::Unset(Missing::IsError, after_dashes(words))),
     }
 }
 
@@ -88,7 +88,7 @@ pub(crate) fn while_form(alloc: Global, words: &[String]) -> Result<Form<'_>, Va
     ensures { Gives reason_of form_view result (while_form (map string_bytes words.entry.now)) }
 {
     match words {
-        [condition, body] => Ok(Form::While(condition, body)),
+        [condition, body] => Ok(Form::While(WhileLoop { condition, body })),
         _ => Err(wrong_words(alloc, "while")),
     }
 }
@@ -98,7 +98,12 @@ pub(crate) fn for_form(alloc: Global, words: &[String]) -> Result<Form<'_>, Valu
     ensures { Gives reason_of form_view result (for_form (map string_bytes words.entry.now)) }
 {
     match words {
-        [start, condition, next, body] => Ok(Form::For(start, condition, next, body)),
+        [start, condition, next, body] => Ok(Form::For(ForLoop {
+            start,
+            condition,
+            next,
+            body,
+        })),
         _ => Err(wrong_words(alloc, "for")),
     }
 }

@@ -7,6 +7,7 @@ use Rattle.tclchars.specs.Runs.{Text}
 use Rattle.tclrules.specs.Variables.{value_at}
 use Rattle.tclcommands.proofs.Insides.{unset_there, unset_absent}
 use Rattle.tclvariables.specs.Locations.{scalar_view}
+use Rattle.tclforms.specs.Views.{is_ignored}
 use Rattle.tclcommands.proofs.unsetting.unset_one.Goals as goal
 
 pub returns-in_err-variable : goal.returns-in_err-variable
@@ -19,18 +20,18 @@ returns-then-is_some c =
     let p = scalar_view c.in_ok-variable.variable in
     let s = c.args.variables.now in
     let v : is_some (value_at s p) ≡ true = search rules in
-    λ most r k x. rw (c.unset.ensures, ← unset_there c.args.quiet c.args.name.now s p k (value_at s p) v) (given_on _ _ _ _ c.in_ok-variable.ensures)
+    λ most r k x. rw (c.unset.ensures, ← unset_there (is_ignored c.args.missing) c.args.name.now s p k (value_at s p) v) (given_on _ _ _ _ c.in_ok-variable.ensures)
 
-pub returns-then-quiet : goal.returns-then-quiet
-returns-then-quiet c =
+pub returns-in-Ignored : goal.returns-in-Ignored
+returns-in-Ignored c =
     let p = scalar_view c.in_ok-variable.variable in
     let s = c.args.variables.now in
     let v : is_some (value_at s p) ≡ false = search rules in
-    λ most r k x. rw (c.if-quiet.true, ← (unset_absent c.args.name.now s p k (value_at s p) v).0) (given_on _ _ _ _ c.in_ok-variable.ensures)
+    λ most r k x. rw (c.in-Ignored.is, ← (unset_absent c.args.name.now s p k (value_at s p) v).0) (given_on _ _ _ _ c.in_ok-variable.ensures)
 
-pub returns : goal.returns
-returns c =
+pub returns-in-IsError : goal.returns-in-IsError
+returns-in-IsError c =
     let p = scalar_view c.in_ok-variable.variable in
     let s = c.args.variables.now in
     let v : is_some (value_at s p) ≡ false = search rules in
-    λ most r k x. rw (c.if-quiet.false, c.from.ensures) (continue_with (given_on _ _ _ _ c.in_ok-variable.ensures) (rw ((unset_absent c.args.name.now s p k (value_at s p) v).1) (reason_stops _ _ _ c.cannot_unset.ensures)))
+    λ most r k x. rw (c.in-IsError.is, c.from.ensures) (continue_with (given_on _ _ _ _ c.in_ok-variable.ensures) (rw ((unset_absent c.args.name.now s p k (value_at s p) v).1) (reason_stops _ _ _ c.cannot_unset.ensures)))

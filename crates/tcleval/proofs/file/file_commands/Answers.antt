@@ -4,7 +4,7 @@ use Rattle.tclscript.specs.Tree.{commands_of}
 use Rattle.tclscript.specs.View.{command_view}
 use Rattle.tclrules.specs.Variables.{State}
 use Rattle.tclsubstitution.specs.Machine.{range_text}
-use Rattle.tclevaluator.specs.EvaluatesTo.{bounds_of}
+use Rattle.tclevaluator.specs.Continues.{bounds_of}
 use Rattle.tclrules.specs.Rules as table
 use Rattle.std.proofs.lemmas.List.{drop_all}
 use Rattle.tclscript.specs.declared.tree.Script.{out-Script}

@@ -11,7 +11,7 @@ use Rattle.tclrules.specs.Plans.{Next, sized}
 use Rattle.tclrules.specs.Rules.{rule, called, turn}
 use Rattle.tclforms.specs.Views.{pair_texts}
 use Rattle.tclsubstitution.specs.Machine.{range_text}
-use Rattle.tclevaluator.specs.EvaluatesTo.{bounds_of}
+use Rattle.tclevaluator.specs.Continues.{bounds_of}
 use Rattle.tclcontrol.specs.Completions.{sized_next, guarded, condition_plan}
 use Rattle.tclsubstitution.specs.Stops.{stop_of}
 use Rattle.tclsubstitution.proofs.AtHand.{from_same}
@@ -1197,24 +1197,6 @@ command-fact_in-words g t c = search rules
 
 pub commands-fact_in-command : goal.commands-fact_in-command
 commands-fact_in-command g t c = search rules
-
-pub form-fact_in-body-in-For : goal.form-fact_in-body-in-For
-form-fact_in-body-in-For g t c = search rules
-
-pub form-fact_in-body : goal.form-fact_in-body
-form-fact_in-body g t c = search rules
-
-pub form-fact_in-condition-in-For : goal.form-fact_in-condition-in-For
-form-fact_in-condition-in-For g t c = search rules
-
-pub form-fact_in-condition : goal.form-fact_in-condition
-form-fact_in-condition g t c = search rules
-
-pub form-fact_in-next : goal.form-fact_in-next
-form-fact_in-next g t c = search rules
-
-pub form-fact_in-start : goal.form-fact_in-start
-form-fact_in-start g t c = search rules
 
 pub repeated_script-fact_in-script : goal.repeated_script-fact_in-script
 repeated_script-fact_in-script g t c = search rules

@@ -15,7 +15,7 @@ use Rattle.tclrules.specs.Rules.{rule}
 use Rattle.tclforms.specs.Views.{pair_texts}
 use Rattle.tclsubstitution.specs.Machine.{range_text, control_plan, stack_continuation, control_weight, frames_weight}
 use Rattle.tclcontrol.specs.Completions.{EvaluatesToText}
-use Rattle.tclevaluator.specs.EvaluatesTo.{bounds_of}
+use Rattle.tclevaluator.specs.Continues.{bounds_of}
 use Rattle.tclevaluator.specs.LoopBodies.{HasItsTree}
 use Rattle.tclevaluator.specs.OnlyGrows.{OnlyGrows}
 use Rattle.tclevaluator.proofs.evaluator.Evaluator.+evaluate.Given as goal

@@ -22,9 +22,9 @@ point_at oracle trace at = point (oracle at.0) (trace at.0) at.1.used
 
 -- from this plan, with the host and the evaluator before a call, it is enough to go on with what follows the result of
 -- the call, with the host and the evaluator after it
-abbrev pub EvaluatesTo : {H A : Type 0} → (H → Oracle) → (H → Trace) → Bounds → Step → H × Evaluator → Result A Stop
+abbrev pub Continues : {H A : Type 0} → (H → Oracle) → (H → Trace) → Bounds → Step → H × Evaluator → Result A Stop
     → (A → State → Step) → H × Evaluator → Type 0
-EvaluatesTo oracle trace bounds plan before result next end =
+Continues oracle trace bounds plan before result next end =
     Simulates bounds.limits.commands (rule bounds.limits.value_bytes) plan (point_at oracle trace before)
     (after result next end.1.variables) (point_at oracle trace end)
 
