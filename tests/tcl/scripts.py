@@ -84,7 +84,7 @@ DIFFERENCES = [
     ("expr {(1}", halt(12, "Bad expression at byte 2"), "the fault of an expression is not caught", "skip"),
     ("conflict p", halt(21, "Refused by 51"), "a refusal by the host is not caught"),
     ("proc set {} {}", counted('error {can\'t redefine "set"}'), "a name that is kept"),
-    ("proc module-version {} {}", counted('error {can\'t redefine "module-version"}'), "a name that is kept"),
+    ("proc conflict {} {}", counted('error {can\'t redefine "conflict"}'), "a name that the host reserves"),
     ("proc clock {} {}", counted('error {can\'t redefine "clock"}'), "a name that is kept"),
     ("proc p {{q r s}} {}", counted("error {not a list}"), "a parameter has a name and a default"),
     ("proc p {{}} {}", counted("error {not a list}"), "a parameter has a name"),
