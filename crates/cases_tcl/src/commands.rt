@@ -59,7 +59,7 @@ fn performed<'a>(alloc: Global, state: &mut State, form: Simple<'a>) -> Result<V
     match form {
         Simple::Get(name) => get(alloc, variables, host, name),
         Simple::Set(name, value) => set(alloc, variables, LIMIT, name, value),
-        Simple::Unset(quiet, names) => unset(alloc, variables, quiet, names),
+        Simple::Unset(missing, names) => unset(alloc, variables, missing, names),
         Simple::Append(name, values) => append(alloc, variables, LIMIT, name, values),
         Simple::ListAppend(name, values) => list_append(alloc, variables, LIMIT, name, values),
         Simple::Increase(name, increases) => increase(alloc, variables, LIMIT, name, increases),
