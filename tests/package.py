@@ -232,7 +232,7 @@ class Machine:
         found = set()
         for at, folders, files in os.walk(self.root):
             found |= {os.path.join(at, name)[len(self.root) :] for name in [*folders, *files]}
-        return {path for path in found if not path.startswith(("/var/", "/root/"))}
+        return {path for path in found if not path.startswith(("/var/", os.path.expanduser("~root/")))}
 
     @contextlib.contextmanager
     def is_as_before(self):
