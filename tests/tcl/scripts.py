@@ -701,13 +701,13 @@ def own_answer(line):
     ending = ENDING.fullmatch(head)
     if not ending:
         return Answer("none", 0, line, 0, [], [], [], False)
-    told = {"var": [], "said": [], "kept": [], "asked": []}
+    told = {"var": [], "message": [], "record": [], "asked": []}
     for field in fields:
         kind, _, text = field.partition(" ")
         told[kind].append(text)
     variables = [tuple(map(read, variable.split("=", 1))) for variable in told["var"]]
-    messages = [read(message) for message in told["said"]]
-    records = [[read(word) for word in RECORD_WORD.findall(record)] for record in told["kept"]]
+    messages = [read(message) for message in told["message"]]
+    records = [[read(word) for word in RECORD_WORD.findall(record)] for record in told["record"]]
     count, number, place, text = ending.groups()
     asked = bool(told["asked"])
     if count:

@@ -1,7 +1,7 @@
-//! Questions about the files and directories of a disk, real or scripted.
+//! Lines about the files and directories of a disk, real or scripted.
 
 use crate::system::{Scripted, System};
-use crate::texts::{bytes_of, parted, push_all};
+use crate::texts::{bytes_of, first_word, push_all};
 use crate::trees::{file_text, folder_text};
 use filetree::{DiskTree, Tree, TreeFault};
 use std::alloc::{AllocError, Global};
@@ -57,7 +57,7 @@ pub(crate) fn answer(
     line: &str,
 ) -> io::Result<String> {
     let alloc = rt.alloc();
-    let (kind, path) = parted(line);
+    let (kind, path) = first_word(line);
     let bytes = bytes_of(alloc, b'\\', path)?;
     let path = str::from_utf8(&bytes).unwrap_or("");
     Ok(match kind {
@@ -96,7 +96,7 @@ fn scripted_disk<'r, 't>(
 
 /// What a disk answers for the file and the folder of a system with scripted answers.
 pub(crate) fn scripted_answer(rt: &HostRuntime, line: &str) -> Result<String, AllocError> {
-    let (kind, text) = parted(line);
+    let (kind, text) = first_word(line);
     let bytes = bytes_of(rt.alloc(), b'\\', text)?;
     let mut tree = scripted_disk(rt, kind, &bytes);
     let file = tree.read("/proc/version");
@@ -105,7 +105,7 @@ pub(crate) fn scripted_answer(rt: &HostRuntime, line: &str) -> Result<String, Al
 
 /// Whether the file of a system with scripted answers begins with `#%`, on a disk.
 pub(crate) fn begins_answer(rt: &HostRuntime, line: &str) -> Result<String, AllocError> {
-    let (kind, text) = parted(line);
+    let (kind, text) = first_word(line);
     let bytes = bytes_of(rt.alloc(), b'\\', text)?;
     let mut tree = scripted_disk(rt, kind, &bytes);
     match tree.begins_with("/proc/version", b"#%") {

@@ -1,8 +1,8 @@
-//! Worked examples of the environment: answers questions about variables, processes, disks and texts for shells.
+//! Worked examples of the environment: answers what lines ask about variables, processes, disks and texts for shells.
 //! Touches standard input and output, its own arguments and environment, and files and directories of the disk.
-//! Nothing stands above it; the files `stdin` and `stdout` of this crate are the questions and the answers.
+//! Nothing stands above it; the files `stdin` and `stdout` of this crate are these lines and their answers.
 //!
-//! The questions stand in paragraphs of standard input. The first line of a paragraph says what it is about.
+//! The lines stand in paragraphs of standard input. The first line of a paragraph says what it is about.
 //!
 //! `variables` asks calls of `envstate`, made one after the other over an environment, and over a working one beside
 //! it, which have to answer alike. The paragraph may go on with `from NAME=VALUE...`, the variables before its first
@@ -13,7 +13,7 @@
 //! `system` asks what a process is given and what a disk answers; each line is shown before its answer. `disk file
 //! PATH`, `disk folder PATH` and `disk again PATH` ask a disk, the last for a file twice, and `disk closed PATH` makes
 //! a folder without permission and asks for it. `memory put-file PATH TEXT` and `memory put-folder PATH NAME` put a
-//! file or a folder of one name into a tree in memory, which `memory file PATH` and `memory folder PATH` ask. `told
+//! file or a folder of one name into a tree in memory, which `memory file PATH` and `memory folder PATH` ask. `scripted
 //! KIND TEXT` asks a disk of a system whose answers are scripted (`system.rt`), and `begins KIND TEXT` whether its file
 //! begins with `#%`. `process own` asks for what this process is given, and `process variable TEXT` for the variable A
 //! of an environment. `process given KIND ENTRIES TEXT` asks whose environment is taken where a process holds these
@@ -34,9 +34,9 @@ mod edits;
 mod printing;
 mod processes;
 mod queries;
-mod questions;
 mod shown;
 mod system;
+mod system_lines;
 mod texts;
 mod trees;
 mod variables;
@@ -50,9 +50,9 @@ fn answer(rt: &HostRuntime, paragraph: &[String]) -> io::Result<()> {
     };
     match subject.as_str() {
         "variables" => variables::answer(rt, lines),
-        "system" => questions::answer(rt, lines),
+        "system" => system_lines::answer(rt, lines),
         "shells" => printing::answer(rt, lines),
-        _ => println!(rt; "no such questions: {subject}"),
+        _ => println!(rt; "no such lines: {subject}"),
     }?;
     println!(rt;)
 }

@@ -1,6 +1,6 @@
 //! The texts that shells read changes from.
 
-use crate::texts::{meant, parted};
+use crate::texts::{first_word, meant};
 use envvars::Change;
 use shelltext::{PrintFault, Shell, print_changes};
 use std::alloc::{AllocError, Global};
@@ -16,7 +16,7 @@ fn change_of(alloc: Global, word: &str) -> Result<Change, AllocError> {
     Ok(Change { name, value })
 }
 
-/// The changes that words ask for, parted by blanks.
+/// The changes that words ask for, separated by blanks.
 fn changes_of(alloc: Global, words: &str) -> Result<Vec<Change>, AllocError> {
     let mut changes = Vec::new(alloc);
     for word in words.split(' ') {
@@ -29,7 +29,7 @@ fn changes_of(alloc: Global, words: &str) -> Result<Vec<Change>, AllocError> {
 
 /// The text that a line asks for.
 fn text_for(alloc: Global, line: &str) -> Result<String, PrintFault> {
-    let (name, words) = parted(line);
+    let (name, words) = first_word(line);
     let Some(shell) = Shell::named(name) else {
         return Ok(String::from_str(alloc, "no such shell\n")?);
     };

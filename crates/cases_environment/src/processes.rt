@@ -1,7 +1,7 @@
-//! Questions about what a process is given: its arguments and its environment.
+//! Lines about what a process is given: its arguments and its environment.
 
 use crate::system::{Scripted, System};
-use crate::texts::{bytes_of, parted};
+use crate::texts::{bytes_of, first_word};
 use envvars::Env;
 use processinput::{arguments, environment_block, environment_of};
 use std::alloc::{AllocError, Global};
@@ -57,8 +57,8 @@ fn given_text(
 
 /// The answer to `given`.
 fn given_answer(rt: &HostRuntime, line: &str) -> Result<&'static str, AllocError> {
-    let (kind, texts) = parted(line);
-    let (entries, list) = parted(texts);
+    let (kind, texts) = first_word(line);
+    let (entries, list) = first_word(texts);
     let entries = bytes_of(rt.alloc(), b'\\', entries)?;
     let list = bytes_of(rt.alloc(), b'\\', list)?;
     given_text(rt, &entries, kind, &list)
@@ -66,7 +66,7 @@ fn given_answer(rt: &HostRuntime, line: &str) -> Result<&'static str, AllocError
 
 /// The answer to `cut`.
 fn cut_answer(rt: &HostRuntime, line: &str) -> Result<&'static str, AllocError> {
-    let (count, entries) = parted(line);
+    let (count, entries) = first_word(line);
     let entries = bytes_of(rt.alloc(), b'\\', entries)?;
     let count: usize = count.parse().unwrap_or(0);
     given_text(rt, &entries, "whole", &entries[..count.min(entries.len())])
@@ -74,7 +74,7 @@ fn cut_answer(rt: &HostRuntime, line: &str) -> Result<&'static str, AllocError> 
 
 /// The answer to `own`, `variable`, `given` or `cut`.
 pub(crate) fn answer(rt: &HostRuntime, line: &str) -> Result<String, AllocError> {
-    let (kind, rest) = parted(line);
+    let (kind, rest) = first_word(line);
     let answer = match kind {
         "own" => own_text(rt)?,
         "given" => given_answer(rt, rest)?,

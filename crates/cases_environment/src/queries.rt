@@ -43,7 +43,7 @@ fn needs<V: Vars>(alloc: Global, vars: &V, name: &str) -> Result<String, EnvFaul
 
 /// A call that changes nothing.
 #[derive(Clone, Copy)]
-enum Question<'a> {
+enum Query<'a> {
     /// The value of a variable.
     Get(&'a str),
     /// The loaded modules.
@@ -59,49 +59,49 @@ enum Question<'a> {
 }
 
 /// The call that these words are, the first of them its name; None where they are another.
-fn question_of<'a>(query: &str, word: &'a str) -> Option<Question<'a>> {
+fn query_of<'a>(query: &str, word: &'a str) -> Option<Query<'a>> {
     match query {
-        "get" => Some(Question::Get(word)),
-        "loaded" => Some(Question::Loaded),
-        "conflicts" => Some(Question::Conflicts(word)),
-        "prereqs" => Some(Question::Prereqs(word)),
-        "share_name" => Some(Question::ShareName(word)),
-        "is_name" => Some(Question::Holds(is_variable_name(word))),
-        "is_protected" => Some(Question::Holds(is_protected(word))),
-        "is_plain" => Some(Question::Holds(is_nul_free(word))),
+        "get" => Some(Query::Get(word)),
+        "loaded" => Some(Query::Loaded),
+        "conflicts" => Some(Query::Conflicts(word)),
+        "prereqs" => Some(Query::Prereqs(word)),
+        "share_name" => Some(Query::ShareName(word)),
+        "is_name" => Some(Query::Holds(is_variable_name(word))),
+        "is_protected" => Some(Query::Holds(is_protected(word))),
+        "is_plain" => Some(Query::Holds(is_nul_free(word))),
         _ => None,
     }
 }
 
 /// The call that a line's words are; None where they are another.
-fn question_named(words: &[String]) -> Option<Question<'_>> {
+fn query_named(words: &[String]) -> Option<Query<'_>> {
     match words {
-        [query] => question_of(query.as_str(), ""),
-        [query, word] => question_of(query.as_str(), word.as_str()),
+        [query] => query_of(query.as_str(), ""),
+        [query, word] => query_of(query.as_str(), word.as_str()),
         _ => None,
     }
 }
 
 /// The answer to a call.
-fn answer<V: Vars>(alloc: Global, vars: &V, question: Question<'_>) -> Result<String, EnvFault> {
-    match question {
-        Question::Get(name) => Ok(String::from_str(alloc, vars.get(name).unwrap_or("-"))?),
-        Question::Loaded => entries(alloc, vars),
-        Question::Conflicts(name) => conflicts(alloc, vars, name),
-        Question::Prereqs(name) => needs(alloc, vars, name),
-        Question::ShareName(name) => Ok(share_name(alloc, name)?),
-        Question::Holds(holds) => Ok(String::from_str(alloc, if holds { "1" } else { "0" })?),
+fn answer<V: Vars>(alloc: Global, vars: &V, query: Query<'_>) -> Result<String, EnvFault> {
+    match query {
+        Query::Get(name) => Ok(String::from_str(alloc, vars.get(name).unwrap_or("-"))?),
+        Query::Loaded => entries(alloc, vars),
+        Query::Conflicts(name) => conflicts(alloc, vars, name),
+        Query::Prereqs(name) => needs(alloc, vars, name),
+        Query::ShareName(name) => Ok(share_name(alloc, name)?),
+        Query::Holds(holds) => Ok(String::from_str(alloc, if holds { "1" } else { "0" })?),
     }
 }
 
 /// The answer to a call that changes nothing; None where it is another.
-pub(crate) fn query<V: Vars>(
+pub(crate) fn answer_query<V: Vars>(
     alloc: Global,
     vars: &V,
     words: &[String],
 ) -> Result<Option<String>, EnvFault> {
-    match question_named(words) {
-        Some(question) => answer(alloc, vars, question).map(Some),
+    match query_named(words) {
+        Some(query) => answer(alloc, vars, query).map(Some),
         None => Ok(None),
     }
 }

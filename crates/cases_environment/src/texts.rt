@@ -45,7 +45,7 @@ pub(crate) fn meant(alloc: Global, mark: u8, text: &str) -> Result<String, Alloc
 }
 
 /// The first word, and the text after it.
-pub(crate) fn parted(line: &str) -> (&str, &str) {
+pub(crate) fn first_word(line: &str) -> (&str, &str) {
     line.split_once(' ').unwrap_or((line, ""))
 }
 
@@ -57,7 +57,7 @@ pub(crate) fn push_all(text: &mut String, parts: &[&str]) -> Result<(), AllocErr
     Ok(())
 }
 
-/// The words of a line, parted by blanks; `''` is empty.
+/// The words of a line, separated by blanks; `''` is empty.
 pub(crate) fn words(alloc: Global, line: &str) -> Result<Vec<String>, AllocError> {
     let mut words = Vec::new(alloc);
     for word in line.split(' ') {

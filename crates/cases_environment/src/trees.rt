@@ -1,6 +1,6 @@
 //! What a tree answers, in words, and questions about a tree in memory.
 
-use crate::texts::{bytes_of, parted, push_all};
+use crate::texts::{bytes_of, first_word, push_all};
 use filetree::{MemoryTree, Tree, TreeFault};
 use std::alloc::{AllocError, Global};
 
@@ -44,8 +44,8 @@ pub(crate) fn answer(
     tree: &mut MemoryTree,
     line: &str,
 ) -> Result<String, AllocError> {
-    let (kind, rest) = parted(line);
-    let (path, text) = parted(rest);
+    let (kind, rest) = first_word(line);
+    let (path, text) = first_word(rest);
     match kind {
         "put-file" => tree.put_file(path, &bytes_of(alloc, b'\\', text)?)?,
         "put-folder" => tree.put_directory(path, &[text])?,

@@ -1,7 +1,7 @@
 //! Calls over an environment, and over a working one beside it, which have to answer alike.
 
 use crate::edits::edit;
-use crate::queries::query;
+use crate::queries::answer_query;
 use crate::shown::{listed, shown};
 use crate::texts::words;
 use envstate::{Env, EnvFault, Vars, Working, changes};
@@ -37,7 +37,7 @@ fn made<V: Vars>(
     vars: &mut V,
     words: &[String],
 ) -> Result<Option<String>, EnvFault> {
-    let made = match query(alloc, vars, words) {
+    let made = match answer_query(alloc, vars, words) {
         Ok(None) => edit(alloc, vars, words).map(|()| None),
         found => found,
     };

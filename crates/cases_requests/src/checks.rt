@@ -1,9 +1,9 @@
-//! Questions about checks of lines, over a tree in memory, readers and writers.
+//! Lines about checks of lines, over a tree in memory, readers and writers.
 ghost use Rattle.std.specs.Prelude.{Some};
 
 use crate::failing::{Failing, Poor};
 use crate::shown::{held, marked};
-use crate::texts::{environment, meant, number, parted, words};
+use crate::texts::{environment, first_word, meant, number, words};
 use crate::trees::put;
 use crate::writers::{Limited, kind};
 use anyhow::Result;
@@ -54,7 +54,7 @@ fn exit_name(exit: CheckExit) -> &'static str {
     match exit {
         CheckExit::AllAccepted => "all accepted",
         CheckExit::SomeRefused => "some refused",
-        CheckExit::Reported => "told",
+        CheckExit::Reported => "reported",
         CheckExit::CutShort => "cut short",
     }
 }
@@ -112,7 +112,7 @@ impl Checks {
 
     /// The answer to a line.
     fn answer(&mut self, line: &str) -> Result<String> {
-        let (verb, rest) = parted(line);
+        let (verb, rest) = first_word(line);
         match verb {
             "from" => self.begin(rest),
             "arguments" => self.take(rest),
@@ -178,7 +178,7 @@ impl Checks {
 
     /// Checks an input that fails after so many bytes.
     fn spoilt(&mut self, rest: &str) -> Result<String> {
-        let (room, rest) = parted(rest);
+        let (room, rest) = first_word(rest);
         let text = meant(self.alloc, rest)?;
         let room = room.parse().unwrap_or(0);
         self.read(text.as_str().as_bytes(), room)
@@ -194,7 +194,7 @@ impl Checks {
 
     /// Checks a text that blanks fill up to so many bytes.
     fn long(&mut self, rest: &str) -> Result<String> {
-        let (size, rest) = parted(rest);
+        let (size, rest) = first_word(rest);
         let text = meant(self.alloc, rest)?;
         let mut bytes = Vec::from_slice(self.alloc, text.as_str().as_bytes())?;
         bytes.resize(size.parse().unwrap_or(0), b' ')?;
@@ -203,9 +203,9 @@ impl Checks {
 
     /// Checks over writers that take so many bytes.
     fn write(&mut self, rest: &str) -> Result<String> {
-        let (out_room, rest) = parted(rest);
-        let (err_room, rest) = parted(rest);
-        let (name, rest) = parted(rest);
+        let (out_room, rest) = first_word(rest);
+        let (err_room, rest) = first_word(rest);
+        let (name, rest) = first_word(rest);
         let text = meant(self.alloc, rest)?;
         let mut input = text.as_str().as_bytes();
         let mut out = Limited::new(self.alloc, number(out_room), kind(name));
@@ -259,7 +259,7 @@ impl Checks {
 
     /// Checks a text where memory is refused for the file at a path.
     fn poor(&mut self, rest: &str) -> Result<String> {
-        let (path, rest) = parted(rest);
+        let (path, rest) = first_word(rest);
         let text = meant(self.alloc, rest)?;
         let mut tree = Poor {
             tree: &mut self.tree,

@@ -1,4 +1,4 @@
-//! Questions about whole commands, requests, sessions and verdicts, over one tree and one environment.
+//! Lines about whole commands, requests, sessions and verdicts, over one tree and one environment.
 use crate::calls::difference;
 use crate::failing::{Failing, Poor};
 use crate::rehearsed::{request_of, requests_for_sh, shown_rehearsal};
@@ -6,7 +6,7 @@ use crate::shown::{
     differences, exit_name, held, marked, shown_changed, shown_outcome, shown_refusal, variables,
     verdict_line,
 };
-use crate::texts::{STANDARD, environment, limits_of, meant, number, parted, words};
+use crate::texts::{STANDARD, environment, first_word, limits_of, meant, number, words};
 use crate::writers::{Limited, kind};
 use anyhow::Result;
 use envvars::{Vars, changes};
@@ -130,7 +130,7 @@ impl Session {
 
     /// The answer to a line.
     fn answer(&mut self, line: &str) -> Result<String> {
-        let (verb, rest) = parted(line);
+        let (verb, rest) = first_word(line);
         match verb {
             "new" => self.clear(),
             "module" => self.put("#%Module\n", rest, b"\n"),
@@ -162,7 +162,7 @@ impl Session {
 
     /// Puts a file into the tree: a text, with bytes before and after it.
     fn put(&mut self, prefix: &str, rest: &str, suffix: &[u8]) -> Result<String> {
-        let (path, text) = parted(rest);
+        let (path, text) = first_word(rest);
         let mut bytes = Vec::from_slice(self.alloc, prefix.as_bytes())?;
         bytes.extend_from_slice(meant(self.alloc, text)?.as_bytes())?;
         bytes.extend_from_slice(suffix)?;
@@ -173,7 +173,7 @@ impl Session {
 
     /// Puts a folder into the tree.
     fn put_directory(&mut self, rest: &str) -> Result<String> {
-        let (path, rest) = parted(rest);
+        let (path, rest) = first_word(rest);
         let names = words(self.alloc, rest)?;
         let mut texts = Vec::new(self.alloc);
         for name in &names {
@@ -299,7 +299,7 @@ impl Session {
 
     /// Runs requests where memory is refused for the file at a path.
     fn poor(&mut self, rest: &str) -> Result<String> {
-        let (path, rest) = parted(rest);
+        let (path, rest) = first_word(rest);
         let mut tree = Poor {
             tree: &mut self.tree,
             path,
@@ -309,9 +309,9 @@ impl Session {
 
     /// Runs a command over writers that take so many bytes.
     fn write(&mut self, rest: &str) -> Result<String> {
-        let (out_room, rest) = parted(rest);
-        let (err_room, rest) = parted(rest);
-        let (name, rest) = parted(rest);
+        let (out_room, rest) = first_word(rest);
+        let (err_room, rest) = first_word(rest);
+        let (name, rest) = first_word(rest);
         let args = words(self.alloc, rest)?;
         let mut out = Limited::new(self.alloc, number(out_room), kind(name));
         let mut err = Limited::new(self.alloc, number(err_room), kind(name));
@@ -354,7 +354,7 @@ impl Session {
 
     /// Shows the line that is written of a refusal.
     fn refused(&mut self, rest: &str) -> Result<String> {
-        let (kind, word) = parted(rest);
+        let (kind, word) = first_word(rest);
         let fault = fault_named(self.alloc, kind, word)?;
         shown_line(self.alloc, &fault)
     }

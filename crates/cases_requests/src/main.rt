@@ -1,8 +1,8 @@
-//! Worked examples of requests: answers questions about searches, modulefiles, whole commands and checks.
+//! Worked examples of requests: answers what lines ask about searches, modulefiles, whole commands and checks.
 //! Touches standard input and output, and reads files and directories of the disk; else it works over trees in memory.
-//! Nothing stands above it; the files `stdin` and `stdout` of this crate are the questions and the answers.
+//! Nothing stands above it; the files `stdin` and `stdout` of this crate are these lines and their answers.
 //!
-//! The questions stand in paragraphs of standard input. The first line of a paragraph says what it is about.
+//! The lines stand in paragraphs of standard input. The first line of a paragraph says what it is about.
 //!
 //! `searches`: `file PATH TEXT` and `bytes PATH TEXT` put a file into a tree in memory, where `;` parts the lines of
 //! the text, and `bytes` adds a byte that is not UTF-8; `folder PATH NAME...` puts a folder; `new` begins a new tree.
@@ -24,7 +24,7 @@
 //!
 //! `commands` are calls of `modulecmd`, `modules` and `rehearsal`, each shown after `> `. They share files and directories
 //! in memory and an environment. In a text `\n`, `\t`, `\s`, `\z` and `\\` stand for a newline, a tab, a space, NUL and
-//! a backslash; words are parted by blanks, and the word `''` is empty.
+//! a backslash; words are separated by blanks, and the word `''` is empty.
 //!
 //! `new` begins a new tree. `module PATH TEXT` puts a modulefile there, whose first line is the cookie; `file PATH
 //! TEXT` and `bytes PATH TEXT` a file of this text, or of it and after it a byte that is no UTF-8; `dir PATH NAME...` a
@@ -80,7 +80,7 @@ fn answer(rt: &HostRuntime, paragraph: &[String]) -> io::Result<()> {
         "files" => runs::answer(rt, lines),
         "commands" => commands::answer(rt, lines),
         "checks" => checks::answer(rt, lines),
-        _ => println!(rt; "no such questions: {subject}"),
+        _ => println!(rt; "no such lines: {subject}"),
     }?;
     println!(rt;)
 }

@@ -1,4 +1,4 @@
-//! Questions about the parts of a search, each called by itself.
+//! Lines about the parts of a search, each called by itself.
 
 use crate::texts::push_all;
 use crate::trees::file_text;

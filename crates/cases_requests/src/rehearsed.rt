@@ -1,6 +1,6 @@
 //! Rehearsals of requests, and the requests of a line.
 use crate::shown::variables;
-use crate::texts::{parted, words};
+use crate::texts::{first_word, words};
 use anyhow::Result;
 use filetree::Tree;
 use modules::{Action, Env, Limits, Refusal, Request, Shell, request};
@@ -26,7 +26,7 @@ pub(crate) fn request_of(alloc: Global, shell: Shell, line: &str) -> Result<Requ
     }
 }
 
-/// The requests of a line for sh, parted by commas.
+/// The requests of a line for sh, separated by commas.
 pub(crate) fn requests_for_sh(alloc: Global, line: &str) -> Result<Vec<Request>> {
     let mut requests = Vec::new(alloc);
     for part in line.split(',') {
@@ -35,11 +35,11 @@ pub(crate) fn requests_for_sh(alloc: Global, line: &str) -> Result<Vec<Request>>
     Ok(requests)
 }
 
-/// The requests of a line, parted by commas, each after the name of its shell.
+/// The requests of a line, separated by commas, each after the name of its shell.
 fn requests_with_shells(alloc: Global, line: &str) -> Result<Vec<Request>> {
     let mut requests = Vec::new(alloc);
     for part in line.split(',') {
-        let (name, rest) = parted(part.trim());
+        let (name, rest) = first_word(part.trim());
         let shell = Shell::named(name).unwrap_or(Shell::Sh);
         requests.push(request_of(alloc, shell, rest)?)?;
     }
@@ -73,5 +73,5 @@ pub(crate) fn shown_rehearsal<T: Tree>(
     let (end, prints) = rehearse(alloc, requests.as_slice(), env.copy()?, tree, limits)?;
     let prints = shown_prints(alloc, prints.as_slice())?;
     let end = variables(alloc, &end)?;
-    Ok(format!(in alloc; "{prints}left\n{end}")?)
+    Ok(format!(in alloc; "{prints}end\n{end}")?)
 }

@@ -1,5 +1,5 @@
-//! Questions about modulefiles, each with the variables and the context that it is run over.
-use crate::texts::{STANDARD, parted, push_all};
+//! Lines about modulefiles, each with the variables and the context that it is run over.
+use crate::texts::{STANDARD, first_word, push_all};
 use envvars::{Change, Env, Vars, changes};
 use modulefile::{Mode, Record, Shell};
 use modulerun::{FileContext, Ran, run_file};
@@ -109,7 +109,7 @@ impl FileRun {
     fn take(&mut self, word: &str, rest: &str) -> Result<Option<()>, AllocError> {
         match word {
             "set" => {
-                let (name, value) = parted(rest);
+                let (name, value) = first_word(rest);
                 self.env.set(name, value).map_err(|_| AllocError)?;
             }
             "loaded" => self.loaded = names(self.alloc, rest)?,
@@ -200,7 +200,7 @@ impl FileRun {
             push_lines(&mut text, &show_report(self.alloc, "", &self.records)?)?;
             return Ok(Some(text));
         }
-        let (word, rest) = parted(line);
+        let (word, rest) = first_word(line);
         match self.take(word, rest)? {
             Some(()) => Ok(None),
             None => Ok(Some(String::from_str(self.alloc, "bad line")?)),

@@ -1,7 +1,7 @@
-//! Questions about searches over a tree, with how often it was read and listed.
+//! Lines about searches over a tree, with how often it was read and listed.
 
 use crate::counted::Counted;
-use crate::texts::{STANDARD, limits_of, parted, push_all};
+use crate::texts::{STANDARD, first_word, limits_of, push_all};
 use crate::{parts, trees};
 use filetree::MemoryTree;
 use lookup::{DiskTree, Limits, Listing, Tree, available, locate};
@@ -131,7 +131,7 @@ pub(crate) fn answer(rt: &HostRuntime, lines: &[String]) -> io::Result<()> {
     let mut tree = MemoryTree::new(rt.alloc());
     let mut limits = STANDARD;
     for line in lines {
-        let (kind, rest) = parted(line);
+        let (kind, rest) = first_word(line);
         if kind == "limits" {
             limits = limits_of(rest).unwrap_or(STANDARD);
         } else if !trees::put(rt.alloc(), &mut tree, kind, rest)? {

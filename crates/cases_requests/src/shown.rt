@@ -14,7 +14,7 @@ pub(crate) fn held(alloc: Global, bytes: &[u8]) -> Result<String, AllocError> {
 pub(crate) fn exit_name(exit: Exit) -> &'static str {
     match exit {
         Exit::Success => "success",
-        Exit::Reported => "told",
+        Exit::Reported => "reported",
         Exit::CutShort => "cut short",
     }
 }
@@ -73,7 +73,7 @@ pub(crate) fn shown_done(
         push_all(&mut text, &["loaded ", name, "\n"])?;
     }
     for message in messages {
-        text.push_str(marked(alloc, "said ", message.as_str())?.as_str())?;
+        text.push_str(marked(alloc, "message ", message.as_str())?.as_str())?;
     }
     text.push_str(marked(alloc, "! ", report)?.as_str())?;
     Ok(text)

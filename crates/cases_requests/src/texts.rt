@@ -22,7 +22,7 @@ pub(crate) fn limits_of(line: &str) -> Option<Limits> {
     })
 }
 
-/// The words of a line, parted by blanks, with what their escapes mean; `''` is empty. An empty line has none.
+/// The words of a line, separated by blanks, with what their escapes mean; `''` is empty. An empty line has none.
 pub(crate) fn words(alloc: Global, line: &str) -> Result<Vec<String>, AllocError> {
     let mut words = Vec::new(alloc);
     for word in line.split(' ') {
@@ -79,7 +79,7 @@ pub(crate) fn number(word: &str) -> u64 {
 }
 
 /// The first word, and the text after it.
-pub(crate) fn parted(line: &str) -> (&str, &str) {
+pub(crate) fn first_word(line: &str) -> (&str, &str) {
     line.split_once(' ').unwrap_or((line, ""))
 }
 

@@ -1,5 +1,5 @@
-//! `kept TEXT...: SCRIPT` evaluates a script over an empty cache of trees, and then looks texts up in it: a script as
-//! `s=TEXT`, an expression as `e=TEXT`. The answer is `kept` and the index of each text in its list, `-` for a text
+//! `cached TEXT...: SCRIPT` evaluates a script over an empty cache of trees, and then looks texts up in it: a script as
+//! `s=TEXT`, an expression as `e=TEXT`. The answer is `cached` and the index of each text in its list, `-` for a text
 //! that isn't cached.
 use crate::escapes::text_of;
 use crate::scripts::{LIMITS, recorder};
@@ -37,11 +37,11 @@ fn push_index(alloc: Global, line: &mut String, cache: &mut Cache, word: &str) -
     }
 }
 
-/// The answer to `kept`: the indexes of texts in the cache after an evaluation.
-pub(crate) fn answer(alloc: Global, question: &str) -> Option<String> {
-    let (words, script) = question.split_once(": ")?;
+/// The answer to `cached`: the indexes of texts in the cache after an evaluation.
+pub(crate) fn answer(alloc: Global, rest: &str) -> Option<String> {
+    let (words, script) = rest.split_once(": ")?;
     let mut cache = cache_after(alloc, &text_of(alloc, script).ok()?)?;
-    let mut line = String::from_str(alloc, "kept").ok()?;
+    let mut line = String::from_str(alloc, "cached").ok()?;
     for word in words.split(' ') {
         push_index(alloc, &mut line, &mut cache, word)?;
     }

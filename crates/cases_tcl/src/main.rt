@@ -1,15 +1,15 @@
-//! Worked examples of Tcl: answers questions about texts, values and scripts, a line of standard input each.
+//! Worked examples of Tcl: answers what lines ask about texts, values and scripts.
 //! Touches standard input and output; the evaluated scripts reach an example host (`Recorder`) and nothing else.
-//! Nothing stands above it; the files `stdin` and `stdout` of this crate are the questions and the answers.
+//! Nothing stands above it; the files `stdin` and `stdout` of this crate are these lines and their answers.
 //!
-//! The first word of a line says of which kind its question is:
+//! The first word of a line says of which kind it is:
 //!
 //! - `text`, `value`: a call of tcltext, or of tclvalue (`texts.rt`, `values.rt`). Their texts are in hexadecimal
 //!   digits.
 //! - `command`: a command that evaluates no script, over variables that all these lines share (`commands.rt`).
 //! - `script`: a script and its result (`scripts.rt`). Its texts stand as they are, but for the escapes of
 //!   `escapes.rt`.
-//! - `kept`: a script, and which texts are cached after its evaluation (`cache.rt`). The texts are written as in
+//! - `cached`: a script, and which texts are cached after its evaluation (`cache.rt`). The texts are written as in
 //!   `script`.
 //! - `#`: a heading, which is its own answer.
 //!
@@ -29,15 +29,15 @@ use crate::commands::State;
 use std::alloc::Global;
 use std::io;
 
-/// The answer to a question; None where the line asks nothing, or memory ran out.
+/// The answer to a line; None where it asks nothing, or memory ran out.
 fn answer(alloc: Global, state: &mut State, line: &str) -> Option<String> {
-    let (kind, question) = line.split_once(' ')?;
+    let (kind, rest) = line.split_once(' ')?;
     match kind {
-        "text" => texts::answer(alloc, question),
-        "value" => values::answer(alloc, question),
-        "command" => commands::answer(alloc, state, question).ok(),
-        "script" => scripts::answer(alloc, question),
-        "kept" => cache::answer(alloc, question),
+        "text" => texts::answer(alloc, rest),
+        "value" => values::answer(alloc, rest),
+        "command" => commands::answer(alloc, state, rest).ok(),
+        "script" => scripts::answer(alloc, rest),
+        "cached" => cache::answer(alloc, rest),
         "#" => String::from_str(alloc, line).ok(),
         _ => None,
     }

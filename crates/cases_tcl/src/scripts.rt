@@ -5,7 +5,7 @@
 //!
 //! The answer is the name and, with tabs between them: `ok COUNT RESULT` with how many commands and turns of loops were
 //! counted, or `err NUMBER LINE MESSAGE` with the line of an error, and 0 for that of another fault; `var NAME=VALUE`
-//! for each global variable where the script ended; `said MESSAGE` for each message; `kept WORDS` for each record, with
+//! for each global variable where the script ended; `message TEXT` for each message; `record WORDS` for each record, with
 //! bars between its words; and `asked`, where a question was asked.
 use crate::escapes::{push_text, text_of};
 use std::alloc::{AllocError, Global};
@@ -129,7 +129,7 @@ fn push_fault(alloc: Global, line: &mut String, fault: &EvalFault) -> Result<(),
 
 /// Adds the words of a record.
 fn push_record(line: &mut String, record: &[String]) -> Result<(), AllocError> {
-    line.push_str("\tkept ")?;
+    line.push_str("\trecord ")?;
     for (index, word) in record.iter().enumerate() {
         if index > 0 {
             line.push('|')?;
@@ -141,7 +141,7 @@ fn push_record(line: &mut String, record: &[String]) -> Result<(), AllocError> {
 
 /// Adds a message.
 fn push_message(line: &mut String, message: &str) -> Result<(), AllocError> {
-    line.push_str("\tsaid ")?;
+    line.push_str("\tmessage ")?;
     push_text(line, message)
 }
 
@@ -189,8 +189,8 @@ fn push_evaluated(
 }
 
 /// The answer to `script`; None where the line asks nothing, or memory ran out.
-pub(crate) fn answer(alloc: Global, question: &str) -> Option<String> {
-    let (head, written) = question.split_once(": ")?;
+pub(crate) fn answer(alloc: Global, rest: &str) -> Option<String> {
+    let (head, written) = rest.split_once(": ")?;
     let (name, words) = head.split_once(' ').unwrap_or((head, ""));
     let setting = setting_of(alloc, words)?;
     let script = text_of(alloc, written).ok()?;

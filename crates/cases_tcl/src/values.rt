@@ -103,8 +103,8 @@ fn operator_answer(alloc: Global, rest: &str) -> Option<String> {
 }
 
 /// The answer to a call; None where the line asks nothing, or memory ran out.
-pub(crate) fn answer(alloc: Global, question: &str) -> Option<String> {
-    let (kind, rest) = question.split_once(' ')?;
+pub(crate) fn answer(alloc: Global, rest: &str) -> Option<String> {
+    let (kind, rest) = rest.split_once(' ')?;
     match kind {
         "c" => command_answer(alloc, rest),
         "t" => shown_answer(alloc, truth_text(alloc, &text_of(alloc, rest)?)),

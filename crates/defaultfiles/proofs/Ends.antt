@@ -3,7 +3,7 @@ use Rattle.std.proofs.Common.{◌≡◌, false, [], ◌∷◌, Some, None, Ok, E
 use Rattle.std.specs.Prelude.{codes}
 use Rattle.modulename.specs.ModuleName.{Text}
 use Rattle.tclrules.specs.Oracle.{Trace}
-use Rattle.tclrules.specs.Derivation.{Outcome}
+use Rattle.tclrules.specs.Derivation.{EvaluationOutcome}
 use Rattle.tclrules.specs.Variables.{Variables, lookup}
 use Rattle.tclrules.specs.Plans as plans
 use Rattle.tclrules.specs.Promise.{ReportsFault, is_out_of_memory, texts_of, Evaluates}
@@ -15,7 +15,7 @@ use Rattle.search.specs.DefaultFiles.{DefaultFileResult}
 use Rattle.defaultfiles.specs.DefaultFileResults.{default_oracle, result_of, HasResult}
 
 -- a fault but want of memory leaves nothing
-no_result : (script : Text) (f : EvalFault) (o : Outcome plans.Completion) (trace : Trace) → is_out_of_memory f ≡ false → ReportsFault script f o → result_of o trace ≡ None
+no_result : (script : Text) (f : EvalFault) (o : EvaluationOutcome plans.Completion) (trace : Trace) → is_out_of_memory f ≡ false → ReportsFault script f o → result_of o trace ≡ None
 no_result script fault.OutOfMemory o trace m h = absurd (cc)
 no_result script (fault.Text f) o trace m h = rw h refl
 no_result script (fault.TclError message line) o trace m h = rw h.1 refl

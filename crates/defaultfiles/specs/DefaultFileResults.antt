@@ -2,7 +2,7 @@
 use Rattle.std.specs.Prelude.{◌≡◌, false, List, [], ◌∷◌, codes, bytes_eq, if◌then◌else◌, Option, Some, None}
 use Rattle.modulename.specs.ModuleName.{Text}
 use Rattle.tclrules.specs.Oracle.{Oracle, Trace, OracleAnswer, Nothing, NewRecord, Done, Unknown, LeftOut, Refused}
-use Rattle.tclrules.specs.Derivation.{Outcome, Ended, Halted, World}
+use Rattle.tclrules.specs.Derivation.{EvaluationOutcome, Ended, Halted, World}
 use Rattle.tclrules.specs.Variables.{lookup}
 use Rattle.tclrules.specs.Plans.{Completion, Normal, Raised, Returned, Broken, Continued}
 use Rattle.tclrules.specs.Names.{is_among}
@@ -53,7 +53,7 @@ default_setting limits path text =
     }
 
 -- At its end its result is its commands and its global variable ModulesVersion. With any fault it has none.
-abbrev pub result_of : Outcome Completion → Trace → Option DefaultFileResult
+abbrev pub result_of : EvaluationOutcome Completion → Trace → Option DefaultFileResult
 result_of (Ended (Normal result s)) trace =
     Some (record { commands = trace.records; version = lookup s.globals (codes "ModulesVersion") })
 result_of (Ended (Raised message s)) trace = None
@@ -65,5 +65,5 @@ result_of (Halted halt) trace = None
 -- The text of a default file at a path has this result under these limits.
 abbrev pub HasResult : Limits → Text → Text → Option DefaultFileResult → Type 0
 HasResult limits path text file_result =
-    (o : Outcome Completion) × (w : World) × EvaluatesTo (default_setting limits path text) o w ×
+    (o : EvaluationOutcome Completion) × (w : World) × EvaluatesTo (default_setting limits path text) o w ×
     (file_result ≡ result_of o w.trace)

@@ -10,7 +10,7 @@ use Rattle.envvars.specs.Texts.{Text, has, texts_in}
 use Rattle.envvars.specs.Environment.{Environment}
 use Rattle.envloaded.specs.LoadedTexts.{has_names, element_of, group_text}
 use Rattle.envloaded.specs.Loaded.{Entry, names_of, conflict_elements, prereq_elements, has_groups, with_loaded, is_group, can_be_added, without_entry, dropped_loaded, dropped_from, added_loaded, added_to, with_conflicts_once, loaded_in, entry_named}
-use Rattle.envloaded.specs.LoadedEntries.{entry_of}
+use Rattle.envloaded.specs.LoadedEntries.{entry_view}
 use Rattle.envvars.specs.Reasons.{inconsistent}
 use Rattle.envloaded.specs.declared.entry.Loaded.{Loaded}
 use Rattle.envvars.proofs.TextLemmas.{bytes_eq-symmetric}
@@ -24,21 +24,21 @@ pub and_else : (a x y : Bool) → a ≡ x → a ≡ false → false ≡ (x && y)
 and_else a x y e t = rw (sym e ∙ t) refl
 
 -- the module is in the list
-pub loaded_is : (list : List Loaded) (name : Text) → list_any (λ entry. bytes_eq (string_bytes entry.name) name) list ≡ has name (names_of (map entry_of list))
+pub loaded_is : (list : List Loaded) (name : Text) → list_any (λ entry. bytes_eq (string_bytes entry.name) name) list ≡ has name (names_of (map entry_view list))
 loaded_is [] name = refl
 loaded_is (x ∷ xs) name =
     ap (λ (b : Bool). b || list_any (λ entry. bytes_eq (string_bytes entry.name) name) xs) (bytes_eq-symmetric (string_bytes x.name) name)
     ∙ ap (λ (b : Bool). bytes_eq name (string_bytes x.name) || b) (loaded_is xs name)
 
-kept_at : (b : Bool) (x : Loaded) (ys : List Loaded) (zs : List Entry) → map entry_of ys ≡ zs → map entry_of (cond (not b) (x ∷ ys) ys) ≡ cond (not b) (entry_of x ∷ zs) zs
+kept_at : (b : Bool) (x : Loaded) (ys : List Loaded) (zs : List Entry) → map entry_view ys ≡ zs → map entry_view (cond (not b) (x ∷ ys) ys) ≡ cond (not b) (entry_view x ∷ zs) zs
 kept_at true x ys zs e = e
-kept_at false x ys zs e = ap (λ (l : List Entry). entry_of x ∷ l) e
+kept_at false x ys zs e = ap (λ (l : List Entry). entry_view x ∷ l) e
 
-pub without_is : (list : List Loaded) (name : Text) → map entry_of (filter (λ entry. not (bytes_eq (string_bytes entry.name) name)) list) ≡ without_entry name (map entry_of list)
+pub without_is : (list : List Loaded) (name : Text) → map entry_view (filter (λ entry. not (bytes_eq (string_bytes entry.name) name)) list) ≡ without_entry name (map entry_view list)
 without_is [] name = refl
 without_is (x ∷ xs) name =
     kept_at (bytes_eq (string_bytes x.name) name) x _ _ (without_is xs name)
-    ∙ ap (λ (b : Bool). cond (not b) (entry_of x ∷ without_entry name (map entry_of xs)) (without_entry name (map entry_of xs))) (bytes_eq-symmetric (string_bytes x.name) name)
+    ∙ ap (λ (b : Bool). cond (not b) (entry_view x ∷ without_entry name (map entry_view xs)) (without_entry name (map entry_view xs))) (bytes_eq-symmetric (string_bytes x.name) name)
 
 -- the entry of a module
 found_at : (b : Bool) (x : Entry) (o p : Option Entry) → b ≡ false → cond b (Some x) o ≡ p → o ≡ p
@@ -46,12 +46,12 @@ found_at true x o p e h = cc
 found_at false x o p e h = h
 
 pub find-turn : (name : Text) (xs : List Loaded) (x : Loaded) (o : Option Entry) → 1 ≤ length xs → x ≡ get_or xs 0 x → bytes_eq (string_bytes x.name) name ≡ false
-    → entry_named name (map entry_of xs) ≡ o → entry_named name (map entry_of (take (length xs - 1) (cut 1 xs))) ≡ o
+    → entry_named name (map entry_view xs) ≡ o → entry_named name (map entry_view (take (length xs - 1) (cut 1 xs))) ≡ o
 find-turn name [] x o l i e h = absurd (omega arith)
 find-turn name (y ∷ ys) x o l i e h =
     let w : take (length (y ∷ ys) - 1) ys ≡ ys = take_all _ ys (omega arith) in
     let f : bytes_eq name (string_bytes y.name) ≡ false = bytes_eq-symmetric name (string_bytes y.name) ∙ ap (λ (z : Loaded). bytes_eq (string_bytes z.name) name) (sym i) ∙ e in
-    rw w (found_at (bytes_eq name (string_bytes y.name)) (entry_of y) (entry_named name (map entry_of ys)) o f h)
+    rw w (found_at (bytes_eq name (string_bytes y.name)) (entry_view y) (entry_named name (map entry_view ys)) o f h)
 
 -- the elements of one more entry
 conflicts-append : (xs ys : List Entry) → conflict_elements (xs ++ ys) ≡ conflict_elements xs ++ conflict_elements ys
@@ -72,22 +72,22 @@ prereqs-append (x ∷ xs) ys = at (has_groups x.prereqs) (prereqs-append xs ys)
     at true e = ap (λ (l : List Text). element_of x.name (map group_text x.prereqs) ∷ l) e
     at false e = e
 
-map-push : (xs : List Loaded) (x : Loaded) → map entry_of (xs ++ x ∷ []) ≡ map entry_of xs ++ entry_of x ∷ []
+map-push : (xs : List Loaded) (x : Loaded) → map entry_view (xs ++ x ∷ []) ≡ map entry_view xs ++ entry_view x ∷ []
 map-push [] x = refl
-map-push (y ∷ ys) x = ap (λ (l : List Entry). entry_of y ∷ l) (map-push ys x)
+map-push (y ∷ ys) x = ap (λ (l : List Entry). entry_view y ∷ l) (map-push ys x)
 
-one_more : (xs : List Loaded) (i : ℕ) (x : Loaded) → i < length xs → x ≡ get_or xs i x → map entry_of (take (i + 1) xs) ≡ map entry_of (take i xs) ++ entry_of x ∷ []
-one_more xs i x l e = ap (map entry_of) (take_more xs i x l ∙ ap (λ (y : Loaded). take i xs ++ y ∷ []) (sym e)) ∙ map-push (take i xs) x
+one_more : (xs : List Loaded) (i : ℕ) (x : Loaded) → i < length xs → x ≡ get_or xs i x → map entry_view (take (i + 1) xs) ≡ map entry_view (take i xs) ++ entry_view x ∷ []
+one_more xs i x l e = ap (map entry_view) (take_more xs i x l ∙ ap (λ (y : Loaded). take i xs ++ y ∷ []) (sym e)) ∙ map-push (take i xs) x
 
-pub conflicts-turn : (ts us : List Text) (xs : List Loaded) (i : ℕ) (x : Loaded) → i < length xs → x ≡ get_or xs i x → ts ≡ conflict_elements (map entry_of (take i xs))
-    → us ≡ ts ++ conflict_elements (entry_of x ∷ []) → us ≡ conflict_elements (map entry_of (take (i + 1) xs))
+pub conflicts-turn : (ts us : List Text) (xs : List Loaded) (i : ℕ) (x : Loaded) → i < length xs → x ≡ get_or xs i x → ts ≡ conflict_elements (map entry_view (take i xs))
+    → us ≡ ts ++ conflict_elements (entry_view x ∷ []) → us ≡ conflict_elements (map entry_view (take (i + 1) xs))
 conflicts-turn ts us xs i x l e h k =
-    k ∙ ap (λ (t : List Text). t ++ conflict_elements (entry_of x ∷ [])) h ∙ sym (conflicts-append (map entry_of (take i xs)) (entry_of x ∷ [])) ∙ ap conflict_elements (sym (one_more xs i x l e))
+    k ∙ ap (λ (t : List Text). t ++ conflict_elements (entry_view x ∷ [])) h ∙ sym (conflicts-append (map entry_view (take i xs)) (entry_view x ∷ [])) ∙ ap conflict_elements (sym (one_more xs i x l e))
 
-pub prereqs-turn : (ts us : List Text) (xs : List Loaded) (i : ℕ) (x : Loaded) → i < length xs → x ≡ get_or xs i x → ts ≡ prereq_elements (map entry_of (take i xs))
-    → us ≡ ts ++ prereq_elements (entry_of x ∷ []) → us ≡ prereq_elements (map entry_of (take (i + 1) xs))
+pub prereqs-turn : (ts us : List Text) (xs : List Loaded) (i : ℕ) (x : Loaded) → i < length xs → x ≡ get_or xs i x → ts ≡ prereq_elements (map entry_view (take i xs))
+    → us ≡ ts ++ prereq_elements (entry_view x ∷ []) → us ≡ prereq_elements (map entry_view (take (i + 1) xs))
 prereqs-turn ts us xs i x l e h k =
-    k ∙ ap (λ (t : List Text). t ++ prereq_elements (entry_of x ∷ [])) h ∙ sym (prereqs-append (map entry_of (take i xs)) (entry_of x ∷ [])) ∙ ap prereq_elements (sym (one_more xs i x l e))
+    k ∙ ap (λ (t : List Text). t ++ prereq_elements (entry_view x ∷ [])) h ∙ sym (prereqs-append (map entry_view (take i xs)) (entry_view x ∷ [])) ∙ ap prereq_elements (sym (one_more xs i x l e))
 
 -- a group with names
 names_there : (names : List (String Global)) → 0 < length names → has_names (map string_bytes names) ≡ true
@@ -102,7 +102,7 @@ no_group_is [] h = refl
 no_group_is (n ∷ ns) h = absurd (omega arith)
 
 pub words_are : (x : Loaded) → (list_all (λ name. is_module_name (string_bytes name)) x.conflicts.items && list_all (λ group. is_group (texts_in group)) x.prereqs.items)
-    ≡ (list_all is_module_name (entry_of x).conflicts && list_all is_group (entry_of x).prereqs)
+    ≡ (list_all is_module_name (entry_view x).conflicts && list_all is_group (entry_view x).prereqs)
 words_are x =
     ap (λ (b : Bool). b && list_all (λ group. is_group (texts_in group)) x.prereqs.items) (sym (list_all-map is_module_name string_bytes x.conflicts.items))
     ∙ ap (λ (b : Bool). list_all is_module_name (texts_in x.conflicts) && b) (sym (list_all-map is_group texts_in x.prereqs.items))
@@ -123,5 +123,5 @@ pub name_is : (m n name : Text) (b : Bool) → n ≡ m → b ≡ bytes_eq n name
 name_is m n name b e h k = ap (λ (t : Text). bytes_eq t name) (sym e) ∙ sym h ∙ k
 
 -- the list with the entry at its end
-pub pushed_is : (xs ys : List Loaded) (x : Loaded) (y : Entry) → ys ≡ xs ++ x ∷ [] → entry_of x ≡ y → map entry_of ys ≡ map entry_of xs ++ y ∷ []
-pushed_is xs ys x y e h = ap (map entry_of) e ∙ map-push xs x ∙ ap (λ (z : Entry). map entry_of xs ++ z ∷ []) h
+pub pushed_is : (xs ys : List Loaded) (x : Loaded) (y : Entry) → ys ≡ xs ++ x ∷ [] → entry_view x ≡ y → map entry_view ys ≡ map entry_view xs ++ y ∷ []
+pushed_is xs ys x y e h = ap (map entry_view) e ∙ map-push xs x ∙ ap (λ (z : Entry). map entry_view xs ++ z ∷ []) h

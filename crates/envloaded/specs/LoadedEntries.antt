@@ -17,8 +17,8 @@ abbrev pub groups_in : Vec (Vec (String Global) Global) Global → List (List Te
 groups_in v = map texts_in v.items
 
 -- an entry of the code as an entry of the definitions
-abbrev pub entry_of : Loaded → Entry
-entry_of x =
+abbrev pub entry_view : Loaded → Entry
+entry_view x =
     record {
       name = string_bytes x.name;
       path = string_bytes x.path;
@@ -39,7 +39,7 @@ GivesOrInconsistent view (Err (BadValue var)) outcome = ⊥
 
 -- the result is this list
 abbrev pub GivesList : Result (Vec Loaded Global) EnvFault → Option (List Entry) → Type 0
-GivesList result outcome = GivesOrInconsistent (λ v. map entry_of v.items) result outcome
+GivesList result outcome = GivesOrInconsistent (λ v. map entry_view v.items) result outcome
 
 -- For the contracts of private functions: the element that a table has for a module.
 abbrev pub element_in : {S : Type 0} → IndexMap (Bor Text) (Bor Text) S → Text → Option Text

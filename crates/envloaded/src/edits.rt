@@ -6,7 +6,7 @@ ghost use Rattle.modulename.specs.ModuleName.{is_module_name};
 ghost use Rattle.envvars.specs.Changes.{new_value_of};
 ghost use Rattle.envloaded.specs.LoadedTexts.{element_of, group_text};
 ghost use Rattle.envloaded.specs.Loaded.{names_text, files_text, conflict_elements, conflicts_text, prereq_elements, prereqs_text, loaded_changes, with_loaded, is_path, is_group, is_entry, can_be_added, with_conflicts_once, added_loaded, dropped_loaded};
-ghost use Rattle.envloaded.specs.LoadedEntries.{entry_of};
+ghost use Rattle.envloaded.specs.LoadedEntries.{entry_view};
 ghost use Rattle.envvars.specs.Texts.{texts_in};
 ghost use Rattle.envvars.specs.Reasons.{Edits};
 ghost use Rattle.envvars.specs.declared.fault.EnvFault.TheVariants.{OutOfMemory};
@@ -20,7 +20,7 @@ use std::alloc::{AllocError, Global};
 
 /// The text of `LOADEDMODULES`: the names, in load order; none for an empty list.
 fn names_text(alloc: Global, list: &[Loaded]) -> Result<Option<String>, AllocError>
-    ensures { IfOk result (λ t. option_map string_bytes t ≡ names_text (map entry_of list.now)) }
+    ensures { IfOk result (λ t. option_map string_bytes t ≡ names_text (map entry_view list.now)) }
 {
     let mut names = Vec::new(alloc);
     for entry in list {
@@ -31,7 +31,7 @@ fn names_text(alloc: Global, list: &[Loaded]) -> Result<Option<String>, AllocErr
 
 /// The text of `_LMFILES_`: the paths, in load order; none for an empty list.
 fn files_text(alloc: Global, list: &[Loaded]) -> Result<Option<String>, AllocError>
-    ensures { IfOk result (λ t. option_map string_bytes t ≡ files_text (map entry_of list.now)) }
+    ensures { IfOk result (λ t. option_map string_bytes t ≡ files_text (map entry_view list.now)) }
 {
     let mut files = Vec::new(alloc);
     for entry in list {
@@ -56,7 +56,7 @@ fn push_conflicts(
     entry: &Loaded,
 ) -> Result<(), AllocError>
     ensures { OnOk result (texts_in elements.new
-        ≡ texts_in elements.old ++ conflict_elements (entry_of entry.now ∷ [])) }
+        ≡ texts_in elements.old ++ conflict_elements (entry_view entry.now ∷ [])) }
 {
     if entry.conflicts.is_empty() {
         return Ok(());
@@ -67,7 +67,7 @@ fn push_conflicts(
 
 /// The text of `__MODULES_LMCONFLICT`: an element for each module with conflicts; none where no module has one.
 fn conflicts_text(alloc: Global, list: &[Loaded]) -> Result<Option<String>, AllocError>
-    ensures { IfOk result (λ t. option_map string_bytes t ≡ conflicts_text (map entry_of list.now)) }
+    ensures { IfOk result (λ t. option_map string_bytes t ≡ conflicts_text (map entry_view list.now)) }
 {
     let mut elements = Vec::new(alloc);
     for entry in list {
@@ -98,7 +98,7 @@ fn group_texts(alloc: Global, groups: &[Vec<String>]) -> Result<Vec<String>, All
 
 /// Appends the element of a module's prereqs, if it has some.
 fn push_prereqs(alloc: Global, elements: &mut Vec<String>, entry: &Loaded) -> Result<(), AllocError>
-    ensures { OnOk result (texts_in elements.new ≡ texts_in elements.old ++ prereq_elements (entry_of entry.now ∷ [])) }
+    ensures { OnOk result (texts_in elements.new ≡ texts_in elements.old ++ prereq_elements (entry_view entry.now ∷ [])) }
 {
     if entry.prereqs.is_empty() {
         return Ok(());
@@ -110,7 +110,7 @@ fn push_prereqs(alloc: Global, elements: &mut Vec<String>, entry: &Loaded) -> Re
 
 /// The text of `__MODULES_LMPREREQ`: an element for each module with prereqs; none where no module has one.
 fn prereqs_text(alloc: Global, list: &[Loaded]) -> Result<Option<String>, AllocError>
-    ensures { IfOk result (λ t. option_map string_bytes t ≡ prereqs_text (map entry_of list.now)) }
+    ensures { IfOk result (λ t. option_map string_bytes t ≡ prereqs_text (map entry_view list.now)) }
 {
     let mut elements = Vec::new(alloc);
     for entry in list {
@@ -122,7 +122,7 @@ fn prereqs_text(alloc: Global, list: &[Loaded]) -> Result<Option<String>, AllocE
 
 /// The changes of the four variables that write the list.
 fn loaded_changes(alloc: Global, list: &[Loaded]) -> Result<Vec<Change>, AllocError>
-    ensures { IfOk result (λ v. map new_value_of v.items ≡ loaded_changes (map entry_of list.now)) }
+    ensures { IfOk result (λ v. map new_value_of v.items ≡ loaded_changes (map entry_view list.now)) }
 {
     let mut changes = Vec::new(alloc);
     push_change(alloc, &mut changes, NAMES, names_text(alloc, list)?)?;
@@ -134,7 +134,7 @@ fn loaded_changes(alloc: Global, list: &[Loaded]) -> Result<Vec<Change>, AllocEr
 
 /// Writes the list to its four variables; to none where memory is refused.
 fn write<V: Vars>(alloc: Global, env: &mut V, list: &[Loaded]) -> Result<(), EnvFault>
-    ensures ok { OnOk result (V.vars env.new ≡ with_loaded (V.vars env.old) (map entry_of list.now)) }
+    ensures ok { OnOk result (V.vars env.new ≡ with_loaded (V.vars env.old) (map entry_view list.now)) }
     ensures err { OnErr result (V.vars env.new ≡ V.vars env.old) }
     ensures only { IfErr result (λ e. e ≡ OutOfMemory) }
     ensures base { V.base env.new ≡ V.base env.old }
@@ -188,7 +188,7 @@ fn can_write_requirements(entry: &Loaded) -> bool
 
 /// Whether the entry would be read again as it is written, apart from repeated conflicts.
 fn is_entry(entry: &Loaded) -> bool
-    ensures { result ≡ is_entry (entry_of entry.now) }
+    ensures { result ≡ is_entry (entry_view entry.now) }
 {
     can_write_name(entry) && can_write_requirements(entry)
 }
@@ -202,7 +202,7 @@ fn is_loaded(list: &[Loaded], name: &str) -> bool
 
 /// Whether the entry can be written, and its module isn't loaded.
 fn can_be_added(list: &[Loaded], entry: &Loaded) -> bool
-    ensures { result ≡ can_be_added (map entry_of list.now) (entry_of entry.now) }
+    ensures { result ≡ can_be_added (map entry_view list.now) (entry_view entry.now) }
 {
     is_entry(entry) && !is_loaded(list, entry.name.as_str())
 }
@@ -210,7 +210,7 @@ fn can_be_added(list: &[Loaded], entry: &Loaded) -> bool
 /// A copy of the entry, without repeated conflicts.
 #[tactic(auto, using(crate::proofs::Copies::groups_copied))]
 fn with_conflicts_once(alloc: Global, entry: &Loaded) -> Result<Loaded, AllocError>
-    ensures { IfOk result (λ x. entry_of x ≡ with_conflicts_once (entry_of entry.now)) }
+    ensures { IfOk result (λ x. entry_view x ≡ with_conflicts_once (entry_view entry.now)) }
 {
     let conflicts = slices(alloc, entry.conflicts.as_slice())?;
     let conflicts = deduplicated(alloc, conflicts.as_slice())?;
@@ -230,7 +230,7 @@ fn with_conflicts_once(alloc: Global, entry: &Loaded) -> Result<Loaded, AllocErr
 /// `OutOfMemory`. After an error the environment is unchanged.
 pub fn add_loaded<V: Vars>(alloc: Global, env: &mut V, entry: &Loaded) -> Result<(), EnvFault>
     ensures edits { Edits result (V.vars env.old) (V.vars env.new)
-        (added_loaded (V.vars env.old) (entry_of entry.now)) }
+        (added_loaded (V.vars env.old) (entry_view entry.now)) }
     ensures base { V.base env.new ≡ V.base env.old }
 {
     let mut list = loaded(alloc, env)?;

@@ -5,7 +5,7 @@ ghost use Rattle.std.specs.Option.{option_map, option_or};
 ghost use Rattle.modulename.specs.ModuleName.{is_module_name};
 ghost use Rattle.envvars.specs.Texts.{Text, slice_texts, texts_in};
 ghost use Rattle.envloaded.specs.LoadedTexts.{are_consistent, parts_of, is_element_of, first_element, words_in, conflicts_among, prereqs_among, names_of_group, has_names};
-ghost use Rattle.envloaded.specs.LoadedEntries.{element_in, GivesList, GivesOrInconsistent, groups_in, entry_of};
+ghost use Rattle.envloaded.specs.LoadedEntries.{element_in, GivesList, GivesOrInconsistent, groups_in, entry_view};
 ghost use Rattle.envloaded.specs.Loaded.{entry_from, entries_from, loaded_in, entry_named, conflicts_in, prereqs_in};
 
 use crate::entry::Loaded;
@@ -176,7 +176,7 @@ fn entry(
     conflicts: Option<&str>,
     prereqs: Option<&str>,
 ) -> Result<Loaded, AllocError>
-    ensures { IfOk result (λ x. entry_of x ≡ entry_from name.now path.now (option_map (λ t. t.now) conflicts.entry)
+    ensures { IfOk result (λ x. entry_view x ≡ entry_from name.now path.now (option_map (λ t. t.now) conflicts.entry)
         (option_map (λ t. t.now) prereqs.entry)) }
 {
     Ok(Loaded {
@@ -195,7 +195,7 @@ fn entries(
     conflicts: &FirstElements<'_>,
     prereqs: &FirstElements<'_>,
 ) -> Result<Vec<Loaded>, AllocError>
-    ensures { IfOk result (λ v. map entry_of v.items
+    ensures { IfOk result (λ v. map entry_view v.items
         ≡ entries_from (element_in conflicts.now) (element_in prereqs.now) (slice_texts names.now) (slice_texts files.now)) }
 {
     let mut entries = Vec::new(alloc);
@@ -222,7 +222,7 @@ fn entries_from_elements(
     conflicts: &[&str],
     prereqs: &[&str],
 ) -> Result<Vec<Loaded>, AllocError>
-    ensures { IfOk result (λ v. map entry_of v.items ≡ entries_from
+    ensures { IfOk result (λ v. map entry_view v.items ≡ entries_from
         (λ name. first_element name (slice_texts conflicts.now))
         (λ name. first_element name (slice_texts prereqs.now)) (slice_texts names.now) (slice_texts files.now)) }
 {
@@ -259,7 +259,7 @@ pub fn loaded<V: Vars>(alloc: Global, env: &V) -> Result<Vec<Loaded>, EnvFault>
 
 /// The entry of a module; none where it isn't in the list.
 pub(crate) fn find<'a>(list: &'a [Loaded], name: &str) -> Option<&'a Loaded>
-    ensures { option_map (λ x. entry_of x.now) result ≡ entry_named name.now (map entry_of list.entry.now) }
+    ensures { option_map (λ x. entry_view x.now) result ≡ entry_named name.now (map entry_view list.entry.now) }
 {
     let mut rest = list;
     while let [entry, after @ ..] = rest {

@@ -8,8 +8,8 @@ use Rattle.std.proofs.lemmas.List.Sums.{sum_by-cons}
 use Rattle.envvars.specs.Texts.{Text, has}
 use Rattle.envvars.specs.Fields.{without}
 use Rattle.envpaths.specs.Paths.{PathState, IsPathState, put_at, one_higher, one_lower, add, drop, add_front, add_back, add_all, drop_all}
-use Rattle.envpaths.specs.PathRuns.{PathEdit, after, adds, drops, live, EachDropUndoes, IsPathStartWith}
-use Rattle.envpaths.specs.PathRuns.PathEdit.{Add, Drop}
+use Rattle.envpaths.specs.PathRuns.{PathChange, after, adds, drops, live, EachDropUndoes, IsPathStartWith}
+use Rattle.envpaths.specs.PathRuns.PathChange.{Add, Drop}
 use Rattle.envpaths.specs.declared.edits.End.{End}
 use Rattle.envpaths.specs.declared.edits.End.TheVariants.{Front, Back}
 use Rattle.envvars.proofs.TextLemmas.{same_text, bytes_eq-same, has-push, has-without, filter-without}
@@ -139,26 +139,26 @@ kept_drop_all start live now (x ∷ xs) is k h =
     (λ y. omega (arith, count_cons x y xs, h y)))
 
 -- a whole list of edits, from any point of one
-kept_after : (start : PathState) (live : Text → ℕ) (now : PathState) (edits : List PathEdit) → IsPathState start → Kept start live now
-    → ((done rest : List PathEdit) → done ++ rest ≡ edits → (x : Text) → drops done x ≤ live x + adds done x)
+kept_after : (start : PathState) (live : Text → ℕ) (now : PathState) (edits : List PathChange) → IsPathState start → Kept start live now
+    → ((done rest : List PathChange) → done ++ rest ≡ edits → (x : Text) → drops done x ≤ live x + adds done x)
     → Kept start (λ x. live x + adds edits x - drops edits x) (after edits now)
 kept_after start live now [] is k h = kept_more start live _ now (λ y. omega arith) k
 kept_after start live now (Add xs end ∷ edits) is k h =
     kept_more start (λ x. live x + count_by (bytes_eq x) xs + adds edits x - drops edits x) _ _ (λ y. omega arith)
     (kept_after start (λ x. live x + count_by (bytes_eq x) xs) (add_all now xs end) edits is (kept_add_all start live now xs end is k)
-    (λ done rest e x. let b : drops done x ≤ live x + (count_by (bytes_eq x) xs + adds done x) = h (Add xs end ∷ done) rest (ap (λ (l : List PathEdit). Add xs end ∷ l) e) x in omega arith))
+    (λ done rest e x. let b : drops done x ≤ live x + (count_by (bytes_eq x) xs + adds done x) = h (Add xs end ∷ done) rest (ap (λ (l : List PathChange). Add xs end ∷ l) e) x in omega arith))
 kept_after start live now (Drop xs ∷ edits) is k h =
     let first : (x : Text) → count_by (bytes_eq x) xs ≤ live x = λ x. (let b : count_by (bytes_eq x) xs + 0 ≤ live x + 0 = h (Drop xs ∷ []) edits refl x in omega arith) in
     kept_more start (λ x. live x - count_by (bytes_eq x) xs + adds edits x - drops edits x) _ _ (λ y. let b : count_by (bytes_eq y) xs ≤ live y = first y in omega arith)
     (kept_after start (λ x. live x - count_by (bytes_eq x) xs) (drop_all now xs) edits is (kept_drop_all start live now xs is k first)
     (λ done rest e x.
-    let b : count_by (bytes_eq x) xs + drops done x ≤ live x + adds done x = h (Drop xs ∷ done) rest (ap (λ (l : List PathEdit). Drop xs ∷ l) e) x in
+    let b : count_by (bytes_eq x) xs + drops done x ≤ live x + adds done x = h (Drop xs ∷ done) rest (ap (λ (l : List PathChange). Drop xs ∷ l) e) x in
     let f : count_by (bytes_eq x) xs ≤ live x = first x in omega arith))
 
 either_test : (h g : Bool) (n m k : ℕ) → h ≡ ltb 0 n → g ≡ ltb 0 m → n ≡ m + k → h ≡ (g || ltb 0 k)
 either_test h g n m k e f s = grind (arith, nat_tests)
 
-pub IsPathStartWith-after : (start : PathState) (edits : List PathEdit) → IsPathState start → EachDropUndoes edits → IsPathStartWith start (live edits) (after edits start)
+pub IsPathStartWith-after : (start : PathState) (edits : List PathChange) → IsPathState start → EachDropUndoes edits → IsPathStartWith start (live edits) (after edits start)
 IsPathStartWith-after start edits is each =
     let k : Kept start (live edits) (after edits start) = kept_more start (λ x. 0 + adds edits x - drops edits x) (live edits) (after edits start) (λ x. omega arith) (kept_after start (λ _. 0) start edits is (nothing_live start is) (λ done rest e x. let b : drops done x ≤ adds done x = each done rest e x in omega arith)) in
     record {

@@ -5,36 +5,36 @@ use Rattle.envpaths.specs.Paths.{PathState, add_all, drop_all}
 use Rattle.envpaths.specs.declared.edits.End.{End}
 
 -- an edit of a path variable: adding elements at an end, or dropping elements
-pub data PathEdit : Type 0 where
-  Add : (xs : List Text) (end : End) → PathEdit
-  Drop : (xs : List Text) → PathEdit
+pub data PathChange : Type 0 where
+  Add : (xs : List Text) (end : End) → PathChange
+  Drop : (xs : List Text) → PathChange
 
 -- the state after the edits, the first of them first
-abbrev pub after : List PathEdit → PathState → PathState
+abbrev pub after : List PathChange → PathState → PathState
 after [] s = s
 after (Add xs end ∷ edits) s = after edits (add_all s xs end)
 after (Drop xs ∷ edits) s = after edits (drop_all s xs)
 
 -- how often the edits add x
-abbrev pub adds : List PathEdit → Text → ℕ
+abbrev pub adds : List PathChange → Text → ℕ
 adds [] x = 0
 adds (Add xs end ∷ edits) x = count_by (bytes_eq x) xs + adds edits x
 adds (Drop xs ∷ edits) x = adds edits x
 
 -- how often the edits drop x
-abbrev pub drops : List PathEdit → Text → ℕ
+abbrev pub drops : List PathChange → Text → ℕ
 drops [] x = 0
 drops (Add xs end ∷ edits) x = drops edits x
 drops (Drop xs ∷ edits) x = count_by (bytes_eq x) xs + drops edits x
 
 -- the live adds of x: those that no drop has undone
-abbrev pub live : List PathEdit → Text → ℕ
+abbrev pub live : List PathChange → Text → ℕ
 live edits x = adds edits x - drops edits x
 
 -- Each drop undoes one earlier add that was not undone before: however many of the edits are done,
 -- no element was dropped more often than it was added.
-abbrev pub EachDropUndoes : List PathEdit → Type 0
-EachDropUndoes edits = (done rest : List PathEdit) → done ++ rest ≡ edits → (x : Text) → drops done x ≤ adds done x
+abbrev pub EachDropUndoes : List PathChange → Type 0
+EachDropUndoes edits = (done rest : List PathChange) → done ++ rest ≡ edits → (x : Text) → drops done x ≤ adds done x
 
 -- the state is a start with live adds on top: the elements of the start are there in their order, an element is there
 -- exactly where it is in the start or has a live add, and its counter is the one in the start plus its live adds

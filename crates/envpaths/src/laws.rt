@@ -6,7 +6,7 @@ ghost use Rattle.envvars.specs.Texts.{Text};
 ghost use Rattle.envvars.specs.Environment.{Environment};
 ghost use Rattle.envpaths.specs.Counters.{counter_of, SpellsCounter};
 ghost use Rattle.envpaths.specs.Paths.{PathState, IsPathState, add_all, drop_all};
-ghost use Rattle.envpaths.specs.PathRuns.{PathEdit, after, live, none_live, more_live, fewer_live, AreLive, EachDropUndoes, IsPathStartWith};
+ghost use Rattle.envpaths.specs.PathRuns.{PathChange, after, live, none_live, more_live, fewer_live, AreLive, EachDropUndoes, IsPathStartWith};
 ghost use Rattle.envpaths.specs.PathTexts.{IsWritable, state_of, elements_text, pairs_text};
 ghost use Rattle.envpaths.specs.PathVariables.{path_in, added_path, dropped_path, is_element, counters_fit};
 ghost use Rattle.envpaths.specs.PathOrder.{LeavesPath};
@@ -15,9 +15,9 @@ ghost use Rattle.envpaths.specs.declared.edits.End.{End};
 /// After any adds, and drops that each undo one of them, the elements of the start are there in their order, and the
 /// live adds, those that no drop has undone, are counted on top of them. Where no add is live, it is the start.
 pub fn paths()
-    ensures start_with_live { (start : PathState) (edits : List PathEdit) → IsPathState start → EachDropUndoes edits
+    ensures start_with_live { (start : PathState) (edits : List PathChange) → IsPathState start → EachDropUndoes edits
         → IsPathStartWith start (live edits) (after edits start) }
-    ensures restored { (start : PathState) (edits : List PathEdit) → IsPathState start → EachDropUndoes edits
+    ensures restored { (start : PathState) (edits : List PathChange) → IsPathState start → EachDropUndoes edits
         → ((x : Text) → live edits x ≡ 0) → after edits start ≡ start }
 {}
 

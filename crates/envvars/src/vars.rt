@@ -15,7 +15,7 @@ pub trait Vars {
     /// The variables that are set, with their values.
     ghost vars: { Self → Environment };
 
-    /// The environment that these variables are layered on, which no call changes.
+    /// The environment below these variables, which no call changes.
     ghost base: { Self → Environment };
 
     /// The value of a variable; none where it is unset. It takes no memory.

@@ -1,4 +1,4 @@
-//! A working environment: edits that are layered on an environment, which stays unchanged.
+//! A working environment: edits over an environment that stays unchanged.
 ghost use Rattle.std.specs.Prelude.{◌≡◌, IfOk, IfErr};
 ghost use Rattle.envvars.specs.Changes.{AreChanges, new_values_in};
 ghost use Rattle.envvars.specs.declared.fault.EnvFault.TheVariants.{OutOfMemory};
@@ -13,7 +13,7 @@ use indexmap::IndexMap;
 use std::alloc::Global;
 use std::marker::Model;
 
-/// Edits that are layered on variables which stay unchanged: on an environment, or on another working one. The time of
+/// Edits over variables that stay unchanged: over an environment, or over another working one. The time of
 /// an edit depends on what it touches, and not on how many variables are set.
 pub struct Working<'a, B: Vars = Env> {
     /// The variables below, which stay unchanged.

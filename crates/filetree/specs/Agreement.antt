@@ -51,7 +51,7 @@ Narrows before now = InEachPair now (λ files listings. before files listings)
 pub record ReadsOn {T : Type 0} (agrees : T → Files → Listings → Type 0) (failures : T → ℕ) (old new : T)
     : Type 0 where
   pub narrows : Narrows (agrees old) (agrees new)
-  pub later : failures old ≤ failures new
+  pub counts_failures : failures old ≤ failures new
 
 -- some pair of maps agrees
 abbrev pub IsSatisfiable : (Files → Listings → Type 0) → Type 0
@@ -59,7 +59,7 @@ IsSatisfiable agrees = (files : Files) × (listings : Listings) × agrees files 
 
 -- By the counts of failures before and after a call: it answers `Device` only where the device failed in it.
 pub record FailsOnlyByDevice {T : Type 0} (before now : ℕ) (result : Result T TreeFault) : Type 0 where
-  pub later : before ≤ now
+  pub counts_failures : before ≤ now
   pub device : IsErrOf result Device → before < now
 
 -- the fault is the device's

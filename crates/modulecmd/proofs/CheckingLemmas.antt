@@ -8,12 +8,12 @@ use Rattle.envvars.specs.Texts.{Text}
 use Rattle.envvars.specs.Environment.{Environment}
 use Rattle.filetree.specs.Agreement.{Files, Listings}
 use Rattle.sessioncheck.specs.Reports.{report_of}
-use Rattle.modulecmd.specs.declared.checking.CheckAnswer.{CheckAnswer}
+use Rattle.modulecmd.specs.declared.checking.PreparedCheck.{PreparedCheck}
 use Rattle.modulecmd.specs.declared.command_exit.Exit.{Exit}
 use Rattle.modulecmd.specs.declared.command_exit.Exit.TheVariants.{Success, Reported, CutShort}
 use Rattle.modulecmd.specs.declared.command_fault.CommandFault.{CommandFault}
 use Rattle.modulecmd.specs.Checking.{EndsCheck, IsCheckFault, ShowsWhetherAccepted, writing_of}
-use Rattle.modulecmd.specs.CheckWords.{IsCheckAnswer, exit_of}
+use Rattle.modulecmd.specs.CheckWords.{IsPreparedCheck, exit_of}
 use Rattle.modulecmd.specs.Output.{FinishesWriting, WritesFault}
 use Rattle.modulecmd.proofs.WriterLemmas.{keeps_same}
 
@@ -34,8 +34,8 @@ exit_shows Reported accepted = tt
 exit_shows CutShort accepted = tt
 
 -- an answer that was written, or the first part of it before a failed write
-pub checked : (exit : Exit) (agrees : Files → Listings → Type 0) (before now : ℕ) (e : Environment) (arguments : List Text) (input input' out out' err err' : Option Text) (a : CheckAnswer)
-    → IsCheckAnswer agrees before now e arguments input input' a → FinishesWriting exit (string_bytes a.report) (string_bytes a.text) out out' err err'
+pub checked : (exit : Exit) (agrees : Files → Listings → Type 0) (before now : ℕ) (e : Environment) (arguments : List Text) (input input' out out' err err' : Option Text) (a : PreparedCheck)
+    → IsPreparedCheck agrees before now e arguments input input' a → FinishesWriting exit (string_bytes a.report) (string_bytes a.text) out out' err err'
     → EndsCheck (exit_of exit a.is_accepted) agrees before now e arguments input input' out out' err err'
 checked exit agrees before now e arguments input input' out out' err err' a is h =
     let end = exit_of exit a.is_accepted in

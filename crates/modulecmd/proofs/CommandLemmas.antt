@@ -15,7 +15,7 @@ use Rattle.filetree.specs.Relations.{After}
 use Rattle.requests.specs.Laws.{CommandsReturn, OneOutcome}
 use Rattle.requests.specs.Reasons.{RequestReason}
 use Rattle.requests.specs.Requests.{RequestedAction, Request}
-use Rattle.requests.specs.Steps.{Site, Done, RequestStep, site_in}
+use Rattle.requests.specs.Steps.{RequestContext, Done, RequestStep, request_context_in}
 use Rattle.filetree.specs.Causes.{Cause, memory, device, because, Applies}
 use Rattle.requeststep.specs.Answers.{cause_of}
 use Rattle.requeststep.specs.Messages.{memory_number, number_by}
@@ -24,12 +24,12 @@ use Rattle.modulecmd.specs.declared.command_fault.CommandFault.{CommandFault}
 use Rattle.modulecmd.specs.declared.command_fault.CommandFault.TheVariants.{Refused, Unprinted, UnknownShell, WriteFailed}
 use Rattle.modulecmd.specs.Command as command
 use Rattle.modulecmd.specs.Command.{CommandReason, CommandResult, CommandHasResult, IsCausedBy, IsNumbered, command_of, standard, with_shell}
-use Rattle.modulecmd.specs.declared.command.Answer.{Answer}
-use Rattle.modulecmd.specs.Output.{IsAnswer, ReturnsToStart}
+use Rattle.modulecmd.specs.declared.command.Prepared.{Prepared}
+use Rattle.modulecmd.specs.Output.{IsPrepared, ReturnsToStart}
 use Rattle.modulecmd.specs.Words.{effect_in}
 
 pub does : (arguments : List Text) (e : Environment) (files : Files) (listings : Listings) (r : Request) (o : Result Done RequestReason)
-    → command_of arguments ≡ Ok r → RequestStep (site_in standard r.0 files listings) e r.1 o → CommandHasResult arguments e files listings (with_shell r.0 o)
+    → command_of arguments ≡ Ok r → RequestStep (request_context_in standard r.0 files listings) e r.1 o → CommandHasResult arguments e files listings (with_shell r.0 o)
 does arguments e files listings r o made step = (Ok r, sym made, (o, step, refl))
 
 pub makes_none : (arguments : List Text) (e : Environment) (files : Files) (listings : Listings) (reason : CommandReason)
@@ -71,7 +71,7 @@ taken_once r x y o p same a b = a ∙ (ap (with_shell r.0) same ∙ sym b)
 
 made_once : (e : Environment) (files : Files) (listings : Listings) (made : Result Request CommandReason) (o p : Result CommandResult CommandReason) → OneOutcome
     → After (λ r. command.RequestHasEffect r e files listings) made o → After (λ r. command.RequestHasEffect r e files listings) made p → o ≡ p
-made_once e files listings (Ok r) o p one (x, h, a) (y, k, b) = taken_once r x y o p (one (site_in standard r.0 files listings) e r.1 x y h k) a b
+made_once e files listings (Ok r) o p one (x, h, a) (y, k, b) = taken_once r x y o p (one (request_context_in standard r.0 files listings) e r.1 x y h k) a b
 made_once e files listings (Err reason) o p one a b = a ∙ sym b
 
 pub does_once : OneOutcome → command.OneCommand
@@ -80,7 +80,7 @@ does_once one arguments e files listings o p (x, made, a) (y, made', b) =
     made_once e files listings (command_of arguments) o p one (subst (λ z. After-of z o) made a) (subst (λ z. After-of z p) made' b)
 
 -- the text of a step returns to the start as the step does
-pub returns_to_start : CommandsReturn → OneEffect → DifferenceMakes → (s : Site) (e : Environment) (asked : RequestedAction) (f : CommandResult) (text : Text)
+pub returns_to_start : CommandsReturn → OneEffect → DifferenceMakes → (s : RequestContext) (e : Environment) (asked : RequestedAction) (f : CommandResult) (text : Text)
     → RequestStep s e asked (Ok f.1) → SaysDifference f.0 text e f.1.env → ReturnsToStart e f text
 returns_to_start returns one makes s e asked f text step says =
     λ uses start new live is_start in_order start_with_live fit is_new fitting made.
@@ -95,16 +95,16 @@ unprinted shell ss prints.OutOfMemory Is Lacks failed lacks h = tt
 unprinted shell ss (prints.NotSayable name) Is Lacks failed lacks h = lacks (string_bytes name) h
 
 -- A request's step and the text of its changes answer the command.
-pub answers : CommandsReturn → OneEffect → DifferenceMakes → (agrees : Files → Listings → Type 0) (arguments : List Text) (e : Environment) (r : Request) (a : Answer)
+pub answers : CommandsReturn → OneEffect → DifferenceMakes → (agrees : Files → Listings → Type 0) (arguments : List Text) (e : Environment) (r : Request) (a : Prepared)
     → command_of arguments ≡ Ok r → a.shell ≡ r.0
-    → InEachPair agrees (λ files listings. RequestStep (site_in standard r.0 files listings) e r.1 (Ok (changed_view e a.changed)))
+    → InEachPair agrees (λ files listings. RequestStep (request_context_in standard r.0 files listings) e r.1 (Ok (changed_view e a.changed)))
     → AreChanges e (changed_env e a.changed) (new_values_in a.changed.changes) → TextSays r.0 (string_bytes a.text) (new_values_in a.changed.changes)
-    → IsAnswer agrees e (CommandHasResult arguments e) (effect_in e a) (string_bytes a.text)
+    → IsPrepared agrees e (CommandHasResult arguments e) (effect_in e a) (string_bytes a.text)
 answers returns one makes agrees arguments e r a made shell step exact says =
     let Read : Shell → Type 0 = λ s. TextSays s (string_bytes a.text) (new_values_in a.changed.changes) in
     let difference : SaysDifference a.shell (string_bytes a.text) e (changed_env e a.changed) = record { changes = new_values_in a.changed.changes; exact = exact; says = subst Read (sym shell) says } in
     let PrintsFor : Shell → Files → Listings → Type 0 = λ s files listings. CommandHasResult arguments e files listings (Ok (s, changed_view e a.changed)) in (
       λ files listings agreed. subst (λ s. PrintsFor s files listings) (sym shell) (does arguments e files listings r (Ok (changed_view e a.changed)) made (step files listings agreed)),
       difference,
-      λ files listings agreed. returns_to_start returns one makes (site_in standard r.0 files listings) e r.1 (effect_in e a) (string_bytes a.text) (step files listings agreed) difference,
+      λ files listings agreed. returns_to_start returns one makes (request_context_in standard r.0 files listings) e r.1 (effect_in e a) (string_bytes a.text) (step files listings agreed) difference,
     )

@@ -13,11 +13,11 @@ use Rattle.modulecmd.specs.declared.command_exit.Exit.{Exit}
 use Rattle.modulecmd.specs.declared.command_exit.Exit.TheVariants.{Success, Reported, CutShort}
 use Rattle.modulecmd.specs.declared.checking.CheckExit.{CheckExit}
 use Rattle.modulecmd.specs.declared.checking.CheckExit.TheVariants as exits
-use Rattle.modulecmd.specs.declared.checking.CheckAnswer.{CheckAnswer}
+use Rattle.modulecmd.specs.declared.checking.PreparedCheck.{PreparedCheck}
 
 -- the answer has what is to be written of a check of all that the input gives
-pub record IsCheckAnswer (agrees : Files → Listings → Type 0) (before now : ℕ) (e : Environment) (arguments : List Text)
-    (input input' : Option Text) (answer : CheckAnswer) : Type 0 where
+pub record IsPreparedCheck (agrees : Files → Listings → Type 0) (before now : ℕ) (e : Environment) (arguments : List Text)
+    (input input' : Option Text) (answer : PreparedCheck) : Type 0 where
   pub shell : Shell
   pub found : Findings
   pub checks : ChecksInput agrees before now e arguments input input' shell found

@@ -12,7 +12,7 @@ use Rattle.tclrules.specs.declared.limits.Limits.{Limits}
 use Rattle.requests.specs.Reasons as requests
 use Rattle.requests.specs.Reasons.{RequestReason, bad_arguments}
 use Rattle.requests.specs.Requests.{RequestedAction, Request, request_of}
-use Rattle.requests.specs.Steps.{Done, RequestStep, site_in}
+use Rattle.requests.specs.Steps.{Done, RequestStep, request_context_in}
 use Rattle.filetree.specs.Causes.{Applies}
 use Rattle.requeststep.specs.Answers.{cause_of}
 use Rattle.requeststep.specs.Messages as texts
@@ -62,7 +62,7 @@ with_shell shell (Err reason) = Err (refused_for reason)
 -- the effect of a request, or its reason: by its step under the standard limits
 abbrev pub RequestHasEffect : Request → Environment → Files → Listings → Result CommandResult CommandReason → Type 0
 RequestHasEffect r e files listings o =
-    (step : Result Done RequestReason) × RequestStep (site_in standard r.0 files listings) e r.1 step
+    (step : Result Done RequestReason) × RequestStep (request_context_in standard r.0 files listings) e r.1 step
     × (o ≡ with_shell r.0 step)
 
 -- The effect of a command with these arguments, or its reason, in this environment and over these files and directories.

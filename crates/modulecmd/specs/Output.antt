@@ -11,7 +11,7 @@ use Rattle.reversal.specs.Runs.{live_after, AreReversibleTogether}
 use Rattle.reversal.specs.Laws.{Holds}
 use Rattle.requests.specs.Steps.{Done}
 use Rattle.rehearsal.specs.Rehearsals.{LacksText}
-use Rattle.requests.specs.Returning.{AreNew, AreFitting}
+use Rattle.requests.specs.Returning.{AreNew, AreReversibleBeside}
 use Rattle.filetree.specs.Agreement.{Files, Listings, InEachPair}
 use Rattle.shelltext.specs.Reading.{TextMakes, SaysDifference}
 use Rattle.modulecmd.specs.declared.command_fault.CommandFault.{CommandFault}
@@ -42,13 +42,13 @@ abbrev pub ReturnsToStart : Environment → CommandResult → Text → Type 0
 ReturnsToStart e f text =
     (uses : Text → VariableUse) (start new : Environment) (live : List Module)
     → IsStart uses start → IsInOrder uses e → IsStartWith uses start live e → AreReversibleTogether uses live
-    → AreNew start f.1.moves → AreFitting uses live f.1.moves → TextMakes f.0 text e new
+    → AreNew start f.1.moves → AreReversibleBeside uses live f.1.moves → TextMakes f.0 text e new
     → Holds uses start (live_after live f.1.moves) new × AreReversibleTogether uses (live_after live f.1.moves)
 
 -- What an accepted command answers: this is its effect, the text says exactly the difference that the effect makes of
 -- the environment, and it returns to the start.
-abbrev pub IsAnswer : (Files → Listings → Type 0) → Environment → ResultRelation → CommandResult → Text → Type 0
-IsAnswer agrees e Does f text =
+abbrev pub IsPrepared : (Files → Listings → Type 0) → Environment → ResultRelation → CommandResult → Text → Type 0
+IsPrepared agrees e Does f text =
     HasResultInEachPair agrees Does (Ok f) × SaysDifference f.0 text e f.1.env
     × InEachPair agrees (λ files listings. ReturnsToStart e f text)
 
@@ -77,7 +77,7 @@ FinishesWriting exit words text out out' err err' =
 abbrev pub Accepts : Exit → (Files → Listings → Type 0) → Environment → ResultRelation → Option Text → Option Text
     → Option Text → Option Text → Type 0
 Accepts exit agrees e Does out out' err err' =
-    (f : CommandResult) × (text : Text) × IsAnswer agrees e Does f text
+    (f : CommandResult) × (text : Text) × IsPrepared agrees e Does f text
     × FinishesWriting exit (standard_error_text f.1) text out out' err err'
 
 -- What a refused command writes: nothing on standard output, and the line that says why on standard error.

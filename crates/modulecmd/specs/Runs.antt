@@ -9,7 +9,7 @@ use Rattle.reversal.specs.VariableUses.{VariableUse}
 use Rattle.reversal.specs.Starts.{IsStart}
 use Rattle.reversal.specs.Runs.{live_after}
 use Rattle.reversal.specs.Laws.{Holds}
-use Rattle.requests.specs.Returning.{AreNew, AreFitting}
+use Rattle.requests.specs.Returning.{AreNew, AreReversibleBeside}
 use Rattle.shelltext.specs.Reading.{TextMakes, SaysDifference}
 use Rattle.modulecmd.specs.Command.{CommandResult, CommandHasResult}
 
@@ -39,5 +39,5 @@ ShellsReturn =
     (uses : Text → VariableUse) (files : Files) (listings : Listings) (start last : Environment)
     (cs : List PrintedCommand)
     → IsStart uses start → ShellsHold files listings start cs last
-    → AreNew start (moves_in cs) → AreFitting uses [] (moves_in cs)
+    → AreNew start (moves_in cs) → AreReversibleBeside uses [] (moves_in cs)
     → Holds uses start (live_after [] (moves_in cs)) last

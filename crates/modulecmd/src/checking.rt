@@ -3,7 +3,7 @@ ghost use Rattle.std.specs.Prelude.{◌≡◌, map, Ok, Err, IfOk, IfErr, string
 ghost use Rattle.filetree.specs.Agreement.{ReadsOn};
 ghost use Rattle.modulecmd.specs.Checking as spec;
 ghost use Rattle.modulecmd.specs.Checking.{EndsCheck, IsCheckFault, check_status};
-ghost use Rattle.modulecmd.specs.CheckWords.{IsCheckAnswer, exit_of};
+ghost use Rattle.modulecmd.specs.CheckWords.{IsPreparedCheck, exit_of};
 ghost use Rattle.modulecmd.specs.Command.{IsCausedBy};
 ghost use Rattle.modulecmd.specs.declared.checking.CheckExit.{CheckExit};
 
@@ -48,7 +48,7 @@ impl CheckExit {
 
 /// What a check is to write, and whether each line was accepted.
 #[derive(Drop)]
-struct CheckAnswer {
+struct PreparedCheck {
     /// Whether each line was accepted.
     is_accepted: bool,
     /// For standard error: an outcome for each line, and a verdict for each module.
@@ -79,9 +79,9 @@ fn answer_of<T: Tree, R: Read>(
     input: &mut R,
     env: &Env,
     tree: &mut T,
-) -> Result<CheckAnswer, CommandFault>
+) -> Result<PreparedCheck, CommandFault>
     ensures reads { ReadsOn T.agrees T.failures tree.old tree.new }
-    ensures answered { IfOk result (IsCheckAnswer (T.agrees tree.new) (T.failures tree.old) (T.failures tree.new)
+    ensures answered { IfOk result (IsPreparedCheck (T.agrees tree.new) (T.failures tree.old) (T.failures tree.new)
         env.now (map string_bytes args.now) (R.remaining input.old) (R.remaining input.new)) }
     ensures refused { IfErr result (IsCheckFault (T.agrees tree.new) (T.failures tree.old) (T.failures tree.new)
         env.now (map string_bytes args.now) (R.remaining input.old) (R.remaining input.new)) }
@@ -92,7 +92,7 @@ fn answer_of<T: Tree, R: Read>(
     let difference = changes(alloc, env, &found.env)?;
     let text = print_changes(alloc, shell, difference.as_slice())?;
     let report = found.report(alloc)?;
-    Ok(CheckAnswer {
+    Ok(PreparedCheck {
         is_accepted: found.is_accepted(),
         report,
         text,

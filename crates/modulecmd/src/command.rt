@@ -5,7 +5,7 @@ ghost use Rattle.requests.specs.RequestViews.{request_view};
 ghost use Rattle.modulecmd.specs.declared.command_exit.Exit.{Exit};
 ghost use Rattle.modulecmd.specs.Command as spec;
 ghost use Rattle.modulecmd.specs.Command.{CommandHasResult, IsCausedBy};
-ghost use Rattle.modulecmd.specs.Output.{EndsCommand, IsAnswer, IsCaused, status_of};
+ghost use Rattle.modulecmd.specs.Output.{EndsCommand, IsPrepared, IsCaused, status_of};
 ghost use Rattle.modulecmd.specs.Words.{effect_in};
 
 use crate::command_exit::Exit;
@@ -28,7 +28,7 @@ pub(crate) const STANDARD: Limits = Limits {
 
 /// What an accepted command has done, and the text that says its changes; nothing is written yet.
 #[derive(Drop)]
-struct Answer {
+struct Prepared {
     /// The shell that is to run the text.
     shell: Shell,
     /// The changes, the messages and the report.
@@ -58,10 +58,10 @@ fn answer_of<T: Tree>(
     args: &[String],
     env: &Env,
     tree: &mut T,
-) -> Result<Answer, CommandFault>
+) -> Result<Prepared, CommandFault>
     ensures reads { ReadsOn T.agrees T.failures tree.old tree.new }
     ensures answered { IfOk result (λ a.
-        IsAnswer (T.agrees tree.new) env.now (CommandHasResult (map string_bytes args.now) env.now)
+        IsPrepared (T.agrees tree.new) env.now (CommandHasResult (map string_bytes args.now) env.now)
         (effect_in env.now a)
         (string_bytes a.text)) }
     ensures refused { IfErr result (IsCaused (T.agrees tree.new) (T.failures tree.old < T.failures tree.new)
@@ -73,7 +73,7 @@ fn answer_of<T: Tree>(
     let request = command_of(alloc, args)?;
     let changed = run_changes(alloc, &request, env, tree, STANDARD)?;
     let text = print_changes(alloc, request.shell, changed.changes.as_slice())?;
-    Ok(Answer {
+    Ok(Prepared {
         shell: request.shell,
         changed,
         text,

@@ -1,6 +1,7 @@
 //! A whole command: the words of a command line in, the text for a shell and the messages out (module(1)).
 //! Takes memory; reads the tree and input and writes to the writers that it is given; one call asks the process.
 //! Used by the programs modulecmd_main and modcheck, and by every caller of the library.
+//! `modulecmd` is `run_command`, but answers the status of the process.
 #![tactic(auto)]
 
 mod checking;

@@ -12,7 +12,7 @@ use Rattle.modulerecords.proofs.Effected.{whole, effects_go_on}
 use Rattle.modulefile.specs.Results.{◌>>=◌}
 use Rattle.modulefile.specs.Calls as calls
 use Rattle.modulefile.specs.Calls.{adds_record, adds_message, getenv, is_loaded, own_name, typed_name, info, info_test, CallReason, unknown, unsupported, bad_record, CallForm, call_of}
-use Rattle.modulefile.specs.Answers.{FileContext, not_done, record_answer, read, answered, record_of, records_in, record_outcome, effects_so_far, or_start, environment_after, value_shown}
+use Rattle.modulefile.specs.Answers.{FileContext, not_done, record_answer, variable_answer, command_answer, record_of, records_in, record_outcome, effects_so_far, or_before, environment_after, value_shown}
 use Rattle.modulefile.proofs.Bound.{bound, bind_ok}
 
 ok_value : {A R : Type 0} (r : Result A R) → is_ok r ≡ true → (a : A) × (r ≡ Ok a)
@@ -54,34 +54,34 @@ pub record IsSoFar (c : FileContext) (rs : List oracle.CommandWords) : Type 0 wh
   pub records : List Record
   pub env : Environment
   pub read : records_in rs ≡ Ok records
-  pub made : effects c.mode c.name records c.start ≡ Ok env
+  pub made : effects c.mode c.name records c.before ≡ Ok env
 
 pub so_far : (c : FileContext) (rs : List oracle.CommandWords) → HasEffects c rs → IsSoFar c rs
 so_far c rs h =
     let v = ok_value (effects_so_far c rs) h in
-    let b = bound (records_in rs) (λ ys. record_outcome (effects c.mode c.name ys c.start)) v.0 v.1 in
-    record { records = b.0; env = v.0; read = b.1; made = by_record_ok (effects c.mode c.name b.0 c.start) v.0 b.2 }
+    let b = bound (records_in rs) (λ ys. record_outcome (effects c.mode c.name ys c.before)) v.0 v.1 in
+    record { records = b.0; env = v.0; read = b.1; made = by_record_ok (effects c.mode c.name b.0 c.before) v.0 b.2 }
 
-go_on : (c : FileContext) (rs : List oracle.CommandWords) (ys : List Record) (e : Environment) → records_in rs ≡ Ok ys → effects c.mode c.name ys c.start ≡ Ok e → effects_so_far c rs ≡ Ok e
-go_on c rs ys e r m = bind_ok (records_in rs) (λ zs. record_outcome (effects c.mode c.name zs c.start)) ys e r (ap record_outcome m)
+go_on : (c : FileContext) (rs : List oracle.CommandWords) (ys : List Record) (e : Environment) → records_in rs ≡ Ok ys → effects c.mode c.name ys c.before ≡ Ok e → effects_so_far c rs ≡ Ok e
+go_on c rs ys e r m = bind_ok (records_in rs) (λ zs. record_outcome (effects c.mode c.name zs c.before)) ys e r (ap record_outcome m)
 
 record_has_effects : (c : FileContext) (rs : List oracle.CommandWords) (words : List Text) (r : Record) → call_of words ≡ Ok (adds_record r) → HasEffects c rs → (result : Result Environment RecordReason) → effect c.mode c.name r (environment_after c rs) ≡ result → HasEffects c (records_with rs (addition (record_answer words result)))
 record_has_effects c rs words r k h (Err o) e = nothing_has_effects c rs (bad_record o) h
 record_has_effects c rs words r k h (Ok t) e =
     let s = so_far c rs h in
-    let f : environment_after c rs ≡ s.env = ap (or_start c.start) (go_on c rs s.records s.env s.read s.made) in
+    let f : environment_after c rs ≡ s.env = ap (or_before c.before) (go_on c rs s.records s.env s.read s.made) in
     let g : effect c.mode c.name r s.env ≡ Ok t = subst (λ x. effect c.mode c.name r x ≡ Ok t) f e in
     let m : records_in (rs ++ words ∷ []) ≡ Ok (s.records ++ r ∷ []) = records_more rs words s.records r s.read (bind_ok (call_of words) record_of (adds_record r) r k refl) in
-    ap (λ x. is_ok x) (go_on c (rs ++ words ∷ []) (s.records ++ r ∷ []) t m (effects_more c.mode c.name s.records r c.start s.env t s.made g))
+    ap (λ x. is_ok x) (go_on c (rs ++ words ∷ []) (s.records ++ r ∷ []) t m (effects_more c.mode c.name s.records r c.before s.env t s.made g))
 
-read_has_effects : (c : FileContext) (rs : List oracle.CommandWords) (var value : Text) → HasEffects c rs → HasEffects c (records_with rs (addition (read var value)))
+read_has_effects : (c : FileContext) (rs : List oracle.CommandWords) (var value : Text) → HasEffects c rs → HasEffects c (records_with rs (addition (variable_answer var value)))
 read_has_effects c rs var value h = go (is_variable_name var) refl
   where
-    go : (b : Bool) → is_variable_name var ≡ b → HasEffects c (records_with rs (addition (read var value)))
+    go : (b : Bool) → is_variable_name var ≡ b → HasEffects c (records_with rs (addition (variable_answer var value)))
     go true q = rw q h
     go false q = rw q h
 
-call_has_effects : (c : FileContext) (rs : List oracle.CommandWords) (words : List Text) → HasEffects c rs → (call : CallForm) → call_of words ≡ call → HasEffects c (records_with rs (addition (answered c (environment_after c rs) words call)))
+call_has_effects : (c : FileContext) (rs : List oracle.CommandWords) (words : List Text) → HasEffects c rs → (call : CallForm) → call_of words ≡ call → HasEffects c (records_with rs (addition (command_answer c (environment_after c rs) words call)))
 call_has_effects c rs words h (Err o) e = nothing_has_effects c rs o h
 call_has_effects c rs words h (Ok (adds_record r)) e = record_has_effects c rs words r e h (effect c.mode c.name r (environment_after c rs)) refl
 call_has_effects c rs words h (Ok (adds_message message)) e = h
@@ -92,5 +92,5 @@ call_has_effects c rs words h (Ok typed_name) e = h
 call_has_effects c rs words h (Ok (info field)) e = h
 call_has_effects c rs words h (Ok (info_test field word)) e = h
 
-pub answer_has_effects : (c : FileContext) (rs : List oracle.CommandWords) (words : List Text) → HasEffects c rs → HasEffects c (records_with rs (addition (answered c (environment_after c rs) words (call_of words))))
+pub answer_has_effects : (c : FileContext) (rs : List oracle.CommandWords) (words : List Text) → HasEffects c rs → HasEffects c (records_with rs (addition (command_answer c (environment_after c rs) words (call_of words))))
 answer_has_effects c rs words h = call_has_effects c rs words h (call_of words) refl

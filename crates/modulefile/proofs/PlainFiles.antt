@@ -5,7 +5,7 @@ use Rattle.envvars.specs.Names.{is_variable_name}
 use Rattle.envvars.specs.Environment.{Environment}
 use Rattle.tclrules.specs.Oracle as oracle
 use Rattle.tclrules.specs.Oracle.{Oracle, OracleAnswer, Nothing, Done, Trace, is_question, is_refusal}
-use Rattle.tclrules.specs.Derivation.{ByHost, Outcome, Ended, Halted, World, AgreesUnasked}
+use Rattle.tclrules.specs.Derivation.{ByHost, EvaluationOutcome, Ended, Halted, World, AnswersAlikeUnasked}
 use Rattle.tclrules.specs.Variables.{State}
 use Rattle.tclrules.specs.Plans.{Completion, Normal, Raised, Returned, Broken, Continued}
 use Rattle.tclrules.specs.Meaning as meaning
@@ -14,7 +14,7 @@ use Rattle.tclrules.specs.declared.limits.Limits.{Limits}
 use Rattle.modulerecords.specs.Judgments.{RecordReason, record_reason}
 use Rattle.modulerecords.specs.Effects.{edited, edit_outcome, permitted, effect}
 use Rattle.modulefile.specs.Calls.{adds_record, adds_message, getenv, is_loaded, own_name, typed_name, info, info_test, CallForm, call_of}
-use Rattle.modulefile.specs.Answers.{FileContext, record_number, record_name, record_answer, read, answered, records_in, environment_after, oracle_of, value_shown}
+use Rattle.modulefile.specs.Answers.{FileContext, record_number, record_name, record_answer, variable_answer, command_answer, records_in, environment_after, oracle_of, value_shown}
 use Rattle.modulefile.specs.Files.{Ran, FileReason, ran_of, setting_of, FinishesFile, RunsFile, IsSameOrRefused}
 use Rattle.modulefile.specs.Laws.{PlainFilesAgree}
 use Rattle.modulefile.proofs.Bound.{same_value}
@@ -31,14 +31,14 @@ at_kept words None (Err q) t h = absurd (cc)
 at_kept words None (Ok a) (Ok b) h = inl refl
 at_kept words None (Ok a) (Err q) h = inr (record_number q, record_name q, false, refl)
 
-at_read : (var u v : Text) → is_question (read var u) ≡ false → read var v ≡ read var u
+at_read : (var u v : Text) → is_question (variable_answer var u) ≡ false → variable_answer var v ≡ variable_answer var u
 at_read var u v h = go (is_variable_name var) refl
   where
-    go : (b : Bool) → is_variable_name var ≡ b → read var v ≡ read var u
-    go true q = let k : is_question (read var u) ≡ true = rw q refl in absurd (cc)
+    go : (b : Bool) → is_variable_name var ≡ b → variable_answer var v ≡ variable_answer var u
+    go true q = let k : is_question (variable_answer var u) ≡ true = rw q refl in absurd (cc)
     go false q = rw q refl
 
-at_call : (c d : FileContext) → d.name ≡ c.name → (x y : Environment) (words : List Text) (call : CallForm) → is_question (answered c x words call) ≡ false → is_refusal (answered c x words call) ≡ false → Alike (answered c x words call) (answered d y words call)
+at_call : (c d : FileContext) → d.name ≡ c.name → (x y : Environment) (words : List Text) (call : CallForm) → is_question (command_answer c x words call) ≡ false → is_refusal (command_answer c x words call) ≡ false → Alike (command_answer c x words call) (command_answer d y words call)
 at_call c d e x y words (Err o) q h = inl refl
 at_call c d e x y words (Ok (adds_record r)) q h =
     subst (λ n. Alike (record_answer words (effect c.mode c.name r x)) (record_answer words (effect d.mode n r y))) (sym e)
@@ -51,15 +51,15 @@ at_call c d e x y words (Ok typed_name) q h = absurd (cc)
 at_call c d e x y words (Ok (info field)) q h = absurd (cc)
 at_call c d e x y words (Ok (info_test field word)) q h = absurd (cc)
 
-agree : (c d : FileContext) → d.name ≡ c.name → AgreesUnasked (oracle_of c) (oracle_of d)
+agree : (c d : FileContext) → d.name ≡ c.name → AnswersAlikeUnasked (oracle_of c) (oracle_of d)
 agree c d e = (refl, λ rs words q h. at_call c d e (environment_after c rs) (environment_after d rs) words (call_of words) q h)
 
 -- and so for the file
 
 abbrev pub UnaskedLaw : Type 0
 UnaskedLaw =
-    (s : Setting) (second : Oracle) (o o2 : Outcome Completion) (w w2 : World) → EvaluatesTo s o w → w.trace.asked ≡ false → ((n : ℕ) → (o ≡ Halted (ByHost n)) → ⊥)
-    → AgreesUnasked s.oracle second → EvaluatesTo (with_oracle second s) o2 w2 → meaning.IsSameOrRefused o w o2 w2
+    (s : Setting) (second : Oracle) (o o2 : EvaluationOutcome Completion) (w w2 : World) → EvaluatesTo s o w → w.trace.asked ≡ false → ((n : ℕ) → (o ≡ Halted (ByHost n)) → ⊥)
+    → AnswersAlikeUnasked s.oracle second → EvaluatesTo (with_oracle second s) o2 w2 → meaning.IsSameOrRefused o w o2 w2
 
 moved_setting : (limits : Limits) (c d : FileContext) (text : Text) → d.path ≡ c.path → setting_of limits d text ≡ with_oracle (oracle_of d) (setting_of limits c text)
 moved_setting limits c d text p = ap (λ (path : Text). with_oracle (oracle_of d) (setting_of limits (record c { path = path }) text)) p
@@ -73,8 +73,8 @@ plain_normal : UnaskedLaw → (limits : Limits) (c d : FileContext) (text : Text
 plain_normal law limits c d text ran o result s w e h a n p (out2, w2, e2, f) =
     let e3 : EvaluatesTo (with_oracle (oracle_of d) (setting_of limits c text)) out2 w2 = subst (λ (z : Setting). EvaluatesTo z out2 w2) (moved_setting limits c d text p) e2 in
     ⊎_elim
-    (λ i. same_finish c d text result s w.trace ran o h (subst (λ (x : Outcome Completion). FinishesFile d text x w.trace o) i.0 (subst (λ (v : World). FinishesFile d text out2 v.trace o) i.1 f)))
-    (λ i. inr (i.0, w2.trace.refused, subst (λ (x : Outcome Completion). FinishesFile d text x w2.trace o) i.1 f))
+    (λ i. same_finish c d text result s w.trace ran o h (subst (λ (x : EvaluationOutcome Completion). FinishesFile d text x w.trace o) i.0 (subst (λ (v : World). FinishesFile d text out2 v.trace o) i.1 f)))
+    (λ i. inr (i.0, w2.trace.refused, subst (λ (x : EvaluationOutcome Completion). FinishesFile d text x w2.trace o) i.1 f))
     (law (setting_of limits c text) (oracle_of d) (Ended (Normal result s)) out2 w w2 e ((ran_parts c w.trace ran h).asked ∙ a) (λ m z. cc) (agree c d n) e3)
 
 pub plain_file : UnaskedLaw → PlainFilesAgree

@@ -1,7 +1,7 @@
 -- What playing a file gives is its outcome.
 use Rattle.std.proofs.Common.{◌≡◌, ℕ, Some, None, Result, Ok, Err, refl}
 use Rattle.envvars.specs.Texts.{Text}
-use Rattle.tclrules.specs.Derivation.{Outcome, Ended, Halted, World}
+use Rattle.tclrules.specs.Derivation.{EvaluationOutcome, Ended, Halted, World}
 use Rattle.tclrules.specs.Playing.{Played}
 use Rattle.tclrules.specs.Plans.{Completion, Normal, Raised, Returned, Broken, Continued}
 use Rattle.tclrules.specs.Rules.{rule}
@@ -13,7 +13,7 @@ use Rattle.modulefile.specs.Answers.{FileContext}
 use Rattle.modulefile.specs.Files.{Ran, FileReason, setting_of, ran_of, RunsFile, played_ran, played_outcome}
 use Rattle.modulefile.specs.Laws.{PlayedRuns}
 
-comes_played : (s : Setting) (steps : ℕ) (o : Outcome Completion) (w : World) → play_file s steps ≡ Some (o, w) → EvaluatesTo s o w
+comes_played : (s : Setting) (steps : ℕ) (o : EvaluationOutcome Completion) (w : World) → play_file s steps ≡ Some (o, w) → EvaluatesTo s o w
 comes_played s steps o w e = derived s.oracle s.limits.commands (rule s.limits.value_bytes) steps (plan_of s.limits s.script s.oracle.reserved s.globals) (first s.trace) o w e
 
 ok_shown : (r : Result Ran CallReason) (o : Result Ran FileReason) → played_ran r ≡ Some o → (ran : Ran) × (r ≡ Ok ran) × (o ≡ Ok ran)

@@ -26,4 +26,4 @@ all_stay mode owner (r ∷ rs) old new s h =
     all_stay mode owner rs p.0 new s p.2 ∙ one_stays mode owner r old p.0 s p.1
 
 pub showing_leaves : ShowingChangesNothing
-showing_leaves limits c text ran s r = all_stay c.mode c.name ran.records c.start ran.env s (records_make limits c text ran r)
+showing_leaves limits c text ran s r = all_stay c.mode c.name ran.records c.before ran.env s (records_make limits c text ran r)

@@ -3,7 +3,7 @@ use Rattle.std.proofs.Common.{◌≡◌, List, Result, Ok, Err, is_ok, refl, ap,
 use Rattle.envvars.specs.Texts.{Text}
 use Rattle.envvars.specs.Environment.{Environment}
 use Rattle.tclrules.specs.Oracle.{Trace}
-use Rattle.tclrules.specs.Derivation.{Outcome, Ended, Halted, World}
+use Rattle.tclrules.specs.Derivation.{EvaluationOutcome, Ended, Halted, World}
 use Rattle.tclrules.specs.Plans.{Completion, Normal, Raised, Returned, Broken, Continued}
 use Rattle.tclrules.specs.Meaning.{Setting, EvaluatesTo, line_at}
 use Rattle.tclrules.specs.Variables.{State}
@@ -11,11 +11,11 @@ use Rattle.tclrules.specs.declared.limits.Limits.{Limits}
 use Rattle.tclrules.proofs.Consultations.{grown, kept}
 use Rattle.modulerecords.specs.Records.{Record}
 use Rattle.modulerecords.specs.Effects.{effects}
-use Rattle.modulerecords.proofs.Effected.{all_proper}
+use Rattle.modulerecords.proofs.Effected.{all_allowed}
 use Rattle.modulefile.specs.Results.{◌>>=◌}
 use Rattle.modulefile.specs.Answers.{FileContext, records_in, record_outcome, effects_so_far}
 use Rattle.modulefile.specs.Files.{Ran, FileReason, failed, halt_reason, setting_of, ran_of, FinishesFile}
-use Rattle.modulefile.specs.Laws.{SomeOutcome, RecordsHaveEffects, RecordsAreProper}
+use Rattle.modulefile.specs.Laws.{SomeOutcome, RecordsHaveEffects, RecordsAreAllowed}
 use Rattle.modulefile.proofs.Bound.{bound, bind_ok, same_value}
 use Rattle.modulefile.proofs.FileEnds.{IsFileEnd, file_end}
 use Rattle.modulefile.proofs.HasEffects.{by_record_ok, so_far, answer_has_effects}
@@ -23,7 +23,7 @@ use Rattle.modulefile.proofs.HasEffects.{by_record_ok, so_far, answer_has_effect
 -- the parts of what a file left
 pub record Parts (c : FileContext) (trace : Trace) (ran : Ran) : Type 0 where
   pub read : records_in trace.records ≡ Ok ran.records
-  pub made : effects c.mode c.name ran.records c.start ≡ Ok ran.env
+  pub made : effects c.mode c.name ran.records c.before ≡ Ok ran.env
   pub asked : trace.asked ≡ ran.asked
 
 abbrev made_of : Trace → List Record → Environment → Ran
@@ -31,12 +31,12 @@ made_of trace rs e = record { records = rs; messages = trace.messages; asked = t
 
 pub ran_parts : (c : FileContext) (trace : Trace) (ran : Ran) → ran_of c trace ≡ Ok ran → Parts c trace ran
 ran_parts c trace ran h =
-    let b = bound (records_in trace.records) (λ rs. record_outcome (effects c.mode c.name rs c.start) >>= (λ e. Ok (made_of trace rs e))) ran h in
-    let g = bound (record_outcome (effects c.mode c.name b.0 c.start)) (λ e. Ok (made_of trace b.0 e)) ran b.2 in
+    let b = bound (records_in trace.records) (λ rs. record_outcome (effects c.mode c.name rs c.before) >>= (λ e. Ok (made_of trace rs e))) ran h in
+    let g = bound (record_outcome (effects c.mode c.name b.0 c.before)) (λ e. Ok (made_of trace b.0 e)) ran b.2 in
     let k : made_of trace b.0 g.0 ≡ ran = cc in
     record {
       read = b.1 ∙ ap (λ (r : Ran). Ok r.records) k;
-      made = subst (λ (r : Ran). effects c.mode c.name r.records c.start ≡ Ok r.env) k (by_record_ok (effects c.mode c.name b.0 c.start) g.0 g.1);
+      made = subst (λ (r : Ran). effects c.mode c.name r.records c.before ≡ Ok r.env) k (by_record_ok (effects c.mode c.name b.0 c.before) g.0 g.1);
       asked = ap (λ (r : Ran). r.asked) k;
     }
 
@@ -46,11 +46,11 @@ ended_ran limits c text result s w d =
     let h = kept (λ rs. is_ok (effects_so_far c rs)) (grown d) refl (answer_has_effects c) in
     let f = so_far c w.trace.records h in (
       made_of w.trace f.records f.env,
-      bind_ok (records_in w.trace.records) (λ rs. record_outcome (effects c.mode c.name rs c.start) >>= (λ e. Ok (made_of w.trace rs e))) f.records (made_of w.trace f.records f.env) f.read
-          (bind_ok (record_outcome (effects c.mode c.name f.records c.start)) (λ e. Ok (made_of w.trace f.records e)) f.env (made_of w.trace f.records f.env) (ap record_outcome f.made) refl),
+      bind_ok (records_in w.trace.records) (λ rs. record_outcome (effects c.mode c.name rs c.before) >>= (λ e. Ok (made_of w.trace rs e))) f.records (made_of w.trace f.records f.env) f.read
+          (bind_ok (record_outcome (effects c.mode c.name f.records c.before)) (λ e. Ok (made_of w.trace f.records e)) f.env (made_of w.trace f.records f.env) (ap record_outcome f.made) refl),
     )
 
-some_end : (limits : Limits) (c : FileContext) (text : Text) (out : Outcome Completion) (w : World) → EvaluatesTo (setting_of limits c text) out w → IsFileEnd out → (o : Result Ran FileReason) × FinishesFile c text out w.trace o
+some_end : (limits : Limits) (c : FileContext) (text : Text) (out : EvaluationOutcome Completion) (w : World) → EvaluatesTo (setting_of limits c text) out w → IsFileEnd out → (o : Result Ran FileReason) × FinishesFile c text out w.trace o
 some_end limits c text (Ended (Normal t s)) w d i = let r = ended_ran limits c text t s w d in (Ok r.0, (r.0, r.1, refl))
 some_end limits c text (Ended (Raised m s)) w d i = (Err (failed m (line_at text s.offset)), refl)
 some_end limits c text (Ended (Returned t s)) w d i = absurd i
@@ -59,7 +59,7 @@ some_end limits c text (Ended (Continued s)) w d i = absurd i
 some_end limits c text (Halted h) w d i = (Err (halt_reason h w.trace.refused), refl)
 
 abbrev pub EachComes : Type 0
-EachComes = (s : Setting) → (o : Outcome Completion) × (w : World) × EvaluatesTo s o w
+EachComes = (s : Setting) → (o : EvaluationOutcome Completion) × (w : World) × EvaluatesTo s o w
 
 pub some_run : EachComes → SomeOutcome
 some_run law limits c text =
@@ -69,10 +69,10 @@ some_run law limits c text =
 
 -- the records of a file that ended
 
-finish_parts : (c : FileContext) (text : Text) (out : Outcome Completion) (trace : Trace) (ran : Ran) → FinishesFile c text out trace (Ok ran) → effects c.mode c.name ran.records c.start ≡ Ok ran.env
+finish_parts : (c : FileContext) (text : Text) (out : EvaluationOutcome Completion) (trace : Trace) (ran : Ran) → FinishesFile c text out trace (Ok ran) → effects c.mode c.name ran.records c.before ≡ Ok ran.env
 finish_parts c text (Ended (Normal t s)) trace ran f =
     let e : f.0 ≡ ran = same_value (Ok f.0) f.0 ran refl (sym f.2) in
-    subst (λ (r : Ran). effects c.mode c.name r.records c.start ≡ Ok r.env) e (ran_parts c trace f.0 f.1).made
+    subst (λ (r : Ran). effects c.mode c.name r.records c.before ≡ Ok r.env) e (ran_parts c trace f.0 f.1).made
 finish_parts c text (Ended (Raised m s)) trace ran f = absurd (cc)
 finish_parts c text (Ended (Returned t s)) trace ran f = absurd f
 finish_parts c text (Ended (Broken s)) trace ran f = absurd f
@@ -82,5 +82,5 @@ finish_parts c text (Halted h) trace ran f = absurd (cc)
 pub records_make : RecordsHaveEffects
 records_make limits c text ran (out, w, d, f) = finish_parts c text out w.trace ran f
 
-pub records_proper : RecordsAreProper
-records_proper limits c text ran r = all_proper c.mode c.name ran.records c.start ran.env (records_make limits c text ran r)
+pub records_allowed : RecordsAreAllowed
+records_allowed limits c text ran r = all_allowed c.mode c.name ran.records c.before ran.env (records_make limits c text ran r)

@@ -7,7 +7,7 @@ use Rattle.envvars.specs.Names.{is_variable_name}
 use Rattle.envvars.specs.Environment.{Environment, lookup}
 use Rattle.envvars.specs.Reasons.{EnvReason, bad_variable, protected, counter_full, inconsistent, bad_stack, bad_value}
 use Rattle.tclrules.specs.Oracle as oracle
-use Rattle.tclrules.specs.Oracle.{Oracle, OracleAnswer, Refusal, Addition, Nothing, NewRecord, Message, Done, Unknown, LeftOut, Refused}
+use Rattle.tclrules.specs.Oracle.{Oracle, OracleAnswer, HostRefusal, Addition, Nothing, NewRecord, Message, Done, Unknown, LeftOut, Refused}
 use Rattle.modulerecords.specs.Records.{Record}
 use Rattle.modulerecords.specs.Judgments.{RecordReason, bad_edit, bad_module_name}
 use Rattle.modulerecords.specs.Effects.{Mode, load, unload, display, whatis, effect, effects}
@@ -28,7 +28,7 @@ pub record FileContext : Type 0 where
   pub shell : Shell
   pub typed : Text
   pub loaded : List Text
-  pub start : Environment
+  pub before : Environment
 
 -- the word of a mode, as `module-info mode` has it
 abbrev pub mode_word : Mode → Text
@@ -103,7 +103,7 @@ record_name (bad_edit reason) = edit_name reason
 record_name (bad_module_name name) = Some name
 
 -- the refusal of a command that leaves a record, for this reason
-abbrev pub refusal_of : RecordReason → Refusal
+abbrev pub refusal_of : RecordReason → HostRefusal
 refusal_of reason = record { number = record_number reason; name = record_name reason }
 
 -- a command that isn't done
@@ -119,24 +119,24 @@ record_answer words (Ok e) = Done [] (NewRecord words) false
 record_answer words (Err reason) = not_done (bad_record reason)
 
 -- the answer to a question
-abbrev pub asked : Text → OracleAnswer
-asked text = Done text Nothing true
+abbrev pub question_answer : Text → OracleAnswer
+question_answer text = Done text Nothing true
 
 -- Any well-named variable may be read.
-abbrev pub read : Text → Text → OracleAnswer
-read var value = if is_variable_name var then asked value else not_done (bad_record (bad_edit (bad_variable var)))
+abbrev pub variable_answer : Text → Text → OracleAnswer
+variable_answer var value = if is_variable_name var then question_answer value else not_done (bad_record (bad_edit (bad_variable var)))
 
 -- Questions are those about the environment, the mode, the shell, the typed name or the loaded modules, and no others.
-abbrev pub answered : FileContext → Environment → List Text → CallForm → OracleAnswer
-answered c e words (Err reason) = not_done reason
-answered c e words (Ok (adds_record r)) = record_answer words (effect c.mode c.name r e)
-answered c e words (Ok (adds_message message)) = Done [] (Message message) false
-answered c e words (Ok (getenv var default)) = read var (value_shown c.mode e var default)
-answered c e words (Ok (is_loaded names)) = asked (truth (any_loaded names c.loaded))
-answered c e words (Ok own_name) = Done c.name Nothing false
-answered c e words (Ok typed_name) = asked c.typed
-answered c e words (Ok (info field)) = asked (field_text c field)
-answered c e words (Ok (info_test field word)) = asked (truth (field_test c field word))
+abbrev pub command_answer : FileContext → Environment → List Text → CallForm → OracleAnswer
+command_answer c e words (Err reason) = not_done reason
+command_answer c e words (Ok (adds_record r)) = record_answer words (effect c.mode c.name r e)
+command_answer c e words (Ok (adds_message message)) = Done [] (Message message) false
+command_answer c e words (Ok (getenv var default)) = variable_answer var (value_shown c.mode e var default)
+command_answer c e words (Ok (is_loaded names)) = question_answer (truth (any_loaded names c.loaded))
+command_answer c e words (Ok own_name) = Done c.name Nothing false
+command_answer c e words (Ok typed_name) = question_answer c.typed
+command_answer c e words (Ok (info field)) = question_answer (field_text c field)
+command_answer c e words (Ok (info_test field word)) = question_answer (truth (field_test c field word))
 
 -- the record of a command
 abbrev pub record_of : Call → Result Record CallReason
@@ -161,24 +161,24 @@ record_outcome (Err reason) = Err (bad_record reason)
 
 -- what the records so far make of the environment before the file, in the mode at hand
 abbrev pub effects_so_far : FileContext → List oracle.CommandWords → Result Environment CallReason
-effects_so_far c records = records_in records >>= (λ rs. record_outcome (effects c.mode c.name rs c.start))
+effects_so_far c records = records_in records >>= (λ rs. record_outcome (effects c.mode c.name rs c.before))
 
 -- the environment of an outcome, or else the one before the file
-abbrev pub or_start : Environment → Result Environment CallReason → Environment
-or_start start (Ok e) = e
-or_start start (Err reason) = start
+abbrev pub or_before : Environment → Result Environment CallReason → Environment
+or_before before (Ok e) = e
+or_before before (Err reason) = before
 
 -- The environment after these commands. The records of accepted commands always have their effects, so this is never
--- the start in their stead.
+-- the one before the file in their stead.
 abbrev pub environment_after : FileContext → List oracle.CommandWords → Environment
-environment_after c records = or_start c.start (effects_so_far c records)
+environment_after c records = or_before c.before (effects_so_far c records)
 
 -- the oracle that a modulefile is evaluated over
 abbrev pub oracle_of : FileContext → Oracle
 oracle_of c =
     record {
       reserved = command_names;
-      command = λ records words. answered c (environment_after c records) words (call_of words);
+      command = λ records words. command_answer c (environment_after c records) words (call_of words);
       variable = λ records name. lookup (environment_after c records) name;
     }
 

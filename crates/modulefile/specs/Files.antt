@@ -4,8 +4,8 @@ use Rattle.std.specs.Prelude.{◌≡◌, ◌⊎◌, ℕ, Bool, false, List, [], 
 use Rattle.envvars.specs.Texts.{Text}
 use Rattle.envvars.specs.Environment.{Environment}
 use Rattle.tclchars.specs.Faults.{fault_number}
-use Rattle.tclrules.specs.Oracle.{Refusal, Trace}
-use Rattle.tclrules.specs.Derivation.{Halt, OutOfMemory, BadText, TooManyCommands, TooDeep, ValueTooLong, NumberTooLarge, FractionOperand, LeftOut, Stopped, ByHost, Outcome, Ended, Halted, World}
+use Rattle.tclrules.specs.Oracle.{HostRefusal, Trace}
+use Rattle.tclrules.specs.Derivation.{Halt, OutOfMemory, BadText, TooManyCommands, TooDeep, ValueTooLong, NumberTooLarge, FractionOperand, LeftOut, Stopped, ByHost, EvaluationOutcome, Ended, Halted, World}
 use Rattle.tclrules.specs.Variables.{Variables}
 use Rattle.tclrules.specs.Plans.{Completion, Normal, Raised, Returned, Broken, Continued}
 use Rattle.tclrules.specs.Playing.{Played}
@@ -43,29 +43,29 @@ pub record Ran : Type 0 where
 -- name, or it ended with an error that nothing caught, on this line of it.
 pub data FileReason : Type 0 where
   halted : Halt → FileReason
-  refused : Refusal → FileReason
+  refused : HostRefusal → FileReason
   failed : (message : Text) (line : ℕ) → FileReason
 
 -- the records of an evaluation, and their effects
 abbrev pub ran_of : FileContext → Trace → Result Ran CallReason
 ran_of c trace =
     records_in trace.records >>= (λ rs.
-    record_outcome (effects c.mode c.name rs c.start) >>= (λ e.
+    record_outcome (effects c.mode c.name rs c.before) >>= (λ e.
     Ok (record { records = rs; messages = trace.messages; asked = trace.asked; env = e })))
 
 -- a halt by the host is the refusal of a command, which the evaluation has by number and name
-abbrev pub refused_by : ℕ → Option Refusal → FileReason
+abbrev pub refused_by : ℕ → Option HostRefusal → FileReason
 refused_by n None = halted (ByHost n)
 refused_by n (Some refusal) = refused refusal
 
 -- why a halted file is refused
-abbrev pub halt_reason : Halt → Option Refusal → FileReason
+abbrev pub halt_reason : Halt → Option HostRefusal → FileReason
 halt_reason (ByHost n) refusal = refused_by n refusal
 halt_reason halt refusal = halted halt
 
 -- The outcome of a file by how its evaluation ended. No file ends by return, break or continue: the rules of evaluation
 -- make the end of the file or an error of them.
-abbrev pub FinishesFile : FileContext → Text → Outcome Completion → Trace → Result Ran FileReason → Type 0
+abbrev pub FinishesFile : FileContext → Text → EvaluationOutcome Completion → Trace → Result Ran FileReason → Type 0
 FinishesFile c text (Ended (Normal result s)) trace o = (ran : Ran) × (ran_of c trace ≡ Ok ran) × (o ≡ Ok ran)
 FinishesFile c text (Ended (Raised message s)) trace o = o ≡ Err (failed message (line_at text s.offset))
 FinishesFile c text (Ended (Returned result s)) trace o = ⊥
@@ -76,7 +76,7 @@ FinishesFile c text (Halted halt) trace o = o ≡ Err (halt_reason halt trace.re
 -- The text of a modulefile, evaluated in a context under these limits, has this outcome.
 abbrev pub RunsFile : Limits → FileContext → Text → Result Ran FileReason → Type 0
 RunsFile limits c text o =
-    (out : Outcome Completion) × (w : World) × EvaluatesTo (setting_of limits c text) out w
+    (out : EvaluationOutcome Completion) × (w : World) × EvaluatesTo (setting_of limits c text) out w
     × FinishesFile c text out w.trace o
 
 -- the module that a file makes
@@ -105,7 +105,7 @@ file_reason_number (failed message line) = 13
 abbrev pub IsSameOrRefused : Ran → Result Ran FileReason → Type 0
 IsSameOrRefused ran o =
     ((again : Ran) × (o ≡ Ok again) × (again.records ≡ ran.records))
-    ⊎ ((n : ℕ) × (refusal : Option Refusal) × (o ≡ Err (refused_by n refusal)))
+    ⊎ ((n : ℕ) × (refusal : Option HostRefusal) × (o ≡ Err (refused_by n refusal)))
 
 -- A file played: the definition as a function that computes. The number bounds the steps; None where it is too small.
 abbrev pub played_ran : Result Ran CallReason → Option (Result Ran FileReason)

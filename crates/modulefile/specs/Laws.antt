@@ -5,7 +5,7 @@ use Rattle.envvars.specs.Texts.{Text}
 use Rattle.tclrules.specs.Oracle as oracle
 use Rattle.tclrules.specs.Oracle.{OracleAnswer, Nothing, Done, Unknown, LeftOut, Refused, addition, is_question}
 use Rattle.tclrules.specs.declared.limits.Limits.{Limits}
-use Rattle.modulerecords.specs.Judgments.{is_proper}
+use Rattle.modulerecords.specs.Judgments.{is_allowed}
 use Rattle.modulerecords.specs.Effects.{Mode, load, unload, display, whatis, effects}
 use Rattle.modulefile.specs.Calls.{call_of}
 use Rattle.modulefile.specs.Answers.{FileContext, oracle_of, call_adds, call_asks}
@@ -49,13 +49,13 @@ NothingElseAdds =
 abbrev pub RecordsHaveEffects : Type 0
 RecordsHaveEffects =
     (limits : Limits) (c : FileContext) (text : Text) (ran : Ran) → RunsFile limits c text (Ok ran)
-    → effects c.mode c.name ran.records c.start ≡ Ok ran.env
+    → effects c.mode c.name ran.records c.before ≡ Ok ran.env
 
--- Each of them is proper.
-abbrev pub RecordsAreProper : Type 0
-RecordsAreProper =
+-- Each of them is allowed.
+abbrev pub RecordsAreAllowed : Type 0
+RecordsAreAllowed =
     (limits : Limits) (c : FileContext) (text : Text) (ran : Ran) → RunsFile limits c text (Ok ran)
-    → list_all is_proper ran.records ≡ true
+    → list_all is_allowed ran.records ≡ true
 
 -- a mode that changes nothing
 abbrev pub ChangesNothing : Mode → Type 0
@@ -69,7 +69,7 @@ abbrev pub ShowingChangesNothing : Type 0
 ShowingChangesNothing =
     (limits : Limits) (c : FileContext) (text : Text) (ran : Ran) → ChangesNothing c.mode → RunsFile limits c text
     (Ok ran)
-    → ran.env ≡ c.start
+    → ran.env ≡ c.before
 
 -- A file that asked nothing leaves the same records in every context of the same name and path, whatever the mode, the
 -- environment, the shell, the typed name and the loaded modules; or it is refused there.

@@ -25,7 +25,7 @@ context mode e =
       shell = Sh;
       typed = codes "m";
       loaded = codes "gcc/9" ∷ [];
-      start = e;
+      before = e;
     }
 
 -- the contexts of rows, by the environment before the file

@@ -1,5 +1,5 @@
 //! Laws of modulefiles. Each function does nothing: its contract is the law.
-ghost use Rattle.modulefile.specs.Laws.{OneOutcome, SomeOutcome, RecordsHaveEffects, RecordsAreProper, ShowingChangesNothing};
+ghost use Rattle.modulefile.specs.Laws.{OneOutcome, SomeOutcome, RecordsHaveEffects, RecordsAreAllowed, ShowingChangesNothing};
 ghost use Rattle.modulefile.specs.Laws.{WordsDecide, NothingElseAdds, PlainFilesAgree, PlayedRuns};
 
 /// Which record or message a command adds, and whether it is a question, depends on its words alone. A command that
@@ -10,12 +10,12 @@ pub fn words()
 {}
 
 /// A modulefile has exactly one outcome. Where it is accepted, the environment after it is the effects of its records
-/// on the one before it, and each record is proper. In the modes `display` and `whatis` the environment is unchanged.
+/// on the one before it, and each record is allowed. In the modes `display` and `whatis` the environment is unchanged.
 pub fn files()
     ensures one { OneOutcome }
     ensures some { SomeOutcome }
     ensures have_effects { RecordsHaveEffects }
-    ensures proper { RecordsAreProper }
+    ensures allowed { RecordsAreAllowed }
     ensures showing { ShowingChangesNothing }
 {
     tclrules::some_outcome();

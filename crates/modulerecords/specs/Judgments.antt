@@ -43,5 +43,5 @@ record_reason (Prereq names) = names_reason names
 record_reason (Whatis text) = None
 
 -- a record that nothing forbids
-abbrev pub is_proper : Record → Bool
-is_proper r = is_none (record_reason r)
+abbrev pub is_allowed : Record → Bool
+is_allowed r = is_none (record_reason r)

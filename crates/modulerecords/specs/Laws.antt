@@ -4,15 +4,15 @@ use Rattle.std.specs.List.{list_all}
 use Rattle.envvars.specs.Texts.{Text}
 use Rattle.envvars.specs.Environment.{Environment}
 use Rattle.modulerecords.specs.Records.{Record}
-use Rattle.modulerecords.specs.Judgments.{is_proper}
+use Rattle.modulerecords.specs.Judgments.{is_allowed}
 use Rattle.modulerecords.specs.Effects.{Mode, effects}
-use Rattle.modulerecords.specs.Moves.{Move, moved, made, MovesReach, IsProper, AreProper}
+use Rattle.modulerecords.specs.Moves.{Move, moved, all_moved, MovesReach, IsAllowed, AreAllowed}
 
--- Records that all have their effects are proper, in every mode.
-abbrev pub EffectsAreProper : Type 0
-EffectsAreProper =
+-- Records that all have their effects are allowed, in every mode.
+abbrev pub EffectsAreAllowed : Type 0
+EffectsAreAllowed =
     (mode : Mode) (owner : Text) (rs : List Record) (old new : Environment)
-    → effects mode owner rs old ≡ Ok new → list_all is_proper rs ≡ true
+    → effects mode owner rs old ≡ Ok new → list_all is_allowed rs ≡ true
 
 -- The effects of two lists, one after the other, are those of the longer list.
 abbrev pub EffectsCompose : Type 0
@@ -21,18 +21,18 @@ EffectsCompose =
     → effects mode owner rs old ≡ Ok mid → effects mode owner more mid ≡ Ok new
     → effects mode owner (rs ++ more) old ≡ Ok new
 
--- An accepted move is proper.
-abbrev pub MovedIsProper : Type 0
-MovedIsProper = (m : Move) (old new : Environment) → moved m old ≡ Ok new → IsProper m
+-- An accepted move is allowed.
+abbrev pub MovedIsAllowed : Type 0
+MovedIsAllowed = (m : Move) (old new : Environment) → moved m old ≡ Ok new → IsAllowed m
 
--- Moves that reach an environment are proper, and it is their outcome.
-abbrev pub ReachIsProper : Type 0
-ReachIsProper = (ms : List Move) (old new : Environment) → MovesReach ms old new → AreProper ms
+-- Moves that reach an environment are allowed, and it is their outcome.
+abbrev pub ReachIsAllowed : Type 0
+ReachIsAllowed = (ms : List Move) (old new : Environment) → MovesReach ms old new → AreAllowed ms
 
-abbrev pub ReachIsMade : Type 0
-ReachIsMade = (ms : List Move) (old new : Environment) → MovesReach ms old new → made ms old ≡ Ok new
+abbrev pub ReachIsAllMoved : Type 0
+ReachIsAllMoved = (ms : List Move) (old new : Environment) → MovesReach ms old new → all_moved ms old ≡ Ok new
 
--- Where moves reach an environment, and more moves another one from there, both lists in a row reach that one.
+-- Where moves reach an environment, and more moves another one from there, both lists one after the other reach that one.
 abbrev pub ReachComposes : Type 0
 ReachComposes =
     (ms more : List Move) (old mid new : Environment)

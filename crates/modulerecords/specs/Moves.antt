@@ -6,7 +6,7 @@ use Rattle.envvars.specs.Environment.{Environment}
 use Rattle.envvars.specs.Fields.{without_repeats}
 use Rattle.envloaded.specs.Loaded.{Entry, names_of, loaded_in, added_loaded, dropped_loaded}
 use Rattle.modulerecords.specs.Records.{Record, conflict_names, prereq_groups}
-use Rattle.modulerecords.specs.Judgments.{RecordReason, is_proper}
+use Rattle.modulerecords.specs.Judgments.{RecordReason, is_allowed}
 use Rattle.modulerecords.specs.Effects.{Mode, load, unload, effects, edit_outcome, and_then}
 
 -- a module with the records of its file
@@ -31,27 +31,27 @@ pub data Move : Type 0 where
   Unloads : Module → Move
 
 -- its module, and the mode in which its file is evaluated
-abbrev pub module_of : Move → Module
-module_of (Loads m) = m
-module_of (Unloads m) = m
+abbrev pub module_of_move : Move → Module
+module_of_move (Loads m) = m
+module_of_move (Unloads m) = m
 
 abbrev pub mode_of : Move → Mode
 mode_of (Loads m) = load
 mode_of (Unloads m) = unload
 
 -- the entry joins the loaded list or leaves it
-abbrev pub listed : Move → Environment → Result Environment RecordReason
-listed (Loads m) e = edit_outcome (added_loaded e (entry_of m))
-listed (Unloads m) e = edit_outcome (dropped_loaded e m.name)
+abbrev pub entry_moved : Move → Environment → Result Environment RecordReason
+entry_moved (Loads m) e = edit_outcome (added_loaded e (entry_of m))
+entry_moved (Unloads m) e = edit_outcome (dropped_loaded e m.name)
 
 -- what a move makes of an environment: the effects of the records, and then the entry
 abbrev pub moved : Move → Environment → Result Environment RecordReason
-moved m e = and_then (effects (mode_of m) (module_of m).name (module_of m).records e) (listed m)
+moved m e = and_then (effects (mode_of m) (module_of_move m).name (module_of_move m).records e) (entry_moved m)
 
 -- the outcome of several moves, the first of them first
-abbrev pub made : List Move → Environment → Result Environment RecordReason
-made [] e = Ok e
-made (m ∷ ms) e = and_then (moved m e) (made ms)
+abbrev pub all_moved : List Move → Environment → Result Environment RecordReason
+all_moved [] e = Ok e
+all_moved (m ∷ ms) e = and_then (moved m e) (all_moved ms)
 
 -- the names of the modules that moves load, in order
 abbrev pub loaded_names : List Move → List Text
@@ -60,13 +60,13 @@ loaded_names (Loads m ∷ ms) = m.name ∷ loaded_names ms
 loaded_names (Unloads m ∷ ms) = loaded_names ms
 
 -- nothing forbids any record of the move
-abbrev pub IsProper : Move → Type 0
-IsProper m = list_all is_proper (module_of m).records ≡ true
+abbrev pub IsAllowed : Move → Type 0
+IsAllowed m = list_all is_allowed (module_of_move m).records ≡ true
 
 -- the same of several
-abbrev pub AreProper : List Move → Type 0
-AreProper [] = Unit {0}
-AreProper (m ∷ ms) = IsProper m × AreProper ms
+abbrev pub AreAllowed : List Move → Type 0
+AreAllowed [] = Unit {0}
+AreAllowed (m ∷ ms) = IsAllowed m × AreAllowed ms
 
 -- A module that is loaded isn't loaded already; one that is unloaded is, by this path.
 abbrev pub Fits : Move → Environment → Type 0

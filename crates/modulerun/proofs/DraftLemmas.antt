@@ -5,7 +5,7 @@ use Rattle.std.specs.declared.alloc.Global.{Global}
 use Rattle.envvars.specs.Texts.{Text, texts_in}
 use Rattle.envvars.specs.Environment.{Environment}
 use Rattle.envvars.specs.Changes.{applied, new_values_in}
-use Rattle.tclrules.specs.Oracle.{Refusal, Trace}
+use Rattle.tclrules.specs.Oracle.{HostRefusal, Trace}
 use Rattle.tclrules.specs.Variables.{Variables}
 use Rattle.tclrules.specs.Promise.{Evaluates}
 use Rattle.tclrules.specs.declared.limits.Limits.{Limits}
@@ -25,11 +25,11 @@ use Rattle.modulerun.specs.Running.{context_view, ran_view, eval_reason, file_re
 use Rattle.modulerun.proofs.RunLemmas.{runs_ok, runs_err, of_stop, same_start, same_ran}
 
 -- the context that the host begins with
-pub begun : (cx ctx : FileContext) (start : Environment) (j : JournalState) → j ≡ journal_state cx.mode cx.name.now start [] → ctx ≡ cx → context_with j ctx ≡ context_view cx start
-begun cx ctx start j e d =
-    ap (λ (s : JournalState). context_with s ctx) e ∙ ap (λ (x : FileContext). context_with (journal_state cx.mode cx.name.now start []) x) d
+pub begun : (cx ctx : FileContext) (before : Environment) (j : JournalState) → j ≡ journal_state cx.mode cx.name.now before [] → ctx ≡ cx → context_with j ctx ≡ context_view cx before
+begun cx ctx before j e d =
+    ap (λ (s : JournalState). context_with s ctx) e ∙ ap (λ (x : FileContext). context_with (journal_state cx.mode cx.name.now before []) x) d
 
-abbrev told_of : List (List Text) → List Text → Bool → Option Refusal → Trace
+abbrev told_of : List (List Text) → List Text → Bool → Option HostRefusal → Trace
 told_of words messages mark refusal = record { records = words; messages = messages; asked = mark; refused = refusal }
 
 -- before the file nothing was done
@@ -41,18 +41,18 @@ untold_at j messages mark refusal e d b n =
     ∙ ap (λ (k : Option CommandRefusal). told_of [] [] false (refusal_view k)) n
 
 -- the evaluation is that of the file
-pub started : (limits : Limits) (text : Text) (cx ctx : FileContext) (start : Environment) (j : JournalState) (messages : Vec (String Global) Global) (mark : Bool) (refusal : Option CommandRefusal) (gs : Variables) (r : Result Ending EvalFault) (new : Trace)
-    → j ≡ journal_state cx.mode cx.name.now start [] → ctx ≡ cx → messages.items ≡ [] → mark ≡ false → refusal ≡ None → gs ≡ globals_of cx.path.now
+pub started : (limits : Limits) (text : Text) (cx ctx : FileContext) (before : Environment) (j : JournalState) (messages : Vec (String Global) Global) (mark : Bool) (refusal : Option CommandRefusal) (gs : Variables) (r : Result Ending EvalFault) (new : Trace)
+    → j ≡ journal_state cx.mode cx.name.now before [] → ctx ≡ cx → messages.items ≡ [] → mark ≡ false → refusal ≡ None → gs ≡ globals_of cx.path.now
     → Evaluates limits text gs (oracle_of (context_with j ctx)) (trace_with j messages mark refusal) r new
-    → Evaluates limits text (globals_of cx.path.now) (oracle_of (context_view cx start)) empty_trace r new
-started limits text cx ctx start j messages mark refusal gs r new e d m b n k h =
-    subst (λ (t : Trace). Evaluates limits text (globals_of cx.path.now) (oracle_of (context_view cx start)) t r new) (untold_at j messages mark refusal (ap (λ (s : JournalState). s.words) e) m b n)
-    (subst (λ (c : answers.FileContext). Evaluates limits text (globals_of cx.path.now) (oracle_of c) (trace_with j messages mark refusal) r new) (begun cx ctx start j e d)
+    → Evaluates limits text (globals_of cx.path.now) (oracle_of (context_view cx before)) empty_trace r new
+started limits text cx ctx before j messages mark refusal gs r new e d m b n k h =
+    subst (λ (t : Trace). Evaluates limits text (globals_of cx.path.now) (oracle_of (context_view cx before)) t r new) (untold_at j messages mark refusal (ap (λ (s : JournalState). s.words) e) m b n)
+    (subst (λ (c : answers.FileContext). Evaluates limits text (globals_of cx.path.now) (oracle_of c) (trace_with j messages mark refusal) r new) (begun cx ctx before j e d)
     (subst (λ (vs : Variables). Evaluates limits text vs (oracle_of (context_with j ctx)) (trace_with j messages mark refusal) r new) k h))
 
 pub drafts_ok : (limits : Limits) (c d : answers.FileContext) (text : Text) (trace : Trace) (end : Ending) (r : Result Draft RunFault)
     → Evaluates limits text (globals_of c.path) (oracle_of c) empty_trace (Ok end) trace → oracle_of d ≡ oracle_of c
-    → IfOk r (λ draft. ran_of d trace ≡ Ok (ran_view draft.ran (applied (new_values_in draft.changes) d.start))) → IfErr r (λ fault. fault ≡ OutOfMemory)
+    → IfOk r (λ draft. ran_of d trace ≡ Ok (ran_view draft.ran (applied (new_values_in draft.changes) d.before))) → IfErr r (λ fault. fault ≡ OutOfMemory)
     → Drafts limits c text r
 drafts_ok limits c d text trace end (Ok draft) h same k only =
     runs_ok limits c text trace end _ h

@@ -24,7 +24,7 @@ use Rattle.modulefile.specs.Calls.{CallReason, bad_record, bad_arguments, unknow
 use Rattle.modulefile.specs.CallViews.{reason_of, call_view, HasReason}
 use Rattle.modulefile.specs.RecordViews.{record_view, fault_reason, HasFault}
 use Rattle.modulefile.specs.Answers as answers
-use Rattle.modulefile.specs.Answers.{answered, asked, record_answer, not_done, read, record_name, record_number, refusal_of}
+use Rattle.modulefile.specs.Answers.{command_answer, question_answer, record_answer, not_done, variable_answer, record_name, record_number, refusal_of}
 use Rattle.modulerun.specs.declared.command_refusal.CommandRefusal.{CommandRefusal}
 use Rattle.modulerun.specs.declared.command_refusal.CommandRefusal.TheVariants.{BadRecord}
 use Rattle.modulerun.specs.declared.context.FileContext.{FileContext}
@@ -49,10 +49,10 @@ or_false false = refl
 -- a record that has its effect is added
 pub noted_reply : (s t : JournalState) (cx : FileContext) (messages : Vec (String Global) Global) (mark : Bool) (held : Option CommandRefusal) (words : List Text) (r : records.Record) (text : String Global) (e : Environment)
     → call_of words ≡ Ok (adds_record r) → string_bytes text ≡ [] → t ≡ with_command s words → effect_on s r ≡ Ok e
-    → Replies (answered (context_with s cx) (environment_so_far s) words (call_of words)) (Done text) (trace_with s messages mark held) (trace_with t messages mark held)
+    → Replies (command_answer (context_with s cx) (environment_so_far s) words (call_of words)) (Done text) (trace_with s messages mark held) (trace_with t messages mark held)
 noted_reply s t cx messages mark held words r text e call empty add_command effect =
     by_answer _ (oracle.Done [] (NewRecord words) false) (Done text) (trace_with s messages mark held) (trace_with t messages mark held)
-    (ap (answered (context_with s cx) (environment_so_far s) words) call ∙ ap (record_answer words) effect) (
+    (ap (command_answer (context_with s cx) (environment_so_far s) words) call ∙ ap (record_answer words) effect) (
       NewRecord words,
       false,
       (
@@ -110,35 +110,35 @@ refusal_traced s messages mark held fault n some number reason h =
 pub refused_reply : (s t : JournalState) (cx : FileContext) (messages : Vec (String Global) Global) (mark : Bool) (held : Option CommandRefusal) (words : List Text) (r : records.Record) (fault : RecordFault) (h : HostAnswer) (new : Trace)
     → call_of words ≡ Ok (adds_record r) → t ≡ s → IfSome (fault_reason fault) (λ reason. effect_on s r ≡ Err reason)
     → ((reason : RecordReason) → HasFault reason fault → Replies (not_done (bad_record reason)) h (trace_with t messages mark held) new)
-    → Replies (answered (context_with s cx) (environment_so_far s) words (call_of words)) h (trace_with s messages mark held) new
+    → Replies (command_answer (context_with s cx) (environment_so_far s) words (call_of words)) h (trace_with s messages mark held) new
 refused_reply s t cx messages mark held words r fault h new call same e f = go (fault_reason fault) refl
   where
     at : (reason : RecordReason) → HasFault reason fault → Replies (not_done (bad_record reason)) h (trace_with s messages mark held) new
     at reason k = subst (λ (j : JournalState). Replies (not_done (bad_record reason)) h (trace_with j messages mark held) new) same (f reason k)
 
-    go : (o : Option RecordReason) → fault_reason fault ≡ o → Replies (answered (context_with s cx) (environment_so_far s) words (call_of words)) h (trace_with s messages mark held) new
+    go : (o : Option RecordReason) → fault_reason fault ≡ o → Replies (command_answer (context_with s cx) (environment_so_far s) words (call_of words)) h (trace_with s messages mark held) new
     go None q = from_reasons h (trace_with s messages mark held) new _ (λ reason. at reason (subst (λ o. IfSome o (λ x. x ≡ reason)) (sym q) tt))
     go (Some reason) q =
         let d : effect_on s r ≡ Err reason = subst (λ o. IfSome o (λ x. effect_on s r ≡ Err x)) q e in
         by_answer _ (not_done (bad_record reason)) h (trace_with s messages mark held) new
-        (ap (answered (context_with s cx) (environment_so_far s) words) call ∙ ap (record_answer words) d)
+        (ap (command_answer (context_with s cx) (environment_so_far s) words) call ∙ ap (record_answer words) d)
         (at reason (subst (λ o. IfSome o (λ x. x ≡ reason)) (sym q) refl))
 
 pub call_made : (made : Result Record AllocError) (accepted : Record) (words : List Text) → made ≡ Ok accepted → IfOk made (λ r. call_of words ≡ Ok (adds_record (record_view r))) → call_of words ≡ Ok (adds_record (record_view accepted))
 call_made made accepted words e h = subst (λ (m : Result Record AllocError). IfOk m (λ r. call_of words ≡ Ok (adds_record (record_view r)))) e h
 
-pub read_named : (var value : Text) → is_variable_name var ≡ true → read var value ≡ asked value
-read_named var value e = ap (λ b. if b then asked value else not_done (bad_record (bad_edit (bad_variable var)))) e
+pub read_named : (var value : Text) → is_variable_name var ≡ true → variable_answer var value ≡ question_answer value
+read_named var value e = ap (λ b. if b then question_answer value else not_done (bad_record (bad_edit (bad_variable var)))) e
 
-pub read_unnamed : (var value : Text) → is_variable_name var ≡ false → read var value ≡ not_done (bad_record (bad_edit (bad_variable var)))
-read_unnamed var value e = ap (λ b. if b then asked value else not_done (bad_record (bad_edit (bad_variable var)))) e
+pub read_unnamed : (var value : Text) → is_variable_name var ≡ false → variable_answer var value ≡ not_done (bad_record (bad_edit (bad_variable var)))
+read_unnamed var value e = ap (λ b. if b then question_answer value else not_done (bad_record (bad_edit (bad_variable var)))) e
 
 -- a question is answered
 pub asked_reply : (c : answers.FileContext) (e : Environment) (words : List Text) (call : Call) (made : calls.Call) (text : Text) (h : HostAnswer) (old new : Trace)
-    → call_of words ≡ Ok (call_view call) → call_view call ≡ made → answered c e words (Ok made) ≡ asked text
-    → Replies (asked text) h old new → Replies (answered c e words (call_of words)) h old new
+    → call_of words ≡ Ok (call_view call) → call_view call ≡ made → command_answer c e words (Ok made) ≡ question_answer text
+    → Replies (question_answer text) h old new → Replies (command_answer c e words (call_of words)) h old new
 asked_reply c e words call made text h old new k is a r =
-    by_answer _ (asked text) h old new (ap (answered c e words) (k ∙ ap (λ x. Ok x) is) ∙ a) r
+    by_answer _ (question_answer text) h old new (ap (command_answer c e words) (k ∙ ap (λ x. Ok x) is) ∙ a) r
 
 -- what replies to every reason of a call alike is want of memory
 from_call_reasons : (h : HostAnswer) (old new : Trace) (a : OracleAnswer) → ((reason : CallReason) → Replies (not_done reason) h old new) → Replies a h old new
@@ -152,11 +152,11 @@ from_call_reasons OutOfMemory old new a f = f unknown
 pub fault_reply : (c : answers.FileContext) (e : Environment) (words : List Text) (fault : CallFault) (h : HostAnswer) (old new : Trace)
     → IfSome (reason_of fault) (λ r. call_of words ≡ Err r)
     → ((reason : CallReason) → HasReason reason fault → Replies (not_done reason) h old new)
-    → Replies (answered c e words (call_of words)) h old new
+    → Replies (command_answer c e words (call_of words)) h old new
 fault_reply c e words fault h old new k f = go (reason_of fault) refl
   where
-    go : (o : Option CallReason) → reason_of fault ≡ o → Replies (answered c e words (call_of words)) h old new
+    go : (o : Option CallReason) → reason_of fault ≡ o → Replies (command_answer c e words (call_of words)) h old new
     go None q = from_call_reasons h old new _ (λ reason. f reason (subst (λ o. IfSome o (λ x. x ≡ reason)) (sym q) tt))
     go (Some reason) q =
         let d : call_of words ≡ Err reason = subst (λ o. IfSome o (λ x. call_of words ≡ Err x)) q k in
-        by_answer _ (not_done reason) h old new (ap (answered c e words) d) (f reason (subst (λ o. IfSome o (λ x. x ≡ reason)) (sym q) refl))
+        by_answer _ (not_done reason) h old new (ap (command_answer c e words) d) (f reason (subst (λ o. IfSome o (λ x. x ≡ reason)) (sym q) refl))

@@ -5,7 +5,7 @@ use Rattle.envvars.proofs.EnvLemmas.{same_environment}
 use Rattle.tclrules.specs.Oracle as oracle
 use Rattle.tclrules.specs.Oracle.{Oracle, Trace, Nothing}
 use Rattle.tclrules.specs.Derivation as halts
-use Rattle.tclrules.specs.Derivation.{Outcome, Ended, Halted, World}
+use Rattle.tclrules.specs.Derivation.{EvaluationOutcome, Ended, Halted, World}
 use Rattle.tclrules.specs.Plans as plans
 use Rattle.tclrules.specs.Plans.{Normal, Raised}
 use Rattle.tclrules.specs.Promise.{Evaluates}
@@ -16,7 +16,7 @@ use Rattle.tclrules.specs.declared.outcome.EvalFault.{EvalFault}
 use Rattle.tclrules.specs.declared.outcome.EvalFault.TheVariants as faults
 use Rattle.modulerecords.specs.Effects.{Mode, load, unload, display, whatis}
 use Rattle.modulefile.specs.Calls.{call_of, mode, info, own_name}
-use Rattle.modulefile.specs.Answers.{FileContext, answered, mode_word, oracle_of}
+use Rattle.modulefile.specs.Answers.{FileContext, command_answer, mode_word, oracle_of}
 use Rattle.modulefile.specs.Files as files
 use Rattle.modulefile.specs.Files.{FileReason, failed, halt_reason, RunsFile, FinishesFile, ran_of, empty_trace, globals_of}
 use Rattle.modulerun.specs.Running.{eval_reason}
@@ -25,10 +25,10 @@ pub runs_ok : (limits : Limits) (c : FileContext) (text : Text) (trace : Trace) 
     → Evaluates limits text (globals_of c.path) (oracle_of c) empty_trace (Ok end) trace → ran_of c trace ≡ Ok ran → RunsFile limits c text (Ok ran)
 runs_ok limits c text trace end ran h r = (Ended (Normal (string_bytes end.result) h.0), record { used = end.used_commands; trace = trace }, h.1, (ran, r, refl))
 
-halted_by : (limits : Limits) (c : FileContext) (text : Text) (w : World) (o : Outcome plans.Completion) (halt : halts.Halt)
+halted_by : (limits : Limits) (c : FileContext) (text : Text) (w : World) (o : EvaluationOutcome plans.Completion) (halt : halts.Halt)
     → o ≡ Halted halt → HasOutcome false limits text (globals_of c.path) (oracle_of c) empty_trace o w → RunsFile limits c text (Err (halt_reason halt w.trace.refused))
 halted_by limits c text w o halt e k =
-    (Halted halt, w, subst (λ (x : Outcome plans.Completion). HasOutcome false limits text (globals_of c.path) (oracle_of c) empty_trace x w) e k, refl)
+    (Halted halt, w, subst (λ (x : EvaluationOutcome plans.Completion). HasOutcome false limits text (globals_of c.path) (oracle_of c) empty_trace x w) e k, refl)
 
 pub runs_err : (limits : Limits) (c : FileContext) (text : Text) (trace : Trace) (fault : EvalFault)
     → Evaluates limits text (globals_of c.path) (oracle_of c) empty_trace (Err fault) trace → IfSome (eval_reason fault trace.refused) (λ stop. RunsFile limits c text (Err stop))
@@ -37,7 +37,7 @@ runs_err limits c text trace (faults.Text f) h = halted_by limits c text (record
 runs_err limits c text trace (faults.TclError m n) h = (
   Ended (Raised (string_bytes m) h.2.0),
   record { used = h.1; trace = trace },
-  subst (λ (x : Outcome plans.Completion). HasOutcome false limits text (globals_of c.path) (oracle_of c) empty_trace x (record { used = h.1; trace = trace })) h.2.1 h.3,
+  subst (λ (x : EvaluationOutcome plans.Completion). HasOutcome false limits text (globals_of c.path) (oracle_of c) empty_trace x (record { used = h.1; trace = trace })) h.2.1 h.3,
   ap (λ (line : ℕ). Err (failed (string_bytes m) line)) h.2.2,
 )
 runs_err limits c text trace faults.TooManyCommands h = halted_by limits c text (record { used = h.1; trace = trace }) h.0 _ h.2 h.3
@@ -78,18 +78,18 @@ done_text (oracle.Unknown asks) = []
 done_text (oracle.LeftOut name asks) = []
 done_text (oracle.Refused n name asks) = []
 
-pub same_start : (c d : FileContext) → oracle_of c ≡ oracle_of d → c.start ≡ d.start
-same_start c d e = same_environment c.start d.start (λ q. ap (λ (o : Oracle). o.variable [] q) e)
+pub same_start : (c d : FileContext) → oracle_of c ≡ oracle_of d → c.before ≡ d.before
+same_start c d e = same_environment c.before d.before (λ q. ap (λ (o : Oracle). o.variable [] q) e)
 
 pub same_name : (c d : FileContext) → oracle_of c ≡ oracle_of d → c.name ≡ d.name
 same_name c d e =
     let words = codes "module-info" ∷ codes "name" ∷ [] in
-    sym (ap (λ f. done_text (answered c c.start words f)) name_call) ∙ ap (λ (o : Oracle). done_text (o.command [] words)) e ∙ ap (λ f. done_text (answered d d.start words f)) name_call
+    sym (ap (λ f. done_text (command_answer c c.before words f)) name_call) ∙ ap (λ (o : Oracle). done_text (o.command [] words)) e ∙ ap (λ f. done_text (command_answer d d.before words f)) name_call
 
 pub same_mode : (c d : FileContext) → oracle_of c ≡ oracle_of d → c.mode ≡ d.mode
 same_mode c d e =
     let words = codes "module-info" ∷ codes "mode" ∷ [] in
-    let w : mode_word c.mode ≡ mode_word d.mode = sym (ap (λ f. done_text (answered c c.start words f)) mode_call) ∙ ap (λ (o : Oracle). done_text (o.command [] words)) e ∙ ap (λ f. done_text (answered d d.start words f)) mode_call in
+    let w : mode_word c.mode ≡ mode_word d.mode = sym (ap (λ f. done_text (command_answer c c.before words f)) mode_call) ∙ ap (λ (o : Oracle). done_text (o.command [] words)) e ∙ ap (λ f. done_text (command_answer d d.before words f)) mode_call in
     sym (named_again c.mode) ∙ ap mode_named w ∙ named_again d.mode
 
 -- so the records have the same outcome
@@ -97,4 +97,4 @@ pub same_ran : (c d : FileContext) (trace : Trace) → oracle_of c ≡ oracle_of
 same_ran c d trace e =
     ap (λ m. ran_of (record c { mode = m }) trace) (same_mode c d e)
     ∙ ap (λ n. ran_of (record c { mode = d.mode; name = n }) trace) (same_name c d e)
-    ∙ ap (λ s. ran_of (record c { mode = d.mode; name = d.name; start = s }) trace) (same_start c d e)
+    ∙ ap (λ s. ran_of (record c { mode = d.mode; name = d.name; before = s }) trace) (same_start c d e)

@@ -5,7 +5,7 @@ use Rattle.std.specs.declared.vec.Vec.{Vec}
 use Rattle.std.specs.declared.alloc.Global.{Global}
 use Rattle.envvars.specs.Texts.{Text, texts_in}
 use Rattle.tclrules.specs.Oracle as oracle
-use Rattle.tclrules.specs.Oracle.{OracleAnswer, Refusal, Trace, unnamed}
+use Rattle.tclrules.specs.Oracle.{OracleAnswer, HostRefusal, Trace, unnamed}
 use Rattle.tclrules.specs.Derivation.{perhaps_asked}
 use Rattle.tclrules.specs.Hosts.{TracesAnswer}
 use Rattle.tclrules.specs.declared.host.HostAnswer.{HostAnswer}
@@ -25,16 +25,16 @@ context_with s c =
     record {
       mode = mode_view s.mode;
       in_switch = c.in_switch;
-      name = s.owner;
+      name = s.module_name;
       path = c.path.now;
       shell = c.shell;
       typed = c.typed.now;
       loaded = map string_bytes c.loaded.now;
-      start = s.start;
+      before = s.before;
     }
 
 -- the refusal that the host remembers, by number and name
-abbrev pub refusal_view : Option CommandRefusal → Option Refusal
+abbrev pub refusal_view : Option CommandRefusal → Option HostRefusal
 refusal_view None = None
 refusal_view (Some BadArguments) = Some (unnamed 56)
 refusal_view (Some (BadRecord fault)) = option_map refusal_of (fault_reason fault)

@@ -4,7 +4,7 @@ use Rattle.std.specs.Option.{option_map}
 use Rattle.envvars.specs.Texts.{Text}
 use Rattle.envvars.specs.Environment.{Environment}
 use Rattle.envvars.specs.Changes.{applied, new_values_in}
-use Rattle.tclrules.specs.Oracle.{Refusal, unnamed}
+use Rattle.tclrules.specs.Oracle.{HostRefusal, unnamed}
 use Rattle.tclrules.specs.Derivation as halts
 use Rattle.tclrules.specs.Derivation.{Halt}
 use Rattle.tclrules.specs.declared.limits.Limits.{Limits}
@@ -21,9 +21,10 @@ use Rattle.modulerun.specs.declared.run.Draft.{Draft}
 use Rattle.modulerun.specs.declared.run_fault.RunFault.{RunFault}
 use Rattle.modulerun.specs.declared.run_fault.RunFault.TheVariants.{OutOfMemory, Eval, BadArguments, BadRecord}
 
+-- `FileContext` of the code is without the environment.
 -- the context, with the environment from before the file
 abbrev pub context_view : FileContext → Environment → answers.FileContext
-context_view c start =
+context_view c before =
     record {
       mode = mode_view c.mode;
       in_switch = c.in_switch;
@@ -32,7 +33,7 @@ context_view c start =
       shell = c.shell;
       typed = c.typed.now;
       loaded = map string_bytes c.loaded.now;
-      start = start;
+      before = before;
     }
 
 -- what an accepted file leaves, with the environment after it
@@ -46,7 +47,7 @@ ran_view ran env =
     }
 
 -- the reason of a fault of the evaluation, with the refusal that the host remembers; OutOfMemory has none
-abbrev pub eval_reason : EvalFault → Option Refusal → Option FileReason
+abbrev pub eval_reason : EvalFault → Option HostRefusal → Option FileReason
 eval_reason faults.OutOfMemory refusal = None
 eval_reason (faults.Text fault) refusal = Some (halted (halts.BadText fault))
 eval_reason (faults.TclError message line) refusal = Some (failed (string_bytes message) line)
@@ -70,11 +71,11 @@ file_reason_of (BadRecord fault) = option_map (λ reason. refused (refusal_of re
 -- file is the one that it leaves, and after a refused one the old one.
 abbrev pub RunsTo : Limits → answers.FileContext → Text → Result Ran RunFault → Environment → Type 0
 RunsTo limits c text (Ok ran) new = RunsFile limits c text (Ok (ran_view ran new))
-RunsTo limits c text (Err fault) new = (new ≡ c.start) × IfSome (file_reason_of fault)
+RunsTo limits c text (Err fault) new = (new ≡ c.before) × IfSome (file_reason_of fault)
     (λ stop. RunsFile limits c text (Err stop))
 
 -- The same of a file whose changes aren't applied yet.
 abbrev pub Drafts : Limits → answers.FileContext → Text → Result Draft RunFault → Type 0
 Drafts limits c text (Ok draft) =
-    RunsFile limits c text (Ok (ran_view draft.ran (applied (new_values_in draft.changes) c.start)))
+    RunsFile limits c text (Ok (ran_view draft.ran (applied (new_values_in draft.changes) c.before)))
 Drafts limits c text (Err fault) = IfSome (file_reason_of fault) (λ stop. RunsFile limits c text (Err stop))

@@ -10,7 +10,7 @@ ghost use Rattle.modulefile.specs.Answers.{records_in};
 ghost use Rattle.modulefile.specs.RecordViews.{mode_view, record_view, IsEdited};
 ghost use Rattle.modulerun.specs.Journals.{environment_so_far, journal_state, AddsCommand};
 
-use crate::entry::Entry;
+use crate::accepted::AcceptedCommand;
 use envvars::fields::copies;
 use envvars::{Change, EnvFault, Vars, Working};
 use modulefile::{Mode, Record, RecordFault, effect};
@@ -22,8 +22,8 @@ use std::marker::Model;
 pub(crate) struct Journal<'a, V: Vars> {
     alloc: Global,
     mode: Mode,
-    owner: &'a str,
-    entries: Vec<Entry>,
+    module_name: &'a str,
+    entries: Vec<AcceptedCommand>,
     working: Working<'a, V>,
 }
 
@@ -33,7 +33,7 @@ impl<'a, V: Vars> Drop for Journal<'a, V> {
         let Journal {
             alloc: _alloc,
             mode: _mode,
-            owner: _owner,
+            module_name: _owner,
             entries: _entries,
             working: _working,
         } = self;
@@ -48,9 +48,9 @@ impl<'a, V: Vars> Model for Journal<'a, V> {
 
     ghost coded = { journal_code };
 
-    ghost view = { λ a. journal_state a.mode a.owner.now a.working.old (words_of a.entries.items) };
+    ghost view = { λ a. journal_state a.mode a.module_name.now a.working.old (words_of a.entries.items) };
 
-    ghost invariant = { λ a. IsJournal (mode_view a.mode) a.owner.now a.working.old a.working.new a.entries.items };
+    ghost invariant = { λ a. IsJournal (mode_view a.mode) a.module_name.now a.working.old a.working.new a.entries.items };
 }
 
 /// The records of an accepted file, and the changes that they make of the environment.
@@ -64,30 +64,30 @@ pub(crate) struct FinishedFile {
 fn add_entry<V: Vars>(
     alloc: Global,
     mode: Mode,
-    owner: &str,
-    entry: Entry,
-    entries: &mut Vec<Entry>,
+    module_name: &str,
+    entry: AcceptedCommand,
+    entries: &mut Vec<AcceptedCommand>,
     env: &mut V,
 ) -> Result<(), RecordFault>
     ensures ok { OnOk result (entries.new.items ≡ entries.old.items ++ entry ∷ []) }
     ensures err { OnErr result (entries.new.items ≡ entries.old.items) }
     ensures edits { IsEdited result (V.vars env.old) (V.vars env.new)
-        (effect (mode_view mode) owner.now (record_view entry.recorded) (V.vars env.old)) }
+        (effect (mode_view mode) module_name.now (record_view entry.recorded) (V.vars env.old)) }
     ensures base { V.base env.new ≡ V.base env.old }
 {
     entries.reserve(1)?;
-    effect(alloc, mode, owner, &entry.recorded, env)?;
+    effect(alloc, mode, module_name, &entry.recorded, env)?;
     entries.push_reserved(entry);
     Ok(())
 }
 
 /// The records of the entries, in order.
-fn records_of(alloc: Global, entries: Vec<Entry>) -> Result<Vec<Record>, AllocError>
+fn records_of(alloc: Global, entries: Vec<AcceptedCommand>) -> Result<Vec<Record>, AllocError>
     ensures { IfOk result (λ v. v.items ≡ map (λ entry. entry.recorded) entries.items) }
 {
     let mut records = Vec::new(alloc);
     for entry in entries {
-        let Entry {
+        let AcceptedCommand {
             words: _words,
             recorded,
         } = entry;
@@ -98,15 +98,15 @@ fn records_of(alloc: Global, entries: Vec<Entry>) -> Result<Vec<Record>, AllocEr
 
 impl<'a, V: Vars> Journal<'a, V> {
     /// A journal without entries over the environment before the file.
-    pub(crate) fn over(alloc: Global, mode: Mode, owner: &'a str, start: &'a V) -> Self
-        ensures { result ≡ journal_state mode owner.entry.now (V.vars start.entry.now) [] }
+    pub(crate) fn over(alloc: Global, mode: Mode, module_name: &'a str, before: &'a V) -> Self
+        ensures { result ≡ journal_state mode module_name.entry.now (V.vars before.entry.now) [] }
     {
         Journal {
             alloc,
             mode,
-            owner,
+            module_name,
             entries: Vec::new(alloc),
-            working: Working::over_vars(alloc, start),
+            working: Working::over_vars(alloc, before),
         }
     }
 
@@ -118,10 +118,10 @@ impl<'a, V: Vars> Journal<'a, V> {
     }
 
     /// The full name of its module.
-    pub(crate) fn owner(&self) -> &str
-        ensures { result.now ≡ self.now.owner }
+    pub(crate) fn module_name(&self) -> &str
+        ensures { result.now ≡ self.now.module_name }
     {
-        self.owner
+        self.module_name
     }
 
     /// The value of a variable, as the file finds it.
@@ -144,8 +144,8 @@ impl<'a, V: Vars> Journal<'a, V> {
         add_entry(
             self.alloc,
             self.mode,
-            self.owner,
-            Entry { words, recorded },
+            self.module_name,
+            AcceptedCommand { words, recorded },
             &mut self.entries,
             &mut self.working,
         )
@@ -154,15 +154,15 @@ impl<'a, V: Vars> Journal<'a, V> {
     /// The records, and their changes of the environment. It fails for `OutOfMemory` alone.
     pub(crate) fn finish(self) -> Result<FinishedFile, EnvFault>
         ensures records { IfOk result (λ file. records_in self.entry.words ≡ Ok (map record_view file.records.items)) }
-        ensures changes { IfOk result (λ file. effects (mode_view self.entry.mode) self.entry.owner
-            (map record_view file.records.items) self.entry.start
-            ≡ Ok (applied (new_values_in file.changes) self.entry.start)) }
+        ensures changes { IfOk result (λ file. effects (mode_view self.entry.mode) self.entry.module_name
+            (map record_view file.records.items) self.entry.before
+            ≡ Ok (applied (new_values_in file.changes) self.entry.before)) }
         ensures only { IfErr result (λ e. e ≡ OutOfMemory) }
     {
         let Journal {
             alloc,
             mode: _mode,
-            owner: _owner,
+            module_name: _owner,
             entries,
             working,
         } = self;

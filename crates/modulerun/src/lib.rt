@@ -3,9 +3,9 @@
 //! Used by requeststep.
 #![tactic(auto)]
 
+mod accepted;
 mod command_refusal;
 mod context;
-mod entry;
 mod journal;
 mod questions;
 mod recording;

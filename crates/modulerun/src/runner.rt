@@ -7,7 +7,7 @@ ghost use Rattle.modulerecords.specs.Judgments.{RecordReason};
 ghost use Rattle.modulefile.specs.Calls.{CallReason, bad_record, adds_record, call_of};
 ghost use Rattle.modulefile.specs.CallViews.{HasReason, call_view, field_view};
 ghost use Rattle.modulefile.specs.RecordViews.{mode_view, record_view, HasFault};
-ghost use Rattle.modulefile.specs.Answers.{answered, any_loaded, asked, not_done, read, truth};
+ghost use Rattle.modulefile.specs.Answers.{command_answer, any_loaded, question_answer, not_done, variable_answer, truth};
 ghost use Rattle.modulefile.specs.Answers.{field_text, field_test, value_shown};
 ghost use Rattle.modulefile.specs.Files.{ran_of};
 ghost use Rattle.modulerun.specs.declared.run_fault.RunFault.TheVariants.{OutOfMemory};
@@ -54,9 +54,9 @@ impl<'a, V: Vars> Drop for Runner<'a, V> {
 
 impl<'a, V: Vars> Runner<'a, V> {
     /// The host of a file before its first command.
-    pub(crate) fn over(alloc: Global, context: FileContext<'a>, start: &'a V) -> Self
+    pub(crate) fn over(alloc: Global, context: FileContext<'a>, before: &'a V) -> Self
         ensures journal { result.journal
-            ≡ journal_state context.entry.mode context.entry.name.now (V.vars start.entry.now) [] }
+            ≡ journal_state context.entry.mode context.entry.name.now (V.vars before.entry.now) [] }
         ensures context { result.context ≡ context.entry }
         ensures messages { result.messages.items ≡ [] }
         ensures asked { result.asked ≡ false }
@@ -65,7 +65,7 @@ impl<'a, V: Vars> Runner<'a, V> {
         Runner {
             alloc,
             context,
-            journal: Journal::over(alloc, context.mode, context.name, start),
+            journal: Journal::over(alloc, context.mode, context.name, before),
             messages: Vec::new(alloc),
             asked: false,
             refusal: None,
@@ -106,7 +106,7 @@ impl<'a, V: Vars> Runner<'a, V> {
     /// Adds the record of a command to the journal, where it has its effect.
     fn add_record(&mut self, words: &[String], recorded: Result<Record, AllocError>) -> HostAnswer
         requires { IfOk recorded (λ r. call_of (map string_bytes words.now) ≡ Ok (adds_record (record_view r))) }
-        ensures replies { Replies (answered (context_of self.old) (environment_so_far self.old.journal)
+        ensures replies { Replies (command_answer (context_of self.old) (environment_so_far self.old.journal)
             (map string_bytes words.now) (call_of (map string_bytes words.now))) result
             (trace_of self.old) (trace_of self.new) }
         ensures same { context_of self.new ≡ context_of self.old }
@@ -134,7 +134,7 @@ impl<'a, V: Vars> Runner<'a, V> {
 
     /// Answers a question, and marks that the file asked.
     fn answer_question(&mut self, text: Result<String, AllocError>) -> HostAnswer
-        ensures replies { (t : Text) → IfOk text (λ s. string_bytes s ≡ t) → Replies (asked t) result
+        ensures replies { (t : Text) → IfOk text (λ s. string_bytes s ≡ t) → Replies (question_answer t) result
             (trace_of self.old) (trace_of self.new) }
         ensures same { context_of self.new ≡ context_of self.old }
     {
@@ -147,10 +147,10 @@ impl<'a, V: Vars> Runner<'a, V> {
 
     /// Answers `module-info name`, which is no question: a name is the same in every context of the file.
     fn own_name(&self) -> HostAnswer
-        ensures replies { Replies (Done self.now.journal.owner Nothing false) result
+        ensures replies { Replies (Done self.now.journal.module_name Nothing false) result
             (trace_of self.now) (trace_of self.now) }
     {
-        match String::from_str(self.alloc, self.journal.owner()) {
+        match String::from_str(self.alloc, self.journal.module_name()) {
             Ok(name) => HostAnswer::Done(name),
             Err(_) => HostAnswer::OutOfMemory,
         }
@@ -172,7 +172,7 @@ impl<'a, V: Vars> Runner<'a, V> {
 
     /// Answers `getenv`.
     fn getenv(&mut self, var: &str, default: &str) -> HostAnswer
-        ensures replies { Replies (read var.now
+        ensures replies { Replies (variable_answer var.now
             (value_shown (mode_view self.old.journal.mode)
             (environment_so_far self.old.journal) var.now default.now)) result
             (trace_of self.old) (trace_of self.new) }
@@ -210,7 +210,7 @@ impl<'a, V: Vars> Runner<'a, V> {
 
     /// Answers `is-loaded`: whether a name means a loaded module, or without a name whether any is loaded.
     fn is_loaded(&mut self, names: &[String]) -> HostAnswer
-        ensures replies { Replies (asked (truth (any_loaded (map string_bytes names.now)
+        ensures replies { Replies (question_answer (truth (any_loaded (map string_bytes names.now)
             (map string_bytes self.old.context.loaded.now)))) result
             (trace_of self.old) (trace_of self.new) }
         ensures same { context_of self.new ≡ context_of self.old }
@@ -222,7 +222,7 @@ impl<'a, V: Vars> Runner<'a, V> {
     /// What the file leaves, where its evaluation ended without a fault. It fails for `OutOfMemory` alone.
     pub(crate) fn finish(self) -> Result<Draft, RunFault>
         ensures ok { IfOk result (λ draft. ran_of (context_of self.entry) (trace_of self.entry)
-            ≡ Ok (ran_view draft.ran (applied (new_values_in draft.changes) self.entry.journal.start))) }
+            ≡ Ok (ran_view draft.ran (applied (new_values_in draft.changes) self.entry.journal.before))) }
         ensures only { IfErr result (λ fault. fault ≡ OutOfMemory) }
     {
         let Runner {
@@ -261,7 +261,7 @@ impl<'a, V: Vars> Runner<'a, V> {
     /// Does a command, and answers it.
     fn answer(&mut self, words: &[String], call: Call<'_>) -> HostAnswer
         requires { call_of (map string_bytes words.now) ≡ Ok (call_view call) }
-        ensures replies { Replies (answered (context_of self.old) (environment_so_far self.old.journal)
+        ensures replies { Replies (command_answer (context_of self.old) (environment_so_far self.old.journal)
             (map string_bytes words.now) (call_of (map string_bytes words.now))) result
             (trace_of self.old) (trace_of self.new) }
         ensures same { context_of self.new ≡ context_of self.old }

@@ -1,15 +1,15 @@
 -- Sessions grow by one request at their end.
 use Rattle.std.proofs.Common.{◌≡◌, ℕ, true, ◌+◌, ◌≤◌, ◌<◌, List, [], ◌∷◌, ◌++◌, map, refl, sym, subst, ap, ◌∙◌, Ok, Err, append_assoc, append-nil, arith}
 use Rattle.envvars.specs.Environment.{Environment}
-use Rattle.requests.specs.Laws.{SessionsReturn, StepsAreMade}
+use Rattle.requests.specs.Laws.{SessionsReturn, StepsAreTheirMoves}
 use Rattle.requests.specs.Reasons.{RequestReason}
 use Rattle.requests.specs.RequestViews.{request_view}
 use Rattle.requests.specs.Requests.{RequestedAction, Request}
 use Rattle.requests.specs.declared.action.Request as code
-use Rattle.requests.specs.Returning.{AreNew, AreFitting}
+use Rattle.requests.specs.Returning.{AreNew, AreReversibleBeside}
 use Rattle.requests.specs.Sessions as sessions
 use Rattle.requests.specs.Sessions.{Response, Session, IsResponse, env_after, in_shell, is_given_up_by, session_moves}
-use Rattle.requests.specs.Steps.{Site, RequestStep}
+use Rattle.requests.specs.Steps.{RequestContext, RequestStep}
 use Rattle.filetree.specs.Agreement.{Files, Listings, InEachPair}
 use Rattle.filetree.specs.Causes.{Cause, Applies, memory, device, because}
 use Rattle.requeststep.specs.Answers.{cause_of}
@@ -33,7 +33,7 @@ responses_push e [] o = refl
 responses_push e (p ∷ os) o = ap (λ rs. response_of e p ∷ rs) (responses_push (env_after e (response_of e p)) os o)
 
 -- the moves of an accepted step make the environment that results
-pub made_by_moves : StepsAreMade → (s : Site) (e new : Environment) (asked : RequestedAction) (done : Done) → RequestStep s e asked (Ok (done_view done new)) → new ≡ env_after_moves e done
+pub made_by_moves : StepsAreTheirMoves → (s : RequestContext) (e new : Environment) (asked : RequestedAction) (done : Done) → RequestStep s e asked (Ok (done_view done new)) → new ≡ env_after_moves e done
 made_by_moves law s e new asked done step = sym (ap (accepted_in e) (law s e asked (done_view done new) step))
 
 plus_assoc : (a b c : ℕ) → a + (b + c) ≡ (a + b) + c
@@ -75,7 +75,7 @@ pub refused_counts : (before after : ℕ) (refusal : Refusal) (Is : RequestReaso
     → before + count_failed (Refused refusal ∷ []) ≤ after
 refused_counts before after refusal Is later h = cause_counts (cause_of refusal) before after Is later h
 
-pub responds : StepsAreMade → (s : Site) (e new : Environment) (asked : RequestedAction) (done : Done) → RequestStep s e asked (Ok (done_view done new)) → IsResponse s e asked (response_of e (Accepted done))
+pub responds : StepsAreTheirMoves → (s : RequestContext) (e new : Environment) (asked : RequestedAction) (done : Done) → RequestStep s e asked (Ok (done_view done new)) → IsResponse s e asked (response_of e (Accepted done))
 responds law s e new asked done step =
     let P : Environment → Type 0 = λ x. RequestStep s e asked (Ok (done_view done x)) in
     subst P (made_by_moves law s e new asked done step) step
@@ -84,17 +84,17 @@ responds law s e new asked done step =
 pub memory_is_cause : (refusal : Refusal) → is_given_up_by (memory_number refusal) ≡ true
 memory_is_cause refusal = of_three refusal (λ n. is_given_up_by n ≡ true) refl refl refl
 
-cause_responds : (out_of_memory : ℕ) → is_given_up_by out_of_memory ≡ true → (c : Cause RequestReason) (agrees : Files → Listings → Type 0) (failed : Type 0) (site : Files → Listings → Site) (e : Environment) (asked : RequestedAction)
-    → Applies c failed (λ r. InEachPair agrees (λ files listings. RequestStep (site files listings) e asked (Err r)))
-    → InEachPair agrees (λ files listings. IsResponse (site files listings) e asked (by_cause (number_by out_of_memory c) c))
-cause_responds out_of_memory is memory agrees failed site e asked h = λ files listings agreed. is
-cause_responds out_of_memory is device agrees failed site e asked h = λ files listings agreed. refl
-cause_responds out_of_memory is (because r) agrees failed site e asked h = h
+cause_responds : (out_of_memory : ℕ) → is_given_up_by out_of_memory ≡ true → (c : Cause RequestReason) (agrees : Files → Listings → Type 0) (failed : Type 0) (context : Files → Listings → RequestContext) (e : Environment) (asked : RequestedAction)
+    → Applies c failed (λ r. InEachPair agrees (λ files listings. RequestStep (context files listings) e asked (Err r)))
+    → InEachPair agrees (λ files listings. IsResponse (context files listings) e asked (by_cause (number_by out_of_memory c) c))
+cause_responds out_of_memory is memory agrees failed context e asked h = λ files listings agreed. is
+cause_responds out_of_memory is device agrees failed context e asked h = λ files listings agreed. refl
+cause_responds out_of_memory is (because r) agrees failed context e asked h = h
 
-pub refused_responds : (refusal : Refusal) (agrees : Files → Listings → Type 0) (failed : Type 0) (site : Files → Listings → Site) (e : Environment) (asked : RequestedAction)
-    → Applies (cause_of refusal) failed (λ r. InEachPair agrees (λ files listings. RequestStep (site files listings) e asked (Err r)))
-    → InEachPair agrees (λ files listings. IsResponse (site files listings) e asked (response_of e (Refused refusal)))
-refused_responds refusal agrees failed site e asked h = cause_responds (memory_number refusal) (memory_is_cause refusal) (cause_of refusal) agrees failed site e asked h
+pub refused_responds : (refusal : Refusal) (agrees : Files → Listings → Type 0) (failed : Type 0) (context : Files → Listings → RequestContext) (e : Environment) (asked : RequestedAction)
+    → Applies (cause_of refusal) failed (λ r. InEachPair agrees (λ files listings. RequestStep (context files listings) e asked (Err r)))
+    → InEachPair agrees (λ files listings. IsResponse (context files listings) e asked (response_of e (Refused refusal)))
+refused_responds refusal agrees failed context e asked h = cause_responds (memory_number refusal) (memory_is_cause refusal) (cause_of refusal) agrees failed context e asked h
 
 cause_leaves : (number : ℕ) (c : Cause RequestReason) (e : Environment) → e ≡ env_after e (by_cause number c)
 cause_leaves number memory e = refl
@@ -107,11 +107,11 @@ refused_leaves refusal e new same = same ∙ cause_leaves (number_of refusal) (c
 -- ---- sessions
 
 -- the law of sessions, of all the ways to cut one in two
-pub session_returning : SessionsReturn → (s : Site) (start : Environment) (rs : List Request) (os : List Response) → Session s start rs os → Returns start os
+pub session_returning : SessionsReturn → (s : RequestContext) (start : Environment) (rs : List Request) (os : List Response) → Session s start rs os → Returns start os
 session_returning law s start rs os session uses is_start are_new fitting before after cut =
     let Runs : List Response → Type 0 = λ x. Session s start rs x in
     let New : List Response → Type 0 = λ x. AreNew start (session_moves x) in
-    let Fits : List Response → Type 0 = λ x. AreFitting uses [] (session_moves x) in
+    let Fits : List Response → Type 0 = λ x. AreReversibleBeside uses [] (session_moves x) in
     law uses s start rs before after is_start (subst Runs cut session) (subst New cut are_new) (subst Fits cut fitting)
 
 -- a request more, after those with an answer
@@ -126,7 +126,7 @@ session_grows start e new outcomes o end after =
     )
 
 -- what the rest of a session has as responses, the whole has after those so far
-pub session_taken : (s : Site) (start e new : Environment) (asked : Request) (rs all : List Request) (sofar : List Response) (grown : List Response) (o : Response)
+pub session_taken : (s : RequestContext) (start e new : Environment) (asked : Request) (rs all : List Request) (sofar : List Response) (grown : List Response) (o : Response)
     → (os : List Response) → (Session s e (asked ∷ rs) (o ∷ os) → Session s start all (sofar ++ o ∷ os))
     → IsResponse (in_shell s asked.0) e asked.1 o → new ≡ env_after e o → grown ≡ sofar ++ o ∷ []
     → Session s new rs os → Session s start all (grown ++ os)
@@ -136,7 +136,7 @@ session_taken s start e new asked rs all sofar grown o os run is_response end mo
     subst Q (sym (append_assoc sofar (o ∷ []) os) ∙ ap (λ x. x ++ os) (sym more)) (run (is_response, subst P end rest))
 
 -- no request remains
-pub session_done : (s : Site) (start e : Environment) (rest : List code.Request) (all : List Request) (sofar : List Response) → rest ≡ []
+pub session_done : (s : RequestContext) (start e : Environment) (rest : List code.Request) (all : List Request) (sofar : List Response) → rest ≡ []
     → ((os : List Response) → Session s e (map request_view rest) os → Session s start all (sofar ++ os)) → Session s start all sofar
 session_done s start e rest all sofar none run =
     let Whole : List Response → Type 0 = λ x. Session s start all x in

@@ -2,14 +2,14 @@
 use Rattle.std.specs.Prelude.{◌≡◌, ℕ, Bool, false, ◌+◌, List, [], ◌∷◌, ◌++◌, Result, Ok, Err}
 use Rattle.envvars.specs.Texts.{Text}
 use Rattle.envvars.specs.Environment.{Environment}
-use Rattle.modulerecords.specs.Moves.{made}
+use Rattle.modulerecords.specs.Moves.{all_moved}
 use Rattle.reversal.specs.VariableUses.{VariableUse}
 use Rattle.reversal.specs.Starts.{IsStart}
 use Rattle.reversal.specs.Runs.{live_after}
 use Rattle.reversal.specs.Laws.{Holds}
 use Rattle.requests.specs.Sessions as sessions
 use Rattle.requests.specs.Sessions.{Response, accepted, refused, given_up, env_after, session_moves}
-use Rattle.requests.specs.Returning.{AreNew, AreFitting}
+use Rattle.requests.specs.Returning.{AreNew, AreReversibleBeside}
 use Rattle.requests.specs.Reasons.{RequestReason}
 use Rattle.filetree.specs.Causes.{Cause, memory, device, because}
 use Rattle.requeststep.specs.Answers.{cause_of, is_failure}
@@ -27,7 +27,7 @@ accepted_in e (Err reason) = e
 
 -- the environment that the moves of a request make
 abbrev pub env_after_moves : Environment → Done → Environment
-env_after_moves e done = accepted_in e (made (moves_of done.moves) e)
+env_after_moves e done = accepted_in e (all_moved (moves_of done.moves) e)
 
 -- a refusal as a response: given up by its number where its cause is no reason of the step
 abbrev pub by_cause : ℕ → Cause RequestReason → Response
@@ -72,5 +72,5 @@ count_failed (o ∷ os) = count_one o + count_failed os
 abbrev pub Returns : Environment → List Response → Type 0
 Returns start os =
     (uses : Text → VariableUse) → IsStart uses start → AreNew start (session_moves os)
-    → AreFitting uses [] (session_moves os) → (before after : List Response) → os ≡ before ++ after
+    → AreReversibleBeside uses [] (session_moves os) → (before after : List Response) → os ≡ before ++ after
     → Holds uses start (live_after [] (session_moves before)) (sessions.end_environment start before)

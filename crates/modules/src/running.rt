@@ -3,7 +3,7 @@ ghost use Rattle.std.specs.Prelude.{◌<◌, IfOk, IfErr};
 ghost use Rattle.envvars.specs.Changes.{AreChanges, new_values_in};
 ghost use Rattle.filetree.specs.Agreement.{FailsAt, InEachPair, ReadsOn};
 ghost use Rattle.requests.specs.RequestViews.{action_view};
-ghost use Rattle.requests.specs.Steps.{RequestStep, site_in};
+ghost use Rattle.requests.specs.Steps.{RequestStep, request_context_in};
 ghost use Rattle.requests.specs.Looked.{RequestLooksAt};
 ghost use Rattle.requeststep.specs.Answers.{StepAnswersOverTree, is_failure};
 ghost use Rattle.requeststep.specs.Messages.{MemoryNumberAmong, memory_numbers};
@@ -33,14 +33,14 @@ pub fn run_changes<T: Tree>(
     ensures reads { ReadsOn T.agrees T.failures tree.old tree.new }
     ensures over_tree { StepAnswersOverTree (T.agrees tree.new) (T.failures tree.old < T.failures tree.new)
         (changed_view env.now) result
-        (λ files listings. RequestStep (site_in limits request.now.shell files listings) env.now
+        (λ files listings. RequestStep (request_context_in limits request.now.shell files listings) env.now
         (action_view request.now.action)) }
     ensures out_of_memory { IfErr result (MemoryNumberAmong (memory_numbers (action_view request.now.action))) }
     ensures exact { IfOk result (λ changed.
         AreChanges env.now (changed_env env.now changed) (new_values_in changed.changes)) }
     ensures failed { FailsAt is_failure (T.failed tree.old) (T.failed tree.new) result (λ at.
         InEachPair (T.agrees tree.new) (λ files listings.
-        RequestLooksAt (site_in limits request.now.shell files listings) env.now
+        RequestLooksAt (request_context_in limits request.now.shell files listings) env.now
         (action_view request.now.action) at)) }
 {
     envvars::laws::changes();
@@ -68,12 +68,12 @@ pub fn run<T: Tree>(
     ensures reads { ReadsOn T.agrees T.failures tree.old tree.new }
     ensures over_tree { StepAnswersOverTree (T.agrees tree.new)
         (T.failures tree.old < T.failures tree.new) reply_view result
-        (λ files listings. RequestStep (site_in limits request.now.shell files listings) env.now
+        (λ files listings. RequestStep (request_context_in limits request.now.shell files listings) env.now
         (action_view request.now.action)) }
     ensures out_of_memory { IfErr result (MemoryNumberAmong (memory_numbers (action_view request.now.action))) }
     ensures failed { FailsAt is_failure (T.failed tree.old) (T.failed tree.new) result (λ at.
         InEachPair (T.agrees tree.new) (λ files listings.
-        RequestLooksAt (site_in limits request.now.shell files listings) env.now
+        RequestLooksAt (request_context_in limits request.now.shell files listings) env.now
         (action_view request.now.action) at)) }
 {
     let changed = run_changes(alloc, request, env, tree, limits)?;

@@ -4,7 +4,7 @@ ghost use Rattle.filetree.specs.Agreement.{FailsAt, FailsIf, InEachPair, Narrows
 ghost use Rattle.shells.specs.declared.shell.Shell.{Shell};
 ghost use Rattle.requests.specs.RequestViews.{action_view, request_view};
 ghost use Rattle.requests.specs.Sessions.{Session, IsResponse, env_after, end_environment};
-ghost use Rattle.requests.specs.Steps.{RequestStep, site_in};
+ghost use Rattle.requests.specs.Steps.{RequestStep, request_context_in};
 ghost use Rattle.requests.specs.Looked.{RequestLooksAt};
 ghost use Rattle.requeststep.specs.Answers.{StepAnswersOverTree, is_failure};
 ghost use Rattle.requeststep.specs.Views.{done_view};
@@ -39,12 +39,12 @@ fn change<T: Tree>(
     ensures reads { ReadsOn T.agrees T.failures tree.old tree.new }
     ensures over_tree { StepAnswersOverTree (T.agrees tree.new) (T.failures tree.old < T.failures tree.new)
         (λ done. done_view done env.new) result
-        (λ files listings. RequestStep (site_in limits request.now.shell files listings) env.old
+        (λ files listings. RequestStep (request_context_in limits request.now.shell files listings) env.old
         (action_view request.now.action)) }
     ensures unchanged { OnErr result (env.new ≡ env.old) }
     ensures failed { FailsAt is_failure (T.failed tree.old) (T.failed tree.new) result (λ at.
         InEachPair (T.agrees tree.new) (λ files listings.
-        RequestLooksAt (site_in limits request.now.shell files listings) env.old
+        RequestLooksAt (request_context_in limits request.now.shell files listings) env.old
         (action_view request.now.action) at)) }
 {
     let changed = run_changes(alloc, request, env, tree, limits)?;
@@ -72,13 +72,13 @@ pub fn respond<T: Tree>(
     ensures narrows { Narrows (T.agrees tree.old) (T.agrees tree.new) }
     ensures failures { T.failures tree.old + count_failed (result ∷ []) ≤ T.failures tree.new }
     ensures answer { InEachPair (T.agrees tree.new) (λ files listings.
-        IsResponse (site_in limits request.now.shell files listings) env.old (action_view request.now.action)
+        IsResponse (request_context_in limits request.now.shell files listings) env.old (action_view request.now.action)
         (response_of env.old result)) }
     ensures end { InEachPair (T.agrees tree.new) (λ files listings.
         env.new ≡ env_after env.old (response_of env.old result)) }
     ensures failed { FailsIf (has_failed result) (T.failed tree.old) (T.failed tree.new) (λ at.
         InEachPair (T.agrees tree.new) (λ files listings.
-        RequestLooksAt (site_in limits request.now.shell files listings) env.old
+        RequestLooksAt (request_context_in limits request.now.shell files listings) env.old
         (action_view request.now.action) at)) }
 {
     requests::outcomes();
@@ -110,7 +110,7 @@ pub fn session<T: Tree>(
     ensures narrows { Narrows (T.agrees tree.old) (T.agrees tree.new) }
     ensures failures { IfOk result (λ p. T.failures tree.old + count_failed p.1.items ≤ T.failures tree.new) }
     ensures ran { IfOk result (λ p. InEachPair (T.agrees tree.new) (λ files listings. (shell : Shell)
-        → Session (site_in limits shell files listings) env (map request_view requests.now)
+        → Session (request_context_in limits shell files listings) env (map request_view requests.now)
         (responses env p.1.items))) }
     ensures end { IfOk result (λ p. InEachPair (T.agrees tree.new) (λ files listings.
         p.0 ≡ end_environment env (responses env p.1.items))) }

@@ -5,11 +5,11 @@ use Rattle.envvars.specs.Environment.{Environment}
 use Rattle.shelltext.specs.Reading.{DifferenceMakes}
 use Rattle.shelltext.specs.Sequences.{TextsMake}
 use Rattle.requests.specs.Requests.{Request}
-use Rattle.requests.specs.Steps.{Site}
+use Rattle.requests.specs.Steps.{RequestContext}
 use Rattle.requests.specs.Sessions.{Response, accepted, refused, given_up, end_environment}
 use Rattle.rehearsal.specs.Rehearsals.{ArePrints, runs_of}
 
-pub chain : DifferenceMakes → (s : Site) (e : Environment) (rs : List Request) (os : List Response) (ps : List (Option Text))
+pub chain : DifferenceMakes → (s : RequestContext) (e : Environment) (rs : List Request) (os : List Response) (ps : List (Option Text))
     → ArePrints s e rs os ps → (n : ℕ) → TextsMake (runs_of (take n rs) (take n ps)) e (end_environment e (take n os))
 chain makes s e rs os ps h zero = refl
 chain makes s e [] [] [] h (suc n) = refl
@@ -30,7 +30,7 @@ chain makes s e (r ∷ rs) (given_up number ∷ os) (Some text ∷ ps) h (suc n)
   clash e = cc
 
 -- all of them
-pub whole : DifferenceMakes → (s : Site) (e : Environment) (rs : List Request) (os : List Response) (ps : List (Option Text))
+pub whole : DifferenceMakes → (s : RequestContext) (e : Environment) (rs : List Request) (os : List Response) (ps : List (Option Text))
     → ArePrints s e rs os ps → TextsMake (runs_of rs ps) e (end_environment e os)
 whole makes s e [] [] [] h = refl
 whole makes s e [] [] (p ∷ ps) h = absurd h

@@ -17,7 +17,7 @@ use Rattle.requests.specs.Reasons.{RequestReason}
 use Rattle.requests.specs.Requests.{Request}
 use Rattle.requests.specs.RequestViews.{request_view}
 use Rattle.requests.specs.declared.action.Request as code
-use Rattle.requests.specs.Steps.{Site, Done, RequestStep, site_in}
+use Rattle.requests.specs.Steps.{RequestContext, Done, RequestStep, request_context_in}
 use Rattle.requests.specs.Sessions.{accepted, refused, given_up, is_given_up_by, Session, end_environment}
 use Rattle.filetree.specs.Causes.{Cause, Applies, memory, device, because}
 use Rattle.requeststep.specs.Answers.{cause_of}
@@ -48,7 +48,7 @@ counts before mid after a b h k = omega arith
 
 module _ (agrees : Files → Listings → Type 0) (limits : Limits) (r : Request) (e : Environment) (before after : ℕ) (later : before ≤ after) where
   abbrev Steps : Result Done RequestReason → Type 0
-  Steps o = InEachPair agrees (λ files listings. RequestStep (site_in limits r.0 files listings) e r.1 o)
+  Steps o = InEachPair agrees (λ files listings. RequestStep (request_context_in limits r.0 files listings) e r.1 o)
 
   -- memory was wanting, by this number
   came_wanting : (n : ℕ) → is_given_up_by n ≡ true → (n == 43) ≡ false → (n == 62) ≡ false → PrintsFor agrees limits r e e None before after
@@ -115,7 +115,7 @@ module _ (agrees : Files → Listings → Type 0) (limits : Limits) (r : Request
 -- ---- rehearsals
 
 -- no request remains
-pub no_requests : (s : Site) (e : Environment) (rest : List code.Request) (n : ℕ) → rest ≡ [] → Rehearsal s e (map request_view rest) [] e n n
+pub no_requests : (s : RequestContext) (e : Environment) (rest : List code.Request) (n : ℕ) → rest ≡ [] → Rehearsal s e (map request_view rest) [] e n n
 no_requests s e rest n none =
     let Rest : List code.Request → Type 0 = λ rs. Rehearsal s e (map request_view rs) [] e n n in
     subst Rest (sym none) (record {
@@ -126,10 +126,10 @@ no_requests s e rest n none =
 -- of a request before others
 pub rehearsed_on : (agrees : Files → Listings → Type 0) (limits : Limits) (files : Files) (listings : Listings) (shell : Shell) → agrees files listings
     → (r : Request) (e new : Environment) (p : Option Text) (rs : List Request) (ps : List (Option Text)) (end : Environment) (before mid after : ℕ)
-    → PrintsFor agrees limits r e new p before mid → Rehearsal (site_in limits shell files listings) new rs ps end mid after
-    → Rehearsal (site_in limits shell files listings) e (r ∷ rs) (p ∷ ps) end before after
+    → PrintsFor agrees limits r e new p before mid → Rehearsal (request_context_in limits shell files listings) new rs ps end mid after
+    → Rehearsal (request_context_in limits shell files listings) e (r ∷ rs) (p ∷ ps) end before after
 rehearsed_on agrees limits files listings shell agreed r e new p rs ps end before mid after prints_for h =
-    let s = site_in limits shell files listings in
+    let s = request_context_in limits shell files listings in
     let o = prints_for.response in
     let os = h.rehearsed.responses in
     record {

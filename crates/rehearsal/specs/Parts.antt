@@ -10,7 +10,7 @@ use Rattle.shells.specs.declared.shell.Shell.{Shell}
 use Rattle.tclrules.specs.declared.limits.Limits.{Limits}
 use Rattle.requests.specs.Requests.{Request}
 use Rattle.requests.specs.Sessions.{Response, IsResponse, env_after}
-use Rattle.requests.specs.Steps.{site_in}
+use Rattle.requests.specs.Steps.{request_context_in}
 use Rattle.rehearsal.specs.Rehearsals.{IsPrint, one_failed}
 
 -- Over each pair of maps that agrees, a request has this response, this is printed for it, and the environment after it
@@ -18,9 +18,9 @@ use Rattle.rehearsal.specs.Rehearsals.{IsPrint, one_failed}
 pub record PrintsFor (agrees : Files → Listings → Type 0) (limits : Limits) (r : Request) (old new : Environment)
     (print : Option Text) (before after : ℕ) : Type 0 where
   pub response : Response
-  pub answers : InEachPair agrees (λ files listings. IsResponse (site_in limits r.0 files listings) old r.1 response)
+  pub answers : InEachPair agrees (λ files listings. IsResponse (request_context_in limits r.0 files listings) old r.1 response)
   pub printed : InEachPair agrees (λ files listings. (shell : Shell)
-      → IsPrint (site_in limits shell files listings) old r response print)
+      → IsPrint (request_context_in limits shell files listings) old r response print)
   pub end : new ≡ env_after old response
   pub failures : before + one_failed response ≤ after
 

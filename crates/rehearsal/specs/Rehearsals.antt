@@ -8,9 +8,9 @@ use Rattle.shelltext.specs.Reading.{SaysDifference}
 use Rattle.shelltext.specs.Printing.{IsUnsayable}
 use Rattle.shelltext.specs.Sequences.{ShellRun, TextsMake}
 use Rattle.requests.specs.Requests.{Request}
-use Rattle.requests.specs.Steps.{Site, Done, RequestStep}
+use Rattle.requests.specs.Steps.{RequestContext, Done, RequestStep}
 use Rattle.requests.specs.Sessions.{Response, accepted, refused, given_up, Session, env_after, end_environment, in_shell, session_moves}
-use Rattle.requests.specs.Returning.{AreNew, AreFitting}
+use Rattle.requests.specs.Returning.{AreNew, AreReversibleBeside}
 use Rattle.reversal.specs.VariableUses.{VariableUse}
 use Rattle.reversal.specs.Starts.{IsStart}
 use Rattle.reversal.specs.Runs.{live_after}
@@ -21,20 +21,20 @@ abbrev pub LacksText : Shell → Environment → Environment → Text → Type 0
 LacksText shell old new name = (cs : List NewValue) × AreChanges old new cs × IsUnsayable shell cs name
 
 -- the step has changes for which the shell has no text
-abbrev pub StepLacksText : Site → Environment → Request → Type 0
+abbrev pub StepLacksText : RequestContext → Environment → Request → Type 0
 StepLacksText s e r =
     (d : Done) × (name : Text) × RequestStep (in_shell s r.0) e r.1 (Ok d) × LacksText r.0 e d.env name
 
 -- what is printed for a request with this response: for an accepted one a text that says the difference between the
 -- environment before it and the one after it, for another none; one that is given up by 62 has changes without a text
-abbrev pub IsPrint : Site → Environment → Request → Response → Option Text → Type 0
+abbrev pub IsPrint : RequestContext → Environment → Request → Response → Option Text → Type 0
 IsPrint s e r (accepted d) (Some text) = SaysDifference r.0 text e d.env
 IsPrint s e r (accepted d) None = ⊥
 IsPrint s e r (refused reason) print = print ≡ None
 IsPrint s e r (given_up number) print = (print ≡ None) × (number ≡ 62 → StepLacksText s e r)
 
 -- for each request what is printed, in the environment after those before it
-abbrev pub ArePrints : Site → Environment → List Request → List Response → List (Option Text) → Type 0
+abbrev pub ArePrints : RequestContext → Environment → List Request → List Response → List (Option Text) → Type 0
 ArePrints s e [] [] [] = Unit {0}
 ArePrints s e [] [] (p ∷ ps) = ⊥
 ArePrints s e [] (o ∷ os) ps = ⊥
@@ -44,7 +44,7 @@ ArePrints s e (r ∷ rs) (o ∷ os) (p ∷ ps) = IsPrint s e r o p × ArePrints 
 
 -- The requests were rehearsed: they are a session in which exactly those with a text are accepted, and this environment
 -- results.
-pub record Rehearsed (s : Site) (e : Environment) (rs : List Request) (ps : List (Option Text)) (end : Environment)
+pub record Rehearsed (s : RequestContext) (e : Environment) (rs : List Request) (ps : List (Option Text)) (end : Environment)
     : Type 0 where
   pub responses : List Response
   pub session : Session s e rs responses
@@ -64,7 +64,7 @@ count_failed (o ∷ os) = one_failed o + count_failed os
 
 -- So many device failures were counted before the requests and after them, and at least one for each request that was
 -- given up for one.
-pub record Rehearsal (s : Site) (e : Environment) (rs : List Request) (ps : List (Option Text)) (end : Environment)
+pub record Rehearsal (s : RequestContext) (e : Environment) (rs : List Request) (ps : List (Option Text)) (end : Environment)
     (before after : ℕ) : Type 0 where
   pub rehearsed : Rehearsed s e rs ps end
   pub failures : before + count_failed rehearsed.responses ≤ after
@@ -78,16 +78,16 @@ runs_of (r ∷ rs) (Some text ∷ ps) = (r.0, text) ∷ runs_of rs ps
 
 -- After each number of requests, shells that ran the texts so far, one after the other, hold the environment that the
 -- session has there.
-abbrev pub MakesSession : Site → Environment → List Request → List (Option Text) → Environment → Type 0
+abbrev pub MakesSession : RequestContext → Environment → List Request → List (Option Text) → Environment → Type 0
 MakesSession s e rs ps end =
     (h : Rehearsed s e rs ps end) → (n : ℕ)
     → TextsMake (runs_of (take n rs) (take n ps)) e (end_environment e (take n h.responses))
 
 -- Of a session of new modules that are reversible and apart, from a start in order, that ends with no live module:
 -- shells that ran all texts hold the start.
-abbrev pub TextsReturnToStart : Site → Environment → List Request → List (Option Text) → Environment → Type 0
+abbrev pub TextsReturnToStart : RequestContext → Environment → List Request → List (Option Text) → Environment → Type 0
 TextsReturnToStart s start rs ps end =
     (uses : Text → VariableUse) → (h : Rehearsed s start rs ps end)
-    → IsStart uses start → AreNew start (session_moves h.responses) → AreFitting uses [] (session_moves h.responses)
+    → IsStart uses start → AreNew start (session_moves h.responses) → AreReversibleBeside uses [] (session_moves h.responses)
     → live_after [] (session_moves h.responses) ≡ []
     → TextsMake (runs_of rs ps) start start

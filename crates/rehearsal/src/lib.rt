@@ -1,4 +1,4 @@
-//! What a list of requests would print, and what shells that run these texts hold in the end (own).
+//! What a list of requests would print, and what shells that run these texts hold in the end.
 //! Takes memory; changes the `Env` and reads the files and directories (`Tree`) that it is given.
 //! Used by modulecmd.
 #![tactic(auto)]

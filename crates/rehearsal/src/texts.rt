@@ -4,7 +4,7 @@ ghost use Rattle.filetree.specs.Agreement.{Narrows, InEachPair};
 ghost use Rattle.shells.specs.declared.shell.Shell.{Shell};
 ghost use Rattle.requests.specs.RequestViews.{request_view};
 ghost use Rattle.requeststep.specs.declared.refusal.Refusal.TheVariants as refusals;
-ghost use Rattle.requests.specs.Steps.{site_in};
+ghost use Rattle.requests.specs.Steps.{request_context_in};
 ghost use Rattle.rehearsal.specs.Rehearsals.{Rehearsal, MakesSession, TextsReturnToStart};
 ghost use Rattle.rehearsal.specs.Parts.{PrintsFor, print_view, prints};
 
@@ -62,13 +62,13 @@ pub fn rehearse<T: Tree>(
 ) -> Result<(Env, Vec<Option<String>>), Refusal>
     ensures narrows { Narrows (T.agrees tree.old) (T.agrees tree.new) }
     ensures rehearsed { IfOk result (λ p. InEachPair (T.agrees tree.new) (λ files listings. (shell : Shell)
-        → Rehearsal (site_in limits shell files listings) env (map request_view requests.now) (prints p.1.items) p.0
+        → Rehearsal (request_context_in limits shell files listings) env (map request_view requests.now) (prints p.1.items) p.0
         (T.failures tree.old) (T.failures tree.new))) }
     ensures makes { IfOk result (λ p. InEachPair (T.agrees tree.new) (λ files listings. (shell : Shell)
-        → MakesSession (site_in limits shell files listings) env (map request_view requests.now)
+        → MakesSession (request_context_in limits shell files listings) env (map request_view requests.now)
         (prints p.1.items) p.0)) }
     ensures returns_to_start { IfOk result (λ p. InEachPair (T.agrees tree.new) (λ files listings. (shell : Shell)
-        → TextsReturnToStart (site_in limits shell files listings) env (map request_view requests.now)
+        → TextsReturnToStart (request_context_in limits shell files listings) env (map request_view requests.now)
         (prints p.1.items) p.0)) }
     ensures only { IfErr result (λ refusal. refusal ≡ refusals.OutOfMemory) }
 {

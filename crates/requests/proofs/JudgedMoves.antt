@@ -6,9 +6,9 @@ use Rattle.modulerecords.specs.Moves.{Module, Move, Loads, Unloads}
 use Rattle.modulefile.specs.Files.{Ran}
 use Rattle.modulefile.specs.Laws.{PlainFilesAgree}
 use Rattle.reversal.specs.VariableUses.{VariableUse, is_reversible}
-use Rattle.reversal.specs.Runs.{without_live, IsReversibleBeside}
+use Rattle.reversal.specs.Runs.{without_live, IsReversibleAndApart}
 use Rattle.reversal.proofs.Parts.{all_suit}
-use Rattle.requests.specs.Steps.{Site}
+use Rattle.requests.specs.Steps.{RequestContext}
 use Rattle.requests.specs.Sessions.{session_moves}
 use Rattle.requests.specs.PlainRuns.{HasEvaluatedTo, IsPlain, ArePlain}
 use Rattle.requests.specs.JudgedRuns.{IsJudgedPlain, IsApart, AreJudged, JudgedIsReversible, JudgedSessionsReturn}
@@ -18,7 +18,7 @@ use Rattle.requests.proofs.Origins.{IsFrom, AllFrom}
 use Rattle.requests.proofs.PlainMoves.{same_records, moved_left, session_from}
 
 -- the result of the evaluation of the verdict, at the module's own name and path
-judged_of : (s : Site) (name path : Text) → IsJudgedPlain s name path → (ran : Ran) × HasEvaluatedTo s name path ran × (ran.asked ≡ false) × (list_all is_reversible ran.records ≡ true)
+judged_of : (s : RequestContext) (name path : Text) → IsJudgedPlain s name path → (ran : Ran) × HasEvaluatedTo s name path ran × (ran.asked ≡ false) × (list_all is_reversible ran.records ≡ true)
 judged_of s name path j =
     let (m, found, ran, left, unasked, undone) = judged_left s j.env j.typed j.judged in
     let at = j.means m found in
@@ -29,13 +29,13 @@ judged_is_reversible agree s name path other j left =
     let (ran, judged, unasked, undone) = judged_of s name path j in
     subst (λ rs. list_all is_reversible rs ≡ true) (sym (same_records agree s name path ran other judged unasked left)) undone
 
-plain_load : PlainFilesAgree → (s : Site) (uses : Text → VariableUse) (live : List Module) (m : Module) → IsFrom s m → IsApart uses live m → IsJudgedPlain s m.name m.path → IsReversibleBeside uses live m × IsPlain s m.name m.path
+plain_load : PlainFilesAgree → (s : RequestContext) (uses : Text → VariableUse) (live : List Module) (m : Module) → IsFrom s m → IsApart uses live m → IsJudgedPlain s m.name m.path → IsReversibleAndApart uses live m × IsPlain s m.name m.path
 plain_load agree s uses live m (other, left, is) apart j =
     let (ran, judged, unasked, undone) = judged_of s m.name m.path j in
     let again : list_all is_reversible m.records ≡ true = subst (λ rs. list_all is_reversible rs ≡ true) (sym is) (judged_is_reversible agree s m.name m.path other j left) in
     (record { suits = all_suit uses m.records again apart.follow_uses; sets_apart = apart.sets_apart }, (ran, judged, unasked))
 
-are_plain : PlainFilesAgree → (s : Site) (uses : Text → VariableUse) (ms : List Move) (live : List Module) → AllFrom s ms → AreJudged s uses live ms → ArePlain s uses live ms
+are_plain : PlainFilesAgree → (s : RequestContext) (uses : Text → VariableUse) (ms : List Move) (live : List Module) → AllFrom s ms → AreJudged s uses live ms → ArePlain s uses live ms
 are_plain agree s uses [] live from judged = tt
 are_plain agree s uses (Loads m ∷ ms) live from judged = (plain_load agree s uses live m from.0 judged.0.0 judged.0.1, are_plain agree s uses ms (m ∷ live) from.1 judged.1)
 are_plain agree s uses (Unloads m ∷ ms) live from judged = are_plain agree s uses ms (without_live m.name live) from.1 judged

@@ -13,8 +13,8 @@ use Rattle.search.specs.Found as search
 use Rattle.reversal.specs.VariableUses.{is_reversible}
 use Rattle.requests.specs.Refusals.{RefusedAs}
 use Rattle.requests.specs.Reasons.{file_refused}
-use Rattle.requests.specs.Steps.{Site, entries_of, Finds}
-use Rattle.requests.specs.Verdicts.{plain, asks, one_way, verdict_of, verdict_context, HasVerdict, OneVerdict, PlainHolds}
+use Rattle.requests.specs.Steps.{RequestContext, entries_of, Finds}
+use Rattle.requests.specs.Verdicts.{plain, asked, one_way, verdict_of, verdict_context, HasVerdict, OneVerdict, PlainHolds}
 use Rattle.requests.specs.PlainRuns.{HasEvaluatedTo, JudgedIsPlain}
 use Rattle.requests.specs.JudgedRuns.{SomeVerdict}
 use Rattle.requests.proofs.Origins.{found_script}
@@ -37,12 +37,12 @@ some_verdict file left s e name =
     some_then (some_run file s.limits (verdict_context s name m xs e) m.text) (λ ran.
     some_is (Ok (verdict_of ran)))))
 
-plain_parts : (a r : Bool) → plain ≡ (if a then asks else if r then plain else one_way) → (a ≡ false) × (r ≡ true)
+plain_parts : (a r : Bool) → plain ≡ (if a then asked else if r then plain else one_way) → (a ≡ false) × (r ≡ true)
 plain_parts true r e = absurd (cc)
 plain_parts false true e = (refl, refl)
 plain_parts false false e = absurd (cc)
 
-as_ok : (c : FileContext) (s : Site) (text : Text) (ran : Ran) → RefusedAs file_refused (RunsFile s.limits c text) (Ok ran) → RunsFile s.limits c text (Ok ran)
+as_ok : (c : FileContext) (s : RequestContext) (text : Text) (ran : Ran) → RefusedAs file_refused (RunsFile s.limits c text) (Ok ran) → RunsFile s.limits c text (Ok ran)
 as_ok c s text ran h = subst (RunsFile s.limits c text) (ok_of_refused_as file_refused h.0 ran (sym h.2)) h.1
 
 pub plain_holds : files.PlainFilesAgree → PlainHolds
@@ -56,7 +56,7 @@ plain_holds agree s e name h =
     (m, ran, found, p.1, (λ d o n q r. agree s.limits c d m.text ran o (as_ok c s m.text ran runs) p.0 n q r))
 
 -- the result of the evaluation of a verdict, where it is plain
-pub judged_left : (s : Site) (e : Environment) (name : Text) → HasVerdict s e name (Ok plain)
+pub judged_left : (s : RequestContext) (e : Environment) (name : Text) → HasVerdict s e name (Ok plain)
     → (m : search.FoundModule) × Finds s e name (Ok m) × (ran : Ran) × HasEvaluatedTo s m.name m.path ran × (ran.asked ≡ false) × (list_all is_reversible ran.records ≡ true)
 judged_left s e name h =
     let (xs, read, h1) = went_on (Is (entries_of e)) _ plain h in

@@ -20,7 +20,7 @@ use Rattle.requests.specs.Refusals.{refused_as}
 use Rattle.requests.specs.Reasons.{RequestReason, missed, refused_edit, bad_arguments}
 use Rattle.requests.specs.Requests.{RequestedAction, load, unload, switch, purge, list, avail, show, whatis}
 use Rattle.requests.specs.Conditions.{load_objection, end_objection}
-use Rattle.requests.specs.Steps.{Site, Done, nothing_done, with_move, continued, module_of, LoadsFound, LoadsName, UnloadsMeant, last_meant, UnloadsName, ShowsName, shown_text, described_text, Each, NeedsNames, EndsRequest, Changes, Switches, ShowsNames, RequestStep, old_name, entries_of, consistent}
+use Rattle.requests.specs.Steps.{RequestContext, Done, nothing_done, with_move, continued, module_of, LoadsFound, LoadsName, UnloadsMeant, last_meant, UnloadsName, ShowsName, shown_text, described_text, Each, NeedsNames, EndsRequest, ChangesLoaded, Switches, ShowsNames, RequestStep, old_name, entries_of, consistent}
 use Rattle.requests.proofs.Bound.{bound, ok_of_refused_as, allowed, went_on}
 
 abbrev IsMadeByMoves : Environment → Done → Type 0
@@ -70,30 +70,30 @@ made_if e false Yes No k l = l refl
 made_refused : (e : Environment) (r : RequestReason) → AreMadeByMoves e (Is (Err r))
 made_refused e r t h = absurd (let g : Ok t ≡ Err r = h in cc)
 
-made_found : (s : Site) (w : Bool) (typed : Text) (e : Environment) (d : Done) (xs : List Entry) (m : search.FoundModule) → loaded_in d.env ≡ Some xs → IsMadeByMoves e d → AreMadeByMoves e (LoadsFound s w typed d xs m)
+made_found : (s : RequestContext) (w : Bool) (typed : Text) (e : Environment) (d : Done) (xs : List Entry) (m : search.FoundModule) → loaded_in d.env ≡ Some xs → IsMadeByMoves e d → AreMadeByMoves e (LoadsFound s w typed d xs m)
 made_found s w typed e d xs m read by_moves =
     made_if e (has m.name (names_of xs)) _ _ (λ b. made_same e d by_moves) (λ b. made_then e (λ ran h.
     λ t g. made_went e d (Loads (module_of m.name m.path ran)) ran.messages (xs, read, b) by_moves t
     (sym (allowed (load_objection m.name ran.records xs) (continued d (Loads (module_of m.name m.path ran)) ran.messages) t (sym g)))))
 
-made_load : (s : Site) (w : Bool) (e : Environment) (typed : Text) (d : Done) → IsMadeByMoves e d → AreMadeByMoves e (LoadsName s w typed d)
+made_load : (s : RequestContext) (w : Bool) (e : Environment) (typed : Text) (d : Done) → IsMadeByMoves e d → AreMadeByMoves e (LoadsName s w typed d)
 made_load s w e typed d by_moves =
     made_then e (λ xs h.
     made_if e (has typed (names_of xs)) _ _ (λ b. made_same e d by_moves) (λ b. made_then e (λ m g.
     made_found s w typed e d xs m (list_read (loaded_in d.env) xs h) by_moves)))
 
-made_meant : (s : Site) (w : Bool) (typed : Text) (e : Environment) (d : Done) (xs : List Entry) (p : Entry → Bool) (x : Option Entry) → find p (reverse xs) ≡ x → loaded_in d.env ≡ Some xs → IsMadeByMoves e d → AreMadeByMoves e (UnloadsMeant s w typed d xs x)
+made_meant : (s : RequestContext) (w : Bool) (typed : Text) (e : Environment) (d : Done) (xs : List Entry) (p : Entry → Bool) (x : Option Entry) → find p (reverse xs) ≡ x → loaded_in d.env ≡ Some xs → IsMadeByMoves e d → AreMadeByMoves e (UnloadsMeant s w typed d xs x)
 made_meant s w typed e d xs p None f read by_moves = made_same e d by_moves
 made_meant s w typed e d xs p (Some x) f read by_moves =
     made_then e (λ text h. made_then e (λ ran g.
     made_went e d (Unloads (module_of x.name x.path ran)) ran.messages (xs, read, found_entry p xs x f) by_moves))
 
-made_unload : (s : Site) (w : Bool) (e : Environment) (typed : Text) (d : Done) → IsMadeByMoves e d → AreMadeByMoves e (UnloadsName s w typed d)
+made_unload : (s : RequestContext) (w : Bool) (e : Environment) (typed : Text) (d : Done) → IsMadeByMoves e d → AreMadeByMoves e (UnloadsName s w typed d)
 made_unload s w e typed d by_moves =
     made_then e (λ xs h.
     made_if e (is_module_name typed) _ _ (λ b. made_meant s w typed e d xs (λ x. means typed x.name) (last_meant typed xs) refl (list_read (loaded_in d.env) xs h) by_moves) (λ b. made_refused e (missed (bad_name typed))))
 
-made_show : (s : Site) (mode : Mode) (text_of : search.FoundModule → List Record → Text) (e : Environment) (typed : Text) (d : Done) → IsMadeByMoves e d → AreMadeByMoves e (ShowsName s mode text_of typed d)
+made_show : (s : RequestContext) (mode : Mode) (text_of : search.FoundModule → List Record → Text) (e : Environment) (typed : Text) (d : Done) → IsMadeByMoves e d → AreMadeByMoves e (ShowsName s mode text_of typed d)
 made_show s mode text_of e typed d by_moves =
     made_then e (λ xs h. made_then e (λ m g. made_then e (λ ran f. made_same e _ by_moves)))
 
@@ -110,23 +110,23 @@ made_end : (e : Environment) (before : List Entry) (d : Done) → IsMadeByMoves 
 made_end e before d by_moves =
     made_then e (λ after h. λ t g. made_same e d by_moves t (sym (allowed (end_objection before after) (Ok d) t (sym g))))
 
-made_changes : (e : Environment) (Does : List Entry → Done → Result Done RequestReason → Type 0) → ((before : List Entry) (d : Done) → IsMadeByMoves e d → AreMadeByMoves e (Does before d)) → AreMadeByMoves e (Changes e Does)
+made_changes : (e : Environment) (Does : List Entry → Done → Result Done RequestReason → Type 0) → ((before : List Entry) (d : Done) → IsMadeByMoves e d → AreMadeByMoves e (Does before d)) → AreMadeByMoves e (ChangesLoaded e Does)
 made_changes e Does all_made =
     made_then e (λ before h. made_then e (λ d g. made_end e before d (all_made before (nothing_done e) refl d g)))
 
-made_switch : (s : Site) (e : Environment) (old : Option Text) (new : Text) (d : Done) → IsMadeByMoves e d → AreMadeByMoves e (Switches s old new d)
+made_switch : (s : RequestContext) (e : Environment) (old : Option Text) (new : Text) (d : Done) → IsMadeByMoves e d → AreMadeByMoves e (Switches s old new d)
 made_switch s e old new d by_moves =
     made_then {First = UnloadsName s true (old_name old new) d} {Rest = LoadsName s true new} e (λ t h. made_load s true e new t (made_unload s true e (old_name old new) d by_moves t h))
 
-made_shown : (s : Site) (mode : Mode) (text_of : search.FoundModule → List Record → Text) (e : Environment) (names : List Text) → AreMadeByMoves e (ShowsNames s mode text_of e names)
+made_shown : (s : RequestContext) (mode : Mode) (text_of : search.FoundModule → List Record → Text) (e : Environment) (names : List Text) → AreMadeByMoves e (ShowsNames s mode text_of e names)
 made_shown s mode text_of e names =
     made_then {First = Is (entries_of e)} {Rest = λ xs. Each (ShowsName s mode text_of) names (nothing_done e)} e (λ xs h. made_each e (ShowsName s mode text_of) (made_show s mode text_of e) names (nothing_done e) refl)
 
-pub led_by_moves : (s : Site) (e : Environment) (asked : RequestedAction) → AreMadeByMoves e (RequestStep s e asked)
+pub led_by_moves : (s : RequestContext) (e : Environment) (asked : RequestedAction) → AreMadeByMoves e (RequestStep s e asked)
 led_by_moves s e (load names) =
-    made_named e names (Changes e (λ before. Each (LoadsName s false) names)) (made_changes e (λ before. Each (LoadsName s false) names) (λ before d by_moves. made_each e (LoadsName s false) (made_load s false e) names d by_moves))
+    made_named e names (ChangesLoaded e (λ before. Each (LoadsName s false) names)) (made_changes e (λ before. Each (LoadsName s false) names) (λ before d by_moves. made_each e (LoadsName s false) (made_load s false e) names d by_moves))
 led_by_moves s e (unload names) =
-    made_named e names (Changes e (λ before. Each (UnloadsName s false) names)) (made_changes e (λ before. Each (UnloadsName s false) names) (λ before d by_moves. made_each e (UnloadsName s false) (made_unload s false e) names d by_moves))
+    made_named e names (ChangesLoaded e (λ before. Each (UnloadsName s false) names)) (made_changes e (λ before. Each (UnloadsName s false) names) (λ before d by_moves. made_each e (UnloadsName s false) (made_unload s false e) names d by_moves))
 led_by_moves s e (switch old new) =
     made_changes e (λ before. Switches s old new) (λ before d by_moves. made_switch s e old new d by_moves)
 led_by_moves s e purge =

@@ -22,9 +22,9 @@ use Rattle.reversal.specs.Starts.{IsInOrder, IsStart, IsStartWith}
 use Rattle.reversal.specs.Runs.{live_named, without_live, AreReversibleTogether}
 use Rattle.reversal.specs.Laws.{RunsReturn, MovesPreserve}
 use Rattle.requests.specs.Requests.{Request}
-use Rattle.requests.specs.Steps.{Site}
+use Rattle.requests.specs.Steps.{RequestContext}
 use Rattle.requests.specs.Sessions.{Response, accepted, refused, given_up, IsResponse, env_after, end_environment, in_shell, Session, session_moves}
-use Rattle.requests.specs.Returning.{AreNew, HasLoadRecords, AreFitting}
+use Rattle.requests.specs.Returning.{AreNew, HasLoadRecords, AreReversibleBeside}
 use Rattle.requests.specs.PlainRuns.{HasEvaluatedTo, IsPlain, ArePlain}
 use Rattle.requests.specs.Laws.{SessionsReach, SessionsReturn, PlainSessionsReturn}
 use Rattle.requests.proofs.Undone.{entries_at, entries_read, is_entry_of, not_among, same_list, undoes}
@@ -76,50 +76,50 @@ same_live m l bs (n ∷ live) distinct any found =
 
 -- ---- plain files
 
-abbrev LiveFrom : Site → List Module → Type 0
+abbrev LiveFrom : RequestContext → List Module → Type 0
 LiveFrom s [] = Unit {0}
 LiveFrom s (m ∷ live) = (IsFrom s m × IsPlain s m.name m.path) × LiveFrom s live
 
-live_from_step : (s : Site) (n l : Module) (name : Text) (live : List Module) (b : Bool) → (IsFrom s n × IsPlain s n.name n.path) → cond b (Some n) (live_named name live) ≡ Some l
+live_from_step : (s : RequestContext) (n l : Module) (name : Text) (live : List Module) (b : Bool) → (IsFrom s n × IsPlain s n.name n.path) → cond b (Some n) (live_named name live) ≡ Some l
     → (live_named name live ≡ Some l → IsFrom s l × IsPlain s l.name l.path) → IsFrom s l × IsPlain s l.name l.path
 live_from_step s n l name live true h found more = subst (λ (x : Module). IsFrom s x × IsPlain s x.name x.path) (same_module n l found) h
 live_from_step s n l name live false h found more = more found
 
-live_from : (s : Site) (name : Text) (live : List Module) (l : Module) → LiveFrom s live → live_named name live ≡ Some l → IsFrom s l × IsPlain s l.name l.path
+live_from : (s : RequestContext) (name : Text) (live : List Module) (l : Module) → LiveFrom s live → live_named name live ≡ Some l → IsFrom s l × IsPlain s l.name l.path
 live_from s name [] l h found = absurd (cc)
 live_from s name (n ∷ live) l h found = live_from_step s n l name live (bytes_eq name n.name) h.0 found (live_from s name live l h.1)
 
-without_step : (s : Site) (n : Module) (live rest : List Module) (b : Bool) → (IsFrom s n × IsPlain s n.name n.path) → LiveFrom s live → LiveFrom s rest → LiveFrom s (cond b live (n ∷ rest))
+without_step : (s : RequestContext) (n : Module) (live rest : List Module) (b : Bool) → (IsFrom s n × IsPlain s n.name n.path) → LiveFrom s live → LiveFrom s rest → LiveFrom s (cond b live (n ∷ rest))
 without_step s n live rest true h more less = more
 without_step s n live rest false h more less = (h, less)
 
-without_from : (s : Site) (name : Text) (live : List Module) → LiveFrom s live → LiveFrom s (without_live name live)
+without_from : (s : RequestContext) (name : Text) (live : List Module) → LiveFrom s live → LiveFrom s (without_live name live)
 without_from s name [] h = tt
 without_from s name (n ∷ live) h = without_step s n live (without_live name live) (bytes_eq name n.name) h.0 h.1 (without_from s name live h.1)
 
-one_script : (s : Site) (path a b : Text) → modulefile (s.files path) ≡ script a → modulefile (s.files path) ≡ script b → a ≡ b
+one_script : (s : RequestContext) (path a b : Text) → modulefile (s.files path) ≡ script a → modulefile (s.files path) ≡ script b → a ≡ b
 one_script s path a b h k = let q : script a ≡ script b = sym h ∙ k in cc
 
 agreed : (ran other : Ran) → IsSameOrRefused ran (Ok other) → other.records ≡ ran.records
 agreed ran other (inl (again, same, records)) = let q : other ≡ again = (let r : Ok other ≡ Ok again = same in cc) in ap (λ (x : Ran). x.records) q ∙ records
 agreed ran other (inr (n, refusal, same)) = absurd (let r : Ok other ≡ Err (refused_by n refusal) = same in cc)
 
-pub same_records : PlainFilesAgree → (s : Site) (name path : Text) (ran other : Ran) → HasEvaluatedTo s name path ran → ran.asked ≡ false → HasEvaluatedTo s name path other → other.records ≡ ran.records
+pub same_records : PlainFilesAgree → (s : RequestContext) (name path : Text) (ran other : Ran) → HasEvaluatedTo s name path ran → ran.asked ≡ false → HasEvaluatedTo s name path other → other.records ≡ ran.records
 same_records agree s name path ran other h unasked k =
     agreed ran other (agree s.limits h.context k.context h.text ran (Ok other) h.runs unasked (k.named ∙ sym h.named) (k.at_path ∙ sym h.at_path)
     (subst (λ (t : Text). RunsFile s.limits k.context t (Ok other)) (one_script s path k.text h.text k.file h.file) k.runs))
 
-pub moved_left : (s : Site) (a b c d : Text) (ran : Ran) → a ≡ b → c ≡ d → HasEvaluatedTo s a c ran → HasEvaluatedTo s b d ran
+pub moved_left : (s : RequestContext) (a b c d : Text) (ran : Ran) → a ≡ b → c ≡ d → HasEvaluatedTo s a c ran → HasEvaluatedTo s b d ran
 moved_left s a b c d ran e g h = subst (λ (x : Text). HasEvaluatedTo s x d ran) e (subst (λ (x : Text). HasEvaluatedTo s a x ran) g h)
 
-unload_records : PlainFilesAgree → (s : Site) (m l : Module) → m.name ≡ l.name → m.path ≡ l.path → IsFrom s m → IsFrom s l → IsPlain s l.name l.path → m.records ≡ l.records
+unload_records : PlainFilesAgree → (s : RequestContext) (m l : Module) → m.name ≡ l.name → m.path ≡ l.path → IsFrom s m → IsFrom s l → IsPlain s l.name l.path → m.records ≡ l.records
 unload_records agree s m l name path (ran, left, is) (other, loaded, was) (plain, one, unasked) =
     is ∙ (same_records agree s l.name l.path plain ran one unasked (moved_left s m.name l.name m.path l.path ran name path left)
     ∙ (sym (same_records agree s l.name l.path plain other one unasked loaded) ∙ sym was))
 
 -- ---- moves
 
-has_records : PlainFilesAgree → (s : Site) (uses : Text → VariableUse) (start old : Environment) (bs : List Entry) (live : List Module) (m : Module) → loaded_in start ≡ Some bs → IsInOrder uses old → IsStartWith uses start live old → LiveFrom s live → IsFrom s m → Fits (Unloads m) old → HasLoadRecords live m
+has_records : PlainFilesAgree → (s : RequestContext) (uses : Text → VariableUse) (start old : Environment) (bs : List Entry) (live : List Module) (m : Module) → loaded_in start ≡ Some bs → IsInOrder uses old → IsStartWith uses start live old → LiveFrom s live → IsFrom s m → Fits (Unloads m) old → HasLoadRecords live m
 has_records agree s uses start old bs live m list order start_with_live froms from (xs, read, any) l found =
     let now : loaded_in old ≡ Some (entries_over bs live) = start_with_live.entries bs list in
     let same : xs ≡ entries_over bs live = same_list xs (entries_over bs live) (sym read ∙ now) in
@@ -129,7 +129,7 @@ has_records agree s uses start old bs live m list order start_with_live froms fr
     let f = live_from s m.name live l froms found in
     unload_records agree s m l p.0 p.1 from f.0 f.1
 
-fitting : MovesPreserve → PlainFilesAgree → (uses : Text → VariableUse) (s : Site) (start : Environment) → IsStart uses start → (ms : List Move) (live : List Module) (old new : Environment) → IsInOrder uses old → IsStartWith uses start live old → AreReversibleTogether uses live → LiveFrom s live → AllFrom s ms → AreNew start ms → ArePlain s uses live ms → MovesReach ms old new → AreFitting uses live ms
+fitting : MovesPreserve → PlainFilesAgree → (uses : Text → VariableUse) (s : RequestContext) (start : Environment) → IsStart uses start → (ms : List Move) (live : List Module) (old new : Environment) → IsInOrder uses old → IsStartWith uses start live old → AreReversibleTogether uses live → LiveFrom s live → AllFrom s ms → AreNew start ms → ArePlain s uses live ms → MovesReach ms old new → AreReversibleBeside uses live ms
 fitting step_law agree uses s start begin [] live old new order start_with_live fit froms from news plains reach = tt
 fitting step_law agree uses s start begin (Loads m ∷ ms) live old new order start_with_live fit froms from news plains (fits, (mid, move, reach)) =
     let h = step_law uses start old mid live (Loads m ∷ []) begin order start_with_live fit (plains.0.0, tt) (fits, (mid, move, refl)) in
@@ -141,26 +141,26 @@ fitting step_law agree uses s start begin (Unloads m ∷ ms) live old new order 
     let h = step_law uses start old mid live (Unloads m ∷ []) begin order start_with_live fit (u, tt) (fits, (mid, move, refl)) in
     (records, fitting step_law agree uses s start begin ms (without_live m.name live) mid new h.0.order h.0.start_with_live h.1 (without_from s m.name live froms) from.1 news.1 plains reach)
 
-same_site : (s : Site) (shell : Shell) (ms : List Move) → AllFrom (in_shell s shell) ms → AllFrom s ms
+same_site : (s : RequestContext) (shell : Shell) (ms : List Move) → AllFrom (in_shell s shell) ms → AllFrom s ms
 same_site s shell [] h = tt
 same_site s shell (m ∷ ms) ((ran, left, is), rest) =
     ((ran, record { text = left.text; file = left.file; context = left.context; named = left.named; at_path = left.at_path; runs = left.runs }, is), same_site s shell ms rest)
 
-response_from : (s : Site) (e : Environment) (r : Request) (o : Response) → IsResponse (in_shell s r.0) e r.1 o → AllFrom s (session_moves (o ∷ []))
+response_from : (s : RequestContext) (e : Environment) (r : Request) (o : Response) → IsResponse (in_shell s r.0) e r.1 o → AllFrom s (session_moves (o ∷ []))
 response_from s e r (accepted d) h = all_both s d.moves [] (same_site s r.0 d.moves (traced (in_shell s r.0) e r.1 d h)) tt
 response_from s e r (refused reason) h = tt
 response_from s e r (given_up n) h = tt
 
-one_response : (o : Response) (os : List Response) (s : Site) → AllFrom s (session_moves (o ∷ [])) → AllFrom s (session_moves os) → AllFrom s (session_moves (o ∷ os))
+one_response : (o : Response) (os : List Response) (s : RequestContext) → AllFrom s (session_moves (o ∷ [])) → AllFrom s (session_moves os) → AllFrom s (session_moves (o ∷ os))
 one_response (accepted d) os s h k = all_both s d.moves (session_moves os) (front s d.moves h) k
   where
-    front : (s : Site) (ms : List Move) → AllFrom s (ms ++ []) → AllFrom s ms
+    front : (s : RequestContext) (ms : List Move) → AllFrom s (ms ++ []) → AllFrom s ms
     front s [] h = tt
     front s (m ∷ ms) h = (h.0, front s ms h.1)
 one_response (refused reason) os s h k = k
 one_response (given_up n) os s h k = k
 
-pub session_from : (s : Site) (e : Environment) (rs : List Request) (os : List Response) → Session s e rs os → AllFrom s (session_moves os)
+pub session_from : (s : RequestContext) (e : Environment) (rs : List Request) (os : List Response) → Session s e rs os → AllFrom s (session_moves os)
 session_from s e [] [] h = tt
 session_from s e [] (o ∷ os) h = absurd h
 session_from s e (r ∷ rs) [] h = absurd h
@@ -170,6 +170,6 @@ pub plain_sessions_return : SessionsReach → RunsReturn → MovesPreserve → P
 plain_sessions_return leads runs step_law agree returns uses s start rs before after begin session news plains =
     let os = before ++ after in
     let none = runs uses start start [] begin tt refl in
-    let fits : AreFitting uses [] (session_moves os) =
+    let fits : AreReversibleBeside uses [] (session_moves os) =
     fitting step_law agree uses s start begin (session_moves os) [] start (end_environment start os) none.order none.start_with_live tt tt (session_from s start rs os session) news plains (leads s start rs os session) in
     returns uses s start rs before after begin session news fits

@@ -8,13 +8,13 @@ use Rattle.reversal.specs.Runs.{without_live}
 use Rattle.reversal.specs.Requests as moves
 use Rattle.reversal.specs.Laws.{RunsReturn, MovesPreserve}
 use Rattle.requests.specs.Requests.{Request}
-use Rattle.requests.specs.Steps.{Site}
+use Rattle.requests.specs.Steps.{RequestContext}
 use Rattle.requests.specs.Sessions.{Response, env_after, end_environment, Session, outcome_of, session_moves}
-use Rattle.requests.specs.Returning.{AreNew, AreFitting}
+use Rattle.requests.specs.Returning.{AreNew, AreReversibleBeside}
 use Rattle.requests.specs.Laws.{StepsReach, SessionsReach, SessionsReturn, CommandsReturn}
 use Rattle.requests.proofs.Undone.{reversible}
 
-front_session : (s : Site) (e : Environment) (rs : List Request) (before after : List Response) → Session s e rs (before ++ after) → (qs : List Request) × Session s e qs before
+front_session : (s : RequestContext) (e : Environment) (rs : List Request) (before after : List Response) → Session s e rs (before ++ after) → (qs : List Request) × Session s e qs before
 front_session s e rs [] after h = ([], tt)
 front_session s e [] (o ∷ before) after h = absurd h
 front_session s e (r ∷ rs) (o ∷ before) after h =
@@ -34,7 +34,7 @@ front_new : (start : Environment) (ms ns : List Move) → AreNew start (ms ++ ns
 front_new start [] ns h = tt
 front_new start (m ∷ ms) ns h = (h.0, front_new start ms ns h.1)
 
-front_fitting : (uses : Text → VariableUse) (live : List Module) (ms ns : List Move) → AreFitting uses live (ms ++ ns) → AreFitting uses live ms
+front_fitting : (uses : Text → VariableUse) (live : List Module) (ms ns : List Move) → AreReversibleBeside uses live (ms ++ ns) → AreReversibleBeside uses live ms
 front_fitting uses live [] ns h = tt
 front_fitting uses live (Loads m ∷ ms) ns h = (h.0, front_fitting uses (m ∷ live) ms ns h.1)
 front_fitting uses live (Unloads m ∷ ms) ns h = (h.0, front_fitting uses (without_live m.name live) ms ns h.1)
@@ -51,7 +51,7 @@ sessions_return leads runs step_law uses s start rs before after begin session n
     let ms = session_moves before in
     let reach : MovesReach ms start (end_environment start before) = leads s start f.0 before f.1 in
     let new : AreNew start ms = front_new start ms (session_moves after) (subst (λ (l : List Move). AreNew start l) (moves_parts before after) news) in
-    let fits : AreFitting uses [] ms = front_fitting uses [] ms (session_moves after) (subst (λ (l : List Move). AreFitting uses [] l) (moves_parts before after) fitting) in
+    let fits : AreReversibleBeside uses [] ms = front_fitting uses [] ms (session_moves after) (subst (λ (l : List Move). AreReversibleBeside uses [] l) (moves_parts before after) fitting) in
     let none = runs uses start start [] begin tt refl in
     runs uses start (end_environment start before) ms begin
     (reversible step_law uses start begin ms [] start (end_environment start before) none.order none.start_with_live tt new fits reach) reach

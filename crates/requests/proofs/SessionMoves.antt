@@ -7,16 +7,16 @@ use Rattle.modulerecords.specs.Moves.{MovesReach}
 use Rattle.modulerecords.specs.Laws.{ReachComposes}
 use Rattle.reversal.specs.Requests as moves
 use Rattle.requests.specs.Requests.{RequestedAction, Request}
-use Rattle.requests.specs.Steps.{Site}
+use Rattle.requests.specs.Steps.{RequestContext}
 use Rattle.requests.specs.Sessions.{Response, accepted, refused, given_up, IsResponse, env_after, end_environment, in_shell, Session, outcome_of, is_decided}
 use Rattle.requests.specs.Laws.{OneOutcome, StepsReach}
 
-response_comes : StepsReach → (s : Site) (e : Environment) (asked : RequestedAction) (o : Response) → IsResponse s e asked o → moves.RequestReaches (outcome_of o) e (env_after e o)
+response_comes : StepsReach → (s : RequestContext) (e : Environment) (asked : RequestedAction) (o : Response) → IsResponse s e asked o → moves.RequestReaches (outcome_of o) e (env_after e o)
 response_comes law s e asked (accepted d) h = law s e asked d h
 response_comes law s e asked (refused r) h = refl
 response_comes law s e asked (given_up n) h = refl
 
-pub session_run : StepsReach → (s : Site) (e : Environment) (rs : List Request) (os : List Response) → Session s e rs os → moves.RequestsReach (map outcome_of os) e (end_environment e os)
+pub session_run : StepsReach → (s : RequestContext) (e : Environment) (rs : List Request) (os : List Response) → Session s e rs os → moves.RequestsReach (map outcome_of os) e (end_environment e os)
 session_run law s e [] [] h = refl
 session_run law s e [] (o ∷ os) h = absurd h
 session_run law s e (r ∷ rs) [] h = absurd h
@@ -32,7 +32,7 @@ run_leads law [] old new h = h
 run_leads law (o ∷ os) old new (mid, c, r) = law (moves.moves_of o) (moves.all_moves os) old mid new (comes_lead o old mid c) (run_leads law os mid new r)
 
 -- responses that aren't given up
-same_response : OneOutcome → (s : Site) (e : Environment) (asked : RequestedAction) (o p : Response) → is_decided o ≡ true → is_decided p ≡ true → IsResponse s e asked o → IsResponse s e asked p → o ≡ p
+same_response : OneOutcome → (s : RequestContext) (e : Environment) (asked : RequestedAction) (o p : Response) → is_decided o ≡ true → is_decided p ≡ true → IsResponse s e asked o → IsResponse s e asked p → o ≡ p
 same_response law s e asked (accepted d) (accepted t) a b h k = let q : Ok d ≡ Ok t = law s e asked (Ok d) (Ok t) h k in cc
 same_response law s e asked (accepted d) (refused r) a b h k = absurd (let q : Ok d ≡ Err r = law s e asked (Ok d) (Err r) h k in cc)
 same_response law s e asked (refused r) (accepted d) a b h k = absurd (let q : Err r ≡ Ok d = law s e asked (Err r) (Ok d) h k in cc)
@@ -41,7 +41,7 @@ same_response law s e asked (given_up n) p a b h k = absurd (cc)
 same_response law s e asked (accepted d) (given_up n) a b h k = absurd (cc)
 same_response law s e asked (refused r) (given_up n) a b h k = absurd (cc)
 
-pub same_session : OneOutcome → (s : Site) (e : Environment) (rs : List Request) (os ps : List Response) → list_all is_decided os ≡ true → list_all is_decided ps ≡ true → Session s e rs os → Session s e rs ps → os ≡ ps
+pub same_session : OneOutcome → (s : RequestContext) (e : Environment) (rs : List Request) (os ps : List Response) → list_all is_decided os ≡ true → list_all is_decided ps ≡ true → Session s e rs os → Session s e rs ps → os ≡ ps
 same_session law s e [] [] [] a b h k = refl
 same_session law s e [] [] (p ∷ ps) a b h k = absurd k
 same_session law s e [] (o ∷ os) ps a b h k = absurd h

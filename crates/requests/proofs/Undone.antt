@@ -13,7 +13,7 @@ use Rattle.reversal.specs.Live.{entries_over}
 use Rattle.reversal.specs.Starts.{IsInOrder, IsStart, IsStartWith}
 use Rattle.reversal.specs.Runs.{live_named, without_live, AreReversibleTogether, Undoes, AreReversible}
 use Rattle.reversal.specs.Laws.{MovesPreserve}
-use Rattle.requests.specs.Returning.{IsNew, AreNew, HasLoadRecords, AreFitting}
+use Rattle.requests.specs.Returning.{IsNew, AreNew, HasLoadRecords, AreReversibleBeside}
 
 pub entries_read : (e : Environment) (o : AreLoadedInOrder e) → loaded_in e ≡ Some o.entries
 entries_read e o = subst (λ (x : Environment). loaded_in x ≡ Some o.entries) o.written (loaded_again e o.entries o.list)
@@ -53,7 +53,7 @@ undoes uses start old bs live m list start_with_live new records (xs, read, any)
     let l = live_among m bs live (new bs list) (subst (λ (ys : List Entry). list_any (is_entry_of m) ys ≡ true) same any) in
     record { loaded = l.0; found = l.1; records = records l.0 l.1 }
 
-pub reversible : MovesPreserve → (uses : Text → VariableUse) (start : Environment) → IsStart uses start → (ms : List Move) (live : List Module) (old new : Environment) → IsInOrder uses old → IsStartWith uses start live old → AreReversibleTogether uses live → AreNew start ms → AreFitting uses live ms → MovesReach ms old new → AreReversible uses live ms
+pub reversible : MovesPreserve → (uses : Text → VariableUse) (start : Environment) → IsStart uses start → (ms : List Move) (live : List Module) (old new : Environment) → IsInOrder uses old → IsStartWith uses start live old → AreReversibleTogether uses live → AreNew start ms → AreReversibleBeside uses live ms → MovesReach ms old new → AreReversible uses live ms
 reversible step_law uses start begin [] live old new order start_with_live fit news fitting reach = tt
 reversible step_law uses start begin (Loads m ∷ ms) live old new order start_with_live fit news fitting (fits, (mid, move, reach)) =
     let h = step_law uses start old mid live (Loads m ∷ []) begin order start_with_live fit (fitting.0, tt) (fits, (mid, move, refl)) in

@@ -14,14 +14,14 @@ use Rattle.reversal.specs.Laws.{Holds}
 use Rattle.search.specs.Found as search
 use Rattle.requests.specs.Reasons.{RequestReason}
 use Rattle.requests.specs.Requests.{Request}
-use Rattle.requests.specs.Steps.{Site, Finds}
+use Rattle.requests.specs.Steps.{RequestContext, Finds}
 use Rattle.requests.specs.Sessions.{Response, Session, end_environment, session_moves}
 use Rattle.requests.specs.Returning.{AreNew}
 use Rattle.requests.specs.Verdicts.{Verdict, plain, HasVerdict}
 use Rattle.requests.specs.PlainRuns.{HasEvaluatedTo}
 
 -- In some environment a name meant the module of this name and path, and the verdict on it was plain.
-pub record IsJudgedPlain (s : Site) (name path : Text) : Type 0 where
+pub record IsJudgedPlain (s : RequestContext) (name path : Text) : Type 0 where
   pub env : Environment
   pub typed : Text
   pub judged : HasVerdict s env typed (Ok plain)
@@ -34,7 +34,7 @@ pub record IsApart (uses : Text → VariableUse) (live : List Module) (m : Modul
   pub sets_apart : (v : Text) → is_some (last_set v m.records) ≡ true → live_set v live ≡ None
 
 -- Each load is of a module that is apart from the live ones, and that was judged plain.
-abbrev pub AreJudged : Site → (Text → VariableUse) → List Module → List Move → Type 0
+abbrev pub AreJudged : RequestContext → (Text → VariableUse) → List Module → List Move → Type 0
 AreJudged s uses live [] = Unit {0}
 AreJudged s uses live (Loads m ∷ ms) =
     (IsApart uses live m × IsJudgedPlain s m.name m.path) × AreJudged s uses (m ∷ live) ms
@@ -43,19 +43,19 @@ AreJudged s uses live (Unloads m ∷ ms) = AreJudged s uses (without_live m.name
 -- A name has a verdict, or a reason why there is none.
 abbrev pub SomeVerdict : Type 0
 SomeVerdict =
-    (s : Site) (e : Environment) (name : Text) → (o : Result Verdict RequestReason) × HasVerdict s e name o
+    (s : RequestContext) (e : Environment) (name : Text) → (o : Result Verdict RequestReason) × HasVerdict s e name o
 
 -- Whatever records an evaluation of the file of such a module makes, unloading undoes them.
 abbrev pub JudgedIsReversible : Type 0
 JudgedIsReversible =
-    (s : Site) (name path : Text) (ran : Ran) → IsJudgedPlain s name path → HasEvaluatedTo s name path ran
+    (s : RequestContext) (name path : Text) (ran : Ran) → IsJudgedPlain s name path → HasEvaluatedTo s name path ran
     → list_all is_reversible ran.records ≡ true
 
 -- A session of new modules that were judged plain and are apart, from a start in order: each environment of the session
 -- is in order and is the start with the live modules layered on it. With none it is the start.
 abbrev pub JudgedSessionsReturn : Type 0
 JudgedSessionsReturn =
-    (uses : Text → VariableUse) (s : Site) (start : Environment) (rs : List Request) (before after : List Response)
+    (uses : Text → VariableUse) (s : RequestContext) (start : Environment) (rs : List Request) (before after : List Response)
     → IsStart uses start → Session s start rs (before ++ after)
     → AreNew start (session_moves (before ++ after)) → AreJudged s uses [] (session_moves (before ++ after))
     → Holds uses start (live_after [] (session_moves before)) (end_environment start before)

@@ -4,7 +4,7 @@ use Rattle.std.specs.Prelude.{◌≡◌, true, List, [], ◌++◌, map, Result, 
 use Rattle.std.specs.List.{list_all}
 use Rattle.envvars.specs.Texts.{Text}
 use Rattle.envvars.specs.Environment.{Environment}
-use Rattle.modulerecords.specs.Moves.{Module, made, MovesReach}
+use Rattle.modulerecords.specs.Moves.{Module, all_moved, MovesReach}
 use Rattle.reversal.specs.VariableUses.{VariableUse}
 use Rattle.reversal.specs.Starts.{IsInOrder, IsStart, IsStartWith}
 use Rattle.reversal.specs.Runs.{live_after, AreReversibleTogether}
@@ -12,15 +12,15 @@ use Rattle.reversal.specs.Requests as moves
 use Rattle.reversal.specs.Laws.{Holds}
 use Rattle.requests.specs.Reasons.{RequestReason}
 use Rattle.requests.specs.Requests.{RequestedAction, Request, load, unload, switch, purge, list, avail, show, whatis}
-use Rattle.requests.specs.Steps.{Site, Done, RequestStep}
+use Rattle.requests.specs.Steps.{RequestContext, Done, RequestStep}
 use Rattle.requests.specs.Sessions.{Response, Session, end_environment, outcome_of, session_moves, is_decided}
-use Rattle.requests.specs.Returning.{AreNew, AreFitting}
+use Rattle.requests.specs.Returning.{AreNew, AreReversibleBeside}
 use Rattle.requests.specs.PlainRuns.{ArePlain}
 
 -- A request has one outcome at most.
 abbrev pub OneOutcome : Type 0
 OneOutcome =
-    (s : Site) (e : Environment) (action : RequestedAction) (o p : Result Done RequestReason)
+    (s : RequestContext) (e : Environment) (action : RequestedAction) (o p : Result Done RequestReason)
     → RequestStep s e action o → RequestStep s e action p → o ≡ p
 
 -- a request other than `avail`
@@ -37,20 +37,20 @@ IsNotAvail (whatis names) = Unit {0}
 -- Each of these has an outcome.
 abbrev pub SomeOutcome : Type 0
 SomeOutcome =
-    (s : Site) (e : Environment) (action : RequestedAction) → IsNotAvail action
+    (s : RequestContext) (e : Environment) (action : RequestedAction) → IsNotAvail action
     → (o : Result Done RequestReason) × RequestStep s e action o
 
 -- The moves of an accepted step take the environment to the one that results, and each fits where it is made.
 abbrev pub StepsReach : Type 0
 StepsReach =
-    (s : Site) (e : Environment) (action : RequestedAction) (d : Done) → RequestStep s e action (Ok d)
+    (s : RequestContext) (e : Environment) (action : RequestedAction) (d : Done) → RequestStep s e action (Ok d)
     → MovesReach d.moves e d.env
 
 -- So the environment that results is the one that they make.
-abbrev pub StepsAreMade : Type 0
-StepsAreMade =
-    (s : Site) (e : Environment) (action : RequestedAction) (d : Done) → RequestStep s e action (Ok d)
-    → made d.moves e ≡ Ok d.env
+abbrev pub StepsAreTheirMoves : Type 0
+StepsAreTheirMoves =
+    (s : RequestContext) (e : Environment) (action : RequestedAction) (d : Done) → RequestStep s e action (Ok d)
+    → all_moved d.moves e ≡ Ok d.env
 
 -- a request that only reports
 abbrev pub Reports : RequestedAction → Type 0
@@ -66,40 +66,40 @@ Reports (whatis names) = Unit {0}
 -- It changes no variable, and moves nothing.
 abbrev pub ReportsChangeNothing : Type 0
 ReportsChangeNothing =
-    (s : Site) (e : Environment) (action : RequestedAction) (d : Done) → Reports action → RequestStep s e action (Ok d)
+    (s : RequestContext) (e : Environment) (action : RequestedAction) (d : Done) → Reports action → RequestStep s e action (Ok d)
     → (d.env ≡ e) × (d.moves ≡ [])
 
 -- A session is a run of what its requests moved.
 abbrev pub SessionsRun : Type 0
 SessionsRun =
-    (s : Site) (e : Environment) (rs : List Request) (os : List Response) → Session s e rs os
+    (s : RequestContext) (e : Environment) (rs : List Request) (os : List Response) → Session s e rs os
     → moves.RequestsReach (map outcome_of os) e (end_environment e os)
 
 -- Its moves take the first environment to the last.
 abbrev pub SessionsReach : Type 0
 SessionsReach =
-    (s : Site) (e : Environment) (rs : List Request) (os : List Response) → Session s e rs os
+    (s : RequestContext) (e : Environment) (rs : List Request) (os : List Response) → Session s e rs os
     → MovesReach (session_moves os) e (end_environment e os)
 
 -- Where nothing was given up it has one list of responses.
 abbrev pub OneSession : Type 0
 OneSession =
-    (s : Site) (e : Environment) (rs : List Request) (os ps : List Response)
+    (s : RequestContext) (e : Environment) (rs : List Request) (os ps : List Response)
     → list_all is_decided os ≡ true → list_all is_decided ps ≡ true → Session s e rs os → Session s e rs ps → os ≡ ps
 
 -- A session of new modules that are reversible and apart, from a start in order: each environment of the session is in
 -- order and is the start with the live modules layered on it. With none it is the start.
 abbrev pub SessionsReturn : Type 0
 SessionsReturn =
-    (uses : Text → VariableUse) (s : Site) (start : Environment) (rs : List Request) (before after : List Response)
+    (uses : Text → VariableUse) (s : RequestContext) (start : Environment) (rs : List Request) (before after : List Response)
     → IsStart uses start → Session s start rs (before ++ after)
-    → AreNew start (session_moves (before ++ after)) → AreFitting uses [] (session_moves (before ++ after))
+    → AreNew start (session_moves (before ++ after)) → AreReversibleBeside uses [] (session_moves (before ++ after))
     → Holds uses start (live_after [] (session_moves before)) (end_environment start before)
 
 -- The same where the files of the modules are plain: then there is no premise about the records of unloads.
 abbrev pub PlainSessionsReturn : Type 0
 PlainSessionsReturn =
-    (uses : Text → VariableUse) (s : Site) (start : Environment) (rs : List Request) (before after : List Response)
+    (uses : Text → VariableUse) (s : RequestContext) (start : Environment) (rs : List Request) (before after : List Response)
     → IsStart uses start → Session s start rs (before ++ after)
     → AreNew start (session_moves (before ++ after)) → ArePlain s uses [] (session_moves (before ++ after))
     → Holds uses start (live_after [] (session_moves before)) (end_environment start before)
@@ -109,8 +109,8 @@ PlainSessionsReturn =
 -- the start.
 abbrev pub CommandsReturn : Type 0
 CommandsReturn =
-    (uses : Text → VariableUse) (s : Site) (start e : Environment) (live : List Module) (action : RequestedAction)
+    (uses : Text → VariableUse) (s : RequestContext) (start e : Environment) (live : List Module) (action : RequestedAction)
     (d : Done)
     → IsStart uses start → IsInOrder uses e → IsStartWith uses start live e → AreReversibleTogether uses live
-    → RequestStep s e action (Ok d) → AreNew start d.moves → AreFitting uses live d.moves
+    → RequestStep s e action (Ok d) → AreNew start d.moves → AreReversibleBeside uses live d.moves
     → Holds uses start (live_after live d.moves) d.env × AreReversibleTogether uses (live_after live d.moves)

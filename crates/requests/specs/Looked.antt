@@ -10,15 +10,15 @@ use Rattle.modulerecords.specs.Effects as modes
 use Rattle.search.specs.Looked as search
 use Rattle.requests.specs.Reasons.{RequestReason}
 use Rattle.requests.specs.Requests.{RequestedAction, load, unload, switch, purge, list, avail, show, whatis}
-use Rattle.requests.specs.Steps.{Site, Done, nothing_done, entries_of, modulepath, last_meant, old_name}
+use Rattle.requests.specs.Steps.{RequestContext, Done, nothing_done, entries_of, modulepath, last_meant, old_name}
 use Rattle.requests.specs.Steps.{LoadsName, UnloadsName, ShowsName, shown_text, described_text}
 
 -- The search for what a name means now looks at this path. The file of the module that is found is one of these.
-abbrev pub SearchLooksAt : Site → Environment → Text → Text → Type 0
+abbrev pub SearchLooksAt : RequestContext → Environment → Text → Text → Type 0
 SearchLooksAt s e name at = search.LooksAt (HasResult s.limits) s.files s.listings (modulepath e) name at
 
 -- to load a name: where it is searched, unless it is exactly a loaded module's
-pub record LoadLooksAt (s : Site) (typed : Text) (d : Done) (at : Text) : Type 0 where
+pub record LoadLooksAt (s : RequestContext) (typed : Text) (d : Done) (at : Text) : Type 0 where
   pub entries : List Entry
   pub read : Ok entries ≡ entries_of d.env
   pub unloaded : has typed (names_of entries) ≡ false
@@ -34,7 +34,7 @@ pub record UnloadLooksAt (typed : Text) (d : Done) (at : Text) : Type 0 where
   pub recorded : at ≡ entry.path
 
 -- to show a name: where it is searched
-pub record ShowLooksAt (s : Site) (typed : Text) (d : Done) (at : Text) : Type 0 where
+pub record ShowLooksAt (s : RequestContext) (typed : Text) (d : Done) (at : Text) : Type 0 where
   pub entries : List Entry
   pub read : Ok entries ≡ entries_of d.env
   pub searched : SearchLooksAt s d.env typed at
@@ -51,18 +51,18 @@ EachLooksAt Does Looks (name ∷ names) d at =
     LooksInTurn (Looks name d) (Does name d) (EachLooksAt Does Looks names) at
 
 -- to switch: for the old name, and then for the new one
-abbrev pub SwitchLooksAt : Site → Text → Text → Done → Text → Type 0
+abbrev pub SwitchLooksAt : RequestContext → Text → Text → Done → Text → Type 0
 SwitchLooksAt s old new d =
     LooksInTurn (UnloadLooksAt old d) (UnloadsName s true old d) (LoadLooksAt s new)
 
 -- for all loaded modules, the last loaded first
-pub record PurgeLooksAt (s : Site) (e : Environment) (at : Text) : Type 0 where
+pub record PurgeLooksAt (s : RequestContext) (e : Environment) (at : Text) : Type 0 where
   pub entries : List Entry
   pub read : Ok entries ≡ entries_of e
   pub unloading : EachLooksAt (UnloadsName s false) UnloadLooksAt (reverse (names_of entries)) (nothing_done e) at
 
 -- The request looks at this path.
-abbrev pub RequestLooksAt : Site → Environment → RequestedAction → Text → Type 0
+abbrev pub RequestLooksAt : RequestContext → Environment → RequestedAction → Text → Type 0
 RequestLooksAt s e (load names) at = EachLooksAt (LoadsName s false) (LoadLooksAt s) names (nothing_done e) at
 RequestLooksAt s e (unload names) at = EachLooksAt (UnloadsName s false) UnloadLooksAt names (nothing_done e) at
 RequestLooksAt s e (switch old new) at = SwitchLooksAt s (old_name old new) new (nothing_done e) at

@@ -5,7 +5,7 @@ use Rattle.envvars.specs.Environment.{Environment}
 use Rattle.envloaded.specs.Loaded.{Entry, names_of, loaded_in}
 use Rattle.modulerecords.specs.Moves.{Module, Move, Loads, Unloads}
 use Rattle.reversal.specs.VariableUses.{VariableUse}
-use Rattle.reversal.specs.Runs.{live_named, without_live, IsReversibleBeside}
+use Rattle.reversal.specs.Runs.{live_named, without_live, IsReversibleAndApart}
 
 -- no module that is loaded at the start is unloaded
 abbrev pub IsNew : Environment → Move → Type 0
@@ -23,7 +23,7 @@ HasLoadRecords live m = (loaded : Module) → live_named m.name live ≡ Some lo
 
 -- Each load is of a module that is reversible and apart from the live ones, and each unload has the records of the load
 -- that it undoes.
-abbrev pub AreFitting : (Text → VariableUse) → List Module → List Move → Type 0
-AreFitting uses live [] = Unit {0}
-AreFitting uses live (Loads m ∷ ms) = IsReversibleBeside uses live m × AreFitting uses (m ∷ live) ms
-AreFitting uses live (Unloads m ∷ ms) = HasLoadRecords live m × AreFitting uses (without_live m.name live) ms
+abbrev pub AreReversibleBeside : (Text → VariableUse) → List Module → List Move → Type 0
+AreReversibleBeside uses live [] = Unit {0}
+AreReversibleBeside uses live (Loads m ∷ ms) = IsReversibleAndApart uses live m × AreReversibleBeside uses (m ∷ live) ms
+AreReversibleBeside uses live (Unloads m ∷ ms) = HasLoadRecords live m × AreReversibleBeside uses (without_live m.name live) ms

@@ -8,7 +8,7 @@ use Rattle.reversal.specs.Requests as moves
 use Rattle.reversal.specs.Requests.{all_moves}
 use Rattle.requests.specs.Reasons.{RequestReason}
 use Rattle.requests.specs.Requests.{RequestedAction, Request}
-use Rattle.requests.specs.Steps.{Site, Done, RequestStep, site_in}
+use Rattle.requests.specs.Steps.{RequestContext, Done, RequestStep, request_context_in}
 
 -- The response to a request: accepted; refused for its reason; or given up because memory ran out, a device failed or
 -- the shell has no text for a value. The number is that of the cause.
@@ -23,7 +23,7 @@ abbrev pub is_given_up_by : ℕ → Bool
 is_given_up_by number = list_any (λ n. n == number) (11 ∷ 31 ∷ 41 ∷ 61 ∷ 43 ∷ 62 ∷ [])
 
 -- an accepted or refused request has the outcome of its step; one that was given up has a cause
-abbrev pub IsResponse : Site → Environment → RequestedAction → Response → Type 0
+abbrev pub IsResponse : RequestContext → Environment → RequestedAction → Response → Type 0
 IsResponse s e action (accepted d) = RequestStep s e action (Ok d)
 IsResponse s e action (refused reason) = RequestStep s e action (Err reason)
 IsResponse s e action (given_up number) = is_given_up_by number ≡ true
@@ -40,11 +40,11 @@ end_environment e [] = e
 end_environment e (o ∷ os) = end_environment (env_after e o) os
 
 -- what a request is run over, for another shell
-abbrev pub in_shell : Site → Shell → Site
-in_shell s shell = site_in s.limits shell s.files s.listings
+abbrev pub in_shell : RequestContext → Shell → RequestContext
+in_shell s shell = request_context_in s.limits shell s.files s.listings
 
 -- From an environment, the requests have these responses: each in the environment after those before it.
-abbrev pub Session : Site → Environment → List Request → List Response → Type 0
+abbrev pub Session : RequestContext → Environment → List Request → List Response → Type 0
 Session s e [] [] = Unit {0}
 Session s e [] (o ∷ os) = ⊥
 Session s e (r ∷ rs) [] = ⊥

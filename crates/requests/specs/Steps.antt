@@ -33,18 +33,19 @@ use Rattle.requests.specs.Reports.{loaded_text, avail_text}
 
 -- What a request is run over: the files and directories of a tree, the limits on the evaluation of each file, and the shell
 -- that reads what is printed.
-pub record Site : Type 0 where
+pub record RequestContext : Type 0 where
   pub files : Files
   pub listings : Listings
   pub limits : Limits
   pub shell : Shell
 
 -- what a request is run over, by its parts
-abbrev pub site_in : Limits → Shell → Files → Listings → Site
-site_in limits shell files listings = record { files = files; listings = listings; limits = limits; shell = shell }
+abbrev pub request_context_in : Limits → Shell → Files → Listings → RequestContext
+request_context_in limits shell files listings = record { files = files; listings = listings; limits = limits; shell = shell }
 
 -- What a request has done so far: its moves and what they made of the environment, the messages of its files, and its
 -- report.
+-- (`Done` of requeststep is without the environment)
 pub record Done : Type 0 where
   pub env : Environment
   pub moves : List Move
@@ -83,7 +84,7 @@ abbrev pub modulepath : Environment → Text
 modulepath e = unwrap_or (lookup e (codes "MODULEPATH")) []
 
 -- the context in which the file of this name and path is evaluated
-abbrev pub context_of : Site → Mode → Bool → Text → Text → Text → List Entry → Environment → FileContext
+abbrev pub context_of : RequestContext → Mode → Bool → Text → Text → Text → List Entry → Environment → FileContext
 context_of s mode in_switch typed name path xs e =
     record {
       mode = mode;
@@ -93,7 +94,7 @@ context_of s mode in_switch typed name path xs e =
       shell = s.shell;
       typed = typed;
       loaded = names_of xs;
-      start = e;
+      before = e;
     }
 
 -- the module with the records that its file made
@@ -101,7 +102,7 @@ abbrev pub module_of : Text → Text → Ran → Module
 module_of name path ran = record { name = name; path = path; records = ran.records }
 
 -- what a name means in an environment, by the search along its MODULEPATH
-abbrev pub Finds : Site → Environment → Text → Result search.FoundModule RequestReason → Type 0
+abbrev pub Finds : RequestContext → Environment → Text → Result search.FoundModule RequestReason → Type 0
 Finds s e name = RefusedAs missed (Found (HasResult s.limits) s.files s.listings (modulepath e) name)
 
 -- ---- load
@@ -111,7 +112,7 @@ abbrev pub joins : Done → List Entry → Module → List Text → Result Done 
 joins d xs m messages = unless (load_objection m.name m.records xs) (continued d (Loads m) messages)
 
 -- The module that was found is loaded, unless it is already.
-abbrev pub LoadsFound : Site → Bool → Text → Done → List Entry → search.FoundModule → Result Done RequestReason → Type 0
+abbrev pub LoadsFound : RequestContext → Bool → Text → Done → List Entry → search.FoundModule → Result Done RequestReason → Type 0
 LoadsFound s in_switch typed d xs m =
     If (has m.name (names_of xs)) (Is (Ok d)) (
     RefusedAs file_refused
@@ -120,7 +121,7 @@ LoadsFound s in_switch typed d xs m =
     Is (joins d xs (module_of m.name m.path ran) ran.messages)))
 
 -- A name that is exactly a loaded module's changes nothing. Another is searched for.
-abbrev pub LoadsName : Site → Bool → Text → Done → Result Done RequestReason → Type 0
+abbrev pub LoadsName : RequestContext → Bool → Text → Done → Result Done RequestReason → Type 0
 LoadsName s in_switch typed d =
     Is (entries_of d.env) >> (λ xs.
     If (has typed (names_of xs)) (Is (Ok d)) (
@@ -136,7 +137,7 @@ script_at path not_utf8 = Err (missed (not_utf8_at path))
 script_at path (script text) = Ok text
 
 -- The module is unloaded by the file at its recorded path. There is no search.
-abbrev pub UnloadsEntry : Site → Bool → Text → Done → List Entry → Entry → Result Done RequestReason → Type 0
+abbrev pub UnloadsEntry : RequestContext → Bool → Text → Done → List Entry → Entry → Result Done RequestReason → Type 0
 UnloadsEntry s in_switch typed d xs x =
     Is (script_at x.path (modulefile (s.files x.path))) >> (λ text.
     RefusedAs file_refused
@@ -145,7 +146,7 @@ UnloadsEntry s in_switch typed d xs x =
     Is (continued d (Unloads (module_of x.name x.path ran)) ran.messages)))
 
 -- where there is no such module nothing changes
-abbrev pub UnloadsMeant : Site → Bool → Text → Done → List Entry → Option Entry → Result Done RequestReason → Type 0
+abbrev pub UnloadsMeant : RequestContext → Bool → Text → Done → List Entry → Option Entry → Result Done RequestReason → Type 0
 UnloadsMeant s in_switch typed d xs None = Is (Ok d)
 UnloadsMeant s in_switch typed d xs (Some x) = UnloadsEntry s in_switch typed d xs x
 
@@ -154,7 +155,7 @@ abbrev pub last_meant : Text → List Entry → Option Entry
 last_meant name xs = find (λ x. means name x.name) (reverse xs)
 
 -- the last loaded module that the name means is unloaded
-abbrev pub UnloadsName : Site → Bool → Text → Done → Result Done RequestReason → Type 0
+abbrev pub UnloadsName : RequestContext → Bool → Text → Done → Result Done RequestReason → Type 0
 UnloadsName s in_switch typed d =
     Is (entries_of d.env) >> (λ xs.
     If (is_module_name typed)
@@ -164,7 +165,7 @@ UnloadsName s in_switch typed d =
 -- ---- show and whatis
 
 -- The file is evaluated in the environment, which doesn't change.
-abbrev pub ShowsName : Site → Mode → (search.FoundModule → List Record → Text) → Text → Done → Result Done RequestReason
+abbrev pub ShowsName : RequestContext → Mode → (search.FoundModule → List Record → Text) → Text → Done → Result Done RequestReason
     → Type 0
 ShowsName s mode text_of typed d =
     Is (entries_of d.env) >> (λ xs.
@@ -198,9 +199,9 @@ abbrev pub EndsRequest : List Entry → Done → Result Done RequestReason → T
 EndsRequest before d = Is (entries_of d.env) >> (λ after. Is (unless (end_objection before after) (Ok d)))
 
 -- The loaded modules are read first, and judged last.
-abbrev pub Changes : Environment → (List Entry → Done → Result Done RequestReason → Type 0)
+abbrev pub ChangesLoaded : Environment → (List Entry → Done → Result Done RequestReason → Type 0)
     → Result Done RequestReason → Type 0
-Changes e Does = Is (entries_of e) >> (λ before. Does before (nothing_done e) >> EndsRequest before)
+ChangesLoaded e Does = Is (entries_of e) >> (λ before. Does before (nothing_done e) >> EndsRequest before)
 
 -- the first part of a name
 abbrev pub first_part : List Text → Text
@@ -213,11 +214,11 @@ old_name (Some old) new = old
 old_name None new = first_part (parts new)
 
 -- the old one is unloaded, and then the new one loaded
-abbrev pub Switches : Site → Option Text → Text → Done → Result Done RequestReason → Type 0
+abbrev pub Switches : RequestContext → Option Text → Text → Done → Result Done RequestReason → Type 0
 Switches s old new d = UnloadsName s true (old_name old new) d >> LoadsName s true new
 
 -- each name is reported on in turn
-abbrev pub ShowsNames : Site → Mode → (search.FoundModule → List Record → Text) → Environment → List Text
+abbrev pub ShowsNames : RequestContext → Mode → (search.FoundModule → List Record → Text) → Environment → List Text
     → Result Done RequestReason → Type 0
 ShowsNames s mode text_of e names = Is (entries_of e) >> (λ xs. Each (ShowsName s mode text_of) names (nothing_done e))
 
@@ -226,17 +227,17 @@ abbrev pub ListsLoaded : Environment → Result Done RequestReason → Type 0
 ListsLoaded e = Is (entries_of e) >> (λ xs. Is (Ok (with_report (nothing_done e) [] (loaded_text (names_of xs)))))
 
 -- the modules along MODULEPATH are reported, whatever is loaded
-abbrev pub ListsAll : Site → Environment → List Text → Result Done RequestReason → Type 0
+abbrev pub ListsAll : RequestContext → Environment → List Text → Result Done RequestReason → Type 0
 ListsAll s e texts o =
     (listings : List Listing) × Listed (HasResult s.limits) s.files s.listings (modulepath e) listings
     × (o ≡ Ok (with_report (nothing_done e) [] (avail_text texts listings)))
 
 -- The step of a request.
-abbrev pub RequestStep : Site → Environment → RequestedAction → Result Done RequestReason → Type 0
-RequestStep s e (load names) = NeedsNames names (Changes e (λ before. Each (LoadsName s false) names))
-RequestStep s e (unload names) = NeedsNames names (Changes e (λ before. Each (UnloadsName s false) names))
-RequestStep s e (switch old new) = Changes e (λ before. Switches s old new)
-RequestStep s e purge = Changes e (λ before. Each (UnloadsName s false) (reverse (names_of before)))
+abbrev pub RequestStep : RequestContext → Environment → RequestedAction → Result Done RequestReason → Type 0
+RequestStep s e (load names) = NeedsNames names (ChangesLoaded e (λ before. Each (LoadsName s false) names))
+RequestStep s e (unload names) = NeedsNames names (ChangesLoaded e (λ before. Each (UnloadsName s false) names))
+RequestStep s e (switch old new) = ChangesLoaded e (λ before. Switches s old new)
+RequestStep s e purge = ChangesLoaded e (λ before. Each (UnloadsName s false) (reverse (names_of before)))
 RequestStep s e list = ListsLoaded e
 RequestStep s e (avail texts) = ListsAll s e texts
 RequestStep s e (show names) = NeedsNames names (ShowsNames s modes.display shown_text e names)

@@ -13,7 +13,7 @@ use Rattle.search.specs.Found as search
 use Rattle.reversal.specs.VariableUses.{is_reversible}
 use Rattle.requests.specs.Refusals.{RefusedAs}
 use Rattle.requests.specs.Reasons.{RequestReason, file_refused}
-use Rattle.requests.specs.Steps.{Site, entries_of, Finds, context_of}
+use Rattle.requests.specs.Steps.{RequestContext, entries_of, Finds, context_of}
 use Rattle.requests.specs.Sessions.{in_shell}
 
 -- what one evaluation of a modulefile shows about all others
@@ -21,21 +21,21 @@ pub data Verdict : Type 0 where
   -- it asked nothing, and unloading undoes its records
   plain : Verdict
   -- it asked about the environment, the mode, the shell, the typed name or the loaded modules
-  asks : Verdict
+  asked : Verdict
   -- it asked nothing, and has a record that unloading doesn't undo
   one_way : Verdict
 
 -- the verdict by the result of the evaluation
 abbrev pub verdict_of : Ran → Verdict
-verdict_of ran = if ran.asked then asks else if list_all is_reversible ran.records then plain else one_way
+verdict_of ran = if ran.asked then asked else if list_all is_reversible ran.records then plain else one_way
 
 -- the context of a verdict: for loading, in sh
-abbrev pub verdict_context : Site → Text → search.FoundModule → List Entry → Environment → FileContext
+abbrev pub verdict_context : RequestContext → Text → search.FoundModule → List Entry → Environment → FileContext
 verdict_context s name m xs e = context_of (in_shell s Sh) modes.load false name m.name m.path xs e
 
 -- The verdict on the module that a name means. Its file is evaluated for loading in sh, and the typed name is this
 -- name. Conflicts and prereqs aren't judged.
-abbrev pub HasVerdict : Site → Environment → Text → Result Verdict RequestReason → Type 0
+abbrev pub HasVerdict : RequestContext → Environment → Text → Result Verdict RequestReason → Type 0
 HasVerdict s e name =
     Is (entries_of e) >> (λ xs.
     Finds s e name >> (λ m.
@@ -44,7 +44,7 @@ HasVerdict s e name =
 
 -- In every context of this module, whatever the mode, the environment, the shell, the typed name and the loaded
 -- modules, its file makes these records or is refused.
-abbrev pub AlwaysRecords : Site → search.FoundModule → Ran → Type 0
+abbrev pub AlwaysRecords : RequestContext → search.FoundModule → Ran → Type 0
 AlwaysRecords s m ran =
     (c : FileContext) (o : Result Ran FileReason) → c.name ≡ m.name → c.path ≡ m.path → RunsFile s.limits c m.text o
     → IsSameOrRefused ran o
@@ -52,12 +52,12 @@ AlwaysRecords s m ran =
 -- A module has one verdict at most.
 abbrev pub OneVerdict : Type 0
 OneVerdict =
-    (s : Site) (e : Environment) (name : Text) (o p : Result Verdict RequestReason)
+    (s : RequestContext) (e : Environment) (name : Text) (o p : Result Verdict RequestReason)
     → HasVerdict s e name o → HasVerdict s e name p → o ≡ p
 
 -- A module that is judged plain makes the same records always, and unloading undoes each of them.
 abbrev pub PlainHolds : Type 0
 PlainHolds =
-    (s : Site) (e : Environment) (name : Text) → HasVerdict s e name (Ok plain)
+    (s : RequestContext) (e : Environment) (name : Text) → HasVerdict s e name (Ok plain)
     → (m : search.FoundModule) × (ran : Ran) × Finds s e name (Ok m)
     × (list_all is_reversible ran.records ≡ true) × AlwaysRecords s m ran

@@ -1,5 +1,5 @@
 //! Laws about requests, sessions and verdicts. Each is a function that does nothing: its contract is the law.
-ghost use Rattle.requests.specs.Laws.{OneOutcome, SomeOutcome, StepsReach, StepsAreMade, ReportsChangeNothing};
+ghost use Rattle.requests.specs.Laws.{OneOutcome, SomeOutcome, StepsReach, StepsAreTheirMoves, ReportsChangeNothing};
 ghost use Rattle.requests.specs.Laws.{SessionsRun, SessionsReach, OneSession, SessionsReturn, PlainSessionsReturn, CommandsReturn};
 ghost use Rattle.requests.specs.PlainRuns.{JudgedIsPlain};
 ghost use Rattle.requests.specs.JudgedRuns.{SomeVerdict, JudgedIsReversible, JudgedSessionsReturn};
@@ -11,7 +11,7 @@ ghost use Rattle.requests.specs.Verdicts.{OneVerdict, PlainHolds};
 pub fn outcomes()
     ensures one { OneOutcome }
     ensures reach { StepsReach }
-    ensures made { StepsAreMade }
+    ensures all_moved { StepsAreTheirMoves }
 {
     modulefile::files();
     defaultfiles::one_result();

@@ -10,10 +10,10 @@ use Rattle.search.specs.Found as search
 use Rattle.search.specs.Reasons.{bad_name}
 use Rattle.requests.specs.Reasons.{RequestReason, missed, file_refused}
 use Rattle.requests.specs.Refusals.{RefusedAs}
-use Rattle.requests.specs.Steps.{Site, Done, entries_of, context_of, module_of, joins, Finds, LoadsFound, LoadsName, UnloadsMeant, UnloadsName, last_meant}
+use Rattle.requests.specs.Steps.{RequestContext, Done, entries_of, context_of, module_of, joins, Finds, LoadsFound, LoadsName, UnloadsMeant, UnloadsName, last_meant}
 use Rattle.requeststep.proofs.StepLemmas.{if_yes, if_no}
 
-module _ (s : Site) (in_switch : Bool) (typed : Text) (d : Done) where
+module _ (s : RequestContext) (in_switch : Bool) (typed : Text) (d : Done) where
   pub loads_unread : (r : RequestReason) → Err r ≡ entries_of d.env → LoadsName s in_switch typed d (Err r)
   loads_unread r h = (Err r, h, refl)
 
@@ -42,7 +42,7 @@ module _ (s : Site) (in_switch : Bool) (typed : Text) (d : Done) where
     )
 
 -- the module that was found
-module _ (s : Site) (in_switch : Bool) (typed : Text) (d : Done) (xs : List Entry) (m : search.FoundModule) where
+module _ (s : RequestContext) (in_switch : Bool) (typed : Text) (d : Done) (xs : List Entry) (m : search.FoundModule) where
   abbrev evaluated : Result Ran RequestReason → Type 0
   evaluated = RefusedAs file_refused (RunsFile s.limits (context_of s modes.load in_switch typed m.name m.path xs d.env) m.text)
 

@@ -7,14 +7,14 @@ use Rattle.envloaded.specs.Loaded.{Entry, dropped_loaded}
 use Rattle.filetree.specs.Agreement.{Files, Listings, InEachPair}
 use Rattle.filetree.specs.Causes.{Cause, Applies, memory, device, because}
 use Rattle.tclrules.specs.declared.limits.Limits.{Limits}
-use Rattle.tclrules.specs.Derivation.{Outcome, Ended, Halted}
+use Rattle.tclrules.specs.Derivation.{EvaluationOutcome, Ended, Halted}
 use Rattle.tclrules.specs.Plans.{Completion, Normal, Raised, Returned, Broken, Continued}
 use Rattle.tclrules.specs.Oracle.{Trace}
 use Rattle.filetree.specs.Relations.{If}
 use Rattle.modulerecords.specs.Records.{Record}
 use Rattle.modulerecords.specs.Judgments.{RecordReason, bad_edit, record_reason}
 use Rattle.modulerecords.specs.Effects.{load, unload, display, whatis, effects, and_then, permitted, edit_outcome}
-use Rattle.modulerecords.specs.Moves.{Module, Loads, Unloads, listed}
+use Rattle.modulerecords.specs.Moves.{Module, Loads, Unloads, entry_moved}
 use Rattle.modulefile.specs.Results.{◌>>=◌}
 use Rattle.modulefile.specs.Calls.{CallReason}
 use Rattle.modulefile.specs.Answers.{FileContext, record_outcome, records_in}
@@ -27,7 +27,7 @@ use Rattle.requests.specs.Steps.{Done, with_move, continued, joins}
 use Rattle.requeststep.specs.declared.refusal.Refusal.{Refusal}
 use Rattle.requeststep.specs.Answers.{GivesOrRefuses, StepAnswersOverTree, by_reason, by_search, cause_of}
 use Rattle.requeststep.specs.declared.files.ReportKind.{ReportKind}
-use Rattle.requeststep.specs.declared.files.ReportKind.TheVariants.{Commands, Whatis}
+use Rattle.requeststep.specs.declared.files.ReportKind.TheVariants.{Show, Whatis}
 use Rattle.requeststep.specs.Parts.{added, objection, report_mode}
 
 -- a cause of one step is a cause of the whole
@@ -109,21 +109,21 @@ pub run_ended : (Runs' : Result Ran FileReason → Type 0) (ran : Ran) → Refus
 run_ended Runs' ran (Ok x, h, e) = let q : x ≡ ran = cc in subst (λ y. Runs' (Ok y)) q h
 run_ended Runs' ran (Err r, h, e) = absurd (cc)
 
-made_by : (c : FileContext) (trace : Trace) (ran : Ran) (rs : List Record) (x : Result Environment RecordReason) → effects c.mode c.name rs c.start ≡ x
-    → (record_outcome x >>= (λ e. Ok (record { records = rs; messages = trace.messages; asked = trace.asked; env = e }))) ≡ Ok ran → effects c.mode c.name ran.records c.start ≡ Ok ran.env
+made_by : (c : FileContext) (trace : Trace) (ran : Ran) (rs : List Record) (x : Result Environment RecordReason) → effects c.mode c.name rs c.before ≡ x
+    → (record_outcome x >>= (λ e. Ok (record { records = rs; messages = trace.messages; asked = trace.asked; env = e }))) ≡ Ok ran → effects c.mode c.name ran.records c.before ≡ Ok ran.env
 made_by c trace ran rs (Err r) made h = absurd (cc)
 made_by c trace ran rs (Ok e) made h =
     let made_ran : Ran = record { records = rs; messages = trace.messages; asked = trace.asked; env = e } in
     let q : made_ran ≡ ran = cc in
-    subst (λ (y : Ran). effects c.mode c.name y.records c.start ≡ Ok y.env) q made
+    subst (λ (y : Ran). effects c.mode c.name y.records c.before ≡ Ok y.env) q made
 
 ran_by : (c : FileContext) (trace : Trace) (ran : Ran) (x : Result (List Record) CallReason)
-    → (x >>= (λ rs. record_outcome (effects c.mode c.name rs c.start) >>= (λ e. Ok (record { records = rs; messages = trace.messages; asked = trace.asked; env = e })))) ≡ Ok ran
-    → effects c.mode c.name ran.records c.start ≡ Ok ran.env
+    → (x >>= (λ rs. record_outcome (effects c.mode c.name rs c.before) >>= (λ e. Ok (record { records = rs; messages = trace.messages; asked = trace.asked; env = e })))) ≡ Ok ran
+    → effects c.mode c.name ran.records c.before ≡ Ok ran.env
 ran_by c trace ran (Err r) h = absurd (cc)
-ran_by c trace ran (Ok rs) h = made_by c trace ran rs (effects c.mode c.name rs c.start) refl h
+ran_by c trace ran (Ok rs) h = made_by c trace ran rs (effects c.mode c.name rs c.before) refl h
 
-finished : (c : FileContext) (text : Text) (out : Outcome Completion) (trace : Trace) (ran : Ran) → FinishesFile c text out trace (Ok ran) → effects c.mode c.name ran.records c.start ≡ Ok ran.env
+finished : (c : FileContext) (text : Text) (out : EvaluationOutcome Completion) (trace : Trace) (ran : Ran) → FinishesFile c text out trace (Ok ran) → effects c.mode c.name ran.records c.before ≡ Ok ran.env
 finished c text (Ended (Normal result s)) trace ran (x, made, e) = let q : x ≡ ran = cc in ran_by c trace ran (records_in trace.records) (made ∙ ap Ok q)
 finished c text (Ended (Raised message s)) trace ran h = absurd (cc)
 finished c text (Ended (Returned result s)) trace ran h = absurd h
@@ -132,7 +132,7 @@ finished c text (Ended (Continued s)) trace ran h = absurd h
 finished c text (Halted halt) trace ran h = absurd (cc)
 
 -- a file that ended made the effects of its records
-pub run_made : (limits : Limits) (c : FileContext) (text : Text) (ran : Ran) → RefusedAs file_refused (RunsFile limits c text) (Ok ran) → effects c.mode c.name ran.records c.start ≡ Ok ran.env
+pub run_made : (limits : Limits) (c : FileContext) (text : Text) (ran : Ran) → RefusedAs file_refused (RunsFile limits c text) (Ok ran) → effects c.mode c.name ran.records c.before ≡ Ok ran.env
 run_made limits c text ran h = let k = run_ended (RunsFile limits c text) ran h in finished c text k.0 k.1.trace ran k.3
 
 -- in the modes of reports nothing changes
@@ -167,8 +167,8 @@ unless_after f (Some r) x y h = ap (after f) h
 module _ (d : Done) (xs : List Entry) (m : Module) (messages : List Text) (mid : Environment) (made : effects load m.name m.records d.env ≡ Ok mid) where
   joined : (y : Result Environment RequestReason) → y ≡ added xs m mid → after (with_move d (Loads m) messages) y ≡ joins d xs m messages
   joined y h =
-      subst (λ z. after (with_move d (Loads m) messages) y ≡ unless (load_objection m.name m.records xs) (refused_as refused_edit (and_then z (listed (Loads m))) >>= (λ e. Ok (with_move d (Loads m) messages e))))
-      (sym made) (unless_after (with_move d (Loads m) messages) (load_objection m.name m.records xs) (refused_as refused_edit (listed (Loads m) mid)) y h)
+      subst (λ z. after (with_move d (Loads m) messages) y ≡ unless (load_objection m.name m.records xs) (refused_as refused_edit (and_then z (entry_moved (Loads m))) >>= (λ e. Ok (with_move d (Loads m) messages e))))
+      (sym made) (unless_after (with_move d (Loads m) messages) (load_objection m.name m.records xs) (refused_as refused_edit (entry_moved (Loads m) mid)) y h)
 
   pub joins_ok : (e : Environment) → Ok e ≡ added xs m mid → Ok (with_move d (Loads m) messages e) ≡ joins d xs m messages
   joins_ok e h = joined (Ok e) h
@@ -189,7 +189,7 @@ by_drop d m messages (Err r) = refl
 pub unloads_so : (d : Done) (m : Module) (messages : List Text) (mid : Environment) (x : Result Environment EnvReason) → effects unload m.name m.records d.env ≡ Ok mid
     → dropped_loaded mid m.name ≡ x → dropped_so d m messages x ≡ continued d (Unloads m) messages
 unloads_so d m messages mid x made h =
-    subst (λ z. dropped_so d m messages x ≡ (refused_as refused_edit (and_then z (listed (Unloads m))) >>= (λ e. Ok (with_move d (Unloads m) messages e)))) (sym made)
+    subst (λ z. dropped_so d m messages x ≡ (refused_as refused_edit (and_then z (entry_moved (Unloads m))) >>= (λ e. Ok (with_move d (Unloads m) messages e)))) (sym made)
     (by_drop d m messages x ∙ ap (λ z. refused_as refused_edit (edit_outcome z) >>= (λ e. Ok (with_move d (Unloads m) messages e))) (sym h))
 
 -- ---- more of the parts
@@ -215,5 +215,5 @@ unloaded_as d n m p q rs messages e a b =
 
 -- a report changes nothing
 pub topic_same : (report_kind : ReportKind) (owner : Text) (rs : List Record) (e d : Environment) → effects (report_mode report_kind) owner rs e ≡ Ok d → d ≡ e
-topic_same Commands owner rs e d h = shown_same owner rs e d h
+topic_same Show owner rs e d h = shown_same owner rs e d h
 topic_same Whatis owner rs e d h = described_same owner rs e d h

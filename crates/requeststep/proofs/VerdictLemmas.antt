@@ -16,7 +16,7 @@ use Rattle.requeststep.specs.Answers.{StepAnswersOverTree}
 use Rattle.requeststep.specs.Verdicts.{verdict_view, in_sh, PlainVerdictHolds}
 
 by_tests : (ran : Ran) (asked ends : Bool) → ran.asked ≡ asked → list_all is_reversible ran.records ≡ ends
-    → (if asked then verdicts.asks else if ends then verdicts.plain else verdicts.one_way) ≡ verdict_of ran
+    → (if asked then verdicts.asked else if ends then verdicts.plain else verdicts.one_way) ≡ verdict_of ran
 by_tests ran asked ends a b = rw (a, b) refl
 
 pub plain_by : (ran : Ran) → ran.asked ≡ false → list_all is_reversible ran.records ≡ true → verdicts.plain ≡ verdict_of ran

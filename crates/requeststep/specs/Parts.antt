@@ -19,17 +19,17 @@ use Rattle.search.specs.Found as search
 use Rattle.requests.specs.Reasons.{RequestReason, conflict_with, prereq_missing, file_refused, refused_edit}
 use Rattle.requests.specs.Refusals.{refused_as, unless, RefusedAs}
 use Rattle.requests.specs.Conditions.{recorded_conflict, own_conflict, missing_group, load_objection}
-use Rattle.requests.specs.Steps.{Site, Done, continued, module_of, with_report, shown_text, described_text, LoadsName, UnloadsName, ShowsName}
+use Rattle.requests.specs.Steps.{RequestContext, Done, continued, module_of, with_report, shown_text, described_text, LoadsName, UnloadsName, ShowsName}
 use Rattle.requests.specs.Looked.{LoadLooksAt, UnloadLooksAt, ShowLooksAt, EachLooksAt}
 use Rattle.requeststep.specs.declared.files.NameRequest.{NameRequest}
 use Rattle.requeststep.specs.declared.files.ReportKind.{ReportKind}
-use Rattle.requeststep.specs.declared.files.ReportKind.TheVariants.{Commands, Whatis}
+use Rattle.requeststep.specs.declared.files.ReportKind.TheVariants.{Show, Whatis}
 use Rattle.requeststep.specs.declared.commands.NameAction.{NameAction}
 use Rattle.requeststep.specs.declared.commands.NameAction.TheVariants.{Load, Unload, ReportOn}
 
 -- the entries of a list of loaded modules
 abbrev pub entries_view : Vec Loaded Global → List Entry
-entries_view v = map code.entry_of v.items
+entries_view v = map code.entry_view v.items
 
 -- what forbids a module with these conflicts and prereqs beside those that are loaded
 abbrev pub objection : Text → List Text → List (List Text) → List Entry → Option RequestReason
@@ -55,7 +55,7 @@ context_with_loaded name_request mode name path loaded e =
       shell = name_request.settings.shell;
       typed = name_request.typed.now;
       loaded = loaded;
-      start = e;
+      before = e;
     }
 
 -- the same context, by the entries of the loaded modules
@@ -72,12 +72,12 @@ UnloadsByScript name_request name path text xs d =
 
 -- the mode in which a file is evaluated for a report
 abbrev pub report_mode : ReportKind → Mode
-report_mode Commands = modes.display
+report_mode Show = modes.display
 report_mode Whatis = modes.whatis
 
 -- the text of a report on a module with these records
 abbrev pub report_text : ReportKind → search.FoundModule → List Record → Text
-report_text Commands = shown_text
+report_text Show = shown_text
 report_text Whatis = described_text
 
 -- the file of the module is evaluated, and its messages and report are added
@@ -90,17 +90,17 @@ ReportsFound name_request report_kind m xs d =
     >> (λ ran. Is (Ok (with_report d ran.messages (report_text report_kind m ran.records))))
 
 -- the step for one name
-abbrev pub NameActionStep : NameAction → Site → Text → Done → Result Done RequestReason → Type 0
+abbrev pub NameActionStep : NameAction → RequestContext → Text → Done → Result Done RequestReason → Type 0
 NameActionStep Load s = LoadsName s false
 NameActionStep Unload s = UnloadsName s false
 NameActionStep (ReportOn report_kind) s = ShowsName s (report_mode report_kind) (report_text report_kind)
 
 -- the paths that the step for one name looks at
-abbrev pub NameActionLooksAt : NameAction → Site → Text → Done → Text → Type 0
+abbrev pub NameActionLooksAt : NameAction → RequestContext → Text → Done → Text → Type 0
 NameActionLooksAt Load s = LoadLooksAt s
 NameActionLooksAt Unload s = UnloadLooksAt
 NameActionLooksAt (ReportOn report_kind) s = ShowLooksAt s
 
 -- the paths that the steps for all names look at
-abbrev pub EachActionLooksAt : NameAction → Site → List Text → Done → Text → Type 0
+abbrev pub EachActionLooksAt : NameAction → RequestContext → List Text → Done → Text → Type 0
 EachActionLooksAt name_action s = EachLooksAt (NameActionStep name_action s) (NameActionLooksAt name_action s)

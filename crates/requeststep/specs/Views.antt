@@ -4,14 +4,14 @@ use Rattle.envvars.specs.Texts.{texts_in}
 use Rattle.envvars.specs.Environment.{Environment}
 use Rattle.filetree.specs.Agreement.{Files, Listings}
 use Rattle.requests.specs.Steps as steps
-use Rattle.requests.specs.Steps.{Site, site_in}
+use Rattle.requests.specs.Steps.{RequestContext, request_context_in}
 use Rattle.requeststep.specs.declared.done.EvaluationSettings.{EvaluationSettings}
 use Rattle.requeststep.specs.declared.done.Done.{Done}
 use Rattle.requeststep.specs.MoveViews.{moves_of}
 
 -- what a request is run over
-abbrev pub site_of : EvaluationSettings → Files → Listings → Site
-site_of settings files listings = site_in settings.limits settings.shell files listings
+abbrev pub request_context_of : EvaluationSettings → Files → Listings → RequestContext
+request_context_of settings files listings = request_context_in settings.limits settings.shell files listings
 
 -- what was done, with what it made of the environment
 abbrev pub done_view : Done → Environment → steps.Done

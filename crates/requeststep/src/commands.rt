@@ -4,7 +4,7 @@ ghost use Rattle.std.specs.Option.{option_map};
 ghost use Rattle.envvars.specs.Environment.{Environment};
 ghost use Rattle.envvars.specs.Texts.{texts_in};
 ghost use Rattle.envloaded.specs.Loaded.{names_of};
-ghost use Rattle.envloaded.specs.LoadedEntries.{entry_of};
+ghost use Rattle.envloaded.specs.LoadedEntries.{entry_view};
 ghost use Rattle.filetree.specs.Relations.{Then};
 ghost use Rattle.filetree.specs.Agreement.{FailsAt, InEachPair, ReadsOn};
 ghost use Rattle.defaultfiles.specs.DefaultFileResults.{HasResult};
@@ -13,9 +13,9 @@ ghost use Rattle.modulename.specs.ModuleName.{parts};
 ghost use Rattle.requests.specs.Requests as actions;
 ghost use Rattle.requests.specs.RequestViews.{action_view};
 ghost use Rattle.requests.specs.Steps as steps;
-ghost use Rattle.requests.specs.Steps.{nothing_done, Each, EndsRequest, NeedsNames, Changes, ShowsNames, ListsLoaded, ListsAll, RequestStep, site_in};
+ghost use Rattle.requests.specs.Steps.{nothing_done, Each, EndsRequest, NeedsNames, ChangesLoaded, ShowsNames, ListsLoaded, ListsAll, RequestStep, request_context_in};
 ghost use Rattle.requests.specs.Looked.{PurgeLooksAt, SwitchLooksAt, RequestLooksAt};
-ghost use Rattle.requeststep.specs.Views.{site_of, done_view};
+ghost use Rattle.requeststep.specs.Views.{request_context_of, done_view};
 ghost use Rattle.requeststep.specs.Answers.{GivesOrRefuses, StepAnswersOverTree, is_failure};
 ghost use Rattle.requeststep.specs.Messages.{MemoryNumberAmong, memory_numbers};
 ghost use Rattle.requeststep.specs.declared.commands.NameAction.TheVariants.{ReportOn};
@@ -61,11 +61,11 @@ fn act_on_name<T: Tree, V: Vars>(
     ensures base { V.base env.new ≡ V.base env.old }
     ensures over_tree { StepAnswersOverTree (T.agrees tree.new) (T.failures tree.old < T.failures tree.new)
         (λ u. done_view done.new (V.vars env.new)) result
-        (λ files listings. NameActionStep name_action (site_of settings files listings) typed.now
+        (λ files listings. NameActionStep name_action (request_context_of settings files listings) typed.now
         (done_view done.old (V.vars env.old))) }
     ensures failed { FailsAt is_failure (T.failed tree.old) (T.failed tree.new) result (λ at.
         InEachPair (T.agrees tree.new) (λ files listings.
-        NameActionLooksAt name_action (site_of settings files listings) typed.now
+        NameActionLooksAt name_action (request_context_of settings files listings) typed.now
         (done_view done.old (V.vars env.old)) at)) }
 {
     let name_request = NameRequest {
@@ -102,12 +102,12 @@ fn act_on_each<T: Tree, V: Vars>(
     ensures base { V.base env.new ≡ V.base env.old }
     ensures over_tree { StepAnswersOverTree (T.agrees tree.new) (T.failures tree.old < T.failures tree.new)
         (λ u. done_view done.new (V.vars env.new)) result
-        (λ files listings. Each (NameActionStep name_action (site_of settings files listings))
+        (λ files listings. Each (NameActionStep name_action (request_context_of settings files listings))
         (map string_bytes names.now)
         (done_view done.old (V.vars env.old))) }
     ensures failed { FailsAt is_failure (T.failed tree.old) (T.failed tree.new) result (λ at.
         InEachPair (T.agrees tree.new) (λ files listings.
-        EachActionLooksAt name_action (site_of settings files listings) (map string_bytes names.now)
+        EachActionLooksAt name_action (request_context_of settings files listings) (map string_bytes names.now)
         (done_view done.old (V.vars env.old)) at)) }
 {
     for name in names {
@@ -124,7 +124,7 @@ fn refuse_lost_prereqs<V: Vars>(
     done: &Done,
 ) -> Result<(), Refusal>
     ensures { GivesOrRefuses (λ u. done_view done.now (V.vars env.now)) result
-        (EndsRequest (map entry_of before.now) (done_view done.now (V.vars env.now))) }
+        (EndsRequest (map entry_view before.now) (done_view done.now (V.vars env.now))) }
 {
     let after = entries_of(alloc, env)?;
     match first_lost(before, after.as_slice()) {
@@ -147,12 +147,12 @@ fn change_each<T: Tree, V: Vars>(
     ensures base { V.base env.new ≡ V.base env.old }
     ensures over_tree { StepAnswersOverTree (T.agrees tree.new) (T.failures tree.old < T.failures tree.new)
         (λ done. done_view done (V.vars env.new)) result
-        (λ files listings. Then (Each (NameActionStep name_action (site_of settings files listings))
+        (λ files listings. Then (Each (NameActionStep name_action (request_context_of settings files listings))
         (map string_bytes names.now)
-        (nothing_done (V.vars env.old))) (EndsRequest (map entry_of before.now))) }
+        (nothing_done (V.vars env.old))) (EndsRequest (map entry_view before.now))) }
     ensures failed { FailsAt is_failure (T.failed tree.old) (T.failed tree.new) result (λ at.
         InEachPair (T.agrees tree.new) (λ files listings.
-        EachActionLooksAt name_action (site_of settings files listings) (map string_bytes names.now)
+        EachActionLooksAt name_action (request_context_of settings files listings) (map string_bytes names.now)
         (nothing_done (V.vars env.old)) at)) }
 {
     let mut done = Done::new(alloc);
@@ -174,11 +174,11 @@ fn change_names<T: Tree, V: Vars>(
     ensures base { V.base env.new ≡ V.base env.old }
     ensures over_tree { StepAnswersOverTree (T.agrees tree.new) (T.failures tree.old < T.failures tree.new)
         (λ done. done_view done (V.vars env.new)) result
-        (λ files listings. NeedsNames (map string_bytes names.now) (Changes (V.vars env.old)
-        (λ before. Each (NameActionStep name_action (site_of settings files listings)) (map string_bytes names.now)))) }
+        (λ files listings. NeedsNames (map string_bytes names.now) (ChangesLoaded (V.vars env.old)
+        (λ before. Each (NameActionStep name_action (request_context_of settings files listings)) (map string_bytes names.now)))) }
     ensures failed { FailsAt is_failure (T.failed tree.old) (T.failed tree.new) result (λ at.
         InEachPair (T.agrees tree.new) (λ files listings.
-        EachActionLooksAt name_action (site_of settings files listings) (map string_bytes names.now)
+        EachActionLooksAt name_action (request_context_of settings files listings) (map string_bytes names.now)
         (nothing_done (V.vars env.old)) at)) }
 {
     if names.is_empty() {
@@ -198,7 +198,7 @@ fn change_names<T: Tree, V: Vars>(
 
 /// The names of the loaded modules, the last loaded first.
 fn names_in_reverse(alloc: Global, entries: &[Loaded]) -> Result<Vec<String>, AllocError>
-    ensures { IfOk result (λ v. texts_in v ≡ reverse (names_of (map entry_of entries.now))) }
+    ensures { IfOk result (λ v. texts_in v ≡ reverse (names_of (map entry_view entries.now))) }
 {
     let mut names = names_of(alloc, entries)?;
     names.reverse();
@@ -216,10 +216,10 @@ fn purge<T: Tree, V: Vars>(
     ensures base { V.base env.new ≡ V.base env.old }
     ensures over_tree { StepAnswersOverTree (T.agrees tree.new) (T.failures tree.old < T.failures tree.new)
         (λ done. done_view done (V.vars env.new)) result
-        (λ files listings. RequestStep (site_of settings files listings) (V.vars env.old) actions.purge) }
+        (λ files listings. RequestStep (request_context_of settings files listings) (V.vars env.old) actions.purge) }
     ensures failed { FailsAt is_failure (T.failed tree.old) (T.failed tree.new) result (λ at.
         InEachPair (T.agrees tree.new) (λ files listings.
-        PurgeLooksAt (site_of settings files listings) (V.vars env.old) at)) }
+        PurgeLooksAt (request_context_of settings files listings) (V.vars env.old) at)) }
 {
     let before = entries_of(alloc, env)?;
     let names = names_in_reverse(alloc, before.as_slice())?;
@@ -268,11 +268,11 @@ fn switch_names<T: Tree, V: Vars>(
     ensures base { V.base env.new ≡ V.base env.old }
     ensures over_tree { StepAnswersOverTree (T.agrees tree.new) (T.failures tree.old < T.failures tree.new)
         (λ u. done_view done.new (V.vars env.new)) result
-        (λ files listings. steps.Switches (site_of settings files listings) (Some old.now) new.now
+        (λ files listings. steps.Switches (request_context_of settings files listings) (Some old.now) new.now
         (done_view done.old (V.vars env.old))) }
     ensures failed { FailsAt is_failure (T.failed tree.old) (T.failed tree.new) result (λ at.
         InEachPair (T.agrees tree.new) (λ files listings.
-        SwitchLooksAt (site_of settings files listings) old.now new.now (done_view done.old (V.vars env.old)) at)) }
+        SwitchLooksAt (request_context_of settings files listings) old.now new.now (done_view done.old (V.vars env.old)) at)) }
 {
     let unloading = NameRequest {
         settings,
@@ -301,11 +301,11 @@ fn switch<T: Tree, V: Vars>(
     ensures base { V.base env.new ≡ V.base env.old }
     ensures over_tree { StepAnswersOverTree (T.agrees tree.new) (T.failures tree.old < T.failures tree.new)
         (λ done. done_view done (V.vars env.new)) result
-        (λ files listings. RequestStep (site_of settings files listings) (V.vars env.old)
+        (λ files listings. RequestStep (request_context_of settings files listings) (V.vars env.old)
         (actions.switch (option_map (λ x. x.now) old.entry) new.now)) }
     ensures failed { FailsAt is_failure (T.failed tree.old) (T.failed tree.new) result (λ at.
         InEachPair (T.agrees tree.new) (λ files listings.
-        SwitchLooksAt (site_of settings files listings) (steps.old_name (option_map (λ x. x.now) old.entry) new.now)
+        SwitchLooksAt (request_context_of settings files listings) (steps.old_name (option_map (λ x. x.now) old.entry) new.now)
         new.now (nothing_done (V.vars env.old)) at)) }
 {
     let before = entries_of(alloc, env)?;
@@ -337,11 +337,11 @@ fn report_names<T: Tree, V: Vars>(
     ensures over_tree { StepAnswersOverTree (T.agrees tree.new) (T.failures tree.old < T.failures tree.new)
         (λ done. done_view done (V.vars env.new)) result
         (λ files listings. NeedsNames (map string_bytes names.now)
-        (ShowsNames (site_of settings files listings) (report_mode report_kind)
+        (ShowsNames (request_context_of settings files listings) (report_mode report_kind)
         (report_text report_kind) (V.vars env.old) (map string_bytes names.now))) }
     ensures failed { FailsAt is_failure (T.failed tree.old) (T.failed tree.new) result (λ at.
         InEachPair (T.agrees tree.new) (λ files listings.
-        EachActionLooksAt (ReportOn report_kind) (site_of settings files listings) (map string_bytes names.now)
+        EachActionLooksAt (ReportOn report_kind) (request_context_of settings files listings) (map string_bytes names.now)
         (nothing_done (V.vars env.old)) at)) }
 {
     if names.is_empty() {
@@ -392,7 +392,7 @@ fn avail<T: Tree, V: Vars>(
     ensures reads { ReadsOn T.agrees T.failures tree.old tree.new }
     ensures over_tree { StepAnswersOverTree (T.agrees tree.new) (T.failures tree.old < T.failures tree.new)
         (λ done. done_view done (V.vars env.now)) result
-        (λ files listings. ListsAll (site_of settings files listings) (V.vars env.now) (map string_bytes texts.now)) }
+        (λ files listings. ListsAll (request_context_of settings files listings) (V.vars env.now) (map string_bytes texts.now)) }
     ensures out_of_memory { IfErr result (MemoryNumberAmong (31 ∷ 41 ∷ [])) }
     ensures failed { FailsAt is_failure (T.failed tree.old) (T.failed tree.new) result (λ at.
         InEachPair (T.agrees tree.new) (λ files listings.
@@ -424,12 +424,12 @@ pub fn step<T: Tree, V: Vars>(
     ensures base { V.base env.new ≡ V.base env.old }
     ensures over_tree { StepAnswersOverTree (T.agrees tree.new) (T.failures tree.old < T.failures tree.new)
         (λ done. done_view done (V.vars env.new)) result
-        (λ files listings. RequestStep (site_in limits request.now.shell files listings) (V.vars env.old)
+        (λ files listings. RequestStep (request_context_in limits request.now.shell files listings) (V.vars env.old)
         (action_view request.now.action)) }
     ensures out_of_memory { IfErr result (MemoryNumberAmong (memory_numbers (action_view request.now.action))) }
     ensures failed { FailsAt is_failure (T.failed tree.old) (T.failed tree.new) result (λ at.
         InEachPair (T.agrees tree.new) (λ files listings.
-        RequestLooksAt (site_in limits request.now.shell files listings) (V.vars env.old)
+        RequestLooksAt (request_context_in limits request.now.shell files listings) (V.vars env.old)
         (action_view request.now.action) at)) }
 {
     let settings = EvaluationSettings {
@@ -447,9 +447,7 @@ pub fn step<T: Tree, V: Vars>(
         Action::Purge => purge(alloc, settings, env, tree),
         Action::List => list(alloc, env),
         Action::Avail(texts) => avail(alloc, settings, texts, env, tree),
-        Action::Show(names) => {
-            report_names(alloc, settings, ReportKind::Commands, names, env, tree)
-        }
+        Action::Show(names) => { report_names(alloc, settings, ReportKind::Show, names, env, tree) }
         Action::Whatis(names) => {
             report_names(alloc, settings, ReportKind::Whatis, names, env, tree)
         }

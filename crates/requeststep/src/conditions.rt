@@ -7,7 +7,7 @@ ghost use Rattle.std.specs.Option.{option_map};
 ghost use Rattle.modulename.specs.ModuleName.{means};
 ghost use Rattle.envvars.specs.Texts.{has, slice_texts, texts_in};
 ghost use Rattle.envloaded.specs.Loaded.{names_of};
-ghost use Rattle.envloaded.specs.LoadedEntries.{entry_of};
+ghost use Rattle.envloaded.specs.LoadedEntries.{entry_view};
 ghost use Rattle.requests.specs.Conditions.{is_met, recorded_conflict, own_conflict, missing_group, has_lost};
 ghost use Rattle.requests.specs.Steps.{last_meant};
 
@@ -16,15 +16,15 @@ use modulename::means;
 
 /// Whether a module of this full name is loaded.
 pub(crate) fn is_loaded(entries: &[Loaded], name: &str) -> bool
-    ensures { result ≡ has name.now (names_of (map entry_of entries.now)) }
+    ensures { result ≡ has name.now (names_of (map entry_view entries.now)) }
 {
     entries.iter().any(|entry| name == entry.name.as_str())
 }
 
 /// The last loaded module that the name means.
 pub(crate) fn last_meant<'a>(entries: &'a [Loaded], name: &str) -> Option<&'a Loaded>
-    ensures { option_map (λ x. entry_of x.now) result
-        ≡ last_meant name.now (map entry_of entries.entry.now) }
+    ensures { option_map (λ x. entry_view x.now) result
+        ≡ last_meant name.now (map entry_view entries.entry.now) }
 {
     entries
         .iter()
@@ -34,8 +34,8 @@ pub(crate) fn last_meant<'a>(entries: &'a [Loaded], name: &str) -> Option<&'a Lo
 
 /// The first loaded module that the name means.
 fn first_meant<'a>(entries: &'a [Loaded], name: &str) -> Option<&'a Loaded>
-    ensures { option_map (λ x. entry_of x.now) result
-        ≡ find (λ x. means name.now x.name) (map entry_of entries.entry.now) }
+    ensures { option_map (λ x. entry_view x.now) result
+        ≡ find (λ x. means name.now x.name) (map entry_view entries.entry.now) }
 {
     entries
         .iter()
@@ -44,14 +44,14 @@ fn first_meant<'a>(entries: &'a [Loaded], name: &str) -> Option<&'a Loaded>
 
 /// Whether the name means a loaded module.
 fn means_some(name: &str, entries: &[Loaded]) -> bool
-    ensures { result ≡ list_any (λ x. means name.now x.name) (map entry_of entries.now) }
+    ensures { result ≡ list_any (λ x. means name.now x.name) (map entry_view entries.now) }
 {
     entries.iter().any(|entry| means(name, entry.name.as_str()))
 }
 
 /// Whether one of the names means a loaded module.
 fn is_met(entries: &[Loaded], group: &[String]) -> bool
-    ensures { result ≡ is_met (map entry_of entries.now) (map string_bytes group.now) }
+    ensures { result ≡ is_met (map entry_view entries.now) (map string_bytes group.now) }
 {
     group.iter().any(|name| means_some(name.as_str(), entries))
 }
@@ -65,8 +65,8 @@ fn means_module(names: &[String], full_name: &str) -> bool
 
 /// The first loaded module, in load order, whose own conflicts name this one.
 pub(crate) fn recorded_conflict<'a>(name: &str, entries: &'a [Loaded]) -> Option<&'a Loaded>
-    ensures { option_map (λ x. entry_of x.now) result
-        ≡ recorded_conflict name.now (map entry_of entries.entry.now) }
+    ensures { option_map (λ x. entry_view x.now) result
+        ≡ recorded_conflict name.now (map entry_view entries.entry.now) }
 {
     entries
         .iter()
@@ -75,8 +75,8 @@ pub(crate) fn recorded_conflict<'a>(name: &str, entries: &'a [Loaded]) -> Option
 
 /// The first loaded module that one of the names means: the names in order, and for each the modules in load order.
 pub(crate) fn own_conflict<'a>(names: &[&str], entries: &'a [Loaded]) -> Option<&'a Loaded>
-    ensures { option_map (λ x. entry_of x.now) result
-        ≡ own_conflict (slice_texts names.now) (map entry_of entries.entry.now) }
+    ensures { option_map (λ x. entry_view x.now) result
+        ≡ own_conflict (slice_texts names.now) (map entry_view entries.entry.now) }
 {
     for name in names {
         if let Some(entry) = first_meant(entries, name) {
@@ -92,7 +92,7 @@ pub(crate) fn missing_group<'a>(
     entries: &[Loaded],
 ) -> Option<&'a Vec<String>>
     ensures { option_map (λ x. texts_in x.now) result
-        ≡ missing_group (map texts_in groups.entry.now) (map entry_of entries.now) }
+        ≡ missing_group (map texts_in groups.entry.now) (map entry_view entries.now) }
 {
     groups
         .iter()
@@ -101,15 +101,15 @@ pub(crate) fn missing_group<'a>(
 
 /// Whether one of the groups was met before and isn't now.
 fn has_lost_group(groups: &[Vec<String>], before: &[Loaded], after: &[Loaded]) -> bool
-    ensures { result ≡ list_any (λ group. is_met (map entry_of before.now) group
-        && not (is_met (map entry_of after.now) group)) (map texts_in groups.now) }
+    ensures { result ≡ list_any (λ group. is_met (map entry_view before.now) group
+        && not (is_met (map entry_view after.now) group)) (map texts_in groups.now) }
 {
     groups.iter().any(|group| is_met(before, group.as_slice()) && !is_met(after, group.as_slice()))
 }
 
 /// Whether the module was loaded before, and a group that it needs was met then and isn't now.
 fn has_lost(before: &[Loaded], after: &[Loaded], entry: &Loaded) -> bool
-    ensures { result ≡ has_lost (map entry_of before.now) (map entry_of after.now) (entry_of entry.now) }
+    ensures { result ≡ has_lost (map entry_view before.now) (map entry_view after.now) (entry_view entry.now) }
 {
     has_lost_group(entry.prereqs.as_slice(), before, after)
         && is_loaded(before, entry.name.as_str())
@@ -117,8 +117,8 @@ fn has_lost(before: &[Loaded], after: &[Loaded], entry: &Loaded) -> bool
 
 /// The first module in load order that has lost what it needs.
 pub(crate) fn first_lost<'a>(before: &[Loaded], after: &'a [Loaded]) -> Option<&'a Loaded>
-    ensures { option_map (λ x. entry_of x.now) result
-        ≡ find (has_lost (map entry_of before.now) (map entry_of after.entry.now)) (map entry_of after.entry.now) }
+    ensures { option_map (λ x. entry_view x.now) result
+        ≡ find (has_lost (map entry_view before.now) (map entry_view after.entry.now)) (map entry_view after.entry.now) }
 {
     after.iter().find(|entry| has_lost(before, after, entry))
 }

@@ -10,6 +10,7 @@ use std::snapshot::Snapshot;
 use tclrules::Limits;
 
 /// The limits on the evaluation of each file, and the shell that reads what is printed.
+/// (`Setting` of tclrules is a script with all that it depends on.)
 #[derive(Clone, Copy, Debug)]
 pub struct EvaluationSettings {
     /// How many commands, how deep and how many bytes in a value.

@@ -3,7 +3,7 @@ ghost use Rattle.std.specs.Prelude.{◌≡◌, ◌++◌, [], ◌∷◌, map, IfO
 ghost use Rattle.envvars.specs.Texts.{slice_texts, texts_in};
 ghost use Rattle.envvars.specs.Fields.{without_repeats};
 ghost use Rattle.envloaded.specs.Loaded.{names_of};
-ghost use Rattle.envloaded.specs.LoadedEntries.{entry_of};
+ghost use Rattle.envloaded.specs.LoadedEntries.{entry_view};
 ghost use Rattle.filetree.specs.Relations.{Is};
 ghost use Rattle.modulerecords.specs.Records.{conflict_names, prereq_groups};
 ghost use Rattle.modulerecords.specs.Moves as moves;
@@ -45,7 +45,7 @@ pub(crate) fn modulepath<V: Vars>(env: &V) -> &str
 
 /// The full names of the loaded modules, in load order.
 pub(crate) fn names_of(alloc: Global, entries: &[Loaded]) -> Result<Vec<String>, AllocError>
-    ensures { IfOk result (λ v. texts_in v ≡ names_of (map entry_of entries.now)) }
+    ensures { IfOk result (λ v. texts_in v ≡ names_of (map entry_view entries.now)) }
 {
     let mut names = Vec::new(alloc);
     for entry in entries {
@@ -116,7 +116,7 @@ fn judge(
     prereqs: &[Vec<String>],
 ) -> Result<(), Refusal>
     ensures { GivesOrRefuses (λ u. u) result (Is (unless
-        (objection name.now (slice_texts conflicts.now) (map texts_in prereqs.now) (map entry_of entries.now))
+        (objection name.now (slice_texts conflicts.now) (map texts_in prereqs.now) (map entry_view entries.now))
         (Ok tt))) }
 {
     if let Some(entry) = recorded_conflict(name, entries) {
@@ -138,7 +138,7 @@ fn entry_for(
     conflicts: &[&str],
     prereqs: Vec<Vec<String>>,
 ) -> Result<Loaded, AllocError>
-    ensures { IfOk result (λ x. entry_of x ≡ record {
+    ensures { IfOk result (λ x. entry_view x ≡ record {
       name = string_bytes loading.now.name;
       path = string_bytes loading.now.path;
       conflicts = without_repeats (slice_texts conflicts.now);
@@ -162,7 +162,7 @@ pub(crate) fn join_loaded<V: Vars>(
     env: &mut V,
 ) -> Result<(), Refusal>
     ensures given { GivesOrRefuses (λ u. V.vars env.new) result
-        (Is (added (map entry_of entries.now) (module_view loading.now) (V.vars env.old))) }
+        (Is (added (map entry_view entries.now) (module_view loading.now) (V.vars env.old))) }
     ensures base { V.base env.new ≡ V.base env.old }
 {
     let conflicts = conflict_names(alloc, loading.records.as_slice())?;

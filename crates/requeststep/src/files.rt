@@ -1,7 +1,7 @@
 //! One name of a request: its module is found, the module's file is evaluated, and the module is loaded, unloaded or
 //! reported on.
 ghost use Rattle.std.specs.Prelude.{◌≡◌, ◌<◌, IfOk, map, string_bytes};
-ghost use Rattle.envloaded.specs.LoadedEntries.{entry_of};
+ghost use Rattle.envloaded.specs.LoadedEntries.{entry_view};
 ghost use Rattle.filetree.specs.Agreement.{Files, Listings, FailsAt, InEachPair, ReadsOn};
 ghost use Rattle.filetree.specs.Modulefiles.{modulefile};
 ghost use Rattle.filetree.specs.Relations.{Is};
@@ -13,7 +13,7 @@ ghost use Rattle.requests.specs.Reasons.{file_refused};
 ghost use Rattle.requests.specs.Refusals.{RefusedAs};
 ghost use Rattle.requests.specs.Steps.{Finds, LoadsFound, LoadsName, UnloadsEntry, UnloadsName, ShowsName, script_at};
 ghost use Rattle.requests.specs.Looked.{SearchLooksAt, LoadLooksAt, UnloadLooksAt, ShowLooksAt};
-ghost use Rattle.requeststep.specs.Views.{site_of, done_view};
+ghost use Rattle.requeststep.specs.Views.{request_context_of, done_view};
 ghost use Rattle.requeststep.specs.Answers.{GivesOrRefuses, StepAnswersOverTree, is_failure};
 ghost use Rattle.requeststep.specs.Parts.{file_context, UnloadsByScript, ReportsFound, report_mode, report_text};
 
@@ -45,20 +45,20 @@ pub(crate) struct NameRequest<'a> {
 
 /// The file of a module: the module's full name, the file's path and the script in it.
 #[derive(Clone, Copy)]
-pub(crate) struct File<'a> {
+pub(crate) struct ModuleFile<'a> {
     pub(crate) name: &'a str,
     pub(crate) path: &'a str,
     pub(crate) text: &'a str,
 }
 
-impl<'a> File<'a> {
+impl<'a> ModuleFile<'a> {
     /// The file of a module that was found.
-    pub(crate) fn of(found: &'a Found) -> File<'a>
+    pub(crate) fn of(found: &'a Found) -> ModuleFile<'a>
         ensures name { result.name.now ≡ string_bytes found.entry.now.name }
         ensures path { result.path.now ≡ string_bytes found.entry.now.path }
         ensures text { result.text.now ≡ string_bytes found.entry.now.text }
     {
-        File {
+        ModuleFile {
             name: found.name.as_str(),
             path: found.path.as_str(),
             text: found.text.as_str(),
@@ -70,7 +70,7 @@ impl<'a> File<'a> {
 #[derive(Clone, Copy)]
 pub(crate) enum ReportKind {
     /// `show`: what the module would do.
-    Commands,
+    Show,
     /// `whatis`: its descriptions.
     Whatis,
 }
@@ -85,11 +85,11 @@ pub(crate) fn find_module<T: Tree, V: Vars>(
     ensures reads { ReadsOn T.agrees T.failures tree.old tree.new }
     ensures over_tree { StepAnswersOverTree (T.agrees tree.new)
         (T.failures tree.old < T.failures tree.new) found_view result
-        (λ files listings. Finds (site_of name_request.entry.settings files listings)
+        (λ files listings. Finds (request_context_of name_request.entry.settings files listings)
         (V.vars env.now) name_request.entry.typed.now) }
     ensures failed { FailsAt is_failure (T.failed tree.old) (T.failed tree.new) result (λ at.
         InEachPair (T.agrees tree.new) (λ files listings.
-        SearchLooksAt (site_of name_request.entry.settings files listings)
+        SearchLooksAt (request_context_of name_request.entry.settings files listings)
         (V.vars env.now) name_request.entry.typed.now at)) }
 {
     let default_files = Evaluated {
@@ -110,13 +110,13 @@ pub(crate) fn evaluate<V: Vars>(
     name_request: NameRequest<'_>,
     mode: Mode,
     entries: &[Loaded],
-    file: File<'_>,
+    file: ModuleFile<'_>,
     env: &mut V,
 ) -> Result<Ran, Refusal>
     ensures given { GivesOrRefuses (λ ran. ran_view ran (V.vars env.new)) result (RefusedAs file_refused
         (RunsFile name_request.entry.settings.limits (file_context name_request.entry
         (mode_view mode) file.entry.name.now
-        file.entry.path.now (map entry_of entries.now) (V.vars env.old)) file.entry.text.now)) }
+        file.entry.path.now (map entry_view entries.now) (V.vars env.old)) file.entry.text.now)) }
     ensures base { V.base env.new ≡ V.base env.old }
 {
     let loaded = names_of(alloc, entries)?;
@@ -148,14 +148,14 @@ fn load_found<V: Vars>(
     done: &mut Done,
 ) -> Result<(), Refusal>
     ensures given { (files : Files) (listings : Listings) → GivesOrRefuses (λ u. done_view done.new (V.vars env.new))
-        result (LoadsFound (site_of name_request.entry.settings files listings) name_request.entry.in_switch name_request.entry.typed.now
-        (done_view done.old (V.vars env.old)) (map entry_of entries.now) (found_view found)) }
+        result (LoadsFound (request_context_of name_request.entry.settings files listings) name_request.entry.in_switch name_request.entry.typed.now
+        (done_view done.old (V.vars env.old)) (map entry_view entries.now) (found_view found)) }
     ensures base { V.base env.new ≡ V.base env.old }
 {
     if is_loaded(entries, found.name.as_str()) {
         return Ok(());
     }
-    let file = File::of(&found);
+    let file = ModuleFile::of(&found);
     let ran = evaluate(alloc, name_request, Mode::Load, entries, file, env)?;
     let loading = Module {
         name: found.name,
@@ -179,11 +179,11 @@ pub(crate) fn load_name<T: Tree, V: Vars>(
     ensures base { V.base env.new ≡ V.base env.old }
     ensures over_tree { StepAnswersOverTree (T.agrees tree.new) (T.failures tree.old < T.failures tree.new)
         (λ u. done_view done.new (V.vars env.new)) result
-        (λ files listings. LoadsName (site_of name_request.entry.settings files listings) name_request.entry.in_switch
+        (λ files listings. LoadsName (request_context_of name_request.entry.settings files listings) name_request.entry.in_switch
         name_request.entry.typed.now (done_view done.old (V.vars env.old))) }
     ensures failed { FailsAt is_failure (T.failed tree.old) (T.failed tree.new) result (λ at.
         InEachPair (T.agrees tree.new) (λ files listings.
-        LoadLooksAt (site_of name_request.entry.settings files listings) name_request.entry.typed.now
+        LoadLooksAt (request_context_of name_request.entry.settings files listings) name_request.entry.typed.now
         (done_view done.old (V.vars env.old)) at)) }
 {
     let entries = entries_of(alloc, env)?;
@@ -218,13 +218,13 @@ fn unload_by_script<V: Vars>(
     alloc: Global,
     name_request: NameRequest<'_>,
     entries: &[Loaded],
-    file: File<'_>,
+    file: ModuleFile<'_>,
     env: &mut V,
     done: &mut Done,
 ) -> Result<(), Refusal>
     ensures given { GivesOrRefuses (λ u. done_view done.new (V.vars env.new)) result
         (UnloadsByScript name_request.entry file.entry.name.now file.entry.path.now file.entry.text.now
-        (map entry_of entries.now) (done_view done.old (V.vars env.old))) }
+        (map entry_view entries.now) (done_view done.old (V.vars env.old))) }
     ensures base { V.base env.new ≡ V.base env.old }
 {
     let ran = evaluate(alloc, name_request, Mode::Unload, entries, file, env)?;
@@ -253,14 +253,14 @@ fn unload_entry<T: Tree, V: Vars>(
     ensures over_tree { StepAnswersOverTree (T.agrees tree.new) (T.failures tree.old < T.failures tree.new)
         (λ u. done_view done.new (V.vars env.new)) result
         (λ files listings. UnloadsEntry
-        (site_of name_request.entry.settings files listings) name_request.entry.in_switch
-        name_request.entry.typed.now (done_view done.old (V.vars env.old)) (map entry_of entries.now)
-        (entry_of entry.now)) }
+        (request_context_of name_request.entry.settings files listings) name_request.entry.in_switch
+        name_request.entry.typed.now (done_view done.old (V.vars env.old)) (map entry_view entries.now)
+        (entry_view entry.now)) }
     ensures failed { FailsAt is_failure (T.failed tree.old) (T.failed tree.new) result (λ at.
-        at ≡ (entry_of entry.now).path) }
+        at ≡ (entry_view entry.now).path) }
 {
     let text = script_at(alloc, tree, entry.path.as_str())?;
-    let file = File {
+    let file = ModuleFile {
         name: entry.name.as_str(),
         path: entry.path.as_str(),
         text: text.as_str(),
@@ -280,7 +280,7 @@ pub(crate) fn unload_name<T: Tree, V: Vars>(
     ensures base { V.base env.new ≡ V.base env.old }
     ensures over_tree { StepAnswersOverTree (T.agrees tree.new) (T.failures tree.old < T.failures tree.new)
         (λ u. done_view done.new (V.vars env.new)) result
-        (λ files listings. UnloadsName (site_of name_request.entry.settings files listings) name_request.entry.in_switch
+        (λ files listings. UnloadsName (request_context_of name_request.entry.settings files listings) name_request.entry.in_switch
         name_request.entry.typed.now (done_view done.old (V.vars env.old))) }
     ensures failed { FailsAt is_failure (T.failed tree.old) (T.failed tree.new) result
         (UnloadLooksAt name_request.entry.typed.now (done_view done.old (V.vars env.old))) }
@@ -309,7 +309,7 @@ fn mode_of_report(report_kind: ReportKind) -> Mode
     ensures { mode_view result ≡ report_mode report_kind }
 {
     match report_kind {
-        ReportKind::Commands => Mode::Display,
+        ReportKind::Show => Mode::Display,
         ReportKind::Whatis => Mode::Whatis,
     }
 }
@@ -325,7 +325,7 @@ fn report_on(
         (map record_view ran.now.records.items)) }
 {
     match report_kind {
-        ReportKind::Commands => show_report(alloc, found.path.as_str(), ran.records.as_slice()),
+        ReportKind::Show => show_report(alloc, found.path.as_str(), ran.records.as_slice()),
         ReportKind::Whatis => whatis_report(alloc, found.name.as_str(), ran.records.as_slice()),
     }
 }
@@ -341,11 +341,11 @@ fn report_found<V: Vars>(
     done: &mut Done,
 ) -> Result<(), Refusal>
     ensures given { GivesOrRefuses (λ u. done_view done.new (V.vars env.new)) result
-        (ReportsFound name_request.entry report_kind (found_view found.now) (map entry_of entries.now)
+        (ReportsFound name_request.entry report_kind (found_view found.now) (map entry_view entries.now)
         (done_view done.old (V.vars env.old))) }
     ensures base { V.base env.new ≡ V.base env.old }
 {
-    let file = File::of(found);
+    let file = ModuleFile::of(found);
     let ran = evaluate(
         alloc,
         name_request,
@@ -373,12 +373,12 @@ pub(crate) fn report_name<T: Tree, V: Vars>(
     ensures base { V.base env.new ≡ V.base env.old }
     ensures over_tree { StepAnswersOverTree (T.agrees tree.new) (T.failures tree.old < T.failures tree.new)
         (λ u. done_view done.new (V.vars env.new)) result
-        (λ files listings. ShowsName (site_of settings files listings) (report_mode report_kind)
+        (λ files listings. ShowsName (request_context_of settings files listings) (report_mode report_kind)
         (report_text report_kind) typed.now
         (done_view done.old (V.vars env.old))) }
     ensures failed { FailsAt is_failure (T.failed tree.old) (T.failed tree.new) result (λ at.
         InEachPair (T.agrees tree.new) (λ files listings.
-        ShowLooksAt (site_of settings files listings) typed.now (done_view done.old (V.vars env.old)) at)) }
+        ShowLooksAt (request_context_of settings files listings) typed.now (done_view done.old (V.vars env.old)) at)) }
 {
     let name_request = NameRequest {
         settings,

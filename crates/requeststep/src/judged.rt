@@ -23,11 +23,11 @@ pub enum Verdict {
 }
 
 /// Whether unloading undoes the effect of a record.
-fn is_reversible(command: &Record) -> bool
-    ensures { result ≡ uses.is_reversible (record_view command.now) }
+fn is_reversible(recorded: &Record) -> bool
+    ensures { result ≡ uses.is_reversible (record_view recorded.now) }
 {
     !matches!(
-        command,
+        recorded,
         Record::Unset { value: None, .. }
             | Record::Path {
                 edit: PathEdit::Remove,

@@ -12,11 +12,11 @@ use std::alloc::{AllocError, Global};
 use std::snapshot::Snapshot;
 
 /// Adds the name of the module that the move loads, if it loads one.
-fn push_loaded(names: &mut Vec<String>, step: Move) -> Result<(), AllocError>
-    ensures added { OnOk result (texts_in names.new ≡ texts_in names.old ++ loaded_names (move_view step ∷ [])) }
+fn push_loaded(names: &mut Vec<String>, new_move: Move) -> Result<(), AllocError>
+    ensures added { OnOk result (texts_in names.new ≡ texts_in names.old ++ loaded_names (move_view new_move ∷ [])) }
     ensures unchanged { OnErr result (names.new.items ≡ names.old.items) }
 {
-    match step {
+    match new_move {
         Move::Loads(module) => Ok(names.push(module.name)?),
         Move::Unloads(_) => Ok(()),
     }
@@ -38,15 +38,15 @@ impl Done {
     /// Adds a move, with the messages of its file.
     pub(crate) fn continue_with(
         &mut self,
-        step: Move,
+        new_move: Move,
         mut messages: Vec<String>,
     ) -> Result<(), AllocError>
         ensures { OnOk result ((old new : Environment) → done_view self.new new
-            ≡ with_move (done_view self.old old) (move_view step) (texts_in messages) new) }
+            ≡ with_move (done_view self.old old) (move_view new_move) (texts_in messages) new) }
     {
         self.messages.append(&mut messages)?;
-        self.moves.push(Snapshot::of(&step))?;
-        if let Err(refused) = push_loaded(&mut self.loaded, step) {
+        self.moves.push(Snapshot::of(&new_move))?;
+        if let Err(refused) = push_loaded(&mut self.loaded, new_move) {
             self.moves.pop();
             return Err(refused);
         }

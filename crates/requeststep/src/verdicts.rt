@@ -8,7 +8,7 @@ ghost use Rattle.requeststep.specs.Verdicts.{verdict_view, in_sh, PlainVerdictHo
 
 use crate::done::EvaluationSettings;
 use crate::entries::entries_of;
-use crate::files::{File, NameRequest, evaluate, find_module};
+use crate::files::{ModuleFile, NameRequest, evaluate, find_module};
 use crate::judged::{Verdict, verdict_on};
 use crate::refusal::Refusal;
 use envvars::{Env, Vars, Working};
@@ -46,7 +46,7 @@ fn give_verdict<T: Tree, V: Vars>(
     };
     let entries = entries_of(alloc, env)?;
     let found = find_module(alloc, name_request, env, tree)?;
-    let file = File::of(&found);
+    let file = ModuleFile::of(&found);
     let ran = evaluate(
         alloc,
         name_request,

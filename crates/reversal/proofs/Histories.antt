@@ -26,7 +26,7 @@ use Rattle.envloaded.specs.Loaded.{Entry, names_of, names_text, files_text, conf
 use Rattle.modulerecords.specs.Records.{Record, Set, Unset, Push, Front, Back, Remove, Conflict, Prereq, Whatis}
 use Rattle.modulerecords.specs.Judgments.{RecordReason, record_reason}
 use Rattle.modulerecords.specs.Effects.{Mode, load, unload, display, whatis, edited, edit_outcome, permitted, effect, effects, and_then}
-use Rattle.modulerecords.specs.Moves.{Move, Loads, Unloads, entry_of, module_of, mode_of, listed, moved, Fits, MovesReach}
+use Rattle.modulerecords.specs.Moves.{Move, Loads, Unloads, entry_of, module_of_move, mode_of, entry_moved, moved, Fits, MovesReach}
 
 abbrev as_ok : Environment → Result Environment EnvReason
 as_ok e = Ok e
@@ -280,18 +280,18 @@ abbrev pub listed_at : Move → History → Option History
 listed_at (Loads m) h = join_at h (entry_of m) (list_at h)
 listed_at (Unloads m) h = leave_at h m.name (list_at h)
 
-listed_corresponds : (m : Move) (h : History) → Corresponds2 (listed_at m h) (listed m (env h))
+listed_corresponds : (m : Move) (h : History) → Corresponds2 (listed_at m h) (entry_moved m (env h))
 listed_corresponds (Loads m) h = edit_outcome_corresponds (listed_at (Loads m) h) (added_loaded (env h) (entry_of m)) (joined_corresponds h (entry_of m))
 listed_corresponds (Unloads m) h = edit_outcome_corresponds (listed_at (Unloads m) h) (dropped_loaded (env h) m.name) (left_corresponds h m.name)
 
 abbrev pub moved_at : Move → History → Option History
-moved_at m h = then_at (effects_at (mode_of m) (module_of m).name (module_of m).records h) (listed_at m)
+moved_at m h = then_at (effects_at (mode_of m) (module_of_move m).name (module_of_move m).records h) (listed_at m)
 
 moved_corresponds : (m : Move) (h : History) → Corresponds2 (moved_at m h) (moved m (env h))
 moved_corresponds m h =
-    then_corresponds (effects_at (mode_of m) (module_of m).name (module_of m).records h) (listed_at m)
-    (effects (mode_of m) (module_of m).name (module_of m).records (env h)) (listed m)
-    (effects_come (mode_of m) (module_of m).name (module_of m).records h) (listed_corresponds m)
+    then_corresponds (effects_at (mode_of m) (module_of_move m).name (module_of_move m).records h) (listed_at m)
+    (effects (mode_of m) (module_of_move m).name (module_of_move m).records (env h)) (entry_moved m)
+    (effects_come (mode_of m) (module_of_move m).name (module_of_move m).records h) (listed_corresponds m)
 
 abbrev pub fits_in : Move → Option (List Entry) → Bool
 fits_in m None = false

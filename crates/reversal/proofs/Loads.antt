@@ -7,7 +7,7 @@ use Rattle.envloaded.proofs.LoadedEdits.{loaded_after_add}
 use Rattle.envstate.proofs.FrameLemmas.{add_edits_loaded}
 use Rattle.modulerecords.specs.Judgments.{RecordReason}
 use Rattle.modulerecords.specs.Effects.{load, unload, effects, edit_outcome, and_then}
-use Rattle.modulerecords.specs.Moves.{Module, Loads, Unloads, entry_of, listed, moved}
+use Rattle.modulerecords.specs.Moves.{Module, Loads, Unloads, entry_of, entry_moved, moved}
 use Rattle.reversal.specs.Laws.{IsLoad}
 use Rattle.reversal.proofs.Frames.{accepted}
 use Rattle.reversal.proofs.ModuleEntries.{added_entry}
@@ -32,7 +32,7 @@ pub record LoadParts (m : Module) (old new : Environment) : Type 0 where
 
 pub load_parts : (m : Module) (old new : Environment) → moved (Loads m) old ≡ Ok new → LoadParts m old new
 load_parts m old new h =
-    let p = parts (effects load m.name m.records old) (listed (Loads m)) new h in
+    let p = parts (effects load m.name m.records old) (entry_moved (Loads m)) new h in
     record { mid = p.0; effects = p.1; entry = by_edit_ok (added_loaded p.0 (entry_of m)) new p.2 }
 
 -- an accepted unload in two steps
@@ -43,7 +43,7 @@ pub record UnloadParts (m : Module) (old new : Environment) : Type 0 where
 
 pub unload_parts : (m : Module) (old new : Environment) → moved (Unloads m) old ≡ Ok new → UnloadParts m old new
 unload_parts m old new h =
-    let p = parts (effects unload m.name m.records old) (listed (Unloads m)) new h in
+    let p = parts (effects unload m.name m.records old) (entry_moved (Unloads m)) new h in
     record { mid = p.0; effects = p.1; entry = by_edit_ok (dropped_loaded p.0 m.name) new p.2 }
 
 pub loads_make : (m : Module) (old new : Environment) → moved (Loads m) old ≡ Ok new → IsLoad m old new

@@ -30,7 +30,7 @@ use Rattle.modulerecords.specs.Moves.{Module, Loads, Unloads, entry_of, moved, F
 use Rattle.reversal.specs.VariableUses.{VariableUse, Untouched, Fixed, Pathed, Stacked, AllSuit}
 use Rattle.reversal.specs.Live.{last_set, live_set, adds, live_adds, last_push, with_push, live_pushes, entries_over}
 use Rattle.reversal.specs.Starts.{IsStart, HasValue, IsPermutation}
-use Rattle.reversal.specs.Runs.{live_named, without_live, IsReversibleBeside, AreReversibleTogether}
+use Rattle.reversal.specs.Runs.{live_named, without_live, IsReversibleAndApart, AreReversibleTogether}
 use Rattle.reversal.proofs.Frames.{Side, loads, unloads, touched, kept_loaded, kept_rest}
 use Rattle.reversal.proofs.Loads.{parts, load_parts, unload_parts}
 use Rattle.reversal.proofs.OneVariable.{by_test, pick, value_kept, all_untouched, loads_fixed, unloads_fixed, or_unwrap, PathAt, path_kept, path_same, loads_path, unloads_path}
@@ -153,7 +153,7 @@ held_load uses b xs live m old mid w Stacked q g f s e n a l h =
           (loads_push uses m.name w m.records b old mid (names_of (entries_over xs (m ∷ live))) h.base None h.pushes q s f p (other_live m.name w live h.pushes h.order l) e before);
     }
 
-pub kept_load : (uses : Text → VariableUse) (b : Environment) (xs : List Entry) (live : List Module) (m : Module) (old new : Environment) → Begun uses b xs → Kept uses b xs live old → IsReversibleBeside uses live m → Fits (Loads m) old
+pub kept_load : (uses : Text → VariableUse) (b : Environment) (xs : List Entry) (live : List Module) (m : Module) (old new : Environment) → Begun uses b xs → Kept uses b xs live old → IsReversibleAndApart uses live m → Fits (Loads m) old
     → moved (Loads m) old ≡ Ok new → Kept uses b xs (m ∷ live) new
 kept_load uses b xs live m old new g k fit fits h =
     let p = load_parts m old new h in

@@ -23,14 +23,14 @@ live_after live (Unloads m ∷ ms) = live_after (without_live m.name live) ms
 
 -- The module is reversible, and apart from those that are live: it follows the use of each variable, and sets or unsets
 -- none that a live module sets or unsets.
-pub record IsReversibleBeside (uses : Text → VariableUse) (live : List Module) (m : Module) : Type 0 where
+pub record IsReversibleAndApart (uses : Text → VariableUse) (live : List Module) (m : Module) : Type 0 where
   pub suits : AllSuit uses m.records
   pub sets_apart : (v : Text) → is_some (last_set v m.records) ≡ true → live_set v live ≡ None
 
 -- each was so while the older ones were live
 abbrev pub AreReversibleTogether : (Text → VariableUse) → List Module → Type 0
 AreReversibleTogether uses [] = Unit {0}
-AreReversibleTogether uses (m ∷ live) = IsReversibleBeside uses live m × AreReversibleTogether uses live
+AreReversibleTogether uses (m ∷ live) = IsReversibleAndApart uses live m × AreReversibleTogether uses live
 
 -- The unloaded module is live, and these are the records of its load.
 pub record Undoes (live : List Module) (m : Module) : Type 0 where
@@ -42,5 +42,5 @@ pub record Undoes (live : List Module) (m : Module) : Type 0 where
 -- records of its load: so no module of the start is unloaded.
 abbrev pub AreReversible : (Text → VariableUse) → List Module → List Move → Type 0
 AreReversible uses live [] = Unit {0}
-AreReversible uses live (Loads m ∷ ms) = IsReversibleBeside uses live m × AreReversible uses (m ∷ live) ms
+AreReversible uses live (Loads m ∷ ms) = IsReversibleAndApart uses live m × AreReversible uses (m ∷ live) ms
 AreReversible uses live (Unloads m ∷ ms) = Undoes live m × AreReversible uses (without_live m.name live) ms

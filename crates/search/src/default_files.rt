@@ -24,7 +24,7 @@ pub trait DefaultFiles {
 
     /// Evaluates the text of the default file at the path; `None` where the evaluation has a fault.
     ///
-    /// It fails with `AllocError` alone.
+    /// Errors: `AllocError` alone.
     fn evaluate(&self, alloc: Global, path: &str, text: &str) -> Result<Option<Ended>, AllocError>
         ensures { IfOk result (λ ended. results self.now path.now text.now (option_map ended_view ended)) };
 

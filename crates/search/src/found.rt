@@ -32,7 +32,7 @@ pub struct Found {
 
 /// The module of this full name at a path, by what the path holds; `None` where that is no module.
 ///
-/// It fails with `NotUtf8` where it is a module that is not UTF-8.
+/// Errors: `NotUtf8` where it is a module that is not UTF-8.
 fn found_in(name: String, path: String, file: FileContent) -> Result<Option<Found>, FindFault>
     ensures { caused (option_map found_view) result
         ≡ because_of (module_in (string_bytes name) (string_bytes path) (file_content_view file)) }
@@ -46,7 +46,7 @@ fn found_in(name: String, path: String, file: FileContent) -> Result<Option<Foun
 
 /// The module of this full name below a directory, or `None` where its path holds no module.
 ///
-/// It fails with `NotUtf8` where the module is not UTF-8, as the tree does at that path, and for want of memory.
+/// Errors: `NotUtf8` where the module is not UTF-8; what the tree answers at that path; want of memory.
 fn module_at<T: Tree>(
     alloc: Global,
     tree: &mut T,
@@ -68,7 +68,7 @@ fn module_at<T: Tree>(
 /// The default candidate of a name, in whose folder are these entries; `None` where none of them is a candidate.
 /// Default files are read only where an entry can be a version.
 ///
-/// It fails with `BadDefaultFile` where a default file has a fault and there is a candidate; a folder without
+/// Errors: `BadDefaultFile` where a default file has a fault and there is a candidate; a folder without
 /// candidates gives no module whatever its default files are.
 fn default_of<T: Tree, D: DefaultFiles>(
     alloc: Global,
@@ -165,7 +165,7 @@ pub fn directories(alloc: Global, modulepath: &str) -> Result<Vec<&str>, AllocEr
 
 /// The module of the first directory that gives one for a well-spelled name.
 ///
-/// It fails with `NotFound` where none does.
+/// Errors: `NotFound` where none does.
 fn module_along<T: Tree, D: DefaultFiles>(
     alloc: Global,
     tree: &mut T,
@@ -193,7 +193,7 @@ fn module_along<T: Tree, D: DefaultFiles>(
 /// directory gives the modulefile at directory, `/`, name; or else, where a folder is there with files that begin
 /// with `#%Module`, the one of these that its default files name, or else the greatest in version order.
 ///
-/// It fails with `BadName` exactly where the name is ill-spelled, before anything is read; with `NotFound` where no
+/// Errors: `BadName` exactly where the name is ill-spelled, before anything is read; with `NotFound` where no
 /// directory gives a module; with `BadDefaultFile` where a default file of the folder that was meant has a fault;
 /// with `NotUtf8` where the module found is not UTF-8; with `Device` only where the device failed in this call, at a
 /// path that the search for this name looks at; and with `OutOfMemory`.

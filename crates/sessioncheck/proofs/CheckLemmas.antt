@@ -8,7 +8,7 @@ use Rattle.filetree.specs.Agreement.{Files, Listings, InEachPair, Narrows}
 use Rattle.shells.specs.declared.shell.Shell.{Shell}
 use Rattle.tclrules.specs.declared.limits.Limits.{Limits}
 use Rattle.requests.specs.Sessions.{end_environment}
-use Rattle.requests.specs.Steps.{site_in}
+use Rattle.requests.specs.Steps.{request_context_in}
 use Rattle.modules.specs.Responses.{count_failed, responses}
 use Rattle.sessioncheck.specs.Checks.{IsCheck}
 use Rattle.sessioncheck.specs.Judgments.{AreJudgments, count_failed_judgments}
@@ -24,15 +24,15 @@ failed_before before mid now a h k = omega arith
 pub checked : (agrees agrees' : Files → Listings → Type 0) (before mid now : ℕ) (limits : Limits) (shell : Shell) (e from : Environment) (text : Text)
     (lines : List (List Text)) (names : List Text) (f : Findings)
     → Narrows agrees agrees' → before + count_failed f.outcomes.items ≤ mid → mid + count_failed_judgments f.judgments.items ≤ now → from ≡ e → lines ≡ lines_in text
-    → InEachPair agrees (λ files listings. LineSession (site_in limits shell files listings) from lines (responses from f.outcomes.items))
+    → InEachPair agrees (λ files listings. LineSession (request_context_in limits shell files listings) from lines (responses from f.outcomes.items))
     → InEachPair agrees (λ files listings. f.env ≡ end_environment from (responses from f.outcomes.items))
     → names ≡ without_repeats (flat_map loaded_in f.outcomes.items) → AreJudgments agrees' (mid < now) limits e names f.judgments.items
     → IsCheck agrees' before now limits shell e text f
 checked agrees agrees' before mid now limits shell e from text lines names f narrows ran_count judged_count same made ran end named judged = record {
   session = λ files listings a.
-      let site = site_in limits shell files listings in
-      let P : List (List Text) → Type 0 = λ xs. LineSession site from xs (responses from f.outcomes.items) in
-      let Q : Environment → Type 0 = λ x. LineSession site x (lines_in text) (responses x f.outcomes.items) in
+      let context = request_context_in limits shell files listings in
+      let P : List (List Text) → Type 0 = λ xs. LineSession context from xs (responses from f.outcomes.items) in
+      let Q : Environment → Type 0 = λ x. LineSession context x (lines_in text) (responses x f.outcomes.items) in
       subst Q same (subst P made (ran files listings (narrows files listings a)));
   end = λ files listings a.
       let Q : Environment → Type 0 = λ x. f.env ≡ end_environment x (responses x f.outcomes.items) in

@@ -7,7 +7,7 @@ use Rattle.filetree.specs.Relations.{Is}
 use Rattle.requests.specs.Reasons.{RequestReason}
 use Rattle.requests.specs.Requests.{RequestedAction, request_of}
 use Rattle.requests.specs.Sessions.{Response, accepted, refused, given_up, IsResponse, env_after, is_given_up_by}
-use Rattle.requests.specs.Steps.{Site}
+use Rattle.requests.specs.Steps.{RequestContext}
 use Rattle.requeststep.specs.Answers.{cause_of}
 use Rattle.requeststep.specs.Messages.{memory_number, number_by}
 use Rattle.requeststep.specs.declared.refusal.Refusal.{Refusal}
@@ -17,20 +17,20 @@ use Rattle.modules.specs.declared.sessions.Outcome.TheVariants.{Refused}
 use Rattle.sessioncheck.specs.Sessions.{IsLineResponse, LineSession}
 
 -- the response of a line's request is the line's
-pub line_responds : (s : Site) (e : Environment) (words : List Text) (asked : RequestedAction) (o : Response) → request_of words ≡ Ok asked
+pub line_responds : (s : RequestContext) (e : Environment) (words : List Text) (asked : RequestedAction) (o : Response) → request_of words ≡ Ok asked
     → IsResponse s e asked o → IsLineResponse s e words o
 line_responds s e words asked (accepted d) made h = (Ok asked, sym made, h)
 line_responds s e words asked (refused reason) made h = (Ok asked, sym made, h)
 line_responds s e words asked (given_up number) made h = h
 
 -- a line that makes no request
-by_cause_responds : (s : Site) (e : Environment) (words : List Text) (out_of_memory : ℕ) (c : Cause RequestReason) → is_given_up_by out_of_memory ≡ true
+by_cause_responds : (s : RequestContext) (e : Environment) (words : List Text) (out_of_memory : ℕ) (c : Cause RequestReason) → is_given_up_by out_of_memory ≡ true
     → Applies c ⊥ (λ r. Is (request_of words) (Err r)) → IsLineResponse s e words (by_cause (number_by out_of_memory c) c)
 by_cause_responds s e words out_of_memory memory is h = is
 by_cause_responds s e words out_of_memory device is h = absurd h
 by_cause_responds s e words out_of_memory (because r) is h = (Err r, h, refl)
 
-pub none_responds : (s : Site) (e : Environment) (words : List Text) (refusal : Refusal)
+pub none_responds : (s : RequestContext) (e : Environment) (words : List Text) (refusal : Refusal)
     → Applies (cause_of refusal) ⊥ (λ r. Is (request_of words) (Err r)) → IsLineResponse s e words (response_of e (Refused refusal))
 none_responds s e words refusal h = by_cause_responds s e words (memory_number refusal) (cause_of refusal) (memory_is_cause refusal) h
 
@@ -46,7 +46,7 @@ pub none_counts : (failures : ℕ) (refusal : Refusal) (Is : RequestReason → T
 none_counts failures refusal Is h = refused_counts failures failures refusal Is (same_number failures) (more_applies (cause_of refusal) (failures < failures) Is h)
 
 -- what the rest of the lines has as responses, the whole has after those so far
-pub lines_taken : (s : Site) (start e new : Environment) (words : List Text) (lines all : List (List Text)) (sofar grown : List Response) (o : Response)
+pub lines_taken : (s : RequestContext) (start e new : Environment) (words : List Text) (lines all : List (List Text)) (sofar grown : List Response) (o : Response)
     → (os : List Response) → (LineSession s e (words ∷ lines) (o ∷ os) → LineSession s start all (sofar ++ o ∷ os))
     → IsLineResponse s e words o → new ≡ env_after e o → grown ≡ sofar ++ o ∷ []
     → LineSession s new lines os → LineSession s start all (grown ++ os)
@@ -56,7 +56,7 @@ lines_taken s start e new words lines all sofar grown o os run is_response end m
     subst Q (sym (append_assoc sofar (o ∷ []) os) ∙ ap (λ x. x ++ os) (sym more)) (run (is_response, subst P end rest))
 
 -- no line remains
-pub lines_done : {W : Type 0} (view : W → List Text) (s : Site) (start e : Environment) (rest : List W) (all : List (List Text)) (sofar : List Response) → rest ≡ []
+pub lines_done : {W : Type 0} (view : W → List Text) (s : RequestContext) (start e : Environment) (rest : List W) (all : List (List Text)) (sofar : List Response) → rest ≡ []
     → ((os : List Response) → LineSession s e (map view rest) os → LineSession s start all (sofar ++ os)) → LineSession s start all sofar
 lines_done {W} view s start e rest all sofar none run =
     let Whole : List Response → Type 0 = λ x. LineSession s start all x in

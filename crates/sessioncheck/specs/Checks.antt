@@ -7,7 +7,7 @@ use Rattle.filetree.specs.Agreement.{Files, Listings, InEachPair}
 use Rattle.shells.specs.declared.shell.Shell.{Shell}
 use Rattle.tclrules.specs.declared.limits.Limits.{Limits}
 use Rattle.requests.specs.Sessions.{Response, end_environment}
-use Rattle.requests.specs.Steps.{site_in}
+use Rattle.requests.specs.Steps.{request_context_in}
 use Rattle.modules.specs.Responses.{count_failed, responses}
 use Rattle.modules.specs.declared.sessions.Outcome.{Outcome}
 use Rattle.modules.specs.declared.sessions.Outcome.TheVariants.{Accepted, Refused}
@@ -30,7 +30,7 @@ failed_in check = count_failed check.outcomes.items + count_failed_judgments che
 pub record IsCheck (agrees : Files → Listings → Type 0) (before now : ℕ) (limits : Limits) (shell : Shell)
     (e : Environment) (text : Text) (check : Findings) : Type 0 where
   pub session : InEachPair agrees (λ files listings.
-      LineSession (site_in limits shell files listings) e (lines_in text) (responses_in e check))
+      LineSession (request_context_in limits shell files listings) e (lines_in text) (responses_in e check))
   pub end : InEachPair agrees (λ files listings. check.env ≡ end_environment e (responses_in e check))
   pub judged : AreJudgments agrees (before < now) limits e (names_loaded (responses_in e check)) check.judgments.items
   pub failures : before + failed_in check ≤ now

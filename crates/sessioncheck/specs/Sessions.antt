@@ -7,20 +7,20 @@ use Rattle.filetree.specs.Relations.{Is, ◌>>◌}
 use Rattle.requests.specs.Reasons.{RequestReason}
 use Rattle.requests.specs.Requests.{RequestedAction, Request, request_of}
 use Rattle.requests.specs.Sessions.{Response, accepted, refused, given_up, is_given_up_by, env_after}
-use Rattle.requests.specs.Steps.{Site, Done, RequestStep}
+use Rattle.requests.specs.Steps.{RequestContext, Done, RequestStep}
 
 -- the step of a line: that of the request which its words make, or the reason why they make none
-abbrev pub LineStep : Site → Environment → List Text → Result Done RequestReason → Type 0
+abbrev pub LineStep : RequestContext → Environment → List Text → Result Done RequestReason → Type 0
 LineStep s e words = Is (request_of words) >> RequestStep s e
 
 -- an accepted or refused line has the outcome of its step; one that was given up has a cause
-abbrev pub IsLineResponse : Site → Environment → List Text → Response → Type 0
+abbrev pub IsLineResponse : RequestContext → Environment → List Text → Response → Type 0
 IsLineResponse s e words (accepted d) = LineStep s e words (Ok d)
 IsLineResponse s e words (refused reason) = LineStep s e words (Err reason)
 IsLineResponse s e words (given_up number) = is_given_up_by number ≡ true
 
 -- From an environment, the lines have these responses: each in the environment after those before it.
-abbrev pub LineSession : Site → Environment → List (List Text) → List Response → Type 0
+abbrev pub LineSession : RequestContext → Environment → List (List Text) → List Response → Type 0
 LineSession s e [] [] = Unit {0}
 LineSession s e [] (o ∷ os) = ⊥
 LineSession s e (words ∷ lines) [] = ⊥

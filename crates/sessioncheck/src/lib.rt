@@ -1,4 +1,4 @@
-//! The check of an input's lines: what their requests would do, and the verdict on each module that they load (own).
+//! The check of an input's lines: what their requests would do, and the verdict on each module that they load.
 //! Takes memory; reads the files and directories (`Tree`) that it is given.
 //! Used by modulecmd.
 #![tactic(auto)]

@@ -3,7 +3,7 @@ ghost use Rattle.std.specs.Prelude.{◌≡◌, ◌≤◌, ◌+◌, [], ◌∷◌
 ghost use Rattle.envvars.specs.Texts.{texts_in};
 ghost use Rattle.filetree.specs.Agreement.{Narrows, InEachPair, ReadsOn};
 ghost use Rattle.requeststep.specs.declared.refusal.Refusal.TheVariants as refusals;
-ghost use Rattle.requests.specs.Steps.{site_in};
+ghost use Rattle.requests.specs.Steps.{request_context_in};
 ghost use Rattle.modules.specs.Responses.{response_of, responses, count_failed};
 ghost use Rattle.requests.specs.Sessions.{env_after, end_environment};
 ghost use Rattle.sessioncheck.specs.Sessions.{IsLineResponse, LineSession};
@@ -27,7 +27,7 @@ fn respond_to<T: Tree>(
     ensures narrows { Narrows (T.agrees tree.old) (T.agrees tree.new) }
     ensures failures { T.failures tree.old + count_failed (result ∷ []) ≤ T.failures tree.new }
     ensures answer { InEachPair (T.agrees tree.new) (λ files listings.
-        IsLineResponse (site_in limits shell files listings) env.old (map string_bytes words.now)
+        IsLineResponse (request_context_in limits shell files listings) env.old (map string_bytes words.now)
         (response_of env.old result)) }
     ensures end { InEachPair (T.agrees tree.new) (λ files listings.
         env.new ≡ env_after env.old (response_of env.old result)) }
@@ -51,7 +51,7 @@ pub(crate) fn run_lines<T: Tree>(
     ensures failures { IfOk result (λ outcomes.
         T.failures tree.old + count_failed outcomes.items ≤ T.failures tree.new) }
     ensures ran { IfOk result (λ outcomes. InEachPair (T.agrees tree.new) (λ files listings.
-        LineSession (site_in limits shell files listings) env.old (map texts_in lines.now)
+        LineSession (request_context_in limits shell files listings) env.old (map texts_in lines.now)
         (responses env.old outcomes.items))) }
     ensures end { IfOk result (λ outcomes. InEachPair (T.agrees tree.new) (λ files listings.
         env.new ≡ end_environment env.old (responses env.old outcomes.items))) }

@@ -4,7 +4,7 @@ use Rattle.std.proofs.lemmas.Bool.{le-leb, lt-leb}
 use Rattle.std.proofs.lemmas.Bool.Decides.{nat_tests}
 use Rattle.std.specs.Prelude.{nat_le}
 use Rattle.tclchars.specs.Runs.{Text}
-use Rattle.tcloperators.specs.Faults.{Answer, Reason, reason_of, value_too_long, ◌>>=◌}
+use Rattle.tcloperators.specs.Faults.{Answer, ValueReason, reason_of, value_too_long, ◌>>=◌}
 use Rattle.tcloperators.specs.declared.fault.ValueFault.{ValueFault}
 use Rattle.tcloperators.specs.declared.fault.ValueFault.TheVariants as faults
 use Rattle.tclvalue.specs.Limits.{limited}
@@ -31,7 +31,7 @@ limited_is limit t u h = go (nat_le (length t) limit) h
 not_within : (a b : ℕ) → nat_le a b ≡ false → b < a
 not_within a b h = grind (arith, nat_tests)
 
-too_long : (limit : ℕ) (t : Text) (f : Reason) → limited limit t ≡ Err f → (f ≡ value_too_long) × (limit < length t)
+too_long : (limit : ℕ) (t : Text) (f : ValueReason) → limited limit t ≡ Err f → (f ≡ value_too_long) × (limit < length t)
 too_long limit t f h = go (nat_le (length t) limit) refl h
   where
     go : (b : Bool) → nat_le (length t) limit ≡ b → cond b (Ok t) (Err value_too_long) ≡ Err f → (f ≡ value_too_long) × (limit < length t)

@@ -1,7 +1,7 @@
 //! The variables that an evaluation begins with.
 ghost use Rattle.std.specs.Prelude.{◌≡◌, IfOk, map};
 ghost use Rattle.tclrules.specs.Promise.{texts_of};
-ghost use Rattle.tclrules.specs.Variables.{start};
+ghost use Rattle.tclrules.specs.Variables.{initial_state};
 
 use std::alloc::{AllocError, Global};
 use tclvariables::{Scalar, Scope, Variables};
@@ -15,7 +15,7 @@ pub fn initial_variables(
     reserved: &'static [&'static str],
     globals: Vec<(String, String)>,
 ) -> Result<Variables, AllocError>
-    ensures { IfOk result (λ v. v ≡ start (map (λ n. n.now) reserved.now) (texts_of globals.items)) }
+    ensures { IfOk result (λ v. v ≡ initial_state (map (λ n. n.now) reserved.now) (texts_of globals.items)) }
 {
     let mut variables = Variables::new(alloc, reserved);
     for (name, value) in globals {

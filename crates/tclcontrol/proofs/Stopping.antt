@@ -5,13 +5,13 @@ use Rattle.tclrules.specs.Plans as plans
 use Rattle.tclrules.specs.Plans.{Job, Step}
 use Rattle.tclrules.specs.Simulates.{Point, Simulates}
 use Rattle.tclrules.proofs.Leading.{stay, starve}
-use Rattle.tclvalue.specs.Faults.{Reason, HasReason}
+use Rattle.tclvalue.specs.Faults.{ValueReason, HasReason}
 use Rattle.tcloperators.specs.declared.fault.ValueFault.{ValueFault}
 use Rattle.tcloperators.specs.declared.fault.ValueFault.TheVariants as faults
 use Rattle.tclsubstitution.specs.Stops.{stopped, stop_of}
 
 -- a fault that has this reason
-pub fault_stops : {most : ℕ} {r : Job → Step} {x : Point} (e : ValueFault) (reason : Reason) (s : State) → HasReason reason e → Simulates most r (plans.fault reason s) x (stopped (stop_of e) s) x
+pub fault_stops : {most : ℕ} {r : Job → Step} {x : Point} (e : ValueFault) (reason : ValueReason) (s : State) → HasReason reason e → Simulates most r (plans.fault reason s) x (stopped (stop_of e) s) x
 fault_stops faults.OutOfMemory reason s h = starve
 fault_stops (faults.Text f) reason s h = rw (← h) stay
 fault_stops (faults.TclError m) reason s h = rw (← h) stay

@@ -2,7 +2,7 @@
 use Rattle.std.proofs.Common.{◌≡◌, ℕ, true, false, List, Result, Ok, Err, String, Global, refl, subst}
 use Rattle.tclchars.specs.Runs.{Text}
 use Rattle.tclrules.specs.Oracle.{Oracle, Trace}
-use Rattle.tclrules.specs.Derivation.{OutOfMemory, Outcome, Halted, Plan, Ends, World, Eval, ends, lacks_memory}
+use Rattle.tclrules.specs.Derivation.{OutOfMemory, EvaluationOutcome, Halted, Plan, Ends, World, Eval, ends, lacks_memory}
 use Rattle.tclrules.specs.Variables.{Variables, State}
 use Rattle.tclrules.specs.Plans as plans
 use Rattle.tclrules.specs.Rules.{rule}
@@ -31,7 +31,7 @@ cut_ends fault.Stopped s = refl
 cut_ends (fault.Host n) s = refl
 
 -- a fault that isn't want of memory reports an outcome that memory has no part in
-fed : {J : Type 0} {oracle : Oracle} {most : ℕ} {r : J → Plan J plans.Completion} {p : Plan J plans.Completion} {w w' : World} {o : Outcome plans.Completion} (script : Text) (f : EvalFault) → ReportsFault script f o → Eval true oracle most r p w o w' → Eval (is_out_of_memory f) oracle most r p w o w'
+fed : {J : Type 0} {oracle : Oracle} {most : ℕ} {r : J → Plan J plans.Completion} {p : Plan J plans.Completion} {w w' : World} {o : EvaluationOutcome plans.Completion} (script : Text) (f : EvalFault) → ReportsFault script f o → Eval true oracle most r p w o w' → Eval (is_out_of_memory f) oracle most r p w o w'
 fed script fault.OutOfMemory h d = d
 fed script (fault.Text t) h d = unstarved d (λ e. cc)
 fed script (fault.TclError m n) h d = unstarved d (λ e. let q = h.1 in cc)

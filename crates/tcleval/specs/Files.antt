@@ -3,7 +3,7 @@
 use Rattle.std.specs.Prelude.{◌≡◌, ℕ, Result, Ok, Err, string_bytes, String}
 use Rattle.std.specs.declared.alloc.Global.{Global}
 use Rattle.tclchars.specs.Runs.{Text}
-use Rattle.tclrules.specs.Derivation.{Outcome, Ended, Halted}
+use Rattle.tclrules.specs.Derivation.{EvaluationOutcome, Ended, Halted}
 use Rattle.tclrules.specs.Variables.{State}
 use Rattle.tclrules.specs.Plans as plans
 use Rattle.tclrules.specs.Plans.{Normal, Raised, Step, ended, halt, raise}
@@ -14,7 +14,7 @@ use Rattle.tclrules.specs.declared.outcome.EvalFault.TheVariants as fault
 use Rattle.tclsubstitution.specs.Stops.{error_or_halt}
 
 -- the outcome of a file that fails in this state
-abbrev pub failure_outcome : EvalFault → State → Outcome plans.Completion
+abbrev pub failure_outcome : EvalFault → State → EvaluationOutcome plans.Completion
 failure_outcome f s = error_or_halt (λ m. Ended (Raised m s)) Halted f
 
 -- the plan of the rules at the end of a file

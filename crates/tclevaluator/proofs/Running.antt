@@ -19,7 +19,7 @@ use Rattle.tclchars.specs.Runs.{Text}
 use Rattle.tclchars.specs.Whole.{FailsWith}
 use Rattle.tclchars.specs.declared.fault.TextFault.{TextFault}
 use Rattle.tclchars.specs.declared.fault.TextFault.TheVariants as texts
-use Rattle.tclvalue.specs.Faults.{Answer, Reason, HasReason, reason_of, value_too_long}
+use Rattle.tclvalue.specs.Faults.{Answer, ValueReason, HasReason, reason_of, value_too_long}
 use Rattle.tclvalue.specs.Limits.{limited}
 use Rattle.tcloperators.specs.declared.fault.ValueFault.{ValueFault}
 use Rattle.tcloperators.specs.declared.fault.ValueFault.TheVariants as faults
@@ -220,7 +220,7 @@ limited_by false t u h = absurd (cc)
 pub limited_on : (limit : ℕ) (t u : Text) → limited limit t ≡ Ok u → (length t ≤ limit) × (u ≡ t)
 limited_on limit t u h = let p = limited_by (nat_le (length t) limit) t u h in (at_most _ _ p.0, p.1)
 
-too_long_by : (b : Bool) (t : Text) (r : Reason) → limited_if b t ≡ Err r → (b ≡ false) × (r ≡ value_too_long)
+too_long_by : (b : Bool) (t : Text) (r : ValueReason) → limited_if b t ≡ Err r → (b ≡ false) × (r ≡ value_too_long)
 too_long_by true t r h = absurd (cc)
 too_long_by false t r h = (refl, cc)
 
@@ -247,7 +247,7 @@ none_of None h = refl
 none_of (Some x) h = absurd (h x refl)
 
 -- the answer of the words of a core command, transposed back
-pub turned_err : {A : Type 0} (o : Option (Answer A)) (f : Reason) → transposed o ≡ Err f → o ≡ Some (Err f)
+pub turned_err : {A : Type 0} (o : Option (Answer A)) (f : ValueReason) → transposed o ≡ Err f → o ≡ Some (Err f)
 turned_err None f h = absurd (cc)
 turned_err (Some (Ok x)) f h = absurd (cc)
 turned_err (Some (Err g)) f h = cc

@@ -14,7 +14,7 @@ use Rattle.tclexpr.specs.Grammar.{level, sign_of, IsExpr, simple, choosing, IsCh
 use Rattle.tclexpr.specs.Marks.{after_white, mark_at}
 use Rattle.tclexpr.specs.TokenList.{AreTokens, IsExprText}
 use Rattle.tclexpr.specs.Faults.{Follows, NextIsNot, MayFollow}
-use Rattle.tclexpr.specs.Reading.{Extent, whole, chain, is_close, is_colon, is_question, is_open, infix_of, after_expected, expect, signed_at, enclosed_at, marked_at, begun_at, prefix_at, join, next_at, going_at, climb_at, chain_at, branches_at, choosing_at, whole_at, below_at, ended, expr_at}
+use Rattle.tclexpr.specs.Reading.{Extent, whole, chain, is_close, is_colon, is_question_mark, is_open, infix_of, after_expected, expect, signed_at, enclosed_at, marked_at, begun_at, prefix_at, join, next_at, going_at, climb_at, chain_at, branches_at, choosing_at, whole_at, below_at, ended, expr_at}
 use Rattle.tclexpr.proofs.Results.{found_once, found_none, infix_once}
 use Rattle.tclexpr.proofs.Rows.{row_cut, row_shorter}
 use Rattle.tclexpr.proofs.Sound.{level_more, infix_is, question_is}
@@ -35,7 +35,7 @@ le_false a b h = grind (arith, nat_tests)
 pub sign_no_open : (m : Mark) (u : UnaryOperator) → sign_of m ≡ Some u → is_open m ≡ false
 sign_no_open marks.Open u h = cc
 sign_no_open marks.Close u h = refl
-sign_no_open marks.Question u h = refl
+sign_no_open marks.QuestionMark u h = refl
 sign_no_open marks.Colon u h = refl
 sign_no_open marks.Complement u h = refl
 sign_no_open marks.Not u h = refl
@@ -110,12 +110,12 @@ module _ {O : Type 0} (read_operand : ℕ → Text → Read (O × ℕ)) where
     choosing_stops x rest ends = at_mark (mark_at (after_white rest)) refl where
       at_mark : (found : Option (Mark × Text)) → mark_at (after_white rest) ≡ found → choosing_at read_operand d below x rest found ≡ Ok (x, rest)
       at_mark None is = refl
-      at_mark (Some p) is = by_test (is_question p.0) refl where
-        by_test : (s : Bool) → is_question p.0 ≡ s → cond s (cond (nat_lt x.1 d) (branches_at read_operand below x p.1) (Err TooDeep)) (Ok (x, rest)) ≡ Ok (x, rest)
-        by_test true s = absurd (ends marks.Question p.1 (is ∙ ap (λ m. Some (m, p.1)) (question_is p.0 s)) tt)
+      at_mark (Some p) is = by_test (is_question_mark p.0) refl where
+        by_test : (s : Bool) → is_question_mark p.0 ≡ s → cond s (cond (nat_lt x.1 d) (branches_at read_operand below x p.1) (Err TooDeep)) (Ok (x, rest)) ≡ Ok (x, rest)
+        by_test true s = absurd (ends marks.QuestionMark p.1 (is ∙ ap (λ m. Some (m, p.1)) (question_is p.0 s)) tt)
         by_test false s = refl
 
-    pub choosing_goes : (x : Expr O × ℕ) (rest after : Text) → mark_at (after_white rest) ≡ Some (marks.Question, after) → x.1 < d → choosing_at read_operand d below x rest (mark_at (after_white rest)) ≡ branches_at read_operand below x after
+    pub choosing_goes : (x : Expr O × ℕ) (rest after : Text) → mark_at (after_white rest) ≡ Some (marks.QuestionMark, after) → x.1 < d → choosing_at read_operand d below x rest (mark_at (after_white rest)) ≡ branches_at read_operand below x after
     choosing_goes x rest after is less = ap (choosing_at read_operand d below x rest) is ∙ (let t : nat_lt x.1 d ≡ true = lt_true x.1 d less in rw t refl)
 
     pub whole_from : (bs : Text) (x : Expr O × ℕ) (rest : Text) → chain_at read_operand d below 13 bs ≡ Ok (x, rest) → whole_at read_operand d below bs ≡ choosing_at read_operand d below x rest (mark_at (after_white rest))
@@ -224,11 +224,11 @@ module _ (O : Type 0) (IsOperand : Text → Text → O → ℕ → Type 0) (read
     expr_again (choosing cs ys ns c y n) zero deep bs rest are_tokens ends = absurd (omega arith)
     expr_again (choosing {h} {i} {j} cs ys ns {c = ce} {y = ye} {n = ne} c y n) (suc d) deep bs rest are_tokens ends =
         let below = below_at read_operand (suc d) in
-        let cut = row_cut O IsOperand cs (mark marks.Question ∷ (ys ++ mark marks.Colon ∷ ns)) bs rest are_tokens in
-        let asks : mark_at (after_white cut.0) ≡ Some (marks.Question, cut.2.0) = cut.2.1 in
+        let cut = row_cut O IsOperand cs (mark marks.QuestionMark ∷ (ys ++ mark marks.Colon ∷ ns)) bs rest are_tokens in
+        let asks : mark_at (after_white cut.0) ≡ Some (marks.QuestionMark, cut.2.0) = cut.2.1 in
         let cut' = row_cut O IsOperand ys (mark marks.Colon ∷ ns) cut.2.0 rest cut.2.2 in
         let parts : mark_at (after_white cut'.0) ≡ Some (marks.Colon, cut'.2.0) = cut'.2.1 in
-        let none = no_operator marks.Question cut.0 cut.2.0 asks refl in
+        let none = no_operator marks.QuestionMark cut.0 cut.2.0 asks refl in
         let first = reaches_end (suc d) 13 bs (ce, h) cut.0 (chain_again c (suc d) 13 (omega arith) (omega arith) bs cut.0 cut.1 (none 13)) (none 14) in
         let yes' = below_whole read_operand d cut.2.0 ∙ expr_again y d (omega arith) cut.2.0 cut'.0 cut'.1 (no_goes_on marks.Colon cut'.0 cut'.2.0 parts (λ h. h)) in
         let no' = below_whole read_operand d cut'.2.0 ∙ expr_again n d (omega arith) cut'.2.0 rest cut'.2.2 ends in

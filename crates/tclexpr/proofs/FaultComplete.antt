@@ -69,7 +69,7 @@ module _ {O : Type 0} (read_operand : ℕ → Text → Read (O × ℕ)) (d : ℕ
       prefix_err n bs (bad_next bs) (prefix_marked read_operand d below bs m after is ∙ marked_other read_operand d below (length (after_white bs)) m after two.0
       ∙ ap (signed_at read_operand below (length (after_white bs)) after) two.1)
 
-  choosing_deep : (x : Expr O × ℕ) (rest after : Text) → mark_at (after_white rest) ≡ Some (marks.Question, after) → d ≤ x.1 → choosing_at read_operand d below x rest (mark_at (after_white rest)) ≡ Err TooDeep
+  choosing_deep : (x : Expr O × ℕ) (rest after : Text) → mark_at (after_white rest) ≡ Some (marks.QuestionMark, after) → d ≤ x.1 → choosing_at read_operand d below x rest (mark_at (after_white rest)) ≡ Err TooDeep
   choosing_deep x rest after is tall = ap (choosing_at read_operand d below x rest) is ∙ (let t : nat_lt x.1 d ≡ false = lt_false x.1 d tall in rw t refl)
 
   climb_deep : (n turns : ℕ) (x : Expr O × ℕ) (rest : Text) (i : Infix) (after : Text) → 0 < turns → mark_at (after_white rest) ≡ Some (marks.Infix i, after) → level i ≤ n → d ≤ x.1 → climb_at read_operand d below n turns x rest ≡ Err TooDeep
@@ -102,13 +102,13 @@ module _ (O : Type 0) (IsOperand : Text → Text → O → ℕ → Type 0) (Oper
     (shorter : (bs rest : Text) (o : O) (k : ℕ) → IsOperand bs rest o k → length rest < length bs)
     (operand_met : (d : ℕ) (bs : Text) (f : Fault) → mark_at bs ≡ None → OperandFault d bs f → read_operand d bs ≡ Err f) where
   -- the condition of a choice, read
-  first_read : (d h : ℕ) (bs : Text) (cs us : List (Token O)) (c : Expr O) (last : Text) → IsChain O h 13 cs c → h ≤ d → AreTokens O IsOperand bs last (cs ++ mark marks.Question ∷ us)
-      → (rest : Text) × (after : Text) × (mark_at (after_white rest) ≡ Some (marks.Question, after)) × AreTokens O IsOperand after last us
+  first_read : (d h : ℕ) (bs : Text) (cs us : List (Token O)) (c : Expr O) (last : Text) → IsChain O h 13 cs c → h ≤ d → AreTokens O IsOperand bs last (cs ++ mark marks.QuestionMark ∷ us)
+      → (rest : Text) × (after : Text) × (mark_at (after_white rest) ≡ Some (marks.QuestionMark, after)) × AreTokens O IsOperand after last us
       × (whole_at read_operand d (below_at read_operand d) bs ≡ choosing_at read_operand d (below_at read_operand d) (c, h) rest (mark_at (after_white rest)))
   first_read d h bs cs us c last is deep are_tokens =
-      let cut = row_cut O IsOperand cs (mark marks.Question ∷ us) bs last are_tokens in
-      let asks : mark_at (after_white cut.0) ≡ Some (marks.Question, cut.2.0) = cut.2.1 in
-      let none = no_operator marks.Question cut.0 cut.2.0 asks refl in
+      let cut = row_cut O IsOperand cs (mark marks.QuestionMark ∷ us) bs last are_tokens in
+      let asks : mark_at (after_white cut.0) ≡ Some (marks.QuestionMark, cut.2.0) = cut.2.1 in
+      let none = no_operator marks.QuestionMark cut.0 cut.2.0 asks refl in
       let read = reaches_end O IsOperand read_operand again shorter d 13 bs (c, h) cut.0 (chain_again O IsOperand read_operand again shorter is d 13 deep (omega arith) bs cut.0 cut.1 (none 13)) (none 14) in
       (cut.0, cut.2.0, asks, cut.2.2, whole_from read_operand d (below_at read_operand d) bs (c, h) cut.0 read)
 

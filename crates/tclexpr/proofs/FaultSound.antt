@@ -14,7 +14,7 @@ use Rattle.tclexpr.specs.Grammar.{level, sign_of, IsChain}
 use Rattle.tclexpr.specs.Marks.{after_white, mark_at}
 use Rattle.tclexpr.specs.TokenList.{AreTokens}
 use Rattle.tclexpr.specs.Faults.{NextIsNot, MayFollow, MayFollowOr, BeginsOperand, bad_next, ExprFault, in_condition, deep_choice, in_yes, no_colon, in_no, ChainFault, in_operand, no_operand, deep_prefix, in_signed, in_open, no_close, deep_operator, in_right, ExprTextFault, inside, trailing}
-use Rattle.tclexpr.specs.Reading.{Extent, whole, chain, is_close, is_colon, is_question, is_open, infix_of, after_expected, expect, signed_at, enclosed_at, begun_at, prefix_at, join, next_at, going_at, climb_at, chain_at, branches_at, choosing_at, whole_at, below_at, ended, expr_at}
+use Rattle.tclexpr.specs.Reading.{Extent, whole, chain, is_close, is_colon, is_question_mark, is_open, infix_of, after_expected, expect, signed_at, enclosed_at, begun_at, prefix_at, join, next_at, going_at, climb_at, chain_at, branches_at, choosing_at, whole_at, below_at, ended, expr_at}
 use Rattle.tclexpr.proofs.Results.{found_once, found_none}
 use Rattle.tclexpr.proofs.Rows.{row_join, row_no_longer, after_white_no_longer, mark_shorter}
 use Rattle.tclexpr.proofs.Sound.{SoundBelow, TookChain, TookWhole, TookFront, front_more, prefix_front, prefix_sound, chain_sound, whole_sound, below_sound, chain_weaker, expected_ok, open_is, colon_is, question_is, infix_is, true_false, lt_is, lt_not, le_is}
@@ -170,29 +170,29 @@ module _ (O : Type 0) (IsOperand : Text → Text → O → ℕ → Type 0) (Oper
       abbrev First : Text → Expr O × ℕ → Text → Type 0
       First bs x rest = TookChain O IsOperand (suc d) 13 bs x rest
 
-      asked : (bs : Text) (x : Expr O × ℕ) (rest : Text) (t : First bs x rest) (after : Text) → mark_at (after_white rest) ≡ Some (marks.Question, after) → AreTokens O IsOperand bs after (t.tokens ++ mark marks.Question ∷ [])
-      asked bs x rest t after is = row_join O IsOperand t.tokens (mark marks.Question ∷ []) bs rest after t.are_tokens (after, is, refl)
+      asked : (bs : Text) (x : Expr O × ℕ) (rest : Text) (t : First bs x rest) (after : Text) → mark_at (after_white rest) ≡ Some (marks.QuestionMark, after) → AreTokens O IsOperand bs after (t.tokens ++ mark marks.QuestionMark ∷ [])
+      asked bs x rest t after is = row_join O IsOperand t.tokens (mark marks.QuestionMark ∷ []) bs rest after t.are_tokens (after, is, refl)
 
-      deep_question : (bs : Text) (x : Expr O × ℕ) (rest : Text) → First bs x rest → (after : Text) → mark_at (after_white rest) ≡ Some (marks.Question, after) → d ≤ x.1 → ExprFault O IsOperand OperandFault d bs TooDeep
+      deep_question : (bs : Text) (x : Expr O × ℕ) (rest : Text) → First bs x rest → (after : Text) → mark_at (after_white rest) ≡ Some (marks.QuestionMark, after) → d ≤ x.1 → ExprFault O IsOperand OperandFault d bs TooDeep
       deep_question bs x rest t after is tall =
           let all : x.1 ≡ d = omega (arith, t.deep) in
           deep_choice t.tokens x.0 after (subst (λ h. IsChain O h 13 t.tokens x.0) all t.is) (asked bs x rest t after is)
 
-      yes_here : (k : ℕ) (bs : Text) (x : Expr O × ℕ) (rest : Text) → k ≡ d → First bs x rest → (after : Text) → mark_at (after_white rest) ≡ Some (marks.Question, after) → x.1 < k → (f : Fault)
+      yes_here : (k : ℕ) (bs : Text) (x : Expr O × ℕ) (rest : Text) → k ≡ d → First bs x rest → (after : Text) → mark_at (after_white rest) ≡ Some (marks.QuestionMark, after) → x.1 < k → (f : Fault)
           → BelowFault k whole after f → ExprFault O IsOperand OperandFault k bs f
       yes_here zero bs x rest same t after is less f h = absurd (omega arith)
       yes_here (suc k) bs x rest same t after is less f h = in_yes t.tokens x.0 x.1 after t.is (omega arith) (asked bs x rest t after is) h
 
-      colon_here : (k : ℕ) (bs : Text) (x : Expr O × ℕ) (rest : Text) → k ≡ d → First bs x rest → (after : Text) → mark_at (after_white rest) ≡ Some (marks.Question, after) → x.1 < k
+      colon_here : (k : ℕ) (bs : Text) (x : Expr O × ℕ) (rest : Text) → k ≡ d → First bs x rest → (after : Text) → mark_at (after_white rest) ≡ Some (marks.QuestionMark, after) → x.1 < k
           → (y : Expr O × ℕ) (end : Text) → TookWhole O IsOperand k after y end → (f : Fault) → expect is_colon end ≡ Err f → ExprFault O IsOperand OperandFault k bs f
       colon_here zero bs x rest same t after is less y end r f h = absurd (omega arith)
       colon_here (suc k) bs x rest same t after is less y end r f h =
           let e = expected_err is_colon (length (after_white end)) (mark_at (after_white end)) f h in
           subst (ExprFault O IsOperand OperandFault (suc k) bs) e.0
           (no_colon t.tokens x.0 x.1 r.tokens y.0 y.1 end t.is (omega arith) r.is (omega (arith, r.deep))
-          (row_join O IsOperand t.tokens (mark marks.Question ∷ r.tokens) bs rest end t.are_tokens (after, is, r.are_tokens)) (goes_or marks.Colon is_colon refl end r.ends e.1))
+          (row_join O IsOperand t.tokens (mark marks.QuestionMark ∷ r.tokens) bs rest end t.are_tokens (after, is, r.are_tokens)) (goes_or marks.Colon is_colon refl end r.ends e.1))
 
-      no_here : (k : ℕ) (bs : Text) (x : Expr O × ℕ) (rest : Text) → k ≡ d → First bs x rest → (after : Text) → mark_at (after_white rest) ≡ Some (marks.Question, after) → x.1 < k
+      no_here : (k : ℕ) (bs : Text) (x : Expr O × ℕ) (rest : Text) → k ≡ d → First bs x rest → (after : Text) → mark_at (after_white rest) ≡ Some (marks.QuestionMark, after) → x.1 < k
           → (y : Expr O × ℕ) (end : Text) → TookWhole O IsOperand k after y end → (last : Text) → expect is_colon end ≡ Ok last → (f : Fault) → BelowFault k whole last f → ExprFault O IsOperand OperandFault k bs f
       no_here zero bs x rest same t after is less y end r last colon f h = absurd (omega arith)
       no_here (suc k) bs x rest same t after is less y end r last colon f h =
@@ -200,9 +200,9 @@ module _ (O : Type 0) (IsOperand : Text → Text → O → ℕ → Type 0) (Oper
           let parts : mark_at (after_white end) ≡ Some (marks.Colon, last) = c.1 ∙ ap (λ m. Some (m, last)) (colon_is c.0 c.2) in
           let following : AreTokens O IsOperand after last (r.tokens ++ mark marks.Colon ∷ []) = row_join O IsOperand r.tokens (mark marks.Colon ∷ []) after end last r.are_tokens (last, parts, refl) in
           in_no t.tokens x.0 x.1 r.tokens y.0 y.1 last t.is (omega arith) r.is (omega (arith, r.deep))
-          (row_join O IsOperand t.tokens (mark marks.Question ∷ (r.tokens ++ mark marks.Colon ∷ [])) bs rest last t.are_tokens (after, is, following)) h
+          (row_join O IsOperand t.tokens (mark marks.QuestionMark ∷ (r.tokens ++ mark marks.Colon ∷ [])) bs rest last t.are_tokens (after, is, following)) h
 
-      branches_faulty : (bs : Text) (x : Expr O × ℕ) (rest : Text) → First bs x rest → (after : Text) → mark_at (after_white rest) ≡ Some (marks.Question, after) → x.1 < d → (f : Fault)
+      branches_faulty : (bs : Text) (x : Expr O × ℕ) (rest : Text) → First bs x rest → (after : Text) → mark_at (after_white rest) ≡ Some (marks.QuestionMark, after) → x.1 < d → (f : Fault)
           → branches_at read_operand below x after ≡ Err f → ExprFault O IsOperand OperandFault d bs f
       branches_faulty bs x rest t after is less f h =
           elim (bind_err (below whole after) (λ y. expect is_colon y.1 >>= (λ after. below whole after >>= (λ z. Ok ((choice x.0 y.0.0 z.0.0, suc (max x.1 (max y.0.1 z.0.1))), z.1)))) f h) [
@@ -219,12 +219,12 @@ module _ (O : Type 0) (IsOperand : Text → Text → O → ℕ → Type 0) (Oper
       choosing_faulty : (bs : Text) (x : Expr O × ℕ) (rest : Text) → First bs x rest → (f : Fault) (found : Option (Mark × Text)) → mark_at (after_white rest) ≡ found
           → choosing_at read_operand d below x rest found ≡ Err f → ExprFault O IsOperand OperandFault d bs f
       choosing_faulty bs x rest t f None is h = absurd (no_ok {A = (Expr O × ℕ) × Text} (x, rest) f h)
-      choosing_faulty bs x rest t f (Some p) is h = by_question (is_question p.0) refl h where
-        by_depth : mark_at (after_white rest) ≡ Some (marks.Question, p.1) → (s : Bool) → nat_lt x.1 d ≡ s → cond s (branches_at read_operand below x p.1) (Err TooDeep) ≡ Err f → ExprFault O IsOperand OperandFault d bs f
+      choosing_faulty bs x rest t f (Some p) is h = by_question (is_question_mark p.0) refl h where
+        by_depth : mark_at (after_white rest) ≡ Some (marks.QuestionMark, p.1) → (s : Bool) → nat_lt x.1 d ≡ s → cond s (branches_at read_operand below x p.1) (Err TooDeep) ≡ Err f → ExprFault O IsOperand OperandFault d bs f
         by_depth is true s h = branches_faulty bs x rest t p.1 is (lt_is x.1 d s) f h
         by_depth is false s h = subst (ExprFault O IsOperand OperandFault d bs) (one_err {A = (Expr O × ℕ) × Text} TooDeep f h) (deep_question bs x rest t p.1 is (lt_not x.1 d s))
 
-        by_question : (s : Bool) → is_question p.0 ≡ s → cond s (cond (nat_lt x.1 d) (branches_at read_operand below x p.1) (Err TooDeep)) (Ok (x, rest)) ≡ Err f → ExprFault O IsOperand OperandFault d bs f
+        by_question : (s : Bool) → is_question_mark p.0 ≡ s → cond s (cond (nat_lt x.1 d) (branches_at read_operand below x p.1) (Err TooDeep)) (Ok (x, rest)) ≡ Err f → ExprFault O IsOperand OperandFault d bs f
         by_question true s h = by_depth (is ∙ ap (λ m. Some (m, p.1)) (question_is p.0 s)) (nat_lt x.1 d) refl h
         by_question false s h = absurd (no_ok {A = (Expr O × ℕ) × Text} (x, rest) f h)
 

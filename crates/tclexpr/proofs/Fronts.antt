@@ -153,23 +153,23 @@ mutual
       let y = expr_front fault in
       let g = y.is_viable in
       record {
-        tokens = (cs ++ mark marks.Question ∷ []) ++ y.tokens;
+        tokens = (cs ++ mark marks.QuestionMark ∷ []) ++ y.tokens;
         rest = y.rest;
-        are_tokens = row_join Operand IsOperand (cs ++ mark marks.Question ∷ []) y.tokens bs after y.rest are_tokens y.are_tokens;
+        are_tokens = row_join Operand IsOperand (cs ++ mark marks.QuestionMark ∷ []) y.tokens bs after y.rest are_tokens y.are_tokens;
         is_viable = (
           g.0 ++ other_half,
           suc (max h (max g.1 0)),
           choice c g.2 (operand (number (48 ∷ []))),
           subst (λ ts. IsExpr Operand (suc (max h (max g.1 0))) ts (choice c g.2 (operand (number (48 ∷ [])))))
-              (ap (λ ts. cs ++ mark marks.Question ∷ ts) (append_assoc y.tokens g.0 other_half)
-              ∙ sym (three cs (mark marks.Question ∷ []) y.tokens (g.0 ++ other_half)))
+              (ap (λ ts. cs ++ mark marks.QuestionMark ∷ ts) (append_assoc y.tokens g.0 other_half)
+              ∙ sym (three cs (mark marks.QuestionMark ∷ []) y.tokens (g.0 ++ other_half)))
               (grammar.choosing cs (y.tokens ++ g.0) (some_operand ∷ []) chain g.3 (grammar.simple (grammar.single (number (48 ∷ []))))),
         );
         fault = y.fault;
       }
   expr_front {bs = bs} (faults.no_colon cs c h ys y i after chain low expr low_too are_tokens next) =
       record {
-        tokens = cs ++ mark marks.Question ∷ ys;
+        tokens = cs ++ mark marks.QuestionMark ∷ ys;
         rest = after;
         are_tokens = are_tokens;
         is_viable = (
@@ -177,7 +177,7 @@ mutual
           suc (max h (max i 0)),
           choice c y (operand (number (48 ∷ []))),
           subst (λ ts. IsExpr Operand (suc (max h (max i 0))) ts (choice c y (operand (number (48 ∷ [])))))
-              (sym (append_assoc cs (mark marks.Question ∷ ys) other_half))
+              (sym (append_assoc cs (mark marks.QuestionMark ∷ ys) other_half))
               (grammar.choosing cs ys (some_operand ∷ []) chain expr (grammar.simple (grammar.single (number (48 ∷ []))))),
         );
         fault = refl;
@@ -185,7 +185,7 @@ mutual
   expr_front {bs = bs} (faults.in_no cs c h ys y i after chain low expr low_too are_tokens fault) =
       let n = expr_front fault in
       let g = n.is_viable in
-      let seen : TokenList = cs ++ mark marks.Question ∷ (ys ++ mark marks.Colon ∷ []) in
+      let seen : TokenList = cs ++ mark marks.QuestionMark ∷ (ys ++ mark marks.Colon ∷ []) in
       record {
         tokens = seen ++ n.tokens;
         rest = n.rest;
@@ -195,8 +195,8 @@ mutual
           suc (max h (max i g.1)),
           choice c y g.2,
           subst (λ ts. IsExpr Operand (suc (max h (max i g.1))) ts (choice c y g.2))
-              (ap (λ ts. cs ++ mark marks.Question ∷ ts) (sym (append_assoc ys (mark marks.Colon ∷ []) (n.tokens ++ g.0)))
-              ∙ (sym (append_assoc cs (mark marks.Question ∷ (ys ++ mark marks.Colon ∷ [])) (n.tokens ++ g.0))
+              (ap (λ ts. cs ++ mark marks.QuestionMark ∷ ts) (sym (append_assoc ys (mark marks.Colon ∷ []) (n.tokens ++ g.0)))
+              ∙ (sym (append_assoc cs (mark marks.QuestionMark ∷ (ys ++ mark marks.Colon ∷ [])) (n.tokens ++ g.0))
               ∙ sym (append_assoc seen n.tokens g.0)))
               (grammar.choosing cs ys (n.tokens ++ g.0) chain expr g.3),
         );

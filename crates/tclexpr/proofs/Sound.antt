@@ -17,7 +17,7 @@ use Rattle.tclexpr.specs.Grammar.{level, sign_of, IsExpr, simple, choosing, IsCh
 use Rattle.tclexpr.specs.Marks.{after_white, mark_at}
 use Rattle.tclexpr.specs.TokenList.{AreTokens, IsExprText}
 use Rattle.tclexpr.specs.Faults.{NextIsNot, MayFollow, Follows}
-use Rattle.tclexpr.specs.Reading.{Extent, whole, chain, is_close, is_colon, is_question, is_open, infix_of, after_expected, expect, signed_at, enclosed_at, begun_at, prefix_at, join, next_at, going_at, climb_at, chain_at, branches_at, choosing_at, whole_at, below_at, ended, expr_at}
+use Rattle.tclexpr.specs.Reading.{Extent, whole, chain, is_close, is_colon, is_question_mark, is_open, infix_of, after_expected, expect, signed_at, enclosed_at, begun_at, prefix_at, join, next_at, going_at, climb_at, chain_at, branches_at, choosing_at, whole_at, below_at, ended, expr_at}
 use Rattle.tclexpr.proofs.Results.{found_once, found_none, infix_once}
 use Rattle.tclexpr.proofs.Rows.{row_join}
 
@@ -25,7 +25,7 @@ use Rattle.tclexpr.proofs.Rows.{row_join}
 pub open_is : (m : Mark) → is_open m ≡ true → m ≡ marks.Open
 open_is marks.Open h = refl
 open_is marks.Close h = cc
-open_is marks.Question h = cc
+open_is marks.QuestionMark h = cc
 open_is marks.Colon h = cc
 open_is marks.Complement h = cc
 open_is marks.Not h = cc
@@ -34,7 +34,7 @@ open_is (marks.Infix i) h = cc
 pub close_is : (m : Mark) → is_close m ≡ true → m ≡ marks.Close
 close_is marks.Open h = cc
 close_is marks.Close h = refl
-close_is marks.Question h = cc
+close_is marks.QuestionMark h = cc
 close_is marks.Colon h = cc
 close_is marks.Complement h = cc
 close_is marks.Not h = cc
@@ -43,16 +43,16 @@ close_is (marks.Infix i) h = cc
 pub colon_is : (m : Mark) → is_colon m ≡ true → m ≡ marks.Colon
 colon_is marks.Open h = cc
 colon_is marks.Close h = cc
-colon_is marks.Question h = cc
+colon_is marks.QuestionMark h = cc
 colon_is marks.Colon h = refl
 colon_is marks.Complement h = cc
 colon_is marks.Not h = cc
 colon_is (marks.Infix i) h = cc
 
-pub question_is : (m : Mark) → is_question m ≡ true → m ≡ marks.Question
+pub question_is : (m : Mark) → is_question_mark m ≡ true → m ≡ marks.QuestionMark
 question_is marks.Open h = cc
 question_is marks.Close h = cc
-question_is marks.Question h = refl
+question_is marks.QuestionMark h = refl
 question_is marks.Colon h = cc
 question_is marks.Complement h = cc
 question_is marks.Not h = cc
@@ -61,7 +61,7 @@ question_is (marks.Infix i) h = cc
 pub infix_is : (m : Mark) (i : Infix) → infix_of m ≡ Some i → m ≡ marks.Infix i
 infix_is marks.Open i h = cc
 infix_is marks.Close i h = cc
-infix_is marks.Question i h = cc
+infix_is marks.QuestionMark i h = cc
 infix_is marks.Colon i h = cc
 infix_is marks.Complement i h = cc
 infix_is marks.Not i h = cc
@@ -313,18 +313,18 @@ module _ (O : Type 0) (IsOperand : Text → Text → O → ℕ → Type 0) where
           climb_sound n (suc (length y.0.1)) bs y.0.0 y.0.1 (prefix_front n bs y.0.0 y.0.1 (prefix_sound bs y.0.0 y.0.1 y.1)) x rest y.2
 
       -- Whole expressions
-      expression_ends : (bs : Text) (x : Expr O × ℕ) (rest : Text) → TookChain (suc d) 13 bs x rest → ((after : Text) → mark_at (after_white rest) ≡ Some (marks.Question, after) → ⊥) → TookWhole (suc d) bs x rest
+      expression_ends : (bs : Text) (x : Expr O × ℕ) (rest : Text) → TookChain (suc d) 13 bs x rest → ((after : Text) → mark_at (after_white rest) ≡ Some (marks.QuestionMark, after) → ⊥) → TookWhole (suc d) bs x rest
       expression_ends bs x rest t none = record { tokens = t.tokens; are_tokens = t.are_tokens; is = simple t.is; deep = t.deep; ends = ends } where
         ends : NextIsNot MayFollow rest
         ends marks.Open after is h = h
         ends marks.Close after is h = h
-        ends marks.Question after is h = none after is
+        ends marks.QuestionMark after is h = none after is
         ends marks.Colon after is h = h
         ends marks.Complement after is h = h
         ends marks.Not after is h = h
         ends (marks.Infix i) after is h = absurd (omega (arith, level_within i, t.follows i after is))
 
-      branches_sound : (bs : Text) (x : Expr O × ℕ) (rest : Text) → TookChain (suc d) 13 bs x rest → x.1 < d → (after : Text) → mark_at (after_white rest) ≡ Some (marks.Question, after)
+      branches_sound : (bs : Text) (x : Expr O × ℕ) (rest : Text) → TookChain (suc d) 13 bs x rest → x.1 < d → (after : Text) → mark_at (after_white rest) ≡ Some (marks.QuestionMark, after)
           → (y : Expr O × ℕ) (end : Text) → branches_at read_operand below x after ≡ Ok (y, end) → TookWhole (suc d) bs y end
       branches_sound bs x rest t less after is w end h =
           let y = bind_ok (below whole after) (λ y. expect is_colon y.1 >>= (λ after. below whole after >>= (λ z. Ok ((choice x.0 y.0.0 z.0.0, suc (max x.1 (max y.0.1 z.0.1))), z.1)))) (w, end) h in
@@ -337,8 +337,8 @@ module _ (O : Type 0) (IsOperand : Text → Text → O → ℕ → Type 0) where
           let colon : mark_at (after_white y.0.1) ≡ Some (marks.Colon, k.0) = c.1 ∙ ap (λ m. Some (m, k.0)) (colon_is c.0 c.2) in
           let last : AreTokens O IsOperand y.0.1 z.0.1 (mark marks.Colon ∷ tz.tokens) = (k.0, colon, tz.are_tokens) in
           let made : TookWhole (suc d) bs (choice x.0 y.0.0.0 z.0.0.0, suc (max x.1 (max y.0.0.1 z.0.0.1))) z.0.1 = record {
-            tokens = t.tokens ++ mark marks.Question ∷ (ty.tokens ++ mark marks.Colon ∷ tz.tokens);
-            are_tokens = row_join O IsOperand t.tokens (mark marks.Question ∷ (ty.tokens ++ mark marks.Colon ∷ tz.tokens)) bs rest z.0.1 t.are_tokens
+            tokens = t.tokens ++ mark marks.QuestionMark ∷ (ty.tokens ++ mark marks.Colon ∷ tz.tokens);
+            are_tokens = row_join O IsOperand t.tokens (mark marks.QuestionMark ∷ (ty.tokens ++ mark marks.Colon ∷ tz.tokens)) bs rest z.0.1 t.are_tokens
                 (after, is, row_join O IsOperand ty.tokens (mark marks.Colon ∷ tz.tokens) after y.0.1 z.0.1 ty.are_tokens last);
             is = choosing t.tokens ty.tokens tz.tokens t.is ty.is tz.is;
             deep = omega (arith, ty.deep, tz.deep);
@@ -346,7 +346,7 @@ module _ (O : Type 0) (IsOperand : Text → Text → O → ℕ → Type 0) where
           } in
           subst (λ w. TookWhole (suc d) bs w end) two.0 (subst (λ r. TookWhole (suc d) bs (choice x.0 y.0.0.0 z.0.0.0, suc (max x.1 (max y.0.0.1 z.0.0.1))) r) two.1 made)
 
-      deep_enough : (bs : Text) (x : Expr O × ℕ) (rest : Text) → TookChain (suc d) 13 bs x rest → (after : Text) → mark_at (after_white rest) ≡ Some (marks.Question, after)
+      deep_enough : (bs : Text) (x : Expr O × ℕ) (rest : Text) → TookChain (suc d) 13 bs x rest → (after : Text) → mark_at (after_white rest) ≡ Some (marks.QuestionMark, after)
           → (y : Expr O × ℕ) (end : Text) (s : Bool) → nat_lt x.1 d ≡ s → cond s (branches_at read_operand below x after) (Err TooDeep) ≡ Ok (y, end) → TookWhole (suc d) bs y end
       deep_enough bs x rest t after is y end true s h = branches_sound bs x rest t (lt_is x.1 d s) after is y end h
       deep_enough bs x rest t after is y end false s h = cc
@@ -355,14 +355,14 @@ module _ (O : Type 0) (IsOperand : Text → Text → O → ℕ → Type 0) where
           → choosing_at read_operand d below x rest found ≡ Ok (y, end) → TookWhole (suc d) bs y end
       choosing_sound bs x rest t y end None is h =
           let two = ok_pair (x, rest) (y, end) h in
-          subst (λ x. TookWhole (suc d) bs x end) two.0 (subst (λ r. TookWhole (suc d) bs x r) two.1 (expression_ends bs x rest t (λ after is'. found_none (mark_at (after_white rest)) marks.Question after is is')))
-      choosing_sound bs x rest t y end (Some p) is h = by_question (is_question p.0) refl h where
-        by_question : (s : Bool) → is_question p.0 ≡ s → cond s (cond (nat_lt x.1 d) (branches_at read_operand below x p.1) (Err TooDeep)) (Ok (x, rest)) ≡ Ok (y, end) → TookWhole (suc d) bs y end
+          subst (λ x. TookWhole (suc d) bs x end) two.0 (subst (λ r. TookWhole (suc d) bs x r) two.1 (expression_ends bs x rest t (λ after is'. found_none (mark_at (after_white rest)) marks.QuestionMark after is is')))
+      choosing_sound bs x rest t y end (Some p) is h = by_question (is_question_mark p.0) refl h where
+        by_question : (s : Bool) → is_question_mark p.0 ≡ s → cond s (cond (nat_lt x.1 d) (branches_at read_operand below x p.1) (Err TooDeep)) (Ok (x, rest)) ≡ Ok (y, end) → TookWhole (suc d) bs y end
         by_question true s h = deep_enough bs x rest t p.1 (is ∙ ap (λ m. Some (m, p.1)) (question_is p.0 s)) y end (nat_lt x.1 d) refl h
         by_question false s h =
             let two = ok_pair (x, rest) (y, end) h in
             subst (λ x. TookWhole (suc d) bs x end) two.0 (subst (λ r. TookWhole (suc d) bs x r) two.1 (expression_ends bs x rest t
-            (λ after is'. true_false (sym (ap is_question (found_once (mark_at (after_white rest)) p.0 marks.Question p.1 after is is').0) ∙ s))))
+            (λ after is'. true_false (sym (ap is_question_mark (found_once (mark_at (after_white rest)) p.0 marks.QuestionMark p.1 after is is').0) ∙ s))))
 
       pub whole_sound : (bs : Text) (x : Expr O × ℕ) (rest : Text) → whole_at read_operand d below bs ≡ Ok (x, rest) → TookWhole (suc d) bs x rest
       unfolding whole_at

@@ -12,7 +12,7 @@ use Rattle.tclexpr.specs.declared.operators.Mark.TheVariants as marks
 use Rattle.tclexpr.specs.Grammar.{sign_of}
 use Rattle.tclexpr.specs.Marks.{after_white, mark_at}
 use Rattle.tclexpr.specs.Operands.{Operand, operand_at}
-use Rattle.tclexpr.specs.Reading.{Extent, whole, chain, WithHeight, leaf_of, unary_of, choice_of, expect, is_close, is_colon, is_open, is_question, enclosed_at, branches_at, begun_at, prefix_at, signed_at, choosing_at, chain_at, whole_at, below_at}
+use Rattle.tclexpr.specs.Reading.{Extent, whole, chain, WithHeight, leaf_of, unary_of, choice_of, expect, is_close, is_colon, is_open, is_question_mark, enclosed_at, branches_at, begun_at, prefix_at, signed_at, choosing_at, chain_at, whole_at, below_at}
 use Rattle.tclexpr.proofs.Sound.{question_is}
 use Rattle.tclexpr.proofs.Complete.{below_chain, below_whole, prefix_marked, marked_other, marked_sign, whole_from, lt_true}
 
@@ -108,19 +108,19 @@ whole-fails d bs e h =
     bind_fails (chain_at operand_at d (below_at operand_at d) 13 bs) (chain_at operand_at d (below_at operand_at d) 13 bs)
     (λ (x : WithHeight Operand × Text). choosing_at operand_at d (below_at operand_at d) x.0 x.1 (mark_at (after_white x.1))) e refl h
 
-pub whole-asks : (d : ℕ) (bs : Text) (x : WithHeight Operand) (rest start after : Text) → chain_at operand_at d (below_at operand_at d) 13 bs ≡ Ok (x, rest) → start ≡ after_white rest → mark_at start ≡ Some (marks.Question, after)
+pub whole-asks : (d : ℕ) (bs : Text) (x : WithHeight Operand) (rest start after : Text) → chain_at operand_at d (below_at operand_at d) 13 bs ≡ Ok (x, rest) → start ≡ after_white rest → mark_at start ≡ Some (marks.QuestionMark, after)
     → whole_at operand_at d (below_at operand_at d) bs ≡ (if nat_lt x.1 d then branches_at operand_at (below_at operand_at d) x after else Err TooDeep)
 whole-asks d bs x rest start after h e is =
     whole_from operand_at d (below_at operand_at d) bs x rest h ∙ ap (choosing_at operand_at d (below_at operand_at d) x rest) (ap mark_at (sym e) ∙ is)
 
-no_question : (d : ℕ) (x : WithHeight Operand) (rest : Text) (found : Option (Mark × Text)) → ((after : Text) → found ≡ Some (marks.Question, after) → ⊥) → choosing_at operand_at d (below_at operand_at d) x rest found ≡ Ok (x, rest)
+no_question : (d : ℕ) (x : WithHeight Operand) (rest : Text) (found : Option (Mark × Text)) → ((after : Text) → found ≡ Some (marks.QuestionMark, after) → ⊥) → choosing_at operand_at d (below_at operand_at d) x rest found ≡ Ok (x, rest)
 no_question d x rest None none = refl
-no_question d x rest (Some p) none = by_test (is_question p.0) refl where
-  by_test : (s : Bool) → is_question p.0 ≡ s → cond s (cond (nat_lt x.1 d) (branches_at operand_at (below_at operand_at d) x p.1) (Err TooDeep)) (Ok (x, rest)) ≡ Ok (x, rest)
+no_question d x rest (Some p) none = by_test (is_question_mark p.0) refl where
+  by_test : (s : Bool) → is_question_mark p.0 ≡ s → cond s (cond (nat_lt x.1 d) (branches_at operand_at (below_at operand_at d) x p.1) (Err TooDeep)) (Ok (x, rest)) ≡ Ok (x, rest)
   by_test true s = absurd (none p.1 (ap (λ m. Some (m, p.1)) (question_is p.0 s)))
   by_test false s = refl
 
-pub whole-ends : (d : ℕ) (bs : Text) (x : WithHeight Operand) (rest start : Text) → chain_at operand_at d (below_at operand_at d) 13 bs ≡ Ok (x, rest) → start ≡ after_white rest → ((after : Text) → mark_at start ≡ Some (marks.Question, after) → ⊥)
+pub whole-ends : (d : ℕ) (bs : Text) (x : WithHeight Operand) (rest start : Text) → chain_at operand_at d (below_at operand_at d) 13 bs ≡ Ok (x, rest) → start ≡ after_white rest → ((after : Text) → mark_at start ≡ Some (marks.QuestionMark, after) → ⊥)
     → whole_at operand_at d (below_at operand_at d) bs ≡ Ok (x, rest)
 whole-ends d bs x rest start h e none =
     whole_from operand_at d (below_at operand_at d) bs x rest h ∙ no_question d x rest (mark_at (after_white rest)) (λ after is. none after (ap mark_at e ∙ is))

@@ -112,9 +112,9 @@ mutual
   expr_within : {d : ℕ} {bs : Text} {f : Fault} → ExprFault Operand IsOperand OperandFault d bs f → remaining_of f ≤ length bs
   expr_within (in_condition h) = chain_within h
   expr_within (deep_choice cs c after is are_tokens) = omega arith
-  expr_within (in_yes {d} {bs} {f} cs c h after is deep are_tokens fault) = omega (arith, row_no_longer Operand IsOperand operand_shorter (cs ++ mark marks_of.Question ∷ []) bs after are_tokens, expr_within fault)
-  expr_within (no_colon {d} {bs} cs c h ys y i after is deep is' deep' are_tokens none) = left_after bs after (row_no_longer Operand IsOperand operand_shorter (cs ++ mark marks_of.Question ∷ ys) bs after are_tokens)
-  expr_within (in_no {d} {bs} {f} cs c h ys y i after is deep is' deep' are_tokens fault) = omega (arith, row_no_longer Operand IsOperand operand_shorter (cs ++ mark marks_of.Question ∷ (ys ++ mark marks_of.Colon ∷ [])) bs after are_tokens, expr_within fault)
+  expr_within (in_yes {d} {bs} {f} cs c h after is deep are_tokens fault) = omega (arith, row_no_longer Operand IsOperand operand_shorter (cs ++ mark marks_of.QuestionMark ∷ []) bs after are_tokens, expr_within fault)
+  expr_within (no_colon {d} {bs} cs c h ys y i after is deep is' deep' are_tokens none) = left_after bs after (row_no_longer Operand IsOperand operand_shorter (cs ++ mark marks_of.QuestionMark ∷ ys) bs after are_tokens)
+  expr_within (in_no {d} {bs} {f} cs c h ys y i after is deep is' deep' are_tokens fault) = omega (arith, row_no_longer Operand IsOperand operand_shorter (cs ++ mark marks_of.QuestionMark ∷ (ys ++ mark marks_of.Colon ∷ [])) bs after are_tokens, expr_within fault)
 
   chain_within : {d n : ℕ} {bs : Text} {f : Fault} → ChainFault Operand IsOperand OperandFault d n bs f → remaining_of f ≤ length bs
   chain_within (in_operand {d} {n} {bs} none h) = omega (arith, after_white_no_longer bs, operand_within h)

@@ -24,7 +24,7 @@ Follows n bs = (i : Infix) (rest : Text) → mark_at (after_white bs) ≡ Some (
 -- what may follow an expression: an operator between two operands, or a question mark
 abbrev pub MayFollow : Mark → Type 0
 MayFollow (marks.Infix i) = Unit {0}
-MayFollow marks.Question = Unit {0}
+MayFollow marks.QuestionMark = Unit {0}
 MayFollow m = ⊥
 
 -- such a mark, or the one that is expected
@@ -48,18 +48,18 @@ mutual
     in_condition : {d : ℕ} {bs : Text} {f : Fault} → ChainFault O IsOperand OperandFault d 13 bs f
         → ExprFault O IsOperand OperandFault d bs f
     deep_choice : {d : ℕ} {bs : Text} (cs : List (Token O)) (c : Expr O) (after : Text) → IsChain O d 13 cs c
-        → AreTokens O IsOperand bs after (cs ++ mark marks.Question ∷ [])
+        → AreTokens O IsOperand bs after (cs ++ mark marks.QuestionMark ∷ [])
         → ExprFault O IsOperand OperandFault d bs TooDeep
     in_yes : {d : ℕ} {bs : Text} {f : Fault} (cs : List (Token O)) (c : Expr O) (h : ℕ) (after : Text)
-        → IsChain O h 13 cs c → h ≤ d → AreTokens O IsOperand bs after (cs ++ mark marks.Question ∷ [])
+        → IsChain O h 13 cs c → h ≤ d → AreTokens O IsOperand bs after (cs ++ mark marks.QuestionMark ∷ [])
         → ExprFault O IsOperand OperandFault d after f → ExprFault O IsOperand OperandFault (suc d) bs f
     no_colon : {d : ℕ} {bs : Text} (cs : List (Token O)) (c : Expr O) (h : ℕ) (ys : List (Token O)) (y : Expr O) (i : ℕ)
         (after : Text) → IsChain O h 13 cs c → h ≤ d → IsExpr O i ys y → i ≤ d
-        → AreTokens O IsOperand bs after (cs ++ mark marks.Question ∷ ys) → NextIsNot (MayFollowOr marks.Colon) after
+        → AreTokens O IsOperand bs after (cs ++ mark marks.QuestionMark ∷ ys) → NextIsNot (MayFollowOr marks.Colon) after
         → ExprFault O IsOperand OperandFault (suc d) bs (bad_next after)
     in_no : {d : ℕ} {bs : Text} {f : Fault} (cs : List (Token O)) (c : Expr O) (h : ℕ) (ys : List (Token O))
         (y : Expr O) (i : ℕ) (after : Text) → IsChain O h 13 cs c → h ≤ d → IsExpr O i ys y → i ≤ d
-        → AreTokens O IsOperand bs after (cs ++ mark marks.Question ∷ (ys ++ mark marks.Colon ∷ []))
+        → AreTokens O IsOperand bs after (cs ++ mark marks.QuestionMark ∷ (ys ++ mark marks.Colon ∷ []))
         → ExprFault O IsOperand OperandFault d after f → ExprFault O IsOperand OperandFault (suc d) bs f
 
   -- in a chain of operands, by operators of the level of the second number at most

@@ -52,7 +52,7 @@ mutual
     simple : {h : ℕ} {ts : List (Token O)} {e : Expr O} → IsChain O h 13 ts e → IsExpr O h ts e
     choosing : {h i j : ℕ} (cs ys ns : List (Token O)) {c y n : Expr O} → IsChain O h 13 cs c → IsExpr O i ys y
         → IsExpr O j ns n
-        → IsExpr O (suc (max h (max i j))) (cs ++ mark marks.Question ∷ (ys ++ mark marks.Colon ∷ ns)) (choice c y n)
+        → IsExpr O (suc (max h (max i j))) (cs ++ mark marks.QuestionMark ∷ (ys ++ mark marks.Colon ∷ ns)) (choice c y n)
 
   -- the same, where no operator between two operands, outside parentheses, is of a level above the second number;
   -- operators group to the left

@@ -6,7 +6,7 @@ use Rattle.tclchars.specs.Classes.{is_name}
 use Rattle.tclexpr.specs.declared.operators.BinaryOperator.TheVariants.{Multiply, Divide, Remainder, Add, Subtract, ShiftLeft, ShiftRight, Less, Greater, LessEqual, GreaterEqual, Equal, NotEqual, TextEqual, TextNotEqual, In, NotIn, BitAnd, BitXor, BitOr}
 use Rattle.tclexpr.specs.declared.operators.Infix.TheVariants.{Operator, And, Or}
 use Rattle.tclexpr.specs.declared.operators.Mark.{Mark}
-use Rattle.tclexpr.specs.declared.operators.Mark.TheVariants.{Open, Close, Question, Colon, Complement, Not, Infix}
+use Rattle.tclexpr.specs.declared.operators.Mark.TheVariants.{Open, Close, QuestionMark, Colon, Complement, Not, Infix}
 
 -- The bytes of operators, by their codes
 
@@ -77,7 +77,7 @@ abbrev pub one_byte : ℕ → Option Mark
 one_byte b =
     if b == left_parenthesis then Some Open
     else if b == right_parenthesis then Some Close
-    else if b == question_mark then Some Question
+    else if b == question_mark then Some QuestionMark
     else if b == colon then Some Colon
     else if b == tilde then Some Complement
     else if b == exclamation_mark then Some Not

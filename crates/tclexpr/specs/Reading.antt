@@ -26,9 +26,9 @@ abbrev pub is_colon : Mark → Bool
 is_colon marks.Colon = true
 is_colon m = false
 
-abbrev pub is_question : Mark → Bool
-is_question marks.Question = true
-is_question m = false
+abbrev pub is_question_mark : Mark → Bool
+is_question_mark marks.QuestionMark = true
+is_question_mark m = false
 
 abbrev pub is_open : Mark → Bool
 is_open marks.Open = true
@@ -129,7 +129,7 @@ module _ {O : Type 0} (read_operand : ℕ → Text → Read (O × ℕ)) where
       → Read (WithHeight O)
   choosing_at d below x bs None = Ok (x, bs)
   choosing_at d below x bs (Some p) =
-      if is_question p.0 then
+      if is_question_mark p.0 then
       if nat_lt x.1 d then branches_at below x p.1 else Err TooDeep
       else Ok (x, bs)
 

@@ -1,6 +1,6 @@
 //! Expressions of Tcl as trees, and what is wrong with a text that is none (expr(n)).
 //! Takes memory and touches nothing else.
-//! Used by the operators, the rules of evaluation, tclsubstitution, tclcache and the evaluator.
+//! Used by tcloperators, tclrules, tclsubstitution, tclcache and tclevaluator.
 #![tactic(auto)]
 
 mod laws;

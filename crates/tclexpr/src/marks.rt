@@ -60,7 +60,7 @@ fn one_byte(b: u8) -> Option<Mark>
     match b {
         b'(' => Some(Mark::Open),
         b')' => Some(Mark::Close),
-        b'?' => Some(Mark::Question),
+        b'?' => Some(Mark::QuestionMark),
         b':' => Some(Mark::Colon),
         b'~' => Some(Mark::Complement),
         b'!' => Some(Mark::Not),

@@ -123,7 +123,7 @@ pub enum Mark {
     /// `)`
     Close,
     /// `?`
-    Question,
+    QuestionMark,
     /// `:`
     Colon,
     /// `~`

@@ -11,7 +11,7 @@ ghost use Rattle.tclexpr.specs.Grammar.{level};
 ghost use Rattle.tclexpr.specs.Marks.{mark_at, after_white};
 ghost use Rattle.tclexpr.specs.Faults.{Follows};
 ghost use Rattle.tclexpr.specs.Operands.{operand_at};
-ghost use Rattle.tclexpr.specs.Reading.{chain, is_close, is_colon, is_open, is_question, expect, join, prefix_at, leaf_of, unary_of, choice_of, enclosed_at, branches_at, chain_at, whole_at, below_at};
+ghost use Rattle.tclexpr.specs.Reading.{chain, is_close, is_colon, is_open, is_question_mark, expect, join, prefix_at, leaf_of, unary_of, choice_of, enclosed_at, branches_at, chain_at, whole_at, below_at};
 ghost use Rattle.tclexpr.specs.View.{with_height_view, expr_view};
 
 use crate::marks::{level, read_mark, sign_of, skip_white};
@@ -55,10 +55,10 @@ fn is_open(mark: Mark) -> bool
 }
 
 /// Whether the mark is the question mark of a choice.
-fn is_question(mark: Mark) -> bool
-    ensures { result ≡ is_question mark }
+fn is_question_mark(mark: Mark) -> bool
+    ensures { result ≡ is_question_mark mark }
 {
-    matches!(mark, Mark::Question)
+    matches!(mark, Mark::QuestionMark)
 }
 
 /// The operator that comes next, if it is one between two operands of that level at most, and the rest.
@@ -173,7 +173,7 @@ pub(crate) fn read_whole<'a, S: Source<P>, P: Drop>(
     let Some((mark, following)) = read_mark(skip_white(rest)) else {
         return Ok((condition, rest));
     };
-    if is_question(mark) {
+    if is_question_mark(mark) {
         read_branches(alloc, source, condition, following, depth)
     } else {
         Ok((condition, rest))

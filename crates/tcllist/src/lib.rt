@@ -1,6 +1,6 @@
 //! Lists of Tcl: the elements of a text, and the text of elements (Tcl(n), lindex(n), list(n)).
 //! Takes memory and touches nothing else.
-//! Used by the operators, the commands of values, the rules of evaluation, tclvariables, tclcommands and modulefiles.
+//! Used by tcloperators, tclvalue, tclrules, tclvariables, tclcommands and modulefile.
 #![tactic(auto)]
 
 mod laws;

@@ -1,6 +1,6 @@
 //! Numbers as texts: which texts Tcl reads as a number, and which whole number that is (expr(n)).
 //! Touches nothing and takes no memory.
-//! Used by the operators, the commands of values, the rules of evaluation and the evaluator.
+//! Used by tcloperators, tclvalue, tclrules and tclevaluator.
 #![tactic(auto)]
 
 mod laws;

@@ -8,17 +8,17 @@ use Rattle.tcloperators.specs.declared.fault.ValueFault.{ValueFault}
 use Rattle.tcloperators.specs.declared.fault.ValueFault.TheVariants as faults
 
 -- why there is no value
-pub data Reason : Type 0 where
-  text : (fault : TextFault) → Reason
-  error : (message : Text) → Reason
-  value_too_long : Reason
-  number_too_large : Reason
-  fraction : Reason
-  unsupported : (name : Text) → Reason
+pub data ValueReason : Type 0 where
+  text : (fault : TextFault) → ValueReason
+  error : (message : Text) → ValueReason
+  value_too_long : ValueReason
+  number_too_large : ValueReason
+  fraction : ValueReason
+  unsupported : (name : Text) → ValueReason
 
 -- a value, or the reason why there is none
 abbrev pub Answer : Type 0 → Type 0
-Answer A = Result A Reason
+Answer A = Result A ValueReason
 
 -- goes on with a value; the first reason ends it
 infixl 10 ◌>>=◌
@@ -27,7 +27,7 @@ abbrev pub ◌>>=◌ : {A B : Type 0} → Answer A → (A → Answer B) → Answ
 (Err e) >>= f = Err e
 
 -- the reason that a fault of the program stands for; running out of memory is none
-abbrev pub reason_of : ValueFault → Option Reason
+abbrev pub reason_of : ValueFault → Option ValueReason
 reason_of faults.OutOfMemory = None
 reason_of (faults.Text fault) = Some (text fault)
 reason_of (faults.TclError message) = Some (error (string_bytes message))
@@ -47,7 +47,7 @@ number_of faults.FractionOperand = 18
 number_of (faults.LeftOut name) = 19
 
 -- a fault has this reason, or memory ran out
-abbrev pub HasReason : Reason → ValueFault → Type 0
+abbrev pub HasReason : ValueReason → ValueFault → Type 0
 HasReason reason e = IfSome (reason_of e) (λ r. r ≡ reason)
 
 -- a call gave the text of this answer, or its reason, unless memory ran out

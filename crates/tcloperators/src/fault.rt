@@ -29,7 +29,7 @@ pub enum ValueFault {
     /// A number is spelled with a fraction or an exponent (18).
     #[error("A number with a fraction is not computed")]
     FractionOperand,
-    /// This command or option is unsupported (19).
+    /// This command or option is unsupported on purpose (19).
     #[error("'{0}' is left out")]
     LeftOut(String),
 }

@@ -15,7 +15,7 @@ use Rattle.tclnumber.specs.Numerals.{numeral}
 use Rattle.tcllist.specs.ListReading.{list_of, list_at, element_at, piece_of, piece_at}
 use Rattle.tclvalue.specs.Messages.{divide_by_zero}
 use Rattle.tclvalue.specs.Characters.{white_space}
-use Rattle.tclrules.specs.Derivation.{Outcome, World, BadText, TooManyCommands, TooDeep, ValueTooLong, ByHost}
+use Rattle.tclrules.specs.Derivation.{EvaluationOutcome, World, BadText, TooManyCommands, TooDeep, ValueTooLong, ByHost}
 use Rattle.tclrules.specs.Messages.{no_variable}
 use Rattle.tclrules.specs.Names.{unsupported_commands, core_commands}
 use Rattle.tclrules.specs.Recording.{commands_of_recorder}
@@ -26,15 +26,15 @@ use Rattle.tclrules.specs.Meaning.{Setting, play_file}
 use Rattle.tclrules.specs.Shown.{Shown, Result, Halts, Fails, standard, with_commands, with_depth, with_bytes, within, recorded, shown_of, trace_of, setenv_words}
 
 -- what a view shows of a playing
-abbrev pub viewed : {A : Type 0} → (Outcome Completion → World → A) → Played Completion → Option A
+abbrev pub viewed : {A : Type 0} → (EvaluationOutcome Completion → World → A) → Played Completion → Option A
 viewed view None = None
 viewed view (Some (o, w)) = Some (view o w)
 
-pub computed : {A : Type 0} → Setting → (Outcome Completion → World → A) → ℕ → Option A
+pub computed : {A : Type 0} → Setting → (EvaluationOutcome Completion → World → A) → ℕ → Option A
 unfolding chars digits encode braced_at scan whole_script script_with command_at word_at unexpanded_word_at braced_word_at quoted_word_at quotes_at parts_with part_at dollar_at backslash_at bracket_at after_expansion inner_at mark_at after_white operand_at after_number after_digits quoted_at expr_at whole_at chain_at climb_at prefix_at below_at numeral list_of list_at element_at piece_of piece_at divide_by_zero white_space no_variable unsupported_commands core_commands commands_of_recorder core_form
 computed s view steps = viewed view (play_file s steps)
 
-pub is_viewed : {A : Type 0} (s : Setting) (view : Outcome Completion → World → A) (steps : ℕ) → viewed view (play_file s steps) ≡ computed s view steps
+pub is_viewed : {A : Type 0} (s : Setting) (view : EvaluationOutcome Completion → World → A) (steps : ℕ) → viewed view (play_file s steps) ≡ computed s view steps
 unfolding computed
 is_viewed s view steps = refl
 

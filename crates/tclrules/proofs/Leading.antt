@@ -3,7 +3,7 @@
 use Rattle.std.proofs.Common.{◌≡◌, ℕ, ◌+◌, ◌<◌, ◌≤◌, Bool, true, false, List, Option, refl, ◌∙◌}
 use Rattle.tclchars.specs.Runs.{Text}
 use Rattle.tclrules.specs.Oracle.{Oracle, Trace, OracleAnswer, trace_after}
-use Rattle.tclrules.specs.Derivation.{Halt, TooManyCommands, OutOfMemory, Outcome, Ended, Halted, HostReply, Plan, Ends, Counts, Consults, Reads, Runs, World, Eval, ends, counts, meets_limit, consults, reads, runs, halts, lacks_memory, replied, asked_trace, perhaps_asked, perhaps_ask}
+use Rattle.tclrules.specs.Derivation.{Halt, TooManyCommands, OutOfMemory, EvaluationOutcome, Ended, Halted, HostReply, Plan, Ends, Counts, Consults, ReadsEnvironment, Runs, World, Eval, ends, counts, meets_limit, consults, reads, runs, halts, lacks_memory, replied, asked_trace, perhaps_asked, perhaps_ask}
 use Rattle.tclrules.specs.Simulates.{Point, point, Simulates}
 
 pub stay : {J R : Type 0} {most : ℕ} {rule : J → Plan J R} {p : Plan J R} {x : Point} → Simulates most rule p x p x
@@ -13,7 +13,7 @@ pub continue_with : {J R : Type 0} {most : ℕ} {rule : J → Plan J R} {p q r :
 continue_with a b = record { same = b.same ∙ a.same; by = λ o w d. a.by o w (b.by o w d) }
 
 -- want of memory, anywhere; a host may have been asked before
-want_by : {J R : Type 0} {oracle : Oracle} {most : ℕ} {rule : J → Plan J R} {p : Plan J R} {v : World} {o : Outcome R} {w : World} (asked : Bool) → Eval true oracle most rule (Ends (Halted OutOfMemory)) (perhaps_ask asked v) o w → Eval true oracle most rule p v o w
+want_by : {J R : Type 0} {oracle : Oracle} {most : ℕ} {rule : J → Plan J R} {p : Plan J R} {v : World} {o : EvaluationOutcome R} {w : World} (asked : Bool) → Eval true oracle most rule (Ends (Halted OutOfMemory)) (perhaps_ask asked v) o w → Eval true oracle most rule p v o w
 want_by asked ends = lacks_memory asked refl
 want_by asked (lacks_memory true h) = lacks_memory true h
 want_by asked (lacks_memory false h) = lacks_memory asked h
@@ -29,7 +29,7 @@ starve = record { same = refl; by = λ o w d. want_by false d }
 pub count_on : {J R : Type 0} {most : ℕ} {rule : J → Plan J R} {p : Plan J R} {oracle : Oracle} {trace : Trace} {n : ℕ} → n < most → Simulates most rule (Counts p) (point oracle trace n) p (point oracle trace (n + 1))
 count_on h = record { same = refl; by = λ o w d. counts h d }
 
-over_by : {J R : Type 0} {oracle : Oracle} {most : ℕ} {rule : J → Plan J R} {p : Plan J R} {w : World} {o : Outcome R} {w' : World} → most ≤ w.used → Eval true oracle most rule (Ends (Halted TooManyCommands)) w o w' → Eval true oracle most rule (Counts p) w o w'
+over_by : {J R : Type 0} {oracle : Oracle} {most : ℕ} {rule : J → Plan J R} {p : Plan J R} {w : World} {o : EvaluationOutcome R} {w' : World} → most ≤ w.used → Eval true oracle most rule (Ends (Halted TooManyCommands)) w o w' → Eval true oracle most rule (Counts p) w o w'
 over_by h ends = meets_limit h
 over_by h (lacks_memory a g) = lacks_memory a g
 
@@ -42,14 +42,14 @@ pub hear_on : {J R : Type 0} {most : ℕ} {rule : J → Plan J R} {words : List 
 hear_on e s = record { same = s; by = λ o w d. consults (rw e (rw s at d)) }
 
 pub read_on : {J R : Type 0} {most : ℕ} {rule : J → Plan J R} {name : Text} {k : Option Text → Plan J R} {oracle oracle' : Oracle} {trace : Trace} {n : ℕ} {v : Option Text} → oracle.variable trace.records name ≡ v → oracle' ≡ oracle
-    → Simulates most rule (Reads name k) (point oracle trace n) (k v) (point oracle' (asked_trace trace) n)
+    → Simulates most rule (ReadsEnvironment name k) (point oracle trace n) (k v) (point oracle' (asked_trace trace) n)
 read_on e s = record { same = s; by = λ o w d. reads (rw e (rw s at d)) }
 
 -- a job that ended, and one that halted
 pub run_on : {J R : Type 0} {most : ℕ} {rule : J → Plan J R} {j : J} {k : R → Plan J R} {x y : Point} {r : R} → Simulates most rule (rule j) x (Ends (Ended r)) y → Simulates most rule (Runs j k) x (k r) y
 run_on l = record { same = l.same; by = λ o w d. runs (l.by _ _ ends) (rw l.same at d) }
 
-halted_by : {J R : Type 0} {oracle oracle' : Oracle} {most : ℕ} {rule : J → Plan J R} {j : J} {k : R → Plan J R} {f : Halt} {v w : World} {o : Outcome R} {w' : World} → Eval true oracle' most rule (Ends (Halted f)) v o w' → Eval true oracle most rule (rule j) w o w' → Eval true oracle most rule (Runs j k) w o w'
+halted_by : {J R : Type 0} {oracle oracle' : Oracle} {most : ℕ} {rule : J → Plan J R} {j : J} {k : R → Plan J R} {f : Halt} {v w : World} {o : EvaluationOutcome R} {w' : World} → Eval true oracle' most rule (Ends (Halted f)) v o w' → Eval true oracle most rule (rule j) w o w' → Eval true oracle most rule (Runs j k) w o w'
 halted_by ends d = halts d
 halted_by (lacks_memory a h) d = halts d
 
@@ -57,7 +57,7 @@ pub run_halts : {J R : Type 0} {most : ℕ} {rule : J → Plan J R} {j : J} {k :
 run_halts l = record { same = l.same; by = λ o w d. halted_by d (l.by o w d) }
 
 -- a job whose last step is another job, as a turn of a loop
-tail_by : {J R : Type 0} {oracle oracle' : Oracle} {most : ℕ} {rule : J → Plan J R} {j j' : J} {k : R → Plan J R} {v w : World} {o : Outcome R} {w' : World} → oracle' ≡ oracle → ((o : Outcome R) (w' : World) → Eval true oracle' most rule (Runs j' (λ e. Ends (Ended e))) v o w' → Eval true oracle most rule (rule j) w o w') → Eval true oracle' most rule (Runs j' k) v o w' → Eval true oracle most rule (Runs j k) w o w'
+tail_by : {J R : Type 0} {oracle oracle' : Oracle} {most : ℕ} {rule : J → Plan J R} {j j' : J} {k : R → Plan J R} {v w : World} {o : EvaluationOutcome R} {w' : World} → oracle' ≡ oracle → ((o : EvaluationOutcome R) (w' : World) → Eval true oracle' most rule (Runs j' (λ e. Ends (Ended e))) v o w' → Eval true oracle most rule (rule j) w o w') → Eval true oracle' most rule (Runs j' k) v o w' → Eval true oracle most rule (Runs j k) w o w'
 tail_by s l (runs d c) = runs (l _ _ (runs d ends)) (rw s at c)
 tail_by s l (halts d) = halts (l _ _ (halts d))
 tail_by s l (lacks_memory a h) = halts (l _ _ (lacks_memory a h))

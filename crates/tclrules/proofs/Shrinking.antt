@@ -42,7 +42,7 @@ of_choice : (b : Bool) (p q : Step) → Light p → Light q → Light (if b then
 of_choice true p q h g = h
 of_choice false p q h g = g
 
-of_fault : (f : value.Reason) (s : State) → Light (fault f s)
+of_fault : (f : value.ValueReason) (s : State) → Light (fault f s)
 of_fault (text f) s = tt
 of_fault (error m) s = tt
 of_fault value_too_long s = tt

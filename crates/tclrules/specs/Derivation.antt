@@ -20,9 +20,9 @@ pub data Halt : Type 0 where
   ByHost : ℕ → Halt
 
 -- an evaluation ended with a result, or was halted
-pub data Outcome (R : Type 0) : Type 0 where
-  Ended : R → Outcome R
-  Halted : Halt → Outcome R
+pub data EvaluationOutcome (R : Type 0) : Type 0 where
+  Ended : R → EvaluationOutcome R
+  Halted : Halt → EvaluationOutcome R
 
 -- how a host replies to a command that is neither unsupported nor refused
 pub data HostReply : Type 0 where
@@ -32,13 +32,13 @@ pub data HostReply : Type 0 where
 -- what is still to be evaluated, with jobs J and results R
 pub data Plan (J R : Type 0) : Type 0 where
   -- the outcome is known
-  Ends : Outcome R → Plan J R
+  Ends : EvaluationOutcome R → Plan J R
   -- a command or a turn is counted first
   Counts : Plan J R → Plan J R
   -- the words of a command go to the host, whose reply decides
   Consults : List Text → (HostReply → Plan J R) → Plan J R
   -- an environment variable is read, whose value decides
-  Reads : Text → (Option Text → Plan J R) → Plan J R
+  ReadsEnvironment : Text → (Option Text → Plan J R) → Plan J R
   -- a job runs, whose result decides
   Runs : J → (R → Plan J R) → Plan J R
 
@@ -82,20 +82,20 @@ replied k (Refused n name asks) = Ends (Halted (ByHost n))
 -- that can end it anywhere; a host that had no memory may have marked the trace as asked before
 pub data Eval {J R : Type 0} (may_lack_memory : Bool) (oracle : Oracle) (most : ℕ) (rule : J → Plan J R) : Plan J R
     → World
-    → Outcome R → World → Type 0 where
-  ends : {o : Outcome R} {w : World} → Eval may_lack_memory oracle most rule (Ends o) w o w
-  counts : {p : Plan J R} {w w' : World} {o : Outcome R} → w.used < most
+    → EvaluationOutcome R → World → Type 0 where
+  ends : {o : EvaluationOutcome R} {w : World} → Eval may_lack_memory oracle most rule (Ends o) w o w
+  counts : {p : Plan J R} {w w' : World} {o : EvaluationOutcome R} → w.used < most
       → Eval may_lack_memory oracle most rule p (count w) o w' → Eval may_lack_memory oracle most rule (Counts p) w o w'
   meets_limit : {p : Plan J R} {w : World} → most ≤ w.used
       → Eval may_lack_memory oracle most rule (Counts p) w (Halted TooManyCommands) w
-  consults : {words : List Text} {k : HostReply → Plan J R} {w w' : World} {o : Outcome R}
+  consults : {words : List Text} {k : HostReply → Plan J R} {w w' : World} {o : EvaluationOutcome R}
       → Eval may_lack_memory oracle most rule (replied k (oracle.command w.trace.records words))
       (world_after w (oracle.command w.trace.records words)) o w' → Eval may_lack_memory oracle most rule
       (Consults words k) w o w'
-  reads : {name : Text} {k : Option Text → Plan J R} {w w' : World} {o : Outcome R}
+  reads : {name : Text} {k : Option Text → Plan J R} {w w' : World} {o : EvaluationOutcome R}
       → Eval may_lack_memory oracle most rule (k (oracle.variable w.trace.records name)) (ask w) o w'
-      → Eval may_lack_memory oracle most rule (Reads name k) w o w'
-  runs : {j : J} {k : R → Plan J R} {w w' w'' : World} {r : R} {o : Outcome R}
+      → Eval may_lack_memory oracle most rule (ReadsEnvironment name k) w o w'
+  runs : {j : J} {k : R → Plan J R} {w w' w'' : World} {r : R} {o : EvaluationOutcome R}
       → Eval may_lack_memory oracle most rule (rule j) w (Ended r) w' → Eval may_lack_memory oracle most rule
       (k r) w' o w''
       → Eval may_lack_memory oracle most rule (Runs j k) w o w''
@@ -112,7 +112,7 @@ pub data Query : Type 0 where
 
 -- this holds of each consultation of a derivation and the records before it
 abbrev pub Throughout : {J R : Type 0} {may_lack_memory : Bool} {oracle : Oracle} {most : ℕ} {rule : J → Plan J R}
-    {p : Plan J R} {w : World} {o : Outcome R} {w' : World} → (List CommandWords → Query → Type 0)
+    {p : Plan J R} {w : World} {o : EvaluationOutcome R} {w' : World} → (List CommandWords → Query → Type 0)
     → Eval may_lack_memory oracle most rule p w o w' → Type 0
 Throughout Holds ends = Unit {0}
 Throughout Holds (counts h d) = Throughout Holds d
@@ -141,8 +141,8 @@ asks oracle records (Variable name) = true
 
 -- the second oracle reserves the same names; and commands that are no questions for the first and that it doesn't
 -- refuse, the second answers alike or refuses
-abbrev pub AgreesUnasked : Oracle → Oracle → Type 0
-AgreesUnasked first second =
+abbrev pub AnswersAlikeUnasked : Oracle → Oracle → Type 0
+AnswersAlikeUnasked first second =
     (second.reserved ≡ first.reserved) × ((records : List CommandWords) (words : List Text)
     → is_question (first.command records words) ≡ false → is_refusal (first.command records words) ≡ false
     → AnswersOrRefuses first second records (Command words))

@@ -24,12 +24,12 @@ use Rattle.tclrules.specs.Words.{parts, read, read_element}
 -- Texts
 
 -- the reason of a fault at a name that is unsupported, else that of the fault
-abbrev pub or_unsupported : TextFault → Option Text → value.Reason
+abbrev pub or_unsupported : TextFault → Option Text → value.ValueReason
 or_unsupported f (Some name) = unsupported name
 or_unsupported f None = value.text f
 
 -- the reason why a text is no expression
-abbrev pub fault_of : Text → TextFault → value.Reason
+abbrev pub fault_of : Text → TextFault → value.ValueReason
 fault_of t (BadExpression at) = or_unsupported (BadExpression at) (unsupported_at (drop at t))
 fault_of t f = value.text f
 

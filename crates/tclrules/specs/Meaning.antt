@@ -2,16 +2,16 @@
 use Rattle.std.specs.Prelude.{◌≡◌, ℕ, ◌+◌, ◌==◌, ◌<◌, ◌⊎◌, Bool, true, false, List, min, count_by, take}
 use Rattle.tclchars.specs.Runs.{Text}
 use Rattle.tclrules.specs.Oracle.{CommandWords, Oracle, Trace, records_with, addition}
-use Rattle.tclrules.specs.Derivation.{ByHost, Outcome, Halted, World, Eval}
+use Rattle.tclrules.specs.Derivation.{ByHost, EvaluationOutcome, Halted, World, Eval}
 use Rattle.tclrules.specs.Playing.{Played, play}
-use Rattle.tclrules.specs.Variables.{Variables, start}
+use Rattle.tclrules.specs.Variables.{Variables, initial_state}
 use Rattle.tclrules.specs.Plans.{Completion, Step}
 use Rattle.tclrules.specs.Rules.{rule, file}
 use Rattle.tclrules.specs.declared.limits.Limits.{Limits}
 
 -- the plan of a script with these reserved names and global variables; a depth above 200 counts as 200
 abbrev pub plan_of : Limits → Text → List Text → Variables → Step
-plan_of l script reserved globals = file (min l.depth 200) script (start reserved globals)
+plan_of l script reserved globals = file (min l.depth 200) script (initial_state reserved globals)
 
 -- the world before a script: nothing is counted yet
 abbrev pub first : Trace → World
@@ -19,7 +19,7 @@ first trace = record { used = 0; trace = trace }
 
 -- a script with these global variables evaluates to this outcome and world, from this trace of the host. Want of memory
 -- may end it early where the flag says so, and not else
-abbrev pub HasOutcome : Bool → Limits → Text → Variables → Oracle → Trace → Outcome Completion → World → Type 0
+abbrev pub HasOutcome : Bool → Limits → Text → Variables → Oracle → Trace → EvaluationOutcome Completion → World → Type 0
 HasOutcome may_lack_memory l script globals oracle trace o w = Eval may_lack_memory oracle l.commands
     (rule l.value_bytes)
     (plan_of l script oracle.reserved globals) (first trace) o w
@@ -31,6 +31,7 @@ line_at script offset = 1 + count_by (λ b. b == 10) (take offset script)
 -- For laws
 
 -- a script, and all that its outcome depends on
+-- (the settings of a request are `EvaluationSettings` of requeststep)
 pub record Setting : Type 0 where
   pub limits : Limits
   pub script : Text
@@ -39,7 +40,7 @@ pub record Setting : Type 0 where
   pub trace : Trace
 
 -- the outcome of a setting with memory enough
-abbrev pub EvaluatesTo : Setting → Outcome Completion → World → Type 0
+abbrev pub EvaluatesTo : Setting → EvaluationOutcome Completion → World → Type 0
 EvaluatesTo s o w = HasOutcome false s.limits s.script s.globals s.oracle s.trace o w
 
 -- the setting with another limit on commands, and with another oracle
@@ -51,11 +52,11 @@ with_oracle oracle s = record s { oracle = oracle }
 
 -- the script never ends: under some limit more than any number of commands and turns are counted
 abbrev pub HasNoEnd : Setting → Type 0
-HasNoEnd s = (n : ℕ) → (m : ℕ) × (o : Outcome Completion) × (w : World) × EvaluatesTo (limited_to m s) o w ×
+HasNoEnd s = (n : ℕ) → (m : ℕ) × (o : EvaluationOutcome Completion) × (w : World) × EvaluatesTo (limited_to m s) o w ×
     (n < w.used)
 
 -- the second outcome is the first, or a refusal by the host
-abbrev pub IsSameOrRefused : Outcome Completion → World → Outcome Completion → World → Type 0
+abbrev pub IsSameOrRefused : EvaluationOutcome Completion → World → EvaluationOutcome Completion → World → Type 0
 IsSameOrRefused o w o2 w2 = ((o2 ≡ o) × (w2 ≡ w)) ⊎ ((n : ℕ) × (o2 ≡ Halted (ByHost n)))
 
 -- what holds of records still holds with what an answer adds

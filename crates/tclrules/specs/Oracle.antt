@@ -15,6 +15,7 @@ pub data Addition : Type 0 where
 -- an answer to the words of a command. Only a command that is done adds something. A refusal has a number, and the name
 -- that it is about, where it is about one. The flag marks a question: the command asks for the environment, the mode,
 -- the shell, the name as it was typed or the modules that are loaded
+-- (`LeftOut`: the command is unsupported on purpose)
 pub data OracleAnswer : Type 0 where
   Done : Text → Addition → Bool → OracleAnswer
   Unknown : Bool → OracleAnswer
@@ -29,12 +30,12 @@ pub record Oracle : Type 0 where
   pub variable : List CommandWords → Text → Option Text
 
 -- by which number a command was refused, and about which name
-pub record Refusal : Type 0 where
+pub record HostRefusal : Type 0 where
   pub number : ℕ
   pub name : Option Text
 
 -- a refusal that is about no name
-abbrev pub unnamed : ℕ → Refusal
+abbrev pub unnamed : ℕ → HostRefusal
 unnamed n = record { number = n; name = None }
 
 -- the records and messages so far, whether something was asked, and the refusal of a command
@@ -42,7 +43,7 @@ pub record Trace : Type 0 where
   pub records : List CommandWords
   pub messages : List Text
   pub asked : Bool
-  pub refused : Option Refusal
+  pub refused : Option HostRefusal
 
 -- what an answer adds
 abbrev pub addition : OracleAnswer → Addition
@@ -74,7 +75,7 @@ messages_with messages (NewRecord r) = messages
 messages_with messages (Message m) = messages ++ m ∷ []
 
 -- the refusal is that of the last command that was refused
-abbrev pub refused_with : Option Refusal → OracleAnswer → Option Refusal
+abbrev pub refused_with : Option HostRefusal → OracleAnswer → Option HostRefusal
 refused_with before (Done text adds asks) = before
 refused_with before (Unknown asks) = before
 refused_with before (LeftOut name asks) = before

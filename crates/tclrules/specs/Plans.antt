@@ -62,7 +62,7 @@ on_normal k (Broken s) = ended (Broken s)
 on_normal k (Continued s) = ended (Continued s)
 
 -- the plan of a fault of values: an error can be caught, all else halts
-abbrev pub fault : value.Reason → State → Step
+abbrev pub fault : value.ValueReason → State → Step
 fault (text f) s = halt (BadText f)
 fault (error m) s = raise m s
 fault value_too_long s = halt ValueTooLong

@@ -3,7 +3,7 @@ use Rattle.std.specs.Prelude.{◌≡◌, ℕ, Bool, true, false, List, map, Resu
 use Rattle.std.specs.declared.alloc.Global.{Global}
 use Rattle.tclchars.specs.Runs.{Text}
 use Rattle.tclrules.specs.Oracle.{Oracle, Trace}
-use Rattle.tclrules.specs.Derivation.{OutOfMemory, BadText, TooManyCommands, TooDeep, ValueTooLong, NumberTooLarge, FractionOperand, LeftOut, Stopped, ByHost, Outcome, Ended, Halted}
+use Rattle.tclrules.specs.Derivation.{OutOfMemory, BadText, TooManyCommands, TooDeep, ValueTooLong, NumberTooLarge, FractionOperand, LeftOut, Stopped, ByHost, EvaluationOutcome, Ended, Halted}
 use Rattle.tclrules.specs.Variables.{Variables, State}
 use Rattle.tclrules.specs.Plans as plans
 use Rattle.tclrules.specs.Plans.{Normal, Raised}
@@ -15,7 +15,7 @@ use Rattle.tclrules.specs.declared.outcome.EvalFault.TheVariants as fault
 
 -- the outcome of a script that a fault reports. The line of an error is that on which the current command of the script
 -- itself begins
-abbrev pub ReportsFault : Text → EvalFault → Outcome plans.Completion → Type 0
+abbrev pub ReportsFault : Text → EvalFault → EvaluationOutcome plans.Completion → Type 0
 ReportsFault script fault.OutOfMemory o = o ≡ Halted OutOfMemory
 ReportsFault script (fault.Text f) o = o ≡ Halted (BadText f)
 ReportsFault script (fault.TclError m n) o = (s : State) × (o ≡ Ended (Raised (string_bytes m) s))
@@ -53,5 +53,5 @@ Evaluates l script globals oracle old (Ok e) new =
     (s : State) × HasOutcome false l script globals oracle old (Ended (Normal (string_bytes e.result) s))
     (record { used = e.used_commands; trace = new }) × (s.globals ≡ texts_of e.globals.items)
 Evaluates l script globals oracle old (Err f) new =
-    (o : Outcome plans.Completion) × (used : ℕ) × ReportsFault script f o
+    (o : EvaluationOutcome plans.Completion) × (used : ℕ) × ReportsFault script f o
     × HasOutcome (is_out_of_memory f) l script globals oracle old o (record { used = used; trace = new })

@@ -16,7 +16,7 @@ use Rattle.tclvalue.specs.Numbers.{sum}
 use Rattle.tclvalue.specs.Characters.{joined, concatenated}
 use Rattle.tclvalue.specs.Globs.{glob}
 use Rattle.tclvalue.specs.Commands.{command_value}
-use Rattle.tclrules.specs.Derivation.{BadText, LeftOut, Stopped, Counts, Consults, Reads, Runs, HostReply, WithResult, NoSuchCommand}
+use Rattle.tclrules.specs.Derivation.{BadText, LeftOut, Stopped, Counts, Consults, ReadsEnvironment, Runs, HostReply, WithResult, NoSuchCommand}
 use Rattle.tclrules.specs.Messages.{no_command, cannot_unset, outside_loop, no_loop_variable, cannot_redefine}
 use Rattle.tclrules.specs.Names.{is_among, unsupported_commands, is_reserved}
 use Rattle.tclrules.specs.Variables.{Location, Scalar, Element, Parameter, Procedure, Frame, State, in_frame, lookup, store, without, env, location_named, writable, value_at, with_value, without_value, sharable, shared_in}
@@ -79,7 +79,7 @@ is_set s k (Some value) = k (codes "1") s
 abbrev pub exists_at : State → Next → Location → Step
 exists_at s k (Scalar true name) = if bytes_eq name env then k (codes "1") s else is_set s k (value_at s (true, name))
 exists_at s k (Scalar false name) = is_set s k (value_at s (false, name))
-exists_at s k (Element true x) = Reads x (is_set s k)
+exists_at s k (Element true x) = ReadsEnvironment x (is_set s k)
 exists_at s k (Element false x) = k (codes "0") s
 
 -- Bodies

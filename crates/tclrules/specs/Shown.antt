@@ -2,7 +2,7 @@
 use Rattle.std.specs.Prelude.{◌≡◌, ℕ, Bool, false, List, [], ◌∷◌, None, codes}
 use Rattle.tclchars.specs.Runs.{Text}
 use Rattle.tclrules.specs.Oracle.{CommandWords, Oracle, Trace, Unknown}
-use Rattle.tclrules.specs.Derivation.{Halt, Outcome, Ended, Halted, World}
+use Rattle.tclrules.specs.Derivation.{Halt, EvaluationOutcome, Ended, Halted, World}
 use Rattle.tclrules.specs.Recording.{commands_of_recorder, answer_of, value_in}
 use Rattle.tclrules.specs.Plans.{Completion, Normal, Raised, Returned, Broken, Continued}
 use Rattle.tclrules.specs.Meaning.{Setting, EvaluatesTo, line_at}
@@ -52,7 +52,7 @@ pub data Shown : Type 0 where
   Halts : Halt → Shown
   Else : Shown
 
-abbrev pub shown_of : Text → Outcome Completion → World → Shown
+abbrev pub shown_of : Text → EvaluationOutcome Completion → World → Shown
 shown_of script (Ended (Normal t s)) w = Result t w.used
 shown_of script (Ended (Raised m s)) w = Fails m (line_at script s.offset)
 shown_of script (Ended (Returned t s)) w = Else
@@ -60,12 +60,12 @@ shown_of script (Ended (Broken s)) w = Else
 shown_of script (Ended (Continued s)) w = Else
 shown_of script (Halted h) w = Halts h
 
-abbrev pub trace_of : Outcome Completion → World → Trace
+abbrev pub trace_of : EvaluationOutcome Completion → World → Trace
 trace_of o w = w.trace
 
 -- this view of the outcome of a script is that
-abbrev pub Shows : {A : Type 0} → Setting → (Outcome Completion → World → A) → A → Type 0
-Shows s view a = (o : Outcome Completion) × (w : World) × EvaluatesTo s o w × (view o w ≡ a)
+abbrev pub Shows : {A : Type 0} → Setting → (EvaluationOutcome Completion → World → A) → A → Type 0
+Shows s view a = (o : EvaluationOutcome Completion) × (w : World) × EvaluatesTo s o w × (view o w ≡ a)
 
 abbrev pub Sees : Setting → Shown → Type 0
 Sees s a = Shows s (shown_of s.script) a

@@ -51,8 +51,8 @@ pub record State : Type 0 where
   pub offset : ℕ
 
 -- the state before a script with these reserved names and global variables
-abbrev pub start : List Text → Variables → State
-start reserved globals =
+abbrev pub initial_state : List Text → Variables → State
+initial_state reserved globals =
     record { reserved = reserved; globals = store_all [] globals; frame = None; procedures = []; offset = 0 }
 
 abbrev pub in_frame : State → Option Frame → State

@@ -2,27 +2,27 @@
 ghost use Rattle.std.specs.Prelude.{◌≡◌, ℕ, ◌≤◌, ◌<◌, ◌⊎◌, Bool, true, false, List, Some};
 ghost use Rattle.tclchars.specs.Runs.{Text};
 ghost use Rattle.tclrules.specs.Oracle.{CommandWords, Oracle, records_with, addition};
-ghost use Rattle.tclrules.specs.Derivation.{Outcome, Halted, TooManyCommands, ByHost, World, Throughout, AnswersOrRefuses, AgreesUnasked, IsUnrefused, asks, Grows};
+ghost use Rattle.tclrules.specs.Derivation.{EvaluationOutcome, Halted, TooManyCommands, ByHost, World, Throughout, AnswersOrRefuses, AnswersAlikeUnasked, IsUnrefused, asks, Grows};
 ghost use Rattle.tclrules.specs.Plans.{Completion};
 ghost use Rattle.tclrules.specs.Meaning.{Setting, EvaluatesTo, limited_to, with_oracle, HasNoEnd, PreservedByAnswers, IsSameOrRefused, play_file};
 
 /// A script has one outcome.
 pub fn one_outcome()
-    ensures { (s : Setting) (o o2 : Outcome Completion) (w w2 : World)
+    ensures { (s : Setting) (o o2 : EvaluationOutcome Completion) (w w2 : World)
         → EvaluatesTo s o w → EvaluatesTo s o2 w2 → (o ≡ o2) × (w ≡ w2) }
 {}
 
 /// Each script has an outcome, under each limit.
 pub fn some_outcome()
-    ensures { (s : Setting) → (o : Outcome Completion) × (w : World) × EvaluatesTo s o w }
+    ensures { (s : Setting) → (o : EvaluationOutcome Completion) × (w : World) × EvaluatesTo s o w }
 {}
 
 /// An outcome that isn't due to the limit on commands is the same under each limit that is at least its count, and
 /// under each lower limit that limit is met.
 pub fn other_limit()
-    ensures same { (s : Setting) (o : Outcome Completion) (w : World) (n : ℕ)
+    ensures same { (s : Setting) (o : EvaluationOutcome Completion) (w : World) (n : ℕ)
         → EvaluatesTo s o w → ¬ (o ≡ Halted TooManyCommands) → w.used ≤ n → EvaluatesTo (limited_to n s) o w }
-    ensures met { (s : Setting) (o : Outcome Completion) (w : World) (n : ℕ)
+    ensures met { (s : Setting) (o : EvaluationOutcome Completion) (w : World) (n : ℕ)
         → EvaluatesTo s o w → n < w.used → (w2 : World) × EvaluatesTo (limited_to n s) (Halted TooManyCommands) w2 }
 {}
 
@@ -36,40 +36,40 @@ pub fn endless()
 /// refuses it, the outcome is the same, or a refusal. Where nothing was asked and nothing refused, it is enough that it
 /// does so for commands that are no questions and that the first doesn't refuse.
 pub fn two_oracles()
-    ensures each { (s : Setting) (second : Oracle) (o o2 : Outcome Completion) (w w2 : World) (d : EvaluatesTo s o w)
+    ensures each { (s : Setting) (second : Oracle) (o o2 : EvaluationOutcome Completion) (w w2 : World) (d : EvaluatesTo s o w)
         → second.reserved ≡ s.oracle.reserved → Throughout (AnswersOrRefuses s.oracle second) d
         → EvaluatesTo (with_oracle second s) o2 w2 → IsSameOrRefused o w o2 w2 }
-    ensures unasked { (s : Setting) (second : Oracle) (o o2 : Outcome Completion) (w w2 : World)
+    ensures unasked { (s : Setting) (second : Oracle) (o o2 : EvaluationOutcome Completion) (w w2 : World)
         → EvaluatesTo s o w → w.trace.asked ≡ false → ((n : ℕ) → ¬ (o ≡ Halted (ByHost n)))
-        → AgreesUnasked s.oracle second → EvaluatesTo (with_oracle second s) o2 w2 → IsSameOrRefused o w o2 w2 }
+        → AnswersAlikeUnasked s.oracle second → EvaluatesTo (with_oracle second s) o2 w2 → IsSameOrRefused o w o2 w2 }
 {}
 
 /// Where the trace isn't marked as asked, no consultation was a question.
 pub fn unasked()
-    ensures { (s : Setting) (o : Outcome Completion) (w : World) (d : EvaluatesTo s o w)
+    ensures { (s : Setting) (o : EvaluationOutcome Completion) (w : World) (d : EvaluatesTo s o w)
         → w.trace.asked ≡ false → Throughout (λ records query. asks s.oracle records query ≡ false) d }
 {}
 
 /// An evaluation that the host didn't refuse had no consultation that was refused.
 pub fn unrefused()
-    ensures { (s : Setting) (o : Outcome Completion) (w : World) (d : EvaluatesTo s o w)
+    ensures { (s : Setting) (o : EvaluationOutcome Completion) (w : World) (d : EvaluatesTo s o w)
         → ((n : ℕ) → ¬ (o ≡ Halted (ByHost n))) → Throughout (IsUnrefused s.oracle) d }
 {}
 
 /// The records grow by the oracle's answers alone. So what holds of those before, and still holds with each answer's
 /// addition, holds of those after.
 pub fn grown()
-    ensures grows { (s : Setting) (o : Outcome Completion) (w : World)
+    ensures grows { (s : Setting) (o : EvaluationOutcome Completion) (w : World)
         → EvaluatesTo s o w → Grows s.oracle s.trace.records w.trace.records }
-    ensures preserved { (s : Setting) (o : Outcome Completion) (w : World) (holds : List CommandWords → Bool)
+    ensures preserved { (s : Setting) (o : EvaluationOutcome Completion) (w : World) (holds : List CommandWords → Bool)
         → EvaluatesTo s o w → holds s.trace.records ≡ true → PreservedByAnswers s.oracle holds
         → holds w.trace.records ≡ true }
 {}
 
 /// The function `play_file`, which computes, gives the outcome of a script in enough steps, and never another one.
 pub fn played()
-    ensures derived { (s : Setting) (steps : ℕ) (o : Outcome Completion) (w : World)
+    ensures derived { (s : Setting) (steps : ℕ) (o : EvaluationOutcome Completion) (w : World)
         → play_file s steps ≡ Some (o, w) → EvaluatesTo s o w }
-    ensures enough { (s : Setting) (o : Outcome Completion) (w : World)
+    ensures enough { (s : Setting) (o : EvaluationOutcome Completion) (w : World)
         → EvaluatesTo s o w → (steps : ℕ) × (play_file s steps ≡ Some (o, w)) }
 {}

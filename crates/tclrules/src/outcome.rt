@@ -44,7 +44,7 @@ pub enum EvalFault {
     NumberTooLarge,
     /// 18: a number is spelled with a fraction or an exponent.
     FractionOperand,
-    /// 19: this command, option or kind of variable is unsupported.
+    /// 19: this command, option or kind of variable is unsupported on purpose.
     LeftOut(String),
     /// 20: the script stopped itself, by exit(n) or by `break` outside of a loop.
     Stopped,

@@ -1,6 +1,6 @@
 //! Scripts of Tcl as trees, and what is wrong with a text that is none (Tcl(n)).
 //! Takes memory and touches nothing else.
-//! Used by tclexpr for substitutions, and by tclrules, tclsubstitution, tclcache and the evaluator for whole scripts.
+//! Used by tclexpr for substitutions, and by tclrules, tclsubstitution, tclcache and tclevaluator for whole scripts.
 #![tactic(auto)]
 
 mod context;

@@ -17,7 +17,7 @@ use Rattle.tclexpr.specs.declared.tree.Expr as rust_expr
 use Rattle.tclexpr.specs.declared.tree.Expr.{Expr}
 use Rattle.tclsubstitution.specs.Machine.{WeighsLess}
 use Rattle.tclsubstitution.specs.declared.stop.Stop.{Stop}
-use Rattle.tclsubstitution.specs.declared.frame.Frame.{Frame}
+use Rattle.tclsubstitution.specs.declared.frame.WaitingFrame.{WaitingFrame}
 use Rattle.tclsubstitution.specs.declared.frame.Step.{Step}
 use Rattle.tclsubstitution.specs.declared.frame.Step.TheVariants as steps
 
@@ -41,11 +41,11 @@ module _ {P : Type 0} (range_text : P → Text) where
   view-Bracket s = search (rules, the_lemmas)
 
 -- a frame that was put on the stack is the first
-pub on_top : (old new : List Frame) (f : Frame) → new ≡ old ++ f ∷ [] → reverse new ≡ f ∷ reverse old
+pub on_top : (old new : List WaitingFrame) (f : WaitingFrame) → new ≡ old ++ f ∷ [] → reverse new ≡ f ∷ reverse old
 on_top old new f e = ap reverse e ∙ reverse-append old (f ∷ [])
 
 -- less than a number is less than a greater one
-pub less_more : (source : Text) (fs : List Frame) (m n : ℕ) (res : Result Step Stop) → IfOk res (λ st. WeighsLess source st fs m) → m ≤ n → IfOk res (λ st. WeighsLess source st fs n)
+pub less_more : (source : Text) (fs : List WaitingFrame) (m n : ℕ) (res : Result Step Stop) → IfOk res (λ st. WeighsLess source st fs m) → m ≤ n → IfOk res (λ st. WeighsLess source st fs n)
 less_more source fs m n (Ok (steps.Next c)) h l = omega (arith, h)
 less_more source fs m n (Ok (steps.Done t)) h l = tt
 less_more source fs m n (Ok (steps.Bracket s)) h l = omega (arith, h)

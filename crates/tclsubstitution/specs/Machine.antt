@@ -18,8 +18,8 @@ use Rattle.tclsubstitution.specs.Stops.{after}
 use Rattle.tclsubstitution.specs.Weights.{parts_weight, expr_weight}
 use Rattle.tclsubstitution.specs.declared.stop.Stop.{Stop}
 use Rattle.tclsubstitution.specs.declared.context.SubstitutionContext.{SubstitutionContext}
-use Rattle.tclsubstitution.specs.declared.frame.Frame.{Frame}
-use Rattle.tclsubstitution.specs.declared.frame.Frame.TheVariants as frames
+use Rattle.tclsubstitution.specs.declared.frame.WaitingFrame.{WaitingFrame}
+use Rattle.tclsubstitution.specs.declared.frame.WaitingFrame.TheVariants as frames
 use Rattle.tclsubstitution.specs.declared.frame.Control.{Control}
 use Rattle.tclsubstitution.specs.declared.frame.Control.TheVariants as controls
 use Rattle.tclsubstitution.specs.declared.frame.Step.{Step}
@@ -34,7 +34,7 @@ abbrev pub bounds : ℕ → ℕ → Bounds
 bounds bytes remaining = record { bytes = bytes; remaining = remaining }
 
 -- what the rules do with the value that a frame waits for; `k` is what they do after the frame
-abbrev pub continuation : Text → Bounds → Frame → Next → Next
+abbrev pub continuation : Text → Bounds → WaitingFrame → Next → Next
 continuation source b (frames.Element name) k t s = read_element name.now t s k
 continuation source b (frames.Joined text ps) k t s =
     sized b.bytes (string_bytes text ++ t) (parts b (parts_view (range_text source) ps.now)
@@ -62,7 +62,7 @@ continuation source b (frames.Choice y n) k t s =
     ])
 
 -- the same of a whole stack of frames, the newest first
-abbrev pub stack_continuation : Text → Bounds → List Frame → Next → Next
+abbrev pub stack_continuation : Text → Bounds → List WaitingFrame → Next → Next
 stack_continuation source b [] k = k
 stack_continuation source b (f ∷ fs) k = continuation source b f (stack_continuation source b fs k)
 
@@ -74,7 +74,7 @@ control_plan source b (controls.Expression e) s k = expr b (expr_view (range_tex
 control_plan source b (controls.Value t) s k = k (string_bytes t) s
 
 -- the plan of the rules after a step, with the frames that wait then
-abbrev pub step_plan : Text → Bounds → Step → List Frame → State → Next → plans.Step
+abbrev pub step_plan : Text → Bounds → Step → List WaitingFrame → State → Next → plans.Step
 step_plan source b (steps.Next c) fs s k = control_plan source b c s (stack_continuation source b fs k)
 step_plan source b (steps.Done t) fs s k = k (string_bytes t) s
 step_plan source b (steps.Bracket cs) fs s k =
@@ -82,7 +82,7 @@ step_plan source b (steps.Bracket cs) fs s k =
 
 -- the weight of what is still to be done for a frame, for a stack of frames, and for what is evaluated next
 
-abbrev pub frame_weight : Text → Frame → ℕ
+abbrev pub frame_weight : Text → WaitingFrame → ℕ
 frame_weight source (frames.Element name) = 1
 frame_weight source (frames.Joined text ps) = 2 + parts_weight (parts_view (range_text source) ps.now)
 frame_weight source frames.Operand = 1
@@ -95,7 +95,7 @@ frame_weight source frames.Truth = 1
 frame_weight source (frames.Choice y n) =
     1 + (expr_weight (expr_view (range_text source) y.now) + expr_weight (expr_view (range_text source) n.now))
 
-abbrev pub frames_weight : Text → List Frame → ℕ
+abbrev pub frames_weight : Text → List WaitingFrame → ℕ
 frames_weight source [] = 0
 frames_weight source (f ∷ fs) = frame_weight source f + frames_weight source fs
 
@@ -105,7 +105,7 @@ control_weight source (controls.Expression e) = expr_weight (expr_view (range_te
 control_weight source (controls.Value t) = 0
 
 -- what is still to be done after a step weighs less than this number, unless all is done
-abbrev pub WeighsLess : Text → Step → List Frame → ℕ → Type 0
+abbrev pub WeighsLess : Text → Step → List WaitingFrame → ℕ → Type 0
 WeighsLess source (steps.Next c) fs n = control_weight source c + frames_weight source fs < n
 WeighsLess source (steps.Done t) fs n = Unit {0}
 WeighsLess source (steps.Bracket cs) fs n = frames_weight source fs < n
@@ -113,7 +113,7 @@ WeighsLess source (steps.Bracket cs) fs n = frames_weight source fs < n
 -- a step follows the rules: whatever its result and the stack evaluate to from the second point, the plan evaluates to
 -- from the first; and what is still to be done weighs less than this number
 abbrev pub StepsTo : (Bounds → Next → plans.Step) → SubstitutionContext → (ℕ → Point) → Result Step Stop
-    → List Frame → ℕ
+    → List WaitingFrame → ℕ
     → (ℕ → Point) → Type 0
 StepsTo p c x result fs n y =
     ((most used remaining : ℕ) (r : Job → plans.Step) (k : Next)

@@ -6,7 +6,7 @@ use tclscript::{ByteRange, Part, Script};
 
 /// A continuation frame: what is done with the next value once it is there.
 #[derive(Drop)]
-pub enum Frame<'a> {
+pub enum WaitingFrame<'a> {
     /// The value is the index of an element of the array of this name, which is read.
     Element(&'a str),
     /// The value is appended to this text of a word, and these parts of the word follow.

@@ -12,7 +12,7 @@ mod substitution;
 
 pub use borrowed_operands::compute_borrowed;
 pub use context::SubstitutionContext;
-pub use frame::{Control, Frame, Step};
+pub use frame::{Control, Step, WaitingFrame};
 pub use reading::{read, read_element};
 pub use stop::Stop;
 pub use substitution::advance;

@@ -1,6 +1,6 @@
 //! The values of scalar variables and of elements of the array `env`, with the errors of Tcl where there is none.
 ghost use Rattle.std.specs.Prelude.{◌≡◌, ◌++◌, ℕ, Some, IfOk, codes, option_map, string_bytes};
-ghost use Rattle.tclrules.specs.Derivation.{Reads};
+ghost use Rattle.tclrules.specs.Derivation.{ReadsEnvironment};
 ghost use Rattle.tclrules.specs.Simulates.{Simulates, Point, point};
 ghost use Rattle.tclrules.specs.Plans as plans;
 ghost use Rattle.tclrules.specs.Plans.{Job, Next};
@@ -73,7 +73,7 @@ fn read_env<H: Host>(
     name: &str,
 ) -> Result<String, Stop>
     ensures { (most used : ℕ) (r : Job → plans.Step) (k : Next)
-        → Simulates most r (Reads name.now (found (no_variable spelled.now) variables.now k))
+        → Simulates most r (ReadsEnvironment name.now (found (no_variable spelled.now) variables.now k))
         (point (H.oracle host.old) (H.trace host.old) used)
         (after result (λ t s. k (string_bytes t) s) variables.now)
         (point (H.oracle host.new) (H.trace host.new) used) }

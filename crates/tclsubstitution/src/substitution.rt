@@ -1,5 +1,5 @@
 //! The steps of a substitution. Each takes what is evaluated next and the stack of frames, and answers what is
-//! evaluated after it. By its clause a step follows the rules of evaluation, and what is still to be done weighs less.
+//! evaluated after it. By its clause a step follows the rules of evaluation, and makes the measure of what is still to be done smaller.
 ghost use Rattle.std.specs.Prelude.{◌≡◌, ◌++◌, ◌+◌, ℕ, [], ◌∷◌, reverse, string_bytes, OnOk, OnErr, IfOk, IfErr, encode_utf8};
 ghost use Rattle.tclchars.specs.BracedText.{braced_text};
 ghost use Rattle.tclscript.specs.View.{part_view, parts_view};
@@ -11,13 +11,13 @@ ghost use Rattle.tclrules.specs.Words.{parts, one};
 ghost use Rattle.tclrules.specs.Expressions.{expr, operand_value};
 ghost use Rattle.tclsubstitution.specs.Weights.{parts_weight, part_weight, expr_weight, operand_weight};
 ghost use Rattle.tclsubstitution.specs.Machine.{range_text, continuation, stack_continuation, control_plan, frame_weight, frames_weight, control_weight, StepsTo};
-ghost use Rattle.tclsubstitution.specs.declared.frame.Frame.TheVariants.{And, Or, Choice};
+ghost use Rattle.tclsubstitution.specs.declared.frame.WaitingFrame.TheVariants.{And, Or, Choice};
 ghost use Rattle.tclsubstitution.specs.declared.stop.Stop.TheVariants.{Fault};
 ghost use Rattle.tclrules.specs.declared.outcome.EvalFault.TheVariants.{OutOfMemory};
 
 use crate::borrowed_operands::compute_borrowed;
 use crate::context::SubstitutionContext;
-use crate::frame::{Control, Frame, Step};
+use crate::frame::{Control, Step, WaitingFrame};
 use crate::reading::{read, read_element};
 use crate::stop::Stop;
 use std::alloc::Global;
@@ -28,14 +28,14 @@ use tclscript::{ByteRange, Part};
 use tclvalue::{binary, truth, unary};
 
 /// The text of a piece of the source.
-fn piece<'a>(source: &'a str, range: ByteRange) -> &'a str
+fn source_text<'a>(source: &'a str, range: ByteRange) -> &'a str
     ensures { result.now ≡ range_text source.now range }
 {
     range.of(source)
 }
 
 /// Pushes a frame, which waits for the next value.
-fn push_frame<'a>(stack: &mut Vec<Frame<'a>>, frame: Frame<'a>) -> Result<(), Stop>
+fn push_frame<'a>(stack: &mut Vec<WaitingFrame<'a>>, frame: WaitingFrame<'a>) -> Result<(), Stop>
     ensures ok { OnOk result (stack.new.items ≡ stack.old.items ++ frame.entry ∷ []) }
     ensures err { IfErr result (λ stop. stop ≡ Fault OutOfMemory) }
 {
@@ -99,7 +99,7 @@ fn with_piece(text: String, piece: &str) -> Result<String, Stop>
 fn append_piece<'a, H: Host>(
     context: SubstitutionContext<'a, '_>,
     host: &mut H,
-    stack: &mut Vec<Frame<'a>>,
+    stack: &mut Vec<WaitingFrame<'a>>,
     text: String,
     piece: &str,
     rest: &'a [Part<ByteRange>],
@@ -125,7 +125,7 @@ fn append_piece<'a, H: Host>(
 fn part<'a, H: Host>(
     context: SubstitutionContext<'a, '_>,
     host: &mut H,
-    stack: &mut Vec<Frame<'a>>,
+    stack: &mut Vec<WaitingFrame<'a>>,
     text: String,
     part: &'a Part<ByteRange>,
     rest: &'a [Part<ByteRange>],
@@ -148,11 +148,11 @@ fn part<'a, H: Host>(
             host,
             stack,
             text,
-            piece(context.source, *range),
+            source_text(context.source, *range),
             rest,
         ),
         Part::Braced(range) => {
-            let value = braced(context.alloc, piece(context.source, *range))?;
+            let value = braced(context.alloc, source_text(context.source, *range))?;
             append_piece(context, host, stack, text, value.as_str(), rest)
         }
         Part::Backslash(escaped) => {
@@ -164,17 +164,20 @@ fn part<'a, H: Host>(
                 context.alloc,
                 context.variables,
                 host,
-                piece(context.source, *name),
+                source_text(context.source, *name),
             )?;
             append_piece(context, host, stack, text, value.as_str(), rest)
         }
         Part::Indexed(name, index) => {
-            push_frame(stack, Frame::Joined(text, rest))?;
-            push_frame(stack, Frame::Element(piece(context.source, *name)))?;
+            push_frame(stack, WaitingFrame::Joined(text, rest))?;
+            push_frame(
+                stack,
+                WaitingFrame::Element(source_text(context.source, *name)),
+            )?;
             Ok(Step::Next(Control::Parts(String::new(context.alloc), index)))
         }
         Part::Bracket(script) => {
-            push_frame(stack, Frame::Joined(text, rest))?;
+            push_frame(stack, WaitingFrame::Joined(text, rest))?;
             Ok(Step::Bracket(script))
         }
     }
@@ -185,7 +188,7 @@ fn part<'a, H: Host>(
 fn operand<'a, H: Host>(
     context: SubstitutionContext<'a, '_>,
     host: &mut H,
-    stack: &mut Vec<Frame<'a>>,
+    stack: &mut Vec<WaitingFrame<'a>>,
     operand: &'a Operand<ByteRange>,
 ) -> Result<Step<'a>, Stop>
     ensures { StepsTo
@@ -199,22 +202,31 @@ fn operand<'a, H: Host>(
 {
     match operand {
         Operand::Number(range) => {
-            Ok(Step::Next(Control::Value(copy(context.alloc, piece(context.source, *range))?)))
+            Ok(Step::Next(Control::Value(copy(
+                context.alloc,
+                source_text(context.source, *range),
+            )?)))
         }
         Operand::Word(range) => {
-            Ok(Step::Next(Control::Value(copy(context.alloc, piece(context.source, *range))?)))
+            Ok(Step::Next(Control::Value(copy(
+                context.alloc,
+                source_text(context.source, *range),
+            )?)))
         }
         Operand::Variable(name) => {
             let value = read(
                 context.alloc,
                 context.variables,
                 host,
-                piece(context.source, *name),
+                source_text(context.source, *name),
             )?;
             Ok(Step::Next(Control::Value(value)))
         }
         Operand::Indexed(name, index) => {
-            push_frame(stack, Frame::Element(piece(context.source, *name)))?;
+            push_frame(
+                stack,
+                WaitingFrame::Element(source_text(context.source, *name)),
+            )?;
             Ok(Step::Next(Control::Parts(String::new(context.alloc), index)))
         }
         Operand::Bracket(script) => Ok(Step::Bracket(script)),
@@ -222,7 +234,10 @@ fn operand<'a, H: Host>(
             Ok(Step::Next(Control::Parts(String::new(context.alloc), parts)))
         }
         Operand::Braced(range) => {
-            Ok(Step::Next(Control::Value(braced(context.alloc, piece(context.source, *range))?)))
+            Ok(Step::Next(Control::Value(braced(
+                context.alloc,
+                source_text(context.source, *range),
+            )?)))
         }
     }
 }
@@ -232,7 +247,7 @@ fn operand<'a, H: Host>(
 fn expression<'a, H: Host>(
     context: SubstitutionContext<'a, '_>,
     host: &mut H,
-    stack: &mut Vec<Frame<'a>>,
+    stack: &mut Vec<WaitingFrame<'a>>,
     expression: &'a Expr<ByteRange>,
 ) -> Result<Step<'a>, Stop>
     ensures { StepsTo
@@ -245,11 +260,11 @@ fn expression<'a, H: Host>(
 {
     match expression {
         Expr::Operand(value) => {
-            push_frame(stack, Frame::Operand)?;
+            push_frame(stack, WaitingFrame::Operand)?;
             operand(context, host, stack, value)
         }
         Expr::Unary(operator, inner) => {
-            push_frame(stack, Frame::Unary(*operator))?;
+            push_frame(stack, WaitingFrame::Unary(*operator))?;
             Ok(Step::Next(Control::Expression(inner)))
         }
         Expr::Binary(operator, left, right) => {
@@ -257,19 +272,19 @@ fn expression<'a, H: Host>(
                 let text = value.into_text(context.alloc)?;
                 return Ok(Step::Next(Control::Value(text)));
             }
-            push_frame(stack, Frame::Left(*operator, right))?;
+            push_frame(stack, WaitingFrame::Left(*operator, right))?;
             Ok(Step::Next(Control::Expression(left)))
         }
         Expr::And(left, right) => {
-            push_frame(stack, Frame::And(right))?;
+            push_frame(stack, WaitingFrame::And(right))?;
             Ok(Step::Next(Control::Expression(left)))
         }
         Expr::Or(left, right) => {
-            push_frame(stack, Frame::Or(right))?;
+            push_frame(stack, WaitingFrame::Or(right))?;
             Ok(Step::Next(Control::Expression(left)))
         }
         Expr::Choice(condition, yes, no) => {
-            push_frame(stack, Frame::Choice(yes, no))?;
+            push_frame(stack, WaitingFrame::Choice(yes, no))?;
             Ok(Step::Next(Control::Expression(condition)))
         }
     }
@@ -280,7 +295,7 @@ fn expression<'a, H: Host>(
 fn and<'a, H: Host>(
     context: SubstitutionContext<'a, '_>,
     host: &mut H,
-    stack: &mut Vec<Frame<'a>>,
+    stack: &mut Vec<WaitingFrame<'a>>,
     value: String,
     right: &'a Expr<ByteRange>,
 ) -> Result<Step<'a>, Stop>
@@ -294,7 +309,7 @@ fn and<'a, H: Host>(
         (λ used. point (H.oracle host.new) (H.trace host.new) used) }
 {
     if truth(context.alloc, value.as_str())? {
-        push_frame(stack, Frame::Truth)?;
+        push_frame(stack, WaitingFrame::Truth)?;
         return Ok(Step::Next(Control::Expression(right)));
     }
     Ok(Step::Next(Control::Value(copy(context.alloc, "0")?)))
@@ -305,7 +320,7 @@ fn and<'a, H: Host>(
 fn or<'a, H: Host>(
     context: SubstitutionContext<'a, '_>,
     host: &mut H,
-    stack: &mut Vec<Frame<'a>>,
+    stack: &mut Vec<WaitingFrame<'a>>,
     value: String,
     right: &'a Expr<ByteRange>,
 ) -> Result<Step<'a>, Stop>
@@ -321,7 +336,7 @@ fn or<'a, H: Host>(
     if truth(context.alloc, value.as_str())? {
         return Ok(Step::Next(Control::Value(copy(context.alloc, "1")?)));
     }
-    push_frame(stack, Frame::Truth)?;
+    push_frame(stack, WaitingFrame::Truth)?;
     Ok(Step::Next(Control::Expression(right)))
 }
 
@@ -330,7 +345,7 @@ fn or<'a, H: Host>(
 fn choice<'a, H: Host>(
     context: SubstitutionContext<'a, '_>,
     host: &mut H,
-    stack: &mut Vec<Frame<'a>>,
+    stack: &mut Vec<WaitingFrame<'a>>,
     value: String,
     yes: &'a Expr<ByteRange>,
     no: &'a Expr<ByteRange>,
@@ -357,8 +372,8 @@ fn choice<'a, H: Host>(
 fn resume<'a, H: Host>(
     context: SubstitutionContext<'a, '_>,
     host: &mut H,
-    stack: &mut Vec<Frame<'a>>,
-    frame: Frame<'a>,
+    stack: &mut Vec<WaitingFrame<'a>>,
+    frame: WaitingFrame<'a>,
     value: String,
 ) -> Result<Step<'a>, Stop>
     ensures { StepsTo
@@ -371,11 +386,11 @@ fn resume<'a, H: Host>(
         (λ used. point (H.oracle host.new) (H.trace host.new) used) }
 {
     match frame {
-        Frame::Element(name) => {
+        WaitingFrame::Element(name) => {
             let value = read_element(context.alloc, context.variables, host, name, value.as_str())?;
             Ok(Step::Next(Control::Value(value)))
         }
-        Frame::Joined(text, parts) => append_piece(
+        WaitingFrame::Joined(text, parts) => append_piece(
             context,
             host,
             stack,
@@ -383,30 +398,30 @@ fn resume<'a, H: Host>(
             value.as_str(),
             parts,
         ),
-        Frame::Operand => {
+        WaitingFrame::Operand => {
             if value.len() > context.limits.value_bytes {
                 return Err(Stop::Fault(EvalFault::ValueTooLong));
             }
             Ok(Step::Next(Control::Value(value)))
         }
-        Frame::Unary(operator) => {
+        WaitingFrame::Unary(operator) => {
             Ok(Step::Next(Control::Value(unary(context.alloc, operator, value.as_str())?)))
         }
-        Frame::Left(operator, right) => {
-            push_frame(stack, Frame::Right(operator, value))?;
+        WaitingFrame::Left(operator, right) => {
+            push_frame(stack, WaitingFrame::Right(operator, value))?;
             Ok(Step::Next(Control::Expression(right)))
         }
-        Frame::Right(operator, left) => {
+        WaitingFrame::Right(operator, left) => {
             let value = binary(context.alloc, operator, left.as_str(), value.as_str())?;
             Ok(Step::Next(Control::Value(value)))
         }
-        Frame::And(right) => and(context, host, stack, value, right),
-        Frame::Or(right) => or(context, host, stack, value, right),
-        Frame::Truth => {
+        WaitingFrame::And(right) => and(context, host, stack, value, right),
+        WaitingFrame::Or(right) => or(context, host, stack, value, right),
+        WaitingFrame::Truth => {
             let holds = truth(context.alloc, value.as_str())?;
             Ok(Step::Next(Control::Value(truth_text(context.alloc, holds)?)))
         }
-        Frame::Choice(yes, no) => choice(context, host, stack, value, yes, no),
+        WaitingFrame::Choice(yes, no) => choice(context, host, stack, value, yes, no),
     }
 }
 
@@ -415,7 +430,7 @@ fn resume<'a, H: Host>(
 fn step<'a, H: Host>(
     context: SubstitutionContext<'a, '_>,
     host: &mut H,
-    stack: &mut Vec<Frame<'a>>,
+    stack: &mut Vec<WaitingFrame<'a>>,
     control: Control<'a>,
 ) -> Result<Step<'a>, Stop>
     ensures { StepsTo
@@ -448,7 +463,7 @@ fn step<'a, H: Host>(
 pub fn advance<'a, H: Host>(
     context: SubstitutionContext<'a, '_>,
     host: &mut H,
-    stack: &mut Vec<Frame<'a>>,
+    stack: &mut Vec<WaitingFrame<'a>>,
     control: Control<'a>,
 ) -> Result<Step<'a>, Stop>
     ensures { StepsTo

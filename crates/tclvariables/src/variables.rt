@@ -2,7 +2,7 @@
 ghost use Rattle.std.specs.Prelude.{◌≡◌, [], true, map, string_bytes, OnOk, OnErr, IfOk, option_map, is_some};
 ghost use Rattle.tclchars.specs.Runs.{Text};
 ghost use Rattle.tclvariables.specs.Contents.{HoldsList};
-ghost use Rattle.tclrules.specs.Variables.{start, in_frame, sees, value_at, with_value, without_value, shared_in, lookup};
+ghost use Rattle.tclrules.specs.Variables.{initial_state, in_frame, sees, value_at, with_value, without_value, shared_in, lookup};
 ghost use Rattle.tclrules.specs.Rules.{new_frame, with_procedure};
 ghost use Rattle.tclrules.specs.Promise as promise;
 ghost use Rattle.tclvariables.specs.Locations.{is_global, scalar_view};
@@ -62,7 +62,7 @@ impl Model for Variables {
 impl Variables {
     /// No variables and no procedures; no procedure may have one of the names `reserved`.
     pub fn new(alloc: Global, reserved: &'static [&'static str]) -> Variables
-        ensures { result ≡ start (map (λ n. n.now) reserved.now) [] }
+        ensures { result ≡ initial_state (map (λ n. n.now) reserved.now) [] }
     {
         Variables {
             reserved,

@@ -1,6 +1,6 @@
 use Rattle.modulefile.proofs.OneFile.{one_run}
 use Rattle.modulefile.proofs.Showing.{showing_leaves}
-use Rattle.modulefile.proofs.WholeFiles.{some_run, records_make, records_proper}
+use Rattle.modulefile.proofs.WholeFiles.{some_run, records_make, records_allowed}
 use Rattle.modulefile.proofs.laws.files.Goals as goal
 
 pub returns-clause-one : goal.returns-clause-one
@@ -12,8 +12,8 @@ returns-clause-some c = some_run c.some_outcome.ensures
 pub returns-clause-have_effects : goal.returns-clause-have_effects
 returns-clause-have_effects c = records_make
 
-pub returns-clause-proper : goal.returns-clause-proper
-returns-clause-proper c = records_proper
+pub returns-clause-allowed : goal.returns-clause-allowed
+returns-clause-allowed c = records_allowed
 
 pub returns-clause-showing : goal.returns-clause-showing
 returns-clause-showing c = showing_leaves

@@ -3,7 +3,7 @@ use Rattle.std.proofs.lemmas.Result.{err_from_is_err_and}
 use Rattle.envvars.specs.Environment.{Environment}
 use Rattle.envvars.specs.Changes.{new_values_in}
 use Rattle.requests.specs.RequestViews.{action_view}
-use Rattle.requests.specs.Steps.{RequestStep, site_in}
+use Rattle.requests.specs.Steps.{RequestStep, request_context_in}
 use Rattle.requeststep.specs.Views.{done_view}
 use Rattle.requeststep.proofs.MemoryNumberLemmas.{own_number}
 use Rattle.modules.proofs.RunLemmas.{left_of, exact_of}
@@ -12,10 +12,10 @@ use Rattle.modules.proofs.running.run_changes.Goals as goal
 pub returns-clause-over_tree : goal.returns-clause-over_tree
 returns-clause-over_tree g c =
     λ files listings agreed.
-    let site = site_in c.args.limits c.args.request.now.shell files listings in
+    let context = request_context_in c.args.limits c.args.request.now.shell files listings in
     let asked = action_view c.args.request.now.action in
-    let From : Environment → Type 0 = λ x. RequestStep site x asked (Ok (done_view c.in_ok-done.done c.step.new.env.new)) in
-    let To : Environment → Type 0 = λ x. RequestStep site c.args.env.now asked (Ok (done_view c.in_ok-done.done x)) in
+    let From : Environment → Type 0 = λ x. RequestStep context x asked (Ok (done_view c.in_ok-done.done c.step.new.env.new)) in
+    let To : Environment → Type 0 = λ x. RequestStep context c.args.env.now asked (Ok (done_view c.in_ok-done.done x)) in
     let made = left_of c.changes.ensures c.args.env.now c.step.new.env.old c.step.new.env.new (new_values_in c.in_ok-changes.changes) (c.step.ensures.base ∙ c.over-working.ensures.old) c.in_ok-changes.ensures.ok in
     subst To made (subst From c.over-working.ensures.new (c.in_ok-done.ensures.over_tree files listings agreed))
 

@@ -6,7 +6,7 @@ use Rattle.requests.specs.Requests.{Request}
 use Rattle.requests.specs.Sessions.{Session, end_environment}
 use Rattle.requeststep.proofs.EachLemmas.{split_at}
 use Rattle.modules.specs.declared.sessions.Outcome.{Outcome}
-use Rattle.requests.specs.Steps.{site_in}
+use Rattle.requests.specs.Steps.{request_context_in}
 use Rattle.modules.specs.Responses.{count_failed, response_of, responses}
 use Rattle.modules.proofs.SessionLemmas.{failures_push, session_done, session_grows, session_returning, session_taken}
 use Rattle.modules.proofs.sessions.session.Goals as goal
@@ -31,12 +31,12 @@ loop-request-preserved g c =
           subst End (sym items) (session_grows start before_it new sofar outcome (c.loop-request.invariant.end files listings was) (c.respond-outcome.ensures.end files listings agreed)).0;
       ran = λ files listings agreed shell os more.
           let was = c.respond-outcome.ensures.narrows files listings agreed in
-          let site = site_in c.args.limits shell files listings in
+          let context = request_context_in c.args.limits shell files listings in
           let all = map request_view c.args.requests.now in
-          let Ran : List Outcome → Type 0 = λ xs. Session site start all (responses start xs ++ os) in
-          let From : List Request → Type 0 = λ rs. Session site before_it rs (response_of before_it outcome ∷ os) in
+          let Ran : List Outcome → Type 0 = λ xs. Session context start all (responses start xs ++ os) in
+          let From : List Request → Type 0 = λ rs. Session context before_it rs (response_of before_it outcome ∷ os) in
           subst Ran (sym items)
-          (session_taken site start before_it new (request_view c.request-item.result) (map request_view (drop (i + 1) requests)) all (responses start sofar) (responses start (sofar ++ outcome ∷ [])) (response_of before_it outcome) os
+          (session_taken context start before_it new (request_view c.request-item.result) (map request_view (drop (i + 1) requests)) all (responses start sofar) (responses start (sofar ++ outcome ∷ [])) (response_of before_it outcome) os
           (λ h. c.loop-request.invariant.ran files listings was shell (response_of before_it outcome ∷ os) (subst From (sym (split_at request_view requests i c.request-item.result c.loop-request-test.true c.request-item.is)) h))
           (c.respond-outcome.ensures.answer files listings agreed) (c.respond-outcome.ensures.end files listings agreed)
           (session_grows start before_it new sofar outcome (c.loop-request.invariant.end files listings was) (c.respond-outcome.ensures.end files listings agreed)).1 more);
@@ -45,13 +45,13 @@ loop-request-preserved g c =
 pub returns-clause-ran : goal.returns-clause-ran
 returns-clause-ran g c =
     λ files listings agreed shell.
-    session_done (site_in c.args.limits shell files listings) c.args.env c.loop-request.after (drop c.loop-request.request-index c.args.requests.now) (map request_view c.args.requests.now) (responses c.args.env c.loop-request.outcomes.items)
+    session_done (request_context_in c.args.limits shell files listings) c.args.env c.loop-request.after (drop c.loop-request.request-index c.args.requests.now) (map request_view c.args.requests.now) (responses c.args.env c.loop-request.outcomes.items)
     (drop_of_length-le c.args.requests.now c.loop-request-test.false) (c.loop-request.invariant.ran files listings agreed shell)
 
 pub returns-clause-returns : goal.returns-clause-returns
 returns-clause-returns g c =
     λ files listings agreed.
-    let site = site_in c.args.limits Sh files listings in
-    session_returning c.session_returns.ensures site c.args.env (map request_view c.args.requests.now) (responses c.args.env c.loop-request.outcomes.items)
-    (session_done site c.args.env c.loop-request.after (drop c.loop-request.request-index c.args.requests.now) (map request_view c.args.requests.now) (responses c.args.env c.loop-request.outcomes.items)
+    let context = request_context_in c.args.limits Sh files listings in
+    session_returning c.session_returns.ensures context c.args.env (map request_view c.args.requests.now) (responses c.args.env c.loop-request.outcomes.items)
+    (session_done context c.args.env c.loop-request.after (drop c.loop-request.request-index c.args.requests.now) (map request_view c.args.requests.now) (responses c.args.env c.loop-request.outcomes.items)
     (drop_of_length-le c.args.requests.now c.loop-request-test.false) (c.loop-request.invariant.ran files listings agreed Sh))

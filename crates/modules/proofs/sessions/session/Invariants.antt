@@ -3,7 +3,7 @@ use Rattle.filetree.specs.Agreement.{InEachPair, Narrows}
 use Rattle.shells.specs.declared.shell.Shell.{Shell}
 use Rattle.requests.specs.RequestViews.{request_view}
 use Rattle.requests.specs.Sessions.{Response, Session, end_environment}
-use Rattle.requests.specs.Steps.{site_in}
+use Rattle.requests.specs.Steps.{request_context_in}
 use Rattle.modules.specs.Responses.{responses, count_failed}
 use Rattle.modules.proofs.sessions.session.Given as goal
 
@@ -13,6 +13,6 @@ invariant-loop-request g l = record {
   failures : g.T.Tree.failures l.initial.tree + count_failed l.outcomes.items ≤ g.T.Tree.failures l.tree;
   end : InEachPair (g.T.Tree.agrees l.tree) (λ files listings. l.after ≡ end_environment l.initial.after (responses l.initial.after l.outcomes.items));
   ran : InEachPair (g.T.Tree.agrees l.tree) (λ files listings. (shell : Shell) (os : List Response)
-      → Session (site_in l.limits shell files listings) l.after (map request_view (drop l.request-index l.requests)) os
-      → Session (site_in l.limits shell files listings) l.initial.after (map request_view l.requests) (responses l.initial.after l.outcomes.items ++ os));
+      → Session (request_context_in l.limits shell files listings) l.after (map request_view (drop l.request-index l.requests)) os
+      → Session (request_context_in l.limits shell files listings) l.initial.after (map request_view l.requests) (responses l.initial.after l.outcomes.items ++ os));
 }

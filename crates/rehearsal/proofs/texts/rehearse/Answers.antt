@@ -5,7 +5,7 @@ use Rattle.std.specs.declared.string.String.{String}
 use Rattle.envvars.specs.Texts.{Text}
 use Rattle.requests.specs.RequestViews.{request_view}
 use Rattle.requests.specs.Requests.{Request}
-use Rattle.requests.specs.Steps.{site_in}
+use Rattle.requests.specs.Steps.{request_context_in}
 use Rattle.requeststep.proofs.EachLemmas.{split_at}
 use Rattle.rehearsal.specs.Rehearsals.{Rehearsal}
 use Rattle.rehearsal.specs.Parts.{print_view, prints}
@@ -28,10 +28,10 @@ loop-request-preserved g c =
     record {
       narrows = λ files listings agreed. c.loop-request.invariant.narrows files listings (c.print_request-text.ensures.narrows files listings agreed);
       rehearsed = λ files listings agreed shell ps end n h.
-          let site = site_in c.args.limits shell files listings in
+          let context = request_context_in c.args.limits shell files listings in
           let p = print_view text in
-          let Whole : List (Option Text) → Type 0 = λ xs. Rehearsal site c.args.env all xs end first n in
-          let Rest : List Request → Type 0 = λ rs. Rehearsal site before_it rs (p ∷ ps) end was n in
+          let Whole : List (Option Text) → Type 0 = λ xs. Rehearsal context c.args.env all xs end first n in
+          let Rest : List Request → Type 0 = λ rs. Rehearsal context before_it rs (p ∷ ps) end was n in
           let more : prints sofar ++ p ∷ ps ≡ prints c.push.new.self.items ++ ps =
           prints_push sofar text ps ∙ ap (λ (ts : List (Option (String Global))). prints ts ++ ps) (sym items) in
           subst Whole more
@@ -44,19 +44,19 @@ loop-request-preserved g c =
 pub returns-clause-rehearsed : goal.returns-clause-rehearsed
 returns-clause-rehearsed g c =
     λ files listings agreed shell.
-    let site = site_in c.args.limits shell files listings in
+    let context = request_context_in c.args.limits shell files listings in
     let last = g.T.Tree.failures c.loop-request.tree in
-    let Whole : List (Option Text) → Type 0 = λ xs. Rehearsal site c.args.env (map request_view c.args.requests.now) xs c.loop-request.after (g.T.Tree.failures c.args.tree.now) last in
+    let Whole : List (Option Text) → Type 0 = λ xs. Rehearsal context c.args.env (map request_view c.args.requests.now) xs c.loop-request.after (g.T.Tree.failures c.args.tree.now) last in
     subst Whole (append-nil (prints c.loop-request.texts.items))
     (c.loop-request.invariant.rehearsed files listings agreed shell [] c.loop-request.after last
-    (no_requests site c.loop-request.after (drop c.loop-request.request-index c.args.requests.now) last (drop_of_length-le c.args.requests.now c.loop-request-test.false)))
+    (no_requests context c.loop-request.after (drop c.loop-request.request-index c.args.requests.now) last (drop_of_length-le c.args.requests.now c.loop-request-test.false)))
 
 pub returns-clause-makes : goal.returns-clause-makes
 returns-clause-makes g c =
     λ files listings agreed shell.
-    c.texts_make_session.ensures (site_in c.args.limits shell files listings) c.args.env (map request_view c.args.requests.now) (prints c.loop-request.texts.items) c.loop-request.after
+    c.texts_make_session.ensures (request_context_in c.args.limits shell files listings) c.args.env (map request_view c.args.requests.now) (prints c.loop-request.texts.items) c.loop-request.after
 
 pub returns-clause-returns_to_start : goal.returns-clause-returns_to_start
 returns-clause-returns_to_start g c =
     λ files listings agreed shell.
-    c.texts_return_to_start.ensures (site_in c.args.limits shell files listings) c.args.env (map request_view c.args.requests.now) (prints c.loop-request.texts.items) c.loop-request.after
+    c.texts_return_to_start.ensures (request_context_in c.args.limits shell files listings) c.args.env (map request_view c.args.requests.now) (prints c.loop-request.texts.items) c.loop-request.after

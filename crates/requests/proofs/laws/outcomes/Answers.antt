@@ -8,5 +8,5 @@ returns-clause-one c = λ s e asked. one_step c.files.ensures.one c.one_result.e
 pub returns-clause-reach : goal.returns-clause-reach
 returns-clause-reach c = led_by_moves
 
-pub returns-clause-made : goal.returns-clause-made
-returns-clause-made c = λ s e asked d h. c.moves.ensures.made d.moves e d.env (led_by_moves s e asked d h)
+pub returns-clause-all_moved : goal.returns-clause-all_moved
+returns-clause-all_moved c = λ s e asked d h. c.moves.ensures.all_moved d.moves e d.env (led_by_moves s e asked d h)

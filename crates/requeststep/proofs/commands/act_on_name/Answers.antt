@@ -1,7 +1,7 @@
 use Rattle.std.proofs.Common.{◌<◌, refl}
 use Rattle.requeststep.specs.declared.commands.NameAction.{NameAction}
 use Rattle.requeststep.specs.declared.commands.NameAction.TheVariants.{Load, Unload, ReportOn}
-use Rattle.requeststep.specs.Views.{site_of, done_view}
+use Rattle.requeststep.specs.Views.{request_context_of, done_view}
 use Rattle.requeststep.specs.Parts.{NameActionStep, NameActionLooksAt}
 use Rattle.requeststep.proofs.StepLemmas.{over_tree_of}
 use Rattle.filetree.specs.Agreement.{InEachPair}
@@ -16,21 +16,21 @@ returns-in-Load-clause-over_tree g c =
     let d = done_view c.args.done.now (g.V.Vars.vars c.args.env.now) in
     let rose = g.T.Tree.failures c.args.tree.now < g.T.Tree.failures c.load_name.new.tree in
     over_tree_of (g.T.Tree.agrees c.load_name.new.tree) rose (λ (u : Unit {0}). done_view c.load_name.new.done (g.V.Vars.vars c.load_name.new.env)) c.load_name.result
-    (λ (name_action : NameAction) files listings. NameActionStep name_action (site_of c.args.settings files listings) c.args.typed.now d) c.args.name_action Load c.in-Load.is c.load_name.ensures.over_tree
+    (λ (name_action : NameAction) files listings. NameActionStep name_action (request_context_of c.args.settings files listings) c.args.typed.now d) c.args.name_action Load c.in-Load.is c.load_name.ensures.over_tree
 
 pub returns-in-Unload-clause-over_tree : goal.returns-in-Unload-clause-over_tree
 returns-in-Unload-clause-over_tree g c =
     let d = done_view c.args.done.now (g.V.Vars.vars c.args.env.now) in
     let rose = g.T.Tree.failures c.args.tree.now < g.T.Tree.failures c.unload_name.new.tree in
     over_tree_of (g.T.Tree.agrees c.unload_name.new.tree) rose (λ (u : Unit {0}). done_view c.unload_name.new.done (g.V.Vars.vars c.unload_name.new.env)) c.unload_name.result
-    (λ (name_action : NameAction) files listings. NameActionStep name_action (site_of c.args.settings files listings) c.args.typed.now d) c.args.name_action Unload c.in-Unload.is c.unload_name.ensures.over_tree
+    (λ (name_action : NameAction) files listings. NameActionStep name_action (request_context_of c.args.settings files listings) c.args.typed.now d) c.args.name_action Unload c.in-Unload.is c.unload_name.ensures.over_tree
 
 pub returns-in-ReportOn-clause-over_tree : goal.returns-in-ReportOn-clause-over_tree
 returns-in-ReportOn-clause-over_tree g c =
     let d = done_view c.args.done.now (g.V.Vars.vars c.args.env.now) in
     let rose = g.T.Tree.failures c.args.tree.now < g.T.Tree.failures c.report_name.new.tree in
     over_tree_of (g.T.Tree.agrees c.report_name.new.tree) rose (λ (u : Unit {0}). done_view c.report_name.new.done (g.V.Vars.vars c.report_name.new.env)) c.report_name.result
-    (λ (name_action : NameAction) files listings. NameActionStep name_action (site_of c.args.settings files listings) c.args.typed.now d) c.args.name_action (ReportOn c.in-ReportOn.report_kind) c.in-ReportOn.is c.report_name.ensures.over_tree
+    (λ (name_action : NameAction) files listings. NameActionStep name_action (request_context_of c.args.settings files listings) c.args.typed.now d) c.args.name_action (ReportOn c.in-ReportOn.report_kind) c.in-ReportOn.is c.report_name.ensures.over_tree
 
 pub returns-in-Load-clause-failed : goal.returns-in-Load-clause-failed
 returns-in-Load-clause-failed g c =
@@ -39,7 +39,7 @@ returns-in-Load-clause-failed g c =
     let now = g.T.Tree.failed c.load_name.new.tree in
     let agrees = g.T.Tree.agrees c.load_name.new.tree in
     fails_of agrees before now c.load_name.result
-    (λ (name_action : NameAction) files listings. NameActionLooksAt name_action (site_of c.args.settings files listings) c.args.typed.now d) c.args.name_action Load c.in-Load.is
+    (λ (name_action : NameAction) files listings. NameActionLooksAt name_action (request_context_of c.args.settings files listings) c.args.typed.now d) c.args.name_action Load c.in-Load.is
     c.load_name.ensures.failed
 
 pub returns-in-Unload-clause-failed : goal.returns-in-Unload-clause-failed
@@ -49,7 +49,7 @@ returns-in-Unload-clause-failed g c =
     let now = g.T.Tree.failed c.unload_name.new.tree in
     let agrees = g.T.Tree.agrees c.unload_name.new.tree in
     fails_of agrees before now c.unload_name.result
-    (λ (name_action : NameAction) files listings. NameActionLooksAt name_action (site_of c.args.settings files listings) c.args.typed.now d) c.args.name_action Unload c.in-Unload.is
+    (λ (name_action : NameAction) files listings. NameActionLooksAt name_action (request_context_of c.args.settings files listings) c.args.typed.now d) c.args.name_action Unload c.in-Unload.is
     (fails_last is_failure before before now c.unload_name.result (UnloadLooksAt c.args.typed.now d)
     (λ at. InEachPair agrees (λ files listings. UnloadLooksAt c.args.typed.now d at)) refl (λ at h files listings a. h) c.unload_name.ensures.failed)
 
@@ -60,5 +60,5 @@ returns-in-ReportOn-clause-failed g c =
     let now = g.T.Tree.failed c.report_name.new.tree in
     let agrees = g.T.Tree.agrees c.report_name.new.tree in
     fails_of agrees before now c.report_name.result
-    (λ (name_action : NameAction) files listings. NameActionLooksAt name_action (site_of c.args.settings files listings) c.args.typed.now d) c.args.name_action (ReportOn c.in-ReportOn.report_kind) c.in-ReportOn.is
+    (λ (name_action : NameAction) files listings. NameActionLooksAt name_action (request_context_of c.args.settings files listings) c.args.typed.now d) c.args.name_action (ReportOn c.in-ReportOn.report_kind) c.in-ReportOn.is
     c.report_name.ensures.failed

@@ -4,7 +4,7 @@ use Rattle.std.specs.declared.alloc.Global.{Global}
 use Rattle.requests.specs.Steps as steps
 use Rattle.requests.specs.Steps.{Each, NeedsNames, nothing_done}
 use Rattle.requeststep.specs.declared.done.Done.{Done}
-use Rattle.requeststep.specs.Views.{site_of, done_view}
+use Rattle.requeststep.specs.Views.{request_context_of, done_view}
 use Rattle.requeststep.specs.Parts.{report_mode, report_text, EachActionLooksAt}
 use Rattle.requeststep.proofs.StepLemmas.{over_tree_refused}
 use Rattle.requeststep.proofs.EachLemmas.{shows_some}
@@ -22,10 +22,10 @@ returns-in_err-act_on_each-clause-over_tree g c =
     let d = done_view c.new-done.result e in
     let rose = g.T.Tree.failures c.args.tree.now < g.T.Tree.failures c.act_on_each.new.tree in
     rw (p.1, p.2) (over_tree_refused (g.T.Tree.agrees c.act_on_each.new.tree) rose rose (λ (u : Unit {0}). d) (λ (x : Done). d) c.in_err-act_on_each.field-0.0
-    (λ files listings. Each (steps.ShowsName (site_of c.args.settings files listings) (report_mode c.args.report_kind) (report_text c.args.report_kind)) names d)
-    (λ files listings. NeedsNames names (steps.ShowsNames (site_of c.args.settings files listings) (report_mode c.args.report_kind) (report_text c.args.report_kind) e names)) (λ q. q)
-    (λ files listings r a h. shows_some (site_of c.args.settings files listings) (report_mode c.args.report_kind) (report_text c.args.report_kind) e c.args.names.now c.is_empty.result c.is_empty.ensures c.if-is_empty.false (Err r)
-    (subst (λ x. Each (steps.ShowsName (site_of c.args.settings files listings) (report_mode c.args.report_kind) (report_text c.args.report_kind)) names x (Err r)) (c.new-done.ensures e) h))
+    (λ files listings. Each (steps.ShowsName (request_context_of c.args.settings files listings) (report_mode c.args.report_kind) (report_text c.args.report_kind)) names d)
+    (λ files listings. NeedsNames names (steps.ShowsNames (request_context_of c.args.settings files listings) (report_mode c.args.report_kind) (report_text c.args.report_kind) e names)) (λ q. q)
+    (λ files listings r a h. shows_some (request_context_of c.args.settings files listings) (report_mode c.args.report_kind) (report_text c.args.report_kind) e c.args.names.now c.is_empty.result c.is_empty.ensures c.if-is_empty.false (Err r)
+    (subst (λ x. Each (steps.ShowsName (request_context_of c.args.settings files listings) (report_mode c.args.report_kind) (report_text c.args.report_kind)) names x (Err r)) (c.new-done.ensures e) h))
     c.in_err-act_on_each.ensures.over_tree)
 
 pub returns-clause-over_tree : goal.returns-clause-over_tree
@@ -33,8 +33,8 @@ returns-clause-over_tree g c = λ files listings a.
     let e = g.V.Vars.vars c.args.env.now in
     let names = map (λ (s : String Global). string_bytes s) c.args.names.now in
     let d = done_view c.act_on_each.new.done (g.V.Vars.vars c.act_on_each.new.env) in
-    shows_some (site_of c.args.settings files listings) (report_mode c.args.report_kind) (report_text c.args.report_kind) e c.args.names.now c.is_empty.result c.is_empty.ensures c.if-is_empty.false (Ok d)
-    (subst (λ x. Each (steps.ShowsName (site_of c.args.settings files listings) (report_mode c.args.report_kind) (report_text c.args.report_kind)) names x (Ok d)) (c.new-done.ensures e) (c.in_ok-act_on_each.ensures.over_tree files listings a))
+    shows_some (request_context_of c.args.settings files listings) (report_mode c.args.report_kind) (report_text c.args.report_kind) e c.args.names.now c.is_empty.result c.is_empty.ensures c.if-is_empty.false (Ok d)
+    (subst (λ x. Each (steps.ShowsName (request_context_of c.args.settings files listings) (report_mode c.args.report_kind) (report_text c.args.report_kind)) names x (Ok d)) (c.new-done.ensures e) (c.in_ok-act_on_each.ensures.over_tree files listings a))
 
 pub returns-in_err-act_on_each-clause-failed : goal.returns-in_err-act_on_each-clause-failed
 returns-in_err-act_on_each-clause-failed g c =
@@ -46,7 +46,7 @@ returns-in_err-act_on_each-clause-failed g c =
     let agrees = g.T.Tree.agrees c.act_on_each.new.tree in
     let fails = is_failure c.in_err-act_on_each.field-0.0 in
     rw (p.1, p.2) (fails_then fails fails before before (g.T.Tree.failed c.act_on_each.new.tree)
-    (λ at. InEachPair agrees (λ files listings. EachActionLooksAt (ReportOn c.args.report_kind) (site_of c.args.settings files listings) names d at))
-    (λ at. InEachPair agrees (λ files listings. EachActionLooksAt (ReportOn c.args.report_kind) (site_of c.args.settings files listings) names (nothing_done e) at)) refl refl
-    (λ at h files listings a. subst (λ x. EachActionLooksAt (ReportOn c.args.report_kind) (site_of c.args.settings files listings) names x at) (c.new-done.ensures e) (h files listings a))
+    (λ at. InEachPair agrees (λ files listings. EachActionLooksAt (ReportOn c.args.report_kind) (request_context_of c.args.settings files listings) names d at))
+    (λ at. InEachPair agrees (λ files listings. EachActionLooksAt (ReportOn c.args.report_kind) (request_context_of c.args.settings files listings) names (nothing_done e) at)) refl refl
+    (λ at h files listings a. subst (λ x. EachActionLooksAt (ReportOn c.args.report_kind) (request_context_of c.args.settings files listings) names x at) (c.new-done.ensures e) (h files listings a))
     c.in_err-act_on_each.ensures.failed)

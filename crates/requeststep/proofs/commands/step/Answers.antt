@@ -9,7 +9,7 @@ use Rattle.requests.specs.Steps.{ListsLoaded, RequestStep}
 use Rattle.requeststep.specs.declared.done.EvaluationSettings.{EvaluationSettings}
 use Rattle.requeststep.specs.declared.done.Done.{Done}
 use Rattle.requeststep.specs.Messages.{MemoryNumberAmong, memory_numbers}
-use Rattle.requeststep.specs.Views.{site_of, done_view}
+use Rattle.requeststep.specs.Views.{request_context_of, done_view}
 use Rattle.requeststep.proofs.ActionLemmas.{answers_action, fails_at_action}
 use Rattle.requeststep.proofs.StepLemmas.{over_tree_given}
 use Rattle.requeststep.proofs.MemoryNumberLemmas.{wants_any}
@@ -43,8 +43,8 @@ returns-in-List-clause-over_tree g c =
     let settings : EvaluationSettings = record { limits = c.args.limits; shell = c.args.request.now.shell } in
     let failures = g.T.Tree.failures c.args.tree.now in
     over_tree_given (g.T.Tree.agrees c.args.tree.now) (failures < failures) (λ (x : Done). done_view x e) c.list.result
-    (λ files listings. ListsLoaded e) (λ files listings. RequestStep (site_of settings files listings) e (action_view c.args.request.now.action))
-    (λ files listings o a h. subst (λ (x : Action). RequestStep (site_of settings files listings) e (action_view x) o) (sym c.in-List.is) h) (λ files listings. c.list.ensures.given)
+    (λ files listings. ListsLoaded e) (λ files listings. RequestStep (request_context_of settings files listings) e (action_view c.args.request.now.action))
+    (λ files listings o a h. subst (λ (x : Action). RequestStep (request_context_of settings files listings) e (action_view x) o) (sym c.in-List.is) h) (λ files listings. c.list.ensures.given)
 
 pub returns-in-Avail-clause-over_tree : goal.returns-in-Avail-clause-over_tree
 returns-in-Avail-clause-over_tree g c =

@@ -1,7 +1,7 @@
 use Rattle.std.proofs.Common.{◌<◌, true, Some, Ok, Err, refl, arith, inl, inr}
 use Rattle.std.proofs.lemmas.Result.{err_from_is_err_and}
 use Rattle.requests.specs.Steps.{LoadsName, UnloadsName, Switches}
-use Rattle.requeststep.specs.Views.{site_of, done_view}
+use Rattle.requeststep.specs.Views.{request_context_of, done_view}
 use Rattle.requeststep.proofs.StepLemmas.{over_tree_same, over_tree_refused}
 use Rattle.filetree.specs.Agreement.{InEachPair}
 use Rattle.search.proofs.FailureLemmas.{fails_last, fails_then}
@@ -15,8 +15,8 @@ returns-in_err-unload_name-clause-over_tree g c =
     let d = done_view c.args.done.now (g.V.Vars.vars c.args.env.now) in
     let rose = g.T.Tree.failures c.args.tree.now < g.T.Tree.failures c.unload_name.new.tree in
     rw (p.1, p.2) (over_tree_refused (g.T.Tree.agrees c.unload_name.new.tree) rose rose (λ (u : Unit {0}). d) (λ (u : Unit {0}). d) c.in_err-unload_name.field-0.0
-    (λ files listings. UnloadsName (site_of c.args.settings files listings) true c.args.old.now d)
-    (λ files listings. Switches (site_of c.args.settings files listings) (Some c.args.old.now) c.args.new.now d) (λ q. q)
+    (λ files listings. UnloadsName (request_context_of c.args.settings files listings) true c.args.old.now d)
+    (λ files listings. Switches (request_context_of c.args.settings files listings) (Some c.args.old.now) c.args.new.now d) (λ q. q)
     (λ files listings r a h. (Err r, h, refl)) c.in_err-unload_name.ensures.over_tree)
 
 pub returns-clause-over_tree : goal.returns-clause-over_tree
@@ -25,8 +25,8 @@ returns-clause-over_tree g c =
     let mid = done_view c.unload_name.new.done (g.V.Vars.vars c.unload_name.new.env) in
     over_tree_same (g.T.Tree.agrees c.load_name.new.tree) (g.T.Tree.failures c.unload_name.new.tree < g.T.Tree.failures c.load_name.new.tree) (g.T.Tree.failures c.args.tree.now < g.T.Tree.failures c.load_name.new.tree)
     (λ (u : Unit {0}). done_view c.load_name.new.done (g.V.Vars.vars c.load_name.new.env)) c.load_name.result
-    (λ files listings. LoadsName (site_of c.args.settings files listings) true c.args.new.now mid)
-    (λ files listings. Switches (site_of c.args.settings files listings) (Some c.args.old.now) c.args.new.now d) (λ q. omega (arith, c.unload_name.ensures.reads.later))
+    (λ files listings. LoadsName (request_context_of c.args.settings files listings) true c.args.new.now mid)
+    (λ files listings. Switches (request_context_of c.args.settings files listings) (Some c.args.old.now) c.args.new.now d) (λ q. omega (arith, c.unload_name.ensures.reads.counts_failures))
     (λ files listings o a h. (Ok mid, c.in_ok-unload_name.ensures.over_tree files listings (c.load_name.ensures.reads.narrows files listings a), h))
     c.load_name.ensures.over_tree
 
@@ -38,7 +38,7 @@ returns-in_err-unload_name-clause-failed g c =
     let agrees = g.T.Tree.agrees c.unload_name.new.tree in
     let fails = is_failure c.in_err-unload_name.field-0.0 in
     rw (p.1, p.2) (fails_then fails fails before before (g.T.Tree.failed c.unload_name.new.tree) (UnloadLooksAt c.args.old.now d)
-    (λ at. InEachPair agrees (λ files listings. SwitchLooksAt (site_of c.args.settings files listings) c.args.old.now c.args.new.now d at)) refl refl
+    (λ at. InEachPair agrees (λ files listings. SwitchLooksAt (request_context_of c.args.settings files listings) c.args.old.now c.args.new.now d at)) refl refl
     (λ at h files listings a. inl h) c.in_err-unload_name.ensures.failed)
 
 pub returns-clause-failed : goal.returns-clause-failed
@@ -47,7 +47,7 @@ returns-clause-failed g c =
     let mid = done_view c.unload_name.new.done (g.V.Vars.vars c.unload_name.new.env) in
     let agrees = g.T.Tree.agrees c.load_name.new.tree in
     fails_last is_failure (g.T.Tree.failed c.args.tree.now) (g.T.Tree.failed c.unload_name.new.tree) (g.T.Tree.failed c.load_name.new.tree) c.load_name.result
-    (λ at. InEachPair agrees (λ files listings. LoadLooksAt (site_of c.args.settings files listings) c.args.new.now mid at))
-    (λ at. InEachPair agrees (λ files listings. SwitchLooksAt (site_of c.args.settings files listings) c.args.old.now c.args.new.now d at)) c.in_ok-unload_name.ensures.failed
+    (λ at. InEachPair agrees (λ files listings. LoadLooksAt (request_context_of c.args.settings files listings) c.args.new.now mid at))
+    (λ at. InEachPair agrees (λ files listings. SwitchLooksAt (request_context_of c.args.settings files listings) c.args.old.now c.args.new.now d at)) c.in_ok-unload_name.ensures.failed
     (λ at h files listings a. inr (mid, c.in_ok-unload_name.ensures.over_tree files listings (c.load_name.ensures.reads.narrows files listings a), h files listings a))
     c.load_name.ensures.failed

@@ -1,7 +1,7 @@
 use Rattle.std.proofs.Common.{◌≡◌, List, map, Ok, Err, ap, ◌∙◌}
 use Rattle.std.proofs.lemmas.Result.{err_from_is_err_and}
 use Rattle.envvars.specs.Texts.{slice_texts, texts_in}
-use Rattle.envloaded.specs.LoadedEntries.{entry_of}
+use Rattle.envloaded.specs.LoadedEntries.{entry_view}
 use Rattle.modulerecords.specs.Records.{conflict_names, prereq_groups}
 use Rattle.modulefile.specs.RecordViews.{record_view}
 use Rattle.modulefile.specs.declared.records.Record.{Record}
@@ -15,7 +15,7 @@ use Rattle.requeststep.proofs.entries.join_loaded.Goals as goal
 pub returns-in_err-judge-clause-given : goal.returns-in_err-judge-clause-given
 returns-in_err-judge-clause-given g c =
     let p = err_from_is_err_and c.from_residual-in_err-judge.result c.from_residual-in_err-judge.ensures.1 in
-    let xs = map entry_of c.args.entries.now in
+    let xs = map entry_view c.args.entries.now in
     let m = module_view c.args.loading.now in
     let conflicts : slice_texts c.as_slice-3.result.now ≡ conflict_names m.records = ap slice_texts c.as_slice-3.ensures.value ∙ (c.in_ok-conflicts.ensures ∙ ap (λ (rs : List Record). conflict_names (map record_view rs)) c.as_slice.ensures.value) in
     let prereqs : map texts_in c.as_slice-4.result.now ≡ prereq_groups m.records = ap (map texts_in) c.as_slice-4.ensures.value ∙ (c.in_ok-prereqs.ensures ∙ ap (λ (rs : List Record). prereq_groups (map record_view rs)) c.as_slice-2.ensures.value) in

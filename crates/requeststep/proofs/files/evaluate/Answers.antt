@@ -2,7 +2,7 @@ use Rattle.std.proofs.Common.{◌≡◌, List, map, string_bytes, Ok, Err, IfSom
 use Rattle.std.proofs.lemmas.Result.{err_from_is_err_and}
 use Rattle.envvars.specs.Texts.{Text}
 use Rattle.envloaded.specs.Loaded.{names_of}
-use Rattle.envloaded.specs.LoadedEntries.{entry_of}
+use Rattle.envloaded.specs.LoadedEntries.{entry_view}
 use Rattle.modulefile.specs.RecordViews.{mode_view}
 use Rattle.modulefile.specs.Files.{RunsFile}
 use Rattle.modulerun.specs.Running.{ran_view, file_reason_of}
@@ -17,8 +17,8 @@ returns-in_err-run_file-clause-given g c =
     let file = c.args.file in
     let e = g.V.Vars.vars c.args.env.now in
     let fault = c.in_err-run_file.field-0.0 in
-    let same : map string_bytes c.as_slice.result.now ≡ names_of (map entry_of c.args.entries.now) = ap (map string_bytes) c.as_slice.ensures.value ∙ c.in_ok-loaded.ensures in
-    rw (p.1, p.2) (run_refused (file_reason_of fault) (RunsFile a.settings.limits (file_context a (mode_view c.args.mode) file.name.now file.path.now (map entry_of c.args.entries.now) e) file.text.now)
+    let same : map string_bytes c.as_slice.result.now ≡ names_of (map entry_view c.args.entries.now) = ap (map string_bytes) c.as_slice.ensures.value ∙ c.in_ok-loaded.ensures in
+    rw (p.1, p.2) (run_refused (file_reason_of fault) (RunsFile a.settings.limits (file_context a (mode_view c.args.mode) file.name.now file.path.now (map entry_view c.args.entries.now) e) file.text.now)
     (subst (λ (names : List Text). IfSome (file_reason_of fault) (λ stop. RunsFile a.settings.limits (context_with_loaded a (mode_view c.args.mode) file.name.now file.path.now names e) file.text.now (Err stop))) same c.in_err-run_file.ensures.runs.1))
 
 pub returns-clause-given : goal.returns-clause-given
@@ -27,5 +27,5 @@ returns-clause-given g c =
     let file = c.args.file in
     let e = g.V.Vars.vars c.args.env.now in
     let ran = ran_view c.in_ok-run_file.field-0 (g.V.Vars.vars c.run_file.new.env) in
-    let same : map string_bytes c.as_slice.result.now ≡ names_of (map entry_of c.args.entries.now) = ap (map string_bytes) c.as_slice.ensures.value ∙ c.in_ok-loaded.ensures in
+    let same : map string_bytes c.as_slice.result.now ≡ names_of (map entry_view c.args.entries.now) = ap (map string_bytes) c.as_slice.ensures.value ∙ c.in_ok-loaded.ensures in
     (Ok ran, subst (λ (names : List Text). RunsFile a.settings.limits (context_with_loaded a (mode_view c.args.mode) file.name.now file.path.now names e) file.text.now (Ok ran)) same c.in_ok-run_file.ensures.runs, refl)

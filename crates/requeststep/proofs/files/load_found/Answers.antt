@@ -2,7 +2,7 @@ use Rattle.std.proofs.Common.{◌≡◌, false, map, Ok, Err, sym, ap, ◌∙◌
 use Rattle.std.proofs.lemmas.Result.{err_from_is_err_and}
 use Rattle.envvars.specs.Texts.{Text, has}
 use Rattle.envloaded.specs.Loaded.{names_of}
-use Rattle.envloaded.specs.LoadedEntries.{entry_of}
+use Rattle.envloaded.specs.LoadedEntries.{entry_view}
 use Rattle.modulerecords.specs.Effects as modes
 use Rattle.modulefile.specs.Files.{RunsFile}
 use Rattle.search.specs.Answers.{found_view}
@@ -10,7 +10,7 @@ use Rattle.modulerun.specs.Running.{ran_view}
 use Rattle.requests.specs.Reasons.{file_refused}
 use Rattle.requests.specs.Refusals.{RefusedAs}
 use Rattle.requests.specs.Steps.{LoadsFound, module_of}
-use Rattle.requeststep.specs.Views.{site_of, done_view}
+use Rattle.requeststep.specs.Views.{request_context_of, done_view}
 use Rattle.requeststep.specs.Answers.{cause_of}
 use Rattle.requeststep.specs.Parts.{added, file_context}
 use Rattle.requeststep.proofs.StepLemmas.{stands_as, run_made, joins_ok, joins_refused}
@@ -22,20 +22,20 @@ returns-in_err-ran-clause-given g c = λ files listings.
     let p = err_from_is_err_and c.from_residual.result c.from_residual.ensures.1 in
     let a = c.args.name_request in
     let d = done_view c.args.done.now (g.V.Vars.vars c.args.env.now) in
-    let xs = map entry_of c.args.entries.now in
+    let xs = map entry_view c.args.entries.now in
     let m = found_view c.args.found in
     let no : has m.name (names_of xs) ≡ false = ap (λ (n : Text). has n (names_of xs)) (sym c.as_str.ensures.value) ∙ (sym c.is_loaded.ensures ∙ c.if-is_loaded.false) in
     let given = rw (c.of-file.ensures.name, c.of-file.ensures.path, c.of-file.ensures.text) at c.in_err-ran.ensures.given in
     rw (p.1, p.2) (stands_as (cause_of c.in_err-ran.field-0.0) ⊥ ⊥ (λ r. RefusedAs file_refused (RunsFile a.settings.limits (file_context a modes.load m.name m.path xs d.env) m.text) (Err r))
-    (λ r. LoadsFound (site_of a.settings files listings) a.in_switch a.typed.now d xs m (Err r)) (λ q. q)
-    (λ r h. found_stopped (site_of a.settings files listings) a.in_switch a.typed.now d xs m no r h) given)
+    (λ r. LoadsFound (request_context_of a.settings files listings) a.in_switch a.typed.now d xs m (Err r)) (λ q. q)
+    (λ r h. found_stopped (request_context_of a.settings files listings) a.in_switch a.typed.now d xs m no r h) given)
 
 pub returns-in_err-join_loaded-clause-given : goal.returns-in_err-join_loaded-clause-given
 returns-in_err-join_loaded-clause-given g c = λ files listings.
     let p = err_from_is_err_and c.from_residual-in_err-join_loaded.result c.from_residual-in_err-join_loaded.ensures.1 in
     let a = c.args.name_request in
     let d = done_view c.args.done.now (g.V.Vars.vars c.args.env.now) in
-    let xs = map entry_of c.args.entries.now in
+    let xs = map entry_view c.args.entries.now in
     let m = found_view c.args.found in
     let no : has m.name (names_of xs) ≡ false = ap (λ (n : Text). has n (names_of xs)) (sym c.as_str.ensures.value) ∙ (sym c.is_loaded.ensures ∙ c.if-is_loaded.false) in
     let mid = g.V.Vars.vars c.evaluate.new.env in
@@ -44,14 +44,14 @@ returns-in_err-join_loaded-clause-given g c = λ files listings.
     let made = run_made a.settings.limits (file_context a modes.load m.name m.path xs d.env) m.text ran given in
     let loading = module_of m.name m.path ran in
     rw (p.1, p.2) (stands_as (cause_of c.in_err-join_loaded.field-0.0) ⊥ ⊥ (λ r. Err r ≡ added xs loading mid)
-    (λ r. LoadsFound (site_of a.settings files listings) a.in_switch a.typed.now d xs m (Err r)) (λ q. q)
-    (λ r h. found_joins (site_of a.settings files listings) a.in_switch a.typed.now d xs m no ran given (Err r) (joins_refused d xs loading ran.messages mid made r h)) c.in_err-join_loaded.ensures.given)
+    (λ r. LoadsFound (request_context_of a.settings files listings) a.in_switch a.typed.now d xs m (Err r)) (λ q. q)
+    (λ r h. found_joins (request_context_of a.settings files listings) a.in_switch a.typed.now d xs m no ran given (Err r) (joins_refused d xs loading ran.messages mid made r h)) c.in_err-join_loaded.ensures.given)
 
 pub returns-clause-given : goal.returns-clause-given
 returns-clause-given g c = λ files listings.
     let a = c.args.name_request in
     let d = done_view c.args.done.now (g.V.Vars.vars c.args.env.now) in
-    let xs = map entry_of c.args.entries.now in
+    let xs = map entry_view c.args.entries.now in
     let m = found_view c.args.found in
     let no : has m.name (names_of xs) ≡ false = ap (λ (n : Text). has n (names_of xs)) (sym c.as_str.ensures.value) ∙ (sym c.is_loaded.ensures ∙ c.if-is_loaded.false) in
     let mid = g.V.Vars.vars c.evaluate.new.env in
@@ -60,5 +60,5 @@ returns-clause-given g c = λ files listings.
     let given = rw (c.of-file.ensures.name, c.of-file.ensures.path, c.of-file.ensures.text) at c.in_ok-ran.ensures.given in
     let made = run_made a.settings.limits (file_context a modes.load m.name m.path xs d.env) m.text ran given in
     let loading = module_of m.name m.path ran in
-    found_joins (site_of a.settings files listings) a.in_switch a.typed.now d xs m no ran given (Ok (done_view c.continue_with.new.self last))
+    found_joins (request_context_of a.settings files listings) a.in_switch a.typed.now d xs m no ran given (Ok (done_view c.continue_with.new.self last))
     (ap Ok (c.in_ok-continue_with.ensures (g.V.Vars.vars c.args.env.now) last) ∙ joins_ok d xs loading ran.messages mid made last c.in_ok-join_loaded.ensures.given)

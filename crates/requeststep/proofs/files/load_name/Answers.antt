@@ -2,12 +2,12 @@ use Rattle.std.proofs.Common.{◌≡◌, ◌<◌, true, false, List, map, sym, a
 use Rattle.std.proofs.lemmas.Result.{err_from_is_err_and}
 use Rattle.envvars.specs.Texts.{has}
 use Rattle.envloaded.specs.Loaded.{names_of}
-use Rattle.envloaded.specs.LoadedEntries.{entry_of}
+use Rattle.envloaded.specs.LoadedEntries.{entry_view}
 use Rattle.envloaded.specs.declared.entry.Loaded.{Loaded}
 use Rattle.filetree.specs.Relations.{Is}
 use Rattle.search.specs.Answers.{found_view}
 use Rattle.requests.specs.Steps.{entries_of, Finds, LoadsFound, LoadsName}
-use Rattle.requeststep.specs.Views.{site_of, done_view}
+use Rattle.requeststep.specs.Views.{request_context_of, done_view}
 use Rattle.requeststep.specs.Parts.{entries_view}
 use Rattle.requeststep.proofs.StepLemmas.{over_tree_given, gives_refused, over_tree_refused}
 use Rattle.requeststep.proofs.NameLemmas.{loads_unread, loads_loaded, loads_unfound, loads_found}
@@ -26,10 +26,10 @@ returns-in_err-found-clause-over_tree g c =
     let d = done_view c.args.done.now e in
     let items = c.in_ok-entries.entries.items in
     let rose = g.T.Tree.failures c.args.tree.now < g.T.Tree.failures c.find_module.new.tree in
-    let no : has a.typed.now (names_of (map entry_of items)) ≡ false = ap (λ (es : List Loaded). has a.typed.now (names_of (map entry_of es))) (sym c.as_slice.ensures.value) ∙ (sym c.is_loaded.ensures ∙ c.if-is_loaded.false) in
+    let no : has a.typed.now (names_of (map entry_view items)) ≡ false = ap (λ (es : List Loaded). has a.typed.now (names_of (map entry_view es))) (sym c.as_slice.ensures.value) ∙ (sym c.is_loaded.ensures ∙ c.if-is_loaded.false) in
     rw (p.1, p.2) (over_tree_refused (g.T.Tree.agrees c.find_module.new.tree) rose rose found_view (λ (u : Unit {0}). d) c.in_err-found.field-0.0
-    (λ files listings. Finds (site_of a.settings files listings) e a.typed.now) (λ files listings. LoadsName (site_of a.settings files listings) a.in_switch a.typed.now d) (λ q. q)
-    (λ files listings r k h. loads_unfound (site_of a.settings files listings) a.in_switch a.typed.now d (map entry_of items) c.in_ok-entries.ensures.given no r h)
+    (λ files listings. Finds (request_context_of a.settings files listings) e a.typed.now) (λ files listings. LoadsName (request_context_of a.settings files listings) a.in_switch a.typed.now d) (λ q. q)
+    (λ files listings r k h. loads_unfound (request_context_of a.settings files listings) a.in_switch a.typed.now d (map entry_view items) c.in_ok-entries.ensures.given no r h)
     c.in_err-found.ensures.over_tree)
 
 pub returns-clause-over_tree : goal.returns-clause-over_tree
@@ -40,11 +40,11 @@ returns-clause-over_tree g c =
     let items = c.in_ok-entries.entries.items in
     let m = found_view c.in_ok-found.found in
     let rose = g.T.Tree.failures c.args.tree.now < g.T.Tree.failures c.find_module.new.tree in
-    let no : has a.typed.now (names_of (map entry_of items)) ≡ false = ap (λ (es : List Loaded). has a.typed.now (names_of (map entry_of es))) (sym c.as_slice.ensures.value) ∙ (sym c.is_loaded.ensures ∙ c.if-is_loaded.false) in
+    let no : has a.typed.now (names_of (map entry_view items)) ≡ false = ap (λ (es : List Loaded). has a.typed.now (names_of (map entry_view es))) (sym c.as_slice.ensures.value) ∙ (sym c.is_loaded.ensures ∙ c.if-is_loaded.false) in
     let given = rw c.as_slice-2.ensures.value at c.load_found.ensures.given in
     over_tree_given (g.T.Tree.agrees c.find_module.new.tree) rose (λ (u : Unit {0}). done_view c.load_found.new.done (g.V.Vars.vars c.load_found.new.env)) c.load_found.result
-    (λ files listings. LoadsFound (site_of a.settings files listings) a.in_switch a.typed.now d (map entry_of items) m) (λ files listings. LoadsName (site_of a.settings files listings) a.in_switch a.typed.now d)
-    (λ files listings o k h. loads_found (site_of a.settings files listings) a.in_switch a.typed.now d (map entry_of items) c.in_ok-entries.ensures.given no m (c.in_ok-found.ensures.over_tree files listings k) o h)
+    (λ files listings. LoadsFound (request_context_of a.settings files listings) a.in_switch a.typed.now d (map entry_view items) m) (λ files listings. LoadsName (request_context_of a.settings files listings) a.in_switch a.typed.now d)
+    (λ files listings o k h. loads_found (request_context_of a.settings files listings) a.in_switch a.typed.now d (map entry_view items) c.in_ok-entries.ensures.given no m (c.in_ok-found.ensures.over_tree files listings k) o h)
     given
 
 pub returns-in_err-entries-clause-over_tree : goal.returns-in_err-entries-clause-over_tree
@@ -55,16 +55,16 @@ returns-in_err-entries-clause-over_tree g c =
     let d = done_view c.args.done.now e in
     let failures = g.T.Tree.failures c.args.tree.now in
     rw (p.1, p.2) (gives_refused (g.T.Tree.agrees c.args.tree.now) (failures < failures) entries_view (λ (u : Unit {0}). d) c.in_err-entries.field-0.0
-    (Is (entries_of e)) (λ files listings. LoadsName (site_of a.settings files listings) a.in_switch a.typed.now d)
-    (λ files listings r k h. loads_unread (site_of a.settings files listings) a.in_switch a.typed.now d r h) c.in_err-entries.ensures.given)
+    (Is (entries_of e)) (λ files listings. LoadsName (request_context_of a.settings files listings) a.in_switch a.typed.now d)
+    (λ files listings r k h. loads_unread (request_context_of a.settings files listings) a.in_switch a.typed.now d r h) c.in_err-entries.ensures.given)
 
 pub returns-then-is_loaded-clause-over_tree : goal.returns-then-is_loaded-clause-over_tree
 returns-then-is_loaded-clause-over_tree g c = λ files listings k.
     let a = c.args.name_request in
     let d = done_view c.args.done.now (g.V.Vars.vars c.args.env.now) in
     let items = c.in_ok-entries.entries.items in
-    let yes : has a.typed.now (names_of (map entry_of items)) ≡ true = ap (λ (es : List Loaded). has a.typed.now (names_of (map entry_of es))) (sym c.as_slice.ensures.value) ∙ (sym c.is_loaded.ensures ∙ c.if-is_loaded.true) in
-    loads_loaded (site_of a.settings files listings) a.in_switch a.typed.now d (map entry_of items) c.in_ok-entries.ensures.given yes
+    let yes : has a.typed.now (names_of (map entry_view items)) ≡ true = ap (λ (es : List Loaded). has a.typed.now (names_of (map entry_view es))) (sym c.as_slice.ensures.value) ∙ (sym c.is_loaded.ensures ∙ c.if-is_loaded.true) in
+    loads_loaded (request_context_of a.settings files listings) a.in_switch a.typed.now d (map entry_view items) c.in_ok-entries.ensures.given yes
 
 pub returns-in_err-entries-clause-failed : goal.returns-in_err-entries-clause-failed
 returns-in_err-entries-clause-failed g c =
@@ -79,14 +79,14 @@ returns-in_err-found-clause-failed g c =
     let e = g.V.Vars.vars c.args.env.now in
     let d = done_view c.args.done.now e in
     let items = c.in_ok-entries.entries.items in
-    let no : has a.typed.now (names_of (map entry_of items)) ≡ false = ap (λ (es : List Loaded). has a.typed.now (names_of (map entry_of es))) (sym c.as_slice.ensures.value) ∙ (sym c.is_loaded.ensures ∙ c.if-is_loaded.false) in
+    let no : has a.typed.now (names_of (map entry_view items)) ≡ false = ap (λ (es : List Loaded). has a.typed.now (names_of (map entry_view es))) (sym c.as_slice.ensures.value) ∙ (sym c.is_loaded.ensures ∙ c.if-is_loaded.false) in
     let before = g.T.Tree.failed c.args.tree.now in
     let agrees = g.T.Tree.agrees c.find_module.new.tree in
     let fails = is_failure c.in_err-found.field-0.0 in
     rw (p.1, p.2) (fails_then fails fails before before (g.T.Tree.failed c.find_module.new.tree)
-    (λ at. InEachPair agrees (λ files listings. SearchLooksAt (site_of a.settings files listings) e a.typed.now at))
-    (λ at. InEachPair agrees (λ files listings. LoadLooksAt (site_of a.settings files listings) a.typed.now d at))
-    refl refl (λ at h files listings k. record { entries = map entry_of items; read = c.in_ok-entries.ensures.given; unloaded = no; searched = h files listings k })
+    (λ at. InEachPair agrees (λ files listings. SearchLooksAt (request_context_of a.settings files listings) e a.typed.now at))
+    (λ at. InEachPair agrees (λ files listings. LoadLooksAt (request_context_of a.settings files listings) a.typed.now d at))
+    refl refl (λ at h files listings k. record { entries = map entry_view items; read = c.in_ok-entries.ensures.given; unloaded = no; searched = h files listings k })
     c.in_err-found.ensures.failed)
 
 pub returns-clause-failed : goal.returns-clause-failed
@@ -94,5 +94,5 @@ returns-clause-failed g c =
     let a = c.args.name_request in
     let d = done_view c.args.done.now (g.V.Vars.vars c.args.env.now) in
     gives_unfailed (λ (u : Unit {0}). done_view c.load_found.new.done (g.V.Vars.vars c.load_found.new.env)) c.load_found.result
-    (LoadsFound (site_of a.settings (λ path. None) (λ path. None)) a.in_switch a.typed.now d (map entry_of c.as_slice-2.result.now) (found_view c.in_ok-found.found))
+    (LoadsFound (request_context_of a.settings (λ path. None) (λ path. None)) a.in_switch a.typed.now d (map entry_view c.as_slice-2.result.now) (found_view c.in_ok-found.found))
     (g.T.Tree.failed c.args.tree.now) (g.T.Tree.failed c.find_module.new.tree) _ (c.load_found.ensures.given (λ path. None) (λ path. None)) c.in_ok-found.ensures.failed

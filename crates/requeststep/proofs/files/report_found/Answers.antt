@@ -2,7 +2,7 @@ use Rattle.std.proofs.Common.{◌≡◌, map, Ok, Err, refl, ap, ◌∙◌}
 use Rattle.std.proofs.lemmas.Result.{err_from_is_err_and}
 use Rattle.envvars.specs.Texts.{Text}
 use Rattle.envvars.specs.Environment.{Environment}
-use Rattle.envloaded.specs.LoadedEntries.{entry_of}
+use Rattle.envloaded.specs.LoadedEntries.{entry_view}
 use Rattle.modulefile.specs.Files.{RunsFile}
 use Rattle.search.specs.Answers.{found_view}
 use Rattle.modulerun.specs.Running.{ran_view}
@@ -21,7 +21,7 @@ returns-in_err-ran-clause-given g c =
     let a = c.args.name_request in
     let m = found_view c.args.found.now in
     let d = done_view c.args.done.now (g.V.Vars.vars c.args.env.now) in
-    let xs = map entry_of c.args.entries.now in
+    let xs = map entry_view c.args.entries.now in
     let given = rw (c.mode_of_report.ensures, c.of-file.ensures.name, c.of-file.ensures.path, c.of-file.ensures.text) at c.in_err-ran.ensures.given in
     rw (p.1, p.2) (stands_as (cause_of c.in_err-ran.field-0.0) ⊥ ⊥ (λ r. RefusedAs file_refused (RunsFile a.settings.limits (file_context a (report_mode c.args.report_kind) m.name m.path xs d.env) m.text) (Err r))
     (λ r. ReportsFound a c.args.report_kind m xs d (Err r)) (λ q. q) (λ r h. (Err r, h, refl)) given)
@@ -32,7 +32,7 @@ returns-clause-given g c =
     let m = found_view c.args.found.now in
     let e = g.V.Vars.vars c.args.env.now in
     let d = done_view c.args.done.now e in
-    let xs = map entry_of c.args.entries.now in
+    let xs = map entry_view c.args.entries.now in
     let last = g.V.Vars.vars c.evaluate.new.env in
     let ran = ran_view c.in_ok-ran.ran last in
     let given = rw (c.mode_of_report.ensures, c.of-file.ensures.name, c.of-file.ensures.path, c.of-file.ensures.text) at c.in_ok-ran.ensures.given in

@@ -1,10 +1,10 @@
 use Rattle.std.proofs.Common.{◌<◌, false, map, Ok, Err, refl}
 use Rattle.std.proofs.lemmas.Result.{err_from_is_err_and}
-use Rattle.envloaded.specs.LoadedEntries.{entry_of}
+use Rattle.envloaded.specs.LoadedEntries.{entry_view}
 use Rattle.filetree.specs.Relations.{Is}
 use Rattle.search.specs.Answers.{found_view}
 use Rattle.requests.specs.Steps.{entries_of, Finds, ShowsName}
-use Rattle.requeststep.specs.Views.{site_of, done_view}
+use Rattle.requeststep.specs.Views.{request_context_of, done_view}
 use Rattle.requeststep.specs.Parts.{entries_view, ReportsFound, report_mode, report_text}
 use Rattle.requeststep.proofs.StepLemmas.{over_tree_given, gives_refused, over_tree_refused}
 use Rattle.filetree.specs.Agreement.{InEachPair}
@@ -21,9 +21,9 @@ returns-in_err-found-clause-over_tree g c =
     let d = done_view c.args.done.now e in
     let rose = g.T.Tree.failures c.args.tree.now < g.T.Tree.failures c.find_module.new.tree in
     rw (p.1, p.2) (over_tree_refused (g.T.Tree.agrees c.find_module.new.tree) rose rose found_view (λ (u : Unit {0}). d) c.in_err-found.field-0.0
-    (λ files listings. Finds (site_of c.args.settings files listings) e c.args.typed.now)
-    (λ files listings. ShowsName (site_of c.args.settings files listings) (report_mode c.args.report_kind) (report_text c.args.report_kind) c.args.typed.now d) (λ q. q)
-    (λ files listings r k h. (Ok (map entry_of c.in_ok-entries.entries.items), c.in_ok-entries.ensures.given, (Err r, h, refl)))
+    (λ files listings. Finds (request_context_of c.args.settings files listings) e c.args.typed.now)
+    (λ files listings. ShowsName (request_context_of c.args.settings files listings) (report_mode c.args.report_kind) (report_text c.args.report_kind) c.args.typed.now d) (λ q. q)
+    (λ files listings r k h. (Ok (map entry_view c.in_ok-entries.entries.items), c.in_ok-entries.ensures.given, (Err r, h, refl)))
     c.in_err-found.ensures.over_tree)
 
 pub returns-clause-over_tree : goal.returns-clause-over_tree
@@ -35,9 +35,9 @@ returns-clause-over_tree g c =
     let given = rw c.as_slice.ensures.value at c.report_found.ensures.given in
     over_tree_given (g.T.Tree.agrees c.find_module.new.tree) (g.T.Tree.failures c.args.tree.now < g.T.Tree.failures c.find_module.new.tree)
     (λ (u : Unit {0}). done_view c.report_found.new.done (g.V.Vars.vars c.report_found.new.env)) c.report_found.result
-    (λ files listings. ReportsFound (record { settings = c.args.settings; in_switch = false; typed = c.args.typed }) c.args.report_kind m (map entry_of items) d)
-    (λ files listings. ShowsName (site_of c.args.settings files listings) (report_mode c.args.report_kind) (report_text c.args.report_kind) c.args.typed.now d)
-    (λ files listings o k h. (Ok (map entry_of items), c.in_ok-entries.ensures.given, (Ok m, c.in_ok-found.ensures.over_tree files listings k, h))) (λ files listings. given)
+    (λ files listings. ReportsFound (record { settings = c.args.settings; in_switch = false; typed = c.args.typed }) c.args.report_kind m (map entry_view items) d)
+    (λ files listings. ShowsName (request_context_of c.args.settings files listings) (report_mode c.args.report_kind) (report_text c.args.report_kind) c.args.typed.now d)
+    (λ files listings o k h. (Ok (map entry_view items), c.in_ok-entries.ensures.given, (Ok m, c.in_ok-found.ensures.over_tree files listings k, h))) (λ files listings. given)
 
 pub returns-in_err-entries-clause-over_tree : goal.returns-in_err-entries-clause-over_tree
 returns-in_err-entries-clause-over_tree g c =
@@ -46,7 +46,7 @@ returns-in_err-entries-clause-over_tree g c =
     let d = done_view c.args.done.now e in
     let failures = g.T.Tree.failures c.args.tree.now in
     rw (p.1, p.2) (gives_refused (g.T.Tree.agrees c.args.tree.now) (failures < failures) entries_view (λ (u : Unit {0}). d) c.in_err-entries.field-0.0
-    (Is (entries_of e)) (λ files listings. ShowsName (site_of c.args.settings files listings) (report_mode c.args.report_kind) (report_text c.args.report_kind) c.args.typed.now d)
+    (Is (entries_of e)) (λ files listings. ShowsName (request_context_of c.args.settings files listings) (report_mode c.args.report_kind) (report_text c.args.report_kind) c.args.typed.now d)
     (λ files listings r k h. (Err r, h, refl)) c.in_err-entries.ensures.given)
 
 pub returns-in_err-entries-clause-failed : goal.returns-in_err-entries-clause-failed
@@ -64,14 +64,14 @@ returns-in_err-found-clause-failed g c =
     let agrees = g.T.Tree.agrees c.find_module.new.tree in
     let fails = is_failure c.in_err-found.field-0.0 in
     rw (p.1, p.2) (fails_then fails fails before before (g.T.Tree.failed c.find_module.new.tree)
-    (λ at. InEachPair agrees (λ files listings. SearchLooksAt (site_of c.args.settings files listings) e c.args.typed.now at))
-    (λ at. InEachPair agrees (λ files listings. ShowLooksAt (site_of c.args.settings files listings) c.args.typed.now d at))
-    refl refl (λ at h files listings a. record { entries = map entry_of c.in_ok-entries.entries.items; read = c.in_ok-entries.ensures.given; searched = h files listings a })
+    (λ at. InEachPair agrees (λ files listings. SearchLooksAt (request_context_of c.args.settings files listings) e c.args.typed.now at))
+    (λ at. InEachPair agrees (λ files listings. ShowLooksAt (request_context_of c.args.settings files listings) c.args.typed.now d at))
+    refl refl (λ at h files listings a. record { entries = map entry_view c.in_ok-entries.entries.items; read = c.in_ok-entries.ensures.given; searched = h files listings a })
     c.in_err-found.ensures.failed)
 
 pub returns-clause-failed : goal.returns-clause-failed
 returns-clause-failed g c =
     let d = done_view c.args.done.now (g.V.Vars.vars c.args.env.now) in
     gives_unfailed (λ (u : Unit {0}). done_view c.report_found.new.done (g.V.Vars.vars c.report_found.new.env)) c.report_found.result
-    (ReportsFound (record { settings = c.args.settings; in_switch = false; typed = c.args.typed }) c.args.report_kind (found_view c.in_ok-found.found) (map entry_of c.as_slice.result.now) d)
+    (ReportsFound (record { settings = c.args.settings; in_switch = false; typed = c.args.typed }) c.args.report_kind (found_view c.in_ok-found.found) (map entry_view c.as_slice.result.now) d)
     (g.T.Tree.failed c.args.tree.now) (g.T.Tree.failed c.find_module.new.tree) _ c.report_found.ensures.given c.in_ok-found.ensures.failed

@@ -2,7 +2,7 @@ use Rattle.std.proofs.Common.{◌≡◌, map, string_bytes, Ok, Err, refl, ap, �
 use Rattle.std.proofs.lemmas.Result.{err_from_is_err_and}
 use Rattle.envvars.specs.Reasons.{EnvReason, reason_of}
 use Rattle.envloaded.specs.Loaded.{dropped_loaded}
-use Rattle.envloaded.specs.LoadedEntries.{entry_of}
+use Rattle.envloaded.specs.LoadedEntries.{entry_view}
 use Rattle.modulerecords.specs.Effects as modes
 use Rattle.modulefile.specs.Files.{RunsFile}
 use Rattle.modulerun.specs.Running.{ran_view}
@@ -21,7 +21,7 @@ returns-in_err-ran-clause-given g c =
     let a = c.args.name_request in
     let file = c.args.file in
     let d = done_view c.args.done.now (g.V.Vars.vars c.args.env.now) in
-    let xs = map entry_of c.args.entries.now in
+    let xs = map entry_view c.args.entries.now in
     rw (p.1, p.2) (stands_as (cause_of c.in_err-ran.field-0.0) ⊥ ⊥ (λ r. RefusedAs file_refused (RunsFile a.settings.limits (file_context a modes.unload file.name.now file.path.now xs d.env) file.text.now) (Err r))
     (λ r. UnloadsByScript a file.name.now file.path.now file.text.now xs d (Err r)) (λ q. q) (λ r h. (Err r, h, refl)) c.in_err-ran.ensures.given)
 
@@ -31,7 +31,7 @@ returns-in_err-drop_loaded-clause-given g c =
     let a = c.args.name_request in
     let file = c.args.file in
     let d = done_view c.args.done.now (g.V.Vars.vars c.args.env.now) in
-    let xs = map entry_of c.args.entries.now in
+    let xs = map entry_view c.args.entries.now in
     let mid = g.V.Vars.vars c.evaluate.new.env in
     let ran = ran_view c.in_ok-ran.ran mid in
     let made = run_made a.settings.limits (file_context a modes.unload file.name.now file.path.now xs d.env) file.text.now ran c.in_ok-ran.ensures.given in
@@ -45,7 +45,7 @@ returns-clause-given g c =
     let a = c.args.name_request in
     let file = c.args.file in
     let d = done_view c.args.done.now (g.V.Vars.vars c.args.env.now) in
-    let xs = map entry_of c.args.entries.now in
+    let xs = map entry_view c.args.entries.now in
     let mid = g.V.Vars.vars c.evaluate.new.env in
     let last = g.V.Vars.vars c.drop_loaded.new.env in
     let ran = ran_view c.in_ok-ran.ran mid in

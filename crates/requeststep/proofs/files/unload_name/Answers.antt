@@ -1,13 +1,13 @@
 use Rattle.std.proofs.Common.{◌≡◌, ◌<◌, true, false, map, Some, None, Ok, Err, refl, sym, ◌∙◌, subst}
 use Rattle.std.proofs.lemmas.Result.{err_from_is_err_and}
 use Rattle.envvars.specs.Texts.{Text}
-use Rattle.envloaded.specs.LoadedEntries.{entry_of}
+use Rattle.envloaded.specs.LoadedEntries.{entry_view}
 use Rattle.modulename.specs.ModuleName.{is_module_name}
 use Rattle.filetree.specs.Relations.{Is}
 use Rattle.search.specs.Reasons.{bad_name}
 use Rattle.requests.specs.Reasons.{missed}
 use Rattle.requests.specs.Steps.{entries_of, UnloadsEntry, UnloadsName}
-use Rattle.requeststep.specs.Views.{site_of, done_view}
+use Rattle.requeststep.specs.Views.{request_context_of, done_view}
 use Rattle.requeststep.specs.Parts.{entries_view}
 use Rattle.requeststep.proofs.StepLemmas.{gives_refused, over_tree_same}
 use Rattle.requeststep.proofs.NameLemmas.{unloads_unread, unloads_misnamed, unloads_meant}
@@ -25,41 +25,41 @@ returns-in_err-entries-clause-over_tree g c =
     let d = done_view c.args.done.now e in
     let failures = g.T.Tree.failures c.args.tree.now in
     rw (p.1, p.2) (gives_refused (g.T.Tree.agrees c.args.tree.now) (failures < failures) entries_view (λ (u : Unit {0}). d) c.in_err-entries.field-0.0
-    (Is (entries_of e)) (λ files listings. UnloadsName (site_of a.settings files listings) a.in_switch a.typed.now d)
-    (λ files listings r k h. unloads_unread (site_of a.settings files listings) a.in_switch a.typed.now d r h) c.in_err-entries.ensures.given)
+    (Is (entries_of e)) (λ files listings. UnloadsName (request_context_of a.settings files listings) a.in_switch a.typed.now d)
+    (λ files listings r k h. unloads_unread (request_context_of a.settings files listings) a.in_switch a.typed.now d r h) c.in_err-entries.ensures.given)
 
 pub returns-then-not-is_module_name-clause-over_tree : goal.returns-then-not-is_module_name-clause-over_tree
 returns-then-not-is_module_name-clause-over_tree g c = λ files listings k.
     let a = c.args.name_request in
-    let s = site_of a.settings files listings in
+    let s = request_context_of a.settings files listings in
     let d = done_view c.args.done.now (g.V.Vars.vars c.args.env.now) in
     let no : is_module_name a.typed.now ≡ false = sym c.is_module_name.ensures ∙ c.if-not-is_module_name.true in
     subst (λ (t : Text). UnloadsName s a.in_switch a.typed.now d (Err (missed (bad_name t)))) (sym c.in_ok-name.ensures.ok)
-    (unloads_misnamed s a.in_switch a.typed.now d (map entry_of c.in_ok-entries.entries.items) c.in_ok-entries.ensures.given no)
+    (unloads_misnamed s a.in_switch a.typed.now d (map entry_view c.in_ok-entries.entries.items) c.in_ok-entries.ensures.given no)
 
 pub returns-in-None-clause-over_tree : goal.returns-in-None-clause-over_tree
 returns-in-None-clause-over_tree g c = λ files listings k.
     let a = c.args.name_request in
-    let s = site_of a.settings files listings in
+    let s = request_context_of a.settings files listings in
     let d = done_view c.args.done.now (g.V.Vars.vars c.args.env.now) in
     let yes : is_module_name a.typed.now ≡ true = sym c.is_module_name.ensures ∙ c.if-not-is_module_name.false in
     let meant = rw c.as_slice.ensures.value at c.in-None.ensures in
-    unloads_meant s a.in_switch a.typed.now d (map entry_of c.in_ok-entries.entries.items) c.in_ok-entries.ensures.given yes None meant (Ok d) refl
+    unloads_meant s a.in_switch a.typed.now d (map entry_view c.in_ok-entries.entries.items) c.in_ok-entries.ensures.given yes None meant (Ok d) refl
 
 pub returns-clause-over_tree : goal.returns-clause-over_tree
 returns-clause-over_tree g c =
     let a = c.args.name_request in
     let e = g.V.Vars.vars c.args.env.now in
     let d = done_view c.args.done.now e in
-    let xs = map entry_of c.in_ok-entries.entries.items in
-    let x = entry_of c.in-Some.entry.now in
+    let xs = map entry_view c.in_ok-entries.entries.items in
+    let x = entry_view c.in-Some.entry.now in
     let rose = g.T.Tree.failures c.args.tree.now < g.T.Tree.failures c.unload_entry.new.tree in
     let yes : is_module_name a.typed.now ≡ true = sym c.is_module_name.ensures ∙ c.if-not-is_module_name.false in
     let meant = rw c.as_slice.ensures.value at c.in-Some.ensures in
     let over_tree = rw c.as_slice-in-Some.ensures.value at c.unload_entry.ensures.over_tree in
     over_tree_same (g.T.Tree.agrees c.unload_entry.new.tree) rose rose (λ (u : Unit {0}). done_view c.unload_entry.new.done (g.V.Vars.vars c.unload_entry.new.env)) c.unload_entry.result
-    (λ files listings. UnloadsEntry (site_of a.settings files listings) a.in_switch a.typed.now d xs x) (λ files listings. UnloadsName (site_of a.settings files listings) a.in_switch a.typed.now d) (λ q. q)
-    (λ files listings o k h. unloads_meant (site_of a.settings files listings) a.in_switch a.typed.now d xs c.in_ok-entries.ensures.given yes (Some x) meant o h) over_tree
+    (λ files listings. UnloadsEntry (request_context_of a.settings files listings) a.in_switch a.typed.now d xs x) (λ files listings. UnloadsName (request_context_of a.settings files listings) a.in_switch a.typed.now d) (λ q. q)
+    (λ files listings o k h. unloads_meant (request_context_of a.settings files listings) a.in_switch a.typed.now d xs c.in_ok-entries.ensures.given yes (Some x) meant o h) over_tree
 
 pub returns-in_err-entries-clause-failed : goal.returns-in_err-entries-clause-failed
 returns-in_err-entries-clause-failed g c =
@@ -71,8 +71,8 @@ pub returns-clause-failed : goal.returns-clause-failed
 returns-clause-failed g c =
     let a = c.args.name_request in
     let d = done_view c.args.done.now (g.V.Vars.vars c.args.env.now) in
-    let xs = map entry_of c.in_ok-entries.entries.items in
-    let x = entry_of c.in-Some.entry.now in
+    let xs = map entry_view c.in_ok-entries.entries.items in
+    let x = entry_view c.in-Some.entry.now in
     let yes : is_module_name a.typed.now ≡ true = sym c.is_module_name.ensures ∙ c.if-not-is_module_name.false in
     let meant = rw c.as_slice.ensures.value at c.in-Some.ensures in
     let before = g.T.Tree.failed c.args.tree.now in

@@ -1,6 +1,6 @@
 use Rattle.std.proofs.Common.{List, ℕ, ◌<◌, map, None, Ok, Err, refl, ap}
 use Rattle.std.proofs.lemmas.Result.{err_from_is_err_and}
-use Rattle.envloaded.specs.LoadedEntries.{entry_of}
+use Rattle.envloaded.specs.LoadedEntries.{entry_view}
 use Rattle.modulefile.specs.Files.{RunsFile}
 use Rattle.search.specs.Answers.{found_view}
 use Rattle.modulerun.specs.Running.{ran_view}
@@ -26,14 +26,14 @@ returns-in_err-found-clause-over_tree g c =
     rw (p.1, p.2) (over_tree_refused (g.T.Tree.agrees c.find_module.new.tree) rose rose found_view verdict_view c.in_err-found.field-0.0
     (λ files listings. Finds (in_sh c.args.limits files listings) e c.args.typed.now)
     (λ files listings. HasVerdict (in_sh c.args.limits files listings) e c.args.typed.now) (λ q. q)
-    (λ files listings r k h. (Ok (map entry_of c.in_ok-entries.entries.items), c.in_ok-entries.ensures.given, (Err r, h, refl)))
+    (λ files listings r k h. (Ok (map entry_view c.in_ok-entries.entries.items), c.in_ok-entries.ensures.given, (Err r, h, refl)))
     c.in_err-found.ensures.over_tree)
 
 pub returns-in_err-ran-clause-over_tree : goal.returns-in_err-ran-clause-over_tree
 returns-in_err-ran-clause-over_tree g c =
     let p = err_from_is_err_and c.from_residual-in_err-ran.result c.from_residual-in_err-ran.ensures.1 in
     let e = g.V.Vars.vars c.args.env.now in
-    let xs = map entry_of c.in_ok-entries.entries.items in
+    let xs = map entry_view c.in_ok-entries.entries.items in
     let m = found_view c.in_ok-found.found in
     let given = rw (c.of-file.ensures.name, c.of-file.ensures.path, c.of-file.ensures.text, c.as_slice.ensures.value) at c.in_err-ran.ensures.given in
     rw (p.1, p.2) (gives_refused (g.T.Tree.agrees c.find_module.new.tree) (g.T.Tree.failures c.args.tree.now < g.T.Tree.failures c.find_module.new.tree)
@@ -44,7 +44,7 @@ returns-in_err-ran-clause-over_tree g c =
 
 pub returns-clause-over_tree : goal.returns-clause-over_tree
 returns-clause-over_tree g c = λ files listings a.
-    let xs = map entry_of c.in_ok-entries.entries.items in
+    let xs = map entry_view c.in_ok-entries.entries.items in
     let m = found_view c.in_ok-found.found in
     let last = g.V.Vars.vars c.evaluate.new.env in
     let given = rw (c.of-file.ensures.name, c.of-file.ensures.path, c.of-file.ensures.text, c.as_slice.ensures.value) at c.in_ok-ran.ensures.given in (
@@ -78,7 +78,7 @@ returns-in_err-ran-clause-failed g c =
     let p = err_from_is_err_and c.from_residual-in_err-ran.result c.from_residual-in_err-ran.ensures.1 in
     let e = g.V.Vars.vars c.args.env.now in
     let m = found_view c.in_ok-found.found in
-    let xs = map entry_of c.in_ok-entries.entries.items in
+    let xs = map entry_view c.in_ok-entries.entries.items in
     let given = rw (c.of-file.ensures.name, c.of-file.ensures.path, c.of-file.ensures.text, c.as_slice.ensures.value) at c.in_err-ran.ensures.given in
     rw (p.1, p.2) (unfailed c.in_err-ran.field-0.0 (λ r. RefusedAs file_refused (RunsFile c.args.limits (verdict_context (in_sh c.args.limits (λ path. None) (λ path. None)) c.args.typed.now m xs e) m.text) (Err r))
     (g.T.Tree.failed c.args.tree.now) (g.T.Tree.failed c.find_module.new.tree) _ given c.in_ok-found.ensures.failed)

@@ -43,7 +43,7 @@ returns-in-Some-clause-over_tree g c = λ files listings a.
 pub loop-dir-preserved : goal.loop-dir-preserved
 unfolding nothing
 loop-dir-preserved g c = record {
-  reads = record { narrows = λ files listings a. c.loop-dir.invariant.reads.narrows files listings (c.module_below.ensures.reads.narrows files listings a); later = omega arith };
+  reads = record { narrows = λ files listings a. c.loop-dir.invariant.reads.narrows files listings (c.module_below.ensures.reads.narrows files listings a); counts_failures = omega arith };
   none_yet = λ files listings a o k.
       let results = g.D.DefaultFiles.results c.args.default_files.now in
       let name = c.args.name.now in

@@ -75,7 +75,7 @@ returns-in_err-modules-clause-failed g c =
 pub loop-dir-preserved : goal.loop-dir-preserved
 unfolding nothing
 loop-dir-preserved g c = record {
-  reads = record { narrows = λ files folders a. c.loop-dir.invariant.reads.narrows files folders (c.modules_of.ensures.narrows files folders a); later = omega arith };
+  reads = record { narrows = λ files folders a. c.loop-dir.invariant.reads.narrows files folders (c.modules_of.ensures.narrows files folders a); counts_failures = omega arith };
   so_far = λ files folders a more h.
       let results = g.D.DefaultFiles.results c.args.default_files.now in
       let b = c.modules_of.ensures.narrows files folders a in

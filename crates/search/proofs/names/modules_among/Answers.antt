@@ -35,7 +35,7 @@ returns-clause-failed g c = c.loop-name.invariant.unfailed
 
 pub loop-name-preserved : goal.loop-name-preserved
 loop-name-preserved g c = record {
-  reads = record { narrows = λ files folders a. c.loop-name.invariant.reads.narrows files folders (c.is_module_below.ensures.narrows files folders a); later = omega arith };
+  reads = record { narrows = λ files folders a. c.loop-name.invariant.reads.narrows files folders (c.is_module_below.ensures.narrows files folders a); counts_failures = omega arith };
   so_far = λ files folders a.
       let so_far = c.loop-name.invariant.so_far files folders (c.is_module_below.ensures.narrows files folders a) in
       let here = c.in_ok-is_module_below.ensures.answer files folders a in

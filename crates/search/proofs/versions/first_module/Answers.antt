@@ -13,7 +13,7 @@ nothing = record { ref_ptr = (0, 0); now = [] }
 pub loop-version-preserved : goal.loop-version-preserved
 unfolding nothing
 loop-version-preserved g c = record {
-  reads = record { narrows = λ files listings a. c.loop-version.invariant.reads.narrows files listings (c.is_module_in.ensures.narrows files listings a); later = omega arith };
+  reads = record { narrows = λ files listings a. c.loop-version.invariant.reads.narrows files listings (c.is_module_in.ensures.narrows files listings a); counts_failures = omega arith };
   none_yet = λ files listings a.
       c.loop-version.invariant.none_yet files listings (c.is_module_in.ensures.narrows files listings a)
       ∙ find_later (is_module_in files c.args.dir.now c.args.name.now) _ _ _ (first_of (λ v. v.now) nothing c.args.versions.now c.loop-version.version-index c.loop-version-test.true)

@@ -25,16 +25,16 @@ loop-name-preserved g c =
     record {
       reads = record {
         narrows = λ files listings agreed. c.loop-name.invariant.reads.narrows files listings (c.verdict-answer.ensures.reads.narrows files listings agreed);
-        later = omega (arith, c.loop-name.invariant.reads.later, c.verdict-answer.ensures.reads.later);
+        counts_failures = omega (arith, c.loop-name.invariant.reads.counts_failures, c.verdict-answer.ensures.reads.counts_failures);
       };
       failures = subst Counted (sym items) (failures_more first was is sofar judgment c.loop-name.invariant.failures
-          (verdict_counts agrees was is c.verdict-answer.result _ c.verdict-answer.ensures.reads.later c.verdict-answer.ensures.judged));
+          (verdict_counts agrees was is c.verdict-answer.result _ c.verdict-answer.ensures.reads.counts_failures c.verdict-answer.ensures.judged));
       judged = subst (λ ns. Are ns c.push.new.self.items) (sym grown) (subst (Are (done ++ name ∷ [])) (sym items)
           (judgments_push agrees (first < is) c.args.limits c.args.env.now done sofar name judgment
           (judgments_narrowed (g.T.Tree.agrees c.loop-name.tree) agrees (first < was) (first < is) c.args.limits c.args.env.now done sofar c.verdict-answer.ensures.reads.narrows
-          (λ h. more_below first was is h c.verdict-answer.ensures.reads.later) c.loop-name.invariant.judged)
+          (λ h. more_below first was is h c.verdict-answer.ensures.reads.counts_failures) c.loop-name.invariant.judged)
           (judged_name agrees (was < is) (first < is) c.args.limits c.args.env.now _ judgment c.in_ok-full_name.ensures.ok
-          (λ h. below_more first was is c.loop-name.invariant.reads.later h) c.verdict-answer.ensures.judged)));
+          (λ h. below_more first was is c.loop-name.invariant.reads.counts_failures h) c.verdict-answer.ensures.judged)));
     }
 
 pub returns-clause-judged : goal.returns-clause-judged

@@ -4,7 +4,7 @@ use Rattle.envvars.specs.Texts.{Text, texts_in}
 use Rattle.requests.specs.Sessions.{end_environment}
 use Rattle.requeststep.proofs.EachLemmas.{split_at}
 use Rattle.modules.specs.declared.sessions.Outcome.{Outcome}
-use Rattle.requests.specs.Steps.{site_in}
+use Rattle.requests.specs.Steps.{request_context_in}
 use Rattle.modules.specs.Responses.{count_failed, response_of, responses}
 use Rattle.modules.proofs.SessionLemmas.{failures_push, session_grows}
 use Rattle.sessioncheck.specs.Sessions.{LineSession}
@@ -31,12 +31,12 @@ loop-words-preserved g c =
           subst End (sym items) (session_grows start before_it new sofar outcome (c.loop-words.invariant.end files listings was) (c.respond_to-outcome.ensures.end files listings agreed)).0;
       ran = λ files listings agreed os more.
           let was = c.respond_to-outcome.ensures.narrows files listings agreed in
-          let site = site_in c.args.limits c.args.shell files listings in
+          let context = request_context_in c.args.limits c.args.shell files listings in
           let all = map texts_in c.args.lines.now in
-          let Ran : List Outcome → Type 0 = λ xs. LineSession site start all (responses start xs ++ os) in
-          let From : List (List Text) → Type 0 = λ rs. LineSession site before_it rs (response_of before_it outcome ∷ os) in
+          let Ran : List Outcome → Type 0 = λ xs. LineSession context start all (responses start xs ++ os) in
+          let From : List (List Text) → Type 0 = λ rs. LineSession context before_it rs (response_of before_it outcome ∷ os) in
           subst Ran (sym items)
-          (lines_taken site start before_it new (texts_in c.words-item.result) (map texts_in (drop (i + 1) lines)) all (responses start sofar) (responses start (sofar ++ outcome ∷ [])) (response_of before_it outcome) os
+          (lines_taken context start before_it new (texts_in c.words-item.result) (map texts_in (drop (i + 1) lines)) all (responses start sofar) (responses start (sofar ++ outcome ∷ [])) (response_of before_it outcome) os
           (λ h. c.loop-words.invariant.ran files listings was (response_of before_it outcome ∷ os) (subst From (sym (split_at texts_in lines i c.words-item.result c.loop-words-test.true c.words-item.is)) h))
           (rw c.as_slice.ensures.value at c.respond_to-outcome.ensures.answer files listings agreed) (c.respond_to-outcome.ensures.end files listings agreed)
           (session_grows start before_it new sofar outcome (c.loop-words.invariant.end files listings was) (c.respond_to-outcome.ensures.end files listings agreed)).1 more);
@@ -45,5 +45,5 @@ loop-words-preserved g c =
 pub returns-clause-ran : goal.returns-clause-ran
 returns-clause-ran g c =
     λ files listings agreed.
-    lines_done texts_in (site_in c.args.limits c.args.shell files listings) c.args.env.now c.loop-words.env (drop c.loop-words.words-index c.args.lines.now) (map texts_in c.args.lines.now) (responses c.args.env.now c.loop-words.outcomes.items)
+    lines_done texts_in (request_context_in c.args.limits c.args.shell files listings) c.args.env.now c.loop-words.env (drop c.loop-words.words-index c.args.lines.now) (map texts_in c.args.lines.now) (responses c.args.env.now c.loop-words.outcomes.items)
     (drop_of_length-le c.args.lines.now c.loop-words-test.false) (c.loop-words.invariant.ran files listings agreed)

@@ -7,7 +7,7 @@ use Rattle.tclscript.proofs.Ends.{end_through}
 use Rattle.tclexpr.specs.declared.operators.Mark.TheVariants as marks
 use Rattle.tclexpr.specs.Grammar.{level}
 use Rattle.tclexpr.specs.Marks.{mark_at}
-use Rattle.tclexpr.specs.Reading.{is_colon, is_open, is_question, chain_at, below_at}
+use Rattle.tclexpr.specs.Reading.{is_colon, is_open, is_question_mark, chain_at, below_at}
 use Rattle.tclexpr.specs.Operands.{operand_at}
 use Rattle.tclexpr.specs.View.{with_height_view}
 use Rattle.tclexpr.proofs.Results.{found_once, found_none}
@@ -220,7 +220,7 @@ pub read_whole-returns-in_default : goal.read_whole-returns-in_default
 read_whole-returns-in_default g t c =
     let none : mark_at c.skip_white.result.now ≡ None = sym c.in_default.ensures in
     whole-ends c.args.depth c.args.text.now (with_height_view (g.S.Source.shown c.args.source.now) c.in_ok-condition.condition) c.in_ok-condition.rest.now c.skip_white.result.now c.in_ok-condition.ensures c.skip_white.ensures
-    (λ after is. found_none (mark_at c.skip_white.result.now) marks.Question after none is)
+    (λ after is. found_none (mark_at c.skip_white.result.now) marks.QuestionMark after none is)
 
 pub read_whole-read_branches-requires : goal.read_whole-read_branches-requires
 read_whole-read_branches-requires g t c =
@@ -234,17 +234,17 @@ read_whole-read_branches-requires g t c =
     in
     search rules
 
-pub read_whole-returns-then-is_question : goal.read_whole-returns-then-is_question
-read_whole-returns-then-is_question g t c =
+pub read_whole-returns-then-is_question_mark : goal.read_whole-returns-then-is_question_mark
+read_whole-returns-then-is_question_mark g t c =
     let found : mark_at c.skip_white.result.now ≡ Some (c.in-Some.mark, c.in-Some.following.now) = sym c.in-Some.ensures in
-    let asks : is_question c.in-Some.mark ≡ true = sym c.is_question.ensures ∙ c.if-is_question.true in
+    let asks : is_question_mark c.in-Some.mark ≡ true = sym c.is_question_mark.ensures ∙ c.if-is_question_mark.true in
     subst (λ r. Gives stopped_by (λ x. (with_height_view (g.S.Source.shown c.args.source.now) x.0, x.1.now)) c.read_branches.result r)
     (sym (whole-asks c.args.depth c.args.text.now (with_height_view (g.S.Source.shown c.args.source.now) c.in_ok-condition.condition) c.in_ok-condition.rest.now c.skip_white.result.now c.in-Some.following.now
     c.in_ok-condition.ensures c.skip_white.ensures (found ∙ ap (λ m. Some (m, c.in-Some.following.now)) (question_is c.in-Some.mark asks)))) c.read_branches.ensures
 
-pub read_whole-returns-else-is_question : goal.read_whole-returns-else-is_question
-read_whole-returns-else-is_question g t c =
+pub read_whole-returns-else-is_question_mark : goal.read_whole-returns-else-is_question_mark
+read_whole-returns-else-is_question_mark g t c =
     let found : mark_at c.skip_white.result.now ≡ Some (c.in-Some.mark, c.in-Some.following.now) = sym c.in-Some.ensures in
-    let other : is_question c.in-Some.mark ≡ false = sym c.is_question.ensures ∙ c.if-is_question.false in
+    let other : is_question_mark c.in-Some.mark ≡ false = sym c.is_question_mark.ensures ∙ c.if-is_question_mark.false in
     whole-ends c.args.depth c.args.text.now (with_height_view (g.S.Source.shown c.args.source.now) c.in_ok-condition.condition) c.in_ok-condition.rest.now c.skip_white.result.now c.in_ok-condition.ensures c.skip_white.ensures
-    (λ after is. true_false (sym (ap is_question (found_once (mark_at c.skip_white.result.now) c.in-Some.mark marks.Question c.in-Some.following.now after found is).0) ∙ other))
+    (λ after is. true_false (sym (ap is_question_mark (found_once (mark_at c.skip_white.result.now) c.in-Some.mark marks.QuestionMark c.in-Some.following.now after found is).0) ∙ other))

@@ -6,29 +6,29 @@ use Rattle.tclsubstitution.specs.Machine.{range_text}
 use Rattle.tclsubstitution.proofs.Trees.{on_top}
 use Rattle.tclsubstitution.proofs.substitution.operand.Goals as goal
 
-pub piece-requires-text-source : goal.piece-requires-text-source
-piece-requires-text-source g c = search rules
+pub source_text-requires-text-source : goal.source_text-requires-text-source
+source_text-requires-text-source g c = search rules
 
-pub piece-requires-in-Indexed-text-source : goal.piece-requires-in-Indexed-text-source
-piece-requires-in-Indexed-text-source g c = search rules
+pub source_text-requires-in-Indexed-text-source : goal.source_text-requires-in-Indexed-text-source
+source_text-requires-in-Indexed-text-source g c = search rules
 
-pub piece-requires-in-Braced-text-source : goal.piece-requires-in-Braced-text-source
-piece-requires-in-Braced-text-source g c = search rules
+pub source_text-requires-in-Braced-text-source : goal.source_text-requires-in-Braced-text-source
+source_text-requires-in-Braced-text-source g c = search rules
 
-pub piece-requires-in-Word-text-source : goal.piece-requires-in-Word-text-source
-piece-requires-in-Word-text-source g c = search rules
+pub source_text-requires-in-Word-text-source : goal.source_text-requires-in-Word-text-source
+source_text-requires-in-Word-text-source g c = search rules
 
 pub returns-in_err-value-in-Variable : goal.returns-in_err-value-in-Variable
 returns-in_err-value-in-Variable g c =
     let v = ap (operand_view (range_text c.args.context.source.now)) c.in-Variable.is in
     let p = err_from_is_err_and c.from_residual-in_err-value-in-Variable.result c.from_residual-in_err-value-in-Variable.ensures.1 in
-    let h = rw c.piece-in-Variable.ensures at c.in_err-value-in-Variable.ensures in
+    let h = rw c.source_text-in-Variable.ensures at c.in_err-value-in-Variable.ensures in
     rw (p.1, p.2, v) (λ most used remaining r k. h most used r _, tt)
 
 pub returns-in_ok-value-in-Variable : goal.returns-in_ok-value-in-Variable
 returns-in_ok-value-in-Variable g c =
     let v = ap (operand_view (range_text c.args.context.source.now)) c.in-Variable.is in
-    let h = rw c.piece-in-Variable.ensures at c.in_ok-value-in-Variable.ensures in
+    let h = rw c.source_text-in-Variable.ensures at c.in_ok-value-in-Variable.ensures in
     rw v (λ most used remaining r k. h most used r _, omega arith)
 
 pub returns-in_err-push_frame-in-Indexed : goal.returns-in_err-push_frame-in-Indexed
@@ -40,7 +40,7 @@ pub returns-in_ok-push_frame-in-Indexed : goal.returns-in_ok-push_frame-in-Index
 returns-in_ok-push_frame-in-Indexed g c =
     let v = ap (operand_view (range_text c.args.context.source.now)) c.in-Indexed.is in
     let t = on_top _ _ _ c.in_ok-push_frame-in-Indexed.ensures.ok in
-    rw (v, t, c.new.ensures.bytes, c.piece-in-Indexed.ensures, c.deref.ensures.value) (λ most used remaining r k. stay, omega arith)
+    rw (v, t, c.new.ensures.bytes, c.source_text-in-Indexed.ensures, c.deref.ensures.value) (λ most used remaining r k. stay, omega arith)
 
 pub returns-in-Bracket : goal.returns-in-Bracket
 returns-in-Bracket g c =
@@ -60,10 +60,10 @@ returns-in_err-braced-in-Braced g c =
 pub returns-in_ok-braced-in-Braced : goal.returns-in_ok-braced-in-Braced
 returns-in_ok-braced-in-Braced g c =
     let v = ap (operand_view (range_text c.args.context.source.now)) c.in-Braced.is in
-    rw (v, c.in_ok-braced-in-Braced.ensures.ok, c.piece-in-Braced.ensures) (λ most used remaining r k. stay, omega arith)
+    rw (v, c.in_ok-braced-in-Braced.ensures.ok, c.source_text-in-Braced.ensures) (λ most used remaining r k. stay, omega arith)
 
-pub piece-requires-in-Variable-text-source : goal.piece-requires-in-Variable-text-source
-piece-requires-in-Variable-text-source g c = search rules
+pub source_text-requires-in-Variable-text-source : goal.source_text-requires-in-Variable-text-source
+source_text-requires-in-Variable-text-source g c = search rules
 
 pub returns-in_err-copy-in-Number : goal.returns-in_err-copy-in-Number
 returns-in_err-copy-in-Number g c =
@@ -73,7 +73,7 @@ returns-in_err-copy-in-Number g c =
 pub returns-in_ok-copy-in-Number : goal.returns-in_ok-copy-in-Number
 returns-in_ok-copy-in-Number g c =
     let v = ap (operand_view (range_text c.args.context.source.now)) c.in-Number.is in
-    rw (v, c.in_ok-copy-in-Number.ensures.ok, c.piece.ensures) (λ most used remaining r k. stay, omega arith)
+    rw (v, c.in_ok-copy-in-Number.ensures.ok, c.source_text.ensures) (λ most used remaining r k. stay, omega arith)
 
 pub returns-in_err-copy-in-Word : goal.returns-in_err-copy-in-Word
 returns-in_err-copy-in-Word g c =
@@ -83,4 +83,4 @@ returns-in_err-copy-in-Word g c =
 pub returns-in_ok-copy-in-Word : goal.returns-in_ok-copy-in-Word
 returns-in_ok-copy-in-Word g c =
     let v = ap (operand_view (range_text c.args.context.source.now)) c.in-Word.is in
-    rw (v, c.in_ok-copy-in-Word.ensures.ok, c.piece-in-Word.ensures) (λ most used remaining r k. stay, omega arith)
+    rw (v, c.in_ok-copy-in-Word.ensures.ok, c.source_text-in-Word.ensures) (λ most used remaining r k. stay, omega arith)

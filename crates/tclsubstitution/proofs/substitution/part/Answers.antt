@@ -6,22 +6,22 @@ use Rattle.tclsubstitution.specs.Machine.{range_text}
 use Rattle.tclsubstitution.proofs.Trees.{view-Literal, view-Braced, view-Backslash, view-Variable, view-Indexed, view-Bracket, on_top, less_more}
 use Rattle.tclsubstitution.proofs.substitution.part.Goals as goal
 
-pub piece-requires-text-source : goal.piece-requires-text-source
-piece-requires-text-source g c = search rules
+pub source_text-requires-text-source : goal.source_text-requires-text-source
+source_text-requires-text-source g c = search rules
 
-pub piece-requires-in-Braced-text-source : goal.piece-requires-in-Braced-text-source
-piece-requires-in-Braced-text-source g c = search rules
+pub source_text-requires-in-Braced-text-source : goal.source_text-requires-in-Braced-text-source
+source_text-requires-in-Braced-text-source g c = search rules
 
-pub piece-requires-in-Variable-text-source : goal.piece-requires-in-Variable-text-source
-piece-requires-in-Variable-text-source g c = search rules
+pub source_text-requires-in-Variable-text-source : goal.source_text-requires-in-Variable-text-source
+source_text-requires-in-Variable-text-source g c = search rules
 
-pub piece-requires-in-Indexed-text-source : goal.piece-requires-in-Indexed-text-source
-piece-requires-in-Indexed-text-source g c = search rules
+pub source_text-requires-in-Indexed-text-source : goal.source_text-requires-in-Indexed-text-source
+source_text-requires-in-Indexed-text-source g c = search rules
 
 pub returns-in-Literal : goal.returns-in-Literal
 returns-in-Literal g c =
     let v = ap (part_view (range_text c.args.context.source.now)) c.in-Literal.is ∙ view-Literal (range_text c.args.context.source.now) c.in-Literal.range in
-    let h = rw c.piece.ensures at c.append_piece.ensures in
+    let h = rw c.source_text.ensures at c.append_piece.ensures in
     rw v (h.0, less_more _ _ _ _ _ h.1 (omega arith))
 
 pub returns-in_err-value-in-Braced : goal.returns-in_err-value-in-Braced
@@ -32,7 +32,7 @@ returns-in_err-value-in-Braced g c =
 pub returns-in_ok-value-in-Braced : goal.returns-in_ok-value-in-Braced
 returns-in_ok-value-in-Braced g c =
     let v = ap (part_view (range_text c.args.context.source.now)) c.in-Braced.is ∙ view-Braced (range_text c.args.context.source.now) c.in-Braced.range in
-    let h = rw (c.as_str.ensures.value, c.in_ok-value-in-Braced.ensures.ok, c.piece-in-Braced.ensures) at c.append_piece-in-Braced.ensures in
+    let h = rw (c.as_str.ensures.value, c.in_ok-value-in-Braced.ensures.ok, c.source_text-in-Braced.ensures) at c.append_piece-in-Braced.ensures in
     rw v (h.0, less_more _ _ _ _ _ h.1 (omega arith))
 
 pub returns-in_err-value-in-Backslash : goal.returns-in_err-value-in-Backslash
@@ -50,13 +50,13 @@ pub returns-in_err-value-in-Variable : goal.returns-in_err-value-in-Variable
 returns-in_err-value-in-Variable g c =
     let v = ap (part_view (range_text c.args.context.source.now)) c.in-Variable.is ∙ view-Variable (range_text c.args.context.source.now) c.in-Variable.name in
     let p = err_from_is_err_and c.from_residual-in_err-value-in-Variable.result c.from_residual-in_err-value-in-Variable.ensures.1 in
-    let h = rw c.piece-in-Variable.ensures at c.in_err-value-in-Variable.ensures in
+    let h = rw c.source_text-in-Variable.ensures at c.in_err-value-in-Variable.ensures in
     rw (p.1, p.2, v) (λ most used remaining r k. h most used r _, tt)
 
 pub returns-in_ok-value-in-Variable : goal.returns-in_ok-value-in-Variable
 returns-in_ok-value-in-Variable g c =
     let v = ap (part_view (range_text c.args.context.source.now)) c.in-Variable.is ∙ view-Variable (range_text c.args.context.source.now) c.in-Variable.name in
-    let f = rw c.piece-in-Variable.ensures at c.in_ok-value-in-Variable.ensures in
+    let f = rw c.source_text-in-Variable.ensures at c.in_ok-value-in-Variable.ensures in
     let h = rw c.as_str-in-Variable.ensures.value at c.append_piece-in-Variable.ensures in
     rw v (λ most used remaining r k. continue_with (f most used r _) (h.0 most used remaining r k), less_more _ _ _ _ _ h.1 (omega arith))
 
@@ -75,7 +75,7 @@ returns-in_ok-push_frame-in-Indexed-2 g c =
     let v = ap (part_view (range_text c.args.context.source.now)) c.in-Indexed.is ∙ view-Indexed (range_text c.args.context.source.now) c.in-Indexed.name c.in-Indexed.index in
     let t = on_top _ _ _ c.in_ok-push_frame-in-Indexed-2.ensures.ok in
     let u = on_top _ _ _ c.in_ok-push_frame-in-Indexed.ensures.ok in
-    rw (v, t, u, c.new.ensures.bytes, c.piece-in-Indexed.ensures, c.deref.ensures.value) (λ most used remaining r k. stay, omega arith)
+    rw (v, t, u, c.new.ensures.bytes, c.source_text-in-Indexed.ensures, c.deref.ensures.value) (λ most used remaining r k. stay, omega arith)
 
 pub returns-in_err-push_frame-in-Bracket : goal.returns-in_err-push_frame-in-Bracket
 returns-in_err-push_frame-in-Bracket g c =

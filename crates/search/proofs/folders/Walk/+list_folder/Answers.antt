@@ -28,7 +28,7 @@ returns-in_default-clause-added g t c = λ files folders a.
 
 pub loop-name-init : goal.loop-name-init
 loop-name-init g t c = record {
-  reads = record { narrows = λ files folders a. a; later = omega arith };
+  reads = record { narrows = λ files folders a. a; counts_failures = omega arith };
   walked = λ files folders a.
       let f = c.in_ok-list_files.ensures.added files folders a in (
         f.0,
@@ -61,7 +61,7 @@ loop-name-preserved g t c =
     let names = c.deref-name-items.result.now in
     let done = map string_bytes (take c.loop-name.name-index names) in
     let name = c.as_str.result.now in record {
-      reads = record { narrows = λ files folders a. c.loop-name.invariant.reads.narrows files folders (c.list_folder.ensures.narrows files folders a); later = omega arith };
+      reads = record { narrows = λ files folders a. c.loop-name.invariant.reads.narrows files folders (c.list_folder.ensures.narrows files folders a); counts_failures = omega arith };
       walked = λ files folders a.
           let v = c.loop-name.invariant.walked files folders (c.list_folder.ensures.narrows files folders a) in
           let m = c.in_ok-list_folder.ensures.added files folders a in
@@ -131,4 +131,4 @@ returns-clause-added g t c = λ files folders a.
     )
 
 pub returns-clause-cause : goal.returns-clause-cause
-returns-clause-cause g t c = record { later = omega arith; device = search rules }
+returns-clause-cause g t c = record { counts_failures = omega arith; device = search rules }

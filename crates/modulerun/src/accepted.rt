@@ -3,7 +3,7 @@ use modulefile::Record;
 
 /// An accepted command: its words, and its record.
 #[derive(Drop)]
-pub(crate) struct Entry {
+pub(crate) struct AcceptedCommand {
     pub words: Vec<String>,
     pub recorded: Record,
 }

@@ -1,6 +1,6 @@
-//! Questions about what a process is given and what a disk answers, each by its first word.
+//! Lines about what a process is given and what a disk answers, each by its first word.
 
-use crate::texts::parted;
+use crate::texts::first_word;
 use crate::{disks, processes, trees};
 use filetree::{DiskTree, MemoryTree};
 use std::io;
@@ -12,10 +12,10 @@ fn answer_to(
     memory: &mut MemoryTree,
     line: &str,
 ) -> io::Result<String> {
-    let (what, rest) = parted(line);
+    let (what, rest) = first_word(line);
     match what {
         "disk" => disks::answer(rt, disk, rest),
-        "told" => Ok(disks::scripted_answer(rt, rest)?),
+        "scripted" => Ok(disks::scripted_answer(rt, rest)?),
         "begins" => Ok(disks::begins_answer(rt, rest)?),
         "memory" => Ok(trees::answer(rt.alloc(), memory, rest)?),
         "process" => Ok(processes::answer(rt, rest)?),
