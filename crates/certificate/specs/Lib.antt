@@ -1,0 +1,4 @@
+pub mod RecordUses
+pub mod Clashes
+pub mod Certificates
+pub mod Laws

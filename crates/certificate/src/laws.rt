@@ -1,0 +1,1 @@
+//! Laws of certificates. Each function does nothing: its contract is the law.

@@ -1,0 +1,6 @@
+//! Which modules of a site need no judgement: the certificate of a list of modules, and the starts that agree with it.
+//! Touches nothing: these are definitions and laws, without code.
+//! Used by the crates that judge whole sites.
+#![tactic(auto)]
+
+pub mod laws;
