@@ -1,0 +1,7 @@
+mod UsedLemmas
+mod RecordLemmas
+mod OneUse
+mod Exact
+mod Variables
+mod Moments
+mod Runs

@@ -1,1 +1,28 @@
 //! Laws of certificates. Each function does nothing: its contract is the law.
+ghost use Rattle.certificate.specs.Laws.{CertifiedAreExact, CertifiedRunsStand, CertifiedMovesPreserve};
+
+/// The test of which modules of a list are certified finds exactly those of the definition.
+pub fn certified()
+    ensures { CertifiedAreExact }
+{}
+
+/// From a start that agrees with the certificate of a list of modules, accepted loads of certified modules, none beside
+/// one that it is in conflict with, and unloads of these, in whatever order: after each of them the environment is in
+/// order, and is the start with the live modules layered on it; where none is live it is the start, and the maps are
+/// equal. Nothing is asked of how the modules use variables together, since that follows from the certificate: and what
+/// uses a variable may change from moment to moment.
+pub fn runs()
+    ensures { CertifiedRunsStand }
+{
+    reversal::laws::runs();
+    reversal::laws::steps();
+}
+
+/// The same from any environment in order that is such a start with certified modules layered on it, whatever was
+/// before: this is what one command needs, which knows no history.
+pub fn steps()
+    ensures { CertifiedMovesPreserve }
+{
+    reversal::laws::runs();
+    reversal::laws::steps();
+}
