@@ -5,3 +5,4 @@ mod Exact
 mod Variables
 mod Moments
 mod Runs
+mod Lost

@@ -2,3 +2,4 @@ pub mod RecordUses
 pub mod Clashes
 pub mod Certificates
 pub mod Laws
+pub mod Examples

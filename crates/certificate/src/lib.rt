@@ -3,4 +3,5 @@
 //! Used by the crates that judge whole sites.
 #![tactic(auto)]
 
+pub mod examples;
 pub mod laws;
