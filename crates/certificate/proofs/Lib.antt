@@ -6,3 +6,4 @@ mod Variables
 mod Moments
 mod Runs
 mod Lost
+mod OneModule

@@ -1,16 +1,17 @@
 -- Worked examples of certificates (own), each of two modules: which of them are certified, by each rule in turn. And what
 -- is lost where a rule is left out.
-use Rattle.std.specs.Prelude.{◌≡◌, true, List, [], ◌∷◌, ◌++◌, codes, Some}
+use Rattle.std.specs.Prelude.{◌≡◌, true, List, [], ◌∷◌, ◌++◌, codes, Some, None}
 use Rattle.envvars.specs.Texts.{Text}
-use Rattle.envvars.specs.Environment.{Environment}
+use Rattle.envvars.specs.Environment.{Environment, lookup}
 use Rattle.envvars.specs.Fields.{colon}
 use Rattle.modulerecords.specs.Records.{Record, Set, Unset, Push, Front, Back, Remove, Conflict}
 use Rattle.modulerecords.specs.Moves.{Module, Move, Loads, Unloads, MovesReach}
 use Rattle.reversal.specs.VariableUses.{VariableUse}
 use Rattle.reversal.specs.Starts.{IsStartWith}
 use Rattle.reversal.specs.Runs.{live_after}
+use Rattle.reversal.specs.Losses.{ThereAndBack}
 use Rattle.reversal.specs.Examples.{Lose, held, first_module, second_module, variable, crossed, add_front, push_value}
-use Rattle.certificate.specs.RecordUses.{used_by_modules, modulepath, uses_by}
+use Rattle.certificate.specs.RecordUses.{used_by, used_by_modules, modulepath, uses_by}
 use Rattle.certificate.specs.Clashes.{agree_at_start}
 use Rattle.certificate.specs.Certificates.{certified, AgreesWithUse, AgreesWith}
 
@@ -214,6 +215,15 @@ LoseByBothSet =
     LoseBetween (first (sets (codes "x") ∷ []) ∷ second (sets (codes "y") ∷ []) ∷ []) (held [])
     (Loads (first (sets (codes "x") ∷ [])) ∷ Loads (second (sets (codes "y") ∷ []))
     ∷ Unloads (first (sets (codes "x") ∷ [])) ∷ [])
+
+-- One module with two uses of a variable: it sets it, and then pushes a value. After a load and its unload the variable
+-- has the value that was set, though it was unset in a start that agrees with both uses.
+abbrev pub SetAndPushLeaveValue : Type 0
+SetAndPushLeaveValue =
+    (owner v value pushed : Text) (start end : Environment)
+    → AgreesWith (used_by (Set v value ∷ Push v pushed ∷ [])) start
+    → ThereAndBack owner (Set v value ∷ Push v pushed ∷ []) start end
+    → (lookup start v ≡ None) × (lookup end v ≡ Some value)
 
 -- No start agrees with two uses that don't agree there.
 abbrev pub StartsAgree : Type 0

@@ -3,7 +3,7 @@ ghost use Rattle.certificate.specs.Examples.{OneDelimiter, OneStack, TwoDelimite
 ghost use Rattle.certificate.specs.Examples.{FirstInConflict, SecondInConflict, ConflictByPart, ConflictByLetters, ConflictWithAnother, TwoVersions, TwoFiles};
 ghost use Rattle.certificate.specs.Examples.{SetAndPushed, ExclusiveDelimiters, SetAndUnset, TwoValues, TwoFilesAndValues, OneValue};
 ghost use Rattle.certificate.specs.Examples.{TwoUses, DelimitersInOne, ValuesInOne, ModulepathPushed, ModulepathParted, ModulepathExtended, OneWay};
-ghost use Rattle.certificate.specs.Examples.{LoseByDelimiters, LoseByPathAndStack, LoseBySetAndPush, LoseByUnsetAndPush, LoseByBothSet, StartsAgree};
+ghost use Rattle.certificate.specs.Examples.{LoseByDelimiters, LoseByPathAndStack, LoseBySetAndPush, LoseByUnsetAndPush, LoseByBothSet, SetAndPushLeaveValue, StartsAgree};
 
 /// Two modules that don't exclude each other use one variable.
 pub fn clashes()
@@ -49,13 +49,15 @@ pub fn out_of_step()
 {}
 
 /// Why uses clash: a start agrees with those of two modules, the loads and unloads of both are accepted, and the start is
-/// lost, or the value of a module that stays. And no start agrees with two uses that don't agree there.
+/// lost, or the value of a module that stays. One module with two uses of a variable loses it alone. And no start agrees
+/// with two uses that don't agree there.
 pub fn clashes_matter()
     ensures delimiters { LoseByDelimiters }
     ensures path_and_stack { LoseByPathAndStack }
     ensures set_and_push { LoseBySetAndPush }
     ensures unset_and_push { LoseByUnsetAndPush }
     ensures both_set { LoseByBothSet }
+    ensures two_uses { SetAndPushLeaveValue }
     ensures starts { StartsAgree }
 {
     reversal::examples::uses();

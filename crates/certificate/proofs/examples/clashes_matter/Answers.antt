@@ -1,4 +1,5 @@
 use Rattle.certificate.proofs.Lost.{by_delimiters, by_path_and_stack, by_set_and_push, by_unset_and_push, by_both_set, starts_agree}
+use Rattle.certificate.proofs.OneModule.{leave_value}
 use Rattle.certificate.proofs.examples.clashes_matter.Goals as goal
 
 pub returns-clause-delimiters : goal.returns-clause-delimiters
@@ -18,3 +19,6 @@ returns-clause-both_set c = by_both_set c.uses.ensures.set_by_two
 
 pub returns-clause-starts : goal.returns-clause-starts
 returns-clause-starts c = starts_agree
+
+pub returns-clause-two_uses : goal.returns-clause-two_uses
+returns-clause-two_uses c = leave_value
