@@ -7,3 +7,4 @@ mod Moments
 mod Runs
 mod Lost
 mod OneModule
+mod Recorded

@@ -4,6 +4,7 @@ use Rattle.std.specs.List.{list_any}
 use Rattle.std.specs.Option.{option_eq}
 use Rattle.modulename.specs.ModuleName.{means}
 use Rattle.envvars.specs.Texts.{Text}
+use Rattle.envloaded.specs.Loaded.{Entry}
 use Rattle.modulerecords.specs.Records.{conflict_names}
 use Rattle.modulerecords.specs.Moves.{Module}
 use Rattle.reversal.specs.VariableUses.{VariableUse, Fixed, Pathed, Stacked}
@@ -16,6 +17,11 @@ names_in_conflict m n = list_any (λ name. means name n.name) (conflict_names m.
 -- the modules are in conflict: one of them names the other, whichever it is
 abbrev pub in_conflict : Module → Module → Bool
 in_conflict m n = names_in_conflict m n || names_in_conflict n m
+
+-- The same of a module and the entry that another has in the loaded list, where its conflicts are recorded.
+abbrev pub in_conflict_with_entry : Module → Entry → Bool
+in_conflict_with_entry m x =
+    list_any (λ name. means name x.name) (conflict_names m.records) || list_any (λ name. means name m.name) x.conflicts
 
 -- The modules exclude each other, so that they are never loaded at once: they have one name, or are in conflict.
 abbrev pub exclude : Module → Module → Bool

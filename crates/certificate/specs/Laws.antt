@@ -1,12 +1,15 @@
 -- The laws of certificates (own).
 use Rattle.std.specs.Prelude.{◌≡◌, false, ◌↔◌, List, [], ◌∷◌, ◌++◌}
+use Rattle.std.specs.List.{list_any}
 use Rattle.envvars.specs.Environment.{Environment}
+use Rattle.envloaded.specs.Loaded.{Entry}
 use Rattle.modulerecords.specs.Moves.{Module, Move, Loads, Unloads, MovesReach}
+use Rattle.reversal.specs.Live.{entries_over}
 use Rattle.reversal.specs.Starts.{IsInOrder, IsStartWith}
 use Rattle.reversal.specs.Runs.{without_live, live_after, Undoes}
 use Rattle.reversal.specs.Laws.{Holds}
 use Rattle.certificate.specs.RecordUses.{IsAmong, uses_by}
-use Rattle.certificate.specs.Clashes.{in_conflict, exclude}
+use Rattle.certificate.specs.Clashes.{in_conflict, in_conflict_with_entry, exclude}
 use Rattle.certificate.specs.Certificates.{IsCertified, certified, certificate, AgreesWith}
 
 -- The certified modules that the test finds are those of the definition.
@@ -20,6 +23,14 @@ AreCertified ms live [] = Unit {0}
 AreCertified ms live (Loads m ∷ moves) =
     IsCertified ms m × ((n : Module) → IsAmong n live → in_conflict m n ≡ false) × AreCertified ms (m ∷ live) moves
 AreCertified ms live (Unloads m ∷ moves) = Undoes live m × AreCertified ms (without_live m.name live) moves
+
+-- Whether a module is in conflict with live ones can be read from the loaded list: it is not where it is in conflict with
+-- no entry, since each live module has its entry there.
+abbrev pub EntriesHaveConflicts : Type 0
+EntriesHaveConflicts =
+    (entries : List Entry) (live : List Module) (m : Module)
+    → list_any (in_conflict_with_entry m) (entries_over entries live) ≡ false
+    → (n : Module) → IsAmong n live → in_conflict m n ≡ false
 
 -- A start agrees with the certificate of a list of modules. From it accepted moves load certified modules, none beside
 -- one that it is in conflict with, and unload live ones. Then after each of the moves the environment is in order, is

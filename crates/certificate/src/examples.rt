@@ -17,7 +17,7 @@ pub fn clashes()
 {}
 
 /// Two modules set one variable: whether they exclude each other decides.
-pub fn conflicts()
+pub fn exclusions()
     ensures first_in_conflict { FirstInConflict }
     ensures second_in_conflict { SecondInConflict }
     ensures conflict_by_part { ConflictByPart }
@@ -28,7 +28,7 @@ pub fn conflicts()
 {}
 
 /// Two modules that exclude each other use one variable: whether a start agrees with both decides.
-pub fn exclusive()
+pub fn exclusive_uses()
     ensures set_and_pushed { SetAndPushed }
     ensures delimiters { ExclusiveDelimiters }
     ensures set_and_unset { SetAndUnset }

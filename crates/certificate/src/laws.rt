@@ -1,9 +1,15 @@
 //! Laws of certificates. Each function does nothing: its contract is the law.
-ghost use Rattle.certificate.specs.Laws.{CertifiedAreExact, CertifiedRunsStand, CertifiedMovesPreserve};
+ghost use Rattle.certificate.specs.Laws.{CertifiedAreExact, EntriesHaveConflicts, CertifiedRunsStand, CertifiedMovesPreserve};
 
 /// The test of which modules of a list are certified finds exactly those of the definition.
 pub fn certified()
     ensures { CertifiedAreExact }
+{}
+
+/// A module that is in conflict with no entry of the loaded list, as those record it and as it names them, is in conflict
+/// with no live module.
+pub fn conflicts()
+    ensures { EntriesHaveConflicts }
 {}
 
 /// From a start that agrees with the certificate of a list of modules, accepted loads of certified modules, none beside
