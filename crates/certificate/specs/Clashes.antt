@@ -40,7 +40,7 @@ abbrev pub agree_at_start : VariableUse → VariableUse → Bool
 agree_at_start (Fixed x) (Fixed y) = option_eq bytes_eq x y
 agree_at_start x y = true
 
--- Two uses of one variable clash, where the modules exclude each other and where they don't.
+-- whether two uses of one variable clash, by modules that exclude each other or don't
 abbrev pub uses_clash : Bool → VariableUse → VariableUse → Bool
 uses_clash excluded x y = not (excluded || go_together x y) || not (agree_at_start x y)
 
