@@ -9,7 +9,7 @@ build/bin; with `--check` nothing is left there. Without a name: the two program
 `--check`. With `--only` the crates below are proved, and of the crate itself one function with what it calls.
 
 What was proved lies in crates/*/out/build and is taken again where neither the crate nor anything below it changed.
-JOBS=N says how many processors may be used. The verdict on a change is `rt ci`, which proves everything from nothing.
+JOBS=N says how many processors may be used. `rt ci` decides on a change: it proves everything from nothing.
 """
 
 import hashlib
@@ -275,7 +275,7 @@ def main(words):
             leave(work)
     minutes, spent = (time.monotonic() - schedule.start) / 60, sum(it.seconds for it in works) / 60
     print(f"{len(works)} crates are proved; it took {minutes:.1f} minutes, and {spent:.1f} of processor time.")
-    print("The verdict on a change is `rt ci`, which proves everything from nothing.")
+    print("`rt ci` decides on a change: it proves everything from nothing.")
     return 0
 
 

@@ -19,13 +19,13 @@ fn again_text(disk: &mut DiskTree<HostRuntime>, path: &str) -> Result<&'static s
     })
 }
 
-/// Makes a folder without permission.
+/// Makes a directory without permission.
 fn make_closed(rt: &HostRuntime, path: &str) -> io::Result<()> {
     fs::create_dir(rt, path)?;
     fs::set_permissions(rt, path, fs::Permissions::from_mode(0))
 }
 
-/// Whether the answer is a folder where the system lists it, and else the fault of a device.
+/// Whether the answer is a directory where the system lists it, and else the fault of a device.
 fn is_as_listed(is_listed: bool, answer: Result<Option<Vec<String>>, TreeFault>) -> bool {
     match answer {
         Ok(found) => is_listed && found.is_some(),
@@ -33,7 +33,7 @@ fn is_as_listed(is_listed: bool, answer: Result<Option<Vec<String>>, TreeFault>)
     }
 }
 
-/// Whether the disk lists a folder without permission as the system does: whoever may read everything, as root, lists
+/// Whether the disk lists a directory without permission as the system does: whoever may read everything, as root, lists
 /// it.
 fn closed_text(
     rt: &HostRuntime,
@@ -94,7 +94,7 @@ fn scripted_disk<'r, 't>(
     DiskTree::new((system, rt.alloc()))
 }
 
-/// What a disk answers for the file and the folder of a system with scripted answers.
+/// What a disk answers for the file and the directory of a system with scripted answers.
 pub(crate) fn scripted_answer(rt: &HostRuntime, line: &str) -> Result<String, AllocError> {
     let (kind, text) = first_word(line);
     let bytes = bytes_of(rt.alloc(), b'\\', text)?;

@@ -12,8 +12,8 @@
 //!
 //! `system` asks what a process is given and what a disk answers; each line is shown before its answer. `disk file
 //! PATH`, `disk folder PATH` and `disk again PATH` ask a disk, the last for a file twice, and `disk closed PATH` makes
-//! a folder without permission and asks for it. `memory put-file PATH TEXT` and `memory put-folder PATH NAME` put a
-//! file or a folder of one name into a tree in memory, which `memory file PATH` and `memory folder PATH` ask. `scripted
+//! a directory without permission and asks for it. `memory put-file PATH TEXT` and `memory put-folder PATH NAME` put a
+//! file or a directory of one name into a tree in memory, which `memory file PATH` and `memory folder PATH` ask. `scripted
 //! KIND TEXT` asks a disk of a system whose answers are scripted (`system.rt`), and `begins KIND TEXT` whether its file
 //! begins with `#%`. `process own` asks for what this process is given, and `process variable TEXT` for the variable A
 //! of an environment. `process given KIND ENTRIES TEXT` asks whose environment is taken where a process holds these

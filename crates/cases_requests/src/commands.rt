@@ -171,7 +171,7 @@ impl Session {
         Ok(String::new(self.alloc))
     }
 
-    /// Puts a folder into the tree.
+    /// Puts a directory into the tree.
     fn put_directory(&mut self, rest: &str) -> Result<String> {
         let (path, rest) = first_word(rest);
         let names = words(self.alloc, rest)?;

@@ -13,7 +13,7 @@ pub struct Counts {
     pub reads: u64,
     /// How often a file was read whole.
     pub whole_reads: u64,
-    /// How often a folder was listed.
+    /// How often a directory was listed.
     pub listings: u64,
 }
 

@@ -5,7 +5,7 @@
 //! The lines stand in paragraphs of standard input. The first line of a paragraph says what it is about.
 //!
 //! `searches`: `file PATH TEXT` and `bytes PATH TEXT` put a file into a tree in memory, where `;` parts the lines of
-//! the text, and `bytes` adds a byte that is not UTF-8; `folder PATH NAME...` puts a folder; `new` begins a new tree.
+//! the text, and `bytes` adds a byte that is not UTF-8; `folder PATH NAME...` puts a directory; `new` begins a new tree.
 //! `locate MODULEPATH NAME` and `avail MODULEPATH` search it, `disk locate MODULEPATH NAME` and `disk avail MODULEPATH`
 //! a disk. After an answer stands how often the tree was asked about another file than before, and listed; `whole
 //! locate ..` and `whole avail ..` show how many files were read whole. `limits COMMANDS DEPTH BYTES` sets the limits
@@ -28,7 +28,7 @@
 //!
 //! `new` begins a new tree. `module PATH TEXT` puts a modulefile there, whose first line is the cookie; `file PATH
 //! TEXT` and `bytes PATH TEXT` a file of this text, or of it and after it a byte that is no UTF-8; `dir PATH NAME...` a
-//! folder with these names. `from NAME=VALUE...` are the variables from there on.
+//! directory with these names. `from NAME=VALUE...` are the variables from there on.
 //!
 //! `run WORD...` runs a command with these arguments, and shows what it wrote to standard output, each line of standard
 //! error after `! `, and its status. `go WORD...` does the same, and then the variables are what the command makes of

@@ -1,4 +1,4 @@
-//! Files and folders that are put into a tree in memory.
+//! Files and directories that are put into a tree in memory.
 
 use filetree::MemoryTree;
 use std::alloc::{AllocError, Global};
@@ -12,7 +12,7 @@ pub(crate) fn file_text(alloc: Global, text: &str) -> Result<Vec<u8>, AllocError
     Ok(bytes)
 }
 
-/// Puts a file or a folder; false where the line asks for neither.
+/// Puts a file or a directory; false where the line asks for neither.
 pub(crate) fn put(
     alloc: Global,
     tree: &mut MemoryTree,

@@ -12,7 +12,7 @@ use Rattle.reversal.specs.VariableUses.{VariableUse, Untouched, Fixed, Pathed, S
 use Rattle.certificate.specs.RecordUses.{UsedVariable, used_by_modules, IsAmong, IsInStep, is_in_step}
 use Rattle.certificate.specs.Clashes.{Clash, do_clash}
 
--- They are two modules: a module is a name with its file, so that two files of one name are two.
+-- They are two modules: their names differ, or the paths of their files.
 abbrev pub is_other : Module → Module → Bool
 is_other m n = not (bytes_eq m.name n.name && bytes_eq m.path n.path)
 

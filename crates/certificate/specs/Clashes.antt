@@ -14,7 +14,7 @@ use Rattle.certificate.specs.RecordUses.{used_by, Uses}
 abbrev pub names_in_conflict : Module → Module → Bool
 names_in_conflict m n = list_any (λ name. means name n.name) (conflict_names m.records)
 
--- the modules are in conflict: one of them names the other, whichever it is
+-- the modules are in conflict: the first names the second, or the second the first
 abbrev pub in_conflict : Module → Module → Bool
 in_conflict m n = names_in_conflict m n || names_in_conflict n m
 

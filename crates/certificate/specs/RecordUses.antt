@@ -70,7 +70,7 @@ same_use x y = false
 abbrev pub use_alike : UsedVariable → UsedVariable → Bool
 use_alike p q = not (bytes_eq p.0 q.0) || same_use p.1 q.1
 
--- each is alike with all of them and with MODULEPATH as a path with colons
+-- no two of them use one variable in two ways, and none uses MODULEPATH but as a path with colons
 abbrev pub are_in_step : List UsedVariable → Bool
 are_in_step ps = list_all (λ p. use_alike p (modulepath, Pathed colon) && list_all (use_alike p) ps) ps
 

@@ -15,8 +15,8 @@ pub fn conflicts()
 /// From a start that agrees with the certificate of a list of modules, accepted loads of certified modules, none beside
 /// one that it is in conflict with, and unloads of these, in whatever order: after each of them the environment is in
 /// order, and is the start with the live modules layered on it; where none is live it is the start, and the maps are
-/// equal. Nothing is asked of how the modules use variables together, since that follows from the certificate: and what
-/// uses a variable may change from moment to moment.
+/// equal. Nothing is asked of how the modules use variables together, since that follows from the certificate: and the
+/// way in which a variable is used may change when no loaded module uses it any more.
 pub fn runs()
     ensures { CertifiedRunsStand }
 {

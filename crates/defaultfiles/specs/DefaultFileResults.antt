@@ -36,7 +36,7 @@ abbrev pub answer_to : List Text → OracleAnswer
 answer_to [] = Unknown false
 answer_to (name ∷ words) = named_answer name (name ∷ words)
 
--- No answer hangs on the commands before, and each variable of the environment is unset.
+-- No answer depends on the commands before, and each variable of the environment is unset.
 abbrev pub default_oracle : Oracle
 default_oracle =
     record { reserved = command_names; command = λ records words. answer_to words; variable = λ records name. None }

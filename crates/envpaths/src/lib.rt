@@ -1,6 +1,6 @@
 //! Path variables, as PATH is: a list of elements, and how often each was added, in two variables of an environment.
 //! Takes memory; touches the path variable that a call names and the variable of its counters.
-//! Used by envstate, modulerecords, modulefile, modulerun, reversal and modulecmd.
+//! Used by envstate, modulerecords, modulefile, modulerun, reversal, certificate and modulecmd.
 //! A drop is what remove-path does, and an unload.
 #![tactic(auto)]
 

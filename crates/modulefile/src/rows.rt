@@ -28,7 +28,7 @@ pub fn path_rows()
         (Front 58 (codes "P") (codes "-d" ∷ codes "a" ∷ []) ∷ []) unchanged }
 {}
 
-/// Questions, which leave the mark that the file asked.
+/// Questions, after which the file has asked.
 pub fn question_rows()
     ensures mode_unload { LeavesAsking unloading (codes "if {[module-info mode load]} {setenv X 1}") [] unchanged }
     ensures loaded { LeavesAsking loading

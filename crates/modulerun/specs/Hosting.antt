@@ -39,7 +39,7 @@ refusal_view None = None
 refusal_view (Some BadArguments) = Some (unnamed 56)
 refusal_view (Some (BadRecord fault)) = option_map refusal_of (fault_reason fault)
 
--- the records, messages and mark of a file, by the fields of its host
+-- the records and messages of a file, and whether it asked, by the fields of its host
 abbrev pub trace_with : JournalState → Vec (String Global) Global → Bool → Option CommandRefusal → Trace
 trace_with s messages asked refusal =
     record { records = s.words; messages = texts_in messages; asked = asked; refused = refusal_view refusal }

@@ -132,7 +132,7 @@ impl<'a, V: Vars> Runner<'a, V> {
         }
     }
 
-    /// Answers a question, and marks that the file asked.
+    /// Answers a question; the file has then asked.
     fn answer_question(&mut self, text: Result<String, AllocError>) -> HostAnswer
         ensures replies { (t : Text) → IfOk text (λ s. string_bytes s ≡ t) → Replies (question_answer t) result
             (trace_of self.old) (trace_of self.new) }

@@ -1,5 +1,5 @@
--- The step of a request: what it makes of an environment, over the files and directories of a tree (module(1)). It names
--- its moves.
+-- The step of a request: what it makes of an environment, over the files and directories of a tree (module(1)). The step
+-- also says which moves lead to that environment.
 use Rattle.std.specs.Prelude.{◌≡◌, Bool, true, false, List, [], ◌∷◌, ◌++◌, codes, reverse, find, unwrap_or, Option, Some, None, Result, Ok, Err}
 use Rattle.modulename.specs.ModuleName.{is_module_name, means, parts}
 use Rattle.envvars.specs.Texts.{Text, has}
@@ -45,7 +45,7 @@ request_context_in limits shell files listings = record { files = files; listing
 
 -- What a request has done so far: its moves and what they made of the environment, the messages of its files, and its
 -- report.
--- (`Done` of requeststep is without the environment)
+-- The type `Done` of requeststep has no environment: the call edits the variables that it is given.
 pub record Done : Type 0 where
   pub env : Environment
   pub moves : List Move

@@ -1,6 +1,6 @@
 //! What follows the completion of a script in loops, catch(n) and calls; commands without scripts by their forms.
 //! Takes memory, changes the variables that it is given, and asks the host.
-//! Used by tclevaluator.
+//! Used by tclevaluator and tcleval.
 #![tactic(auto)]
 
 mod command_words;

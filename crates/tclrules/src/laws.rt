@@ -44,7 +44,7 @@ pub fn two_oracles()
         → AnswersAlikeUnasked s.oracle second → EvaluatesTo (with_oracle second s) o2 w2 → IsSameOrRefused o w o2 w2 }
 {}
 
-/// Where the trace isn't marked as asked, no consultation was a question.
+/// Where the trace hasn't asked, no consultation was a question.
 pub fn unasked()
     ensures { (s : Setting) (o : EvaluationOutcome Completion) (w : World) (d : EvaluatesTo s o w)
         → w.trace.asked ≡ false → Throughout (λ records query. asks s.oracle records query ≡ false) d }
