@@ -8,3 +8,5 @@ pub mod Examples
 pub mod PathSteps
 pub mod PathEditLemmas
 pub mod PathOrderLemmas
+pub mod ElementSearch
+pub mod OneElement

@@ -34,7 +34,7 @@ neither : (a b : Bool) → not (a || b) ≡ true → a ≡ false
 neither true b h = absurd (false≢true h)
 neither false b h = refl
 
-element_unparted : (d : ℕ) (x : Text) → is_element d x ≡ true → HasNoDelimiter d x
+pub element_unparted : (d : ℕ) (x : Text) → is_element d x ≡ true → HasNoDelimiter d x
 element_unparted d [] h = refl
 element_unparted d (b ∷ bs) h =
     let g = both_true (not (eqb b d || eqb b 0)) (is_element d bs) h in

@@ -18,12 +18,12 @@ use Rattle.envpaths.proofs.PathLemmas.{same_state}
 use Rattle.envpaths.proofs.PairLemmas.{or_left, or_right}
 use Rattle.envpaths.proofs.CounterLemmas.{counter_of-decimal, escaped-decimal}
 
-eqb-same : (d : ℕ) → eqb d d ≡ true
+pub eqb-same : (d : ℕ) → eqb d d ≡ true
 eqb-same d = grind (arith, nat_tests)
 
 -- splitting what was joined
 
-split_front : (d : ℕ) (x rest : Text) → HasNoDelimiter d x → split_elements d (x ++ d ∷ rest) ≡ x ∷ split_elements d rest
+pub split_front : (d : ℕ) (x rest : Text) → HasNoDelimiter d x → split_elements d (x ++ d ∷ rest) ≡ x ∷ split_elements d rest
 split_front d [] rest h = rw (eqb-same d) refl
 split_front d (b ∷ bs) rest h =
     let here : eqb b d ≡ false = or_left (eqb b d) (list_any (λ c. eqb c d) bs) h in

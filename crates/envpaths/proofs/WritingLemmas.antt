@@ -4,7 +4,7 @@ use Rattle.std.proofs.Common.{drop as cut}
 use Rattle.std.specs.Prelude.{filter, flat_map, bytes_eq, unwrap_or, decimal, encode_utf8, if◌then◌else◌}
 use Rattle.std.specs.Option.{option_map}
 use Rattle.std.specs.Result.{IfOk}
-use Rattle.std.specs.List.{list_any}
+use Rattle.std.specs.List.{list_any, join_with_byte}
 use Rattle.std.specs.declared.string.String.{String}
 use Rattle.std.proofs.Math.ListN.{length}
 use Rattle.std.specs.Map as maps
@@ -22,9 +22,9 @@ use Rattle.envpaths.proofs.PairLemmas.{or_left, or_right}
 
 -- a field behind others
 
-joined-push : (f : Text) (fs : List Text) (x : Text) → joined (f ∷ (fs ++ x ∷ [])) ≡ joined (f ∷ fs) ++ 58 ∷ x
-joined-push f [] x = refl
-joined-push f (g ∷ gs) x = ap (λ (l : Text). f ++ 58 ∷ l) (joined-push g gs x) ∙ sym (append_assoc f (58 ∷ joined (g ∷ gs)) (58 ∷ x))
+pub join_with_byte-push : (d : ℕ) (f : Text) (fs : List Text) (x : Text) → join_with_byte d (f ∷ (fs ++ x ∷ [])) ≡ join_with_byte d (f ∷ fs) ++ d ∷ x
+join_with_byte-push d f [] x = refl
+join_with_byte-push d f (g ∷ gs) x = ap (λ (l : Text). f ++ d ∷ l) (join_with_byte-push d g gs x) ∙ sym (append_assoc f (d ∷ join_with_byte d (g ∷ gs)) (d ∷ x))
 
 two_fields : (f : Text) (fs : List Text) (x d : Text) → joined (f ∷ (fs ++ (x ++ 58 ∷ d) ∷ [])) ≡ joined (f ∷ (fs ++ x ∷ d ∷ []))
 two_fields f [] x d = refl
@@ -45,7 +45,7 @@ pushed_behind (b ∷ bs) new x d [] e h = cc
 pushed_behind (b ∷ bs) new x d (f ∷ fs) e h =
     let same : b ∷ bs ≡ joined (f ∷ fs) = cc in
     ap unless_empty (h ∙ append_assoc (b ∷ bs) (58 ∷ []) (x ++ 58 ∷ d)) ∙ filled (b ∷ bs) (x ++ 58 ∷ d)
-    ∙ ap (λ (l : Text). Some (l ++ 58 ∷ (x ++ 58 ∷ d))) same ∙ ap Some (sym (joined-push f fs (x ++ 58 ∷ d))) ∙ two (f ∷ fs) x d
+    ∙ ap (λ (l : Text). Some (l ++ 58 ∷ (x ++ 58 ∷ d))) same ∙ ap Some (sym (join_with_byte-push 58 f fs (x ++ 58 ∷ d))) ∙ two (f ∷ fs) x d
 
 -- the pair of an element behind others, where its counter is written
 pub pair-pushed : (old split_elements new element : Text) (fs : List Text) (count : ℕ) → 2 ≤ count → split_elements ≡ with_separator old → new ≡ split_elements ++ (escaped element ++ 58 ∷ decimal count) → unless_empty old ≡ text_of_elements fs

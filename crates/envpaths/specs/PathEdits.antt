@@ -18,7 +18,11 @@ pub record AreTexts (texts : PathTexts) (delim : ℕ) (s : PathState) : Type 0 w
 abbrev pub IsFull : EnvFault → Text → PathState → Type 0
 IsFull e name s = IfSome (reason_of e) (λ r. (r ≡ counter_full name) × (counters_fit s ≡ false))
 
+-- the texts are those of the state, and its counters fit
+abbrev pub IsWritten : PathTexts → ℕ → PathState → Type 0
+IsWritten texts delim s = (counters_fit s ≡ true) × AreTexts texts delim s
+
 -- the result is the state's texts where its counters fit, else the error that one is full
 abbrev pub IsWrittenOrFull : Result PathTexts EnvFault → Text → ℕ → PathState → Type 0
-IsWrittenOrFull (Ok texts) name delim s = (counters_fit s ≡ true) × AreTexts texts delim s
+IsWrittenOrFull (Ok texts) name delim s = IsWritten texts delim s
 IsWrittenOrFull (Err e) name delim s = IsFull e name s

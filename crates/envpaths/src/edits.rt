@@ -14,6 +14,7 @@ ghost use Rattle.envpaths.specs.PathVariables.{is_element, path_reason, added_pa
 ghost use Rattle.envpaths.specs.PathEdits.{AreTexts, IsFull, IsWrittenOrFull};
 
 use crate::counters::Counters;
+use crate::one_element::with_one_more;
 use crate::texts::{Path, PathTexts, read_path, write_path};
 use envvars::{EnvFault, Vars, judge_name, push_change, share_name};
 use std::alloc::{AllocError, Global};
@@ -59,6 +60,7 @@ fn are_elements(delim: char, texts: &[&str]) -> bool
 fn judge_path(alloc: Global, var: &str, delim: char, elements: &[&str]) -> Result<(), EnvFault>
     ensures judged { Judges result (path_reason var.now delim (slice_texts elements.now)) }
     ensures delimiter { OnOk result (delim < 128) }
+    ensures elements { OnOk result (list_all (is_element delim) (slice_texts elements.now) ≡ true) }
 {
     judge_name(alloc, var)?;
     if !is_delimiter(delim) || !are_elements(delim, elements) {
@@ -178,10 +180,14 @@ fn added(
     more: &[&str],
     end: End,
 ) -> Result<PathTexts, EnvFault>
-    requires { delim < 128 }
+    requires delimiter { delim < 128 }
+    requires elements { list_all (is_element delim) (slice_texts more.now) ≡ true }
     ensures { IsWrittenOrFull result var.now delim (add_all (state_of delim (option_map (λ t. t.now) text.entry)
         (option_map (λ t. t.now) counts.entry)) (slice_texts more.now) end) }
 {
+    if let Some(texts) = with_one_more(alloc, delim, text, counts, more, end)? {
+        return Ok(texts);
+    }
     let mut path = read_path(alloc, delim, text, counts)?;
     add_each(alloc, var, &mut path, more, end)?;
     Ok(write_path(alloc, delim, &mut path)?)

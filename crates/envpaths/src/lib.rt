@@ -7,6 +7,7 @@
 mod counters;
 mod edits;
 pub mod laws;
+mod one_element;
 mod texts;
 
 pub use edits::{End, add_path, drop_path, is_element};
