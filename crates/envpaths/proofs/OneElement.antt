@@ -1,5 +1,5 @@
 -- One new element beside others, where no counter is written.
-use Rattle.std.proofs.Common.{◌≡◌, ◌≢◌, ℕ, ◌+◌, ◌<◌, ◌≤◌, Bool, true, false, cond, eqb, ◌||◌, List, [], ◌∷◌, refl, sym, ap, ◌∙◌, subst, arith, leb, Option, Some, None, Bor, get_or, string_bytes}
+use Rattle.std.proofs.Common.{◌≡◌, ◌≢◌, ℕ, ◌+◌, ◌-◌, ◌<◌, ◌≤◌, Bool, true, false, cond, eqb, ◌||◌, List, [], ◌∷◌, refl, sym, ap, ◌∙◌, subst, arith, leb, Option, Some, None, Bor, get_or, string_bytes}
 use Rattle.std.specs.Prelude.{filter, bytes_eq, if◌then◌else◌}
 use Rattle.std.specs.Option.{option_map}
 use Rattle.std.specs.List.{join_with_byte}
@@ -8,11 +8,11 @@ use Rattle.std.proofs.lemmas.Bool.{false≢true}
 use Rattle.std.proofs.lemmas.Bool.Decides.{nat_tests}
 use Rattle.std.proofs.lemmas.List.Splits.{length-slice_split, join_with_byte-slice_split}
 use Rattle.envvars.specs.Texts.{Text, has, slice_texts}
-use Rattle.envvars.specs.Fields.{text_of_elements, without_repeats}
+use Rattle.envvars.specs.Fields.{text_of_elements, without, without_repeats}
 use Rattle.envvars.proofs.TextLemmas.{same_text}
-use Rattle.envpaths.specs.Paths.{PathState, put_at, one_higher, add, add_all}
+use Rattle.envpaths.specs.Paths.{PathState, put_at, one_higher, one_lower, add, add_all, drop, drop_all}
 use Rattle.envpaths.specs.PathTexts.{split_elements, state_from, state_of, elements_text, is_lone_empty, counter_fields, pairs_text}
-use Rattle.envpaths.specs.PathEdits.{IsWritten}
+use Rattle.envpaths.specs.PathEdits.{AreTexts, IsWritten}
 use Rattle.envpaths.specs.declared.texts.PathTexts.{PathTexts}
 use Rattle.envpaths.specs.declared.edits.End.{End}
 use Rattle.envpaths.specs.declared.edits.End.TheVariants.{Front, Back}
@@ -60,6 +60,9 @@ text_at_end d x p ps Back = ap Some (sym (join_with_byte-push d p ps x))
 record Parts (d : ℕ) (t : Text) (xs : List Text) : Type 0 where
   some : 0 < length xs
   joined : join_with_byte d xs ≡ t
+
+parts_of : (d : ℕ) (t : Text) → Parts d t (split_elements d t)
+parts_of d t = record { some = omega (arith, length-slice_split (λ (b : ℕ). eqb b d) t); joined = join_with_byte-slice_split d t }
 
 abbrev grown : List Text → Text → End → PathState
 grown xs x end = record { elements = put_at xs x end; counter = one_higher (state_from xs []).counter x }
@@ -114,4 +117,44 @@ pub one_more_written : (texts : PathTexts) (d : ℕ) (o p : Option Text) (xs : L
 one_more_written texts d o p xs t x end empty there e f g k i h j b c =
     subst (IsWritten texts d) (state_of_text d o p xs t x end e f g (not_empty (length t) empty k i) (sym h ∙ j))
     (grown_written texts d t x (split_elements d t) end
-    (record { some = omega (arith, length-slice_split (λ (b : ℕ). eqb b d) t); joined = join_with_byte-slice_split d t }) (sym h ∙ j) b c)
+    (parts_of d t) (sym h ∙ j) b c)
+
+-- one element dropped, where others stay
+
+still_small : (h b : Bool) → (if h then 1 else 0) - (if b then 1 else 0) ≤ 1
+still_small true b = omega arith
+still_small false b = omega arith
+
+abbrev shrunk : List Text → List Text → Text → PathState
+shrunk xs rest x = record { elements = rest; counter = one_lower (state_from xs []).counter x }
+
+not_lone : (d : ℕ) (r : Text) (ys : List Text) → Parts d r ys → length r ≢ 0 → is_lone_empty ys ≡ false
+not_lone d r [] p l = refl
+not_lone d r (y ∷ []) p l = let same : y ≡ r = p.joined in rw same (let k : length r ≢ 0 = l in grind (arith, nat_tests))
+not_lone d r (y ∷ z ∷ zs) p l = refl
+
+text_of : (d : ℕ) (r : Text) (ys : List Text) → Parts d r ys → Some r ≡ elements_text d ys
+text_of d r [] p = let l : 0 < length {A = Text} [] = p.some in absurd (omega arith)
+text_of d r (y ∷ ys) p = ap Some (sym p.joined)
+
+shrunk_texts : (texts : PathTexts) (d : ℕ) (r x : Text) (xs rest : List Text) → Parts d r rest → length r ≢ 0 → option_map string_bytes texts.elements ≡ Some r → option_map string_bytes texts.counters ≡ None
+    → AreTexts texts d (shrunk xs rest x)
+shrunk_texts texts d r x xs rest p l e c = record {
+  elements = e ∙ text_of d r rest p;
+  counters = c ∙ sym (none_written (shrunk xs rest x) (λ y. still_small (has y xs) (bytes_eq y x)) (not_lone d r rest p l));
+}
+
+counted_once : (h : Bool) → leb (if h then 1 else 0) 1 ≡ true
+counted_once true = refl
+counted_once false = refl
+
+dropped_once : (xs : List Text) (x : Text) → drop (state_from xs []) x ≡ shrunk xs (without x xs) x
+dropped_once xs x = ap (λ (b : Bool). record { elements = cond b (without x xs) xs; counter = one_lower (state_from xs []).counter x }) (counted_once (has x xs))
+
+pub one_less_texts : (texts : PathTexts) (d : ℕ) (o p : Option Text) (xs : List Text) (t x r : Text) (empty none : Bool) → o ≡ Some t → p ≡ None → xs ≡ x ∷ [] → empty ≡ eqb (length t) 0 → empty ≡ false
+    → split_elements d r ≡ without x (split_elements d t) → none ≡ eqb (length r) 0 → none ≡ false → option_map string_bytes texts.elements ≡ Some r → option_map string_bytes texts.counters ≡ None
+    → AreTexts texts d (drop_all (state_of d o p) xs)
+one_less_texts texts d o p xs t x r empty none e f g k i w h j b c =
+    subst (AreTexts texts d)
+    (ap (λ (rest : List Text). shrunk (split_elements d t) rest x) w ∙ sym (dropped_once (split_elements d t) x) ∙ ap (λ (s : PathState). drop_all s (x ∷ [])) (sym (nonempty_state d t (not_empty (length t) empty k i))) ∙ rw (e, f, g) refl)
+    (shrunk_texts texts d r x (split_elements d t) (split_elements d r) (parts_of d r) (not_empty (length r) none h j) b c)

@@ -14,7 +14,7 @@ ghost use Rattle.envpaths.specs.PathVariables.{is_element, path_reason, added_pa
 ghost use Rattle.envpaths.specs.PathEdits.{AreTexts, IsFull, IsWrittenOrFull};
 
 use crate::counters::Counters;
-use crate::one_element::with_one_more;
+use crate::one_element::{with_one_less, with_one_more};
 use crate::texts::{Path, PathTexts, read_path, write_path};
 use envvars::{EnvFault, Vars, judge_name, push_change, share_name};
 use std::alloc::{AllocError, Global};
@@ -283,10 +283,14 @@ fn dropped(
     counts: Option<&str>,
     less: &[&str],
 ) -> Result<PathTexts, AllocError>
-    requires { delim < 128 }
+    requires delimiter { delim < 128 }
+    requires elements { list_all (is_element delim) (slice_texts less.now) ≡ true }
     ensures { IfOk result (λ t. AreTexts t delim (drop_all (state_of delim (option_map (λ t. t.now) text.entry)
         (option_map (λ t. t.now) counts.entry)) (slice_texts less.now))) }
 {
+    if let Some(texts) = with_one_less(alloc, delim, text, counts, less)? {
+        return Ok(texts);
+    }
     let mut path = read_path(alloc, delim, text, counts)?;
     drop_from_path(&mut path, less);
     write_path(alloc, delim, &mut path)

@@ -3,10 +3,11 @@ ghost use Rattle.std.specs.Prelude.{◌≡◌, ◌<◌, ◌++◌, ◌∷◌, [],
 ghost use Rattle.std.specs.List.{list_all, join_with_byte};
 ghost use Rattle.std.specs.Option.{option_map};
 ghost use Rattle.envvars.specs.Texts.{has, slice_texts};
-ghost use Rattle.envpaths.specs.Paths.{put_at, add_all};
+ghost use Rattle.envvars.specs.Fields.{without};
+ghost use Rattle.envpaths.specs.Paths.{put_at, add_all, drop_all};
 ghost use Rattle.envpaths.specs.PathTexts.{split_elements, state_of};
 ghost use Rattle.envpaths.specs.PathVariables.{is_element};
-ghost use Rattle.envpaths.specs.PathEdits.{IsWritten};
+ghost use Rattle.envpaths.specs.PathEdits.{AreTexts, IsWritten};
 
 use crate::edits::End;
 use crate::texts::PathTexts;
@@ -77,6 +78,73 @@ pub(crate) fn with_one_more(
     let elements = with_element(alloc, delim, text, element, end)?;
     Ok(Some(PathTexts {
         elements: Some(elements),
+        counters: None,
+    }))
+}
+
+/// The text between the delimiters at its ends; none where it hasn't both.
+fn between_delimiters(delim: char, text: &str) -> Option<&str>
+    requires { delim < 128 }
+    ensures { IfSome result (λ t. text.now ≡ delim ∷ (t.now ++ delim ∷ [])) }
+{
+    text.strip_prefix(delim)?.strip_suffix(delim)
+}
+
+/// The text without an element that it has exactly once. None where it hasn't it so, and where no other is left.
+fn without_element(
+    alloc: Global,
+    delim: char,
+    text: &str,
+    element: &str,
+) -> Result<Option<String>, AllocError>
+    requires delimiter { delim < 128 }
+    requires element { is_element delim element.now ≡ true }
+    ensures { IfOk result (λ o. IfSome o (λ t. split_elements delim (string_bytes t)
+        ≡ without element.now (split_elements delim text.now))) }
+{
+    let text = surrounded(alloc, delim, text)?;
+    let wanted = surrounded(alloc, delim, element)?;
+    let Some((before, after)) = text.as_str().split_once(wanted.as_str()) else {
+        return Ok(None);
+    };
+    let kept = join(alloc, &[before, after], delim)?;
+    let Some(kept) = between_delimiters(delim, kept.as_str()) else {
+        return Ok(None);
+    };
+    if has_element(alloc, delim, kept, element)? {
+        return Ok(None);
+    }
+    Ok(Some(String::from_str(alloc, kept)?))
+}
+
+/// The texts after the only one of an element is dropped from a text that has others, where no counter is written.
+/// None in every other case: the elements have to be read then.
+pub(crate) fn with_one_less(
+    alloc: Global,
+    delim: char,
+    text: Option<&str>,
+    counts: Option<&str>,
+    less: &[&str],
+) -> Result<Option<PathTexts>, AllocError>
+    requires delimiter { delim < 128 }
+    requires elements { list_all (is_element delim) (slice_texts less.now) ≡ true }
+    ensures { IfOk result (λ o. IfSome o (λ t. AreTexts t delim (drop_all (state_of delim
+        (option_map (λ t. t.now) text.entry) (option_map (λ t. t.now) counts.entry)) (slice_texts less.now)))) }
+{
+    let (Some(text), None, [element]) = (text, counts, less) else {
+        return Ok(None);
+    };
+    if text.is_empty() {
+        return Ok(None);
+    }
+    let Some(kept) = without_element(alloc, delim, text, element)? else {
+        return Ok(None);
+    };
+    if kept.as_str().is_empty() {
+        return Ok(None);
+    }
+    Ok(Some(PathTexts {
+        elements: Some(kept),
         counters: None,
     }))
 }
