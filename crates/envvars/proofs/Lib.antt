@@ -1,5 +1,7 @@
 pub mod TextLemmas
+pub mod EntryLemmas
 pub mod EnvLemmas
+pub mod GivenLemmas
 pub mod TableLemmas
 pub mod ChangeLemmas
 pub mod FieldLemmas

@@ -1,5 +1,5 @@
 -- Tables of names, and the environments that they are written over.
-use Rattle.std.proofs.Common.{◌≡◌, Bool, true, false, cond, ◌||◌, List, [], ◌∷◌, refl, sym, ap, ◌∙◌, map, Option, Some, None, Result, Ok, Err, Vec, Bor, String, Global, string_bytes}
+use Rattle.std.proofs.Common.{◌≡◌, Bool, true, false, cond, ◌||◌, List, [], ◌∷◌, ◌++◌, refl, sym, ap, ◌∙◌, map, Option, Some, None, Result, Ok, Err, Vec, Bor, String, Global, string_bytes}
 use Rattle.std.specs.Prelude.{bytes_eq, unwrap_or, if◌then◌else◌}
 use Rattle.std.specs.Option.{option_map}
 use Rattle.std.specs.Result.{IsOk, IfOk, OnOk}
@@ -11,6 +11,7 @@ use Rattle.std.specs.FinMap as finite
 use Rattle.std.specs.Map as maps
 use Rattle.std.specs.List.{AllZip}
 use Rattle.std.proofs.lemmas.Bool.{false≢true}
+use Rattle.std.proofs.lemmas.List.Folds.{list_any-append}
 use Rattle.std.proofs.lemmas.Map.Text.{hash_map_updates_text}
 use Rattle.indexmap.specs.IndexMap.{IndexMap, get_by_text}
 use Rattle.envvars.specs.Texts.{Text, has, slice_texts}
@@ -18,7 +19,7 @@ use Rattle.envvars.specs.Environment.{Environment, lookup, with_value}
 use Rattle.envvars.specs.Tables.{Slot, slot, names_of, written_over}
 use Rattle.envvars.specs.Changes.{new_value_of, applied}
 use Rattle.envvars.specs.declared.change.Change.{Change}
-use Rattle.envvars.proofs.TextLemmas.{bytes_eq-symmetric}
+use Rattle.envvars.proofs.TextLemmas.{bytes_eq-symmetric, or_left, or_right}
 use Rattle.envvars.proofs.EnvLemmas.{same_environment, lookup-with_value}
 
 -- what a table has, in an environment's words
@@ -70,21 +71,20 @@ slot-updated m n name w u q =
     ap said (hash_map_updates_text name m n w u q) ∙ map_cond (bytes_eq name q) w (get_by_text m q)
     ∙ ap (λ (b : Bool). cond b (said w) (slot m q)) (bytes_eq-symmetric name q)
 
-removed_at : (b : Bool) (w : Option (Option Text)) → unwrap_or (cond b None w) None ≡ cond b None (unwrap_or w None)
-removed_at true w = refl
-removed_at false w = refl
+removed_at : (b : Bool) (w : Option (Option Text)) (o : Option Text) → unwrap_or (cond b None w) (cond b None o) ≡ cond b None (unwrap_or w o)
+removed_at true w o = refl
+removed_at false w o = refl
 
 pub nothing_set : (q : Text) → lookup finite.empty q ≡ None
 nothing_set q = finite.get-empty (slice_cmp nat_cmp) q
 
--- a name was taken out of a table that stands over nothing
-pub removed_over : {S : Type 0} (m n : IndexMap (String Global) (Option (String Global)) S) (name : Text) → UpdatesBy string_eq (λ k. bytes_eq name (string_bytes k)) m n None
-    → written_over finite.empty n.entries ≡ finite.remove (written_over finite.empty m.entries) name
-removed_over m n name u = same_environment _ _ (λ q.
-    lookup-written_over finite.empty n q ∙ ap (λ (o : Option (Option Text)). unwrap_or o (lookup finite.empty q)) (slot-updated m n name None u q)
-    ∙ ap (unwrap_or (cond (bytes_eq q name) None (slot m q))) (nothing_set q) ∙ removed_at (bytes_eq q name) (slot m q)
-    ∙ ap (λ (o : Option Text). cond (bytes_eq q name) None (unwrap_or (slot m q) o)) (sym (nothing_set q))
-    ∙ ap (cond (bytes_eq q name) None) (sym (lookup-written_over finite.empty m q)) ∙ sym (lookup-with_value (written_over finite.empty m.entries) name None q))
+-- a name was taken out of a table, and out of the environment under it
+pub removed_over : {S : Type 0} (e : Environment) (m n : IndexMap (String Global) (Option (String Global)) S) (name : Text) → UpdatesBy string_eq (λ k. bytes_eq name (string_bytes k)) m n None
+    → written_over (finite.remove e name) n.entries ≡ finite.remove (written_over e m.entries) name
+removed_over e m n name u = same_environment _ _ (λ q.
+    lookup-written_over (finite.remove e name) n q ∙ ap (λ (o : Option (Option Text)). unwrap_or o (lookup (finite.remove e name) q)) (slot-updated m n name None u q)
+    ∙ ap (unwrap_or (cond (bytes_eq q name) None (slot m q))) (lookup-with_value e name None q) ∙ removed_at (bytes_eq q name) (slot m q) (lookup e q)
+    ∙ ap (cond (bytes_eq q name) None) (sym (lookup-written_over e m q)) ∙ sym (lookup-with_value (written_over e m.entries) name None q))
 
 -- what was found in a table, or else in the environment under it
 pub found_over : {S : Type 0} (e d : Environment) (m : IndexMap (String Global) (Option (String Global)) S) (q : Text) (o : Option (Option Text)) (p : Option Text) → written_over e m.entries ≡ d → o ≡ slot m q → p ≡ unwrap_or o (lookup e q) → p ≡ lookup d q
@@ -102,10 +102,12 @@ not_found (x ∷ xs) q h = passed (bytes_eq q (string_bytes x.0)) (has q (names_
 pub not_written : (e : Environment) (es : List Slot) (q : Text) → has q (names_of es) ≡ false → lookup (written_over e es) q ≡ lookup e q
 not_written e es q h = lookup-entries e es q ∙ ap (λ (o : Option (Option (String Global))). unwrap_or (said o) (lookup e q)) (not_found es q h)
 
-pub all_given : {E : Type 0} (r : Result (Vec (Bor Text) Global) E) (d : Environment) (es : List Slot) → written_over finite.empty es ≡ d → IfOk r (λ v. slice_texts v.items ≡ names_of es)
-    → IfOk r (λ v. (n : Text) → has n (slice_texts v.items) ≡ false → lookup d n ≡ None)
-all_given (Ok v) d es w h = λ n k. ap (λ (e : Environment). lookup e n) (sym w) ∙ not_written finite.empty es n (ap (has n) (sym h) ∙ k) ∙ nothing_set n
-all_given (Err x) d es w h = h
+-- names that neither the entries have nor a list that has all that is set under them
+pub all_named : (e d : Environment) (es : List Slot) (xs ys : List Text) → written_over e es ≡ d → xs ≡ names_of es → ((n : Text) → has n ys ≡ false → lookup e n ≡ None)
+    → (n : Text) → has n (xs ++ ys) ≡ false → lookup d n ≡ None
+all_named e d es xs ys w names under n h =
+    let none = sym (list_any-append (bytes_eq n) xs ys) ∙ h in
+    ap (λ (x : Environment). lookup x n) (sym w) ∙ not_written e es n (ap (has n) (sym names) ∙ or_left (has n xs) (has n ys) none) ∙ under n (or_right (has n xs) (has n ys) none)
 
 -- names that were not touched have the values under them
 pub all_touched : {S : Type 0} (e d : Environment) (m : IndexMap (String Global) (Option (String Global)) S) (names : List Text) → written_over e m.entries ≡ d → names ≡ names_of m.entries

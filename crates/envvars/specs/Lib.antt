@@ -3,8 +3,10 @@ pub mod Fields
 pub mod Escapes
 pub mod EscapeReading
 pub mod Environment
+pub mod EnvironmentBlock
 pub mod Changes
 pub mod Edited
 pub mod Tables
+pub mod Given
 pub mod Reasons
 pub mod Names

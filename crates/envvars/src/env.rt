@@ -1,15 +1,17 @@
-//! An environment that owns its variables.
+//! An environment that owns its variables: those that it was given, and over them those that were written since.
 ghost use Rattle.std.specs.Prelude.{◌≡◌, false, None, map, filter, is_some, string_bytes, OnOk, OnErr, IfOk, IfErr};
 ghost use Rattle.std.specs.Option.{option_map};
 ghost use Rattle.std.specs.FinMap as finite;
 ghost use Rattle.envvars.specs.Texts.{Text, has, slice_texts};
 ghost use Rattle.envvars.specs.Environment.{lookup};
+ghost use Rattle.envvars.specs.EnvironmentBlock.{environment_of};
 ghost use Rattle.envvars.specs.Changes.{applied, new_values_in};
 ghost use Rattle.envvars.specs.declared.fault.EnvFault.TheVariants.{OutOfMemory};
 
 use crate::change::Change;
 use crate::fault::EnvFault;
 use crate::fields::{owned, sorted_once};
+use crate::given::Given;
 use crate::table::{Table, found, make_changes, names_of, write_entry};
 use crate::vars::Vars;
 use indexmap::IndexMap;
@@ -18,8 +20,10 @@ use std::marker::Model;
 
 /// The variables that are set, with their values (environ(7)): a finite map from names to texts.
 pub struct Env {
-    /// The variables that are set, with their values. A name without a value is unset, as is one that isn't here.
-    vars: Table,
+    /// The variables of the block that it was made of.
+    given: Given,
+    /// The variables that were set since, over those, with their values. A name without a value is unset.
+    written: Table,
     /// Where the table and all copies take their memory.
     alloc: Global,
 }
@@ -28,7 +32,8 @@ pub struct Env {
 impl Drop for Env {
     fn drop(self) {
         let Env {
-            vars: _vars,
+            given: _given,
+            written: _written,
             alloc: _alloc,
         } = self;
     }
@@ -38,12 +43,15 @@ impl Model for Env {
     ghost use Rattle.std.specs.FinMap as finite;
     ghost use Rattle.envvars.specs.Environment.{Environment, environment_code};
     ghost use Rattle.envvars.specs.Tables.{written_over};
+    ghost use Rattle.envvars.specs.Given.{variables_of, IsChained};
 
     ghost Value = { Environment };
 
     ghost coded = { environment_code };
 
-    ghost view = { λ a. written_over finite.empty a.vars.entries };
+    ghost view = { λ a. written_over (variables_of a.given) a.written.entries };
+
+    ghost invariant = { λ a. IsChained a.given };
 }
 
 impl Env {
@@ -52,9 +60,24 @@ impl Env {
         ensures { result ≡ finite.empty }
     {
         Env {
-            vars: IndexMap::new(alloc),
+            given: Given::new(alloc),
+            written: IndexMap::new(alloc),
             alloc,
         }
+    }
+
+    /// The environment of a block of entries `NAME=VALUE`, each ended by NUL (environ(7)). An entry without `=`, or
+    /// without a name in UTF-8 before it, is passed over. Of several entries for one name the first counts, and its
+    /// variable is unset where the value isn't UTF-8. The only error is `OutOfMemory`.
+    pub fn from_block(alloc: Global, block: &[u8]) -> Result<Self, EnvFault>
+        ensures ok { IfOk result (λ env. env ≡ environment_of block.now) }
+        ensures only { IfErr result (λ e. e ≡ OutOfMemory) }
+    {
+        Ok(Env {
+            given: Given::read(alloc, block)?,
+            written: IndexMap::new(alloc),
+            alloc,
+        })
     }
 
     /// The allocator of the environment.
@@ -66,9 +89,9 @@ impl Env {
     pub fn get(&self, name: &str) -> Option<&str>
         ensures { option_map (λ x. x.now) result ≡ lookup self.now name.now }
     {
-        match found(&self.vars, name) {
+        match found(&self.written, name) {
             Some(value) => value,
-            None => None,
+            None => self.given.get(name),
         }
     }
 
@@ -79,7 +102,7 @@ impl Env {
         ensures err { OnErr result (self.new ≡ self.old) }
         ensures only { IfErr result (λ e. e ≡ OutOfMemory) }
     {
-        write_entry(self.alloc, &mut self.vars, name, Some(value))?;
+        write_entry(self.alloc, &mut self.written, name, Some(value))?;
         Ok(())
     }
 
@@ -87,7 +110,8 @@ impl Env {
     pub fn unset(&mut self, name: &str)
         ensures { self.new ≡ finite.remove self.old name.now }
     {
-        let _ = self.vars.swap_remove(name);
+        let _ = self.written.swap_remove(name);
+        self.given.unset(name);
     }
 
     /// A copy of the environment. The only error is `OutOfMemory`.
@@ -96,7 +120,8 @@ impl Env {
         ensures only { IfErr result (λ e. e ≡ OutOfMemory) }
     {
         Ok(Env {
-            vars: self.vars.clone()?,
+            given: self.given.copy()?,
+            written: self.written.clone()?,
             alloc: self.alloc,
         })
     }
@@ -112,11 +137,15 @@ impl Env {
         Ok(owned(self.alloc, names.as_slice())?)
     }
 
-    /// The names in the table: every variable that is set, and perhaps some that are unset.
+    /// The names that were given or written: every variable that is set, and perhaps some that are unset; some may come
+    /// twice.
     pub(crate) fn names_in_table(&self, alloc: Global) -> Result<Vec<&str>, AllocError>
         ensures { IfOk result (λ v. (n : Text) → has n (slice_texts v.items) ≡ false → lookup self.now n ≡ None) }
     {
-        names_of(alloc, &self.vars)
+        let mut names = names_of(alloc, &self.written)?;
+        let given = self.given.names(alloc)?;
+        names.extend_from_slice(given.as_slice())?;
+        Ok(names)
     }
 }
 
@@ -141,7 +170,7 @@ impl Vars for Env {
     }
 
     fn apply(&mut self, changes: Vec<Change>) -> Result<(), EnvFault> {
-        make_changes(&mut self.vars, changes)?;
+        make_changes(&mut self.written, changes)?;
         Ok(())
     }
 }

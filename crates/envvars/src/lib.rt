@@ -9,6 +9,7 @@ mod env;
 pub mod escapes;
 mod fault;
 pub mod fields;
+mod given;
 pub mod laws;
 mod names;
 mod table;

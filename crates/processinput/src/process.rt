@@ -3,14 +3,16 @@ ghost use Rattle.std.specs.Prelude.{◌≡◌, ◌<◌, ◌≤◌, Some, IfOk, I
 ghost use Rattle.message.specs.Messages.{text_of};
 ghost use Rattle.processinput.specs.Faults.{number_of, message_of};
 
+use memchr::{memchr, memchr_iter};
 use message::{Message, out_of_memory};
 use std::alloc::AllocError;
 use std::env::FillError;
 use std::error::Error;
 use std::fmt::Display;
-use std::io::ErrorKind;
+use std::fs::File;
+use std::io::{ErrorKind, Read};
 use std::rt::{Env, Files};
-use std::{env, fmt, fs};
+use std::{env, fmt, io};
 
 /// Why the arguments can't be read.
 #[derive(Clone, Copy, Debug, PartialEq, Eq)]
@@ -56,6 +58,9 @@ impl Error for ArgumentsFault {}
 /// The file in which Linux gives a process its environment at once (proc(5)).
 const OWN_ENVIRONMENT: &str = "/proc/self/environ";
 
+/// The length in bytes that most environments have room in.
+const USUAL_LENGTH: usize = 2000;
+
 /// The length in bytes of the first buffer for one entry.
 const FIRST_LENGTH: usize = 4096;
 
@@ -84,7 +89,7 @@ pub fn arguments<R: Env + AllocGlobal>(rt: &R) -> Result<Vec<String>, ArgumentsF
 /// The system's file is read at once. Where it can't be read, or isn't the list that the process has, the entries are
 /// asked for one by one, in time that grows with the square of their number, so that none is lost.
 pub fn environment_block<R: Env + Files + AllocGlobal>(rt: &R) -> Result<Vec<u8>, AllocError> {
-    if let Ok(block) = fs::read(rt, OWN_ENVIRONMENT) {
+    if let Ok(block) = own_environment(rt) {
         if is_complete(rt, block.as_slice())? {
             return Ok(block);
         }
@@ -92,24 +97,39 @@ pub fn environment_block<R: Env + Files + AllocGlobal>(rt: &R) -> Result<Vec<u8>
     block_by_entries(rt)
 }
 
+/// The text of the system's file.
+fn own_environment<R: Files + AllocGlobal>(rt: &R) -> io::Result<Vec<u8>> {
+    let mut file = File::open(rt, OWN_ENVIRONMENT)?;
+    let mut block = Vec::with_capacity(rt.alloc(), USUAL_LENGTH)?;
+    file.read_to_end(&mut block)?;
+    Ok(block)
+}
+
 /// Whether the block has as many entries as the process, the same first one, and NUL at its end.
 fn is_complete<R: Env + AllocGlobal>(rt: &R, block: &[u8]) -> Result<bool, AllocError> {
-    let mut room = Vec::new(rt.alloc());
-    let count = block.iter().filter(|b| **b == 0).count();
-    if copy_entry(rt, count, &mut room)?.is_some() {
-        return Ok(false);
-    }
-    let Some(last) = count.checked_sub(1) else {
-        return Ok(block.is_empty());
+    let Some((last, _)) = memchr_iter(0, block).enumerate().last() else {
+        return Ok(block.is_empty() && !has_entry(rt, 0));
     };
-    if copy_entry(rt, last, &mut room)?.is_none() {
-        return Ok(false);
+    let is_whole = block.ends_with(b"\0") && has_entry(rt, last) && !has_entry(rt, last + 1);
+    Ok(is_whole && begins_alike(rt, block)?)
+}
+
+/// Whether the process has more than `i` entries.
+fn has_entry<R: Env>(rt: &R, i: usize) -> bool {
+    match rt.var_at(i, &mut []) {
+        Ok(_) | Err(FillError::TooLong) => true,
+        Err(FillError::NotPresent) => false,
     }
-    let Some(length) = copy_entry(rt, 0, &mut room)? else {
-        return Ok(false);
-    };
-    let first = block.split(|b| *b == 0).next();
-    Ok(first == Some(&room.as_slice()[..length]) && block.ends_with(b"\0"))
+}
+
+/// Whether the first entry of the process is that of the block.
+fn begins_alike<R: Env + AllocGlobal>(rt: &R, block: &[u8]) -> Result<bool, AllocError> {
+    let first = &block[..memchr(0, block).unwrap_or(block.len())];
+    let mut room = Vec::from_elem(rt.alloc(), 0, first.len())?;
+    Ok(match rt.var_at(0, room.as_mut_slice()) {
+        Ok(length) => &room.as_slice()[..length] == first,
+        Err(_) => false,
+    })
 }
 
 /// The block of the environment, made of the entries one by one.
