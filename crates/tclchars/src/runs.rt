@@ -81,6 +81,8 @@ pub fn is_name(b: u8) -> bool
 }
 
 /// Whether the byte is of that class.
+// A loop over a run then has the test of one class alone.
+#[inline(always)]
 fn in_class(class: Class, b: u8) -> bool
     ensures { result ≡ in_class class b }
 {

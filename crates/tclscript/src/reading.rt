@@ -142,7 +142,7 @@ fn read_braced<'a, S: Source<P>, P: Drop>(
         return Err(ReadError::Fault(Fault::OpenBrace(remaining_with_mark(text))));
     };
     let rest = require_word_end(after, nesting)?;
-    let mut parts = Vec::new(alloc);
+    let mut parts = Vec::with_capacity(alloc, 1)?;
     parts.push(Part::Braced(source.cut(text, inner)))?;
     Ok((parts, rest))
 }
@@ -338,7 +338,8 @@ fn read_parts<'a, S: Source<P>, P: Drop>(
     ensures { Gives stopped_by (λ x. (parts_view (S.shown source.now) x.0.items, x.1.now)) result
         (parts_with context (inner_at depth) text.now) }
 {
-    let mut parts = Vec::new(alloc);
+    // Few words have more parts than two.
+    let mut parts = Vec::with_capacity(alloc, 2)?;
     let mut rest = text;
     loop {
         if parts_end(rest, context) {

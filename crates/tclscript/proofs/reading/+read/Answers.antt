@@ -155,7 +155,7 @@ pub read_parts-loop-alloc-init : goal.read_parts-loop-alloc-init
 read_parts-loop-alloc-init g t c = record {
   utf8 = search rules;
   end = search rules;
-  so_far = rw c.new-parts.ensures.items (so_far-none (λ bs. bs) (parts_end c.args.context) (part_at c.args.context (inner_at c.args.depth)) c.args.text.now);
+  so_far = rw c.in_ok-parts.ensures.items (so_far-none (λ bs. bs) (parts_end c.args.context) (part_at c.args.context (inner_at c.args.depth)) c.args.text.now);
 }
 
 pub read_parts-returns-then-parts_end : goal.read_parts-returns-then-parts_end
@@ -165,7 +165,7 @@ read_parts-returns-then-parts_end g t c =
 
 pub read_parts-returns-in_err-part : goal.read_parts-returns-in_err-part
 read_parts-returns-in_err-part g t c =
-    let p = err_from_is_err_and c.from_residual.result c.from_residual.ensures.1 in
+    let p = err_from_is_err_and c.from_residual-in_err-part.result c.from_residual-in_err-part.ensures.1 in
     rw (p.1, p.2) (parts-fails c.args.context c.args.depth c.args.text.now (map (part_view (g.S.Source.shown c.args.source.now)) c.loop-alloc.parts.items) c.loop-alloc.rest.now c.in_err-part.field-0.0
     (sym c.parts_end.ensures ∙ c.if-parts_end.false) c.in_err-part.ensures c.loop-alloc.invariant.so_far)
 
