@@ -225,6 +225,7 @@ fn read_command<'a, S: Source<P>, P: Drop>(
 }
 
 /// The word that the text begins with, and the rest.
+#[inline(always)]
 #[cycle(read)]
 #[tactic(auto, unfolding(crate::specs::Reading::word_at))]
 fn read_word<'a, S: Source<P>, P: Drop>(
@@ -263,6 +264,7 @@ fn read_word<'a, S: Source<P>, P: Drop>(
 }
 
 /// The parts of a word in braces, in quotes or in neither, and the rest.
+#[inline(always)]
 #[cycle(read)]
 #[tactic(auto, unfolding(crate::specs::Reading::unexpanded_word_at))]
 fn read_unexpanded_word<'a, S: Source<P>, P: Drop>(
