@@ -2,3 +2,4 @@ pub mod Bytes
 pub mod Printed
 pub mod Reader
 pub mod Together
+pub mod Values

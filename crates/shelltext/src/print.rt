@@ -7,7 +7,7 @@ ghost use Rattle.shelltext.specs.Printing as printing;
 ghost use Rattle.shelltext.specs.Printing.{printed_line, IsPrintFault, print_fault_number, print_message};
 ghost use Rattle.shelltext.specs.declared.print.PrintFault.TheVariants.{OutOfMemory};
 
-use crate::spelling::{are_sayable, push_set, push_unset};
+use crate::spelling::{is_value_sayable, push_set, push_unset};
 use envvars::{Change, is_variable_name};
 use message::{Message, out_of_memory};
 use shells::{Family, Shell};
@@ -78,7 +78,7 @@ fn is_sayable(family: Family, change: &Change) -> bool
     }
     match &change.value {
         None => true,
-        Some(value) => are_sayable(family, value.as_str().as_bytes()),
+        Some(value) => is_value_sayable(family, value.as_str()),
     }
 }
 

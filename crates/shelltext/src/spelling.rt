@@ -1,27 +1,35 @@
 //! How a value is quoted, and how a line that sets or unsets a variable is written, for each family of shells.
-ghost use Rattle.std.specs.Prelude.{◌≡◌, ◌++◌, true, not, OnOk, string_bytes, encode_utf8};
-ghost use Rattle.std.specs.List.{flat_map, list_all};
+ghost use Rattle.std.specs.Prelude.{◌≡◌, ◌<◌, ◌==◌, ◌++◌, true, not, OnOk, string_bytes, encode_utf8};
+ghost use Rattle.std.specs.List.{flat_map, list_all, list_any};
 ghost use Rattle.shelltext.specs.Reading as reading;
 ghost use Rattle.shelltext.specs.Printing as printing;
 
 use shells::Family;
 use std::alloc::AllocError;
 
-/// Whether no text of these shells says a value with this byte.
-fn is_unsayable(family: Family, b: u8) -> bool
-    ensures { result ≡ reading.is_unsayable family b }
+/// Whether the value has the character, which is ASCII.
+fn has(value: &str, c: char) -> bool
+    requires { c < 128 }
+    ensures { result ≡ list_any (λ b. b == c) value.now }
+{
+    value.contains(c)
+}
+
+/// Whether the value has a byte that no text of these shells says.
+fn has_unsayable(family: Family, value: &str) -> bool
+    ensures { result ≡ list_any (reading.is_unsayable family) value.now }
 {
     match family {
-        Family::Sh | Family::Fish => b == 0,
-        Family::Csh => b == 0 || b == b'\n',
+        Family::Sh | Family::Fish => has(value, '\0'),
+        Family::Csh => has(value, '\0') || has(value, '\n'),
     }
 }
 
-/// Whether a text of these shells says a value of these bytes.
-pub fn are_sayable(family: Family, bytes: &[u8]) -> bool
-    ensures { result ≡ list_all (λ b. not (reading.is_unsayable family b)) bytes.now }
+/// Whether a text of these shells says the value.
+pub fn is_value_sayable(family: Family, value: &str) -> bool
+    ensures { result ≡ list_all (λ b. not (reading.is_unsayable family b)) value.now }
 {
-    bytes.iter().all(|b| !is_unsayable(family, *b))
+    !has_unsayable(family, value)
 }
 
 /// Whether the character means something inside single quotes, and so needs a backslash.
@@ -32,6 +40,17 @@ fn is_special(family: Family, c: char) -> bool
         Family::Sh => c == '\'',
         Family::Csh => c == '\'' || c == '!',
         Family::Fish => c == '\'' || c == '\\',
+    }
+}
+
+/// Whether a character of the value needs a backslash. Most values have none, and are then appended as they are.
+fn has_special(family: Family, value: &str) -> bool
+    ensures { result ≡ list_any (reading.is_special family) value.now }
+{
+    match family {
+        Family::Sh => has(value, '\''),
+        Family::Csh => has(value, '\'') || has(value, '!'),
+        Family::Fish => has(value, '\'') || has(value, '\\'),
     }
 }
 
@@ -65,14 +84,25 @@ fn push_char(out: &mut String, family: Family, c: char) -> Result<(), AllocError
     }
 }
 
+/// Appends what is inside the single quotes of a value.
+fn push_inner(out: &mut String, family: Family, value: &str) -> Result<(), AllocError>
+    ensures { OnOk result (string_bytes out.new ≡ string_bytes out.old ++ flat_map (printing.spell family) value.now) }
+{
+    if !has_special(family, value) {
+        return out.push_str(value);
+    }
+    for c in value.chars() {
+        push_char(out, family, c)?;
+    }
+    Ok(())
+}
+
 /// Appends a value in single quotes.
 fn push_value(out: &mut String, family: Family, value: &str) -> Result<(), AllocError>
     ensures { OnOk result (string_bytes out.new ≡ string_bytes out.old ++ printing.quoted family value.now) }
 {
     out.push('\'')?;
-    for c in value.chars() {
-        push_char(out, family, c)?;
-    }
+    push_inner(out, family, value)?;
     out.push('\'')
 }
 
