@@ -11,10 +11,9 @@ use Rattle.tclchars.specs.declared.fault.Fault.TheVariants.{OpenBrace, TooDeep, 
 use Rattle.tclchars.proofs.Results.{bind_err, bind_ok, ok_err, ok_pair, read_map_err, read_map_ok}
 use Rattle.tclscript.specs.declared.context.Context.{Context}
 use Rattle.tclscript.specs.declared.context.Context.TheVariants.{InIndex}
-use Rattle.tclscript.specs.declared.runs.ScanState.TheVariants.{Name}
+use Rattle.tclscript.specs.ScanState.{Name, scan}
 use Rattle.tclscript.specs.Tree.{Parts, no_parts, part, Part, literal, variable, indexed, nesting, parts_nesting, part_nesting}
 use Rattle.tclscript.specs.Ends.{parts_end}
-use Rattle.tclscript.specs.ScanState.{scan}
 use Rattle.tclscript.specs.Grammar.{IsName, IsLongestName, IsCommands, IsParts, IsPart}
 use Rattle.tclscript.specs.Faults.{CommandsFault, PartsFault, PartFault}
 use Rattle.tclscript.specs.Faults as faults

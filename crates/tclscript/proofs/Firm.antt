@@ -7,9 +7,7 @@ use Rattle.tclchars.specs.Classes.{in_class}
 use Rattle.tclchars.specs.Backslash.{after_backslash}
 use Rattle.tclscript.specs.declared.context.Context.{Context}
 use Rattle.tclscript.specs.declared.context.Context.TheVariants.{InScript, InBracket, InIndex, InQuotes}
-use Rattle.tclscript.specs.declared.runs.ScanState.{ScanState}
-use Rattle.tclscript.specs.declared.runs.ScanState.TheVariants.{Blanks, AwaitsNewline, Gap, Comment, Escaped, Name, Colons}
-use Rattle.tclscript.specs.ScanState.{step, put_before, scan_on, scan}
+use Rattle.tclscript.specs.ScanState.{ScanState, Blanks, AwaitsNewline, Gap, Comment, Escaped, Name, Colons, step, put_before, scan_on, scan}
 use Rattle.tclscript.specs.Tree as tree
 use Rattle.tclscript.specs.Tree.{Commands, no_commands, command, Words, no_words, word, Word, word_of, Parts, no_parts, part, Part, literal, variable, indexed, bracket}
 use Rattle.tclscript.specs.Ends.{script_ends, command_ends, word_ends, ends_at, parts_end, class_of, bare}

@@ -3,8 +3,7 @@ use Rattle.std.proofs.Common.{◌≡◌, ℕ, [], ◌∷◌, Bool, true, false, 
 use Rattle.tclchars.specs.Bytes.{newline, backslash, is_gap, is_blank, is_end}
 use Rattle.tclchars.specs.Runs.{Text, begins}
 use Rattle.tclscript.specs.Ends.{script_ends, command_ends, word_ends}
-use Rattle.tclscript.specs.ScanState.{step_blanks, step_gap, skip_blanks, skip_gap}
-use Rattle.tclscript.specs.declared.runs.ScanState.TheVariants.{Blanks, AwaitsNewline, Gap}
+use Rattle.tclscript.specs.ScanState.{step_blanks, step_gap, skip_blanks, skip_gap, Blanks, AwaitsNewline, Gap}
 use Rattle.tclscript.proofs.Passes.{StopsBlanks, StopsGap, blanks_stop, gap_stop}
 
 neither : (t u : Bool) → (t || u) ≡ false → (t ≡ false) × (u ≡ false)

@@ -10,6 +10,7 @@ pub mod Turns
 pub mod Views
 pub mod Nested
 pub mod PassedOver
+pub mod Skips
 pub mod Names
 pub mod Exact
 pub mod Marks

@@ -4,9 +4,7 @@ use Rattle.std.proofs.lemmas.Bool.Decides.{nat_tests}
 use Rattle.tclchars.specs.Runs.{Text, begins}
 use Rattle.tclchars.specs.Bytes.{AllPass, colon}
 use Rattle.tclchars.specs.Classes.{is_name}
-use Rattle.tclscript.specs.declared.runs.ScanState.{ScanState}
-use Rattle.tclscript.specs.declared.runs.ScanState.TheVariants.{Name, Colons}
-use Rattle.tclscript.specs.ScanState.{step, put_before, scan}
+use Rattle.tclscript.specs.ScanState.{ScanState, Name, Colons, step, put_before, scan}
 use Rattle.tclscript.specs.Grammar as grammar
 use Rattle.tclscript.specs.Grammar.{IsName, IsLongestName, is_colon}
 use Rattle.tclscript.proofs.PassedOver.{pass_whole, scan-nil, scan-on, scan-stop, is_byte}

@@ -3,9 +3,7 @@ use Rattle.std.proofs.Common.{◌≡◌, ◌≢◌, ℕ, zero, suc, ◌<◌, [],
 use Rattle.std.proofs.lemmas.Bool.Decides.{nat_tests}
 use Rattle.tclchars.specs.Runs.{Text, begins}
 use Rattle.tclchars.specs.Bytes.{newline, hash, backslash, is_blank, is_gap}
-use Rattle.tclscript.specs.declared.runs.ScanState.{ScanState}
-use Rattle.tclscript.specs.declared.runs.ScanState.TheVariants.{Blanks, AwaitsNewline, Gap, Comment, Escaped}
-use Rattle.tclscript.specs.ScanState.{step, put_before, scan_on, scan, skip_blanks, skip_gap}
+use Rattle.tclscript.specs.ScanState.{ScanState, Blanks, AwaitsNewline, Gap, Comment, Escaped, step, put_before, scan_on, scan, skip_blanks, skip_gap}
 use Rattle.tclscript.specs.Grammar as grammar
 use Rattle.tclscript.specs.Grammar.{IsBlanks, IsComment, IsGap}
 
@@ -35,7 +33,7 @@ scan-stop p b bs h = ap (scan_on b bs (λ p. scan p bs)) h
 abbrev pub begins_line : ℕ → Text → Bool
 begins_line b bs = b == backslash && begins newline bs
 
-blank_step : (b : ℕ) (bs : Text) → is_blank b ≡ true → step Blanks b bs ≡ Some Blanks
+pub blank_step : (b : ℕ) (bs : Text) → is_blank b ≡ true → step Blanks b bs ≡ Some Blanks
 blank_step b bs h = rw h refl
 
 line_step : (b : ℕ) (bs : Text) → is_blank b ≡ false → begins_line b bs ≡ true → step Blanks b bs ≡ Some AwaitsNewline
@@ -98,7 +96,7 @@ blanks_stay (b ∷ bs) h = ap (λ p. p.1) (scan-stop Blanks b bs (blanks_stop b 
 
 -- Gaps
 
-gap_step : (b : ℕ) (bs : Text) → (is_gap b || begins_line b bs) ≡ true → step Gap b bs ≡ Some Gap
+pub gap_step : (b : ℕ) (bs : Text) → (is_gap b || begins_line b bs) ≡ true → step Gap b bs ≡ Some Gap
 gap_step b bs h = rw h refl
 
 hash_step : (b : ℕ) (bs : Text) → (is_gap b || begins_line b bs) ≡ false → (b == hash) ≡ true → step Gap b bs ≡ Some Comment
@@ -107,13 +105,13 @@ hash_step b bs h k = rw (h, k) refl
 gap_stop : (b : ℕ) (bs : Text) → (is_gap b || begins_line b bs) ≡ false → (b == hash) ≡ false → step Gap b bs ≡ None
 gap_stop b bs h k = rw (h, k) refl
 
-newline_step : (b : ℕ) (bs : Text) → (b == newline) ≡ true → step Comment b bs ≡ Some Gap
+pub newline_step : (b : ℕ) (bs : Text) → (b == newline) ≡ true → step Comment b bs ≡ Some Gap
 newline_step b bs h = rw h refl
 
-escape_step : (b : ℕ) (bs : Text) → (b == newline) ≡ false → (b == backslash) ≡ true → step Comment b bs ≡ Some Escaped
+pub escape_step : (b : ℕ) (bs : Text) → (b == newline) ≡ false → (b == backslash) ≡ true → step Comment b bs ≡ Some Escaped
 escape_step b bs h k = rw (h, k) refl
 
-comment_step : (b : ℕ) (bs : Text) → (b == newline) ≡ false → (b == backslash) ≡ false → step Comment b bs ≡ Some Comment
+pub comment_step : (b : ℕ) (bs : Text) → (b == newline) ≡ false → (b == backslash) ≡ false → step Comment b bs ≡ Some Comment
 comment_step b bs h k = rw (h, k) refl
 
 -- what no gap begins with, before what follows
@@ -226,10 +224,10 @@ gap_taken bs = (gap_below (suc (length bs)) bs (omega arith)).0
 no_test : (b c : ℕ) → b ≢ c → (b == c) ≡ false
 no_test b c h = grind (arith, nat_tests)
 
-abbrev rest_of : ScanState → Text → Text
+abbrev pub rest_of : ScanState → Text → Text
 rest_of p bs = (scan p bs).1
 
-rest-on : (p q : ScanState) (b : ℕ) (bs : Text) → step p b bs ≡ Some q → rest_of p (b ∷ bs) ≡ rest_of q bs
+pub rest-on : (p q : ScanState) (b : ℕ) (bs : Text) → step p b bs ≡ Some q → rest_of p (b ∷ bs) ≡ rest_of q bs
 rest-on p q b bs h = ap (λ p. p.1) (scan-on p q b bs h)
 
 comment_over : {inside : Text} → IsComment inside → (xs : Text) → rest_of Comment (inside ++ xs) ≡ rest_of Comment xs

@@ -12,11 +12,10 @@ use Rattle.tclchars.proofs.BraceClose.{close_sound}
 use Rattle.tclchars.proofs.RunLemmas.{drop_while-cons_true}
 use Rattle.tclscript.specs.declared.context.Context.{Context}
 use Rattle.tclscript.specs.declared.context.Context.TheVariants.{InScript, InBracket, InIndex, InQuotes}
-use Rattle.tclscript.specs.declared.runs.ScanState.TheVariants.{Blanks, Gap, Name}
+use Rattle.tclscript.specs.ScanState.{Blanks, Gap, Name, scan, skip_blanks, skip_gap}
 use Rattle.tclscript.specs.Pieces.{IsSuffixOf}
 use Rattle.tclscript.specs.Tree.{word_of, parts_of, commands_of, indexed}
 use Rattle.tclscript.specs.Ends.{script_ends, command_ends, word_ends, parts_end, class_of, bare}
-use Rattle.tclscript.specs.ScanState.{scan, skip_blanks, skip_gap}
 use Rattle.tclscript.specs.Reading.{on_mark, after_closing, require_word_end, Inner, bracket_at, index_at, braced_name_at, scalar_variable, after_name, dollar_at, escaped, backslash_at, part_at, parts_with, word_in_braces, braced_word_at, quoted_word_at, unexpanded_word_at, unless_word_ends, after_expansion, word_from, word_at, words_at, command_at, command_in, script_with, inner_at}
 use Rattle.tclscript.proofs.Ends.{end_same, end_through, end_no_longer, IsBehind, behind_mark, behind_through, end_mark}
 use Rattle.tclscript.proofs.Escapes.{either, back_end, LeavesSome, backslash_end}

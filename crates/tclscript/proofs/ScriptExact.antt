@@ -7,10 +7,9 @@ use Rattle.tclchars.specs.Bytes.{hash, is_blank, is_end, is_gap, DoesBegin}
 use Rattle.tclchars.specs.Reading.{◌>>=◌, Read, read_map, items_at}
 use Rattle.tclchars.specs.declared.fault.Fault.{Fault}
 use Rattle.tclchars.proofs.Results.{bind_err, bind_ok, read_map_err, read_map_ok}
-use Rattle.tclscript.specs.declared.runs.ScanState.TheVariants.{Blanks, Gap}
+use Rattle.tclscript.specs.ScanState.{Blanks, Gap, scan, skip_blanks, skip_gap}
 use Rattle.tclscript.specs.Tree.{Commands, no_commands, command, Command, Words, no_words, word, Word, words_of, commands_of, nesting, words_nesting}
 use Rattle.tclscript.specs.Ends.{script_ends, command_ends, word_ends}
-use Rattle.tclscript.specs.ScanState.{scan, skip_blanks, skip_gap}
 use Rattle.tclscript.specs.Grammar.{IsBlanks, IsGap, IsCommands, IsCommand, IsWords, IsWord}
 use Rattle.tclscript.specs.Faults as faults
 use Rattle.tclscript.specs.Faults.{CommandsFault, CommandFault, WordsFault, WordFault}

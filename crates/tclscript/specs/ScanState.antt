@@ -1,11 +1,21 @@
 -- What is skipped or taken byte by byte (Tcl(n), rules 3, 8 and 10): blanks, gaps between commands with their comments,
 -- and names of variables.
-use Rattle.std.specs.Prelude.{ℕ, [], ◌∷◌, ◌||◌, ◌&&◌, ◌==◌, if◌then◌else◌, Option, Some, None}
+use Rattle.std.specs.Prelude.{ℕ, [], ◌∷◌, Bool, false, ◌||◌, ◌&&◌, ◌==◌, if◌then◌else◌, Option, Some, None}
 use Rattle.tclchars.specs.Bytes.{newline, hash, colon, backslash, is_blank, is_gap}
 use Rattle.tclchars.specs.Classes.{is_name}
 use Rattle.tclchars.specs.Runs.{Text, begins}
-use Rattle.tclscript.specs.declared.runs.ScanState.{ScanState}
-use Rattle.tclscript.specs.declared.runs.ScanState.TheVariants.{Blanks, AwaitsNewline, Gap, Comment, Escaped, Name, Colons}
+
+-- what is being skipped or taken, and what the last byte was: blanks between words, and there a backslash before its
+-- newline; a gap between commands; a comment, and there a backslash, which takes the next byte with it; the name of a
+-- variable, and there the first of several colons
+pub data ScanState : Type 0 where
+  Blanks : ScanState
+  AwaitsNewline : ScanState
+  Gap : ScanState
+  Comment : ScanState
+  Escaped : ScanState
+  Name : ScanState
+  Colons : ScanState
 
 -- between the words of a command: blanks, and backslashes before newlines
 abbrev pub step_blanks : ℕ → Text → Option ScanState
@@ -65,3 +75,12 @@ skip_blanks bs = (scan Blanks bs).1
 -- the text without the gap that it begins with
 abbrev pub skip_gap : Text → Text
 skip_gap bs = (scan Gap bs).1
+
+-- the text begins with a backslash before a newline
+abbrev pub joins_lines : Text → Bool
+joins_lines [] = false
+joins_lines (b ∷ bs) = b == backslash && begins newline bs
+
+-- whether a name goes on with this byte, after a colon or not
+abbrev pub is_in_name : Bool → ℕ → Text → Bool
+is_in_name after_colon b after = is_name b || (b == colon && (after_colon || begins colon after))

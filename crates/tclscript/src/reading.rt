@@ -13,7 +13,7 @@ use crate::context::{
     Context, Nesting, bare, class_of, command_ends, parts_end, script_ends, word_ends,
 };
 use crate::piece::{Source, taken};
-use crate::runs::{ScanState, skip_blanks, skip_gap, split_scanned};
+use crate::runs::{skip_blanks, skip_gap, split_name};
 use crate::tree::{Command, Part, Script, Word};
 use std::alloc::Global;
 use tclchars::{
@@ -402,7 +402,7 @@ pub fn read_dollar<'a, S: Source<P>, P: Drop>(
     if let Some(inner) = after_mark(following, b'{') {
         return read_braced_name(source, inner);
     }
-    let (name, after) = split_scanned(following, ScanState::Name);
+    let (name, after) = split_name(following);
     match after_mark(after, b'(') {
         Some(index) => {
             let (parts, rest) = read_index(alloc, source, index, depth)?;

@@ -1,28 +1,80 @@
-//! What is skipped or taken byte by byte: blanks, gaps with their comments, and names of variables (Tcl(n), rules 3, 8
-//! and 10).
-ghost use Rattle.std.specs.Prelude.{◌≡◌};
+//! What is skipped or taken: blanks, gaps with their comments, and names of variables (Tcl(n), rules 3, 8 and 10).
+ghost use Rattle.std.specs.Prelude.{◌≡◌, ◌<◌, ◌≤◌, ◌∷◌, ◌&&◌, ◌==◌, false, not, length, MatchOption};
+ghost use Rattle.tclchars.specs.Bytes.{newline, hash, backslash};
 ghost use Rattle.tclchars.specs.Runs.{begins};
-ghost use Rattle.tclscript.specs.ScanState.{step_blanks, step_newline, step_gap, step_comment, step_name, step_colons, step, scan, skip_blanks, skip_gap};
+ghost use Rattle.tclscript.specs.ScanState.{Comment, Name, scan, skip_blanks, skip_gap, joins_lines, is_in_name};
 
-use tclchars::{is_blank, is_gap, is_name};
+use tclchars::{Class, after_mark, is_name, split_run};
 
-/// The state of a scan over bytes: what is being skipped or taken, and what the last byte was.
-#[derive(Clone, Copy)]
-pub(crate) enum ScanState {
-    /// Between words: blanks, and backslashes before newlines.
-    Blanks,
-    /// Between words, after a backslash: the next byte is its newline.
-    AwaitsNewline,
-    /// Between commands.
-    Gap,
-    /// In a comment.
-    Comment,
-    /// In a comment, after a backslash, which takes the next byte with it.
-    Escaped,
-    /// In the name of a variable.
-    Name,
-    /// In the name of a variable, after the first of several colons.
-    Colons,
+/// The text after a backslash and a newline, which join two lines, where it begins with them.
+fn after_joined_lines(text: &str) -> Option<&str>
+    ensures { MatchOption result (joins_lines text.now ≡ false)
+        (λ rest. text.now ≡ backslash ∷ (newline ∷ rest.now)) }
+{
+    after_mark(after_mark(text, b'\\')?, b'\n')
+}
+
+/// The text without the blanks that it begins with.
+pub(crate) fn skip_blanks(text: &str) -> &str
+    ensures { result.now ≡ skip_blanks text.now }
+{
+    let mut rest = split_run(text, Class::Blank).1;
+    while let Some(next) = after_joined_lines(rest) {
+        rest = split_run(next, Class::Blank).1;
+    }
+    rest
+}
+
+/// Whether the byte ends the comment that it is in, `escaped` or not.
+fn ends_comment(escaped: bool, b: u8) -> bool
+    ensures { result ≡ (b == newline && not escaped) }
+{
+    b == b'\n' && !escaped
+}
+
+/// Whether the byte of a comment, `escaped` or not, takes the next one with it.
+fn escapes_next(escaped: bool, b: u8) -> bool
+    ensures { result ≡ (b == backslash && not escaped) }
+{
+    b == b'\\' && !escaped
+}
+
+/// The text from the newline on that ends a comment, nothing where none does; `text` follows the mark of the comment.
+fn skip_comment(text: &str) -> &str
+    ensures same { (scan Comment text.now).1 ≡ skip_gap result.now }
+    ensures shorter { length result.now ≤ length text.now }
+{
+    let bytes = text.as_bytes();
+    let mut escaped = false;
+    for (n, b) in bytes.iter().enumerate() {
+        if ends_comment(escaped, *b) {
+            return text.split_at(n).1;
+        }
+        escaped = escapes_next(escaped, *b);
+    }
+    text.split_at(text.len()).1
+}
+
+/// The text after a comment, or after two lines that are joined, where it begins with one of them.
+fn after_comment(text: &str) -> Option<&str>
+    ensures { MatchOption result ((begins hash text.now ≡ false) × (joins_lines text.now ≡ false))
+        (λ rest. (skip_gap text.now ≡ skip_gap rest.now) × (length rest.now < length text.now)) }
+{
+    match after_mark(text, b'#') {
+        Some(comment) => Some(skip_comment(comment)),
+        None => after_joined_lines(text),
+    }
+}
+
+/// The text without the gap that it begins with: white space, semicolons and comments.
+pub(crate) fn skip_gap(text: &str) -> &str
+    ensures { result.now ≡ skip_gap text.now }
+{
+    let mut rest = split_run(text, Class::Gap).1;
+    while let Some(next) = after_comment(rest) {
+        rest = split_run(next, Class::Gap).1;
+    }
+    rest
 }
 
 /// Whether the text begins with that byte.
@@ -35,121 +87,25 @@ fn begins(text: &[u8], mark: u8) -> bool
     }
 }
 
-/// The state after a byte between words, or none.
-fn step_blanks(b: u8, after: &[u8]) -> Option<ScanState>
-    ensures { result ≡ step_blanks b after.now }
+/// Whether a name goes on with the byte, after a colon or not; one colon alone is no part of it.
+fn is_in_name(after_colon: bool, b: u8, after: &[u8]) -> bool
+    ensures { result ≡ is_in_name after_colon b after.now }
 {
-    if is_blank(b) {
-        Some(ScanState::Blanks)
-    } else if b == b'\\' && begins(after, b'\n') {
-        Some(ScanState::AwaitsNewline)
-    } else {
-        None
-    }
+    is_name(b) || b == b':' && (after_colon || begins(after, b':'))
 }
 
-/// The state after the newline that a backslash joins, or none.
-fn step_newline(b: u8) -> Option<ScanState>
-    ensures { result ≡ step_newline b }
-{
-    if b == b'\n' {
-        Some(ScanState::Blanks)
-    } else {
-        None
-    }
-}
-
-/// The state after a byte between commands, or none.
-fn step_gap(b: u8, after: &[u8]) -> Option<ScanState>
-    ensures { result ≡ step_gap b after.now }
-{
-    if is_gap(b) || (b == b'\\' && begins(after, b'\n')) {
-        Some(ScanState::Gap)
-    } else if b == b'#' {
-        Some(ScanState::Comment)
-    } else {
-        None
-    }
-}
-
-/// The state after a byte of a comment, which a newline ends.
-fn step_comment(b: u8) -> ScanState
-    ensures { result ≡ step_comment b }
-{
-    match b {
-        b'\n' => ScanState::Gap,
-        b'\\' => ScanState::Escaped,
-        _ => ScanState::Comment,
-    }
-}
-
-/// The state after a byte of a name, or none; one colon alone is no part of it.
-fn step_name(b: u8, after: &[u8]) -> Option<ScanState>
-    ensures { result ≡ step_name b after.now }
-{
-    if is_name(b) {
-        Some(ScanState::Name)
-    } else if b == b':' && begins(after, b':') {
-        Some(ScanState::Colons)
-    } else {
-        None
-    }
-}
-
-/// The state after a byte of a name that follows a colon of several, or none.
-fn step_colons(b: u8) -> Option<ScanState>
-    ensures { result ≡ step_colons b }
-{
-    if is_name(b) {
-        Some(ScanState::Name)
-    } else if b == b':' {
-        Some(ScanState::Colons)
-    } else {
-        None
-    }
-}
-
-/// The state after the byte `b`, which the bytes `after` follow. None where the scan ends before this byte.
-fn step(state: ScanState, b: u8, after: &[u8]) -> Option<ScanState>
-    ensures { result ≡ step state b after.now }
-{
-    match state {
-        ScanState::Blanks => step_blanks(b, after),
-        ScanState::AwaitsNewline => step_newline(b),
-        ScanState::Gap => step_gap(b, after),
-        ScanState::Comment => Some(step_comment(b)),
-        ScanState::Escaped => Some(ScanState::Comment),
-        ScanState::Name => step_name(b, after),
-        ScanState::Colons => step_colons(b),
-    }
-}
-
-/// The bytes that a scan from that state takes, and the rest.
-pub(crate) fn split_scanned(text: &str, start: ScanState) -> (&str, &str)
-    ensures run { result.0.now ≡ (scan start text.now).0 }
-    ensures rest { result.1.now ≡ (scan start text.now).1 }
+/// The name of a variable that the text begins with, and the rest.
+pub(crate) fn split_name(text: &str) -> (&str, &str)
+    ensures run { result.0.now ≡ (scan Name text.now).0 }
+    ensures rest { result.1.now ≡ (scan Name text.now).1 }
 {
     let bytes = text.as_bytes();
-    let mut state = start;
+    let mut after_colon = false;
     for (n, b) in bytes.iter().enumerate() {
-        match step(state, *b, &bytes[n + 1..]) {
-            None => return text.split_at(n),
-            Some(next) => state = next,
+        if !is_in_name(after_colon, *b, &bytes[n + 1..]) {
+            return text.split_at(n);
         }
+        after_colon = *b == b':';
     }
     text.split_at(text.len())
-}
-
-/// The text without the blanks that it begins with.
-pub(crate) fn skip_blanks(text: &str) -> &str
-    ensures { result.now ≡ skip_blanks text.now }
-{
-    split_scanned(text, ScanState::Blanks).1
-}
-
-/// The text without the gap that it begins with: white space, semicolons and comments.
-pub(crate) fn skip_gap(text: &str) -> &str
-    ensures { result.now ≡ skip_gap text.now }
-{
-    split_scanned(text, ScanState::Gap).1
 }

@@ -1,10 +1,9 @@
 use Rattle.std.proofs.Common.{◌≡◌, ◌-◌, ◌∷◌, length, Ok, map, sym, ap, subst, ◌∙◌, refl, arith, rules}
 use Rattle.std.proofs.lemmas.Result.{err_from_is_err_and}
 use Rattle.std.proofs.lemmas.List.{map_push}
-use Rattle.tclscript.specs.declared.runs.ScanState.TheVariants.{Blanks, Gap, Name}
+use Rattle.tclscript.specs.ScanState.{Blanks, Gap, Name, skip_gap}
 use Rattle.tclscript.specs.Pieces.{IsSuffixOf, IsPrefixOf}
 use Rattle.tclscript.specs.Ends.{is_nested, script_ends, parts_end}
-use Rattle.tclscript.specs.ScanState.{skip_gap}
 use Rattle.tclscript.specs.Reading.{part_at, command_in, inner_at}
 use Rattle.tclscript.specs.View.{script_view, command_view, word_view, part_view, parts_view}
 use Rattle.tclscript.proofs.Ends.{end_mark, end_through, end_no_longer}
@@ -197,11 +196,11 @@ read_dollar-read_index-requires g t c =
     let r : IsSuffixOf (g.S.Source.text c.args.source.now) c.args.text.now = search rules in
     let dollar : c.args.text.now ≡ 36 ∷ c.args.following.now = search rules in
     let following : IsSuffixOf c.args.text.now c.args.following.now = end_mark c.args.text.now 36 c.args.following.now dollar in
-    let name : IsSuffixOf c.args.following.now c.split_scanned.result.1.now = subst (IsSuffixOf c.args.following.now) (sym c.split_scanned.ensures.rest) (pass_end Name c.args.following.now) in
-    let index : IsSuffixOf c.split_scanned.result.1.now c.in-Some-after_mark.index.now = end_mark c.split_scanned.result.1.now 40 c.in-Some-after_mark.index.now c.in-Some-after_mark.ensures in
+    let name : IsSuffixOf c.args.following.now c.split_name.result.1.now = subst (IsSuffixOf c.args.following.now) (sym c.split_name.ensures.rest) (pass_end Name c.args.following.now) in
+    let index : IsSuffixOf c.split_name.result.1.now c.in-Some-after_mark.index.now = end_mark c.split_name.result.1.now 40 c.in-Some-after_mark.index.now c.in-Some-after_mark.ensures in
     let e : IsSuffixOf (g.S.Source.text c.args.source.now) c.in-Some-after_mark.index.now =
     end_through (g.S.Source.text c.args.source.now) c.args.text.now c.in-Some-after_mark.index.now r
-    (end_through c.args.text.now c.args.following.now c.in-Some-after_mark.index.now following (end_through c.args.following.now c.split_scanned.result.1.now c.in-Some-after_mark.index.now name index))
+    (end_through c.args.text.now c.args.following.now c.in-Some-after_mark.index.now following (end_through c.args.following.now c.split_name.result.1.now c.in-Some-after_mark.index.now name index))
     in
     search rules
 
@@ -212,10 +211,10 @@ read_dollar-indexed-requires-clause-text g t c =
     end_through (g.S.Source.text c.args.source.now) c.args.text.now c.args.following.now r (end_mark c.args.text.now 36 c.args.following.now dollar)
 
 pub read_dollar-indexed-requires-clause-name : goal.read_dollar-indexed-requires-clause-name
-read_dollar-indexed-requires-clause-name g t c = subst (IsPrefixOf c.args.following.now) (sym c.split_scanned.ensures.run) (pass_front Name c.args.following.now)
+read_dollar-indexed-requires-clause-name g t c = subst (IsPrefixOf c.args.following.now) (sym c.split_name.ensures.run) (pass_front Name c.args.following.now)
 
 pub read_dollar-scalar_variable-requires-clause-name : goal.read_dollar-scalar_variable-requires-clause-name
-read_dollar-scalar_variable-requires-clause-name g t c = subst (IsPrefixOf c.args.following.now) (sym c.split_scanned.ensures.run) (pass_front Name c.args.following.now)
+read_dollar-scalar_variable-requires-clause-name g t c = subst (IsPrefixOf c.args.following.now) (sym c.split_name.ensures.run) (pass_front Name c.args.following.now)
 
 pub read_part-read_bracket-requires : goal.read_part-read_bracket-requires
 read_part-read_bracket-requires g t c =

@@ -1,0 +1,17 @@
+use Rattle.std.proofs.Common.{◌≡◌, false, length}
+use denote.Text.{Utf8}
+use denote.Shadow.{shadow}
+use Rattle.tclchars.specs.Bytes.{is_gap}
+use Rattle.tclchars.specs.Classes.{begins_in}
+use Rattle.tclscript.specs.ScanState.{skip_gap}
+use Rattle.tclscript.proofs.runs.skip_gap.Given as goal
+
+abbrev pub invariant-loop-next : goal.invariant-loop-next
+invariant-loop-next l = record {
+  utf8 : shadow (Utf8 l.rest);
+  stops : begins_in is_gap l.rest ≡ false;
+  same : skip_gap l.text ≡ skip_gap l.rest;
+}
+
+abbrev pub decreases-loop-next : goal.decreases-loop-next
+decreases-loop-next l = length l.rest
