@@ -81,7 +81,7 @@ pub fn is_name(b: u8) -> bool
 }
 
 /// Whether the byte is of that class.
-// A loop over a run then has the test of one class alone.
+// Where a caller names the class, the loop over the run has the test of that class alone.
 #[inline(always)]
 fn in_class(class: Class, b: u8) -> bool
     ensures { result ≡ in_class class b }
@@ -115,14 +115,20 @@ pub fn begins_class(text: &str, class: Class) -> bool
 }
 
 /// How many bytes of that class the bytes begin with.
+#[inline(always)]
 fn run_length(bytes: &[u8], class: Class) -> usize
     ensures { result ≡ prefix_len (in_class class) bytes.now }
 {
-    let end = bytes.iter().position(|b| !in_class(class, *b));
-    end.unwrap_or(bytes.len())
+    for (n, b) in bytes.iter().enumerate() {
+        if !in_class(class, *b) {
+            return n;
+        }
+    }
+    bytes.len()
 }
 
 /// The longest run of bytes of that class that the text begins with, and the rest.
+#[inline(always)]
 pub fn split_run(text: &str, class: Class) -> (&str, &str)
     ensures run { result.0.now ≡ take_while (in_class class) text.now }
     ensures rest { result.1.now ≡ drop_while (in_class class) text.now }

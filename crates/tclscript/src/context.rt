@@ -1,9 +1,11 @@
 //! Where the parts of a word are, and what ends words, commands and scripts there (Tcl(n), rules 1 to 6).
 ghost use Rattle.std.specs.Prelude.{◌≡◌, ◌&&◌, ◌==◌};
 ghost use Rattle.tclchars.specs.Bytes.{right_bracket};
+ghost use Rattle.tclchars.specs.Classes.{in_class};
+ghost use Rattle.tclchars.specs.Runs.{take_while, drop_while};
 ghost use Rattle.tclscript.specs.Ends.{is_nested, word_ends, command_ends, script_ends, ends_at, parts_end, bare, class_of};
 
-use tclchars::{Class, begins_class};
+use tclchars::{Class, begins_class, split_run};
 
 /// Whether a script is outside of brackets, or in brackets, of which the closing one ends it.
 #[derive(Clone, Copy, Debug, PartialEq, Eq)]
@@ -39,15 +41,16 @@ pub enum Context {
     InQuotes,
 }
 
-/// The bytes that are literal there.
-pub(crate) fn class_of(context: Context) -> Class
-    ensures { result ≡ class_of context }
+/// The run of literal bytes there that the text begins with, and the rest.
+pub(crate) fn split_literal(text: &str, context: Context) -> (&str, &str)
+    ensures run { result.0.now ≡ take_while (in_class (class_of context)) text.now }
+    ensures rest { result.1.now ≡ drop_while (in_class (class_of context)) text.now }
 {
     match context {
-        Context::InScript => Class::BareScript,
-        Context::InBracket => Class::BareBracket,
-        Context::InIndex => Class::BareIndex,
-        Context::InQuotes => Class::BareQuote,
+        Context::InScript => split_run(text, Class::BareScript),
+        Context::InBracket => split_run(text, Class::BareBracket),
+        Context::InIndex => split_run(text, Class::BareIndex),
+        Context::InQuotes => split_run(text, Class::BareQuote),
     }
 }
 

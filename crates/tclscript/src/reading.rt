@@ -10,7 +10,7 @@ ghost use Rattle.tclscript.specs.Reading.{after_closing, require_word_end, after
 ghost use Rattle.tclscript.specs.View.{script_view, command_view, word_view, part_view, parts_view};
 
 use crate::context::{
-    Context, Nesting, bare, class_of, command_ends, parts_end, script_ends, word_ends,
+    Context, Nesting, bare, command_ends, parts_end, script_ends, split_literal, word_ends,
 };
 use crate::piece::{Source, taken};
 use crate::runs::{skip_blanks, skip_gap, split_name};
@@ -65,7 +65,7 @@ fn read_literal<'a, S: Source<P>, P: Drop>(
     requires { IsSuffixOf (S.text source.now) text.now }
     ensures { literal_at context text.now ≡ Ok (part_view (S.shown source.now) result.0, result.1.now) }
 {
-    let (run, rest) = split_run(text, class_of(context));
+    let (run, rest) = split_literal(text, context);
     (Part::Literal(source.cut(text, run)), rest)
 }
 

@@ -1,11 +1,18 @@
-use Rattle.std.proofs.Common.{◌∙◌, ap, not, length, unwrap_or, ℕ, Option, rules, tests}
-use Rattle.std.proofs.lemmas.Iterator.{YieldsList-from_slice}
-use Rattle.std.proofs.lemmas.Iterator.Search.{position_from_yields_List}
+use Rattle.std.proofs.Common.{sym, ◌∙◌, arith}
+use Rattle.std.proofs.lemmas.List.Sums.{prefix_len-drop_yes, prefix_len-drop_no, prefix_len-drop_all}
 use Rattle.tclchars.specs.Classes.{in_class}
-use Rattle.tclchars.proofs.RunLemmas.{run_end}
 use Rattle.tclchars.proofs.runs.run_length.Goals as goal
 
+pub loop-n-init : goal.loop-n-init
+loop-n-init c = omega arith
+
+pub loop-n-preserved : goal.loop-n-preserved
+loop-n-preserved c =
+    omega (arith, c.loop-n.invariant, prefix_len-drop_yes (in_class c.args.class) c.args.bytes.now c.loop-n.n 0 (omega arith) (sym c.in_class.ensures ∙ c.if-not-in_class.false))
+
+pub returns-then-not-in_class : goal.returns-then-not-in_class
+returns-then-not-in_class c =
+    omega (arith, c.loop-n.invariant, prefix_len-drop_no (in_class c.args.class) c.args.bytes.now c.loop-n.n 0 (omega arith) (sym c.in_class.ensures ∙ c.if-not-in_class.true))
+
 pub returns : goal.returns
-returns c =
-    let end = position_from_yields_List (λ b. not (in_class c.args.class b)) _ _ c.position-end.result c.position-end.ensures.ran (YieldsList-from_slice c.args.bytes.now cc) (λ x b q k. search (rules, tests)) in
-    c.unwrap_or.ensures ∙ ap (λ (r : Option ℕ). unwrap_or r (length c.args.bytes.now)) end ∙ run_end (in_class c.args.class) c.args.bytes.now
+returns c = omega (arith, c.loop-n.invariant, prefix_len-drop_all (in_class c.args.class) c.args.bytes.now c.loop-n.n (omega arith))
