@@ -203,7 +203,8 @@ fn read_command<'a, S: Source<P>, P: Drop>(
 {
     let (first, following) = read_word(alloc, source, text, depth, nesting)?;
     let first_text = taken(source, text, following);
-    let mut words = Vec::new(alloc);
+    // Few commands have more words than four.
+    let mut words = Vec::with_capacity(alloc, 4)?;
     words.push(first)?;
     let mut rest = following;
     loop {

@@ -51,7 +51,7 @@ read_command-loop-alloc-init g t c =
       so_far =
           words-none (is_nested c.args.nesting) c.args.depth c.args.text.now (g.S.Source.shown c.args.source.now c.taken-first_text.result) (word_view (g.S.Source.shown c.args.source.now) c.in_ok-first.first)
           (map (word_view (g.S.Source.shown c.args.source.now)) c.push.new.self.items) c.in_ok-first.following.now c.in_ok-first.ensures c.taken-first_text.ensures
-          (rw (c.in_ok-push.ensures.items, c.new-words.ensures.items) refl);
+          (rw (c.in_ok-push.ensures.items, c.in_ok-words.ensures.items) refl);
     }
 
 pub read_command-returns-then-command_ends : goal.read_command-returns-then-command_ends
