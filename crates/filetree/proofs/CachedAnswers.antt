@@ -1,41 +1,47 @@
--- One more answer is cached, at a path that had none.
-use Rattle.std.proofs.Common.{◌≡◌, ℕ, Bool, true, false, cond, List, Option, Some, None, String, Bor, IfSome, length, take, string_bytes, [], ◌∷◌, ◌++◌, ◌||◌, map, refl, sym, ap, subst, ◌∙◌, inl, inr, ⊎_elim}
+-- One more answer is cached, and one more path is recorded.
+use Rattle.std.proofs.Common.{◌≡◌, ℕ, Bool, true, false, cond, List, Option, Some, String, length, take, string_bytes, [], ◌∷◌, ◌++◌, ◌||◌, map, refl, sym, ap, subst, ◌∙◌, inl, inr, ⊎_elim}
 use Rattle.std.proofs.lemmas.Bool.{cases_Bool, or_cases, or_right}
 use Rattle.std.specs.List.{list_any}
 use Rattle.std.proofs.lemmas.Slice.Eq.{bytes_eq-Decides}
-use Rattle.std.proofs.lemmas.Map.Text.{btree_map_updates_text}
+use Rattle.std.proofs.lemmas.Map.Text.{btree_map_updates_text, hash_map_updates_text}
+use Rattle.std.specs.HashMap as hash
+use Rattle.std.specs.HashMap.{HashMap}
 use Rattle.std.specs.BTreeMap.{BTreeMap, get_by_text, UpdatesBy}
 use Rattle.std.specs.Cmp.Lexicographic.{slice_cmp}
 use Rattle.std.specs.Option.{option_map}
 use Rattle.std.specs.Ordering.{nat_cmp}
 use Rattle.std.specs.Str.{bytes_eq}
-use Rattle.std.specs.String.{string_cmp}
-use Rattle.std.specs.Option.{option_copied}
+use Rattle.std.specs.String.{string_cmp, string_eq}
 use Rattle.std.proofs.lemmas.List.{take-take}
-use Rattle.std.specs.declared.vec.Vec.{Vec}
-use Rattle.std.specs.declared.alloc.Global.{Global}
-use Rattle.filetree.specs.Agreement.{with_at, HaveSamePrefix, FailedAt, begins_with, file_answer}
+use Rattle.filetree.specs.Known.{Fits, SaysNoLess}
+use Rattle.filetree.specs.declared.known.Known.{Known}
+use Rattle.filetree.specs.Agreement.{Files, Listings, with_at, HaveSamePrefix, FailedAt}
 use Rattle.filetree.specs.declared.prefix.Prefix.{Prefix}
 
--- the map has, at each path that it was asked for, what `there` has
-abbrev pub Has : {Y V W : Type 0} → (V → W) → (List ℕ → W) → BTreeMap (String Y) V → Type 0
-Has view there m = (path : List ℕ) (answer : _) → get_by_text m path ≡ Some answer → there path ≡ view answer
+-- what is at each path fits what is known of it
+abbrev pub FitsAll : {Y S : Type 0} → HashMap (String Y) Known S → Files → Listings → Type 0
+FitsAll m files listings = (path : List ℕ) (known : Known) → hash.get_by_text m path ≡ Some known → Fits known (files path) (listings path)
 
-module _ {Y V W : Type 0} (view : V → W) (m n : BTreeMap (String Y) V) (path key : List ℕ) (value : V)
-    (same : key ≡ path) (absent : get_by_text m path ≡ None)
-    (updates : UpdatesBy string_cmp (λ k. slice_cmp nat_cmp key (string_bytes k)) m n (Some value)) where
-  now_at : (p : List ℕ) → get_by_text n p ≡ cond (bytes_eq key p) (Some value) (get_by_text m p)
-  now_at p = btree_map_updates_text key m n (Some value) updates p
+-- one path is learned
+module _ {Y S : Type 0} (m n : HashMap (String Y) Known S) (path key : List ℕ) (known : Known) (same : key ≡ path)
+    (updates : hash.UpdatesBy string_eq (λ k. bytes_eq key (string_bytes k)) m n (Some known))
+    (files : Files) (listings : Listings) (all : FitsAll n files listings) where
+  now_at : (p : List ℕ) → hash.get_by_text n p ≡ cond (bytes_eq key p) (Some known) (hash.get_by_text m p)
+  now_at p = hash_map_updates_text key m n (Some known) updates p
 
-  pub has_before : (there : List ℕ → W) → Has view there n → Has view there m
-  has_before there h p answer had = elim (cases_Bool (bytes_eq key p)) [
-    | inl e ↦ let at_p : key ≡ p = (bytes_eq-Decides key p).0 e in
-        let clash : None ≡ Some answer = sym absent ∙ (ap (λ q. get_by_text m q) (sym same ∙ at_p) ∙ had) in cc
-    | inr e ↦ h p answer (rw (now_at p, e) had)
+  pub fits_path : Fits known (files path) (listings path)
+  fits_path = all path known (rw (now_at path, (bytes_eq-Decides key path).1 same) refl)
+
+  pub fits_before : ((earlier : Known) → hash.get_by_text m path ≡ Some earlier → SaysNoLess known earlier) → FitsAll m files listings
+  fits_before later p earlier had = elim (cases_Bool (bytes_eq key p)) [
+    | inl e ↦ let at_p : path ≡ p = sym same ∙ (bytes_eq-Decides key p).0 e in
+        subst (λ q. Fits earlier (files q) (listings q)) at_p (later earlier (ap (λ q. hash.get_by_text m q) at_p ∙ had) (files path) (listings path) fits_path)
+    | inr e ↦ all p earlier (rw (now_at p, e) had)
   ]
 
-  pub has_answer : (there : List ℕ → W) → Has view there n → there path ≡ view value
-  has_answer there h = h path value (rw (now_at path, (bytes_eq-Decides key path).1 same) refl)
+-- what is known of the one value that is there
+pub of_some : {X : Type 0} (P : X → Type 0) (there : Option X) (x y : X) → there ≡ Some x → there ≡ Some y → P x → P y
+of_some P there x y e f h = let same : x ≡ y = cc in subst P same h
 
 put : {V W : Type 0} (view : V → W) (test : Bool) (value : V) (x : W) (rest : Option V) → view value ≡ x →
     option_map view (cond test (Some value) rest) ≡ cond test (Some x) (option_map view rest)
@@ -50,41 +56,6 @@ put_at view m n path key value x same updates seen p =
     ap (option_map view) (btree_map_updates_text key m n (Some value) updates p)
     ∙ put view (bytes_eq key p) value x (get_by_text m p) seen
     ∙ ap (λ k. cond (bytes_eq k p) (Some x) (option_map view (get_by_text m p))) same
-
--- what is known of the first bytes of files, after one more file is cached
-abbrev pub HasPrefixes : {Y Z : Type 0} → BTreeMap (String Y) (Option (Vec ℕ Global)) → BTreeMap (String Z) Prefix → (List ℕ → Option (List ℕ)) → Type 0
-HasPrefixes m prefixes there = (path : List ℕ) (prefix : Prefix) → get_by_text m path ≡ None → get_by_text prefixes path ≡ Some prefix → HaveSamePrefix prefix.size (there path) (file_answer prefix.bytes)
-
-pub prefixes_before_file : {Y Z : Type 0} (m n : BTreeMap (String Y) (Option (Vec ℕ Global))) (prefixes : BTreeMap (String Z) Prefix) (path key : List ℕ) (value : Option (Vec ℕ Global)) → key ≡ path
-    → UpdatesBy string_cmp (λ k. slice_cmp nat_cmp key (string_bytes k)) m n (Some value)
-    → ((prefix : Prefix) → get_by_text prefixes path ≡ Some prefix → HaveSamePrefix prefix.size (file_answer value) (file_answer prefix.bytes))
-    → (there : List ℕ → Option (List ℕ)) → Has file_answer there n → HasPrefixes n prefixes there → HasPrefixes m prefixes there
-prefixes_before_file m n prefixes path key value same updates same_prefix there h f p prefix none had = elim (cases_Bool (bytes_eq key p)) [
-  | inl e ↦
-      let at_p : path ≡ p = sym same ∙ (bytes_eq-Decides key p).0 e in
-      let now : get_by_text n p ≡ Some value = rw (btree_map_updates_text key m n (Some value) updates p, e) refl in
-      let is : there p ≡ file_answer value = h p value now in
-      λ begin short. ap (begins_with begin) is ∙ same_prefix prefix (ap (λ q. get_by_text prefixes q) at_p ∙ had) begin short
-  | inr e ↦ f p prefix (rw (btree_map_updates_text key m n (Some value) updates p, e) none) had
-]
-
-module _ {Y Z : Type 0} (m : BTreeMap (String Y) (Option (Vec ℕ Global))) (prefixes n : BTreeMap (String Z) Prefix) (path key : List ℕ) (value : Prefix) (same : key ≡ path)
-    (updates : UpdatesBy string_cmp (λ k. slice_cmp nat_cmp key (string_bytes k)) prefixes n (Some value)) (there : List ℕ → Option (List ℕ)) (f : HasPrefixes m n there) where
-  -- the first bytes of one more file are cached
-  pub prefixes_before : get_by_text prefixes path ≡ None → HasPrefixes m prefixes there
-  prefixes_before absent p prefix none had = elim (cases_Bool (bytes_eq key p)) [
-    | inl e ↦ let at_p : key ≡ p = (bytes_eq-Decides key p).0 e in
-        let clash : None ≡ Some prefix = sym absent ∙ (ap (λ q. get_by_text prefixes q) (sym same ∙ at_p) ∙ had) in cc
-    | inr e ↦ f p prefix none (rw (btree_map_updates_text key prefixes n (Some value) updates p, e) had)
-  ]
-
-  pub prefix_answer : get_by_text m path ≡ None → HaveSamePrefix value.size (there path) (file_answer value.bytes)
-  prefix_answer none = f path value none (rw (btree_map_updates_text key prefixes n (Some value) updates path, (bytes_eq-Decides key path).1 same) refl)
-
--- what is known of a reference is known of its referent
-pub of_copied : {X : Type 0} (P : X → Type 0) (r : Option (Bor X)) (o : Option X) → option_copied r ≡ o → IfSome r (λ x. P x.now) → (x : X) → o ≡ Some x → P x
-of_copied P None o e h x k = absurd (cc)
-of_copied P (Some y) o e h x k = let same : y.now ≡ x = cc in subst P same h
 
 -- a file that was read has its first bytes
 pub same_prefix_of_first : (size : ℕ) (xs ys : List ℕ) → take size xs ≡ ys → HaveSamePrefix size (Some xs) (Some ys)

@@ -1,6 +1,5 @@
 -- What the answers of a tree of files say: pairs of maps from paths to files and directories, those that agree with the
 -- answers, and where the device failed. Paths and bytes are as POSIX has them.
-use Rattle.std.proofs.Common.{ap}
 use Rattle.message.specs.Messages.{out_of_memory}
 use Rattle.std.specs.Prelude.{◌≡◌, ◌⊎◌, ℕ, ◌<◌, ◌≤◌, Bool, true, false, List, length, map, nat_eq, Option, Some, None, Result, Ok, Err, IsErrOf, codes, if◌then◌else◌, string_bytes, vec_items}
 use Rattle.std.specs.declared.alloc.Global.{Global}
@@ -110,8 +109,3 @@ with_at there path x p = if bytes_eq path p then Some x else there p
 abbrev pub cached : {V W : Type 0} → (V → Option W) → Option V → Option W
 cached view None = None
 cached view (Some answer) = view answer
-
--- where an answer is cached, the value is that answer
-pub cached-answer : {V W : Type 0} (view : V → Option W) (had : Option V) (answer : V) → had ≡ Some answer
-    → cached view had ≡ view answer
-cached-answer view had answer e = ap (cached view) e

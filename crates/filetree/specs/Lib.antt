@@ -5,6 +5,7 @@ pub mod Causes
 pub mod Contents
 pub mod Devices
 pub mod Disk
+pub mod Known
 pub mod Modulefiles
 pub mod Relations
 pub mod Utf8

@@ -1,18 +1,16 @@
 //! The tree over a real disk, which caches each answer and gives it again.
-ghost use Rattle.std.specs.Prelude.{◌≡◌, ◌+◌, if◌then◌else◌, ℕ, List, map, None, Some, Option, IfOk, IfSome, is_some, string_bytes, vec_len};
-ghost use Rattle.std.specs.BTreeMap.{get_by_text};
-ghost use Rattle.filetree.specs.Agreement.{HaveSamePrefix, FailsAt, FailsIf, Files, FailsOnlyByDevice, InEachPair, Listings, Narrows, begins_with, file_answer, is_device, listing_answer};
-ghost use Rattle.filetree.specs.Disk.{file_at, has_failed, cached-file, cached-prefix, cached-listing, listing_at};
-ghost use Rattle.filetree.specs.Devices.{is_directory, is_file};
+ghost use Rattle.std.specs.Prelude.{◌≡◌, ◌+◌, if◌then◌else◌, ℕ, List, None, Some, Option, IfOk, IfSome, OnOk, false, vec_len};
+ghost use Rattle.std.specs.HashMap.{get_by_text};
+ghost use Rattle.filetree.specs.Agreement.{FailsAt, FailsIf, Files, FailsOnlyByDevice, InEachPair, Listings, Narrows, begins_with, file_answer, is_device, listing_answer};
+ghost use Rattle.filetree.specs.Disk.{cached-fits, file_at, has_failed, listing_at};
+ghost use Rattle.filetree.specs.Known.{Fits, SaysNoLess, is_read_in_part, is_unlisted};
 
-use crate::look::{PathKind, look};
-use crate::memory::copy_names;
-use crate::prefix::{Prefix, begins, has_same_prefix, load_prefix};
+use crate::known::Known;
+use crate::load::{load_file, load_listing, load_names, load_prefix, load_rest};
 use crate::tree::{Tree, TreeFault};
-use std::alloc::{AllocError, Global};
-use std::collections::BTreeMap;
+use std::alloc::AllocError;
+use std::collections::HashMap;
 use std::rt::Files;
-use std::{fs, io};
 
 /// The files and directories of a disk. Each answer is cached and given again, so the system is asked once for it; a
 /// failure is not cached.
@@ -25,84 +23,10 @@ use std::{fs, io};
 #[derive(Drop)]
 pub struct DiskTree<R: Files + AllocGlobal + Clone + Drop> {
     rt: R,
-    /// What is at each path that was looked at.
-    path_kinds: BTreeMap<String, PathKind>,
-    /// The whole files that were read.
-    files: BTreeMap<String, Option<Vec<u8>>>,
-    /// The first bytes of files of which no more was read.
-    prefixes: BTreeMap<String, Prefix>,
-    /// The directories that were listed.
-    listings: BTreeMap<String, Option<Vec<String>>>,
+    /// What is known of each path that was asked for.
+    known: HashMap<String, Known>,
     /// The paths at which the device failed, in the order of the failures.
     failed: Vec<String>,
-}
-
-/// The bytes of the file at a path where this is, of which these first bytes were read before, if any were. Only a file
-/// is opened, since opening a pipe or a device can wait without end.
-///
-/// It fails with `Device` where the file does not begin with the bytes that were read before.
-fn load_file<R: Files + AllocGlobal>(
-    rt: &R,
-    path: &str,
-    path_kind: PathKind,
-    prefix: Option<&Prefix>,
-) -> Result<Option<Vec<u8>>, TreeFault>
-    ensures there { IfOk result (λ answer. is_some answer ≡ is_file path_kind) }
-    ensures same_prefix { IfOk result (λ answer. IfSome prefix.entry (λ prefix.
-        HaveSamePrefix prefix.now.size (file_answer answer) (file_answer prefix.now.bytes))) }
-{
-    let answer = match path_kind {
-        PathKind::File => Some(fs::read(rt, path)?),
-        PathKind::Nothing | PathKind::Directory | PathKind::Other => None,
-    };
-    match prefix {
-        Some(prefix) if !has_same_prefix(&answer, prefix) => Err(TreeFault::Device),
-        _ => Ok(answer),
-    }
-}
-
-/// The names in a directory, hidden ones too, in the system's order.
-fn names_in<R: Files + AllocGlobal + Clone + Drop>(rt: &R, dir: &str) -> io::Result<Vec<String>> {
-    let mut names = Vec::new(rt.alloc());
-    for entry in fs::read_dir(rt, dir)? {
-        let entry = entry?;
-        names.push(String::from_str(rt.alloc(), entry.file_name())?)?;
-    }
-    Ok(names)
-}
-
-/// The names in the directory at a path where this is, or `None` where it is no directory.
-fn load_listing<R: Files + AllocGlobal + Clone + Drop>(
-    rt: &R,
-    dir: &str,
-    path_kind: PathKind,
-) -> Result<Option<Vec<String>>, TreeFault>
-    ensures { IfOk result (λ answer. is_some answer ≡ is_directory path_kind) }
-{
-    match path_kind {
-        PathKind::Directory => Ok(Some(names_in(rt, dir)?)),
-        PathKind::Nothing | PathKind::File | PathKind::Other => Ok(None),
-    }
-}
-
-/// A copy of an answer of `read`.
-fn copy_file(answer: &Option<Vec<u8>>) -> Result<Option<Vec<u8>>, AllocError>
-    ensures { IfOk result (λ copy. file_answer copy ≡ file_answer answer.now) }
-{
-    answer.clone()
-}
-
-/// A copy of an answer of `entries`.
-fn copy_listing(
-    alloc: Global,
-    answer: &Option<Vec<String>>,
-) -> Result<Option<Vec<String>>, AllocError>
-    ensures { IfOk result (λ copy. listing_answer copy ≡ listing_answer answer.now) }
-{
-    match answer {
-        None => Ok(None),
-        Some(names) => Ok(Some(copy_names(alloc, names)?)),
-    }
 }
 
 impl<R: Files + AllocGlobal + Clone + Drop> DiskTree<R> {
@@ -113,21 +37,16 @@ impl<R: Files + AllocGlobal + Clone + Drop> DiskTree<R> {
         let alloc = rt.alloc();
         DiskTree {
             rt,
-            path_kinds: BTreeMap::new(alloc),
-            files: BTreeMap::new(alloc),
-            prefixes: BTreeMap::new(alloc),
-            listings: BTreeMap::new(alloc),
+            known: HashMap::new(alloc),
             failed: Vec::new(alloc),
         }
     }
 
     /// The fault; where it is the device's, the path is added to those at which the device failed.
-    fn record_failure(&mut self, path: String, fault: TreeFault) -> TreeFault
-        ensures files { self.new.files ≡ self.old.files }
-        ensures prefixes { self.new.prefixes ≡ self.old.prefixes }
-        ensures listings { self.new.listings ≡ self.old.listings }
+    fn record_failure(&mut self, path: &str, fault: TreeFault) -> TreeFault
+        ensures known { self.new.known ≡ self.old.known }
         ensures failed { FailsIf (is_device result) (has_failed self.old.failed)
-            (has_failed self.new.failed) (λ at. at ≡ string_bytes path) }
+            (has_failed self.new.failed) (λ at. at ≡ path.now) }
         ensures count { vec_len self.new.failed
             ≡ (if is_device result then vec_len self.old.failed + 1 else vec_len self.old.failed) }
         ensures memory { fault ≡ TreeFault.OutOfMemory → result ≡ TreeFault.OutOfMemory }
@@ -135,6 +54,9 @@ impl<R: Files + AllocGlobal + Clone + Drop> DiskTree<R> {
         match fault {
             TreeFault::OutOfMemory => TreeFault::OutOfMemory,
             TreeFault::Device => {
+                let Ok(path) = String::from_str(self.rt.alloc(), path) else {
+                    return TreeFault::OutOfMemory;
+                };
                 if self.failed.push(path).is_err() {
                     return TreeFault::OutOfMemory;
                 }
@@ -143,71 +65,84 @@ impl<R: Files + AllocGlobal + Clone + Drop> DiskTree<R> {
         }
     }
 
-    /// What is at the path: the cached answer, or else the system's, which is then cached.
-    fn path_kind_at(&mut self, path: &str) -> Result<PathKind, TreeFault>
-        ensures files { self.new.files ≡ self.old.files }
-        ensures prefixes { self.new.prefixes ≡ self.old.prefixes }
-        ensures listings { self.new.listings ≡ self.old.listings }
-        ensures cached { IfOk result (λ path_kind. get_by_text self.new.path_kinds path.now ≡ Some path_kind) }
-        ensures failed { FailsAt is_device (has_failed self.old.failed)
-            (has_failed self.new.failed) result (λ at. at ≡ path.now) }
-        ensures cause { FailsOnlyByDevice (vec_len self.old.failed) (vec_len self.new.failed) result }
+    /// Caches what is known of a path, in place of what was, which said no more.
+    fn learn(&mut self, path: &str, known: Known) -> Result<(), AllocError>
+        requires { (earlier : Known) → get_by_text self.old.known path.now ≡ Some earlier → SaysNoLess known earlier }
+        ensures narrows { Narrows (⟦<DiskTree<R> as Tree>⟧.agrees self.old)
+            (⟦<DiskTree<R> as Tree>⟧.agrees self.new) }
+        ensures known { OnOk result (InEachPair (⟦<DiskTree<R> as Tree>⟧.agrees self.new)
+            (λ files listings. Fits known (files path.now) (listings path.now))) }
+        ensures failed { self.new.failed ≡ self.old.failed }
     {
-        if let Some(path_kind) = self.path_kinds.get(path) {
-            return Ok(*path_kind);
-        }
         let key = String::from_str(self.rt.alloc(), path)?;
-        match look(&self.rt, path) {
-            Ok(path_kind) => {
-                self.path_kinds.insert(key, path_kind)?;
-                Ok(path_kind)
-            }
-            Err(fault) => Err(self.record_failure(key, fault)),
-        }
+        self.known.insert(key, known)?;
+        Ok(())
     }
 
-    /// Whether the file at the path begins with these bytes, or `None` where too little of it was read to say.
-    fn known(&self, path: &str, prefix: &[u8]) -> Option<bool>
-        ensures known { IfSome result (λ answer. (files : Files) (listings : Listings)
-            → ⟦<DiskTree<R> as Tree>⟧.agrees self.now files listings
-            → begins_with prefix.now (files path.now) ≡ answer) }
-        ensures prefixes { result ≡ None → get_by_text self.now.files path.now ≡ None }
-    {
-        if let Some(answer) = self.files.get(path) {
-            return Some(begins(answer, prefix));
-        }
-        match self.prefixes.get(path) {
-            Some(read) if prefix.len() <= read.size => Some(begins(&read.bytes, prefix)),
-            _ => None,
-        }
-    }
-
-    /// Whether the file at the path, of which nothing was read yet, begins with these bytes. So many bytes are read.
-    fn read_prefix(&mut self, path: &str, prefix: &[u8]) -> Result<bool, TreeFault>
-        requires file { get_by_text self.old.files path.now ≡ None }
-        requires prefix { get_by_text self.old.prefixes path.now ≡ None }
+    /// The file at the path, by what the system answered, which is cached.
+    fn answer_file(
+        &mut self,
+        path: &str,
+        loaded: Result<Known, TreeFault>,
+    ) -> Result<Option<Vec<u8>>, TreeFault>
+        requires later { IfOk loaded (λ known. (earlier : Known) → get_by_text self.old.known path.now ≡ Some earlier
+            → SaysNoLess known earlier) }
+        requires whole { IfOk loaded (λ known. is_read_in_part known ≡ false) }
         ensures narrows { Narrows (⟦<DiskTree<R> as Tree>⟧.agrees self.old)
             (⟦<DiskTree<R> as Tree>⟧.agrees self.new) }
         ensures answer { IfOk result (λ answer. InEachPair (⟦<DiskTree<R> as Tree>⟧.agrees self.new)
-            (λ files listings. begins_with prefix.now (files path.now) ≡ answer)) }
+            (λ files listings. files path.now ≡ file_answer answer)) }
         ensures failed { FailsAt is_device (has_failed self.old.failed)
             (has_failed self.new.failed) result (λ at. at ≡ path.now) }
         ensures cause { FailsOnlyByDevice (vec_len self.old.failed) (vec_len self.new.failed) result }
     {
-        let path_kind = self.path_kind_at(path)?;
-        let key = String::from_str(self.rt.alloc(), path)?;
-        match load_prefix(&self.rt, path, path_kind, prefix.len()) {
-            Ok(read) => {
-                let answer = begins(&read.bytes, prefix);
-                self.prefixes.insert(key, read)?;
+        match loaded {
+            Ok(known) => {
+                let answer = known.file()?;
+                self.learn(path, known)?;
                 Ok(answer)
             }
-            Err(fault) => Err(self.record_failure(key, fault)),
+            Err(fault) => Err(self.record_failure(path, fault)),
         }
     }
 
-    /// Whether the file at the path begins with these bytes. The whole file is read.
-    fn begins_with_whole_file(&mut self, path: &str, prefix: &[u8]) -> Result<bool, TreeFault>
+    /// The directory at the path, by what the system answered, which is cached.
+    fn answer_listing(
+        &mut self,
+        dir: &str,
+        loaded: Result<Known, TreeFault>,
+    ) -> Result<Option<Vec<String>>, TreeFault>
+        requires later { IfOk loaded (λ known. (earlier : Known) → get_by_text self.old.known dir.now ≡ Some earlier
+            → SaysNoLess known earlier) }
+        requires listed { IfOk loaded (λ known. is_unlisted known ≡ false) }
+        ensures narrows { Narrows (⟦<DiskTree<R> as Tree>⟧.agrees self.old)
+            (⟦<DiskTree<R> as Tree>⟧.agrees self.new) }
+        ensures answer { IfOk result (λ answer. InEachPair (⟦<DiskTree<R> as Tree>⟧.agrees self.new)
+            (λ files listings. listings dir.now ≡ listing_answer answer)) }
+        ensures failed { FailsAt is_device (has_failed self.old.failed)
+            (has_failed self.new.failed) result (λ at. at ≡ dir.now) }
+        ensures cause { FailsOnlyByDevice (vec_len self.old.failed) (vec_len self.new.failed) result }
+    {
+        match loaded {
+            Ok(known) => {
+                let answer = known.names(self.rt.alloc())?;
+                self.learn(dir, known)?;
+                Ok(answer)
+            }
+            Err(fault) => Err(self.record_failure(dir, fault)),
+        }
+    }
+
+    /// Whether the file at the path begins with these bytes, where this is what is known of it. Where that is too little
+    /// the whole file is read.
+    fn answer_prefix(
+        &mut self,
+        path: &str,
+        prefix: &[u8],
+        known: Option<bool>,
+    ) -> Result<bool, TreeFault>
+        requires { IfSome known (λ answer. InEachPair (⟦<DiskTree<R> as Tree>⟧.agrees self.old)
+            (λ files listings. begins_with prefix.now (files path.now) ≡ answer)) }
         ensures narrows { Narrows (⟦<DiskTree<R> as Tree>⟧.agrees self.old)
             (⟦<DiskTree<R> as Tree>⟧.agrees self.new) }
         ensures answer { IfOk result (λ answer. InEachPair (⟦<DiskTree<R> as Tree>⟧.agrees self.new)
@@ -216,8 +151,34 @@ impl<R: Files + AllocGlobal + Clone + Drop> DiskTree<R> {
             (has_failed self.new.failed) result (λ at. at ≡ path.now) }
         ensures cause { FailsOnlyByDevice (vec_len self.old.failed) (vec_len self.new.failed) result }
     {
-        let answer = self.read(path)?;
-        Ok(begins(&answer, prefix))
+        if let Some(answer) = known {
+            return Ok(answer);
+        }
+        match self.read(path)? {
+            None => Ok(false),
+            Some(bytes) => Ok(bytes.as_slice().starts_with(prefix)),
+        }
+    }
+
+    /// Whether the file at the path, of which nothing is known, begins with these bytes. So many bytes are read.
+    fn read_prefix(&mut self, path: &str, prefix: &[u8]) -> Result<bool, TreeFault>
+        requires { get_by_text self.old.known path.now ≡ None }
+        ensures narrows { Narrows (⟦<DiskTree<R> as Tree>⟧.agrees self.old)
+            (⟦<DiskTree<R> as Tree>⟧.agrees self.new) }
+        ensures answer { IfOk result (λ answer. InEachPair (⟦<DiskTree<R> as Tree>⟧.agrees self.new)
+            (λ files listings. begins_with prefix.now (files path.now) ≡ answer)) }
+        ensures failed { FailsAt is_device (has_failed self.old.failed)
+            (has_failed self.new.failed) result (λ at. at ≡ path.now) }
+        ensures cause { FailsOnlyByDevice (vec_len self.old.failed) (vec_len self.new.failed) result }
+    {
+        match load_prefix(&self.rt, path, prefix.len()) {
+            Ok(known) => {
+                let answer = known.begins_with(prefix);
+                self.learn(path, known)?;
+                self.answer_prefix(path, prefix, answer)
+            }
+            Err(fault) => Err(self.record_failure(path, fault)),
+        }
     }
 }
 
@@ -226,63 +187,50 @@ impl<R: Files + AllocGlobal + Clone + Drop> Tree for DiskTree<R> {
 
     ghost failed = { λ t. has_failed t.failed };
 
-    ghost agrees = { λ t files listings.
-        ((path : List ℕ) (answer : _) → get_by_text t.files path ≡ Some answer → files path ≡ file_answer answer)
-        × ((path : List ℕ) (answer : _) → get_by_text t.listings path ≡ Some answer
-        → listings path ≡ listing_answer answer)
-        × ((path : List ℕ) (prefix : _) → get_by_text t.files path ≡ None → get_by_text t.prefixes path ≡ Some prefix
-        → HaveSamePrefix prefix.size (files path) (file_answer prefix.bytes)) };
+    ghost agrees = { λ t files listings. (path : List ℕ) (known : _) → get_by_text t.known path ≡ Some known
+        → Fits known (files path) (listings path) };
 
     ghost satisfiable = { λ t. (
-      λ path. file_at (get_by_text t.files path) (get_by_text t.prefixes path),
-      λ path. listing_at (get_by_text t.listings path),
-      (
-        λ path answer had. cached-file (get_by_text t.files path) (get_by_text t.prefixes path) answer had,
-        λ path answer had. cached-listing (get_by_text t.listings path) answer had,
-        λ path prefix none had. cached-prefix (get_by_text t.files path) (get_by_text t.prefixes path) prefix none had,
-      ),
+      λ path. file_at (get_by_text t.known path),
+      λ path. listing_at (get_by_text t.known path),
+      λ path known had. cached-fits (get_by_text t.known path) known had,
     ) };
 
     fn read(&mut self, path: &str) -> Result<Option<Vec<u8>>, TreeFault> {
-        if let Some(answer) = self.files.get(path) {
-            return Ok(copy_file(answer)?);
-        }
-        let path_kind = self.path_kind_at(path)?;
-        let key = String::from_str(self.rt.alloc(), path)?;
-        match load_file(&self.rt, path, path_kind, self.prefixes.get(path)) {
-            Ok(answer) => {
-                let copy = copy_file(&answer)?;
-                self.files.insert(key, answer)?;
-                Ok(copy)
+        match self.known.get(path) {
+            None => {
+                let loaded = load_file(&self.rt, path);
+                self.answer_file(path, loaded)
             }
-            Err(fault) => Err(self.record_failure(key, fault)),
+            Some(Known::File(prefix)) => {
+                let loaded = load_rest(&self.rt, path, prefix);
+                self.answer_file(path, loaded)
+            }
+            Some(known) => Ok(known.file()?),
         }
     }
 
     fn begins_with(&mut self, path: &str, prefix: &[u8]) -> Result<bool, TreeFault> {
-        if let Some(answer) = self.known(path, prefix) {
-            return Ok(answer);
-        }
-        if self.prefixes.contains_key(path) {
-            self.begins_with_whole_file(path, prefix)
-        } else {
-            self.read_prefix(path, prefix)
+        match self.known.get(path) {
+            None => self.read_prefix(path, prefix),
+            Some(known) => {
+                let answer = known.begins_with(prefix);
+                self.answer_prefix(path, prefix, answer)
+            }
         }
     }
 
     fn entries(&mut self, dir: &str) -> Result<Option<Vec<String>>, TreeFault> {
-        if let Some(answer) = self.listings.get(dir) {
-            return Ok(copy_listing(self.rt.alloc(), answer)?);
-        }
-        let path_kind = self.path_kind_at(dir)?;
-        let key = String::from_str(self.rt.alloc(), dir)?;
-        match load_listing(&self.rt, dir, path_kind) {
-            Ok(answer) => {
-                let copy = copy_listing(self.rt.alloc(), &answer)?;
-                self.listings.insert(key, answer)?;
-                Ok(copy)
+        match self.known.get(dir) {
+            None => {
+                let loaded = load_listing(&self.rt, dir);
+                self.answer_listing(dir, loaded)
             }
-            Err(fault) => Err(self.record_failure(key, fault)),
+            Some(Known::Directory) => {
+                let loaded = load_names(&self.rt, dir);
+                self.answer_listing(dir, loaded)
+            }
+            Some(known) => Ok(known.names(self.rt.alloc())?),
         }
     }
 }

@@ -5,7 +5,9 @@
 
 mod disk;
 mod find_fault;
+mod known;
 mod laws;
+mod load;
 mod look;
 mod memory;
 mod modulefile;

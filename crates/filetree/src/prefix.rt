@@ -1,58 +1,46 @@
 //! The first bytes of files: read without the rest, and compared with what is read later.
-ghost use Rattle.std.specs.Prelude.{◌≡◌, ◌≤◌, length, take, IfOk, IfSome, is_some, true};
-ghost use Rattle.filetree.specs.Agreement.{HaveSamePrefix, begins_with, file_answer};
-ghost use Rattle.filetree.specs.Devices.{is_file};
+ghost use Rattle.std.specs.Prelude.{◌≡◌, Some, List, ℕ, Option, take, IfOk, IfSome, true};
+ghost use Rattle.filetree.specs.Agreement.{HaveSamePrefix, begins_with};
 
-use crate::look::PathKind;
-use crate::tree::TreeFault;
 use std::alloc::Global;
+use std::io;
 use std::io::Read;
-use std::rt::Files;
-use std::{fs, io};
 
 /// The first bytes of a file, as far as they were asked for.
 #[derive(Drop)]
 pub(crate) struct Prefix {
     /// How many bytes were asked for.
     pub(crate) size: usize,
-    /// So many bytes, or all of a file that has fewer; `None` where no file was there.
-    pub(crate) bytes: Option<Vec<u8>>,
+    /// So many bytes, or all of a file that has fewer.
+    pub(crate) bytes: Vec<u8>,
 }
 
-/// Whether an answer of `read` is a file that begins with these bytes.
-pub(crate) fn begins(answer: &Option<Vec<u8>>, prefix: &[u8]) -> bool
-    ensures { result ≡ begins_with prefix.now (file_answer answer.now) }
-{
-    match answer {
-        None => false,
-        Some(bytes) => bytes.as_slice().starts_with(prefix),
+impl Prefix {
+    /// Whether the file begins with these bytes, or `None` where too little of it was read to say.
+    pub(crate) fn begins_with(&self, prefix: &[u8]) -> Option<bool>
+        ensures { IfSome result (λ answer. (file : Option (List ℕ))
+            → HaveSamePrefix self.now.size file (Some self.now.bytes.items) → begins_with prefix.now file ≡ answer) }
+    {
+        if prefix.len() <= self.size {
+            Some(self.bytes.as_slice().starts_with(prefix))
+        } else {
+            None
+        }
     }
 }
 
 /// The first bytes of a reader, at most `size`. No more is read.
-fn first_bytes<F: Read + Drop>(alloc: Global, file: F, size: usize) -> io::Result<Vec<u8>>
+pub(crate) fn first_bytes<F: Read + Drop>(
+    alloc: Global,
+    file: F,
+    size: usize,
+) -> io::Result<Vec<u8>>
     ensures { IfSome (F.remaining file) (λ bytes. IfOk result (λ prefix. prefix.items ≡ take size bytes)) }
 {
-    let mut prefix = Vec::new(alloc);
+    // With room for one more byte the end is found without another growth.
+    let mut prefix = Vec::with_capacity(alloc, size.saturating_add(1))?;
     file.take(size as u64).read_to_end(&mut prefix)?;
     Ok(prefix)
-}
-
-/// The first `size` bytes of the file at a path where this is. Only a file is opened.
-pub(crate) fn load_prefix<R: Files + AllocGlobal>(
-    rt: &R,
-    path: &str,
-    path_kind: PathKind,
-    size: usize,
-) -> Result<Prefix, TreeFault>
-    ensures size { IfOk result (λ prefix. prefix.size ≡ size) }
-    ensures there { IfOk result (λ prefix. is_some prefix.bytes ≡ is_file path_kind) }
-{
-    let bytes = match path_kind {
-        PathKind::File => Some(first_bytes(rt.alloc(), fs::open(rt, path)?, size)?),
-        PathKind::Nothing | PathKind::Directory | PathKind::Other => None,
-    };
-    Ok(Prefix { size, bytes })
 }
 
 /// The first bytes of a slice, at most `size`.
@@ -66,14 +54,9 @@ fn first(bytes: &[u8], size: usize) -> &[u8]
     }
 }
 
-/// Whether an answer of `read` begins with the first bytes that were read before.
-pub(crate) fn has_same_prefix(answer: &Option<Vec<u8>>, prefix: &Prefix) -> bool
-    ensures { result ≡ true
-        → HaveSamePrefix prefix.now.size (file_answer answer.now) (file_answer prefix.now.bytes) }
+/// Whether a file begins with the first bytes that were read before.
+pub(crate) fn has_same_prefix(bytes: &[u8], prefix: &Prefix) -> bool
+    ensures { result ≡ true → HaveSamePrefix prefix.now.size (Some bytes.now) (Some prefix.now.bytes.items) }
 {
-    match (answer, &prefix.bytes) {
-        (None, None) => true,
-        (Some(bytes), Some(begin)) => first(bytes, prefix.size) == begin.as_slice(),
-        (None, Some(_)) | (Some(_), None) => false,
-    }
+    first(bytes, prefix.size) == prefix.bytes.as_slice()
 }

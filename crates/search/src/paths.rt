@@ -12,7 +12,8 @@ use std::alloc::{AllocError, Global};
 pub fn path_of(alloc: Global, dir: &str, name: &str) -> Result<String, AllocError>
     ensures { IfOk result (λ path. string_bytes path ≡ path_of dir.now name.now) }
 {
-    let mut path = String::from_str(alloc, dir)?;
+    let mut path = String::with_capacity(alloc, dir.len() + 1 + name.len())?;
+    path.push_str(dir)?;
     path.push('/')?;
     path.push_str(name)?;
     Ok(path)

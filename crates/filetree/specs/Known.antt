@@ -1,0 +1,86 @@
+-- What is known of a path, as what it says of the pairs of maps that agree. For this crate's own contracts alone.
+use Rattle.std.specs.Prelude.{◌≡◌, refl, ℕ, Bool, true, false, List, map, Option, Some, None, string_bytes, vec_items}
+use Rattle.filetree.specs.Agreement.{HaveSamePrefix}
+use Rattle.filetree.specs.declared.known.Known.{Known}
+use Rattle.filetree.specs.declared.known.Known.TheVariants as known
+
+-- the file at the path is as is known
+abbrev pub FitsFile : Known → Option (List ℕ) → Type 0
+FitsFile known.Neither file = file ≡ None
+FitsFile (known.File prefix) file = HaveSamePrefix prefix.size file (Some (vec_items prefix.bytes))
+FitsFile (known.WholeFile bytes) file = file ≡ Some (vec_items bytes)
+FitsFile known.Directory file = file ≡ None
+FitsFile (known.Listing names) file = file ≡ None
+
+-- the directory at the path is as is known
+abbrev pub FitsListing : Known → Option (List (List ℕ)) → Type 0
+FitsListing known.Neither listing = listing ≡ None
+FitsListing (known.File prefix) listing = listing ≡ None
+FitsListing (known.WholeFile bytes) listing = listing ≡ None
+FitsListing known.Directory listing = Unit {0}
+FitsListing (known.Listing names) listing = listing ≡ Some (map string_bytes (vec_items names))
+
+-- what is at the path is as is known
+abbrev pub Fits : Known → Option (List ℕ) → Option (List (List ℕ)) → Type 0
+Fits known file listing = FitsFile known file × FitsListing known listing
+
+-- what fits the one fits the other too: the one says no less
+abbrev pub SaysNoLess : Known → Known → Type 0
+SaysNoLess later earlier = (file : Option (List ℕ)) (listing : Option (List (List ℕ))) → Fits later file listing
+    → Fits earlier file listing
+
+-- a file is there
+abbrev pub has_file : Known → Bool
+has_file known.Neither = false
+has_file (known.File prefix) = true
+has_file (known.WholeFile bytes) = true
+has_file known.Directory = false
+has_file (known.Listing names) = false
+
+-- a directory is there
+abbrev pub has_directory : Known → Bool
+has_directory known.Neither = false
+has_directory (known.File prefix) = false
+has_directory (known.WholeFile bytes) = false
+has_directory known.Directory = true
+has_directory (known.Listing names) = true
+
+-- a file is there of which only the first bytes are known
+abbrev pub is_read_in_part : Known → Bool
+is_read_in_part known.Neither = false
+is_read_in_part (known.File prefix) = true
+is_read_in_part (known.WholeFile bytes) = false
+is_read_in_part known.Directory = false
+is_read_in_part (known.Listing names) = false
+
+-- a directory is there whose names are not known
+abbrev pub is_unlisted : Known → Bool
+is_unlisted known.Neither = false
+is_unlisted (known.File prefix) = false
+is_unlisted (known.WholeFile bytes) = false
+is_unlisted known.Directory = true
+is_unlisted (known.Listing names) = false
+
+-- a file that is as is known
+abbrev pub file_of : Known → Option (List ℕ)
+file_of known.Neither = None
+file_of (known.File prefix) = Some (vec_items prefix.bytes)
+file_of (known.WholeFile bytes) = Some (vec_items bytes)
+file_of known.Directory = None
+file_of (known.Listing names) = None
+
+-- a directory that is as is known
+abbrev pub listing_of : Known → Option (List (List ℕ))
+listing_of known.Neither = None
+listing_of (known.File prefix) = None
+listing_of (known.WholeFile bytes) = None
+listing_of known.Directory = None
+listing_of (known.Listing names) = Some (map string_bytes (vec_items names))
+
+-- they fit what is known
+pub fits : (k : Known) → Fits k (file_of k) (listing_of k)
+fits known.Neither = (refl, refl)
+fits (known.File prefix) = ((λ begin short. refl), refl)
+fits (known.WholeFile bytes) = (refl, refl)
+fits known.Directory = (refl, tt)
+fits (known.Listing names) = (refl, refl)

@@ -1,0 +1,160 @@
+//! Asks the system for files and directories, and says what its answers make known of a path.
+ghost use Rattle.std.specs.Prelude.{◌≡◌, false, IfOk};
+ghost use Rattle.filetree.specs.Devices.{is_directory, is_file};
+ghost use Rattle.filetree.specs.Known.{SaysNoLess, has_directory, has_file, is_read_in_part, is_unlisted};
+
+use crate::known::Known;
+use crate::look::{PathKind, look};
+use crate::prefix::{Prefix, first_bytes, has_same_prefix};
+use crate::tree::TreeFault;
+use modulename::version_order;
+use std::io::Read;
+use std::rt::Files;
+use std::{fs, io};
+
+/// What is at a path where this is, whose file is read whole. Only a file is opened, since opening a pipe or a device
+/// can wait without end.
+fn file_of_kind<R: Files + AllocGlobal>(
+    rt: &R,
+    path: &str,
+    path_kind: PathKind,
+) -> Result<Known, TreeFault>
+    ensures file { IfOk result (λ known. has_file known ≡ is_file path_kind) }
+    ensures directory { IfOk result (λ known. has_directory known ≡ is_directory path_kind) }
+    ensures whole { IfOk result (λ known. is_read_in_part known ≡ false) }
+{
+    match path_kind {
+        PathKind::File => Ok(Known::WholeFile(fs::read(rt, path)?)),
+        PathKind::Directory => Ok(Known::Directory),
+        PathKind::Nothing | PathKind::Other => Ok(Known::Neither),
+    }
+}
+
+/// What is at a path, whose file is read whole.
+pub(crate) fn load_file<R: Files + AllocGlobal>(rt: &R, path: &str) -> Result<Known, TreeFault>
+    ensures { IfOk result (λ known. is_read_in_part known ≡ false) }
+{
+    let path_kind = look(rt, path)?;
+    file_of_kind(rt, path, path_kind)
+}
+
+/// The whole file at a path, of which these first bytes were read before.
+///
+/// It fails with `Device` where the file does not begin with them.
+pub(crate) fn load_rest<R: Files + AllocGlobal>(
+    rt: &R,
+    path: &str,
+    prefix: &Prefix,
+) -> Result<Known, TreeFault>
+    ensures whole { IfOk result (λ known. is_read_in_part known ≡ false) }
+    ensures same_prefix { IfOk result (λ known. SaysNoLess known (Known.File prefix.now)) }
+{
+    let bytes = fs::read(rt, path)?;
+    if has_same_prefix(&bytes, prefix) {
+        Ok(Known::WholeFile(bytes))
+    } else {
+        Err(TreeFault::Device)
+    }
+}
+
+/// What is at a path where this is, of whose file the first `size` bytes are read.
+fn prefix_of_kind<R: Files + AllocGlobal>(
+    rt: &R,
+    path: &str,
+    path_kind: PathKind,
+    size: usize,
+) -> Result<Known, TreeFault>
+    ensures file { IfOk result (λ known. has_file known ≡ is_file path_kind) }
+    ensures directory { IfOk result (λ known. has_directory known ≡ is_directory path_kind) }
+{
+    match path_kind {
+        PathKind::File => {
+            let bytes = first_bytes(rt.alloc(), fs::open(rt, path)?, size)?;
+            Ok(Known::File(Prefix { size, bytes }))
+        }
+        PathKind::Directory => Ok(Known::Directory),
+        PathKind::Nothing | PathKind::Other => Ok(Known::Neither),
+    }
+}
+
+/// What is at a path, of whose file the first `size` bytes are read.
+pub(crate) fn load_prefix<R: Files + AllocGlobal>(
+    rt: &R,
+    path: &str,
+    size: usize,
+) -> Result<Known, TreeFault> {
+    let path_kind = look(rt, path)?;
+    prefix_of_kind(rt, path, path_kind, size)
+}
+
+/// How many bytes of a directory's names are read at once. A name has some hundred at most.
+const NAMES_AT_ONCE: usize = 2000;
+
+/// The names in a directory, each ended by a NUL, as one text. `fs::read_dir` would make a path of each.
+fn text_of_names<R: Files + AllocGlobal>(rt: &R, dir: &str) -> io::Result<Vec<u8>> {
+    // The slash makes the system follow a symbolic link to a directory.
+    let mut names = rt.open_dir(&format!(in rt.alloc(); "{dir}/")?)?;
+    let mut room = [0; NAMES_AT_ONCE];
+    let mut text = Vec::new(rt.alloc());
+    for _ in 0..u64::MAX {
+        let count = names.read(&mut room)?;
+        if count == 0 {
+            break;
+        }
+        text.extend_from_slice(&room[..count])?;
+    }
+    Ok(text)
+}
+
+/// The names in a directory, hidden ones too, in version order, since whoever asks for them mostly sorts them so.
+fn names_in<R: Files + AllocGlobal>(rt: &R, dir: &str) -> io::Result<Vec<String>> {
+    let alloc = rt.alloc();
+    let bytes = text_of_names(rt, dir)?;
+    let Ok(text) = str::from_utf8(&bytes) else {
+        return Err(io::Error::from(io::ErrorKind::InvalidFilename));
+    };
+    let mut names = Vec::new(alloc);
+    for name in text.split_terminator('\0') {
+        if name != "." && name != ".." {
+            names.push(String::from_str(alloc, name)?)?;
+        }
+    }
+    names.sort_by(|left, right| version_order(left, right))?;
+    Ok(names)
+}
+
+/// The directory at a path, with its names.
+pub(crate) fn load_names<R: Files + AllocGlobal>(rt: &R, dir: &str) -> Result<Known, TreeFault>
+    ensures directory { IfOk result (λ known. SaysNoLess known Known.Directory) }
+    ensures listed { IfOk result (λ known. is_unlisted known ≡ false) }
+{
+    Ok(Known::Listing(names_in(rt, dir)?))
+}
+
+/// What is at a path where this is, whose directory is listed. Of a file nothing is read.
+fn listing_of_kind<R: Files + AllocGlobal>(
+    rt: &R,
+    dir: &str,
+    path_kind: PathKind,
+) -> Result<Known, TreeFault>
+    ensures file { IfOk result (λ known. has_file known ≡ is_file path_kind) }
+    ensures directory { IfOk result (λ known. has_directory known ≡ is_directory path_kind) }
+    ensures listed { IfOk result (λ known. is_unlisted known ≡ false) }
+{
+    match path_kind {
+        PathKind::Directory => Ok(Known::Listing(names_in(rt, dir)?)),
+        PathKind::File => {
+            let bytes = Vec::new(rt.alloc());
+            Ok(Known::File(Prefix { size: 0, bytes }))
+        }
+        PathKind::Nothing | PathKind::Other => Ok(Known::Neither),
+    }
+}
+
+/// What is at a path, whose directory is listed.
+pub(crate) fn load_listing<R: Files + AllocGlobal>(rt: &R, dir: &str) -> Result<Known, TreeFault>
+    ensures { IfOk result (λ known. is_unlisted known ≡ false) }
+{
+    let path_kind = look(rt, dir)?;
+    listing_of_kind(rt, dir, path_kind)
+}
