@@ -20,7 +20,7 @@ pub struct MemoryTree {
 pub(crate) fn copy_names(alloc: Global, names: &Vec<String>) -> Result<Vec<String>, AllocError>
     ensures { IfOk result (λ copy. map string_bytes (vec_items copy) ≡ map string_bytes (vec_items names.now)) }
 {
-    let mut copy = Vec::new(alloc);
+    let mut copy = Vec::with_capacity(alloc, names.len())?;
     for name in names {
         copy.push(name.clone()?)?;
     }

@@ -44,7 +44,7 @@ pub(crate) fn names_in(
     ensures { IfOk result (λ names.
         map string_bytes names.items ≡ names_in (option_map (λ f. f.now) prefix.entry) (map string_bytes entries.now)) }
 {
-    let mut names = Vec::new(alloc);
+    let mut names = Vec::with_capacity(alloc, entries.len())?;
     for entry in entries {
         if is_single(entry) {
             let name = name_below(alloc, prefix, entry)?;
@@ -72,7 +72,7 @@ pub(crate) fn modules_among<'a, T: Tree>(
     ensures failed { FailsAt is_device (T.failed tree.old) (T.failed tree.new) result
         (LooksAmong dir.now (map string_bytes names.entry.now)) }
 {
-    let mut modules = Vec::new(alloc);
+    let mut modules = Vec::with_capacity(alloc, names.len())?;
     for name in names {
         if is_module_below(alloc, tree, dir, name)? {
             modules.push(name.as_str())?;

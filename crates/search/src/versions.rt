@@ -47,7 +47,7 @@ fn versions_in<'a>(
     ensures { IfOk result (λ versions.
         map (λ v. v.now) versions.items ≡ filter (is_version name.now) (map string_bytes entries.entry.now)) }
 {
-    let mut versions = Vec::new(alloc);
+    let mut versions = Vec::with_capacity(alloc, entries.len())?;
     for entry in entries {
         if is_version(alloc, name, entry)? {
             versions.push(entry.as_str())?;

@@ -16,7 +16,7 @@ returns-in_err-is_module_below-clause-failed g c =
     let names = c.args.names.now in
     let i = c.loop-name.name-index in
     let fails = is_device c.in_err-is_module_below.field-0.0 in
-    let p = err_from_is_err_and c.from_residual.result c.from_residual.ensures.1 in
+    let p = err_from_is_err_and c.from_residual-in_err-is_module_below.result c.from_residual-in_err-is_module_below.ensures.1 in
     let there =
     c.loop-name.invariant.among (string_bytes name)
     (ap (λ x. has (string_bytes x) (map string_bytes (drop i names))) c.name-item.is ∙ first_has _ _ _ (first_of string_bytes name names i c.loop-name-test.true)) in
