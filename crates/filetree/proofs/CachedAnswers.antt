@@ -16,7 +16,6 @@ use Rattle.std.proofs.lemmas.List.{take-take}
 use Rattle.filetree.specs.Known.{Fits, SaysNoLess}
 use Rattle.filetree.specs.declared.known.Known.{Known}
 use Rattle.filetree.specs.Agreement.{Files, Listings, with_at, HaveSamePrefix, FailedAt}
-use Rattle.filetree.specs.declared.prefix.Prefix.{Prefix}
 
 -- what is at each path fits what is known of it
 abbrev pub FitsAll : {Y S : Type 0} → HashMap (String Y) Known S → Files → Listings → Type 0
