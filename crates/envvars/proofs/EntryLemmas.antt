@@ -1,5 +1,5 @@
 -- The variable that an entry gives.
-use Rattle.std.proofs.Common.{Option, Some, None, ◌≡◌, Bor, ℕ, suc, ◌+◌, ◌-◌, ◌<◌, Bool, true, false, List, [], ◌∷◌, ◌++◌, length, take, drop, map, refl, sym, ap, ◌∙◌, subst, inl, inr, arith}
+use Rattle.std.proofs.Common.{Option, Some, None, ◌≡◌, ℕ, suc, ◌+◌, ◌-◌, ◌<◌, Bool, true, false, List, [], ◌∷◌, length, take, drop, refl, sym, ap, ◌∙◌, subst, inl, inr, arith}
 use Rattle.std.proofs.lemmas.Bool.{cases_Bool, false≢true}
 use Rattle.std.proofs.lemmas.Bool.Decides.{nat_tests}
 use Rattle.std.proofs.lemmas.List.{take_all, take-take, drop-take, drop-drop, length-drop, length-take-le}
@@ -28,7 +28,7 @@ readable_text value u = rw (is_utf8-from_IsUtf8 value u) refl
 abbrev place : Text → Option ℕ
 place entry = if nat_lt (position_or_len is_equals entry) (length entry) then Some (position_or_len is_equals entry) else None
 
--- The entry gives no variable: it has no '=', or none with a name before it, or the name isn't UTF-8.
+-- An entry without '=' gives no variable.
 pub no_equals : (entry : Text) (e : Environment) → place entry ≡ None → with_entry entry e ≡ e
 no_equals entry e h = elim (cases_Bool (nat_lt (position_or_len is_equals entry) (length entry))) [
   | inl t ↦ absurd (clash (rw t at h))
@@ -36,21 +36,6 @@ no_equals entry e h = elim (cases_Bool (nat_lt (position_or_len is_equals entry)
 ] where
   clash : {n : ℕ} → ◌≡◌ {A = Option ℕ} (Some n) None → ⊥
   clash e = cc
-
-pub no_name : (entry : Text) (e : Environment) → length (name_of entry) ≡ 0 → with_entry entry e ≡ e
-no_name entry e z = elim (cases_Bool (nat_lt (position_or_len is_equals entry) (length entry))) [
-  | inl t ↦ rw (t, z) refl
-  | inr f ↦ rw f refl
-]
-
-pub no_text : (entry : Text) (e : Environment) → (IsUtf8 (name_of entry) → ⊥) → with_entry entry e ≡ e
-no_text entry e h = elim (cases_Bool (is_utf8 (name_of entry))) [
-  | inl t ↦ absurd (h (IsUtf8-from_is_utf8 (name_of entry) t))
-  | inr f ↦ elim (cases_Bool (nat_lt (position_or_len is_equals entry) (length entry))) [
-    | inl t ↦ elim (cases_Bool (nat_lt 0 (length (name_of entry)))) [ inl s ↦ rw (t, s, f) refl | inr z ↦ rw (t, z) refl ]
-    | inr z ↦ rw z refl
-  ]
-]
 
 placed : (b : Bool) (p end : ℕ) → (if b then Some p else None) ≡ Some end → (b ≡ true) × (p ≡ end)
 placed true p end h = (refl, some h) where

@@ -1,5 +1,5 @@
 -- The chains in which the entry of a name is found, and the environment that entries are written over.
-use Rattle.std.proofs.Common.{◌≡◌, ℕ, zero, suc, ◌+◌, ◌-◌, ◌<◌, ◌≤◌, ◌≢◌, Bool, true, false, cond, ◌||◌, inl, inr, ◌⊎◌, List, [], ◌∷◌, ◌++◌, length, map, replicate, get_or, take, drop, set, slice_get, Bor, Option, Some, None, IfSome, refl, sym, ap, ◌∙◌, subst, arith, length-append, length-set, take-suc}
+use Rattle.std.proofs.Common.{◌≡◌, ℕ, zero, suc, ◌+◌, ◌<◌, ◌≤◌, ◌≢◌, Bool, true, false, cond, ◌||◌, inl, inr, ◌⊎◌, List, [], ◌∷◌, ◌++◌, length, map, replicate, get_or, take, set, slice_get, Bor, Option, Some, None, IfSome, refl, sym, ap, ◌∙◌, subst, arith, length-append, length-set, take-suc}
 use Rattle.std.specs.Prelude.{bytes_eq}
 use Rattle.std.proofs.lemmas.Bool.{cases_Bool, false≢true}
 use Rattle.std.proofs.lemmas.Bool.Decides.{leb_tells}
@@ -119,9 +119,6 @@ module _ (block : Text) where
     | inl t ↦ absurd (n (sym (same_text q (name_in block x) t)))
     | inr f ↦ ap (λ (b : Bool). cond b (value_in block x) (lookup e q)) f
   ]
-
-  later : (x : Entry) (xs : List Entry) (q : Text) (j : ℕ) → ¬ IsNamed block (x ∷ xs) q (suc j) → ¬ IsNamed block xs q j
-  later x xs q j n p = n p
 
   -- a name that no entry has
   pub lookup-not_given : (base : Environment) (es : List Entry) (q : Text) → ((j : ℕ) → ¬ IsNamed block es q j) → lookup (given_over block base es) q ≡ lookup base q

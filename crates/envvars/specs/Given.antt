@@ -1,6 +1,6 @@
 -- For the contracts of private functions: the variables of a block, each by the place of its entry, and the chains in
 -- which the entry of a name is found.
-use Rattle.std.specs.Prelude.{◌≡◌, ℕ, ◌+◌, ◌-◌, ◌*◌, ◌/◌, ◌%◌, ◌<◌, ◌≤◌, List, [], ◌∷◌, map, length, take, drop, slice_get, slice_index, Option, Some, None, if◌then◌else◌, MatchOption}
+use Rattle.std.specs.Prelude.{◌≡◌, ℕ, ◌+◌, ◌-◌, ◌*◌, ◌/◌, ◌%◌, ◌<◌, ◌≤◌, List, [], ◌∷◌, map, length, take, drop, slice_get, slice_index, Option, Some, None, if◌then◌else◌}
 use Rattle.std.specs.Str.{IsUtf8}
 use Rattle.std.specs.FinMap as finite
 use Rattle.envvars.specs.Texts.{Text}

@@ -11,12 +11,17 @@ ghost use Rattle.envvars.specs.Fields.{elements_in, text_of_elements, without_re
 use indexmap::IndexSet;
 use std::alloc::{AllocError, Global};
 
+/// How many bytes most parts have at least: as many parts get their room at once.
+const USUAL_LENGTH: usize = 8;
+
 /// The parts of a text between its separators. The separator is ASCII.
 pub fn parts(alloc: Global, text: &str, separator: char) -> Result<Vec<&str>, AllocError>
     requires { separator < 128 }
     ensures { IfOk result (λ v. slice_texts v.items ≡ slice_split (λ b. b == separator) text.now) }
 {
-    text.split(separator).collect(alloc)
+    let mut parts = Vec::with_capacity(alloc, text.len() / USUAL_LENGTH + 1)?;
+    parts.extend(text.split(separator))?;
+    Ok(parts)
 }
 
 /// The parts with the separator between them. The separator is ASCII.
@@ -27,7 +32,12 @@ pub fn join(alloc: Global, parts: &[&str], separator: char) -> Result<String, Al
     let [first, later @ ..] = parts else {
         return Ok(String::new(alloc));
     };
-    let mut text = String::from_str(alloc, first)?;
+    // Room for the whole text at once. Were the sum wrong, the text would still grow.
+    let length = parts
+        .iter()
+        .fold(parts.len(), |sum, part| sum.wrapping_add(part.len()));
+    let mut text = String::with_capacity(alloc, length)?;
+    text.push_str(first)?;
     for part in later {
         text.push(separator)?;
         text.push_str(part)?;
@@ -65,7 +75,7 @@ pub fn text_of_elements(alloc: Global, elements: &[&str]) -> Result<Option<Strin
 pub fn deduplicated<'a>(alloc: Global, texts: &[&'a str]) -> Result<Vec<&'a str>, AllocError>
     ensures { IfOk result (λ v. slice_texts v.items ≡ without_repeats (slice_texts texts.now)) }
 {
-    let mut done = IndexSet::new(alloc);
+    let mut done = IndexSet::with_capacity(alloc, texts.len())?;
     for text in texts {
         done.insert(*text)?;
     }

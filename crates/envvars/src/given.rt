@@ -1,14 +1,14 @@
 //! The variables that a process is given, each in its entry of the block that holds them all (environ(7)). Of thousands
 //! a request looks at ten, so that none is copied, and a value is read where somebody asks for it.
-ghost use Rattle.std.specs.Prelude.{◌≡◌, ◌<◌, ◌≤◌, ◌+◌, ◌-◌, ◌&&◌, ◌++◌, ◌∷◌, [], true, false, nat_lt, take, drop, length, string_bytes, IfOk, OnOk, IfSome};
+ghost use Rattle.std.specs.Prelude.{◌≡◌, ◌<◌, ◌≤◌, ◌-◌, ◌&&◌, [], nat_lt, take, drop, length, IfOk, OnOk};
 ghost use Rattle.std.specs.Option.{option_map};
-ghost use Rattle.std.specs.Str.{is_utf8, IsUtf8};
+ghost use Rattle.std.specs.Str.{is_utf8};
 ghost use Rattle.std.specs.FinMap as finite;
-ghost use Rattle.envvars.specs.Texts.{Text, has, slice_texts};
+ghost use Rattle.envvars.specs.Texts.{slice_texts};
 ghost use Rattle.envvars.specs.Environment.{Environment, lookup, with_value};
 ghost use Rattle.envvars.specs.EnvironmentBlock as block_specs;
 ghost use Rattle.envvars.specs.EnvironmentBlock.{utf8_value, with_entry};
-ghost use Rattle.envvars.specs.Given.{name_in, value_in, given_over, variables_of, names_of, IsInside, IsNamed, IsFirstOf, IsChained, AreChained, chain_of, chain_count};
+ghost use Rattle.envvars.specs.Given.{name_in, value_in, given_over, variables_of, names_of, IsInside, IsNamed, IsFirstOf, IsChained, chain_of, chain_count};
 
 use memchr::memchr;
 use std::alloc::{AllocError, Global};
@@ -16,6 +16,9 @@ use std::str;
 
 /// How many chains there are.
 const CHAINS: usize = 64;
+
+/// How many bytes most entries have at least: as many entries get their room at once.
+const USUAL_LENGTH: usize = 24;
 
 /// An entry `NAME=VALUE` of a block, by its place.
 #[derive(Clone, Copy)]
@@ -114,7 +117,7 @@ impl Given {
     {
         Ok(Given {
             block: Vec::from_slice(alloc, block)?,
-            entries: Vec::new(alloc),
+            entries: Vec::with_capacity(alloc, block.len() / USUAL_LENGTH)?,
             latest: Vec::from_elem(alloc, None, CHAINS)?,
         })
     }

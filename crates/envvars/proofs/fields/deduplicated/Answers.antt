@@ -5,7 +5,7 @@ use Rattle.envvars.proofs.FieldLemmas.{without_repeats-start, without_repeats-tu
 use Rattle.envvars.proofs.fields.deduplicated.Goals as goal
 
 pub loop-text-init : goal.loop-text-init
-loop-text-init c = without_repeats-start _ (without_repeats (slice_texts c.args.texts.now)) (ap slice_texts c.new-done.ensures.empty)
+loop-text-init c = without_repeats-start _ (without_repeats (slice_texts c.args.texts.now)) (ap slice_texts c.in_ok-done.ensures.empty)
 
 pub loop-text-preserved : goal.loop-text-preserved
 loop-text-preserved c =

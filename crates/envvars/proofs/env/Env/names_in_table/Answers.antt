@@ -1,4 +1,4 @@
-use Rattle.std.proofs.Common.{◌≡◌, ◌++◌, Bor, List, map, sym, ap, ◌∙◌}
+use Rattle.std.proofs.Common.{◌++◌, Bor, List, sym, ap, ◌∙◌}
 use Rattle.std.proofs.lemmas.List.{map-append}
 use Rattle.envvars.specs.Texts.{Text, has, slice_texts}
 use Rattle.envvars.specs.Given.{variables_of}

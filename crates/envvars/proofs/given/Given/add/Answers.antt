@@ -1,4 +1,4 @@
-use Rattle.std.proofs.Common.{◌≡◌, List, ℕ, ◌+◌, ◌-◌, ◌<◌, Bool, true, false, ◌&&◌, Some, None, length, take, drop, ap, sym, ◌∙◌, subst, arith, length-drop, length-take-le}
+use Rattle.std.proofs.Common.{◌≡◌, List, ℕ, ◌-◌, ◌<◌, Bool, true, false, ◌&&◌, Some, None, length, take, drop, ap, sym, ◌∙◌, subst, arith, length-drop, length-take-le}
 use Rattle.std.specs.Prelude.{nat_lt}
 use Rattle.std.specs.Str.{is_utf8}
 use Rattle.memchr.specs.Find.{IsFirstByte, is_byte}

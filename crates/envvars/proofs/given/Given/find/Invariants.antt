@@ -1,4 +1,4 @@
-use Rattle.std.proofs.Common.{ℕ, ◌+◌, Option, Some, None, IfSome}
+use Rattle.std.proofs.Common.{IfSome}
 use Rattle.envvars.specs.Given.{IsNamed, IsInChain, chain_of}
 use Rattle.envvars.proofs.GivenLemmas.{IsFirstAbove, left}
 use Rattle.envvars.proofs.given.Given.find.Given as goal

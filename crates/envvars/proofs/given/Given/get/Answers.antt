@@ -1,8 +1,8 @@
-use Rattle.std.proofs.Common.{◌≡◌, ℕ, ◌<◌, List, length, get_or, slice_get, Option, Some, None, refl, sym, ap, ◌∙◌, subst, arith}
+use Rattle.std.proofs.Common.{ℕ, List, length, Some, None, refl, sym, ◌∙◌, subst, arith}
 use Rattle.std.proofs.lemmas.Option.{slice_get_within, slice_get_read}
 use Rattle.std.specs.FinMap as finite
-use Rattle.envvars.specs.Given.{IsNamed, IsFirstOf, name_in, value_in}
-use Rattle.envvars.proofs.GivenLemmas.{lookup-given, lookup-not_given, not_given, name_at}
+use Rattle.envvars.specs.Given.{IsNamed, IsFirstOf, value_in}
+use Rattle.envvars.proofs.GivenLemmas.{lookup-given, not_given, name_at}
 use Rattle.envvars.proofs.given.Given.get.Goals as goal
 
 pub returns-in-None : goal.returns-in-None

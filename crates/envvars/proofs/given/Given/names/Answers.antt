@@ -1,8 +1,7 @@
-use Rattle.std.proofs.Common.{◌≡◌, ℕ, ◌<◌, List, length, get_or, Option, Some, None, Bor, ap, sym, ◌∙◌, refl}
+use Rattle.std.proofs.Common.{ℕ, ◌<◌, List, length, Bor, ap, sym, ◌∙◌}
 use Rattle.std.specs.Option.{option_map}
 use Rattle.std.proofs.lemmas.Option.{slice_get-get_or}
 use Rattle.envvars.specs.EnvironmentBlock.{utf8_value}
-use Rattle.envvars.specs.Given.{IsInside, name_in}
 use Rattle.envvars.proofs.EntryLemmas.{readable_text}
 use Rattle.envvars.proofs.GivenLemmas.{names_step, none_some, some_same}
 use Rattle.envvars.proofs.given.Given.names.Goals as goal

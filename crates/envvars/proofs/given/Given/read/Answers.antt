@@ -1,4 +1,4 @@
-use Rattle.std.proofs.Common.{◌≡◌, List, ℕ, ◌+◌, ◌-◌, ◌<◌, length, take, drop, ap, sym, ◌∙◌, arith}
+use Rattle.std.proofs.Common.{List, ℕ, ◌+◌, ◌-◌, length, take, drop, ap, ◌∙◌, arith}
 use Rattle.std.specs.FinMap as finite
 use Rattle.envvars.specs.Environment.{Environment}
 use Rattle.envvars.specs.EnvironmentBlock.{environment_of, with_entry}

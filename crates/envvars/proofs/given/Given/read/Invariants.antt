@@ -1,4 +1,4 @@
-use Rattle.std.proofs.Common.{◌≡◌, ◌≤◌, ◌-◌, ◌+◌, drop, length}
+use Rattle.std.proofs.Common.{◌≡◌, ◌≤◌, ◌-◌, drop, length}
 use Rattle.envvars.specs.EnvironmentBlock.{environment_of}
 use Rattle.envvars.specs.Given.{given_over, IsChained, chain_count}
 use Rattle.envvars.proofs.given.Given.read.Given as goal

@@ -1,4 +1,4 @@
-use Rattle.std.proofs.Common.{◌≡◌, ℕ, List, length, slice_get, Some, None, refl, sym, ap, subst, arith}
+use Rattle.std.proofs.Common.{ℕ, List, length, Some, None, refl, subst, arith}
 use Rattle.std.proofs.lemmas.Option.{slice_get_within, slice_get_read}
 use Rattle.std.specs.FinMap as finite
 use Rattle.envvars.specs.Given.{IsNamed, IsFirstOf}
