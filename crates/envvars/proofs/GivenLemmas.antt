@@ -8,7 +8,7 @@ use Rattle.std.proofs.lemmas.Option.{slice_get_within}
 use Rattle.std.specs.FinMap as finite
 use Rattle.envvars.specs.Texts.{Text, has, slice_texts}
 use Rattle.envvars.specs.Environment.{Environment, lookup, with_value}
-use Rattle.envvars.specs.Given.{IsNamed, IsInChain, IsLastBelow, IsFirstOf, IsInside, AreChained, name_in, value_in, given_over, chain_of, chain_count}
+use Rattle.envvars.specs.Given.{IsNamed, IsInChain, IsLastBelow, IsFirstOf, IsInside, AreChained, name_in, value_in, given_over, chain_of}
 use Rattle.envvars.specs.declared.given.Entry.{Entry}
 use Rattle.envvars.proofs.TextLemmas.{bytes_eq-same, same_text}
 use Rattle.envvars.proofs.TableLemmas.{nothing_set}
@@ -47,15 +47,15 @@ left None = 0
 left (Some i) = i + 1
 
 -- going down the chain of a name
-module _ (block : Text) (es : List Entry) (name : Text) where
+module _ (count : ℕ) (block : Text) (es : List Entry) (name : Text) where
   abbrev Named : ℕ → Type 0
   Named = IsNamed block es name
 
   abbrev InChain : ℕ → Type 0
-  InChain = IsInChain block es (chain_of name)
+  InChain = IsInChain count block es (chain_of count name)
 
   in_chain : (j : ℕ) → Named j → InChain j
-  in_chain j p = (p.0, p.1, ap chain_of p.2)
+  in_chain j p = (p.0, p.1, ap (chain_of count) p.2)
 
   pub chain_begins : (at : Option ℕ) → IsLastBelow InChain (length es) at → IsFirstAbove Named at None
   chain_begins None h = λ j above p. h j (slice_get_within es j p.0 p.1) (in_chain j p)
@@ -95,10 +95,10 @@ module _ (block : Text) (es : List Entry) (name : Text) where
   other_name i e get n p = n (name_at i e get p)
 
   -- the chain that an entry is in is the name's
-  pub chain_leads : (i : ℕ) (e : Entry) (earlier : Option ℕ) → slice_get es i ≡ Some e → InChain i → IsLastBelow (IsInChain block es (chain_of (name_in block e))) i earlier → IsLastBelow InChain i earlier
+  pub chain_leads : (i : ℕ) (e : Entry) (earlier : Option ℕ) → slice_get es i ≡ Some e → InChain i → IsLastBelow (IsInChain count block es (chain_of count (name_in block e))) i earlier → IsLastBelow InChain i earlier
   chain_leads i e earlier get p h =
       let same : p.0 ≡ e = some_same p.0 e (sym p.1 ∙ get) in
-      subst (λ (n : ℕ). IsLastBelow (IsInChain block es n) i earlier) (ap (λ (x : Entry). chain_of (name_in block x)) (sym same) ∙ p.2) h
+      subst (λ (n : ℕ). IsLastBelow (IsInChain count block es n) i earlier) (ap (λ (x : Entry). chain_of count (name_in block x)) (sym same) ∙ p.2) h
 
   -- the entry before it is in the chain, if there is one
   pub chain_kept : (i : ℕ) (earlier : Option ℕ) → IsLastBelow InChain i earlier → IfSome earlier InChain
@@ -172,57 +172,59 @@ last_same P Q n m None le to from h = λ j l q. let r = from j l q in h j r.0 r.
 last_same P Q n m (Some i) le to from h = (omega (arith, h.0, le), to i h.1, λ j a l q. let r = from j l q in h.2 j a r.0 r.1)
 
 -- one more entry in its chain
-module _ (block : Text) (es : List Entry) (e : Entry) (latest : List (Option ℕ)) (all : AreChained block es latest) (at : ℕ) (is_at : at ≡ chain_of (name_in block e)) (begun : slice_get latest at ≡ Some e.earlier) (chains : length latest ≡ chain_count) where
-  more : (chain j : ℕ) → IsInChain block es chain j → IsInChain block (es ++ e ∷ []) chain j
+module _ (count : ℕ) (block : Text) (es : List Entry) (e : Entry) (latest : List (Option ℕ)) (all : AreChained count block es latest) (at : ℕ) (is_at : at ≡ chain_of count (name_in block e)) (begun : slice_get latest at ≡ Some e.earlier) (chains : 0 < count) where
+  more : (chain j : ℕ) → IsInChain count block es chain j → IsInChain count block (es ++ e ∷ []) chain j
   more chain j p = (p.0, get_kept es e j p.0 p.1, p.2)
 
-  fewer : (chain j : ℕ) → j < length es → IsInChain block (es ++ e ∷ []) chain j → IsInChain block es chain j
+  fewer : (chain j : ℕ) → j < length es → IsInChain count block (es ++ e ∷ []) chain j → IsInChain count block es chain j
   fewer chain j l p = elim (get_push es e j p.0 p.1) [ inl k ↦ (p.0, k, p.2) | inr k ↦ absurd (omega (arith, k.0, l)) ]
 
-  not_last : (chain j : ℕ) → chain ≢ at → j < length es + 1 → IsInChain block (es ++ e ∷ []) chain j → (j < length es) × IsInChain block es chain j
+  not_last : (chain j : ℕ) → chain ≢ at → j < length es + 1 → IsInChain count block (es ++ e ∷ []) chain j → (j < length es) × IsInChain count block es chain j
   not_last chain j other l p = elim (get_push es e j p.0 p.1) [
     | inl k ↦ (slice_get_within es j p.0 k, (p.0, k, p.2))
-    | inr k ↦ absurd (other (sym p.2 ∙ ap (λ (x : Entry). chain_of (name_in block x)) (sym k.1) ∙ sym is_at))
+    | inr k ↦ absurd (other (sym p.2 ∙ ap (λ (x : Entry). chain_of count (name_in block x)) (sym k.1) ∙ sym is_at))
   ]
 
   size : length (es ++ e ∷ []) ≡ length es + 1
   size = length-append es (e ∷ [])
 
-  here : IsLastBelow (IsInChain block (es ++ e ∷ []) at) (length (es ++ e ∷ [])) (Some (length es))
+  here : IsLastBelow (IsInChain count block (es ++ e ∷ []) at) (length (es ++ e ∷ [])) (Some (length es))
   here = (omega (arith, size), (e, get_last es e, sym is_at), λ j a l q. absurd (omega (arith, a, l, size)))
 
-  began : (chain : ℕ) (i : Option ℕ) → slice_get (set latest at (Some (length es))) chain ≡ Some i → IsLastBelow (IsInChain block (es ++ e ∷ []) chain) (length (es ++ e ∷ [])) i
+  began : (chain : ℕ) (i : Option ℕ) → slice_get (set latest at (Some (length es))) chain ≡ Some i → IsLastBelow (IsInChain count block (es ++ e ∷ []) chain) (length (es ++ e ∷ [])) i
   began chain i get = elim (get_set latest at (Some (length es)) chain i get) [
-    | inl k ↦ last_same (IsInChain block es chain) (IsInChain block (es ++ e ∷ []) chain) (length es) (length (es ++ e ∷ [])) i (omega (arith, size)) (more chain)
+    | inl k ↦ last_same (IsInChain count block es chain) (IsInChain count block (es ++ e ∷ []) chain) (length es) (length (es ++ e ∷ [])) i (omega (arith, size)) (more chain)
         (λ j l q. not_last chain j k.0 (omega (arith, l, size)) q) (all.begins chain i k.1)
-    | inr k ↦ subst (λ (n : ℕ). IsLastBelow (IsInChain block (es ++ e ∷ []) n) (length (es ++ e ∷ [])) i) (sym k.0) (subst (λ (o : Option ℕ). IsLastBelow (IsInChain block (es ++ e ∷ []) at) (length (es ++ e ∷ [])) o) k.1 here)
+    | inr k ↦ subst (λ (n : ℕ). IsLastBelow (IsInChain count block (es ++ e ∷ []) n) (length (es ++ e ∷ [])) i) (sym k.0) (subst (λ (o : Option ℕ). IsLastBelow (IsInChain count block (es ++ e ∷ []) at) (length (es ++ e ∷ [])) o) k.1 here)
   ]
 
-  led : (i : ℕ) (d : Entry) → slice_get (es ++ e ∷ []) i ≡ Some d → IsLastBelow (IsInChain block (es ++ e ∷ []) (chain_of (name_in block d))) i d.earlier
+  led : (i : ℕ) (d : Entry) → slice_get (es ++ e ∷ []) i ≡ Some d → IsLastBelow (IsInChain count block (es ++ e ∷ []) (chain_of count (name_in block d))) i d.earlier
   led i d get = elim (get_push es e i d get) [
     | inl k ↦
-        let chain = chain_of (name_in block d) in
+        let chain = chain_of count (name_in block d) in
         let inside : i < length es = slice_get_within es i d k in
-        last_same (IsInChain block es chain) (IsInChain block (es ++ e ∷ []) chain) i i d.earlier (omega arith) (more chain) (λ j l q. (l, fewer chain j (omega (arith, l, inside)) q)) (all.leads i d k)
+        last_same (IsInChain count block es chain) (IsInChain count block (es ++ e ∷ []) chain) i i d.earlier (omega arith) (more chain) (λ j l q. (l, fewer chain j (omega (arith, l, inside)) q)) (all.leads i d k)
     | inr k ↦
-        let of_last : IsLastBelow (IsInChain block (es ++ e ∷ []) (chain_of (name_in block e))) (length es) e.earlier =
-        subst (λ (n : ℕ). IsLastBelow (IsInChain block (es ++ e ∷ []) n) (length es) e.earlier) is_at
-        (last_same (IsInChain block es at) (IsInChain block (es ++ e ∷ []) at) (length es) (length es) e.earlier (omega arith) (more at) (λ j l q. (l, fewer at j l q)) (all.begins at e.earlier begun)) in
-        subst (λ (n : ℕ). IsLastBelow (IsInChain block (es ++ e ∷ []) (chain_of (name_in block d))) n d.earlier) (sym k.0)
-        (subst (λ (x : Entry). IsLastBelow (IsInChain block (es ++ e ∷ []) (chain_of (name_in block x))) (length es) x.earlier) k.1 of_last)
+        let of_last : IsLastBelow (IsInChain count block (es ++ e ∷ []) (chain_of count (name_in block e))) (length es) e.earlier =
+        subst (λ (n : ℕ). IsLastBelow (IsInChain count block (es ++ e ∷ []) n) (length es) e.earlier) is_at
+        (last_same (IsInChain count block es at) (IsInChain count block (es ++ e ∷ []) at) (length es) (length es) e.earlier (omega arith) (more at) (λ j l q. (l, fewer at j l q)) (all.begins at e.earlier begun)) in
+        subst (λ (n : ℕ). IsLastBelow (IsInChain count block (es ++ e ∷ []) (chain_of count (name_in block d))) n d.earlier) (sym k.0)
+        (subst (λ (x : Entry). IsLastBelow (IsInChain count block (es ++ e ∷ []) (chain_of count (name_in block x))) (length es) x.earlier) k.1 of_last)
   ]
 
-  pub chained-push : IsInside block e → AreChained block (es ++ e ∷ []) (set latest at (Some (length es)))
+  pub chained-push : IsInside block e → AreChained count block (es ++ e ∷ []) (set latest at (Some (length es)))
   chained-push inside = record {
     inside = λ i d get. elim (get_push es e i d get) [ inl k ↦ all.inside i d k | inr k ↦ subst (IsInside block) k.1 inside ];
-    chains = λ _. length-set latest at (Some (length es)) ∙ chains;
+    chains = λ _. chains;
     begins = began;
     leads = led;
   }
 
-pub chained-pushed : (block : Text) (es ns : List Entry) (e : Entry) (latest : List (Option ℕ)) (at n : ℕ) → AreChained block es latest → at ≡ chain_of (name_in block e) → slice_get latest at ≡ Some e.earlier
-    → length latest ≡ chain_count → ns ≡ es ++ e ∷ [] → n ≡ length es → IsInside block e → AreChained block ns (set latest at (Some n))
-chained-pushed block es ns e latest at n all is_at begun chains grown last inside = rw (grown, last) (chained-push block es e latest all at is_at begun chains inside)
+pub chained-pushed : (block : Text) (es ns : List Entry) (e : Entry) (latest : List (Option ℕ)) (at n : ℕ) → AreChained (length latest) block es latest → at ≡ chain_of (length latest) (name_in block e)
+    → slice_get latest at ≡ Some e.earlier → 0 < length latest → ns ≡ es ++ e ∷ [] → n ≡ length es → IsInside block e → AreChained (length (set latest at (Some n))) block ns (set latest at (Some n))
+chained-pushed block es ns e latest at n all is_at begun chains grown last inside =
+    let pushed : AreChained (length latest) block ns (set latest at (Some n)) = rw (grown, last) (chained-push (length latest) block es e latest all at is_at begun chains inside) in
+    subst (λ (m : ℕ). AreChained m block ns (set latest at (Some n))) (sym (length-set latest at (Some n))) pushed
 
 pub given_over-pushed : (block : Text) (base : Environment) (es ns : List Entry) (e : Entry) → ns ≡ es ++ e ∷ [] → given_over block base ns ≡ given_over block (with_value base (name_in block e) (value_in block e)) es
 given_over-pushed block base es ns e grown = ap (given_over block base) grown ∙ given_over-push block base es e
@@ -243,25 +245,25 @@ get_set_other (z ∷ zs) (suc i) x (suc j) y n h = get_set_other zs i x j y (λ 
 abbrev pub unset : Entry → Entry
 unset e = record { start = e.start; equals = e.equals; end = e.end; is_set = false; earlier = e.earlier }
 
-module _ (block : Text) (es : List Entry) (latest : List (Option ℕ)) (i : ℕ) (e : Entry) (get : slice_get es i ≡ Some e) where
-  still : (chain j : ℕ) → IsInChain block es chain j → IsInChain block (set es i (unset e)) chain j
+module _ (count : ℕ) (block : Text) (es : List Entry) (latest : List (Option ℕ)) (i : ℕ) (e : Entry) (get : slice_get es i ≡ Some e) where
+  still : (chain j : ℕ) → IsInChain count block es chain j → IsInChain count block (set es i (unset e)) chain j
   still chain j p = elim (order j i) [
     | inl l ↦ (p.0, get_set_other es i (unset e) j p.0 (λ s. omega (arith, l, s)) p.1, p.2)
     | inr m ↦ elim m [
       | inl s ↦
           let same : p.0 ≡ e = some_same p.0 e (sym p.1 ∙ ap (slice_get es) s ∙ get) in
-          (unset e, ap (slice_get (set es i (unset e))) s ∙ get_set_same es i (unset e) e get, ap (λ (x : Entry). chain_of (name_in block x)) (sym same) ∙ p.2)
+          (unset e, ap (slice_get (set es i (unset e))) s ∙ get_set_same es i (unset e) e get, ap (λ (x : Entry). chain_of count (name_in block x)) (sym same) ∙ p.2)
       | inr l ↦ (p.0, get_set_other es i (unset e) j p.0 (λ s. omega (arith, l, s)) p.1, p.2)
     ]
   ]
 
-  before : (chain j : ℕ) → IsInChain block (set es i (unset e)) chain j → IsInChain block es chain j
+  before : (chain j : ℕ) → IsInChain count block (set es i (unset e)) chain j → IsInChain count block es chain j
   before chain j p = elim (get_set es i (unset e) j p.0 p.1) [
     | inl k ↦ (p.0, k.1, p.2)
-    | inr k ↦ (e, ap (slice_get es) k.0 ∙ get, ap (λ (x : Entry). chain_of (name_in block x)) k.1 ∙ p.2)
+    | inr k ↦ (e, ap (slice_get es) k.0 ∙ get, ap (λ (x : Entry). chain_of count (name_in block x)) k.1 ∙ p.2)
   ]
 
-  pub chained-unset : AreChained block es latest → AreChained block (set es i (unset e)) latest
+  pub chained-unset : AreChained count block es latest → AreChained count block (set es i (unset e)) latest
   chained-unset all = record {
     inside = λ j d at. elim (get_set es i (unset e) j d at) [
       | inl k ↦ all.inside j d k.1
@@ -270,15 +272,15 @@ module _ (block : Text) (es : List Entry) (latest : List (Option ℕ)) (i : ℕ)
           subst (IsInside block) k.1 (record { named = inside.named; valued = inside.valued; within = inside.within; utf8 = inside.utf8 })
     ];
     chains = λ l. all.chains (omega (arith, l, length-set es i (unset e)));
-    begins = λ chain o at. last_same (IsInChain block es chain) (IsInChain block (set es i (unset e)) chain) (length es) (length (set es i (unset e))) o (omega (arith, length-set es i (unset e)))
+    begins = λ chain o at. last_same (IsInChain count block es chain) (IsInChain count block (set es i (unset e)) chain) (length es) (length (set es i (unset e))) o (omega (arith, length-set es i (unset e)))
         (still chain) (λ j l q. (omega (arith, l, length-set es i (unset e)), before chain j q)) (all.begins chain o at);
     leads = λ j d at. elim (get_set es i (unset e) j d at) [
-      | inl k ↦ last_same (IsInChain block es (chain_of (name_in block d))) (IsInChain block (set es i (unset e)) (chain_of (name_in block d))) j j d.earlier (omega arith)
-          (still (chain_of (name_in block d))) (λ m l q. (l, before (chain_of (name_in block d)) m q)) (all.leads j d k.1)
-      | inr k ↦ subst (λ (x : Entry). IsLastBelow (IsInChain block (set es i (unset e)) (chain_of (name_in block x))) j x.earlier) k.1
-          (subst (λ (n : ℕ). IsLastBelow (IsInChain block (set es i (unset e)) (chain_of (name_in block e))) n e.earlier) (sym k.0)
-          (last_same (IsInChain block es (chain_of (name_in block e))) (IsInChain block (set es i (unset e)) (chain_of (name_in block e))) i i e.earlier (omega arith)
-          (still (chain_of (name_in block e))) (λ m l q. (l, before (chain_of (name_in block e)) m q)) (all.leads i e get)))
+      | inl k ↦ last_same (IsInChain count block es (chain_of count (name_in block d))) (IsInChain count block (set es i (unset e)) (chain_of count (name_in block d))) j j d.earlier (omega arith)
+          (still (chain_of count (name_in block d))) (λ m l q. (l, before (chain_of count (name_in block d)) m q)) (all.leads j d k.1)
+      | inr k ↦ subst (λ (x : Entry). IsLastBelow (IsInChain count block (set es i (unset e)) (chain_of count (name_in block x))) j x.earlier) k.1
+          (subst (λ (n : ℕ). IsLastBelow (IsInChain count block (set es i (unset e)) (chain_of count (name_in block e))) n e.earlier) (sym k.0)
+          (last_same (IsInChain count block es (chain_of count (name_in block e))) (IsInChain count block (set es i (unset e)) (chain_of count (name_in block e))) i i e.earlier (omega arith)
+          (still (chain_of count (name_in block e))) (λ m l q. (l, before (chain_of count (name_in block e)) m q)) (all.leads i e get)))
     ];
   }
 
@@ -343,8 +345,8 @@ all_none (suc n) zero i h = sym (some_same None i h)
 all_none (suc n) (suc k) i h = all_none n k i h
 
 -- no entry, and chains that are empty
-pub chained-none : (block : Text) (es : List Entry) (latest : List (Option ℕ)) (n : ℕ) → es ≡ [] → latest ≡ replicate n None → AreChained block es latest
-chained-none block es latest n none all = rw (none, all) (record {
+pub chained-none : (count : ℕ) (block : Text) (es : List Entry) (latest : List (Option ℕ)) (n : ℕ) → es ≡ [] → latest ≡ replicate n None → AreChained count block es latest
+chained-none count block es latest n none all = rw (none, all) (record {
   inside = λ i e h. absurd (none_some h);
   chains = λ l. absurd (omega (arith, l));
   begins = λ chain i h. rw (all_none n chain i h) (λ j l p. omega (arith, l));

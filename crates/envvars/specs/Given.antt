@@ -41,22 +41,19 @@ pub record IsInside (block : Text) (e : Entry) : Type 0 where
   pub within : e.end ≤ length block
   pub utf8 : IsUtf8 (name_in block e)
 
--- how many chains there are
-abbrev pub chain_count : ℕ
-chain_count = 64
-
--- the chain of a name
-unfoldable pub chain_of : Text → ℕ
-chain_of name =
-    (length name + 3 * slice_index name (length name / 2) + 31 * slice_index name (length name - 1)) % chain_count
+-- the chain of a name, of so many chains
+unfoldable pub chain_of : ℕ → Text → ℕ
+chain_of count name =
+    (length name + 3 * slice_index name (length name / 2) + 31 * slice_index name (length name - 1)) % count
 
 -- The entry of this index has the name.
 abbrev pub IsNamed : Text → List Entry → Text → ℕ → Type 0
 IsNamed block entries name i = (e : Entry) × (slice_get entries i ≡ Some e) × (name_in block e ≡ name)
 
--- The entry of this index is in the chain.
-abbrev pub IsInChain : Text → List Entry → ℕ → ℕ → Type 0
-IsInChain block entries chain i = (e : Entry) × (slice_get entries i ≡ Some e) × (chain_of (name_in block e) ≡ chain)
+-- The entry of this index is in the chain, of so many chains.
+abbrev pub IsInChain : ℕ → Text → List Entry → ℕ → ℕ → Type 0
+IsInChain count block entries chain i =
+    (e : Entry) × (slice_get entries i ≡ Some e) × (chain_of count (name_in block e) ≡ chain)
 
 -- the last index below n that has a property, or none
 abbrev pub IsLastBelow : (ℕ → Type 0) → ℕ → Option ℕ → Type 0
@@ -69,12 +66,12 @@ IsFirstOf P None = (j : ℕ) → ¬ P j
 IsFirstOf P (Some i) = P i × ((j : ℕ) → j < i → ¬ P j)
 
 -- Each entry leads to the one before it in its chain, and each chain begins at its last entry.
-pub record AreChained (block : Text) (entries : List Entry) (latest : List (Option ℕ)) : Type 0 where
+pub record AreChained (count : ℕ) (block : Text) (entries : List Entry) (latest : List (Option ℕ)) : Type 0 where
   pub inside : (i : ℕ) (e : Entry) → slice_get entries i ≡ Some e → IsInside block e
-  pub chains : 0 < length entries → length latest ≡ chain_count
-  pub begins : (chain : ℕ) (i : Option ℕ) → slice_get latest chain ≡ Some i → IsLastBelow (IsInChain block entries chain) (length entries) i
-  pub leads : (i : ℕ) (e : Entry) → slice_get entries i ≡ Some e → IsLastBelow (IsInChain block entries (chain_of (name_in block e))) i e.earlier
+  pub chains : 0 < length entries → 0 < count
+  pub begins : (chain : ℕ) (i : Option ℕ) → slice_get latest chain ≡ Some i → IsLastBelow (IsInChain count block entries chain) (length entries) i
+  pub leads : (i : ℕ) (e : Entry) → slice_get entries i ≡ Some e → IsLastBelow (IsInChain count block entries (chain_of count (name_in block e))) i e.earlier
 
 -- The entries of a block of variables are chained.
 abbrev pub IsChained : Given → Type 0
-IsChained given = AreChained given.block.items given.entries.items given.latest.items
+IsChained given = AreChained (length given.latest.items) given.block.items given.entries.items given.latest.items

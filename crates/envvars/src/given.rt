@@ -8,16 +8,13 @@ ghost use Rattle.envvars.specs.Texts.{slice_texts};
 ghost use Rattle.envvars.specs.Environment.{Environment, lookup, with_value};
 ghost use Rattle.envvars.specs.EnvironmentBlock as block_specs;
 ghost use Rattle.envvars.specs.EnvironmentBlock.{utf8_value, with_entry};
-ghost use Rattle.envvars.specs.Given.{name_in, value_in, given_over, variables_of, names_of, IsInside, IsNamed, IsFirstOf, IsChained, chain_of, chain_count};
+ghost use Rattle.envvars.specs.Given.{name_in, value_in, given_over, variables_of, names_of, IsInside, IsNamed, IsFirstOf, IsChained, chain_of};
 
 use memchr::memchr;
 use std::alloc::{AllocError, Global};
 use std::str;
 
-/// How many chains there are.
-const CHAINS: usize = 64;
-
-/// How many bytes most entries have at least: as many entries get their room at once.
+/// How many bytes most entries have at least: as many entries get their room at once, and as many chains.
 const USUAL_LENGTH: usize = 24;
 
 /// An entry `NAME=VALUE` of a block, by its place.
@@ -46,17 +43,18 @@ pub(crate) struct Given {
     latest: Vec<Option<usize>>,
 }
 
-/// The chain of a name. Names are told apart best by their lengths and their ends.
-fn chain_of(name: &[u8]) -> usize
-    ensures is { result ≡ chain_of name.now }
-    ensures within { result < chain_count }
+/// The chain of a name, of so many chains. Names are told apart best by their lengths and their ends.
+fn chain_of(count: usize, name: &[u8]) -> usize
+    requires { 0 < count }
+    ensures is { result ≡ chain_of count name.now }
+    ensures within { result < count }
 {
     if name.is_empty() {
         return 0;
     }
     let middle = usize::from(name[name.len() / 2]);
     let last = usize::from(name[name.len() - 1]);
-    (name.len() + 3 * middle + 31 * last) % CHAINS
+    (name.len() + 3 * middle + 31 * last) % count
 }
 
 /// The bytes as a text; none where they aren't UTF-8.
@@ -112,22 +110,23 @@ impl Given {
     fn of_block(alloc: Global, block: &[u8]) -> Result<Given, AllocError>
         ensures block { IfOk result (λ given. given.block.items ≡ block.now) }
         ensures entries { IfOk result (λ given. given.entries.items ≡ []) }
-        ensures chains { IfOk result (λ given. length given.latest.items ≡ chain_count) }
+        ensures chains { IfOk result (λ given. 0 < length given.latest.items) }
         ensures chained { IfOk result IsChained }
     {
+        let count = block.len() / USUAL_LENGTH + 1;
         Ok(Given {
             block: Vec::from_slice(alloc, block)?,
-            entries: Vec::with_capacity(alloc, block.len() / USUAL_LENGTH)?,
-            latest: Vec::from_elem(alloc, None, CHAINS)?,
+            entries: Vec::with_capacity(alloc, count)?,
+            latest: Vec::from_elem(alloc, None, count)?,
         })
     }
 
     /// Adds an entry behind all others, to the end of its chain.
     fn push(&mut self, entry: Entry) -> Result<(), AllocError>
-        requires chains { length self.old.latest.items ≡ chain_count }
+        requires chains { 0 < length self.old.latest.items }
         requires chained { IsChained self.old }
         requires inside { IsInside self.old.block.items entry }
-        ensures chains { OnOk result (length self.new.latest.items ≡ chain_count) }
+        ensures chains { OnOk result (0 < length self.new.latest.items) }
         ensures chained { OnOk result (IsChained self.new) }
         ensures block { OnOk result (self.new.block.items ≡ self.old.block.items) }
         ensures given { OnOk result ((base : Environment) → given_over self.new.block.items base self.new.entries.items
@@ -135,7 +134,7 @@ impl Given {
             (with_value base (name_in self.old.block.items entry) (value_in self.old.block.items entry))
             self.old.entries.items) }
     {
-        let chain = chain_of(name_in(self.block.as_slice(), entry));
+        let chain = chain_of(self.latest.len(), name_in(self.block.as_slice(), entry));
         let earlier = self.latest[chain];
         let index = self.entries.len();
         self.entries.push(Entry { earlier, ..entry })?;
@@ -145,11 +144,11 @@ impl Given {
 
     /// Adds what stands from `start` up to `end`, if it is an entry with `=` and, before it, a name in UTF-8.
     fn add(&mut self, start: usize, end: usize) -> Result<(), AllocError>
-        requires chains { length self.old.latest.items ≡ chain_count }
+        requires chains { 0 < length self.old.latest.items }
         requires chained { IsChained self.old }
         requires ordered { start ≤ end }
         requires within { end ≤ length self.old.block.items }
-        ensures chains { OnOk result (length self.new.latest.items ≡ chain_count) }
+        ensures chains { OnOk result (0 < length self.new.latest.items) }
         ensures chained { OnOk result (IsChained self.new) }
         ensures block { OnOk result (self.new.block.items ≡ self.old.block.items) }
         ensures given { OnOk result ((base : Environment) → given_over self.new.block.items base self.new.entries.items
@@ -197,7 +196,7 @@ impl Given {
             return None;
         }
         let mut found = None;
-        let mut at = self.latest[chain_of(name)];
+        let mut at = self.latest[chain_of(self.latest.len(), name)];
         while let Some(i) = at {
             let entry = self.entries[i];
             if name_in(self.block.as_slice(), entry) == name {

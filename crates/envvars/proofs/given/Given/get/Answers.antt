@@ -30,4 +30,4 @@ returns-in-Some c =
     let found = subst (λ (t : List ℕ). IsFirstOf (IsNamed block es t) (Some c.in-Some.i)) c.as_bytes.ensures.value c.in-Some.ensures in
     let get = slice_get_read es (length es) c.in-Some.i c.index.result.now refl (slice_get_within es c.in-Some.i found.0.0 found.0.1) c.index.ensures in
     ◌∙◌ {b = value_in block c.index.result.now} (rw c.as_slice.ensures.value at c.value_in.ensures)
-    (sym (lookup-given block finite.empty es c.args.name.now c.in-Some.i c.index.result.now get (name_at block es c.args.name.now c.in-Some.i c.index.result.now get found.0) found.1))
+    (sym (lookup-given block finite.empty es c.args.name.now c.in-Some.i c.index.result.now get (name_at (length given.latest.items) block es c.args.name.now c.in-Some.i c.index.result.now get found.0) found.1))

@@ -16,7 +16,7 @@ returns-in-Some-clause-chained c =
     let es = given.entries.items in
     let named = c.in-Some.ensures.0 in
     let get = slice_get_read es (length es) c.in-Some.i c.index-entry.result.now refl (slice_get_within es c.in-Some.i named.0 named.1) c.index-entry.ensures in
-    chained-unset given.block.items es given.latest.items c.in-Some.i c.index-entry.result.now get c.requires
+    chained-unset (length given.latest.items) given.block.items es given.latest.items c.in-Some.i c.index-entry.result.now get c.requires
 
 pub returns-in-Some-clause-unset : goal.returns-in-Some-clause-unset
 returns-in-Some-clause-unset c =
@@ -25,7 +25,7 @@ returns-in-Some-clause-unset c =
     let block = given.block.items in
     let found = subst (λ (t : List ℕ). IsFirstOf (IsNamed block es t) (Some c.in-Some.i)) c.as_bytes.ensures.value c.in-Some.ensures in
     let get = slice_get_read es (length es) c.in-Some.i c.index-entry.result.now refl (slice_get_within es c.in-Some.i found.0.0 found.0.1) c.index-entry.ensures in
-    given_over-unset block finite.empty es c.args.name.now c.in-Some.i c.index-entry.result.now get (name_at block es c.args.name.now c.in-Some.i c.index-entry.result.now get found.0) found.1
+    given_over-unset block finite.empty es c.args.name.now c.in-Some.i c.index-entry.result.now get (name_at (length given.latest.items) block es c.args.name.now c.in-Some.i c.index-entry.result.now get found.0) found.1
 
 pub returns-in_default-clause-unset : goal.returns-in_default-clause-unset
 returns-in_default-clause-unset c =
