@@ -8,7 +8,7 @@ of a load, counted by callgrind, where something grows, and what the start of th
 
     run.py PROGRAM instructions | times | start
 
-prints one of the three.
+prints one of the three. What is asked of some of these cases is in goals.py, and is printed last.
 """
 
 import os
@@ -17,6 +17,7 @@ import subprocess
 import sys
 import tempfile
 
+from goals import print_goals
 from instructions import print_instructions
 from start import print_start
 from tools import HOW_TO_INSTALL, Null, find_tools
@@ -143,6 +144,8 @@ def main():
             print_instructions(folder, null, program)
         if part in ("", "start"):
             print_start(folder, null, program)
+        if part == "":
+            print_goals(program)
     finally:
         shutil.rmtree(folder)
 

@@ -59,6 +59,7 @@ SUITES = (
     ("tcl/commands.py", ""),
     ("tcl/memory.py", "cases_tcl"),
     ("package.py", "modulecmd"),
+    ("instructions.py", "modulecmd"),
     ("runs.py", ""),
 )
 

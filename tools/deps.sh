@@ -45,6 +45,7 @@ need_for() {
             fi
             need fish fish
             need mandoc mandoc
+            need valgrind valgrind
             need shellcheck shellcheck
             need tcl tclsh
             ;;

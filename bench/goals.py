@@ -1,0 +1,185 @@
+"""What some commands take, what is asked of them, and whether that is met: a line a goal.
+
+    goals.py PROGRAM
+
+Instructions are those of the whole process, counted by callgrind: no other work on the machine changes them. `by each`
+says what a file, an entry, a variable, a turn or a byte more takes: the difference to a load of one module, divided by
+their number. Times are processor time, as a multiple of that of a program that does the least: it reads one file, or for
+`avail` it lists the files, reads their first bytes and prints their names (floor.c). Both run in the same environment.
+"""
+
+import os
+import shutil
+import subprocess
+import sys
+import tempfile
+
+from instructions import instructions
+from tools import Tool
+
+HERE = os.path.dirname(os.path.abspath(__file__))
+
+NAMES = 20
+ENTRIES = 2_000
+VARIABLES = 5_000
+FILES = 2_000
+TURNS = 33_000
+BYTES = 200_000
+
+# The rounds of a time: the least of them counts.
+ROUNDS = 40
+
+# Eight commands, as a modulefile of a package has them.
+PACKAGE = """module-whatis "{0} for everybody"
+conflict {0}
+setenv {1}_HOME /opt/{0}
+setenv {1}_VERSION 1.0
+prepend-path PATH /opt/{0}/bin
+prepend-path LD_LIBRARY_PATH /opt/{0}/lib
+prepend-path MANPATH /opt/{0}/share/man
+append-path PKG_CONFIG_PATH /opt/{0}/lib/pkgconfig
+"""
+
+# What is read and not evaluated: the whole text is parsed before its first command runs, and the first returns.
+LINES = """# a comment about what follows
+set {{name_{0}}} "the value of $base and [list a b c]"
+if {{$name_{0} eq "none"}} {{ prepend-path PATH /opt/package_{0}/bin }}
+setenv PACKAGE_{0} /opt/package_{0}/lib/long/path
+"""
+
+
+class Case:
+    """A command in an environment: `more` are the files, entries or turns that it has beside a load of one module."""
+
+    def __init__(self, title, words, env, more=1, least="null"):
+        self.title, self.words, self.env, self.more, self.least = title, words, env, more, least
+
+
+class Goal:
+    """What is asked of a case: its instructions, in all or by each, and its time where one is asked."""
+
+    def __init__(self, title, most, by_each=None, times=None):
+        self.title, self.most, self.by_each, self.times = title, most, by_each, times
+
+
+GOALS = [
+    Goal("load 1", 120_000, times=0.65),
+    Goal("unload 1", 120_000, times=0.65),
+    Goal("load 20", 2_600_000, times=1.5),
+    Goal("purge 20", 2_300_000, times=1.5),
+    Goal("load 1, PATH of 2,000 entries", 300, by_each="entry", times=1.15),
+    Goal("load 1, 5,000 variables", 1_000, by_each="variable", times=1.2),
+    Goal("avail, 2,000 files", 6_000, by_each="file", times=1.3),
+    Goal("a loop of 33,000 turns", 1_200, by_each="turn"),
+    Goal("parsing 200,000 bytes", 50, by_each="byte"),
+    Goal("parsing 1,000,000 bytes", 50, by_each="byte"),
+]
+
+
+def write(folder, name, text):
+    path = os.path.join(folder, name)
+    os.makedirs(os.path.dirname(path), exist_ok=True)
+    with open(path, "w", encoding="utf-8") as file:
+        file.write("#%Module\n" + text)
+
+
+def parsed(size):
+    """A text of this size, about, of which nothing is evaluated but its first command."""
+    line = LINES.format(1000)
+    return "return\n" + "".join(LINES.format(1000 + turn) for turn in range(size // len(line)))
+
+
+def cases(program, folder):
+    """The cases of the goals, by their titles."""
+    few, many = os.path.join(folder, "few"), os.path.join(folder, "many")
+    write(few, "m/1.0", "setenv M on\nprepend-path PATH /opt/m/bin\n")
+    for number in range(NAMES):
+        write(few, f"p{number}/1.0", PACKAGE.format(f"p{number}", f"P{number}"))
+    write(few, "loop/1.0", f"set i 0\nwhile {{$i < {TURNS}}} {{incr i}}\nsetenv TURNS $i\n")
+    for size in (BYTES, 5 * BYTES):
+        write(few, f"parsed/{size}", parsed(size))
+    for number in range(FILES):
+        write(many, f"name{number // 5}/{number % 5}.0", f"setenv NAME {number}\n")
+    env = {"MODULEPATH": few, "PATH": "/usr/bin:/bin", "HOME": folder, "LANG": "C.UTF-8"}
+    packages = [f"p{number}/1.0" for number in range(NAMES)]
+    tool = Tool("modulecmd", [program, "bash"])
+    entries = "/usr/bin:/bin:" + ":".join(f"/opt/entry{number}/bin" for number in range(ENTRIES))
+    variables = {f"VARIABLE_{number}": f"value {number}" for number in range(VARIABLES)}
+    listed = {**env, "MODULEPATH": many}
+    return [
+        Case("load 1", ["load", "m/1.0"], env),
+        Case("unload 1", ["unload", "m/1.0"], tool.run(["load", "m/1.0"], env)),
+        Case("load 20", ["load", *packages], env),
+        Case("purge 20", ["purge"], tool.run(["load", *packages], env)),
+        Case("load 1, PATH of 2,000 entries", ["load", "m/1.0"], {**env, "PATH": entries}, ENTRIES),
+        Case("load 1, 5,000 variables", ["load", "m/1.0"], {**env, **variables}, VARIABLES),
+        Case("avail, 2,000 files", ["avail"], listed, FILES, "floor"),
+        Case("a loop of 33,000 turns", ["load", "loop/1.0"], env, TURNS),
+        Case("parsing 200,000 bytes", ["load", f"parsed/{BYTES}"], env, BYTES),
+        Case("parsing 1,000,000 bytes", ["load", f"parsed/{5 * BYTES}"], env, 5 * BYTES),
+    ]
+
+
+def counts(program, folder, titles):
+    """The instructions of the cases with these titles: in all, or by each, as their goals ask."""
+    goals = {goal.title: goal for goal in GOALS}
+    found, first = {}, None
+    for case in cases(program, folder):
+        if case.title in titles or first is None:
+            spent = instructions(folder, [program, "sh", *case.words], case.env)
+            first = spent if first is None else first
+            by_each = goals[case.title].by_each
+            found[case.title] = (spent - first) / case.more if by_each else spent
+    return found
+
+
+def least_time(command, env):
+    """The least processor time of some runs of a command, in seconds."""
+    quiet = os.open(os.devnull, os.O_RDWR)
+    times = []
+    for _ in range(ROUNDS):
+        actions = [(os.POSIX_SPAWN_DUP2, quiet, place) for place in range(3)]
+        _, status, usage = os.wait4(os.posix_spawn(command[0], command, env, file_actions=actions), 0)
+        if status != 0:
+            sys.exit(f"{command} ended with status {status}")
+        times.append(usage.ru_utime + usage.ru_stime)
+    os.close(quiet)
+    return min(times)
+
+
+def multiples(program, folder):
+    """The time of each case whose goal has one, as a multiple of that of the program that does the least."""
+    least = {}
+    for name, words in (("null", ["rustc", "-O"]), ("floor", ["cc", "-O2"])):
+        source = os.path.join(HERE, "null.rs" if name == "null" else "floor.c")
+        least[name] = os.path.join(folder, name)
+        subprocess.run([*words, "-o", least[name], source], check=True)
+    words = {"null": os.path.join(folder, "few", "m", "1.0"), "floor": os.path.join(folder, "many")}
+    timed = {goal.title for goal in GOALS if goal.times}
+    return {
+        case.title: least_time([program, "sh", *case.words], case.env)
+        / least_time([least[case.least], words[case.least]], case.env)
+        for case in cases(program, folder)
+        if case.title in timed
+    }
+
+
+def print_goals(program):
+    """Prints a line for each goal."""
+    folder = tempfile.mkdtemp(prefix="modulecmd-goals-")
+    try:
+        found = counts(program, folder, [goal.title for goal in GOALS])
+        times = multiples(program, folder)
+    finally:
+        shutil.rmtree(folder)
+    print(f"\n{'':34}{'instructions':>14}{'asked':>12}  {'':12}{'times':>6}{'asked':>7}")
+    for goal in GOALS:
+        spent, time = found[goal.title], times.get(goal.title)
+        met = spent <= goal.most and (time is None or time <= goal.times)
+        by = f"by {goal.by_each}" if goal.by_each else "in all"
+        beside = f"{time:6.2f}{goal.times:7.2f}" if time else f"{'':13}"
+        print(f"{goal.title:34}{spent:14,.0f}{goal.most:12,}  {by:12}{beside}  {'met' if met else 'not met'}")
+
+
+if __name__ == "__main__":
+    print_goals(os.path.abspath(sys.argv[1]))
