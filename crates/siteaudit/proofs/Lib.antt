@@ -1,0 +1,6 @@
+mod Parts
+mod Admissions
+mod Records
+mod Forbidden
+mod Unloaded
+mod Returned

@@ -1,2 +1,4 @@
 pub mod Sites
 pub mod Standings
+pub mod Admitted
+pub mod Laws

@@ -1,1 +1,51 @@
 //! Laws of sites. Each function does nothing: its contract is the law.
+ghost use Rattle.siteaudit.specs.Laws.{StepsAreAdmitted, SessionsAreAdmitted, PlainRecordsAreAll, CertifiedStand, SiteSessionsReturn, SiteCommandsReturn};
+
+/// Nothing that was loaded at the moment of an accepted load forbade it: neither a conflict that the loaded list records,
+/// nor a conflict of the module itself, nor a prereq. So it is for requests, and for sessions.
+pub fn admissions()
+    ensures steps { StepsAreAdmitted }
+    ensures sessions { SessionsAreAdmitted }
+{}
+
+/// The records of a plain module are those that every accepted evaluation of its file leaves.
+pub fn plain_records()
+    ensures { PlainRecordsAreAll }
+{
+    modulefile::plain();
+}
+
+/// A module stands as certified exactly where it is one of the certified modules among the plain ones of its site.
+pub fn standings()
+    ensures { CertifiedStand }
+{
+    certificate::laws::certified();
+}
+
+/// From a start that agrees with the certificate of a site, in a session over that site whose accepted loads are of
+/// certified modules, and which unloads none that is loaded at the start: each environment is in order, and is the start
+/// with the live modules layered on it; where none is live it is the start, and the maps are equal. There is no premise
+/// about records: conflicts that are judged at each load keep apart what excludes each other.
+pub fn sessions_return()
+    ensures { SiteSessionsReturn }
+{
+    admissions();
+    plain_records();
+    requests::sessions();
+    certificate::laws::certified();
+    certificate::laws::conflicts();
+    certificate::laws::runs();
+    certificate::laws::steps();
+}
+
+/// The same for one command, which knows no history.
+pub fn command_returns()
+    ensures { SiteCommandsReturn }
+{
+    admissions();
+    plain_records();
+    requests::outcomes();
+    certificate::laws::certified();
+    certificate::laws::conflicts();
+    certificate::laws::steps();
+}

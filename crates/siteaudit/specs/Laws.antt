@@ -1,0 +1,83 @@
+-- The laws of sites (own): loads are admitted, plain modules have one list of records, and sessions of certified modules
+-- return to their start.
+use Rattle.std.specs.Prelude.{◌≡◌, ◌↔◌, List, [], ◌∷◌, ◌++◌, Ok}
+use Rattle.envvars.specs.Texts.{Text}
+use Rattle.envvars.specs.Environment.{Environment}
+use Rattle.modulerecords.specs.Records.{Record}
+use Rattle.modulerecords.specs.Moves.{Module, Move, Loads, Unloads}
+use Rattle.modulefile.specs.Files.{Ran}
+use Rattle.reversal.specs.Starts.{IsInOrder, IsStartWith}
+use Rattle.reversal.specs.Runs.{live_after}
+use Rattle.reversal.specs.Laws.{Holds}
+use Rattle.requests.specs.Requests.{RequestedAction, Request}
+use Rattle.requests.specs.Steps.{RequestContext, Done, RequestStep}
+use Rattle.requests.specs.Sessions.{Response, Session, end_environment, session_moves}
+use Rattle.requests.specs.Returning.{AreNew}
+use Rattle.requests.specs.PlainRuns.{HasEvaluatedTo}
+use Rattle.certificate.specs.RecordUses.{IsAmong, uses_by}
+use Rattle.certificate.specs.Certificates.{certified, certificate, AgreesWith}
+use Rattle.certificate.specs.Laws.{AreCertifiedTogether}
+use Rattle.siteaudit.specs.Sites.{Site, SiteModule, over_site, HasPlainRecords, ArePlainModules}
+use Rattle.siteaudit.specs.Standings.{Certified, with_records, HasStanding}
+use Rattle.siteaudit.specs.Admitted.{AdmittedMovesReach}
+
+-- Each load of an accepted request was admitted.
+abbrev pub StepsAreAdmitted : Type 0
+StepsAreAdmitted =
+    (s : RequestContext) (e : Environment) (action : RequestedAction) (d : Done) → RequestStep s e action (Ok d)
+    → AdmittedMovesReach d.moves e d.env
+
+-- So was each load of a session.
+abbrev pub SessionsAreAdmitted : Type 0
+SessionsAreAdmitted =
+    (s : RequestContext) (e : Environment) (rs : List Request) (os : List Response) → Session s e rs os
+    → AdmittedMovesReach (session_moves os) e (end_environment e os)
+
+-- The records of a plain module are those that every accepted evaluation of its file leaves, in whatever mode, shell and
+-- environment.
+abbrev pub PlainRecordsAreAll : Type 0
+PlainRecordsAreAll =
+    (site : Site) (m : SiteModule) (rs : List Record) (ran : Ran) → HasPlainRecords site m rs
+    → HasEvaluatedTo (over_site site) m.name m.path ran → ran.records ≡ rs
+
+-- A module stands as certified where it is, with its records, one of the certified modules among the plain ones of the
+-- site.
+abbrev pub CertifiedStand : Type 0
+CertifiedStand =
+    (site : Site) (ms : List Module) (m : SiteModule) → ArePlainModules site ms
+    → HasStanding site ms m Certified
+    ↔ ((rs : List Record) × HasPlainRecords site m rs × IsAmong (with_records m rs) (certified ms))
+
+-- one of the modules has this name and this file
+abbrev pub IsOneOf : List Module → Text → Text → Type 0
+IsOneOf ms name path = (m : Module) × IsAmong m ms × (m.name ≡ name) × (m.path ≡ path)
+
+-- Each load is of one of the modules, by its name and its file. Nothing is asked of its records.
+abbrev pub LoadsAreOf : List Module → List Move → Type 0
+LoadsAreOf ms [] = Unit {0}
+LoadsAreOf ms (Loads m ∷ moves) = IsOneOf ms m.name m.path × LoadsAreOf ms moves
+LoadsAreOf ms (Unloads m ∷ moves) = LoadsAreOf ms moves
+
+-- The theorem of sites. A start agrees with the certificate of a site. In a session over its files, its directories and
+-- its limits, in whatever shells, each accepted load is of a certified module, and no module that is loaded at the start
+-- is unloaded. Then each environment of the session is in order and is the start with the live modules layered on it;
+-- with none it is the start. Nothing is asked of the records of loads and unloads, of their kinds, or of how the modules
+-- go together.
+abbrev pub SiteSessionsReturn : Type 0
+SiteSessionsReturn =
+    (site : Site) (ms : List Module) (start : Environment) (rs : List Request) (before after : List Response)
+    → ArePlainModules site ms → AgreesWith (certificate ms) start → Session (over_site site) start rs (before ++ after)
+    → AreNew start (session_moves (before ++ after)) → LoadsAreOf (certified ms) (session_moves (before ++ after))
+    → Holds (uses_by (live_after [] (session_moves before))) start (live_after [] (session_moves before))
+    (end_environment start before)
+
+-- One command, which knows no history: it begins in an environment in order that is such a start with certified modules
+-- layered on it.
+abbrev pub SiteCommandsReturn : Type 0
+SiteCommandsReturn =
+    (site : Site) (ms : List Module) (start e : Environment) (live : List Module) (action : RequestedAction) (d : Done)
+    → ArePlainModules site ms → AgreesWith (certificate ms) start → AreCertifiedTogether ms live
+    → IsInOrder (uses_by live) e → IsStartWith (uses_by live) start live e
+    → RequestStep (over_site site) e action (Ok d) → AreNew start d.moves → LoadsAreOf (certified ms) d.moves
+    → Holds (uses_by (live_after live d.moves)) start (live_after live d.moves) d.env
+    × AreCertifiedTogether ms (live_after live d.moves)
