@@ -147,7 +147,7 @@ traced s e (whatis names) = trace_named s e names (ShowsNames s modes.whatis des
 
 -- ---- sessions
 
-any_shell : (s : RequestContext) (shell : Shell) (ms : List Move) (e d : Environment) → TracedReach (in_shell s shell) ms e d → TracedReach s ms e d
+pub any_shell : (s : RequestContext) (shell : Shell) (ms : List Move) (e d : Environment) → TracedReach (in_shell s shell) ms e d → TracedReach s ms e d
 any_shell s shell [] e d h = h
 any_shell s shell (m ∷ ms) e d ((admitted, (ran, left, is)), (mid, move, rest)) =
     ((admitted, (ran, record { text = left.text; file = left.file; context = left.context; named = left.named; at_path = left.at_path; runs = left.runs }, is)), (mid, move, any_shell s shell ms mid d rest))

@@ -16,7 +16,7 @@ use Rattle.reversal.specs.Laws.{Holds}
 use Rattle.requests.specs.Requests.{Request}
 use Rattle.requests.specs.Steps.{RequestContext}
 use Rattle.requests.specs.PlainRuns.{HasEvaluatedTo}
-use Rattle.requests.specs.Sessions.{Response, Session, env_after, end_environment, outcome_of, session_moves}
+use Rattle.requests.specs.Sessions.{Response, Session, in_shell, env_after, end_environment, outcome_of, session_moves}
 use Rattle.requests.specs.Returning.{IsNew, AreNew}
 use Rattle.requests.specs.Laws.{SessionsReach, StepsReach}
 use Rattle.certificate.specs.RecordUses.{IsAmong, uses_by}
@@ -26,7 +26,7 @@ use Rattle.certificate.specs.Laws.{CertifiedAreExact, AreCertified, EntriesHaveC
 use Rattle.siteaudit.specs.Sites.{Site, over_site, file_of, ArePlainModules}
 use Rattle.siteaudit.specs.Admitted.{IsAdmitted}
 use Rattle.siteaudit.specs.Laws.{PlainRecordsAreAll, IsOneOf, LoadsAreOf, SiteSessionsReturn, SiteCommandsReturn}
-use Rattle.siteaudit.proofs.Admissions.{IsFrom, TracedReach, traced, session_traced}
+use Rattle.siteaudit.proofs.Admissions.{IsFrom, TracedReach, traced, any_shell, session_traced}
 use Rattle.siteaudit.proofs.Forbidden.{no_conflict}
 use Rattle.siteaudit.proofs.Unloaded.{same_list, of_live}
 
@@ -105,10 +105,12 @@ are_certified exact conflicts preserve all site ms live start old new (Unloads m
 -- commands
 
 pub site_commands_return : StepsReach → CertifiedAreExact → EntriesHaveConflicts → CertifiedMovesPreserve → PlainRecordsAreAll → SiteCommandsReturn
-site_commands_return leads exact conflicts preserve all site ms start e live action d plain agrees together order over done news loads =
-    let reach = leads (over_site site) e action d done in
+site_commands_return leads exact conflicts preserve all site ms shell start e live action d plain agrees together order over done news loads =
+    let s = in_shell (over_site site) shell in
+    let reach = leads s e action d done in
     preserve ms start e d.env live d.moves agrees together order over
-    (are_certified exact conflicts preserve all site ms live start e d.env d.moves plain agrees together order over news loads (traced (over_site site) e action d done) reach) reach
+    (are_certified exact conflicts preserve all site ms live start e d.env d.moves plain agrees together order over news loads
+    (any_shell (over_site site) shell d.moves e d.env (traced s e action d done)) reach) reach
 
 -- sessions
 

@@ -3,6 +3,7 @@
 use Rattle.std.specs.Prelude.{◌≡◌, ◌↔◌, List, [], ◌∷◌, ◌++◌, Ok}
 use Rattle.envvars.specs.Texts.{Text}
 use Rattle.envvars.specs.Environment.{Environment}
+use Rattle.shells.specs.declared.shell.Shell.{Shell}
 use Rattle.modulerecords.specs.Records.{Record}
 use Rattle.modulerecords.specs.Moves.{Module, Move, Loads, Unloads}
 use Rattle.modulefile.specs.Files.{Ran}
@@ -11,7 +12,7 @@ use Rattle.reversal.specs.Runs.{live_after}
 use Rattle.reversal.specs.Laws.{Holds}
 use Rattle.requests.specs.Requests.{RequestedAction, Request}
 use Rattle.requests.specs.Steps.{RequestContext, Done, RequestStep}
-use Rattle.requests.specs.Sessions.{Response, Session, end_environment, session_moves}
+use Rattle.requests.specs.Sessions.{Response, Session, in_shell, end_environment, session_moves}
 use Rattle.requests.specs.Returning.{AreNew}
 use Rattle.requests.specs.PlainRuns.{HasEvaluatedTo}
 use Rattle.certificate.specs.RecordUses.{IsAmong, uses_by}
@@ -71,13 +72,14 @@ SiteSessionsReturn =
     → Holds (uses_by (live_after [] (session_moves before))) start (live_after [] (session_moves before))
     (end_environment start before)
 
--- One command, which knows no history: it begins in an environment in order that is such a start with certified modules
--- layered on it.
+-- One command, in whatever shell, which knows no history: it begins in an environment in order that is such a start with
+-- certified modules layered on it.
 abbrev pub SiteCommandsReturn : Type 0
 SiteCommandsReturn =
-    (site : Site) (ms : List Module) (start e : Environment) (live : List Module) (action : RequestedAction) (d : Done)
+    (site : Site) (ms : List Module) (shell : Shell) (start e : Environment) (live : List Module) (action : RequestedAction)
+    (d : Done)
     → ArePlainModules site ms → AgreesWith (certificate ms) start → AreCertifiedTogether ms live
     → IsInOrder (uses_by live) e → IsStartWith (uses_by live) start live e
-    → RequestStep (over_site site) e action (Ok d) → AreNew start d.moves → LoadsAreOf (certified ms) d.moves
+    → RequestStep (in_shell (over_site site) shell) e action (Ok d) → AreNew start d.moves → LoadsAreOf (certified ms) d.moves
     → Holds (uses_by (live_after live d.moves)) start (live_after live d.moves) d.env
     × AreCertifiedTogether ms (live_after live d.moves)
