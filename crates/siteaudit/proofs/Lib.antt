@@ -1,6 +1,8 @@
 mod Parts
 mod Admissions
 mod Records
+mod Standing
+mod OneStanding
 mod Forbidden
 mod Unloaded
 mod Returned

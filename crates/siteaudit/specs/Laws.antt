@@ -18,8 +18,8 @@ use Rattle.requests.specs.PlainRuns.{HasEvaluatedTo}
 use Rattle.certificate.specs.RecordUses.{IsAmong, uses_by}
 use Rattle.certificate.specs.Certificates.{certified, certificate, AgreesWith}
 use Rattle.certificate.specs.Laws.{AreCertifiedTogether}
-use Rattle.siteaudit.specs.Sites.{Site, SiteModule, over_site, HasPlainRecords, ArePlainModules}
-use Rattle.siteaudit.specs.Standings.{Certified, with_records, HasStanding}
+use Rattle.siteaudit.specs.Sites.{Site, SiteModule, over_site, HasPlainRecords, IsOfSite, ArePlainModules}
+use Rattle.siteaudit.specs.Standings.{Standing, Certified, standing_word, with_records, HasStanding}
 use Rattle.siteaudit.specs.Admitted.{AdmittedMovesReach}
 
 -- Each load of an accepted request was admitted.
@@ -48,6 +48,18 @@ CertifiedStand =
     (site : Site) (ms : List Module) (m : SiteModule) → ArePlainModules site ms
     → HasStanding site ms m Certified
     ↔ ((rs : List Record) × HasPlainRecords site m rs × IsAmong (with_records m rs) (certified ms))
+
+-- Each module of a site has a standing.
+abbrev pub EachStands : Type 0
+EachStands =
+    (site : Site) (ms : List Module) (m : SiteModule) → ArePlainModules site ms → IsOfSite site m
+    → (standing : Standing) × HasStanding site ms m standing
+
+-- It stands in one of the six ways alone.
+abbrev pub OneStanding : Type 0
+OneStanding =
+    (site : Site) (ms : List Module) (m : SiteModule) (s t : Standing) → HasStanding site ms m s → HasStanding site ms m t
+    → standing_word s ≡ standing_word t
 
 -- one of the modules has this name and this file
 abbrev pub IsOneOf : List Module → Text → Text → Type 0

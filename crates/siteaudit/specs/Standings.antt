@@ -1,5 +1,5 @@
 -- How each module of a site stands (own): whether it is certified, and else why it is not.
-use Rattle.std.specs.Prelude.{◌≡◌, true, false, not, List, ◌∷◌, find, Some, Ok, Err}
+use Rattle.std.specs.Prelude.{◌≡◌, true, false, not, List, ◌∷◌, codes, find, Some, Ok, Err}
 use Rattle.envvars.specs.Texts.{Text}
 use Rattle.envvars.specs.Fields.{colon}
 use Rattle.modulerecords.specs.Records.{Record}
@@ -27,6 +27,15 @@ pub data Standing : Type 0 where
   Clashes : (variable : Text) (own theirs : VariableUse) (other : Module) → Standing
   -- its evaluation is refused
   Refused : RequestReason → Standing
+
+-- the standing in one word
+abbrev pub standing_word : Standing → Text
+standing_word Certified = codes "certified"
+standing_word Asks = codes "asks"
+standing_word (OneWay first) = codes "one-way"
+standing_word (OutOfStep variable one other) = codes "out-of-step"
+standing_word (Clashes variable own theirs other) = codes "clashes"
+standing_word (Refused reason) = codes "refused"
 
 -- the module with these records
 abbrev pub with_records : SiteModule → List Record → Module

@@ -1,5 +1,5 @@
 //! Laws of sites. Each function does nothing: its contract is the law.
-ghost use Rattle.siteaudit.specs.Laws.{StepsAreAdmitted, SessionsAreAdmitted, PlainRecordsAreAll, CertifiedStand, SiteSessionsReturn, SiteCommandsReturn};
+ghost use Rattle.siteaudit.specs.Laws.{StepsAreAdmitted, SessionsAreAdmitted, PlainRecordsAreAll, EachStands, OneStanding, CertifiedStand, SiteSessionsReturn, SiteCommandsReturn};
 
 /// Nothing that was loaded at the moment of an accepted load forbade it: neither a conflict that the loaded list records,
 /// nor a conflict of the module itself, nor a prereq. So it is for requests, and for sessions.
@@ -15,10 +15,14 @@ pub fn plain_records()
     modulefile::plain();
 }
 
-/// A module stands as certified exactly where it is one of the certified modules among the plain ones of its site.
+/// Each module of a site stands in one of the six ways, and in no other. It stands as certified exactly where it is one of the certified modules among the
+/// plain ones of the site.
 pub fn standings()
-    ensures { CertifiedStand }
+    ensures each { EachStands }
+    ensures one { OneStanding }
+    ensures certified { CertifiedStand }
 {
+    modulefile::files();
     certificate::laws::certified();
 }
 
