@@ -21,7 +21,7 @@ use Rattle.modulecmd.proofs.CommandLemmas.{returns_to_start}
 
 -- ---- moves, cut in two
 
-new_front : (start : Environment) (ms ns : List Move) → AreNew start (ms ++ ns) → AreNew start ms × AreNew start ns
+pub new_front : (start : Environment) (ms ns : List Move) → AreNew start (ms ++ ns) → AreNew start ms × AreNew start ns
 new_front start [] ns h = (tt, h)
 new_front start (m ∷ ms) ns h = let p = new_front start ms ns h.1 in ((h.0, p.0), p.1)
 
@@ -30,7 +30,7 @@ fitting_front uses live [] ns h = (tt, h)
 fitting_front uses live (Loads m ∷ ms) ns h = let p = fitting_front uses (m ∷ live) ms ns h.1 in ((h.0, p.0), p.1)
 fitting_front uses live (Unloads m ∷ ms) ns h = let p = fitting_front uses (without_live m.name live) ms ns h.1 in ((h.0, p.0), p.1)
 
-live_together : (live : List Module) (ms ns : List Move) → live_after live (ms ++ ns) ≡ live_after (live_after live ms) ns
+pub live_together : (live : List Module) (ms ns : List Move) → live_after live (ms ++ ns) ≡ live_after (live_after live ms) ns
 live_together live [] ns = refl
 live_together live (Loads m ∷ ms) ns = live_together (m ∷ live) ms ns
 live_together live (Unloads m ∷ ms) ns = live_together (without_live m.name live) ms ns

@@ -1,6 +1,7 @@
 //! Laws of commands. Each is a function that does nothing: its contract is the law.
 ghost use Rattle.modulecmd.specs.Command.{OneCommand};
 ghost use Rattle.modulecmd.specs.Runs.{ShellsReturn};
+ghost use Rattle.modulecmd.specs.Sites.{SiteShellsReturn};
 
 /// A command has one effect at most, or one reason. So where the definitions refuse it by a number, no call accepts it,
 /// and a refusal that isn't want of memory or a failed device has that number.
@@ -19,6 +20,17 @@ pub fn commands_return()
 {
     reversal::laws::runs();
     requests::command_returns();
+    shelltext::laws::one_effect();
+    shelltext::laws::difference_makes();
+}
+
+/// The same for commands whose loads are of certified modules of a site, from a start that agrees with its certificate:
+/// nothing is asked of records, of their kinds, or of how the modules go together.
+pub fn site_commands_return()
+    ensures { SiteShellsReturn }
+{
+    siteaudit::laws::sessions_return();
+    siteaudit::laws::command_returns();
     shelltext::laws::one_effect();
     shelltext::laws::difference_makes();
 }

@@ -22,7 +22,7 @@ pub use envpaths::{End, add_path, drop_path};
 pub use envstacks::{pop_value, push_value};
 pub use envvars::{Change, Env, EnvFault, changes};
 pub use filetree::{DiskTree, MemoryTree, Tree, TreeFault};
-pub use laws::{commands_return, one_command};
+pub use laws::{commands_return, one_command, site_commands_return};
 pub use lookup::{FindFault, Found, Listing, available, locate, version_order};
 pub use modules::{
     Action, Changed, Done, Limits, MissingNames, Module, Move, Outcome, Refusal, Reply, Request,
