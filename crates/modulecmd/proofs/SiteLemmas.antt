@@ -63,5 +63,5 @@ each returns one makes judged_in files listings ms start plain agrees (c ∷ cs)
 
 pub site_shells_return : SiteSessionsReturn → SiteCommandsReturn → OneEffect → DifferenceMakes → SiteShellsReturn
 site_shells_return sessions returns one makes judged_in files listings ms start last cs plain agrees holds news loads =
-    let begin = sessions (site_of standard judged_in files listings) ms start [] [] [] plain agrees tt tt tt in
+    let begin = sessions (site_of standard judged_in files listings) ms plain start [] [] [] agrees tt tt tt in
     (each returns one makes judged_in files listings ms start plain agrees cs [] start last (begin, tt) holds news loads).0

@@ -25,7 +25,7 @@ use Rattle.certificate.specs.Certificates.{IsCertified, certified, certificate, 
 use Rattle.certificate.specs.Laws.{CertifiedAreExact, AreCertified, EntriesHaveConflicts, CertifiedRunsStand, AreCertifiedTogether, CertifiedMovesPreserve}
 use Rattle.siteaudit.specs.Sites.{Site, over_site, file_of, ArePlainModules}
 use Rattle.siteaudit.specs.Admitted.{IsAdmitted}
-use Rattle.siteaudit.specs.Laws.{PlainRecordsAreAll, IsOneOf, LoadsAreOf, SiteSessionsReturn, SiteCommandsReturn}
+use Rattle.siteaudit.specs.Laws.{PlainRecordsAreAll, IsOneOf, LoadsAreOf, SiteSessionsReturn, AuditsHold, SiteCommandsReturn}
 use Rattle.siteaudit.proofs.Admissions.{IsFrom, TracedReach, traced, any_shell, session_traced}
 use Rattle.siteaudit.proofs.Forbidden.{no_conflict}
 use Rattle.siteaudit.proofs.Unloaded.{same_list, of_live}
@@ -145,7 +145,7 @@ at_start runs ms start agrees =
     subst (Holds (uses_by []) start []) h.1 h.3
 
 pub site_sessions_return : SessionsReach → CertifiedAreExact → EntriesHaveConflicts → CertifiedRunsStand → CertifiedMovesPreserve → PlainRecordsAreAll → SiteSessionsReturn
-site_sessions_return leads exact conflicts runs preserve all site ms start rs before after plain agrees session news loads =
+site_sessions_return leads exact conflicts runs preserve all site ms plain start rs before after agrees session news loads =
     let f = front_session (over_site site) start rs before after session in
     let todo = session_moves before in
     let end = end_environment start before in
@@ -155,3 +155,18 @@ site_sessions_return leads exact conflicts runs preserve all site ms start rs be
     let begin = at_start runs ms start agrees in
     (preserve ms start start end [] todo agrees tt begin.order begin.start_with_live
     (are_certified exact conflicts preserve all site ms [] start start end todo plain agrees tt begin.order begin.start_with_live new of (session_traced (over_site site) start f.0 before f.1) reach) reach).0
+
+-- any certified modules, and more uses
+
+one_certified : CertifiedAreExact → (ms certain : List Module) (name path : Text) → ((m : Module) → IsAmong m certain → IsCertified ms m) → IsOneOf certain name path → IsOneOf (certified ms) name path
+one_certified exact ms certain name path all (m, among, named, at) = (m, (exact ms m).1 (all m among), named, at)
+
+loads_certified : CertifiedAreExact → (ms certain : List Module) (todo : List Move) → ((m : Module) → IsAmong m certain → IsCertified ms m) → LoadsAreOf certain todo → LoadsAreOf (certified ms) todo
+loads_certified exact ms certain [] all h = tt
+loads_certified exact ms certain (Loads m ∷ todo) all h = (one_certified exact ms certain m.name m.path all h.0, loads_certified exact ms certain todo all h.1)
+loads_certified exact ms certain (Unloads m ∷ todo) all h = loads_certified exact ms certain todo all h
+
+pub audits_hold : CertifiedAreExact → SiteSessionsReturn → AuditsHold
+audits_hold exact returns site ms certain uses plain all some start rs before after agrees session news loads =
+    returns site ms plain start rs before after (record { loaded = agrees.loaded; uses = λ v x a. agrees.uses v x (some (v, x) a) }) session news
+    (loads_certified exact ms certain (session_moves (before ++ after)) all loads)

@@ -15,8 +15,8 @@ use Rattle.requests.specs.Steps.{RequestContext, Done, RequestStep}
 use Rattle.requests.specs.Sessions.{Response, Session, in_shell, end_environment, session_moves}
 use Rattle.requests.specs.Returning.{AreNew}
 use Rattle.requests.specs.PlainRuns.{HasEvaluatedTo}
-use Rattle.certificate.specs.RecordUses.{IsAmong, uses_by}
-use Rattle.certificate.specs.Certificates.{certified, certificate, AgreesWith}
+use Rattle.certificate.specs.RecordUses.{UsedVariable, IsAmong, uses_by}
+use Rattle.certificate.specs.Certificates.{IsCertified, certified, certificate, AgreesWith}
 use Rattle.certificate.specs.Laws.{AreCertifiedTogether}
 use Rattle.siteaudit.specs.Sites.{Site, SiteModule, over_site, HasPlainRecords, IsOfSite, ArePlainModules}
 use Rattle.siteaudit.specs.Standings.{Standing, Certified, standing_word, with_records, HasStanding}
@@ -71,18 +71,31 @@ LoadsAreOf ms [] = Unit {0}
 LoadsAreOf ms (Loads m ∷ moves) = IsOneOf ms m.name m.path × LoadsAreOf ms moves
 LoadsAreOf ms (Unloads m ∷ moves) = LoadsAreOf ms moves
 
--- The theorem of sites. A start agrees with the certificate of a site. In a session over its files, its directories and
--- its limits, in whatever shells, each accepted load is of a certified module, and no module that is loaded at the start
--- is unloaded. Then each environment of the session is in order and is the start with the live modules layered on it;
--- with none it is the start. Nothing is asked of the records of loads and unloads, of their kinds, or of how the modules
--- go together.
-abbrev pub SiteSessionsReturn : Type 0
-SiteSessionsReturn =
-    (site : Site) (ms : List Module) (start : Environment) (rs : List Request) (before after : List Response)
-    → ArePlainModules site ms → AgreesWith (certificate ms) start → Session (over_site site) start rs (before ++ after)
-    → AreNew start (session_moves (before ++ after)) → LoadsAreOf (certified ms) (session_moves (before ++ after))
+-- What a certificate promises of a site, for these modules and these uses of variables. A start agrees with the uses. In
+-- a session over the files, the directories and the limits of the site, in whatever shells, each accepted load is of one
+-- of the modules, and no module that is loaded at the start is unloaded. Then each environment of the session is in order
+-- and is the start with the live modules layered on it; with none it is the start.
+abbrev pub CertificateHolds : Site → List Module → List UsedVariable → Type 0
+CertificateHolds site certain uses =
+    (start : Environment) (rs : List Request) (before after : List Response)
+    → AgreesWith uses start → Session (over_site site) start rs (before ++ after)
+    → AreNew start (session_moves (before ++ after)) → LoadsAreOf certain (session_moves (before ++ after))
     → Holds (uses_by (live_after [] (session_moves before))) start (live_after [] (session_moves before))
     (end_environment start before)
+
+-- The theorem of sites: so it is for the certified modules among the plain ones of a site, and their certificate. Nothing
+-- is asked of the records of loads and unloads, of their kinds, or of how the modules go together.
+abbrev pub SiteSessionsReturn : Type 0
+SiteSessionsReturn =
+    (site : Site) (ms : List Module) → ArePlainModules site ms → CertificateHolds site (certified ms) (certificate ms)
+
+-- The same for any modules that are certified, and any uses among which are those of the certificate: in whatever order an
+-- audit has them.
+abbrev pub AuditsHold : Type 0
+AuditsHold =
+    (site : Site) (ms certain : List Module) (uses : List UsedVariable) → ArePlainModules site ms
+    → ((m : Module) → IsAmong m certain → IsCertified ms m)
+    → ((p : UsedVariable) → IsAmong p (certificate ms) → IsAmong p uses) → CertificateHolds site certain uses
 
 -- One command, in whatever shell, which knows no history: it begins in an environment in order that is such a start with
 -- certified modules layered on it.

@@ -1,5 +1,5 @@
 //! Laws of sites. Each function does nothing: its contract is the law.
-ghost use Rattle.siteaudit.specs.Laws.{StepsAreAdmitted, SessionsAreAdmitted, PlainRecordsAreAll, EachStands, OneStanding, CertifiedStand, SiteSessionsReturn, SiteCommandsReturn};
+ghost use Rattle.siteaudit.specs.Laws.{StepsAreAdmitted, SessionsAreAdmitted, PlainRecordsAreAll, EachStands, OneStanding, CertifiedStand, SiteSessionsReturn, AuditsHold, SiteCommandsReturn};
 
 /// Nothing that was loaded at the moment of an accepted load forbade it: neither a conflict that the loaded list records,
 /// nor a conflict of the module itself, nor a prereq. So it is for requests, and for sessions.
@@ -29,9 +29,11 @@ pub fn standings()
 /// From a start that agrees with the certificate of a site, in a session over that site whose accepted loads are of
 /// certified modules, and which unloads none that is loaded at the start: each environment is in order, and is the start
 /// with the live modules layered on it; where none is live it is the start, and the maps are equal. There is no premise
-/// about records: conflicts that are judged at each load keep apart what excludes each other.
+/// about records: conflicts that are judged at each load keep apart what excludes each other. So it is for any modules
+/// that are certified, and any uses among which are those of the certificate.
 pub fn sessions_return()
-    ensures { SiteSessionsReturn }
+    ensures certificate { SiteSessionsReturn }
+    ensures audits { AuditsHold }
 {
     admissions();
     plain_records();
