@@ -6,3 +6,4 @@ mod OneStanding
 mod Forbidden
 mod Unloaded
 mod Returned
+mod Walked

@@ -10,6 +10,8 @@ use Rattle.modulefile.specs.Files.{Ran}
 use Rattle.reversal.specs.Starts.{IsInOrder, IsStartWith}
 use Rattle.reversal.specs.Runs.{live_after}
 use Rattle.reversal.specs.Laws.{Holds}
+use Rattle.defaultfiles.specs.DefaultFileResults.{HasResult}
+use Rattle.search.specs.Listed.{ListingEntry, names_of, IsListing}
 use Rattle.requests.specs.Requests.{RequestedAction, Request}
 use Rattle.requests.specs.Steps.{RequestContext, Done, RequestStep}
 use Rattle.requests.specs.Sessions.{Response, Session, in_shell, end_environment, session_moves}
@@ -18,7 +20,7 @@ use Rattle.requests.specs.PlainRuns.{HasEvaluatedTo}
 use Rattle.certificate.specs.RecordUses.{UsedVariable, IsAmong, uses_by}
 use Rattle.certificate.specs.Certificates.{IsCertified, certified, certificate, AgreesWith}
 use Rattle.certificate.specs.Laws.{AreCertifiedTogether}
-use Rattle.siteaudit.specs.Sites.{Site, SiteModule, over_site, HasPlainRecords, IsOfSite, ArePlainModules}
+use Rattle.siteaudit.specs.Sites.{Site, SiteModule, over_site, HasPlainRecords, IsDirectory, IsOfSite, ArePlainModules, IsClosed, AreDirectories, AreNamesBelow, AreModulesIn}
 use Rattle.siteaudit.specs.Standings.{Standing, Certified, standing_word, with_records, HasStanding}
 use Rattle.siteaudit.specs.Admitted.{AdmittedMovesReach}
 
@@ -33,6 +35,24 @@ abbrev pub SessionsAreAdmitted : Type 0
 SessionsAreAdmitted =
     (s : RequestContext) (e : Environment) (rs : List Request) (os : List Response) → Session s e rs os
     → AdmittedMovesReach (session_moves os) e (end_environment e os)
+
+-- A listing of `avail` has the names of the modules below its directory.
+abbrev pub NamesListed : Type 0
+NamesListed =
+    (site : Site) (dir : Text) (entries : List ListingEntry)
+    → IsListing (HasResult site.limits) site.files site.listings dir entries → AreNamesBelow site dir (names_of entries)
+
+-- A closed list of directories of the site has all of them.
+abbrev pub DirectoriesFound : Type 0
+DirectoriesFound =
+    (site : Site) (dirs : List Text) → IsClosed site dirs → ((dir : Text) → IsAmong dir dirs → IsDirectory site dir)
+    → AreDirectories site dirs
+
+-- The modules in all directories of a site are the modules of the site.
+abbrev pub ModulesFound : Type 0
+ModulesFound =
+    (site : Site) (dirs : List Text) (ms : List SiteModule) → AreDirectories site dirs → AreModulesIn site dirs ms
+    → (m : SiteModule) → IsAmong m ms ↔ IsOfSite site m
 
 -- The records of a plain module are those that every accepted evaluation of its file leaves, in whatever mode, shell and
 -- environment.

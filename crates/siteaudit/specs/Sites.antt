@@ -123,6 +123,13 @@ pub record IsPlainModule (site : Site) (m : Module) : Type 0 where
 abbrev pub ArePlainModules : Site → List Module → Type 0
 ArePlainModules site ms = (m : Module) → IsAmong m ms ↔ IsPlainModule site m
 
+-- The list of directories is closed: it has those of MODULEPATH, and each that a plain module adds which is in one of the
+-- list.
+pub record IsClosed (site : Site) (dirs : List Text) : Type 0 where
+  pub begins : (dir : Text) → IsAmong dir (first_directories site) → IsAmong dir dirs
+  pub adds : (from dir : Text) (m : SiteModule) (rs : List Record) → IsAmong from dirs → IsIn site from m
+      → HasPlainRecords site m rs → IsAmong dir (added_directories rs) → IsAmong dir dirs
+
 -- the list has all directories of the site, and no others
 abbrev pub AreDirectories : Site → List Text → Type 0
 AreDirectories site dirs = (dir : Text) → IsAmong dir dirs ↔ IsDirectory site dir

@@ -1,11 +1,21 @@
 //! Laws of sites. Each function does nothing: its contract is the law.
-ghost use Rattle.siteaudit.specs.Laws.{StepsAreAdmitted, SessionsAreAdmitted, PlainRecordsAreAll, EachStands, OneStanding, CertifiedStand, SiteSessionsReturn, AuditsHold, SiteCommandsReturn};
+ghost use Rattle.siteaudit.specs.Laws.{StepsAreAdmitted, SessionsAreAdmitted, NamesListed, DirectoriesFound, ModulesFound};
+ghost use Rattle.siteaudit.specs.Laws.{PlainRecordsAreAll, EachStands, OneStanding, CertifiedStand};
+ghost use Rattle.siteaudit.specs.Laws.{SiteSessionsReturn, AuditsHold, SiteCommandsReturn};
 
 /// Nothing that was loaded at the moment of an accepted load forbade it: neither a conflict that the loaded list records,
 /// nor a conflict of the module itself, nor a prereq. So it is for requests, and for sessions.
 pub fn admissions()
     ensures steps { StepsAreAdmitted }
     ensures sessions { SessionsAreAdmitted }
+{}
+
+/// A walk over a site that has gone through each directory that it found has all directories of the site, and the modules
+/// that `avail` lists in them are those of the site.
+pub fn walks()
+    ensures names { NamesListed }
+    ensures directories { DirectoriesFound }
+    ensures modules { ModulesFound }
 {}
 
 /// The records of a plain module are those that every accepted evaluation of its file leaves.
