@@ -7,3 +7,4 @@ mod Forbidden
 mod Unloaded
 mod Returned
 mod Walked
+mod PlainOnes

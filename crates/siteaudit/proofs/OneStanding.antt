@@ -20,8 +20,8 @@ use Rattle.requests.specs.Reasons.{RequestReason, file_refused}
 use Rattle.requests.specs.Steps.{entries_of, script_at, context_of}
 use Rattle.requests.specs.Verdicts.{Verdict, plain, asked, one_way, verdict_of}
 use Rattle.certificate.specs.RecordUses.{used_by, IsAmong, modulepath, same_use, AreInStep}
-use Rattle.siteaudit.specs.Sites.{Site, SiteModule, over_site, EvaluatesTo, HasPlainRecords}
-use Rattle.siteaudit.specs.Standings.{Standing, Certified, Asks, OneWay, OutOfStep, Clashes, Refused, with_records, IsUsedTwice, ClashesWith, HasStanding, standing_word}
+use Rattle.siteaudit.specs.Sites.{Site, SiteModule, over_site, EvaluatesTo, HasPlainRecords, with_records}
+use Rattle.siteaudit.specs.Standings.{Standing, Certified, Asks, OneWay, OutOfStep, Clashes, Refused, IsUsedTwice, ClashesWith, HasStanding, standing_word}
 use Rattle.siteaudit.specs.Laws.{OneStanding}
 
 -- an evaluation has one outcome
@@ -29,7 +29,7 @@ use Rattle.siteaudit.specs.Laws.{OneStanding}
 one_refused_as : {A R S : Type 0} {f : R → S} {First : Result A R → Type 0} → IsOne First → IsOne (RefusedAs f First)
 one_refused_as {f = f} u o p h k = h.2 ∙ (ap (refused_as f) (u h.0 k.0 h.1 k.1) ∙ sym k.2)
 
-one_outcome : files.OneOutcome → (site : Site) (m : SiteModule) → IsOne (EvaluatesTo site m)
+pub one_outcome : files.OneOutcome → (site : Site) (m : SiteModule) → IsOne (EvaluatesTo site m)
 one_outcome one site m =
     one_then (one_is (entries_of site.env)) (λ xs. one_then (one_is (script_at m.path (modulefile (site.files m.path)))) (λ text.
     one_refused_as {f = file_refused} {First = RunsFile site.limits (context_of (over_site site) modes.load false m.name m.name m.path xs site.env) text}

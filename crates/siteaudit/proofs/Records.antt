@@ -14,8 +14,7 @@ use Rattle.requests.specs.Steps.{RequestContext, entries_of, script_at, context_
 use Rattle.requests.specs.Verdicts.{plain, asked, one_way, verdict_of}
 use Rattle.requests.specs.PlainRuns.{HasEvaluatedTo}
 use Rattle.certificate.specs.Laws.{CertifiedAreExact}
-use Rattle.siteaudit.specs.Sites.{Site, SiteModule, over_site, EvaluatesTo}
-use Rattle.siteaudit.specs.Standings.{with_records}
+use Rattle.siteaudit.specs.Sites.{Site, SiteModule, over_site, EvaluatesTo, with_records}
 use Rattle.siteaudit.specs.Laws.{PlainRecordsAreAll, CertifiedStand}
 use Rattle.siteaudit.proofs.Parts.{went_on, ran_ok, script_held}
 

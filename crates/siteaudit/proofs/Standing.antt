@@ -21,8 +21,8 @@ use Rattle.certificate.specs.RecordUses.{UsedVariable, used_by, IsAmong, modulep
 use Rattle.certificate.specs.Clashes.{exclude, uses_clash, do_clash}
 use Rattle.certificate.specs.Certificates.{is_other, clashes_among}
 use Rattle.certificate.specs.Laws.{CertifiedAreExact}
-use Rattle.siteaudit.specs.Sites.{Site, SiteModule, over_site, EvaluatesTo, HasPlainRecords, IsOfSite, ArePlainModules}
-use Rattle.siteaudit.specs.Standings.{Standing, Certified, Asks, OneWay, OutOfStep, Clashes, Refused, with_records, IsUsedTwice, ClashesWith, HasStanding}
+use Rattle.siteaudit.specs.Sites.{Site, SiteModule, over_site, EvaluatesTo, HasPlainRecords, IsOfSite, ArePlainModules, with_records}
+use Rattle.siteaudit.specs.Standings.{Standing, Certified, Asks, OneWay, OutOfStep, Clashes, Refused, IsUsedTwice, ClashesWith, HasStanding}
 use Rattle.siteaudit.specs.Laws.{EachStands}
 
 -- tests

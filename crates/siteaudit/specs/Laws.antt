@@ -1,6 +1,6 @@
 -- The laws of sites (own): loads are admitted, plain modules have one list of records, and sessions of certified modules
 -- return to their start.
-use Rattle.std.specs.Prelude.{◌≡◌, ◌↔◌, List, [], ◌∷◌, ◌++◌, Ok}
+use Rattle.std.specs.Prelude.{◌≡◌, ◌↔◌, List, [], ◌∷◌, ◌++◌, filter_map, Ok}
 use Rattle.envvars.specs.Texts.{Text}
 use Rattle.envvars.specs.Environment.{Environment}
 use Rattle.shells.specs.declared.shell.Shell.{Shell}
@@ -20,8 +20,8 @@ use Rattle.requests.specs.PlainRuns.{HasEvaluatedTo}
 use Rattle.certificate.specs.RecordUses.{UsedVariable, IsAmong, uses_by}
 use Rattle.certificate.specs.Certificates.{IsCertified, certified, certificate, AgreesWith}
 use Rattle.certificate.specs.Laws.{AreCertifiedTogether}
-use Rattle.siteaudit.specs.Sites.{Site, SiteModule, over_site, HasPlainRecords, IsDirectory, IsOfSite, ArePlainModules, IsClosed, AreDirectories, AreNamesBelow, AreModulesIn}
-use Rattle.siteaudit.specs.Standings.{Standing, Certified, standing_word, with_records, HasStanding}
+use Rattle.siteaudit.specs.Sites.{Site, SiteModule, over_site, HasPlainRecords, IsDirectory, IsOfSite, with_records, ArePlainModules, IsClosed, AreDirectories, AreNamesBelow, AreModulesIn, Evaluated, plain_of, AreEvaluated}
+use Rattle.siteaudit.specs.Standings.{Standing, Certified, standing_word, HasStanding}
 use Rattle.siteaudit.specs.Admitted.{AdmittedMovesReach}
 
 -- Each load of an accepted request was admitted.
@@ -53,6 +53,12 @@ abbrev pub ModulesFound : Type 0
 ModulesFound =
     (site : Site) (dirs : List Text) (ms : List SiteModule) → AreDirectories site dirs → AreModulesIn site dirs ms
     → (m : SiteModule) → IsAmong m ms ↔ IsOfSite site m
+
+-- The plain modules of a site are those that are plain by the outcomes of its evaluations.
+abbrev pub PlainModulesFound : Type 0
+PlainModulesFound =
+    (site : Site) (outcomes : List Evaluated) → AreEvaluated site outcomes
+    → ArePlainModules site (filter_map plain_of outcomes)
 
 -- The records of a plain module are those that every accepted evaluation of its file leaves, in whatever mode, shell and
 -- environment.

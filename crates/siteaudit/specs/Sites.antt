@@ -1,5 +1,5 @@
 -- A whole site (own): its directories, its modules, and the records of those whose files are plain.
-use Rattle.std.specs.Prelude.{◌≡◌, ◌↔◌, false, List, [], ◌∷◌, ◌++◌, map, flat_map, bytes_eq, if◌then◌else◌, Result, Ok}
+use Rattle.std.specs.Prelude.{◌≡◌, ◌↔◌, false, List, [], ◌∷◌, ◌++◌, map, flat_map, bytes_eq, if◌then◌else◌, Option, Some, None, Result, Ok, Err}
 use Rattle.std.specs.List.Sorted.{IsStrictlySortedBy}
 use Rattle.modulename.specs.Versions.{version_order}
 use Rattle.envvars.specs.Texts.{Text}
@@ -18,7 +18,7 @@ use Rattle.requests.specs.Refusals.{RefusedAs}
 use Rattle.requests.specs.Reasons.{RequestReason, file_refused}
 use Rattle.requests.specs.Steps as requests
 use Rattle.requests.specs.Steps.{RequestContext, request_context_in, entries_of, script_at, context_of}
-use Rattle.requests.specs.Verdicts.{plain, verdict_of}
+use Rattle.requests.specs.Verdicts.{Verdict, plain, asked, one_way, verdict_of}
 use Rattle.certificate.specs.RecordUses.{IsAmong, modulepath}
 
 -- A site: the files and directories of a tree, the limits on the evaluation of each file, and the environment at hand.
@@ -114,6 +114,10 @@ pub record IsOfSite (site : Site) (m : SiteModule) : Type 0 where
 abbrev pub file_of : Module → SiteModule
 file_of m = record { name = m.name; path = m.path }
 
+-- the module with these records
+abbrev pub with_records : SiteModule → List Record → Module
+with_records m rs = record { name = m.name; path = m.path; records = rs }
+
 -- A plain module of the site, with its records.
 pub record IsPlainModule (site : Site) (m : Module) : Type 0 where
   pub of_site : IsOfSite site (file_of m)
@@ -145,3 +149,25 @@ AreModulesIn site [] ms = ms ≡ []
 AreModulesIn site (dir ∷ dirs) ms =
     (names : List Text) × (rest : List SiteModule) × AreNamesBelow site dir names × AreModulesIn site dirs rest
     × (ms ≡ map (module_below dir) names ++ rest)
+
+-- ---- evaluated modules
+
+-- a module, and what the evaluation of its file leaves or is refused for
+abbrev pub Evaluated : Type 0
+Evaluated = SiteModule × Result Ran RequestReason
+
+-- the module with its records, where this verdict on it is plain
+abbrev pub plain_by : Verdict → SiteModule → List Record → Option Module
+plain_by plain m rs = Some (with_records m rs)
+plain_by asked m rs = None
+plain_by one_way m rs = None
+
+-- the module with its records, where it is plain
+abbrev pub plain_of : Evaluated → Option Module
+plain_of (m, Ok ran) = plain_by (verdict_of ran) m ran.records
+plain_of (m, Err reason) = None
+
+-- The list has each module of the site with the outcome of its evaluation, and no others.
+pub record AreEvaluated (site : Site) (outcomes : List Evaluated) : Type 0 where
+  pub modules : (m : SiteModule) → IsAmong m (map (λ outcome. outcome.0) outcomes) ↔ IsOfSite site m
+  pub evaluated : (outcome : Evaluated) → IsAmong outcome outcomes → EvaluatesTo site outcome.0 outcome.1

@@ -11,7 +11,7 @@ use Rattle.requests.specs.Verdicts.{asked, one_way, verdict_of}
 use Rattle.certificate.specs.RecordUses.{IsAmong, used_by, same_use, modulepath, IsInStep}
 use Rattle.certificate.specs.Clashes.{Clash}
 use Rattle.certificate.specs.Certificates.{is_other, IsCertified}
-use Rattle.siteaudit.specs.Sites.{Site, SiteModule, EvaluatesTo, HasPlainRecords}
+use Rattle.siteaudit.specs.Sites.{Site, SiteModule, EvaluatesTo, HasPlainRecords, with_records}
 
 pub data Standing : Type 0 where
   -- plain, in step, and without a clash: its loads and unloads need no judgement
@@ -36,10 +36,6 @@ standing_word (OneWay first) = codes "one-way"
 standing_word (OutOfStep variable one other) = codes "out-of-step"
 standing_word (Clashes variable own theirs other) = codes "clashes"
 standing_word (Refused reason) = codes "refused"
-
--- the module with these records
-abbrev pub with_records : SiteModule → List Record → Module
-with_records m rs = record { name = m.name; path = m.path; records = rs }
 
 -- The first record that unloading doesn't undo.
 abbrev pub IsFirstOneWay : List Record → Record → Type 0

@@ -1,5 +1,5 @@
 //! Laws of sites. Each function does nothing: its contract is the law.
-ghost use Rattle.siteaudit.specs.Laws.{StepsAreAdmitted, SessionsAreAdmitted, NamesListed, DirectoriesFound, ModulesFound};
+ghost use Rattle.siteaudit.specs.Laws.{StepsAreAdmitted, SessionsAreAdmitted, NamesListed, DirectoriesFound, ModulesFound, PlainModulesFound};
 ghost use Rattle.siteaudit.specs.Laws.{PlainRecordsAreAll, EachStands, OneStanding, CertifiedStand};
 ghost use Rattle.siteaudit.specs.Laws.{SiteSessionsReturn, AuditsHold, SiteCommandsReturn};
 
@@ -11,12 +11,15 @@ pub fn admissions()
 {}
 
 /// A walk over a site that has gone through each directory that it found has all directories of the site, and the modules
-/// that `avail` lists in them are those of the site.
+/// that `avail` lists in them are those of the site. The plain ones among them are those whose evaluation says so.
 pub fn walks()
     ensures names { NamesListed }
     ensures directories { DirectoriesFound }
     ensures modules { ModulesFound }
-{}
+    ensures plain { PlainModulesFound }
+{
+    modulefile::files();
+}
 
 /// The records of a plain module are those that every accepted evaluation of its file leaves.
 pub fn plain_records()

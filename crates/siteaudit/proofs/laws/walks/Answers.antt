@@ -1,4 +1,5 @@
 use Rattle.siteaudit.proofs.Walked.{names_listed, directories_found, modules_found}
+use Rattle.siteaudit.proofs.PlainOnes.{plain_modules_found}
 use Rattle.siteaudit.proofs.laws.walks.Goals as goal
 
 pub returns-clause-names : goal.returns-clause-names
@@ -9,3 +10,6 @@ returns-clause-directories c = directories_found
 
 pub returns-clause-modules : goal.returns-clause-modules
 returns-clause-modules c = modules_found
+
+pub returns-clause-plain : goal.returns-clause-plain
+returns-clause-plain c = plain_modules_found c.files.ensures.one
