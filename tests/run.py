@@ -59,7 +59,7 @@ SUITES = (
     ("tcl/commands.py", ""),
     ("tcl/memory.py", "cases_tcl"),
     ("package.py", "modulecmd"),
-    ("instructions.py", "modulecmd"),
+    ("costs.py", "modulecmd"),
     ("runs.py", ""),
 )
 

@@ -1,6 +1,6 @@
 """Counts the instructions of some commands, and compares them with those that docs/DECISIONS.md says.
 
-    instructions.py PROGRAM
+    costs.py PROGRAM
 
 A count that is more than a tenth above the one that is written there fails. Counts don't move with the machine's other
 work; those of a C library of another version differ a little.
@@ -34,7 +34,7 @@ def said():
 
 def main():
     written = said()
-    folder = tempfile.mkdtemp(prefix="modulecmd-instructions-")
+    folder = tempfile.mkdtemp(prefix="modulecmd-costs-")
     try:
         found = goals.counts(os.path.abspath(sys.argv[1]), folder, list(written))
     finally:
