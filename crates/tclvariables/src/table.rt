@@ -13,11 +13,37 @@ use std::mem;
 /// Variables by name.
 pub(crate) type Table = IndexMap<String, Content>;
 
+/// Up to so many variables are looked through one by one: comparing a few names takes less than hashing one.
+const FEW: usize = 4;
+
+/// What a variable of a few holds: the names are looked through one by one.
+fn content_among<'a>(table: &'a Table, name: &str) -> Option<&'a Content>
+    ensures { option_map (λ c. c.now) result ≡ lookup (texts_of table.now.entries) name.now }
+{
+    for (key, content) in table {
+        if key.as_str() == name {
+            return Some(content);
+        }
+    }
+    None
+}
+
+/// What a variable holds.
+fn content_in<'a>(table: &'a Table, name: &str) -> Option<&'a Content>
+    ensures { option_map (λ c. c.now) result ≡ lookup (texts_of table.now.entries) name.now }
+{
+    if table.len() <= FEW {
+        content_among(table, name)
+    } else {
+        table.get(name)
+    }
+}
+
 /// The text of a variable.
 pub(crate) fn text_in<'a>(table: &'a Table, name: &str) -> Option<&'a str>
     ensures { option_map (λ v. v.now) result ≡ lookup (texts_of table.now.entries) name.now }
 {
-    match table.get(name) {
+    match content_in(table, name) {
         None => None,
         Some(content) => Some(content.as_str()),
     }
@@ -27,7 +53,7 @@ pub(crate) fn text_in<'a>(table: &'a Table, name: &str) -> Option<&'a str>
 pub(crate) fn holds_list(table: &Table, name: &str) -> bool
     ensures { result ≡ true → HoldsList (lookup (texts_of table.now.entries) name.now) }
 {
-    match table.get(name) {
+    match content_in(table, name) {
         None => false,
         Some(content) => content.is_list(),
     }
