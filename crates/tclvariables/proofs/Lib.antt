@@ -3,3 +3,4 @@ pub mod Colons
 pub mod Frames
 pub mod Stores
 pub mod Names
+pub mod Plain

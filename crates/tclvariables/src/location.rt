@@ -1,5 +1,6 @@
 //! The location that the name of a variable denotes (Tcl(n), rule 8; global(n)).
-ghost use Rattle.std.specs.Prelude.{◌≡◌, option_map};
+ghost use Rattle.std.specs.Prelude.{◌≡◌, ◌==◌, option_map};
+ghost use Rattle.std.specs.List.{list_any};
 ghost use Rattle.tclchars.specs.Answers.{Gives};
 ghost use Rattle.tclvalue.specs.Faults.{reason_of};
 ghost use Rattle.tclrules.specs.Variables.{name_and_index, has_colons, unqualified, indexed, location_of, location_named, writable};
@@ -50,6 +51,13 @@ fn has_colons(name: &str) -> bool
     ensures { result ≡ has_colons name.now }
 {
     name.contains("::")
+}
+
+/// Whether a colon stands in a name.
+fn has_colon(name: &str) -> bool
+    ensures { result ≡ list_any (λ b. b == 58) name.now }
+{
+    name.as_bytes().iter().any(|b| *b == b':')
 }
 
 /// The parts of a name: that of its array and its index, where it has one.
@@ -119,6 +127,10 @@ pub fn location_named<'a>(
     ensures { Gives reason_of location_view result (location_named variables.now name.now) }
 {
     let (array, index) = name_and_index(name);
+    if index.is_none() && !has_colon(array) {
+        let scope = variables.scope_of(array);
+        return Ok(Location::Scalar(Scalar { scope, name: array }));
+    }
     location_of(variables, alloc, array, index)
 }
 
