@@ -4,3 +4,4 @@ pub mod Frames
 pub mod Stores
 pub mod Names
 pub mod Plain
+pub mod Places

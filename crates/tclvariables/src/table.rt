@@ -1,5 +1,6 @@
 //! Variables by name, in the order of their making: the global ones, or those of one procedure.
-ghost use Rattle.std.specs.Prelude.{◌≡◌, true, OnOk, OnErr, option_map, string_bytes};
+ghost use Rattle.std.specs.Prelude.{◌≡◌, ◌<◌, true, OnOk, OnErr, IfSome, option_map, bytes_eq, string_bytes};
+ghost use Rattle.indexmap.specs.IndexMap.{index_of_by, index_map_len};
 ghost use Rattle.tclchars.specs.Runs.{Text};
 ghost use Rattle.tclrules.specs.Variables.{lookup, store, without};
 ghost use Rattle.tclvariables.specs.Contents.{HoldsList};
@@ -59,6 +60,18 @@ pub(crate) fn holds_list(table: &Table, name: &str) -> bool
     }
 }
 
+/// The place of a variable in the order.
+fn place_of(table: &Table, name: &str) -> Option<usize>
+    ensures place { result ≡ index_of_by (λ k. bytes_eq name.now (string_bytes k)) table.now }
+    ensures within { IfSome result (λ i. i < index_map_len table.now) }
+{
+    if table.len() <= FEW {
+        table.keys().position(|key| name == key.as_str())
+    } else {
+        table.get_index_of(name)
+    }
+}
+
 /// Takes the text of a variable, which holds the empty text until it is put again, so that the text can grow without a
 /// copy.
 pub(crate) fn take(table: &mut Table, alloc: Global, name: &str) -> Option<String>
@@ -66,10 +79,10 @@ pub(crate) fn take(table: &mut Table, alloc: Global, name: &str) -> Option<Strin
     ensures given_back { (t : Text) → store (texts_of table.new.entries) name.now t
         ≡ store (texts_of table.old.entries) name.now t }
 {
-    match table.get_mut(name) {
+    match place_of(table, name) {
         None => None,
-        Some(slot) => {
-            let content = mem::replace(slot, Content::of_text(String::new(alloc)));
+        Some(index) => {
+            let content = mem::replace(&mut table[index], Content::of_text(String::new(alloc)));
             Some(content.into_text())
         }
     }
@@ -85,11 +98,12 @@ pub(crate) fn put(
     ensures ok { OnOk result (texts_of table.new.entries ≡ store (texts_of table.old.entries) name.now content) }
     ensures err { OnErr result (texts_of table.new.entries ≡ texts_of table.old.entries) }
 {
-    if let Some(slot) = table.get_mut(name) {
-        *slot = content;
-        return Ok(());
+    match place_of(table, name) {
+        Some(index) => table[index] = content,
+        None => {
+            let _ = table.insert(String::from_str(alloc, name)?, content)?;
+        }
     }
-    let _ = table.insert(String::from_str(alloc, name)?, content)?;
     Ok(())
 }
 
