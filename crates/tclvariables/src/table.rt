@@ -17,26 +17,25 @@ pub(crate) type Table = IndexMap<String, Content>;
 /// Up to so many variables are looked through one by one: comparing a few names takes less than hashing one.
 const FEW: usize = 4;
 
-/// What a variable of a few holds: the names are looked through one by one.
-fn content_among<'a>(table: &'a Table, name: &str) -> Option<&'a Content>
-    ensures { option_map (λ c. c.now) result ≡ lookup (texts_of table.now.entries) name.now }
+/// The place of a variable in the order.
+fn place_of(table: &Table, name: &str) -> Option<usize>
+    ensures place { result ≡ index_of_by (λ k. bytes_eq name.now (string_bytes k)) table.now }
+    ensures within { IfSome result (λ i. i < index_map_len table.now) }
 {
-    for (key, content) in table {
-        if key.as_str() == name {
-            return Some(content);
-        }
+    if table.len() <= FEW {
+        table.keys().position(|key| name == key.as_str())
+    } else {
+        table.get_index_of(name)
     }
-    None
 }
 
 /// What a variable holds.
 fn content_in<'a>(table: &'a Table, name: &str) -> Option<&'a Content>
     ensures { option_map (λ c. c.now) result ≡ lookup (texts_of table.now.entries) name.now }
 {
-    if table.len() <= FEW {
-        content_among(table, name)
-    } else {
-        table.get(name)
+    match place_of(table, name) {
+        None => None,
+        Some(index) => Some(&table[index]),
     }
 }
 
@@ -57,18 +56,6 @@ pub(crate) fn holds_list(table: &Table, name: &str) -> bool
     match content_in(table, name) {
         None => false,
         Some(content) => content.is_list(),
-    }
-}
-
-/// The place of a variable in the order.
-fn place_of(table: &Table, name: &str) -> Option<usize>
-    ensures place { result ≡ index_of_by (λ k. bytes_eq name.now (string_bytes k)) table.now }
-    ensures within { IfSome result (λ i. i < index_map_len table.now) }
-{
-    if table.len() <= FEW {
-        table.keys().position(|key| name == key.as_str())
-    } else {
-        table.get_index_of(name)
     }
 }
 

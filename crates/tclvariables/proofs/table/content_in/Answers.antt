@@ -1,7 +1,8 @@
-use Rattle.std.proofs.Common.{ap, ◌∙◌}
-use Rattle.std.specs.Option.{option_map}
-use Rattle.tclvariables.proofs.Frames.{lookup_named, map_copied}
+use Rattle.tclvariables.proofs.Places.{lookup_absent, lookup_at_place}
 use Rattle.tclvariables.proofs.table.content_in.Goals as goal
 
-pub returns-else-len-le-FEW : goal.returns-else-len-le-FEW
-returns-else-len-le-FEW c = map_copied (λ t. t) c.get.result ∙ ap (option_map (λ t. t)) c.get.ensures.value ∙ lookup_named (λ t. t) c.args.table.now.entries c.args.name.now
+pub returns-in-None : goal.returns-in-None
+returns-in-None c = lookup_absent (λ t. t) c.args.table.now.entries c.args.name.now c.in-None.ensures.place
+
+pub returns-in-Some : goal.returns-in-Some
+returns-in-Some c = lookup_at_place (λ t. t) c.args.table.now.entries c.args.name.now c.in-Some.index c.in-Some.ensures.place _ c.index.ensures
