@@ -1,7 +1,8 @@
 //! Commands that write a variable: set(n), append(n), incr(n), within the limit on the bytes of a value.
-ghost use Rattle.std.specs.Prelude.{◌≡◌, ◌++◌, [], map, string_bytes, OnOk};
+ghost use Rattle.std.specs.Prelude.{◌≡◌, ◌++◌, [], map, string_bytes, IfOk, OnOk};
 ghost use Rattle.std.specs.Fmt.{signed_decimal};
-ghost use Rattle.tclvalue.specs.Faults.{GivesText};
+ghost use Rattle.tclchars.specs.Answers.{Gives};
+ghost use Rattle.tclvalue.specs.Faults.{GivesText, reason_of};
 ghost use Rattle.tclvalue.specs.Limits.{limited};
 ghost use Rattle.tclvalue.specs.Characters.{joined};
 ghost use Rattle.tclchars.specs.Runs.{Text};
@@ -12,7 +13,8 @@ ghost use Rattle.tclcommands.specs.Continuations.{named_values, ContinuesWithVar
 ghost use Rattle.tclvariables.specs.Locations.{scalar_view};
 
 use crate::value::{Value, value_or};
-use std::alloc::Global;
+use itoa::Buffer;
+use std::alloc::{AllocError, Global};
 use tclforms::increase_of;
 use tclrules::EvalFault;
 use tclsubstitution::Stop;
@@ -165,14 +167,23 @@ pub fn append<'a>(
     Ok(Value::Variable(variable))
 }
 
-/// The sum of two whole numbers in decimal. The first is judged before the second.
-fn increased(alloc: Global, old: &str, increase: &str) -> Result<String, ValueFault>
-    ensures { GivesText result (increased old.now increase.now) }
+/// The sum of two whole numbers. The first is judged before the second.
+fn increased(alloc: Global, old: &str, increase: &str) -> Result<i64, ValueFault>
+    ensures { Gives reason_of signed_decimal result (increased old.now increase.now) }
 {
     let old = count_of(alloc, old)?;
     let increase = count_of(alloc, increase)?;
-    let sum = sum(old, increase)?;
-    Ok(format!(in alloc; "{sum}")?)
+    sum(old, increase)
+}
+
+/// A number in decimal, in the memory of a text that is no longer needed.
+fn decimal_in(text: String, number: i64) -> Result<String, AllocError>
+    ensures { IfOk result (λ t. string_bytes t ≡ signed_decimal number) }
+{
+    let mut text = text;
+    text.clear();
+    text.push_str(Buffer::new().format(number))?;
+    Ok(text)
 }
 
 /// incr(n): adds a whole number, 1 where none is given, to the value of a variable, 0 where it is unset. The result is
@@ -194,7 +205,9 @@ pub fn increase<'a>(
 {
     let variable = writable(variables, alloc, name)?;
     let increase = increase_of(alloc, increases)?;
-    let value = increased(alloc, value_or(variables, variable, "0"), increase)?;
+    let sum = increased(alloc, value_or(variables, variable, "0"), increase)?;
+    let old = take_text(alloc, variables, variable);
+    let value = decimal_in(old, sum)?;
     write_at(alloc, variables, limit, variable, value)?;
     Ok(Value::Variable(variable))
 }
