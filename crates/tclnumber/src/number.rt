@@ -38,13 +38,19 @@ pub fn read_number(text: &str) -> Numeral
     any_number(text)
 }
 
-/// The number of decimal digits alone; none where another byte is among them, or where it may pass 18 digits.
+/// So many decimal digits always fit.
+const FEW_DIGITS: usize = 18;
+
+/// The number of a few decimal digits alone; none where another byte is among them, or where there are many.
 fn few_digits(digits: &[u8]) -> Option<u64>
     ensures { IfSome result (λ n. (n < 2 ^ 63) × (digits_from 10 0 digits.now ≡ Some n)) }
 {
+    if digits.len() > FEW_DIGITS {
+        return None;
+    }
     let mut number = 0u64;
     for digit in digits {
-        if !is_digit(*digit) || number >= 100_000_000_000_000_000 {
+        if !is_digit(*digit) {
             return None;
         }
         number = number * 10 + u64::from(*digit - b'0');
