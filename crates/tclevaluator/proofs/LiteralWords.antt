@@ -14,8 +14,8 @@ use Rattle.tclrules.specs.Forms as forms
 use Rattle.tclrules.specs.Forms.{core_form}
 use Rattle.tclrules.specs.Rules as rules
 use Rattle.tclrules.specs.Rules.{called, value_command, core_command}
-use Rattle.tclforms.specs.Views.{form_view}
-use Rattle.tclforms.specs.declared.form.Form.{Form}
+use Rattle.tclforms.specs.Views.{simple_view}
+use Rattle.tclforms.specs.declared.form.Simple.{Simple}
 use Rattle.tclsubstitution.specs.Machine.{range_text, bounds}
 
 -- the words of a command with this form do what the form does
@@ -24,9 +24,9 @@ called_form b name ws f s k c v = ap (λ a. given a s (value_command b name ws s
 
 -- and so do words that make these texts
 module _ (limit : ℕ) (source : Text) (ws : List (Word ByteRange)) (name : Text) (ts : List Text) where
-  pub form_found : (res : Option Form)
+  pub form_found : (res : Option Simple)
       → ((remaining : ℕ) (s : State) (k : List Text → State → Step) → words (bounds limit remaining) (words_of (map (word_view (range_text source)) ws)) [] s k ≡ k (name ∷ ts) s)
-      → IfSome res (λ f. (limit : ℕ) → (core_form name ts ≡ Some (Ok (form_view f))) × (command_value (name ∷ ts) limit ≡ Ok None))
-      → IfSome res (λ f. (remaining : ℕ) (s : State) (k : Next) → words (bounds limit remaining) (words_of (map (word_view (range_text source)) ws)) [] s (λ texts s1. called (bounds limit remaining) texts s1 k) ≡ rules.form (bounds limit remaining) (form_view f) s k)
+      → IfSome res (λ f. (limit : ℕ) → (core_form name ts ≡ Some (Ok (simple_view f))) × (command_value (name ∷ ts) limit ≡ Ok None))
+      → IfSome res (λ f. (remaining : ℕ) (s : State) (k : Next) → words (bounds limit remaining) (words_of (map (word_view (range_text source)) ws)) [] s (λ texts s1. called (bounds limit remaining) texts s1 k) ≡ rules.form (bounds limit remaining) (simple_view f) s k)
   form_found None w h = tt
-  form_found (Some f) w h = λ remaining s k. w remaining s (λ texts s1. called (bounds limit remaining) texts s1 k) ∙ called_form (bounds limit remaining) name ts (form_view f) s k (h limit).0 (h limit).1
+  form_found (Some f) w h = λ remaining s k. w remaining s (λ texts s1. called (bounds limit remaining) texts s1 k) ∙ called_form (bounds limit remaining) name ts (simple_view f) s k (h limit).0 (h limit).1

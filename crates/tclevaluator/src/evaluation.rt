@@ -14,7 +14,7 @@ ghost use Rattle.tclrules.specs.Expressions.{express, decide};
 ghost use Rattle.tclrules.specs.Rules as rules;
 ghost use Rattle.tclrules.specs.Rules.{rule, called, turn};
 ghost use Rattle.tclrules.specs.Forms as forms;
-ghost use Rattle.tclforms.specs.Views.{form_view, pair_texts};
+ghost use Rattle.tclforms.specs.Views.{form_view, simple_view, pair_texts};
 ghost use Rattle.tclsubstitution.specs.Machine.{range_text, control_plan};
 ghost use Rattle.tclexpr.specs.Owned as expression;
 ghost use Rattle.tclcontrol.specs.CommandTexts.{name_of};
@@ -38,7 +38,7 @@ use tclcontrol::{
     unknown_command,
 };
 use tclexpr::OwnedExpr;
-use tclforms::{ForLoop, Form, Loops, WhileLoop, chosen, core_form, parameter_values};
+use tclforms::{ForLoop, Form, Loops, Simple, WhileLoop, chosen, core_form, parameter_values};
 use tclrules::Host;
 use tclscript::{ByteRange, Command, Part, Script, Word};
 use tclsubstitution::{Control, Step, Stop, SubstitutionContext, advance};
@@ -177,7 +177,7 @@ impl Evaluator {
             tree: command.tree.words.as_slice(),
         };
         if let Some(form) = literal_form(bounds.limits, words) {
-            return self.form(host, bounds, form, result_use);
+            return self.simple(host, bounds, form, result_use);
         }
         let texts = self.words(host, bounds, words)?;
         self.called(host, bounds, &texts, result_use)
@@ -549,6 +549,32 @@ impl Evaluator {
         self.express(host, bounds, text.as_str())
     }
 
+    /// Does a core command that evaluates no script, by its form.
+    #[tactic(none)]
+    fn simple<H: Host>(
+        &mut self,
+        host: &mut H,
+        bounds: Bounds,
+        form: Simple<'_>,
+        result_use: ResultUse,
+    ) -> Result<String, Stop>
+        ensures evaluates_to { EvaluatesToText result_use bounds.limits.value_bytes result
+            (λ t. (k : Next) → Continues H.oracle H.trace bounds
+            (rules.form (bounds_of bounds) (simple_view form.entry) self.old.variables
+            (sized_next bounds.limits.value_bytes k))
+            (host.old, self.old) result (λ _ s. k t s) (host.new, self.new)) }
+        ensures only_grows { OnlyGrows self.old self.new }
+    {
+        simple_command(
+            self.alloc,
+            &mut self.variables,
+            host,
+            bounds.limits,
+            result_use,
+            form,
+        )
+    }
+
     /// Does a core command, by its form.
     #[cycle(evaluate)]
     #[tactic(none)]
@@ -568,6 +594,7 @@ impl Evaluator {
     {
         let limits = bounds.limits;
         match form {
+            Form::Simple(form) => self.simple(host, bounds, form, result_use),
             Form::Express(words) => within(limits, self.express_words(host, bounds, words)),
             Form::If(branches, other) => {
                 self.branches(host, bounds, branches.as_slice(), other, result_use)
@@ -582,14 +609,6 @@ impl Evaluator {
                 self.otherwise(host, bounds, body, result_use)
             }
             Form::Catch(body, name) => within(limits, self.catch(host, bounds, body, name)),
-            Form::Simple(form) => simple_command(
-                self.alloc,
-                &mut self.variables,
-                host,
-                limits,
-                result_use,
-                form,
-            ),
         }
     }
 

@@ -11,12 +11,12 @@ ghost use Rattle.tclrules.specs.Plans.{Next};
 ghost use Rattle.tclrules.specs.Words as pieces;
 ghost use Rattle.tclrules.specs.Rules as rules;
 ghost use Rattle.tclrules.specs.Forms.{core_form};
-ghost use Rattle.tclforms.specs.Views.{form_view};
+ghost use Rattle.tclforms.specs.Views.{simple_view};
 ghost use Rattle.tclsubstitution.specs.Machine.{range_text, bounds};
 
 use crate::sourced::Sourced;
 use crate::words::literal;
-use tclforms::{Form, Simple};
+use tclforms::Simple;
 use tclrules::Limits;
 use tclscript::{ByteRange, Word};
 
@@ -38,40 +38,40 @@ fn literal_text<'t>(limits: Limits, source: &'t str, word: &Word<ByteRange>) -> 
 
 /// The form of such a command that is its name alone.
 #[tactic(auto, unfolding(tclrules::specs::Forms::core_form))]
-fn form_alone(name: &str) -> Option<Form<'_>>
-    ensures { IfSome result (λ form. (limit : ℕ) → (core_form name.entry.now [] ≡ Some (Ok (form_view form)))
+fn form_alone(name: &str) -> Option<Simple<'_>>
+    ensures { IfSome result (λ form. (limit : ℕ) → (core_form name.entry.now [] ≡ Some (Ok (simple_view form)))
         × (command_value (name.entry.now ∷ []) limit ≡ Ok None)) }
 {
     match name {
-        "break" => Some(Form::Simple(Simple::Break)),
-        "continue" => Some(Form::Simple(Simple::Continue)),
+        "break" => Some(Simple::Break),
+        "continue" => Some(Simple::Continue),
         _ => None,
     }
 }
 
 /// The form of such a command with one word after its name.
 #[tactic(auto, unfolding(tclrules::specs::Forms::core_form))]
-fn form_of_one<'t>(name: &str, word: &'t str) -> Option<Form<'t>>
+fn form_of_one<'t>(name: &str, word: &'t str) -> Option<Simple<'t>>
     ensures { IfSome result (λ form. (limit : ℕ)
-        → (core_form name.now (word.entry.now ∷ []) ≡ Some (Ok (form_view form)))
+        → (core_form name.now (word.entry.now ∷ []) ≡ Some (Ok (simple_view form)))
         × (command_value (name.now ∷ word.entry.now ∷ []) limit ≡ Ok None)) }
 {
     match name {
-        "incr" => Some(Form::Simple(Simple::Increase(word, &[]))),
-        "set" => Some(Form::Simple(Simple::Get(word))),
+        "incr" => Some(Simple::Increase(word, &[])),
+        "set" => Some(Simple::Get(word)),
         _ => None,
     }
 }
 
 /// The form of such a command with two words after its name.
 #[tactic(auto, unfolding(tclrules::specs::Forms::core_form))]
-fn form_of_two<'t>(name: &str, first: &'t str, second: &'t str) -> Option<Form<'t>>
+fn form_of_two<'t>(name: &str, first: &'t str, second: &'t str) -> Option<Simple<'t>>
     ensures { IfSome result (λ form. (limit : ℕ)
-        → (core_form name.now (first.entry.now ∷ second.entry.now ∷ []) ≡ Some (Ok (form_view form)))
+        → (core_form name.now (first.entry.now ∷ second.entry.now ∷ []) ≡ Some (Ok (simple_view form)))
         × (command_value (name.now ∷ first.entry.now ∷ second.entry.now ∷ []) limit ≡ Ok None)) }
 {
     match name {
-        "set" => Some(Form::Simple(Simple::Set(first, second))),
+        "set" => Some(Simple::Set(first, second)),
         _ => None,
     }
 }
@@ -80,12 +80,12 @@ fn form_of_two<'t>(name: &str, first: &'t str, second: &'t str) -> Option<Form<'
 pub(crate) fn literal_form<'t>(
     limits: Limits,
     words: Sourced<'t, &'t [Word<ByteRange>]>,
-) -> Option<Form<'t>>
+) -> Option<Simple<'t>>
     ensures { IfSome result (λ form. (remaining : ℕ) (s : State) (k : Next)
         → pieces.words (bounds limits.value_bytes remaining)
         (words_of (map (word_view (range_text words.entry.source.now)) words.entry.tree.now)) [] s
         (λ texts s1. rules.called (bounds limits.value_bytes remaining) texts s1 k)
-        ≡ rules.form (bounds limits.value_bytes remaining) (form_view form) s k) }
+        ≡ rules.form (bounds limits.value_bytes remaining) (simple_view form) s k) }
 {
     let source = words.source;
     match words.tree {

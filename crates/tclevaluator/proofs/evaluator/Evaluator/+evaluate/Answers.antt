@@ -582,10 +582,12 @@ pub form-returns-in-While-clause-only_grows : goal.form-returns-in-While-clause-
 form-returns-in-While-clause-only_grows g t c = c.while_turns.ensures.only_grows
 
 pub form-returns-in-Simple-clause-evaluates_to : goal.form-returns-in-Simple-clause-evaluates_to
-form-returns-in-Simple-clause-evaluates_to g t c = (c.simple_command.ensures.0, c.simple_command.ensures.1, λ k. rw c.in-Simple.is (c.simple_command.ensures.2 _ c.args.bounds.remaining c.args.self.now.used _ k))
+form-returns-in-Simple-clause-evaluates_to g t c =
+    let a = c.simple.ensures.evaluates_to in
+    (a.0, a.1, λ k. rw c.in-Simple.is (a.2 k))
 
 pub form-returns-in-Simple-clause-only_grows : goal.form-returns-in-Simple-clause-only_grows
-form-returns-in-Simple-clause-only_grows g t c = later_still refl refl
+form-returns-in-Simple-clause-only_grows g t c = c.simple.ensures.only_grows
 
 pub form-while_turns-requires : goal.form-while_turns-requires
 form-while_turns-requires g t c κs within = search rules
@@ -1013,20 +1015,17 @@ word-of-requires-text-text g t c κs = search rules
 pub word-from_str-requires-text-s : goal.word-from_str-requires-text-s
 word-from_str-requires-text-s g t c κs = search rules
 
-pub command-form-requires : goal.command-form-requires
-command-form-requires g t c κs within = search rules
-
 pub command-returns-in-Some-clause-evaluates_to : goal.command-returns-in-Some-clause-evaluates_to
 command-returns-in-Some-clause-evaluates_to g t c =
     let h = c.in_ok-count.ensures in
     let v = command_words (range_text c.args.command.source.now) c.args.command.tree.now in
-    let a = c.form.ensures.evaluates_to in
+    let a = c.simple.ensures.evaluates_to in
     let e = λ (k : Next). rw c.as_slice.ensures.value at (c.in-Some.ensures c.args.bounds.remaining c.args.self.now.variables (sized_next c.args.bounds.limits.value_bytes k)) in
     let w = λ (k : Next). rw (h.variables, h.counted.1) at (a.2 k) in
     (a.0, a.1, λ k. rw v (continue_with (count_on h.counted.0) (from_same (e k) (w k))))
 
 pub command-returns-in-Some-clause-only_grows : goal.command-returns-in-Some-clause-only_grows
-command-returns-in-Some-clause-only_grows g t c = later_on (later_counted c.in_ok-count.ensures.counted.1 c.in_ok-count.ensures.cache) c.form.ensures.only_grows
+command-returns-in-Some-clause-only_grows g t c = later_on (later_counted c.in_ok-count.ensures.counted.1 c.in_ok-count.ensures.cache) c.simple.ensures.only_grows
 
 pub express-expression_tree-requires-text-text : goal.express-expression_tree-requires-text-text
 express-expression_tree-requires-text-text g t c κs = search rules
