@@ -1,5 +1,5 @@
 -- Maps with strings as keys, read as lists of names with values.
-use Rattle.std.proofs.Common.{◌≡◌, ℕ, Bool, true, false, cond, List, [], ◌∷◌, Option, Some, None, map, String, Global, is_some, refl, ap}
+use Rattle.std.proofs.Common.{◌≡◌, ℕ, Bool, true, false, cond, List, [], ◌∷◌, Option, Some, None, map, String, Global, refl, ap}
 use Rattle.std.specs.Borrow.{Bor}
 use Rattle.std.specs.Option.{option_map, option_copied}
 use Rattle.std.specs.String.{string_bytes, string_eq}
@@ -33,17 +33,6 @@ module _ {A B : Type 0} (f : A → B) where
       go : (b : Bool) → named (insert_entry string_eq es k v) ≡ store (named es) (string_bytes k) (f v) → named (cond b ((e.0, v) ∷ es) (e ∷ insert_entry string_eq es k v)) ≡ cond b ((string_bytes e.0, f v) ∷ named es) ((string_bytes e.0, f e.1) ∷ store (named es) (string_bytes k) (f v))
       go true h = refl
       go false h = ap (λ r. (string_bytes e.0, f e.1) ∷ r) h
-
-  -- a name that is there stays where it is
-  pub set_named : (es : List (String Global × A)) (q : List ℕ) (v : A) → is_some (pairs.lookup (λ k. bytes_eq q (string_bytes k)) es) ≡ true → named (pairs.set_value (λ k. bytes_eq q (string_bytes k)) es v) ≡ store (named es) q (f v)
-  set_named [] q v h = cc
-  set_named (e ∷ es) q v h = go (bytes_eq q (string_bytes e.0)) (set_named es q v) h
-    where
-      go : (b : Bool) → (is_some (pairs.lookup (λ k. bytes_eq q (string_bytes k)) es) ≡ true → named (pairs.set_value (λ k. bytes_eq q (string_bytes k)) es v) ≡ store (named es) q (f v))
-          → is_some (cond b (Some e.1) (pairs.lookup (λ k. bytes_eq q (string_bytes k)) es)) ≡ true
-          → named (cond b ((e.0, v) ∷ es) (e ∷ pairs.set_value (λ k. bytes_eq q (string_bytes k)) es v)) ≡ cond b ((string_bytes e.0, f v) ∷ named es) ((string_bytes e.0, f e.1) ∷ store (named es) q (f v))
-      go true k h = refl
-      go false k h = ap (λ r. (string_bytes e.0, f e.1) ∷ r) (k h)
 
 pub without_texts : (es : List (String Global × Text)) (q : List ℕ) → texts_of (shift_remove_entry (λ k. bytes_eq q (string_bytes k)) es) ≡ without (texts_of es) q
 without_texts [] q = refl

@@ -127,6 +127,8 @@ pub fn location_named<'a>(
     ensures { Gives reason_of location_view result (location_named variables.now name.now) }
 {
     let (array, index) = name_and_index(name);
+
+    // Most names are of a scalar without namespaces.
     if index.is_none() && !has_colon(array) {
         let scope = variables.scope_of(array);
         return Ok(Location::Scalar(Scalar { scope, name: array }));
