@@ -1,5 +1,5 @@
 -- The place of a name among entries.
-use Rattle.std.proofs.Common.{◌≡◌, ℕ, suc, zero, ◌+◌, Bool, true, false, cond, List, [], ◌∷◌, Option, Some, None, map, String, Global, refl, sym, ap, ◌∙◌, arith}
+use Rattle.std.proofs.Common.{◌≡◌, ℕ, suc, ◌+◌, Bool, true, false, cond, List, [], ◌∷◌, Some, None, String, Global, refl, sym, ap, ◌∙◌, arith}
 use Rattle.std.specs.List.{position, position_from, slice_get}
 use Rattle.std.specs.Map.{keys_of, values_of}
 use Rattle.std.specs.Option.{option_map}
@@ -7,7 +7,6 @@ use Rattle.std.specs.String.{string_bytes}
 use Rattle.std.specs.Str.{bytes_eq}
 use Rattle.std.proofs.lemmas.Iterator.Adapters.{position_from-zero}
 use Rattle.indexmap.specs.IndexMap.{set_value_at}
-use Rattle.tclchars.specs.Runs.{Text}
 use Rattle.tclrules.specs.Variables.{lookup, store}
 use Rattle.tclvariables.proofs.Frames.{named}
 

@@ -1,5 +1,5 @@
 -- The variable that a name without colons denotes.
-use Rattle.std.proofs.Common.{◌≡◌, ℕ, Bool, not, is_some, true, false, cond, ◌==◌, ◌&&◌, ◌||◌, List, [], ◌∷◌, Option, None, Some, Ok, codes, refl, ap, ◌∙◌, arith}
+use Rattle.std.proofs.Common.{◌≡◌, ℕ, Bool, not, is_some, true, false, ◌==◌, ◌&&◌, ◌||◌, [], ◌∷◌, Option, None, Some, Ok, codes, refl, arith}
 use Rattle.std.proofs.lemmas.Bool.Decides.{nat_tests}
 use Rattle.std.specs.Borrow.{Bor}
 use Rattle.std.specs.List.{list_any}

@@ -1,4 +1,4 @@
-use Rattle.std.proofs.Common.{◌≡◌, option_map, false, sym, not, ◌∙◌, rules, tests}
+use Rattle.std.proofs.Common.{◌≡◌, option_map, false, rules, tests}
 use Rattle.std.specs.List.{list_any}
 use Rattle.std.proofs.Common.{◌==◌}
 use Rattle.tclvariables.proofs.Plain.{plain_location, unindexed}

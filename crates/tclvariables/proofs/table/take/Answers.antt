@@ -1,4 +1,3 @@
-use Rattle.std.proofs.Common.{◌∙◌}
 use Rattle.tclvariables.proofs.Places.{set_at_place, lookup_absent, lookup_at_place}
 use Rattle.tclvariables.proofs.Stores.{store_again}
 use Rattle.tclvariables.proofs.table.take.Goals as goal
