@@ -14,9 +14,10 @@ import tempfile
 
 HERE = os.path.dirname(os.path.abspath(__file__))
 TOP = os.path.dirname(HERE)
-sys.path.append(os.path.join(TOP, "bench"))
+sys.path += [os.path.join(TOP, "bench"), os.path.join(TOP, "tools")]
 
 import goals  # noqa: E402
+from link import DYNAMIC  # noqa: E402
 
 # A line of the table: a title of the goals, and the count.
 LINE = re.compile(r"^ *\| ([^|]+?) \| ([\d,]+) \|$", re.MULTILINE)
@@ -33,6 +34,10 @@ def said():
 
 
 def main():
+    if not os.path.exists(sys.argv[1] + DYNAMIC):
+        print("not run: the program is linked dynamically, and the counts are those of a static link")
+        print("0 passed, 0 failed")
+        return
     written = said()
     folder = tempfile.mkdtemp(prefix="modulecmd-costs-")
     try:
