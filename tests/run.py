@@ -43,6 +43,10 @@ SUITES = (
     ("sentence.py", "modulecmd", "300", "0", "sh"),
     ("sentence.py", "modulecmd", "40", "0", "tcsh"),
     ("sentence.py", "modulecmd", "40", "0", "fish"),
+    ("certified.py", "modulecmd", "300", "0", "sh"),
+    ("certified.py", "modulecmd", "40", "0", "tcsh"),
+    ("certified.py", "modulecmd", "40", "0", "fish"),
+    ("losses.py", "modulecmd"),
     ("modcheck.py", "modcheck"),
     ("plain.py", "modcheck"),
     ("memory.py", "modulecmd"),
@@ -61,6 +65,7 @@ SUITES = (
     ("package.py", "modulecmd"),
     ("costs.py", "modulecmd"),
     ("runs.py", ""),
+    ("certified.py", ""),
 )
 
 

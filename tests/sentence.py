@@ -77,12 +77,12 @@ def option(rng, delim):
 def words_of(rng, record):
     """The words of a command that means this record."""
     kind, *rest = record
-    if kind in ("prepend-path", "append-path"):
+    if kind in ("prepend-path", "append-path", "remove-path"):
         delim, name, elements = rest
         return [kind, *option(rng, delim), name, *values(rng, elements, delim)]
     if kind in ("conflict", "prereq"):
         return [kind, *rest[0]]
-    return [kind, *rest]
+    return [kind, *[one for one in rest if one is not None]]
 
 
 def command(rng, words):

@@ -14,8 +14,8 @@ use crate::digits::{push_shown, shown, text_of, texts_of};
 use crate::trees::{fault, owned, tree};
 use std::alloc::{AllocError, Global};
 use tcltext::{
-    ByteRange, Command, Expr, Numeral, Operand, Part, Script, TextFault, Word, glob_match,
-    parse_expr, parse_list, parse_script, push_braced_text, read_number, write_list,
+    ByteRange, Command, Expr, Numeral, Operand, Part, Script, TextFault, Word, WordContent,
+    glob_match, parse_expr, parse_list, parse_script, push_braced_text, read_number, write_list,
 };
 
 /// The byte offset of a fault, where it has one.
@@ -52,18 +52,33 @@ fn shown_list(alloc: Global, elements: &[String]) -> Option<String> {
     Some(line)
 }
 
+/// Adds the text of parts, and says whether they have no substitution.
+fn push_parts(text: &mut String, parts: &[Part<&str>]) -> Result<bool, AllocError> {
+    for part in parts {
+        match part {
+            Part::Literal(literal) => text.push_str(literal)?,
+            Part::Backslash(character) => text.push(*character)?,
+            Part::Variable(_) | Part::Indexed(_, _) | Part::Bracket(_) => return Ok(false),
+        }
+    }
+    Ok(true)
+}
+
 /// The text of a word, where it has no substitution.
 fn word_text(alloc: Global, word: &Word<&str>) -> Result<Option<String>, AllocError> {
     let mut text = String::new(alloc);
-    for part in &word.parts {
-        match part {
-            Part::Literal(literal) => text.push_str(literal)?,
-            Part::Braced(inside) => push_braced_text(&mut text, inside)?,
-            Part::Backslash(character) => text.push(*character)?,
-            Part::Variable(_) | Part::Indexed(_, _) | Part::Bracket(_) => return Ok(None),
+    let is_text = match &word.content {
+        WordContent::Bare(literal) => {
+            text.push_str(literal)?;
+            true
         }
-    }
-    Ok(Some(text))
+        WordContent::Braced(inside) => {
+            push_braced_text(&mut text, inside)?;
+            true
+        }
+        WordContent::Parts(parts) => push_parts(&mut text, parts)?,
+    };
+    Ok(if is_text { Some(text) } else { None })
 }
 
 /// Adds a command: its byte offset and its words.

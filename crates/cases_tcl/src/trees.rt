@@ -6,11 +6,11 @@ use tcltext::{
     parse_script,
 };
 
-/// Adds the parts of a word, after `*` where its list is expanded.
+/// Adds what a word is made of, after `*` where its list is expanded.
 fn push_word<P: Debug>(alloc: Global, line: &mut String, word: &Word<P>) -> Option<()> {
     let mark = if word.expands { "*" } else { "" };
-    let parts = &word.parts;
-    line.push_str(&format!(in alloc; " {mark}{parts:?}").ok()?)
+    let content = &word.content;
+    line.push_str(&format!(in alloc; " {mark}{content:?}").ok()?)
         .ok()
 }
 

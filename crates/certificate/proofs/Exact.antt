@@ -7,8 +7,8 @@ use Rattle.std.proofs.lemmas.Bool.{false≢true, eqb-true, eq-eqb, and_parts, an
 use Rattle.envvars.specs.Texts.{Text}
 use Rattle.envvars.specs.Fields.{colon}
 use Rattle.envvars.proofs.TextLemmas.{same_text, bytes_eq-same}
-use Rattle.modulerecords.specs.Records.{Record}
-use Rattle.modulerecords.specs.Moves.{Module}
+use Rattle.reversal.specs.Records.{Record}
+use Rattle.reversal.specs.Moves.{Module}
 use Rattle.reversal.specs.VariableUses.{VariableUse, Untouched, Fixed, Pathed, Stacked, is_reversible}
 use Rattle.certificate.specs.RecordUses.{UsedVariable, used_by, IsAmong, Uses, modulepath, AreInStep, IsInStep, same_use, use_alike, are_in_step, is_in_step}
 use Rattle.certificate.specs.Clashes.{exclude, uses_clash, Clash, do_clash}

@@ -1,4 +1,5 @@
-mod UsedLemmas
+mod UseLemmas
+pub mod UsedLemmas
 mod RecordLemmas
 mod OneUse
 mod Exact

@@ -5,11 +5,11 @@ use Rattle.envvars.specs.Texts.{Text}
 use Rattle.envvars.specs.Environment.{Environment, lookup}
 use Rattle.envpaths.specs.PathOrder.{IsPathInOrder}
 use Rattle.envstacks.specs.StackVariables.{IsStackInOrder}
-use Rattle.envloaded.specs.Loaded.{Entry, names_of, loaded_in, AreLoadedInOrder}
+use Rattle.envstate.specs.Loaded.{Entry, names_of, loaded_in, AreLoadedInOrder}
 use Rattle.envstate.specs.Roles.{is_editable}
 use Rattle.envstate.specs.EnvLaws.{AreSound}
 use Rattle.envstate.proofs.StateLemmas.{list_in_order}
-use Rattle.modulerecords.specs.Moves.{Module}
+use Rattle.reversal.specs.Moves.{Module}
 use Rattle.reversal.specs.VariableUses.{VariableUse, Untouched, Fixed, Pathed, Stacked}
 use Rattle.reversal.specs.Live.{entries_over}
 use Rattle.reversal.specs.Starts.{HasVariable, IsInOrder, IsStart, IsStartWith}

@@ -14,14 +14,14 @@ use Rattle.envstacks.specs.Stacks.{OwnedValue, StackState, has_owner, visible, p
 use Rattle.envstacks.specs.StackTexts.{items_in}
 use Rattle.envstacks.specs.StackVariables.{stack_in, stack_from, IsStackInOrder}
 use Rattle.envstacks.proofs.StackAfter.{stack_after_push, stack_after_pop}
-use Rattle.envloaded.specs.Loaded.{names_of}
+use Rattle.envstate.specs.Loaded.{names_of}
 use Rattle.envstate.specs.Roles.{is_editable}
 use Rattle.envstate.proofs.RoleLemmas.{no_reason_against}
 use Rattle.envstate.proofs.FrameLemmas.{set_edits, path_edits_variable}
 use Rattle.envstate.proofs.StateLemmas.{list_in_order}
-use Rattle.modulerecords.specs.Records.{Record, Set, Push}
-use Rattle.modulerecords.specs.Judgments.{RecordReason, bad_edit, value_reason, record_reason}
-use Rattle.modulerecords.specs.Effects.{Mode, load, unload, edited, edit_outcome, permitted, effect, effects, and_then}
+use Rattle.reversal.specs.Records.{Record, Set, Push}
+use Rattle.reversal.specs.Judgments.{RecordReason, bad_edit, value_reason, record_reason}
+use Rattle.reversal.specs.Effects.{Mode, load, unload, edited, edit_outcome, permitted, effect, effects, and_then}
 use Rattle.certificate.specs.Examples.{SetAndPushLeaveValue}
 
 abbrev accepted : Environment → Result Environment EnvReason

@@ -7,8 +7,8 @@ use Rattle.std.proofs.lemmas.Bool.{false≢true}
 use Rattle.envvars.specs.Texts.{Text}
 use Rattle.envvars.proofs.TextLemmas.{same_text}
 use Rattle.envvars.proofs.EditLemmas.{both_true}
-use Rattle.modulerecords.specs.Records.{Record, Set, Unset, Push, Front, Back, Remove, Conflict, Prereq, Whatis}
-use Rattle.modulerecords.specs.Moves.{Module}
+use Rattle.reversal.specs.Records.{Record, Set, Unset, Push, Front, Back, Remove, Conflict, Prereq, Whatis}
+use Rattle.reversal.specs.Moves.{Module}
 use Rattle.reversal.specs.VariableUses.{VariableUse, Fixed, Pathed, Stacked, is_reversible, FollowsUse, AllFollowUses}
 use Rattle.reversal.specs.Live.{set_by, last_set, live_set, adds_by, adds, live_adds, push_by, last_push, with_push, live_pushes}
 use Rattle.certificate.specs.RecordUses.{UsedVariable, use_by, used_by, used_by_modules, IsAmong, Uses}

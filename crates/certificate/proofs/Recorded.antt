@@ -3,13 +3,13 @@ use Rattle.std.proofs.Common.{◌≡◌, Bool, true, false, cond, not, ◌||◌,
 use Rattle.std.specs.Prelude.{bytes_eq}
 use Rattle.std.specs.List.{list_any}
 use Rattle.std.proofs.lemmas.List.Folds.{list_any-append}
-use Rattle.modulename.specs.ModuleName.{means}
+use Rattle.reversal.specs.ModuleName.{means}
 use Rattle.envvars.specs.Texts.{Text}
 use Rattle.envvars.specs.Fields.{without, without_repeats}
 use Rattle.envvars.proofs.TextLemmas.{same_text, or_left, or_right}
-use Rattle.envloaded.specs.Loaded.{Entry}
-use Rattle.modulerecords.specs.Records.{conflict_names}
-use Rattle.modulerecords.specs.Moves.{Module, entry_of}
+use Rattle.envstate.specs.Loaded.{Entry}
+use Rattle.reversal.specs.Records.{conflict_names}
+use Rattle.reversal.specs.Moves.{Module, entry_of}
 use Rattle.reversal.specs.Live.{entries_over}
 use Rattle.certificate.specs.RecordUses.{IsAmong}
 use Rattle.certificate.specs.Clashes.{names_in_conflict, in_conflict, in_conflict_with_entry}

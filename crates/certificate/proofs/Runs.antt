@@ -4,9 +4,9 @@ use Rattle.std.specs.Prelude.{bytes_eq}
 use Rattle.std.proofs.lemmas.Option.{same_Some}
 use Rattle.envvars.specs.Texts.{Text, has}
 use Rattle.envvars.specs.Environment.{Environment}
-use Rattle.envloaded.specs.Loaded.{Entry, names_of, loaded_in}
+use Rattle.envstate.specs.Loaded.{Entry, names_of, loaded_in}
 use Rattle.envstate.proofs.StateLemmas.{list_in_order}
-use Rattle.modulerecords.specs.Moves.{Module, Move, Loads, Unloads, Fits, moved, MovesReach}
+use Rattle.reversal.specs.Moves.{Module, Move, Loads, Unloads, Fits, moved, MovesReach}
 use Rattle.reversal.specs.VariableUses.{VariableUse}
 use Rattle.reversal.specs.Live.{entries_over}
 use Rattle.reversal.specs.Runs.{without_live, live_after, Undoes}

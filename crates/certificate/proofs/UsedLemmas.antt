@@ -5,8 +5,8 @@ use Rattle.std.specs.List.{cons_option}
 use Rattle.std.proofs.lemmas.Bool.{false≢true}
 use Rattle.envvars.specs.Texts.{Text}
 use Rattle.envvars.proofs.TextLemmas.{same_text, bytes_eq-same}
-use Rattle.modulerecords.specs.Records.{Record}
-use Rattle.modulerecords.specs.Moves.{Module}
+use Rattle.reversal.specs.Records.{Record}
+use Rattle.reversal.specs.Moves.{Module}
 use Rattle.reversal.specs.VariableUses.{VariableUse, Untouched}
 use Rattle.certificate.specs.RecordUses.{UsedVariable, use_by, used_by, used_by_modules, IsAmong, Uses, first_use}
 

@@ -3,7 +3,7 @@ use Rattle.std.proofs.Common.{◌≡◌, inl, inr, ℕ, true, false, ◌||◌, L
 use Rattle.std.specs.Prelude.{bytes_eq, unwrap_or}
 use Rattle.std.specs.List.{list_all}
 use Rattle.std.proofs.lemmas.List.{map_push}
-use Rattle.modulename.specs.ModuleName.{is_module_name}
+use Rattle.reversal.specs.ModuleName.{is_module_name}
 use Rattle.envvars.specs.Texts.{Text, has}
 use Rattle.envvars.specs.Names.{share_name, stack_name}
 use Rattle.envvars.specs.Environment.{Environment, lookup}
@@ -18,9 +18,9 @@ use Rattle.envstacks.specs.StackTexts.{items_in}
 use Rattle.envstacks.specs.StackRuns.{start_with_pushes}
 use Rattle.envstacks.specs.StackVariables.{stack_in, stack_from, IsStackInOrder}
 use Rattle.envstacks.proofs.StackInOrder.{order_of_more}
-use Rattle.envloaded.specs.Loaded.{Entry, names_of}
+use Rattle.envstate.specs.Loaded.{Entry, names_of}
 use Rattle.envstate.proofs.StateLemmas.{one_path, one_stack}
-use Rattle.modulerecords.specs.Moves.{Module, entry_of}
+use Rattle.reversal.specs.Moves.{Module, entry_of}
 use Rattle.reversal.specs.VariableUses.{VariableUse, Untouched, Fixed, Pathed, Stacked}
 use Rattle.reversal.specs.Live.{live_adds, live_pushes, entries_over}
 use Rattle.reversal.specs.Starts.{HasValue, IsPermutation, none, next, swap, transitive, HasVariable}

@@ -6,8 +6,8 @@ use Rattle.envvars.specs.Texts.{Text, has}
 use Rattle.envvars.specs.Environment.{Environment, lookup}
 use Rattle.envpaths.specs.PathOrder.{IsPathInOrder}
 use Rattle.envstacks.specs.StackVariables.{IsStackInOrder}
-use Rattle.envloaded.specs.Loaded.{Entry, names_of, loaded_in, AreLoadedInOrder}
-use Rattle.modulerecords.specs.Moves.{Module}
+use Rattle.envstate.specs.Loaded.{Entry, names_of, loaded_in, AreLoadedInOrder}
+use Rattle.reversal.specs.Moves.{Module}
 use Rattle.reversal.specs.VariableUses.{VariableUse, Untouched, Fixed, Pathed, Stacked}
 use Rattle.certificate.specs.RecordUses.{UsedVariable, used_by_modules, IsAmong, IsInStep, is_in_step}
 use Rattle.certificate.specs.Clashes.{Clash, do_clash}

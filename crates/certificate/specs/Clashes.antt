@@ -2,11 +2,11 @@
 use Rattle.std.specs.Prelude.{◌≡◌, Bool, true, false, not, ◌&&◌, ◌||◌, ◌==◌, bytes_eq}
 use Rattle.std.specs.List.{list_any}
 use Rattle.std.specs.Option.{option_eq}
-use Rattle.modulename.specs.ModuleName.{means}
+use Rattle.reversal.specs.ModuleName.{means}
 use Rattle.envvars.specs.Texts.{Text}
-use Rattle.envloaded.specs.Loaded.{Entry}
-use Rattle.modulerecords.specs.Records.{conflict_names}
-use Rattle.modulerecords.specs.Moves.{Module}
+use Rattle.envstate.specs.Loaded.{Entry}
+use Rattle.reversal.specs.Records.{conflict_names}
+use Rattle.reversal.specs.Moves.{Module}
 use Rattle.reversal.specs.VariableUses.{VariableUse, Fixed, Pathed, Stacked}
 use Rattle.certificate.specs.RecordUses.{used_by, Uses}
 

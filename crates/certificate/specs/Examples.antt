@@ -4,8 +4,8 @@ use Rattle.std.specs.Prelude.{◌≡◌, true, List, [], ◌∷◌, ◌++◌, co
 use Rattle.envvars.specs.Texts.{Text}
 use Rattle.envvars.specs.Environment.{Environment, lookup}
 use Rattle.envvars.specs.Fields.{colon}
-use Rattle.modulerecords.specs.Records.{Record, Set, Unset, Push, Front, Back, Remove, Conflict}
-use Rattle.modulerecords.specs.Moves.{Module, Move, Loads, Unloads, MovesReach}
+use Rattle.reversal.specs.Records.{Record, Set, Unset, Push, Front, Back, Remove, Conflict}
+use Rattle.reversal.specs.Moves.{Module, Move, Loads, Unloads, MovesReach}
 use Rattle.reversal.specs.VariableUses.{VariableUse}
 use Rattle.reversal.specs.Starts.{IsStartWith}
 use Rattle.reversal.specs.Runs.{live_after}

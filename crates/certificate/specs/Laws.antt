@@ -2,8 +2,8 @@
 use Rattle.std.specs.Prelude.{◌≡◌, false, ◌↔◌, List, [], ◌∷◌, ◌++◌}
 use Rattle.std.specs.List.{list_any}
 use Rattle.envvars.specs.Environment.{Environment}
-use Rattle.envloaded.specs.Loaded.{Entry}
-use Rattle.modulerecords.specs.Moves.{Module, Move, Loads, Unloads, MovesReach}
+use Rattle.envstate.specs.Loaded.{Entry}
+use Rattle.reversal.specs.Moves.{Module, Move, Loads, Unloads, MovesReach}
 use Rattle.reversal.specs.Live.{entries_over}
 use Rattle.reversal.specs.Starts.{IsInOrder, IsStartWith}
 use Rattle.reversal.specs.Runs.{without_live, live_after, Undoes}

@@ -3,3 +3,4 @@ pub mod Clashes
 pub mod Certificates
 pub mod Laws
 pub mod Examples
+pub mod UseViews

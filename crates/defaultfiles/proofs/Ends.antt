@@ -1,7 +1,7 @@
 -- What is left at the end of an evaluation by the program.
 use Rattle.std.proofs.Common.{◌≡◌, false, [], ◌∷◌, Some, None, Ok, Err, refl, sym, ap}
 use Rattle.std.specs.Prelude.{codes}
-use Rattle.modulename.specs.ModuleName.{Text}
+use Rattle.search.specs.ModuleName.{Text}
 use Rattle.tclrules.specs.Oracle.{Trace}
 use Rattle.tclrules.specs.Derivation.{EvaluationOutcome}
 use Rattle.tclrules.specs.Variables.{Variables, lookup}

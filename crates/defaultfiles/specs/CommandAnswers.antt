@@ -2,7 +2,7 @@
 use Rattle.std.specs.Prelude.{false, List, [], None, map, string_bytes, vec_items, String}
 use Rattle.std.specs.declared.vec.Vec.{Vec}
 use Rattle.std.specs.declared.alloc.Global.{Global}
-use Rattle.modulename.specs.ModuleName.{Text}
+use Rattle.search.specs.ModuleName.{Text}
 use Rattle.tclrules.specs.Oracle.{OracleAnswer, Nothing, NewRecord, Done, Unknown, LeftOut, Refused}
 use Rattle.defaultfiles.specs.declared.command_answers.CommandAnswer.{CommandAnswer}
 use Rattle.defaultfiles.specs.declared.command_answers.CommandAnswer.TheVariants as command_answers

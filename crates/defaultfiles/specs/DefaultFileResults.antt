@@ -1,6 +1,6 @@
 -- The result of a default file (modulefile(5), module-version), by its evaluation as Tcl (Tcl(n)).
 use Rattle.std.specs.Prelude.{◌≡◌, false, List, [], ◌∷◌, codes, bytes_eq, if◌then◌else◌, Option, Some, None}
-use Rattle.modulename.specs.ModuleName.{Text}
+use Rattle.search.specs.ModuleName.{Text}
 use Rattle.tclrules.specs.Oracle.{Oracle, Trace, OracleAnswer, Nothing, NewRecord, Done, Unknown, LeftOut, Refused}
 use Rattle.tclrules.specs.Derivation.{EvaluationOutcome, Ended, Halted, World}
 use Rattle.tclrules.specs.Variables.{lookup}

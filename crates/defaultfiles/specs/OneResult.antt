@@ -1,6 +1,6 @@
 -- A default file has one result, since its evaluation has one outcome (own).
 use Rattle.std.proofs.Common.{◌≡◌, Option, ◌∙◌, sym, subst}
-use Rattle.modulename.specs.ModuleName.{Text}
+use Rattle.search.specs.ModuleName.{Text}
 use Rattle.tclrules.specs.Derivation.{World}
 use Rattle.tclrules.specs.declared.limits.Limits.{Limits}
 use Rattle.tclrules.proofs.Outcomes.{one_outcome}

@@ -1,6 +1,6 @@
 //! Laws of default files. Each function does nothing: its contract is the law.
 ghost use Rattle.std.specs.Prelude.{◌≡◌, Option};
-ghost use Rattle.modulename.specs.ModuleName.{Text};
+ghost use Rattle.search.specs.ModuleName.{Text};
 ghost use Rattle.tclrules.specs.declared.limits.Limits.{Limits};
 ghost use Rattle.search.specs.DefaultFiles.{DefaultFileResult};
 ghost use Rattle.defaultfiles.specs.DefaultFileResults.{HasResult};

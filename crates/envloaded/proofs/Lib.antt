@@ -1,4 +1,5 @@
 pub mod Copies
+pub mod ElementLemmas
 pub mod LoadedReading
 pub mod LoadedWriting
 pub mod LoadedAgain

@@ -1,4 +1,5 @@
 pub mod LoadedTexts
+pub mod ElementTexts
 pub mod Loaded
 pub mod LoadedEntries
 pub mod LoadedLaws

@@ -1,18 +1,20 @@
 //! Adding a module to the loaded ones and dropping one, and the four texts that the list is written as.
-ghost use Rattle.std.specs.Prelude.{◌≡◌, ◌&&◌, ◌++◌, [], ◌∷◌, not, map, bytes_eq, string_bytes, OnOk, OnErr, IfOk, IfErr};
+ghost use Rattle.std.specs.Prelude.{◌≡◌, ◌&&◌, ◌++◌, [], ◌∷◌, Some, not, map, flat_map, bytes_eq, string_bytes, OnOk, OnErr, IfOk, IfErr};
 ghost use Rattle.std.specs.List.{list_any, list_all};
 ghost use Rattle.std.specs.Option.{option_map};
 ghost use Rattle.modulename.specs.ModuleName.{is_module_name};
 ghost use Rattle.envvars.specs.Changes.{new_value_of};
+ghost use Rattle.envvars.specs.Fields.{ampersand, without_repeats};
 ghost use Rattle.envloaded.specs.LoadedTexts.{element_of, group_text};
-ghost use Rattle.envloaded.specs.Loaded.{names_text, files_text, conflict_elements, conflicts_text, prereq_elements, prereqs_text, loaded_changes, with_loaded, is_path, is_group, is_entry, can_be_added, with_conflicts_once, added_loaded, dropped_loaded};
+ghost use Rattle.envloaded.specs.ElementTexts.{before_element, with_elements};
+ghost use Rattle.envloaded.specs.Loaded.{names_text, files_text, conflict_elements, conflicts_text, prereq_elements, prereqs_text, loaded_changes, with_loaded, is_path, is_group, is_entry, can_be_added, with_conflicts_once, added_to, added_loaded, without_entry, dropped_from, dropped_loaded};
 ghost use Rattle.envloaded.specs.LoadedEntries.{entry_view};
 ghost use Rattle.envvars.specs.Texts.{texts_in};
 ghost use Rattle.envvars.specs.Reasons.{Edits};
 ghost use Rattle.envvars.specs.declared.fault.EnvFault.TheVariants.{OutOfMemory};
 
 use crate::entry::Loaded;
-use crate::list::{CONFLICTS, FILES, NAMES, PREREQS, loaded};
+use crate::list::{CONFLICTS, FILES, NAMES, PREREQS, copy_of, loaded};
 use envvars::fields::{deduplicated, join, owned, slices, text_of_elements};
 use envvars::{Change, EnvFault, Vars, push_change};
 use modulename::is_module_name;
@@ -22,7 +24,7 @@ use std::alloc::{AllocError, Global};
 fn names_text(alloc: Global, list: &[Loaded]) -> Result<Option<String>, AllocError>
     ensures { IfOk result (λ t. option_map string_bytes t ≡ names_text (map entry_view list.now)) }
 {
-    let mut names = Vec::new(alloc);
+    let mut names = Vec::with_capacity(alloc, list.len())?;
     for entry in list {
         names.push(entry.name.as_str())?;
     }
@@ -33,7 +35,7 @@ fn names_text(alloc: Global, list: &[Loaded]) -> Result<Option<String>, AllocErr
 fn files_text(alloc: Global, list: &[Loaded]) -> Result<Option<String>, AllocError>
     ensures { IfOk result (λ t. option_map string_bytes t ≡ files_text (map entry_view list.now)) }
 {
-    let mut files = Vec::new(alloc);
+    let mut files = Vec::with_capacity(alloc, list.len())?;
     for entry in list {
         files.push(entry.path.as_str())?;
     }
@@ -49,32 +51,58 @@ fn element(alloc: Global, name: &str, words: &[String]) -> Result<String, AllocE
     join(alloc, parts.as_slice(), '&')
 }
 
-/// Appends the element of a module's conflicts, if it has some.
-fn push_conflicts(
+/// The text that an element is appended to: an empty one, or the text so far and a colon.
+fn before_element(alloc: Global, text: Option<String>) -> Result<String, AllocError>
+    ensures { IfOk result (λ t. string_bytes t ≡ before_element (option_map string_bytes text)) }
+{
+    match text {
+        None => Ok(String::new(alloc)),
+        Some(mut text) => {
+            text.push(':')?;
+            Ok(text)
+        }
+    }
+}
+
+/// Appends words, with `&` before each.
+fn push_words(text: &mut String, words: &[String]) -> Result<(), AllocError>
+    ensures { OnOk result (string_bytes text.new
+        ≡ string_bytes text.old ++ flat_map (λ word. ampersand ∷ string_bytes word) words.now) }
+{
+    for word in words {
+        text.push('&')?;
+        text.push_str(word.as_str())?;
+    }
+    Ok(())
+}
+
+/// The text with the element of a module's conflicts, if it has some.
+fn with_conflicts(
     alloc: Global,
-    elements: &mut Vec<String>,
+    text: Option<String>,
     entry: &Loaded,
-) -> Result<(), AllocError>
-    ensures { OnOk result (texts_in elements.new
-        ≡ texts_in elements.old ++ conflict_elements (entry_view entry.now ∷ [])) }
+) -> Result<Option<String>, AllocError>
+    ensures { IfOk result (λ t. option_map string_bytes t
+        ≡ with_elements (option_map string_bytes text) (conflict_elements (entry_view entry.now ∷ []))) }
 {
     if entry.conflicts.is_empty() {
-        return Ok(());
+        return Ok(text);
     }
-    elements.push(element(alloc, entry.name.as_str(), entry.conflicts.as_slice())?)?;
-    Ok(())
+    let mut text = before_element(alloc, text)?;
+    text.push_str(entry.name.as_str())?;
+    push_words(&mut text, entry.conflicts.as_slice())?;
+    Ok(Some(text))
 }
 
 /// The text of `__MODULES_LMCONFLICT`: an element for each module with conflicts; none where no module has one.
 fn conflicts_text(alloc: Global, list: &[Loaded]) -> Result<Option<String>, AllocError>
     ensures { IfOk result (λ t. option_map string_bytes t ≡ conflicts_text (map entry_view list.now)) }
 {
-    let mut elements = Vec::new(alloc);
+    let mut text = None;
     for entry in list {
-        push_conflicts(alloc, &mut elements, entry)?;
+        text = with_conflicts(alloc, text, entry)?;
     }
-    let elements = slices(alloc, elements.as_slice())?;
-    text_of_elements(alloc, elements.as_slice())
+    Ok(text)
 }
 
 /// The text of a group of names, with `|` between them.
@@ -207,19 +235,81 @@ fn can_be_added(list: &[Loaded], entry: &Loaded) -> bool
     is_entry(entry) && !is_loaded(list, entry.name.as_str())
 }
 
-/// A copy of the entry, without repeated conflicts.
-#[tactic(auto, using(crate::proofs::Copies::groups_copied))]
-fn with_conflicts_once(alloc: Global, entry: &Loaded) -> Result<Loaded, AllocError>
-    ensures { IfOk result (λ x. entry_view x ≡ with_conflicts_once (entry_view entry.now)) }
+/// The names, each once.
+fn once(alloc: Global, names: Vec<String>) -> Result<Vec<String>, AllocError>
+    ensures { IfOk result (λ v. texts_in v ≡ without_repeats (texts_in names)) }
 {
-    let conflicts = slices(alloc, entry.conflicts.as_slice())?;
-    let conflicts = deduplicated(alloc, conflicts.as_slice())?;
+    if names.len() < 2 {
+        return Ok(names);
+    }
+    let all = slices(alloc, names.as_slice())?;
+    let firsts = deduplicated(alloc, all.as_slice())?;
+    owned(alloc, firsts.as_slice())
+}
+
+/// The entry without repeated conflicts.
+fn with_conflicts_once(alloc: Global, entry: Loaded) -> Result<Loaded, AllocError>
+    ensures { IfOk result (λ x. entry_view x ≡ with_conflicts_once (entry_view entry)) }
+{
+    let Loaded {
+        name,
+        path,
+        conflicts,
+        prereqs,
+    } = entry;
     Ok(Loaded {
-        name: entry.name.clone()?,
-        path: entry.path.clone()?,
-        conflicts: owned(alloc, conflicts.as_slice())?,
-        prereqs: entry.prereqs.clone()?,
+        name,
+        path,
+        conflicts: once(alloc, conflicts)?,
+        prereqs,
     })
+}
+
+/// Adds a module after those of the list, and writes the four variables. A conflict that the entry has twice is written
+/// once.
+///
+/// The error is `Inconsistent` where the entry can't be written: its module is in the list, a name in it is ill spelled,
+/// its path is empty or holds a colon, or one of its groups has no names; or it is `OutOfMemory`. After an error the
+/// environment is unchanged, and the list may have the entry.
+pub fn add_to_list<V: Vars>(
+    alloc: Global,
+    env: &mut V,
+    list: &mut Vec<Loaded>,
+    entry: Loaded,
+) -> Result<(), EnvFault>
+    ensures edits { Edits result (V.vars env.old) (V.vars env.new)
+        (added_to (V.vars env.old) (entry_view entry) (Some (map entry_view list.old.items))) }
+    ensures list { OnOk result (map entry_view list.new.items
+        ≡ map entry_view list.old.items ++ with_conflicts_once (entry_view entry) ∷ []) }
+    ensures base { V.base env.new ≡ V.base env.old }
+{
+    if !can_be_added(list.as_slice(), &entry) {
+        return Err(EnvFault::Inconsistent);
+    }
+    list.push(with_conflicts_once(alloc, entry)?)?;
+    write(alloc, env, list.as_slice())
+}
+
+/// Drops a module from the list, and writes the four variables. Where it isn't in the list, nothing changes.
+///
+/// The only error is `OutOfMemory`. After an error the environment is unchanged, and the list may have lost the module.
+pub fn drop_from_list<V: Vars>(
+    alloc: Global,
+    env: &mut V,
+    list: &mut Vec<Loaded>,
+    name: &str,
+) -> Result<(), EnvFault>
+    ensures edits { Edits result (V.vars env.old) (V.vars env.new)
+        (dropped_from (V.vars env.old) name.now (Some (map entry_view list.old.items))) }
+    ensures list { OnOk result (map entry_view list.new.items
+        ≡ without_entry name.now (map entry_view list.old.items)) }
+    ensures base { V.base env.new ≡ V.base env.old }
+{
+    if !is_loaded(list.as_slice(), name) {
+        return Ok(());
+    }
+    list.retain(|entry| entry.name.as_str() != name);
+    write(alloc, env, list.as_slice())
 }
 
 /// Adds a module after the loaded ones, and writes the four variables. A conflict that the entry has twice is written
@@ -234,11 +324,7 @@ pub fn add_loaded<V: Vars>(alloc: Global, env: &mut V, entry: &Loaded) -> Result
     ensures base { V.base env.new ≡ V.base env.old }
 {
     let mut list = loaded(alloc, env)?;
-    if !can_be_added(list.as_slice(), entry) {
-        return Err(EnvFault::Inconsistent);
-    }
-    list.push(with_conflicts_once(alloc, entry)?)?;
-    write(alloc, env, list.as_slice())
+    add_to_list(alloc, env, &mut list, copy_of(alloc, entry)?)
 }
 
 /// Drops a module from the loaded ones, and writes the four variables. Where it isn't loaded, nothing changes.
@@ -250,9 +336,5 @@ pub fn drop_loaded<V: Vars>(alloc: Global, env: &mut V, name: &str) -> Result<()
     ensures base { V.base env.new ≡ V.base env.old }
 {
     let mut list = loaded(alloc, env)?;
-    if !is_loaded(list.as_slice(), name) {
-        return Ok(());
-    }
-    list.retain(|entry| entry.name.as_str() != name);
-    write(alloc, env, list.as_slice())
+    drop_from_list(alloc, env, &mut list, name)
 }

@@ -8,6 +8,6 @@ mod entry;
 pub mod laws;
 mod list;
 
-pub use edits::{add_loaded, drop_loaded};
+pub use edits::{add_loaded, add_to_list, drop_from_list, drop_loaded};
 pub use entry::Loaded;
-pub use list::{conflicts_of, loaded, prereqs_of};
+pub use list::{conflicts_of, copy_list, loaded, prereqs_of};

@@ -257,6 +257,30 @@ pub fn loaded<V: Vars>(alloc: Global, env: &V) -> Result<Vec<Loaded>, EnvFault>
     Ok(entries)
 }
 
+/// A copy of the entry.
+#[tactic(auto, using(crate::proofs::Copies::names_copied, crate::proofs::Copies::groups_copied))]
+pub(crate) fn copy_of(alloc: Global, entry: &Loaded) -> Result<Loaded, AllocError>
+    ensures { IfOk result (λ x. entry_view x ≡ entry_view entry.now) }
+{
+    Ok(Loaded {
+        name: String::from_str(alloc, entry.name.as_str())?,
+        path: String::from_str(alloc, entry.path.as_str())?,
+        conflicts: entry.conflicts.clone()?,
+        prereqs: entry.prereqs.clone()?,
+    })
+}
+
+/// A copy of the list.
+pub fn copy_list(alloc: Global, list: &[Loaded]) -> Result<Vec<Loaded>, AllocError>
+    ensures { IfOk result (λ v. map entry_view v.items ≡ map entry_view list.now) }
+{
+    let mut copies = Vec::new(alloc);
+    for entry in list {
+        copies.push(copy_of(alloc, entry)?)?;
+    }
+    Ok(copies)
+}
+
 /// The entry of a module; none where it isn't in the list.
 pub(crate) fn find<'a>(list: &'a [Loaded], name: &str) -> Option<&'a Loaded>
     ensures { option_map (λ x. entry_view x.now) result ≡ entry_named name.now (map entry_view list.entry.now) }

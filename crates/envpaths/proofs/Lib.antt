@@ -8,5 +8,6 @@ pub mod Examples
 pub mod PathSteps
 pub mod PathEditLemmas
 pub mod PathOrderLemmas
+pub mod UncountedLemmas
 pub mod ElementSearch
 pub mod OneElement

@@ -113,7 +113,7 @@ IsWritable-drop_all d s (x ∷ xs) w = IsWritable-drop_all d (drop s x) xs (writ
 
 -- a state in an environment
 
-share_apart : (name : Text) → bytes_eq name (share_name name) ≡ false
+pub share_apart : (name : Text) → bytes_eq name (share_name name) ≡ false
 share_apart name = apart (bytes_eq name (share_name name)) refl
   where
     apart : (b : Bool) → bytes_eq name (share_name name) ≡ b → b ≡ false

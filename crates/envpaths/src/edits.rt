@@ -296,6 +296,19 @@ fn dropped(
     write_path(alloc, delim, &mut path)
 }
 
+/// Writes a variable, or unsets it where there is no text.
+fn write_one<V: Vars>(env: &mut V, var: &str, text: Option<String>) -> Result<(), EnvFault>
+    ensures ok { OnOk result (V.vars env.new ≡ with_value (V.vars env.old) var.now (option_map string_bytes text)) }
+    ensures err { OnErr result (V.vars env.new ≡ V.vars env.old) }
+    ensures only { IfErr result (λ e. e ≡ OutOfMemory) }
+    ensures base { V.base env.new ≡ V.base env.old }
+{
+    match text {
+        Some(text) => env.set(var, text.as_str()),
+        None => env.unset(var),
+    }
+}
+
 /// Writes a path variable and its counters; neither where memory is refused.
 fn write_both<V: Vars>(
     alloc: Global,
@@ -311,9 +324,13 @@ fn write_both<V: Vars>(
     ensures only { IfErr result (λ e. e ≡ OutOfMemory) }
     ensures base { V.base env.new ≡ V.base env.old }
 {
+    let PathTexts { elements, counters } = texts;
+    if counters.is_none() && env.get(share).is_none() {
+        return write_one(env, var, elements);
+    }
     let mut changes = Vec::new(alloc);
-    push_change(alloc, &mut changes, var, texts.elements)?;
-    push_change(alloc, &mut changes, share, texts.counters)?;
+    push_change(alloc, &mut changes, var, elements)?;
+    push_change(alloc, &mut changes, share, counters)?;
     env.apply(changes)
 }
 

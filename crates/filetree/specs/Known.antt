@@ -1,13 +1,15 @@
 -- What is known of a path, as what it says of the pairs of maps that agree. For this crate's own contracts alone.
-use Rattle.std.specs.Prelude.{◌≡◌, refl, ℕ, Bool, true, false, List, map, Option, Some, None, string_bytes, vec_items}
+use Rattle.std.specs.Prelude.{◌≡◌, refl, ℕ, Bool, true, false, List, Option, Some, None, string_bytes, vec_items}
 use Rattle.filetree.specs.Agreement.{HaveSamePrefix}
+use Rattle.filetree.specs.Names.{names_of}
+use Rattle.filetree.specs.Prefixes.{prefix_bytes}
 use Rattle.filetree.specs.declared.known.Known.{Known}
 use Rattle.filetree.specs.declared.known.Known.TheVariants as known
 
 -- the file at the path is as is known
 abbrev pub FitsFile : Known → Option (List ℕ) → Type 0
 FitsFile known.Neither file = file ≡ None
-FitsFile (known.File prefix) file = HaveSamePrefix prefix.size file (Some (vec_items prefix.bytes))
+FitsFile (known.File prefix) file = HaveSamePrefix prefix.size file (Some (prefix_bytes prefix))
 FitsFile (known.WholeFile bytes) file = file ≡ Some (vec_items bytes)
 FitsFile known.Directory file = file ≡ None
 FitsFile (known.Listing names) file = file ≡ None
@@ -18,7 +20,7 @@ FitsListing known.Neither listing = listing ≡ None
 FitsListing (known.File prefix) listing = listing ≡ None
 FitsListing (known.WholeFile bytes) listing = listing ≡ None
 FitsListing known.Directory listing = Unit {0}
-FitsListing (known.Listing names) listing = listing ≡ Some (map string_bytes (vec_items names))
+FitsListing (known.Listing names) listing = listing ≡ Some (names_of (string_bytes names.text))
 
 -- what is at the path is as is known
 abbrev pub Fits : Known → Option (List ℕ) → Option (List (List ℕ)) → Type 0
@@ -64,7 +66,7 @@ is_unlisted (known.Listing names) = false
 -- a file that is as is known
 abbrev pub file_of : Known → Option (List ℕ)
 file_of known.Neither = None
-file_of (known.File prefix) = Some (vec_items prefix.bytes)
+file_of (known.File prefix) = Some (prefix_bytes prefix)
 file_of (known.WholeFile bytes) = Some (vec_items bytes)
 file_of known.Directory = None
 file_of (known.Listing names) = None
@@ -75,7 +77,7 @@ listing_of known.Neither = None
 listing_of (known.File prefix) = None
 listing_of (known.WholeFile bytes) = None
 listing_of known.Directory = None
-listing_of (known.Listing names) = Some (map string_bytes (vec_items names))
+listing_of (known.Listing names) = Some (names_of (string_bytes names.text))
 
 -- they fit what is known
 pub fits : (k : Known) → Fits k (file_of k) (listing_of k)

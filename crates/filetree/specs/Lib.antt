@@ -7,5 +7,7 @@ pub mod Devices
 pub mod Disk
 pub mod Known
 pub mod Modulefiles
+pub mod Names
+pub mod Prefixes
 pub mod Relations
 pub mod Utf8

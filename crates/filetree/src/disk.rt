@@ -5,8 +5,10 @@ ghost use Rattle.filetree.specs.Agreement.{FailsAt, FailsIf, Files, FailsOnlyByD
 ghost use Rattle.filetree.specs.Disk.{cached-fits, file_at, has_failed, listing_at};
 ghost use Rattle.filetree.specs.Known.{Fits, SaysNoLess, is_read_in_part, is_unlisted};
 
-use crate::known::Known;
-use crate::load::{load_file, load_listing, load_names, load_prefix, load_rest};
+use crate::known::{Known, USUAL};
+use crate::load::{
+    load_file, load_likely_directory, load_listing, load_names, load_prefix, load_rest,
+};
 use crate::tree::{Tree, TreeFault};
 use std::alloc::AllocError;
 use std::collections::HashMap;
@@ -20,6 +22,9 @@ use std::rt::Files;
 /// the path is a file; and where the path has a NUL. Any other failure is `Device`: a missing permission, a loop of
 /// symbolic links, a path that the system refuses, a directory with a name that is not UTF-8, a file or directory that
 /// is gone after its type was asked for, and a file whose first bytes are no longer those that were read before.
+///
+/// A name that begins with a point, as those of default files, is looked for in the listing of its directory where that
+/// is cached: where the listing hasn't the name, nothing is there, and the system isn't asked.
 #[derive(Drop)]
 pub struct DiskTree<R: Files + AllocGlobal + Clone + Drop> {
     rt: R,
@@ -27,6 +32,8 @@ pub struct DiskTree<R: Files + AllocGlobal + Clone + Drop> {
     known: HashMap<String, Known>,
     /// The paths at which the device failed, in the order of the failures.
     failed: Vec<String>,
+    /// How many directories were found in a row where files were asked for, at most `USUAL`.
+    directories_in_row: u8,
 }
 
 impl<R: Files + AllocGlobal + Clone + Drop> DiskTree<R> {
@@ -39,6 +46,7 @@ impl<R: Files + AllocGlobal + Clone + Drop> DiskTree<R> {
             rt,
             known: HashMap::new(alloc),
             failed: Vec::new(alloc),
+            directories_in_row: 0,
         }
     }
 
@@ -160,6 +168,31 @@ impl<R: Files + AllocGlobal + Clone + Drop> DiskTree<R> {
         }
     }
 
+    /// Whether the path has a hidden name that the directory, which was listed, hasn't.
+    fn is_hidden_and_absent(&self, path: &str) -> bool {
+        let Some((dir, name)) = path.rsplit_once('/') else {
+            return false;
+        };
+        if !name.starts_with('.') {
+            return false;
+        }
+        match self.known.get(dir) {
+            Some(listing) => listing.lacks_hidden(name),
+            None => false,
+        }
+    }
+
+    /// What is at a path of which nothing is known, of whose file the first `size` bytes are read.
+    fn load_start(&self, path: &str, size: usize) -> Result<Known, TreeFault> {
+        if self.is_hidden_and_absent(path) {
+            Ok(Known::Neither)
+        } else if self.directories_in_row == USUAL {
+            load_likely_directory(&self.rt, path, size)
+        } else {
+            load_prefix(&self.rt, path, size)
+        }
+    }
+
     /// Whether the file at the path, of which nothing is known, begins with these bytes. So many bytes are read.
     fn read_prefix(&mut self, path: &str, prefix: &[u8]) -> Result<bool, TreeFault>
         requires { get_by_text self.old.known path.now ≡ None }
@@ -171,8 +204,9 @@ impl<R: Files + AllocGlobal + Clone + Drop> DiskTree<R> {
             (has_failed self.new.failed) result (λ at. at ≡ path.now) }
         ensures cause { FailsOnlyByDevice (vec_len self.old.failed) (vec_len self.new.failed) result }
     {
-        match load_prefix(&self.rt, path, prefix.len()) {
+        match self.load_start(path, prefix.len()) {
             Ok(known) => {
+                self.directories_in_row = known.row_after(self.directories_in_row);
                 let answer = known.begins_with(prefix);
                 self.learn(path, known)?;
                 self.answer_prefix(path, prefix, answer)
@@ -217,6 +251,13 @@ impl<R: Files + AllocGlobal + Clone + Drop> Tree for DiskTree<R> {
                 let answer = known.begins_with(prefix);
                 self.answer_prefix(path, prefix, answer)
             }
+        }
+    }
+
+    fn may_list(&self, path: &str) -> bool {
+        match self.known.get(path) {
+            None => true,
+            Some(known) => known.is_directory(),
         }
     }
 

@@ -1,11 +1,14 @@
 //! What the system's answers say of a path.
-ghost use Rattle.std.specs.Prelude.{◌≡◌, List, ℕ, Option, false, IfOk, IfSome};
+ghost use Rattle.std.specs.Prelude.{◌≡◌, List, ℕ, Option, None, false, IfOk, IfSome};
 ghost use Rattle.filetree.specs.Agreement.{begins_with, file_answer, listing_answer};
 ghost use Rattle.filetree.specs.Known.{FitsFile, FitsListing, is_read_in_part, is_unlisted};
 
-use crate::memory::copy_names;
+use crate::names::Names;
 use crate::prefix::Prefix;
 use std::alloc::{AllocError, Global};
+
+/// After so many directories in a row one more is likely, as in a directory of folders with the versions of a module.
+pub(crate) const USUAL: u8 = 2;
 
 /// What is known of a path.
 #[derive(Drop)]
@@ -19,7 +22,7 @@ pub(crate) enum Known {
     /// A directory, which was not listed.
     Directory,
     /// A directory with these names.
-    Listing(Vec<String>),
+    Listing(Names),
 }
 
 impl Known {
@@ -35,6 +38,25 @@ impl Known {
         }
     }
 
+    /// Whether a directory was listed at the path that has no such name, which begins with a point.
+    pub(crate) fn lacks_hidden(&self, name: &str) -> bool {
+        match self {
+            Known::Listing(names) => !names.has_hidden(name),
+            Known::Neither | Known::File(_) | Known::WholeFile(_) | Known::Directory => false,
+        }
+    }
+
+    /// How many directories were found in a row, with this path and so many before it, at most `USUAL`.
+    pub(crate) fn row_after(&self, before: u8) -> u8 {
+        if !self.is_directory() {
+            0
+        } else if before < USUAL {
+            before + 1
+        } else {
+            before
+        }
+    }
+
     /// A copy of the bytes of the file at the path, or `None` where no file is there.
     pub(crate) fn file(&self) -> Result<Option<Vec<u8>>, AllocError>
         requires { is_read_in_part self.now ≡ false }
@@ -47,6 +69,17 @@ impl Known {
         }
     }
 
+    /// Whether a directory is at the path.
+    pub(crate) fn is_directory(&self) -> bool
+        ensures { result ≡ false → (listing : Option (List (List ℕ))) → FitsListing self.now listing
+            → listing ≡ None }
+    {
+        match self {
+            Known::Directory | Known::Listing(_) => true,
+            Known::Neither | Known::File(_) | Known::WholeFile(_) => false,
+        }
+    }
+
     /// A copy of the names in the directory at the path, or `None` where no directory is there.
     pub(crate) fn names(&self, alloc: Global) -> Result<Option<Vec<String>>, AllocError>
         requires { is_unlisted self.now ≡ false }
@@ -54,7 +87,7 @@ impl Known {
             → listing ≡ listing_answer answer) }
     {
         match self {
-            Known::Listing(names) => Ok(Some(copy_names(alloc, names)?)),
+            Known::Listing(names) => Ok(Some(names.copies(alloc)?)),
             Known::Directory | Known::Neither | Known::File(_) | Known::WholeFile(_) => Ok(None),
         }
     }

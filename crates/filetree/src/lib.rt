@@ -11,6 +11,7 @@ mod load;
 mod look;
 mod memory;
 mod modulefile;
+mod names;
 mod prefix;
 mod tree;
 

@@ -5,12 +5,11 @@ ghost use Rattle.filetree.specs.Known.{SaysNoLess, has_directory, has_file, is_r
 
 use crate::known::Known;
 use crate::look::{PathKind, look};
-use crate::prefix::{Prefix, first_bytes, has_same_prefix};
+use crate::names::list;
+use crate::prefix::{MOST, Prefix, first_bytes, has_same_prefix};
 use crate::tree::TreeFault;
-use modulename::version_order;
-use std::io::Read;
+use std::fs;
 use std::rt::Files;
-use std::{fs, io};
 
 /// What is at a path where this is, whose file is read whole. Only a file is opened, since opening a pipe or a device
 /// can wait without end.
@@ -57,7 +56,8 @@ pub(crate) fn load_rest<R: Files + AllocGlobal>(
     }
 }
 
-/// What is at a path where this is, of whose file the first `size` bytes are read.
+/// What is at a path where this is, of whose file the first `size` bytes are read; more than are kept as a prefix are not
+/// read without the rest.
 fn prefix_of_kind<R: Files + AllocGlobal>(
     rt: &R,
     path: &str,
@@ -68,10 +68,11 @@ fn prefix_of_kind<R: Files + AllocGlobal>(
     ensures directory { IfOk result (λ known. has_directory known ≡ is_directory path_kind) }
 {
     match path_kind {
-        PathKind::File => {
+        PathKind::File if size <= MOST => {
             let bytes = first_bytes(rt.alloc(), fs::open(rt, path)?, size)?;
-            Ok(Known::File(Prefix { size, bytes }))
+            Ok(Known::File(Prefix::new(size, &bytes)))
         }
+        PathKind::File => Ok(Known::WholeFile(fs::read(rt, path)?)),
         PathKind::Directory => Ok(Known::Directory),
         PathKind::Nothing | PathKind::Other => Ok(Known::Neither),
     }
@@ -87,40 +88,17 @@ pub(crate) fn load_prefix<R: Files + AllocGlobal>(
     prefix_of_kind(rt, path, path_kind, size)
 }
 
-/// How many bytes of a directory's names are read at once. A name has some hundred at most.
-const NAMES_AT_ONCE: usize = 2000;
-
-/// The names in a directory, each ended by a NUL, as one text. `fs::read_dir` would make a path of each.
-fn text_of_names<R: Files + AllocGlobal>(rt: &R, dir: &str) -> io::Result<Vec<u8>> {
-    // The slash makes the system follow a symbolic link to a directory.
-    let mut names = rt.open_dir(&format!(in rt.alloc(); "{dir}/")?)?;
-    let mut room = [0; NAMES_AT_ONCE];
-    let mut text = Vec::new(rt.alloc());
-    for _ in 0..u64::MAX {
-        let count = names.read(&mut room)?;
-        if count == 0 {
-            break;
-        }
-        text.extend_from_slice(&room[..count])?;
+/// What is at a path where a directory is likely: that is listed at once, since no other thing is opened so. Of a file
+/// the first `size` bytes are read.
+pub(crate) fn load_likely_directory<R: Files + AllocGlobal>(
+    rt: &R,
+    path: &str,
+    size: usize,
+) -> Result<Known, TreeFault> {
+    match list(rt, path) {
+        Ok(names) => Ok(Known::Listing(names)),
+        Err(_) => load_prefix(rt, path, size),
     }
-    Ok(text)
-}
-
-/// The names in a directory, hidden ones too, in version order, since whoever asks for them mostly sorts them so.
-fn names_in<R: Files + AllocGlobal>(rt: &R, dir: &str) -> io::Result<Vec<String>> {
-    let alloc = rt.alloc();
-    let bytes = text_of_names(rt, dir)?;
-    let Ok(text) = str::from_utf8(&bytes) else {
-        return Err(io::Error::from(io::ErrorKind::InvalidFilename));
-    };
-    let mut names = Vec::new(alloc);
-    for name in text.split_terminator('\0') {
-        if name != "." && name != ".." {
-            names.push(String::from_str(alloc, name)?)?;
-        }
-    }
-    names.sort_by(|left, right| version_order(left, right))?;
-    Ok(names)
 }
 
 /// The directory at a path, with its names.
@@ -128,7 +106,7 @@ pub(crate) fn load_names<R: Files + AllocGlobal>(rt: &R, dir: &str) -> Result<Kn
     ensures directory { IfOk result (λ known. SaysNoLess known Known.Directory) }
     ensures listed { IfOk result (λ known. is_unlisted known ≡ false) }
 {
-    Ok(Known::Listing(names_in(rt, dir)?))
+    Ok(Known::Listing(list(rt, dir)?))
 }
 
 /// What is at a path where this is, whose directory is listed. Of a file nothing is read.
@@ -142,11 +120,8 @@ fn listing_of_kind<R: Files + AllocGlobal>(
     ensures listed { IfOk result (λ known. is_unlisted known ≡ false) }
 {
     match path_kind {
-        PathKind::Directory => Ok(Known::Listing(names_in(rt, dir)?)),
-        PathKind::File => {
-            let bytes = Vec::new(rt.alloc());
-            Ok(Known::File(Prefix { size: 0, bytes }))
-        }
+        PathKind::Directory => Ok(Known::Listing(list(rt, dir)?)),
+        PathKind::File => Ok(Known::File(Prefix::new(0, &[]))),
         PathKind::Nothing | PathKind::Other => Ok(Known::Neither),
     }
 }

@@ -17,7 +17,7 @@ pub struct MemoryTree {
 }
 
 /// A copy of some names.
-pub(crate) fn copy_names(alloc: Global, names: &Vec<String>) -> Result<Vec<String>, AllocError>
+fn copy_names(alloc: Global, names: &Vec<String>) -> Result<Vec<String>, AllocError>
     ensures { IfOk result (λ copy. map string_bytes (vec_items copy) ≡ map string_bytes (vec_items names.now)) }
 {
     let mut copy = Vec::with_capacity(alloc, names.len())?;
@@ -28,10 +28,10 @@ pub(crate) fn copy_names(alloc: Global, names: &Vec<String>) -> Result<Vec<Strin
 }
 
 /// The same names as owned strings.
-fn own_names(alloc: Global, names: &[&str]) -> Result<Vec<String>, AllocError>
+pub(crate) fn own_names(alloc: Global, names: &[&str]) -> Result<Vec<String>, AllocError>
     ensures { IfOk result (λ copy. map string_bytes (vec_items copy) ≡ map (λ name. name.now) names.now) }
 {
-    let mut copy = Vec::new(alloc);
+    let mut copy = Vec::with_capacity(alloc, names.len())?;
     for name in names {
         copy.push(String::from_str(alloc, *name)?)?;
     }

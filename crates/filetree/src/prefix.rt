@@ -1,28 +1,56 @@
 //! The first bytes of files: read without the rest, and compared with what is read later.
 ghost use Rattle.std.specs.Prelude.{◌≡◌, Some, List, ℕ, Option, take, IfOk, IfSome, true};
 ghost use Rattle.filetree.specs.Agreement.{HaveSamePrefix, begins_with};
+ghost use Rattle.filetree.specs.Prefixes.{prefix_bytes};
 
 use std::alloc::Global;
 use std::io;
 use std::io::Read;
 
+/// How many first bytes of a file are kept, at most.
+pub(crate) const MOST: usize = 8;
+
 /// The first bytes of a file, as far as they were asked for.
 #[derive(Drop)]
 pub(crate) struct Prefix {
-    /// How many bytes were asked for.
+    /// How many bytes were asked for, at most `MOST`.
     pub(crate) size: usize,
+    /// Room for these bytes.
+    room: [u8; MOST],
     /// So many bytes, or all of a file that has fewer.
-    pub(crate) bytes: Vec<u8>,
+    count: usize,
 }
 
 impl Prefix {
+    /// A prefix of so many bytes, of which these are there.
+    pub(crate) fn new(size: usize, bytes: &[u8]) -> Prefix
+        ensures size { result.size ≡ size }
+        ensures bytes { prefix_bytes result ≡ take MOST bytes.now }
+    {
+        let kept = first(bytes, MOST);
+        let mut room = [0; MOST];
+        room[..kept.len()].copy_from_slice(kept);
+        Prefix {
+            size,
+            room,
+            count: kept.len(),
+        }
+    }
+
+    /// The bytes.
+    fn bytes(&self) -> &[u8]
+        ensures { result.now ≡ prefix_bytes self.entry.now }
+    {
+        first(&self.room, self.count)
+    }
+
     /// Whether the file begins with these bytes, or `None` where too little of it was read to say.
     pub(crate) fn begins_with(&self, prefix: &[u8]) -> Option<bool>
         ensures { IfSome result (λ answer. (file : Option (List ℕ))
-            → HaveSamePrefix self.now.size file (Some self.now.bytes.items) → begins_with prefix.now file ≡ answer) }
+            → HaveSamePrefix self.now.size file (Some (prefix_bytes self.now)) → begins_with prefix.now file ≡ answer) }
     {
         if prefix.len() <= self.size {
-            Some(self.bytes.as_slice().starts_with(prefix))
+            Some(self.bytes().starts_with(prefix))
         } else {
             None
         }
@@ -56,7 +84,7 @@ fn first(bytes: &[u8], size: usize) -> &[u8]
 
 /// Whether a file begins with the first bytes that were read before.
 pub(crate) fn has_same_prefix(bytes: &[u8], prefix: &Prefix) -> bool
-    ensures { result ≡ true → HaveSamePrefix prefix.now.size (Some bytes.now) (Some prefix.now.bytes.items) }
+    ensures { result ≡ true → HaveSamePrefix prefix.now.size (Some bytes.now) (Some (prefix_bytes prefix.now)) }
 {
-    first(bytes, prefix.size) == prefix.bytes.as_slice()
+    first(bytes, prefix.size) == prefix.bytes()
 }

@@ -1,5 +1,5 @@
 //! The trait of trees of files, with the contract of every tree, and its faults.
-ghost use Rattle.std.specs.Prelude.{◌≡◌, ℕ, Bool, true, List, Some, IfOk};
+ghost use Rattle.std.specs.Prelude.{◌≡◌, ℕ, Bool, true, false, List, None, Some, IfOk};
 ghost use Rattle.filetree.specs.declared.tree.TreeFault.TheVariants.{OutOfMemory};
 ghost use Rattle.message.specs.Messages.{text_of};
 ghost use Rattle.filetree.specs.Agreement.{FailsAt, Files, Listings, InEachPair, FailsOnlyByDevice, IsSatisfiable, begins_with, file_answer, is_device, listing_answer, tree_message, tree_number, Narrows};
@@ -106,6 +106,14 @@ pub trait Tree {
             None => Ok(false),
             Some(bytes) => Ok(bytes.as_slice().starts_with(prefix)),
         }
+    }
+
+    /// Whether a directory may be at the path: false only where the answers so far say that none is.
+    fn may_list(&self, path: &str) -> bool
+        ensures { result ≡ false → InEachPair (agrees self.now) (λ files listings. listings path.now ≡ None) }
+    {
+        let _ = path;
+        true
     }
 
     /// The names in the directory at the path, in any order, or `None` where no directory is there.

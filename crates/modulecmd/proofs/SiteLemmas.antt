@@ -3,7 +3,7 @@ use Rattle.std.proofs.Common.{◌≡◌, List, [], ◌∷◌, ◌++◌, Result, 
 use Rattle.envvars.specs.Texts.{Text}
 use Rattle.envvars.specs.Environment.{Environment}
 use Rattle.filetree.specs.Agreement.{Files, Listings}
-use Rattle.modulerecords.specs.Moves.{Module, Move, Loads, Unloads}
+use Rattle.requests.specs.Moves.{Module, Move, Loads, Unloads}
 use Rattle.shelltext.specs.Reading.{OneEffect, DifferenceMakes}
 use Rattle.reversal.specs.Runs.{live_after}
 use Rattle.reversal.specs.Laws.{Holds}
@@ -11,9 +11,9 @@ use Rattle.requests.specs.Reasons.{RequestReason}
 use Rattle.requests.specs.Requests.{Request}
 use Rattle.requests.specs.Returning.{AreNew}
 use Rattle.requests.specs.Steps.{Done, RequestStep, request_context_in}
-use Rattle.certificate.specs.RecordUses.{uses_by}
-use Rattle.certificate.specs.Certificates.{certified, certificate, AgreesWith}
-use Rattle.certificate.specs.Laws.{AreCertifiedTogether}
+use Rattle.siteaudit.specs.RecordUses.{uses_by}
+use Rattle.siteaudit.specs.Certificates.{certified, certificate, AgreesWith}
+use Rattle.siteaudit.specs.CertificateLaws.{AreCertifiedTogether}
 use Rattle.siteaudit.specs.Sites.{site_of, ArePlainModules}
 use Rattle.siteaudit.specs.Laws.{LoadsAreOf, SiteSessionsReturn, SiteCommandsReturn}
 use Rattle.modulecmd.specs.Command.{CommandResult, CommandHasResult, standard, with_shell}

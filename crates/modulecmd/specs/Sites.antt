@@ -2,12 +2,12 @@
 use Rattle.std.specs.Prelude.{List, []}
 use Rattle.envvars.specs.Environment.{Environment}
 use Rattle.filetree.specs.Agreement.{Files, Listings}
-use Rattle.modulerecords.specs.Moves.{Module}
+use Rattle.requests.specs.Moves.{Module}
 use Rattle.reversal.specs.Runs.{live_after}
 use Rattle.reversal.specs.Laws.{Holds}
 use Rattle.requests.specs.Returning.{AreNew}
-use Rattle.certificate.specs.RecordUses.{uses_by}
-use Rattle.certificate.specs.Certificates.{certified, certificate, AgreesWith}
+use Rattle.siteaudit.specs.RecordUses.{uses_by}
+use Rattle.siteaudit.specs.Certificates.{certified, certificate, AgreesWith}
 use Rattle.siteaudit.specs.Sites.{site_of, ArePlainModules}
 use Rattle.siteaudit.specs.Laws.{LoadsAreOf}
 use Rattle.modulecmd.specs.Command.{standard}

@@ -4,16 +4,16 @@ use Rattle.std.specs.Prelude.{codes}
 use Rattle.std.specs.Str.{chars}
 use Rattle.std.specs.Fmt.{digits}
 use lib.Utf8.{encode}
-use Rattle.tclchars.specs.Runs.{Text}
-use Rattle.tclchars.specs.Braces.{braced_at}
-use Rattle.tclscript.specs.ScanState.{scan}
-use Rattle.tclscript.specs.Reading.{whole_script, script_with, command_at, word_at, unexpanded_word_at, braced_word_at, quoted_word_at, quotes_at, parts_with, part_at, dollar_at, backslash_at, bracket_at, index_at, braced_name_at, after_expansion, inner_at}
-use Rattle.tclexpr.specs.Marks.{mark_at, after_white}
-use Rattle.tclexpr.specs.Operands.{operand_at, after_number, after_digits, is_truth, quoted_at, braced_text_at}
-use Rattle.tclexpr.specs.Operands as operands
-use Rattle.tclexpr.specs.Reading.{expr_at, whole_at, chain_at, climb_at, prefix_at, below_at}
-use Rattle.tclnumber.specs.Numerals.{numeral}
-use Rattle.tcllist.specs.ListReading.{list_of, list_at, element_at, piece_of, piece_at}
+use Rattle.tclrules.specs.Runs.{Text}
+use Rattle.tclrules.specs.Braces.{braced_at}
+use Rattle.tclrules.specs.ScanState.{scan}
+use Rattle.tclrules.specs.ScriptReading.{whole_script, script_with, command_at, word_at, unexpanded_word_at, braced_word_at, quoted_word_at, quotes_at, parts_with, part_at, dollar_at, backslash_at, bracket_at, index_at, braced_name_at, after_expansion, inner_at}
+use Rattle.tclrules.specs.Marks.{mark_at, after_white}
+use Rattle.tclrules.specs.Operands.{operand_at, after_number, after_digits, is_truth, quoted_at, braced_text_at}
+use Rattle.tclrules.specs.Operands as operands
+use Rattle.tclrules.specs.ExpressionReading.{expr_at, whole_at, chain_at, climb_at, prefix_at, below_at}
+use Rattle.tclrules.specs.Numerals.{numeral}
+use Rattle.tclrules.specs.ListReading.{list_of, list_at, element_at, piece_of, piece_at}
 use Rattle.tclvalue.specs.Messages as value_messages
 use Rattle.tclvalue.specs.Characters.{white_space, split_space}
 use Rattle.tclrules.specs.Messages.{no_variable, no_command, outside_loop, cannot_unset, is_array, bad_option, no_body, no_loop_variable, cannot_redefine}

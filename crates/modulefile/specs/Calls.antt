@@ -2,7 +2,7 @@
 -- its words alone.
 use Rattle.std.specs.Prelude.{ℕ, ◌||◌, List, [], ◌∷◌, ◌++◌, codes, flat_map, bytes_eq, if◌then◌else◌, Option, Some, None, Result, Ok, Err}
 use Rattle.std.specs.List.{join_with_byte}
-use Rattle.tclchars.specs.Runs.{begins}
+use Rattle.tclrules.specs.Runs.{begins}
 use Rattle.tclvalue.specs.Indexes.{after_prefix}
 use Rattle.tclrules.specs.Names.{is_among}
 use Rattle.envvars.specs.Texts.{Text}

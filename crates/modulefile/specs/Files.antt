@@ -3,7 +3,7 @@
 use Rattle.std.specs.Prelude.{◌≡◌, ◌⊎◌, ℕ, Bool, false, List, [], ◌∷◌, codes, Option, Some, None, Result, Ok, Err}
 use Rattle.envvars.specs.Texts.{Text}
 use Rattle.envvars.specs.Environment.{Environment}
-use Rattle.tclchars.specs.Faults.{fault_number}
+use Rattle.tclrules.specs.TextFaults.{fault_number}
 use Rattle.tclrules.specs.Oracle.{HostRefusal, Trace}
 use Rattle.tclrules.specs.Derivation.{Halt, OutOfMemory, BadText, TooManyCommands, TooDeep, ValueTooLong, NumberTooLarge, FractionOperand, LeftOut, Stopped, ByHost, EvaluationOutcome, Ended, Halted, World}
 use Rattle.tclrules.specs.Variables.{Variables}

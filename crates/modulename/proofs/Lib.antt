@@ -3,3 +3,5 @@ pub mod NameLemmas
 pub mod OrderLemmas
 pub mod RunLemmas
 pub mod GreatestLemmas
+pub mod SpellingLemmas
+pub mod StartLemmas

@@ -1,7 +1,7 @@
 //! How the name of a module is spelled, and which modules a name means (modulefile(5), module(1)).
-ghost use Rattle.std.specs.Prelude.{◌≡◌, length, not};
-ghost use Rattle.std.specs.List.{list_all};
-ghost use Rattle.modulename.specs.ModuleName.{is_white_space, is_forbidden, is_part, parts, is_module_name, means};
+ghost use Rattle.std.specs.Prelude.{◌≡◌, ◌∷◌, ◌<◌, ℕ, List, false, MatchOption, IfSome};
+ghost use Rattle.modulename.specs.ModuleName.{is_white_space, is_forbidden, is_module_name, means};
+ghost use Rattle.modulename.specs.Spelled.{goes_on};
 
 /// The most parts that a name has.
 pub const MAX_PARTS: usize = 4;
@@ -20,36 +20,41 @@ fn is_forbidden(b: u8) -> bool
     b == 0 || is_white_space(b) || b == b':' || b == b'&' || b == b'|' || b == b'\\' || b == b'@'
 }
 
-/// Whether a name may hold each byte of the part.
-fn has_no_forbidden_byte(part: &[u8]) -> bool
-    ensures { result ≡ list_all (λ c. not (is_forbidden c)) part.now }
-{
-    part.iter().all(|b| !is_forbidden(*b))
+/// How far a name is spelled.
+#[derive(Clone, Copy)]
+pub(crate) struct Spelling {
+    /// Whether a part begins next.
+    begins: bool,
+    /// How many parts are allowed from the one on that is being spelled.
+    parts: usize,
 }
 
-/// Whether the text may be a part of a name: it is not empty, does not begin with a point, and holds no forbidden byte.
-fn is_part(part: &str) -> bool
-    ensures { result ≡ is_part part.now }
-{
-    let bytes = part.as_bytes();
-    match bytes {
-        [] => false,
-        [first, ..] => *first != b'.' && has_no_forbidden_byte(bytes),
+impl Spelling {
+    /// How far a name is spelled with this byte, or `None` where no name goes on so.
+    fn with(self, b: u8) -> Option<Spelling>
+        requires { 0 < self.parts }
+        ensures next { MatchOption result ((rest : List ℕ) → goes_on self.begins self.parts (b ∷ rest) ≡ false)
+            (λ next. (rest : List ℕ) → goes_on self.begins self.parts (b ∷ rest)
+            ≡ goes_on next.begins next.parts rest) }
+        ensures parts { IfSome result (λ next. 0 < next.parts) }
+    {
+        if b == b'/' {
+            if self.begins || self.parts == 1 {
+                return None;
+            }
+            return Some(Spelling {
+                begins: true,
+                parts: self.parts - 1,
+            });
+        }
+        if is_forbidden(b) || (self.begins && b == b'.') {
+            return None;
+        }
+        Some(Spelling {
+            begins: false,
+            parts: self.parts,
+        })
     }
-}
-
-/// Whether each part of the name, between its slashes, is well formed.
-fn has_well_formed_parts(name: &str) -> bool
-    ensures { result ≡ list_all is_part (parts name.now) }
-{
-    name.split('/').all(|part| is_part(part))
-}
-
-/// How many parts the name has: one more than its slashes.
-fn part_count(name: &str) -> usize
-    ensures { result ≡ length (parts name.now) }
-{
-    name.split('/').count()
 }
 
 /// Whether the text is spelled as the name of a module: one to four parts joined by `/`, none of them empty or
@@ -57,7 +62,19 @@ fn part_count(name: &str) -> usize
 pub fn is_module_name(name: &str) -> bool
     ensures { result ≡ is_module_name name.now }
 {
-    has_well_formed_parts(name) && part_count(name) <= MAX_PARTS
+    let mut spelling = Spelling {
+        begins: true,
+        parts: MAX_PARTS,
+    };
+    let mut rest = name.as_bytes();
+    while let [b, after @ ..] = rest {
+        let Some(next) = spelling.with(*b) else {
+            return false;
+        };
+        spelling = next;
+        rest = after;
+    }
+    !spelling.begins
 }
 
 /// Whether the name means this module: it is the whole name of the module, or its first parts.

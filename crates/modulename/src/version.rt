@@ -15,10 +15,38 @@ use std::cmp::Ordering;
 pub fn version_order(left: &str, right: &str) -> Ordering
     ensures { result ≡ version_order left.now right.now }
 {
-    match order_of_pieces(left.as_bytes(), right.as_bytes()) {
+    let (left_rest, right_rest) = without_common_start(left.as_bytes(), right.as_bytes());
+    match order_of_pieces(left_rest, right_rest) {
         Ordering::Equal => left.as_bytes().cmp(right.as_bytes()),
         order => order,
     }
+}
+
+/// What follows in two versions after the bytes that both begin with, up to the last of these that is no digit. By their
+/// pieces the rests are in the order of the versions.
+fn without_common_start<'a>(left: &'a [u8], right: &'a [u8]) -> (&'a [u8], &'a [u8])
+    ensures { slice_cmp piece_order (pieces left.entry.now) (pieces right.entry.now)
+        ≡ slice_cmp piece_order (pieces result.0.now) (pieces result.1.now) }
+{
+    let mut left_start = left;
+    let mut right_start = right;
+    let mut left_rest = left;
+    let mut right_rest = right;
+    while let [first, left_after @ ..] = left_rest {
+        let [second, right_after @ ..] = right_rest else {
+            break;
+        };
+        if *first != *second {
+            break;
+        }
+        left_rest = left_after;
+        right_rest = right_after;
+        if !first.is_ascii_digit() {
+            left_start = left_rest;
+            right_start = right_rest;
+        }
+    }
+    (left_start, right_start)
 }
 
 /// The order of two versions by their pieces, one after another; a proper prefix comes first.

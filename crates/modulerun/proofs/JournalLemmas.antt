@@ -1,7 +1,7 @@
 -- What the accepted commands of a file make is recorded from one to the next.
 use Rattle.std.proofs.Common.{◌≡◌, List, [], ◌∷◌, ◌++◌, map, Result, Ok, Err, OnOk, OnErr, IfSome, refl, ap, sym, subst, ◌∙◌}
 use Rattle.std.proofs.lemmas.List.{map_push}
-use Rattle.envvars.specs.Texts.{Text, texts_in}
+use Rattle.envvars.specs.Texts.{Text}
 use Rattle.envvars.specs.Environment.{Environment}
 use Rattle.envvars.specs.Changes.{NewValue, AreChanges, applied}
 use Rattle.envvars.proofs.ChangeLemmas.{applied-changes}
@@ -17,7 +17,7 @@ use Rattle.modulefile.specs.Calls.{adds_record, call_of}
 use Rattle.modulefile.specs.RecordViews.{mode_view, record_view, fault_reason, IsEdited}
 use Rattle.modulefile.specs.Answers.{record_of, records_in, record_outcome, or_before}
 use Rattle.modulerun.specs.declared.accepted.AcceptedCommand.{AcceptedCommand}
-use Rattle.modulerun.specs.Journals.{environment_so_far, words_of, records_of, IsJournal, AddsCommand}
+use Rattle.modulerun.specs.Journals.{environment_so_far, words_in, words_of, records_of, IsJournal, AddsCommand}
 
 bind_ok : {A B R : Type 0} (r : Result A R) (f : A → Result B R) (a : A) (b : B) → r ≡ Ok a → f a ≡ Ok b → (r >>= f) ≡ Ok b
 bind_ok r f a b e h = subst (λ x. (x >>= f) ≡ Ok b) (sym e) h
@@ -45,19 +45,19 @@ pub environment_recorded : (mode : Mode) (module_name : Text) (before now : Envi
 environment_recorded mode module_name before now entries k =
     ap (or_before before) (bind_ok (records_in (words_of entries)) (λ rs. record_outcome (effects (mode_view mode) module_name rs before)) (records_of entries) now k.0 (ap record_outcome k.1))
 
-kept_more : (mode : effects.Mode) (module_name : Text) (before now new : Environment) (entries : List AcceptedCommand) (entry : AcceptedCommand) → call_of (texts_in entry.words) ≡ Ok (adds_record (record_view entry.recorded)) → effect mode module_name (record_view entry.recorded) now ≡ Ok new → IsJournal mode module_name before now entries → IsJournal mode module_name before new (entries ++ entry ∷ [])
+kept_more : (mode : effects.Mode) (module_name : Text) (before now new : Environment) (entries : List AcceptedCommand) (entry : AcceptedCommand) → call_of (words_in entry.words) ≡ Ok (adds_record (record_view entry.recorded)) → effect mode module_name (record_view entry.recorded) now ≡ Ok new → IsJournal mode module_name before now entries → IsJournal mode module_name before new (entries ++ entry ∷ [])
 kept_more mode module_name before now new entries entry call e k =
-    let w : words_of (entries ++ entry ∷ []) ≡ words_of entries ++ texts_in entry.words ∷ [] = map_push (λ (x : AcceptedCommand). texts_in x.words) entries entry in
+    let w : words_of (entries ++ entry ∷ []) ≡ words_of entries ++ words_in entry.words ∷ [] = map_push (λ (x : AcceptedCommand). words_in x.words) entries entry in
     let r : records_of (entries ++ entry ∷ []) ≡ records_of entries ++ record_view entry.recorded ∷ [] = map_push (λ (x : AcceptedCommand). record_view x.recorded) entries entry in (
       ap records_in w
-          ∙ records_more (words_of entries) (texts_in entry.words) (records_of entries) (record_view entry.recorded) k.0 (bind_ok (call_of (texts_in entry.words)) record_of (adds_record (record_view entry.recorded)) (record_view entry.recorded) call refl)
+          ∙ records_more (words_of entries) (words_in entry.words) (records_of entries) (record_view entry.recorded) k.0 (bind_ok (call_of (words_in entry.words)) record_of (adds_record (record_view entry.recorded)) (record_view entry.recorded) call refl)
           ∙ ap (λ rs. Ok rs) (sym r),
       ap (λ rs. effects mode module_name rs before) r ∙ effects_more mode module_name (records_of entries) (record_view entry.recorded) before now new k.1 e,
     )
 
 pub kept_by : (result : Result (Unit {0}) RecordFault) (mode : effects.Mode) (module_name : Text) (before now new : Environment) (entries more : List AcceptedCommand) (entry : AcceptedCommand)
     → OnOk result (more ≡ entries ++ entry ∷ []) → OnErr result (more ≡ entries) → IsEdited result now new (effect mode module_name (record_view entry.recorded) now)
-    → call_of (texts_in entry.words) ≡ Ok (adds_record (record_view entry.recorded)) → IsJournal mode module_name before now entries → IsJournal mode module_name before new more
+    → call_of (words_in entry.words) ≡ Ok (adds_record (record_view entry.recorded)) → IsJournal mode module_name before now entries → IsJournal mode module_name before new more
 kept_by (Ok u) mode module_name before now new entries more entry ok err edited call k =
     subst (λ xs. IsJournal mode module_name before new xs) (sym ok) (kept_more mode module_name before now new entries entry call edited k)
 kept_by (Err fault) mode module_name before now new entries more entry ok err edited call k =
@@ -66,9 +66,9 @@ kept_by (Err fault) mode module_name before now new entries more entry ok err ed
 pub noted_by : (result : Result (Unit {0}) RecordFault) (mode : Mode) (module_name : Text) (before now new : Environment) (entries more : List AcceptedCommand) (entry : AcceptedCommand)
     → OnOk result (more ≡ entries ++ entry ∷ []) → OnErr result (more ≡ entries) → IsEdited result now new (effect (mode_view mode) module_name (record_view entry.recorded) now)
     → IsJournal (mode_view mode) module_name before now entries
-    → AddsCommand result (texts_in entry.words) (record_view entry.recorded) (record { mode = mode; module_name = module_name; before = before; words = words_of entries }) (record { mode = mode; module_name = module_name; before = before; words = words_of more })
+    → AddsCommand result (words_in entry.words) (record_view entry.recorded) (record { mode = mode; module_name = module_name; before = before; words = words_of entries }) (record { mode = mode; module_name = module_name; before = before; words = words_of more })
 noted_by (Ok u) mode module_name before now new entries more entry ok err edited k = (
-  ap (λ (ws : List (List Text)). record { mode = mode; module_name = module_name; before = before; words = ws }) (ap words_of ok ∙ map_push (λ (x : AcceptedCommand). texts_in x.words) entries entry),
+  ap (λ (ws : List (List Text)). record { mode = mode; module_name = module_name; before = before; words = ws }) (ap words_of ok ∙ map_push (λ (x : AcceptedCommand). words_in x.words) entries entry),
   (
     new,
     ap (λ e. effect (mode_view mode) module_name (record_view entry.recorded) e) (environment_recorded mode module_name before now entries k) ∙ edited,

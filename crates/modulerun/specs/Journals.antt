@@ -1,7 +1,10 @@
 -- What a file has done so far (own).
-use Rattle.std.specs.Prelude.{◌≡◌, ℕ, ◌==◌, List, ◌∷◌, [], ◌++◌, map, IfSome, if◌then◌else◌, Result, Ok, Err, refl}
+use Rattle.std.specs.Prelude.{◌≡◌, ℕ, ◌==◌, List, ◌∷◌, [], ◌++◌, map, string_bytes, String, IfSome, if◌then◌else◌, Result, Ok, Err, refl}
 use Rattle.std.specs.Coded.{Coded, code_by, coded×, coded_ℕ, coded_list}
-use Rattle.envvars.specs.Texts.{Text, texts_in}
+use Rattle.std.specs.declared.alloc.Global.{Global}
+use Rattle.std.specs.declared.snapshot.Snapshot.{Snapshot}
+use Rattle.std.specs.declared.vec.Vec.{Vec}
+use Rattle.envvars.specs.Texts.{Text}
 use Rattle.envvars.specs.Environment.{Environment, environment_code}
 use Rattle.modulerecords.specs.Records as records
 use Rattle.modulerecords.specs.Judgments.{RecordReason}
@@ -62,9 +65,13 @@ abbrev pub environment_so_far : JournalState → Environment
 environment_so_far s = or_before s.before (records_in s.words >>=
     (λ rs. record_outcome (effects (mode_view s.mode) s.module_name rs s.before)))
 
+-- the words that a list of snapshots has
+abbrev pub words_in : Vec (Snapshot (String Global)) Global → List Text
+words_in v = map (λ s. string_bytes s.value) v.items
+
 -- the words and the records of entries
 abbrev pub words_of : List AcceptedCommand → List (List Text)
-words_of entries = map (λ entry. texts_in entry.words) entries
+words_of entries = map (λ entry. words_in entry.words) entries
 
 abbrev pub records_of : List AcceptedCommand → List records.Record
 records_of entries = map (λ entry. record_view entry.recorded) entries

@@ -8,14 +8,14 @@ ghost use Rattle.modulerecords.specs.Effects.{effect, effects};
 ghost use Rattle.modulefile.specs.Calls.{adds_record, call_of};
 ghost use Rattle.modulefile.specs.Answers.{records_in};
 ghost use Rattle.modulefile.specs.RecordViews.{mode_view, record_view, IsEdited};
-ghost use Rattle.modulerun.specs.Journals.{environment_so_far, journal_state, AddsCommand};
+ghost use Rattle.modulerun.specs.Journals.{environment_so_far, journal_state, words_in, AddsCommand};
 
 use crate::accepted::AcceptedCommand;
-use envvars::fields::copies;
 use envvars::{Change, EnvFault, Vars, Working};
 use modulefile::{Mode, Record, RecordFault, effect};
 use std::alloc::{AllocError, Global};
 use std::marker::Model;
+use std::snapshot::Snapshot;
 
 /// The accepted commands of a module's file so far, and the environment that their records make of the one before the
 /// file, which is unchanged.
@@ -60,6 +60,17 @@ pub(crate) struct FinishedFile {
     pub changes: Vec<Change>,
 }
 
+/// Snapshots of the words of a command.
+fn remembered(alloc: Global, words: &[String]) -> Result<Vec<Snapshot<String>>, AllocError>
+    ensures { IfOk result (λ v. words_in v ≡ map string_bytes words.now) }
+{
+    let mut remembered = Vec::new(alloc);
+    for word in words {
+        remembered.push(Snapshot::of(word))?;
+    }
+    Ok(remembered)
+}
+
 /// Adds an entry, where its record has its effect on `env`. Else neither changes.
 fn add_entry<V: Vars>(
     alloc: Global,
@@ -85,7 +96,7 @@ fn add_entry<V: Vars>(
 fn records_of(alloc: Global, entries: Vec<AcceptedCommand>) -> Result<Vec<Record>, AllocError>
     ensures { IfOk result (λ v. v.items ≡ map (λ entry. entry.recorded) entries.items) }
 {
-    let mut records = Vec::new(alloc);
+    let mut records = Vec::with_capacity(alloc, entries.len())?;
     for entry in entries {
         let AcceptedCommand {
             words: _words,
@@ -140,7 +151,7 @@ impl<'a, V: Vars> Journal<'a, V> {
         requires { call_of (map string_bytes words.now) ≡ Ok (adds_record (record_view recorded)) }
         ensures { AddsCommand result (map string_bytes words.now) (record_view recorded) self.old self.new }
     {
-        let words = copies(self.alloc, words)?;
+        let words = remembered(self.alloc, words)?;
         add_entry(
             self.alloc,
             self.mode,

@@ -2,11 +2,11 @@
 use Rattle.std.specs.Prelude.{◌≡◌, ℕ, Bool, false, ◌+◌, List, [], ◌∷◌, ◌++◌, Result, Ok, Err}
 use Rattle.envvars.specs.Texts.{Text}
 use Rattle.envvars.specs.Environment.{Environment}
-use Rattle.modulerecords.specs.Moves.{all_moved}
-use Rattle.reversal.specs.VariableUses.{VariableUse}
-use Rattle.reversal.specs.Starts.{IsStart}
-use Rattle.reversal.specs.Runs.{live_after}
-use Rattle.reversal.specs.Laws.{Holds}
+use Rattle.requests.specs.Moves.{all_moved}
+use Rattle.requests.specs.VariableUses.{VariableUse}
+use Rattle.requests.specs.Starts.{IsStart}
+use Rattle.requests.specs.Runs.{live_after}
+use Rattle.requests.specs.ReversalLaws.{Holds}
 use Rattle.requests.specs.Sessions as sessions
 use Rattle.requests.specs.Sessions.{Response, accepted, refused, given_up, env_after, session_moves}
 use Rattle.requests.specs.Returning.{AreNew, AreReversibleBeside}

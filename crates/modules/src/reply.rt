@@ -1,7 +1,7 @@
 //! What an accepted request answers: its changes or its environment, and what it did besides.
 ghost use Rattle.std.specs.Prelude.{◌≡◌};
 ghost use Rattle.envvars.specs.Texts.{texts_in};
-ghost use Rattle.modulerecords.specs.Moves.{loaded_names};
+ghost use Rattle.requests.specs.Moves.{loaded_names};
 ghost use Rattle.requeststep.specs.MoveViews.{moves_of};
 
 use envvars::{Change, Env};

@@ -11,9 +11,9 @@ use Rattle.requests.specs.Requests.{Request}
 use Rattle.requests.specs.Steps.{RequestContext, Done, RequestStep}
 use Rattle.requests.specs.Sessions.{Response, accepted, refused, given_up, Session, env_after, end_environment, in_shell, session_moves}
 use Rattle.requests.specs.Returning.{AreNew, AreReversibleBeside}
-use Rattle.reversal.specs.VariableUses.{VariableUse}
-use Rattle.reversal.specs.Starts.{IsStart}
-use Rattle.reversal.specs.Runs.{live_after}
+use Rattle.requests.specs.VariableUses.{VariableUse}
+use Rattle.requests.specs.Starts.{IsStart}
+use Rattle.requests.specs.Runs.{live_after}
 
 -- The changes from one environment to the other have no text in the shell: the first variable that no line can set or
 -- unset is this one.

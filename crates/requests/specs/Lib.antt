@@ -14,3 +14,14 @@ pub mod PlainRuns
 pub mod JudgedRuns
 pub mod Laws
 pub mod Rows
+-- What the definitions above cite, so that a caller need not name the crates below.
+pub use Rattle.modulerecords.specs.Effects
+pub use Rattle.modulerecords.specs.Judgments
+pub use Rattle.modulerecords.specs.Moves
+pub use Rattle.modulerecords.specs.Records
+pub use Rattle.reversal.specs.VariableUses
+pub use Rattle.reversal.specs.Live
+pub use Rattle.reversal.specs.Starts
+pub use Rattle.reversal.specs.Runs
+pub use Rattle.reversal.specs.Laws as ReversalLaws
+pub use Rattle.reversal.specs.Requests as RequestMoves

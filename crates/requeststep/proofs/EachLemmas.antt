@@ -10,8 +10,8 @@ use Rattle.std.proofs.lemmas.List.{drop_more}
 use Rattle.envvars.specs.Texts.{Text}
 use Rattle.envvars.specs.Environment.{Environment}
 use Rattle.filetree.specs.Relations.{After}
-use Rattle.modulerecords.specs.Effects.{Mode}
-use Rattle.modulerecords.specs.Records.{Record}
+use Rattle.requests.specs.Effects.{Mode}
+use Rattle.requests.specs.Records.{Record}
 use Rattle.search.specs.Found.{FoundModule}
 use Rattle.requests.specs.Reasons.{RequestReason}
 use Rattle.requests.specs.Looked.{EachLooksAt}

@@ -8,3 +8,4 @@ pub mod VerdictLemmas
 pub mod MemoryNumberLemmas
 pub mod FailureLemmas
 pub mod ActionLemmas
+pub mod ListedLemmas

@@ -4,8 +4,8 @@ use Rattle.std.specs.declared.alloc.Global.{Global}
 use Rattle.std.specs.declared.snapshot.Snapshot.{Snapshot}
 use Rattle.std.specs.declared.vec.Vec.{Vec}
 use Rattle.envvars.specs.Texts.{Text}
-use Rattle.modulerecords.specs.Moves as moves
-use Rattle.modulerecords.specs.Moves.{loaded_names}
+use Rattle.requests.specs.Moves as moves
+use Rattle.requests.specs.Moves.{loaded_names}
 use Rattle.requeststep.specs.declared.done.Move.{Move}
 use Rattle.requeststep.specs.MoveViews.{move_view, moves_of}
 

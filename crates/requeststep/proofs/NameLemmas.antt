@@ -4,7 +4,7 @@ use Rattle.modulename.specs.ModuleName.{is_module_name}
 use Rattle.envvars.specs.Texts.{Text, has}
 use Rattle.envloaded.specs.Loaded.{Entry, names_of}
 use Rattle.filetree.specs.Relations.{Is, Then}
-use Rattle.modulerecords.specs.Effects as modes
+use Rattle.requests.specs.Effects as modes
 use Rattle.modulefile.specs.Files.{Ran, RunsFile}
 use Rattle.search.specs.Found as search
 use Rattle.search.specs.Reasons.{bad_name}

@@ -11,10 +11,10 @@ use Rattle.tclrules.specs.Derivation.{EvaluationOutcome, Ended, Halted}
 use Rattle.tclrules.specs.Plans.{Completion, Normal, Raised, Returned, Broken, Continued}
 use Rattle.tclrules.specs.Oracle.{Trace}
 use Rattle.filetree.specs.Relations.{If}
-use Rattle.modulerecords.specs.Records.{Record}
-use Rattle.modulerecords.specs.Judgments.{RecordReason, bad_edit, record_reason}
-use Rattle.modulerecords.specs.Effects.{load, unload, display, whatis, effects, and_then, permitted, edit_outcome}
-use Rattle.modulerecords.specs.Moves.{Module, Loads, Unloads, entry_moved}
+use Rattle.requests.specs.Records.{Record}
+use Rattle.requests.specs.Judgments.{RecordReason, bad_edit, record_reason}
+use Rattle.requests.specs.Effects.{load, unload, display, whatis, effects, and_then, permitted, edit_outcome}
+use Rattle.requests.specs.Moves.{Module, Loads, Unloads, entry_moved}
 use Rattle.modulefile.specs.Results.{◌>>=◌}
 use Rattle.modulefile.specs.Calls.{CallReason}
 use Rattle.modulefile.specs.Answers.{FileContext, record_outcome, records_in}

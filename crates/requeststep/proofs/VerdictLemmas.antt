@@ -6,7 +6,7 @@ use Rattle.envvars.specs.Environment.{Environment}
 use Rattle.filetree.specs.Agreement.{Files, Listings, InEachPair}
 use Rattle.tclrules.specs.declared.limits.Limits.{Limits}
 use Rattle.modulefile.specs.Files.{Ran}
-use Rattle.reversal.specs.VariableUses.{is_reversible}
+use Rattle.requests.specs.VariableUses.{is_reversible}
 use Rattle.requests.specs.Verdicts as verdicts
 use Rattle.requests.specs.Verdicts.{HasVerdict, PlainHolds, verdict_of}
 use Rattle.requeststep.specs.declared.refusal.Refusal.{Refusal}

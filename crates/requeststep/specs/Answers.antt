@@ -8,7 +8,7 @@ use Rattle.filetree.specs.Causes.{Cause, Applies, memory, device, because}
 use Rattle.filetree.specs.declared.find_fault.FindFault.TheVariants as finds
 use Rattle.filetree.specs.declared.tree.TreeFault.{TreeFault}
 use Rattle.filetree.specs.declared.tree.TreeFault.TheVariants as trees
-use Rattle.modulerecords.specs.Judgments.{bad_edit}
+use Rattle.requests.specs.Judgments.{bad_edit}
 use Rattle.search.specs.Answers.{cause_of as find_cause}
 use Rattle.modulerun.specs.Running.{file_reason_of}
 use Rattle.search.specs.Reasons as search

@@ -3,7 +3,7 @@ use Rattle.std.specs.Prelude.{List, map, string_bytes}
 use Rattle.std.specs.declared.alloc.Global.{Global}
 use Rattle.std.specs.declared.snapshot.Snapshot.{Snapshot}
 use Rattle.std.specs.declared.vec.Vec.{Vec}
-use Rattle.modulerecords.specs.Moves as moves
+use Rattle.requests.specs.Moves as moves
 use Rattle.modulefile.specs.RecordViews.{record_view}
 use Rattle.requeststep.specs.declared.done.Module.{Module}
 use Rattle.requeststep.specs.declared.done.Move.{Move}

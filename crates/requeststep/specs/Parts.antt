@@ -1,5 +1,5 @@
 -- The parts of a step, for the contracts of this crate's private functions.
-use Rattle.std.specs.Prelude.{false, List, map, Option, Result, Ok}
+use Rattle.std.specs.Prelude.{◌≡◌, Bool, false, List, map, Option, Result, Ok}
 use Rattle.std.specs.Option.{option_map, option_or}
 use Rattle.std.specs.declared.vec.Vec.{Vec}
 use Rattle.std.specs.declared.alloc.Global.{Global}
@@ -8,18 +8,19 @@ use Rattle.envvars.specs.Environment.{Environment}
 use Rattle.envloaded.specs.Loaded.{Entry, names_of, added_loaded}
 use Rattle.envloaded.specs.LoadedEntries as code
 use Rattle.envloaded.specs.declared.entry.Loaded.{Loaded}
+use Rattle.filetree.specs.Modulefiles.{modulefile}
 use Rattle.filetree.specs.Relations.{Is, ◌>>◌}
-use Rattle.modulerecords.specs.Records.{Record}
-use Rattle.modulerecords.specs.Effects as modes
-use Rattle.modulerecords.specs.Effects.{Mode, edit_outcome}
-use Rattle.modulerecords.specs.Moves.{Module, Unloads, entry_of}
+use Rattle.requests.specs.Records.{Record}
+use Rattle.requests.specs.Effects as modes
+use Rattle.requests.specs.Effects.{Mode, edit_outcome}
+use Rattle.requests.specs.Moves.{Module, Unloads, entry_of}
 use Rattle.modulefile.specs.Answers.{FileContext}
 use Rattle.modulefile.specs.Files.{RunsFile}
 use Rattle.search.specs.Found as search
 use Rattle.requests.specs.Reasons.{RequestReason, conflict_with, prereq_missing, file_refused, refused_edit}
 use Rattle.requests.specs.Refusals.{refused_as, unless, RefusedAs}
 use Rattle.requests.specs.Conditions.{recorded_conflict, own_conflict, missing_group, load_objection}
-use Rattle.requests.specs.Steps.{RequestContext, Done, continued, module_of, with_report, shown_text, described_text, LoadsName, UnloadsName, ShowsName}
+use Rattle.requests.specs.Steps.{RequestContext, Done, entries_of, context_of, script_at, continued, module_of, with_report, shown_text, described_text, LoadsName, UnloadsName, ShowsName}
 use Rattle.requests.specs.Looked.{LoadLooksAt, UnloadLooksAt, ShowLooksAt, EachLooksAt}
 use Rattle.requeststep.specs.declared.files.NameRequest.{NameRequest}
 use Rattle.requeststep.specs.declared.files.ReportKind.{ReportKind}
@@ -30,6 +31,10 @@ use Rattle.requeststep.specs.declared.commands.NameAction.TheVariants.{Load, Unl
 -- the entries of a list of loaded modules
 abbrev pub entries_view : Vec Loaded Global → List Entry
 entries_view v = map code.entry_view v.items
+
+-- The list is what the texts of the loaded modules are read as in the environment.
+abbrev pub AreEntriesOf : List Entry → Environment → Type 0
+AreEntriesOf xs e = Ok xs ≡ entries_of e
 
 -- what forbids a module with these conflicts and prereqs beside those that are loaded
 abbrev pub objection : Text → List Text → List (List Text) → List Entry → Option RequestReason
@@ -69,6 +74,15 @@ UnloadsByScript name_request name path text xs d =
     (file_context name_request modes.unload name path xs d.env) text) >>
     (λ ran.
     Is (continued d (Unloads (module_of name path ran)) ran.messages))
+
+-- the loaded module of this name is unloaded by the file at this path
+abbrev pub UnloadsFrom : RequestContext → Bool → Text → Done → List Entry → Text → Text → Result Done RequestReason
+    → Type 0
+UnloadsFrom s in_switch typed d xs name path =
+    Is (script_at path (modulefile (s.files path))) >> (λ text.
+    RefusedAs file_refused (RunsFile s.limits (context_of s modes.unload in_switch typed name path xs d.env) text) >>
+    (λ ran.
+    Is (continued d (Unloads (module_of name path ran)) ran.messages)))
 
 -- the mode in which a file is evaluated for a report
 abbrev pub report_mode : ReportKind → Mode

@@ -8,7 +8,7 @@ use Rattle.shells.specs.declared.shell.Shell.TheVariants.{Sh}
 use Rattle.tclrules.specs.declared.limits.Limits.{Limits}
 use Rattle.modulefile.specs.Files.{Ran}
 use Rattle.search.specs.Found as search
-use Rattle.reversal.specs.VariableUses.{is_reversible}
+use Rattle.requests.specs.VariableUses.{is_reversible}
 use Rattle.requests.specs.Steps.{RequestContext, Finds, request_context_in}
 use Rattle.requests.specs.Verdicts as verdicts
 use Rattle.requests.specs.Verdicts.{AlwaysRecords}

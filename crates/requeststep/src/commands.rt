@@ -1,5 +1,5 @@
 //! The subcommands, each over all its names: `load`, `unload`, `switch`, `purge`, `list`, `avail`, `show`, `whatis`.
-ghost use Rattle.std.specs.Prelude.{◌≡◌, ◌<◌, [], ◌∷◌, Some, IfOk, IfErr, map, reverse, string_bytes};
+ghost use Rattle.std.specs.Prelude.{◌≡◌, ◌<◌, [], ◌∷◌, Some, IfOk, IfErr, OnOk, map, reverse, string_bytes};
 ghost use Rattle.std.specs.Option.{option_map};
 ghost use Rattle.envvars.specs.Environment.{Environment};
 ghost use Rattle.envvars.specs.Texts.{texts_in};
@@ -19,7 +19,7 @@ ghost use Rattle.requeststep.specs.Views.{request_context_of, done_view};
 ghost use Rattle.requeststep.specs.Answers.{GivesOrRefuses, StepAnswersOverTree, is_failure};
 ghost use Rattle.requeststep.specs.Messages.{MemoryNumberAmong, memory_numbers};
 ghost use Rattle.requeststep.specs.declared.commands.NameAction.TheVariants.{ReportOn};
-ghost use Rattle.requeststep.specs.Parts.{NameActionStep, NameActionLooksAt, EachActionLooksAt, report_mode, report_text};
+ghost use Rattle.requeststep.specs.Parts.{AreEntriesOf, entries_view, NameActionStep, NameActionLooksAt, EachActionLooksAt, report_mode, report_text};
 
 use crate::conditions::first_lost;
 use crate::done::{Done, EvaluationSettings};
@@ -27,7 +27,7 @@ use crate::entries::{entries_of, modulepath, names_of};
 use crate::files::{NameRequest, ReportKind, load_name, report_name, unload_name};
 use crate::refusal::Refusal;
 use defaultfiles::Evaluated;
-use envloaded::Loaded;
+use envloaded::{Loaded, copy_list};
 use envvars::Vars;
 use filetree::Tree;
 use reports::{avail_report, list_report};
@@ -53,11 +53,14 @@ fn act_on_name<T: Tree, V: Vars>(
     settings: EvaluationSettings,
     name_action: NameAction,
     typed: &str,
+    entries: &mut Vec<Loaded>,
     env: &mut V,
     tree: &mut T,
     done: &mut Done,
 ) -> Result<(), Refusal>
+    requires { AreEntriesOf (entries_view entries.old) (V.vars env.old) }
     ensures reads { ReadsOn T.agrees T.failures tree.old tree.new }
+    ensures listed { OnOk result (AreEntriesOf (entries_view entries.new) (V.vars env.new)) }
     ensures base { V.base env.new ≡ V.base env.old }
     ensures over_tree { StepAnswersOverTree (T.agrees tree.new) (T.failures tree.old < T.failures tree.new)
         (λ u. done_view done.new (V.vars env.new)) result
@@ -74,13 +77,14 @@ fn act_on_name<T: Tree, V: Vars>(
         typed,
     };
     match name_action {
-        NameAction::Load => load_name(alloc, name_request, env, tree, done),
-        NameAction::Unload => unload_name(alloc, name_request, env, tree, done),
+        NameAction::Load => load_name(alloc, name_request, entries, env, tree, done),
+        NameAction::Unload => unload_name(alloc, name_request, entries, env, tree, done),
         NameAction::ReportOn(report_kind) => report_name(
             alloc,
             settings,
             report_kind,
             typed,
+            entries.as_slice(),
             env,
             tree,
             done,
@@ -94,11 +98,14 @@ fn act_on_each<T: Tree, V: Vars>(
     settings: EvaluationSettings,
     name_action: NameAction,
     names: &[String],
+    entries: &mut Vec<Loaded>,
     env: &mut V,
     tree: &mut T,
     done: &mut Done,
 ) -> Result<(), Refusal>
+    requires { AreEntriesOf (entries_view entries.old) (V.vars env.old) }
     ensures reads { ReadsOn T.agrees T.failures tree.old tree.new }
+    ensures listed { OnOk result (AreEntriesOf (entries_view entries.new) (V.vars env.new)) }
     ensures base { V.base env.new ≡ V.base env.old }
     ensures over_tree { StepAnswersOverTree (T.agrees tree.new) (T.failures tree.old < T.failures tree.new)
         (λ u. done_view done.new (V.vars env.new)) result
@@ -111,23 +118,32 @@ fn act_on_each<T: Tree, V: Vars>(
         (done_view done.old (V.vars env.old)) at)) }
 {
     for name in names {
-        act_on_name(alloc, settings, name_action, name.as_str(), env, tree, done)?;
+        act_on_name(
+            alloc,
+            settings,
+            name_action,
+            name.as_str(),
+            entries,
+            env,
+            tree,
+            done,
+        )?;
     }
     Ok(())
 }
 
 /// Refuses (53) where a module that was loaded before has lost what it needs.
-fn refuse_lost_prereqs<V: Vars>(
+fn refuse_lost_prereqs(
     alloc: Global,
     before: &[Loaded],
-    env: &V,
+    after: &[Loaded],
     done: &Done,
 ) -> Result<(), Refusal>
-    ensures { GivesOrRefuses (λ u. done_view done.now (V.vars env.now)) result
-        (EndsRequest (map entry_view before.now) (done_view done.now (V.vars env.now))) }
+    ensures { (e : Environment) → AreEntriesOf (map entry_view after.now) e
+        → GivesOrRefuses (λ u. done_view done.now e) result
+        (EndsRequest (map entry_view before.now) (done_view done.now e)) }
 {
-    let after = entries_of(alloc, env)?;
-    match first_lost(before, after.as_slice()) {
+    match first_lost(before, after) {
         None => Ok(()),
         Some(entry) => Err(Refusal::StillNeededBy(String::from_str(alloc, entry.name.as_str())?)),
     }
@@ -143,6 +159,7 @@ fn change_each<T: Tree, V: Vars>(
     env: &mut V,
     tree: &mut T,
 ) -> Result<Done, Refusal>
+    requires { AreEntriesOf (map entry_view before.now) (V.vars env.old) }
     ensures reads { ReadsOn T.agrees T.failures tree.old tree.new }
     ensures base { V.base env.new ≡ V.base env.old }
     ensures over_tree { StepAnswersOverTree (T.agrees tree.new) (T.failures tree.old < T.failures tree.new)
@@ -155,9 +172,19 @@ fn change_each<T: Tree, V: Vars>(
         EachActionLooksAt name_action (request_context_of settings files listings) (map string_bytes names.now)
         (nothing_done (V.vars env.old)) at)) }
 {
+    let mut entries = copy_list(alloc, before)?;
     let mut done = Done::new(alloc);
-    act_on_each(alloc, settings, name_action, names, env, tree, &mut done)?;
-    refuse_lost_prereqs(alloc, before, env, &done)?;
+    act_on_each(
+        alloc,
+        settings,
+        name_action,
+        names,
+        &mut entries,
+        env,
+        tree,
+        &mut done,
+    )?;
+    refuse_lost_prereqs(alloc, before, entries.as_slice(), &done)?;
     Ok(done)
 }
 
@@ -260,11 +287,14 @@ fn switch_names<T: Tree, V: Vars>(
     settings: EvaluationSettings,
     old: &str,
     new: &str,
+    entries: &mut Vec<Loaded>,
     env: &mut V,
     tree: &mut T,
     done: &mut Done,
 ) -> Result<(), Refusal>
+    requires { AreEntriesOf (entries_view entries.old) (V.vars env.old) }
     ensures reads { ReadsOn T.agrees T.failures tree.old tree.new }
+    ensures listed { OnOk result (AreEntriesOf (entries_view entries.new) (V.vars env.new)) }
     ensures base { V.base env.new ≡ V.base env.old }
     ensures over_tree { StepAnswersOverTree (T.agrees tree.new) (T.failures tree.old < T.failures tree.new)
         (λ u. done_view done.new (V.vars env.new)) result
@@ -279,13 +309,13 @@ fn switch_names<T: Tree, V: Vars>(
         in_switch: true,
         typed: old,
     };
-    unload_name(alloc, unloading, env, tree, done)?;
+    unload_name(alloc, unloading, entries, env, tree, done)?;
     let loading = NameRequest {
         settings,
         in_switch: true,
         typed: new,
     };
-    load_name(alloc, loading, env, tree, done)
+    load_name(alloc, loading, entries, env, tree, done)
 }
 
 /// Unloads the old name, and then loads the new one, as one command.
@@ -309,17 +339,19 @@ fn switch<T: Tree, V: Vars>(
         new.now (nothing_done (V.vars env.old)) at)) }
 {
     let before = entries_of(alloc, env)?;
+    let mut entries = copy_list(alloc, before.as_slice())?;
     let mut done = Done::new(alloc);
     switch_names(
         alloc,
         settings,
         old_name(old, new),
         new,
+        &mut entries,
         env,
         tree,
         &mut done,
     )?;
-    refuse_lost_prereqs(alloc, before.as_slice(), env, &done)?;
+    refuse_lost_prereqs(alloc, before.as_slice(), entries.as_slice(), &done)?;
     Ok(done)
 }
 
@@ -347,12 +379,14 @@ fn report_names<T: Tree, V: Vars>(
     if names.is_empty() {
         return Err(Refusal::BadArguments);
     }
+    let mut entries = entries_of(alloc, env)?;
     let mut done = Done::new(alloc);
     act_on_each(
         alloc,
         settings,
         NameAction::ReportOn(report_kind),
         names,
+        &mut entries,
         env,
         tree,
         &mut done,

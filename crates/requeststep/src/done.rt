@@ -1,7 +1,7 @@
 //! What a request has done, and what its files are evaluated under.
 ghost use Rattle.std.specs.Prelude.{◌≡◌};
 ghost use Rattle.envvars.specs.Texts.{texts_in};
-ghost use Rattle.modulerecords.specs.Moves.{loaded_names};
+ghost use Rattle.requests.specs.Moves.{loaded_names};
 ghost use Rattle.requeststep.specs.MoveViews.{moves_of};
 
 use modulefile::Record;

@@ -5,21 +5,21 @@ ghost use Rattle.envvars.specs.Fields.{without_repeats};
 ghost use Rattle.envloaded.specs.Loaded.{names_of};
 ghost use Rattle.envloaded.specs.LoadedEntries.{entry_view};
 ghost use Rattle.filetree.specs.Relations.{Is};
-ghost use Rattle.modulerecords.specs.Records.{conflict_names, prereq_groups};
-ghost use Rattle.modulerecords.specs.Moves as moves;
+ghost use Rattle.requests.specs.Records.{conflict_names, prereq_groups};
+ghost use Rattle.requests.specs.Moves as moves;
 ghost use Rattle.modulefile.specs.RecordViews.{record_view};
 ghost use Rattle.requests.specs.Refusals.{unless};
 ghost use Rattle.requests.specs.Steps.{entries_of, modulepath};
 ghost use Rattle.requeststep.specs.MoveViews.{module_view};
 ghost use Rattle.requeststep.specs.Answers.{GivesOrRefuses};
 ghost use Rattle.requeststep.specs.Messages.{MemoryNumberAmong};
-ghost use Rattle.requeststep.specs.Parts.{entries_view, objection, added};
+ghost use Rattle.requeststep.specs.Parts.{AreEntriesOf, entries_view, objection, added};
 
 use crate::conditions::{missing_group, own_conflict, recorded_conflict};
 use crate::done::Module;
 use crate::missing::MissingNames;
 use crate::refusal::Refusal;
-use envloaded::{Loaded, add_loaded, loaded};
+use envloaded::{Loaded, add_to_list, loaded};
 use envvars::Vars;
 use envvars::fields::{copies, deduplicated, owned, slices};
 use modulefile::Record;
@@ -131,6 +131,17 @@ fn judge(
     }
 }
 
+/// The names, each once.
+fn once(alloc: Global, names: &[&str]) -> Result<Vec<String>, AllocError>
+    ensures { IfOk result (λ v. texts_in v ≡ without_repeats (slice_texts names.now)) }
+{
+    if names.len() < 2 {
+        return owned(alloc, names);
+    }
+    let firsts = deduplicated(alloc, names)?;
+    owned(alloc, firsts.as_slice())
+}
+
 /// The entry of a module in the loaded list: each name in conflict once.
 fn entry_for(
     alloc: Global,
@@ -145,36 +156,37 @@ fn entry_for(
       prereqs = map texts_in prereqs.items;
     }) }
 {
-    let conflicts = deduplicated(alloc, conflicts)?;
     Ok(Loaded {
         name: String::from_str(alloc, loading.name.as_str())?,
         path: String::from_str(alloc, loading.path.as_str())?,
-        conflicts: owned(alloc, conflicts.as_slice())?,
+        conflicts: once(alloc, conflicts)?,
         prereqs,
     })
 }
 
-/// Adds the entry of a module at the end of the loaded list, unless a conflict (51) or a prereq (52) forbids it.
+/// Adds the entry of a module at the end of the loaded list and writes the list, unless a conflict (51) or a prereq (52) forbids it.
 pub(crate) fn join_loaded<V: Vars>(
     alloc: Global,
-    entries: &[Loaded],
+    entries: &mut Vec<Loaded>,
     loading: &Module,
     env: &mut V,
 ) -> Result<(), Refusal>
+    requires { AreEntriesOf (entries_view entries.old) (V.vars env.old) }
     ensures given { GivesOrRefuses (λ u. V.vars env.new) result
-        (Is (added (map entry_view entries.now) (module_view loading.now) (V.vars env.old))) }
+        (Is (added (entries_view entries.old) (module_view loading.now) (V.vars env.old))) }
+    ensures listed { OnOk result (AreEntriesOf (entries_view entries.new) (V.vars env.new)) }
     ensures base { V.base env.new ≡ V.base env.old }
 {
     let conflicts = conflict_names(alloc, loading.records.as_slice())?;
     let prereqs = prereq_groups(alloc, loading.records.as_slice())?;
     judge(
         alloc,
-        entries,
+        entries.as_slice(),
         loading.name.as_str(),
         conflicts.as_slice(),
         prereqs.as_slice(),
     )?;
     let entry = entry_for(alloc, loading, conflicts.as_slice(), prereqs)?;
-    add_loaded(alloc, env, &entry)?;
+    add_to_list(alloc, env, entries, entry)?;
     Ok(())
 }

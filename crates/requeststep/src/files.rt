@@ -1,6 +1,6 @@
 //! One name of a request: its module is found, the module's file is evaluated, and the module is loaded, unloaded or
 //! reported on.
-ghost use Rattle.std.specs.Prelude.{◌≡◌, ◌<◌, IfOk, map, string_bytes};
+ghost use Rattle.std.specs.Prelude.{◌≡◌, ◌<◌, IfOk, OnOk, map, string_bytes};
 ghost use Rattle.envloaded.specs.LoadedEntries.{entry_view};
 ghost use Rattle.filetree.specs.Agreement.{Files, Listings, FailsAt, InEachPair, ReadsOn};
 ghost use Rattle.filetree.specs.Modulefiles.{modulefile};
@@ -11,18 +11,18 @@ ghost use Rattle.search.specs.Answers.{found_view};
 ghost use Rattle.modulerun.specs.Running.{ran_view};
 ghost use Rattle.requests.specs.Reasons.{file_refused};
 ghost use Rattle.requests.specs.Refusals.{RefusedAs};
-ghost use Rattle.requests.specs.Steps.{Finds, LoadsFound, LoadsName, UnloadsEntry, UnloadsName, ShowsName, script_at};
+ghost use Rattle.requests.specs.Steps.{entries_of, Finds, LoadsFound, LoadsName, UnloadsName, ShowsName, script_at};
 ghost use Rattle.requests.specs.Looked.{SearchLooksAt, LoadLooksAt, UnloadLooksAt, ShowLooksAt};
 ghost use Rattle.requeststep.specs.Views.{request_context_of, done_view};
 ghost use Rattle.requeststep.specs.Answers.{GivesOrRefuses, StepAnswersOverTree, is_failure};
-ghost use Rattle.requeststep.specs.Parts.{file_context, UnloadsByScript, ReportsFound, report_mode, report_text};
+ghost use Rattle.requeststep.specs.Parts.{AreEntriesOf, entries_view, file_context, UnloadsByScript, UnloadsFrom, ReportsFound, report_mode, report_text};
 
 use crate::conditions::{is_loaded, last_meant};
 use crate::done::{Done, EvaluationSettings, Module, Move};
-use crate::entries::{entries_of, join_loaded, modulepath, names_of};
+use crate::entries::{join_loaded, modulepath, names_of};
 use crate::refusal::Refusal;
 use defaultfiles::Evaluated;
-use envloaded::{Loaded, drop_loaded};
+use envloaded::{Loaded, drop_from_list};
 use envvars::Vars;
 use filetree::{FileContent, FindFault, Tree, read_modulefile};
 use modulefile::Mode;
@@ -117,6 +117,7 @@ pub(crate) fn evaluate<V: Vars>(
         (RunsFile name_request.entry.settings.limits (file_context name_request.entry
         (mode_view mode) file.entry.name.now
         file.entry.path.now (map entry_view entries.now) (V.vars env.old)) file.entry.text.now)) }
+    ensures listed { OnOk result (entries_of (V.vars env.new) ≡ entries_of (V.vars env.old)) }
     ensures base { V.base env.new ≡ V.base env.old }
 {
     let loaded = names_of(alloc, entries)?;
@@ -142,21 +143,30 @@ pub(crate) fn evaluate<V: Vars>(
 fn load_found<V: Vars>(
     alloc: Global,
     name_request: NameRequest<'_>,
-    entries: &[Loaded],
+    entries: &mut Vec<Loaded>,
     found: Found,
     env: &mut V,
     done: &mut Done,
 ) -> Result<(), Refusal>
+    requires { AreEntriesOf (entries_view entries.old) (V.vars env.old) }
     ensures given { (files : Files) (listings : Listings) → GivesOrRefuses (λ u. done_view done.new (V.vars env.new))
         result (LoadsFound (request_context_of name_request.entry.settings files listings) name_request.entry.in_switch name_request.entry.typed.now
-        (done_view done.old (V.vars env.old)) (map entry_view entries.now) (found_view found)) }
+        (done_view done.old (V.vars env.old)) (entries_view entries.old) (found_view found)) }
+    ensures listed { OnOk result (AreEntriesOf (entries_view entries.new) (V.vars env.new)) }
     ensures base { V.base env.new ≡ V.base env.old }
 {
-    if is_loaded(entries, found.name.as_str()) {
+    if is_loaded(entries.as_slice(), found.name.as_str()) {
         return Ok(());
     }
     let file = ModuleFile::of(&found);
-    let ran = evaluate(alloc, name_request, Mode::Load, entries, file, env)?;
+    let ran = evaluate(
+        alloc,
+        name_request,
+        Mode::Load,
+        entries.as_slice(),
+        file,
+        env,
+    )?;
     let loading = Module {
         name: found.name,
         path: found.path,
@@ -171,11 +181,14 @@ fn load_found<V: Vars>(
 pub(crate) fn load_name<T: Tree, V: Vars>(
     alloc: Global,
     name_request: NameRequest<'_>,
+    entries: &mut Vec<Loaded>,
     env: &mut V,
     tree: &mut T,
     done: &mut Done,
 ) -> Result<(), Refusal>
+    requires { AreEntriesOf (entries_view entries.old) (V.vars env.old) }
     ensures reads { ReadsOn T.agrees T.failures tree.old tree.new }
+    ensures listed { OnOk result (AreEntriesOf (entries_view entries.new) (V.vars env.new)) }
     ensures base { V.base env.new ≡ V.base env.old }
     ensures over_tree { StepAnswersOverTree (T.agrees tree.new) (T.failures tree.old < T.failures tree.new)
         (λ u. done_view done.new (V.vars env.new)) result
@@ -186,12 +199,11 @@ pub(crate) fn load_name<T: Tree, V: Vars>(
         LoadLooksAt (request_context_of name_request.entry.settings files listings) name_request.entry.typed.now
         (done_view done.old (V.vars env.old)) at)) }
 {
-    let entries = entries_of(alloc, env)?;
     if is_loaded(entries.as_slice(), name_request.typed) {
         return Ok(());
     }
     let found = find_module(alloc, name_request, env, tree)?;
-    load_found(alloc, name_request, entries.as_slice(), found, env, done)
+    load_found(alloc, name_request, entries, found, env, done)
 }
 
 /// The script in the file of a loaded module: 54 where no file is there, 55 where it has no cookie, 46 where it isn't
@@ -213,25 +225,60 @@ fn script_at<T: Tree>(alloc: Global, tree: &mut T, path: &str) -> Result<String,
     }
 }
 
+/// A loaded module that is unloaded by the file at its recorded path.
+#[derive(Drop)]
+pub(crate) struct Unloading {
+    pub(crate) name: String,
+    pub(crate) path: String,
+}
+
+impl Unloading {
+    /// The unloading of the module of an entry.
+    fn of(alloc: Global, entry: &Loaded) -> Result<Unloading, AllocError>
+        ensures name { IfOk result (λ x. string_bytes x.name ≡ string_bytes entry.now.name) }
+        ensures path { IfOk result (λ x. string_bytes x.path ≡ string_bytes entry.now.path) }
+    {
+        Ok(Unloading {
+            name: String::from_str(alloc, entry.name.as_str())?,
+            path: String::from_str(alloc, entry.path.as_str())?,
+        })
+    }
+}
+
 /// Unloads a module by the script in its file, and takes it out of the loaded list.
 fn unload_by_script<V: Vars>(
     alloc: Global,
     name_request: NameRequest<'_>,
-    entries: &[Loaded],
-    file: ModuleFile<'_>,
+    entries: &mut Vec<Loaded>,
+    unloading: Unloading,
+    text: &str,
     env: &mut V,
     done: &mut Done,
 ) -> Result<(), Refusal>
+    requires { AreEntriesOf (entries_view entries.old) (V.vars env.old) }
     ensures given { GivesOrRefuses (λ u. done_view done.new (V.vars env.new)) result
-        (UnloadsByScript name_request.entry file.entry.name.now file.entry.path.now file.entry.text.now
-        (map entry_view entries.now) (done_view done.old (V.vars env.old))) }
+        (UnloadsByScript name_request.entry (string_bytes unloading.name) (string_bytes unloading.path) text.now
+        (entries_view entries.old) (done_view done.old (V.vars env.old))) }
+    ensures listed { OnOk result (AreEntriesOf (entries_view entries.new) (V.vars env.new)) }
     ensures base { V.base env.new ≡ V.base env.old }
 {
-    let ran = evaluate(alloc, name_request, Mode::Unload, entries, file, env)?;
-    drop_loaded(alloc, env, file.name)?;
+    let file = ModuleFile {
+        name: unloading.name.as_str(),
+        path: unloading.path.as_str(),
+        text,
+    };
+    let ran = evaluate(
+        alloc,
+        name_request,
+        Mode::Unload,
+        entries.as_slice(),
+        file,
+        env,
+    )?;
+    drop_from_list(alloc, env, entries, unloading.name.as_str())?;
     let unloaded = Module {
-        name: String::from_str(alloc, file.name)?,
-        path: String::from_str(alloc, file.path)?,
+        name: unloading.name,
+        path: unloading.path,
         records: ran.records,
     };
     done.continue_with(Move::Unloads(unloaded), ran.messages)?;
@@ -239,44 +286,52 @@ fn unload_by_script<V: Vars>(
 }
 
 /// Unloads a loaded module by the file at its recorded path.
-fn unload_entry<T: Tree, V: Vars>(
+fn unload_module<T: Tree, V: Vars>(
     alloc: Global,
     name_request: NameRequest<'_>,
-    entries: &[Loaded],
-    entry: &Loaded,
+    entries: &mut Vec<Loaded>,
+    unloading: Unloading,
     env: &mut V,
     tree: &mut T,
     done: &mut Done,
 ) -> Result<(), Refusal>
+    requires { AreEntriesOf (entries_view entries.old) (V.vars env.old) }
     ensures reads { ReadsOn T.agrees T.failures tree.old tree.new }
+    ensures listed { OnOk result (AreEntriesOf (entries_view entries.new) (V.vars env.new)) }
     ensures base { V.base env.new ≡ V.base env.old }
     ensures over_tree { StepAnswersOverTree (T.agrees tree.new) (T.failures tree.old < T.failures tree.new)
         (λ u. done_view done.new (V.vars env.new)) result
-        (λ files listings. UnloadsEntry
+        (λ files listings. UnloadsFrom
         (request_context_of name_request.entry.settings files listings) name_request.entry.in_switch
-        name_request.entry.typed.now (done_view done.old (V.vars env.old)) (map entry_view entries.now)
-        (entry_view entry.now)) }
+        name_request.entry.typed.now (done_view done.old (V.vars env.old)) (entries_view entries.old)
+        (string_bytes unloading.name) (string_bytes unloading.path)) }
     ensures failed { FailsAt is_failure (T.failed tree.old) (T.failed tree.new) result (λ at.
-        at ≡ (entry_view entry.now).path) }
+        at ≡ string_bytes unloading.path) }
 {
-    let text = script_at(alloc, tree, entry.path.as_str())?;
-    let file = ModuleFile {
-        name: entry.name.as_str(),
-        path: entry.path.as_str(),
-        text: text.as_str(),
-    };
-    unload_by_script(alloc, name_request, entries, file, env, done)
+    let text = script_at(alloc, tree, unloading.path.as_str())?;
+    unload_by_script(
+        alloc,
+        name_request,
+        entries,
+        unloading,
+        text.as_str(),
+        env,
+        done,
+    )
 }
 
 /// Unloads the last loaded module that a name means, if there is one.
 pub(crate) fn unload_name<T: Tree, V: Vars>(
     alloc: Global,
     name_request: NameRequest<'_>,
+    entries: &mut Vec<Loaded>,
     env: &mut V,
     tree: &mut T,
     done: &mut Done,
 ) -> Result<(), Refusal>
+    requires { AreEntriesOf (entries_view entries.old) (V.vars env.old) }
     ensures reads { ReadsOn T.agrees T.failures tree.old tree.new }
+    ensures listed { OnOk result (AreEntriesOf (entries_view entries.new) (V.vars env.new)) }
     ensures base { V.base env.new ≡ V.base env.old }
     ensures over_tree { StepAnswersOverTree (T.agrees tree.new) (T.failures tree.old < T.failures tree.new)
         (λ u. done_view done.new (V.vars env.new)) result
@@ -285,22 +340,16 @@ pub(crate) fn unload_name<T: Tree, V: Vars>(
     ensures failed { FailsAt is_failure (T.failed tree.old) (T.failed tree.new) result
         (UnloadLooksAt name_request.entry.typed.now (done_view done.old (V.vars env.old))) }
 {
-    let entries = entries_of(alloc, env)?;
     if !is_module_name(name_request.typed) {
         let name = String::from_str(alloc, name_request.typed)?;
         return Err(Refusal::Find(FindFault::BadName(name)));
     }
     match last_meant(entries.as_slice(), name_request.typed) {
         None => Ok(()),
-        Some(entry) => unload_entry(
-            alloc,
-            name_request,
-            entries.as_slice(),
-            entry,
-            env,
-            tree,
-            done,
-        ),
+        Some(entry) => {
+            let unloading = Unloading::of(alloc, entry)?;
+            unload_module(alloc, name_request, entries, unloading, env, tree, done)
+        }
     }
 }
 
@@ -343,6 +392,7 @@ fn report_found<V: Vars>(
     ensures given { GivesOrRefuses (λ u. done_view done.new (V.vars env.new)) result
         (ReportsFound name_request.entry report_kind (found_view found.now) (map entry_view entries.now)
         (done_view done.old (V.vars env.old))) }
+    ensures listed { OnOk result (entries_of (V.vars env.new) ≡ entries_of (V.vars env.old)) }
     ensures base { V.base env.new ≡ V.base env.old }
 {
     let file = ModuleFile::of(found);
@@ -365,11 +415,14 @@ pub(crate) fn report_name<T: Tree, V: Vars>(
     settings: EvaluationSettings,
     report_kind: ReportKind,
     typed: &str,
+    entries: &[Loaded],
     env: &mut V,
     tree: &mut T,
     done: &mut Done,
 ) -> Result<(), Refusal>
+    requires { AreEntriesOf (map entry_view entries.now) (V.vars env.old) }
     ensures reads { ReadsOn T.agrees T.failures tree.old tree.new }
+    ensures listed { OnOk result (entries_of (V.vars env.new) ≡ entries_of (V.vars env.old)) }
     ensures base { V.base env.new ≡ V.base env.old }
     ensures over_tree { StepAnswersOverTree (T.agrees tree.new) (T.failures tree.old < T.failures tree.new)
         (λ u. done_view done.new (V.vars env.new)) result
@@ -385,15 +438,6 @@ pub(crate) fn report_name<T: Tree, V: Vars>(
         in_switch: false,
         typed,
     };
-    let entries = entries_of(alloc, env)?;
     let found = find_module(alloc, name_request, env, tree)?;
-    report_found(
-        alloc,
-        name_request,
-        report_kind,
-        entries.as_slice(),
-        &found,
-        env,
-        done,
-    )
+    report_found(alloc, name_request, report_kind, entries, &found, env, done)
 }

@@ -4,7 +4,7 @@ ghost use Rattle.std.specs.List.{list_all};
 ghost use Rattle.envvars.specs.Environment.{Environment};
 ghost use Rattle.modulefile.specs.RecordViews.{record_view};
 ghost use Rattle.modulerun.specs.Running.{ran_view};
-ghost use Rattle.reversal.specs.VariableUses as uses;
+ghost use Rattle.requests.specs.VariableUses as uses;
 ghost use Rattle.requests.specs.Verdicts.{verdict_of};
 ghost use Rattle.requeststep.specs.Verdicts.{verdict_view};
 

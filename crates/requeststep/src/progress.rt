@@ -2,7 +2,7 @@
 ghost use Rattle.std.specs.Prelude.{◌≡◌, ◌++◌, [], ◌∷◌, OnOk, OnErr};
 ghost use Rattle.envvars.specs.Environment.{Environment};
 ghost use Rattle.envvars.specs.Texts.{texts_in};
-ghost use Rattle.modulerecords.specs.Moves.{loaded_names};
+ghost use Rattle.requests.specs.Moves.{loaded_names};
 ghost use Rattle.requests.specs.Steps.{nothing_done, with_move, with_report};
 ghost use Rattle.requeststep.specs.MoveViews.{move_view};
 ghost use Rattle.requeststep.specs.Views.{done_view};

@@ -1,5 +1,5 @@
 -- What one record leaves as it was.
-use Rattle.std.proofs.Common.{◌≡◌, Bool, true, false, List, [], ◌∷◌, refl, sym, ap, subst, Option, Some, None, Result, Ok, Err}
+use Rattle.std.proofs.Common.{◌≡◌, Bool, true, false, List, [], ◌∷◌, refl, sym, ap, ◌∙◌, subst, Option, Some, None, Result, Ok, Err}
 use Rattle.std.specs.Prelude.{bytes_eq}
 use Rattle.std.specs.Option.{option_map, option_or}
 use Rattle.std.proofs.lemmas.Bool.{false≢true}
@@ -8,6 +8,7 @@ use Rattle.envvars.specs.Names.{name_reason}
 use Rattle.envvars.specs.Environment.{Environment, lookup, with_value}
 use Rattle.envvars.specs.Reasons.{EnvReason}
 use Rattle.envpaths.specs.declared.edits.End.TheVariants as ends
+use Rattle.envloaded.specs.Loaded.{loaded_in}
 use Rattle.envstate.specs.Roles.{role_of, is_editable}
 use Rattle.envstate.specs.Roles.VariableRole.{Other}
 use Rattle.envstate.specs.Frames.{EditsVariable, IsVariableUnchanged, AreLoadedUnchanged}
@@ -15,7 +16,8 @@ use Rattle.envstate.proofs.RoleLemmas.{no_reason_against}
 use Rattle.envstate.proofs.FrameLemmas.{add_edits, drop_edits, push_edits, pop_edits, set_edits, path_edits_variable, stack_edits_variable, keeps_other, keeps_loaded, rest_stays}
 use Rattle.modulerecords.specs.Records.{Record, Set, Unset, Push, Front, Back, Remove, Conflict, Prereq, Whatis, variable_of}
 use Rattle.modulerecords.specs.Judgments.{RecordReason, bad_edit, value_reason, values_of, record_reason}
-use Rattle.modulerecords.specs.Effects.{Mode, load, unload, loaded_by, unloaded_by, edited, edit_outcome, permitted, effect}
+use Rattle.modulerecords.specs.Effects.{Mode, load, unload, display, whatis, loaded_by, unloaded_by, edited, edit_outcome, permitted, effect, effects}
+use Rattle.modulerecords.proofs.Effected.{parts}
 use Rattle.reversal.specs.VariableUses.{is_reversible}
 
 abbrev pub accepted : Environment → Result Environment EnvReason
@@ -103,3 +105,30 @@ kept_loaded (Some v) old new t = keeps_loaded old new v t
 pub kept_rest : (o : Option Text) (old new : Environment) (q : Text) → Touched o old new → role_of q ≡ Other → lookup new q ≡ lookup old q
 kept_rest None old new q t h = ap (λ (e : Environment). lookup e q) t
 kept_rest (Some v) old new q t h = rest_stays old new v q t h
+
+-- a record leaves the loaded list, in every mode
+list_unloaded : (owner : Text) (r : Record) (old new : Environment) → record_reason r ≡ None → unloaded_by owner r old ≡ Ok new → loaded_in new ≡ loaded_in old
+list_unloaded owner (Unset v None) old new n h = ap loaded_in (same_accepted old new h)
+list_unloaded owner (Remove d v xs) old new n h = ap loaded_in (same_accepted old new h)
+list_unloaded owner (Set v x) old new n h = (kept_loaded (Some v) old new (touched_unloaded owner (Set v x) old new refl n h)).list
+list_unloaded owner (Unset v (Some x)) old new n h = (kept_loaded (Some v) old new (touched_unloaded owner (Unset v (Some x)) old new refl n h)).list
+list_unloaded owner (Push v x) old new n h = (kept_loaded (Some v) old new (touched_unloaded owner (Push v x) old new refl n h)).list
+list_unloaded owner (Front d v xs) old new n h = (kept_loaded (Some v) old new (touched_unloaded owner (Front d v xs) old new refl n h)).list
+list_unloaded owner (Back d v xs) old new n h = (kept_loaded (Some v) old new (touched_unloaded owner (Back d v xs) old new refl n h)).list
+list_unloaded owner (Conflict x) old new n h = ap loaded_in (same_accepted old new h)
+list_unloaded owner (Prereq x) old new n h = ap loaded_in (same_accepted old new h)
+list_unloaded owner (Whatis x) old new n h = ap loaded_in (same_accepted old new h)
+
+list_kept : (mode : Mode) (owner : Text) (r : Record) (old new : Environment) → record_reason r ≡ None → edited mode owner r old ≡ Ok new → loaded_in new ≡ loaded_in old
+list_kept load owner r old new n h = (kept_loaded (variable_of r) old new (touched_loaded owner r old new n h)).list
+list_kept unload owner r old new n h = list_unloaded owner r old new n h
+list_kept display owner r old new n h = ap loaded_in (same_accepted old new h)
+list_kept whatis owner r old new n h = ap loaded_in (same_accepted old new h)
+
+-- so do all records of a file
+pub effects_leave_list : (mode : Mode) (owner : Text) (rs : List Record) (old new : Environment) → effects mode owner rs old ≡ Ok new → loaded_in new ≡ loaded_in old
+effects_leave_list mode owner [] old new h = let q : old ≡ new = cc in ap loaded_in (sym q)
+effects_leave_list mode owner (r ∷ rs) old new h =
+    let p = parts (effect mode owner r old) (effects mode owner rs) new h in
+    let first = effect_edits mode owner r old p.0 p.1 in
+    effects_leave_list mode owner rs p.0 new p.2 ∙ list_kept mode owner r old p.0 first.0 first.1

@@ -1,5 +1,5 @@
 mod ModuleEntries
-mod Frames
+pub mod Frames
 mod Uses
 mod Loads
 mod OneVariable

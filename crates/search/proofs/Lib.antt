@@ -12,5 +12,6 @@ pub mod UnderLemmas
 pub mod RowLemmas
 pub mod FileLemmas
 pub mod WalkLemmas
+pub mod FolderLemmas
 pub mod ListingLookLemmas
 pub mod ListingLemmas

@@ -8,16 +8,16 @@ use Rattle.filetree.specs.Agreement.{Files, Listings}
 use Rattle.search.specs.DefaultFiles.{DefaultFileResult}
 use Rattle.search.specs.Listed.{ListingEntry}
 use Rattle.search.proofs.VersionLemmas.{has, same, itself}
-use Rattle.search.specs.BelowFolder.{folder_path, parts_of, names_in, is_module_below, IsUnder, IsInside, AreEntriesOfFiles, AreListingEntries}
+use Rattle.search.specs.BelowFolder.{parts_of, names_in, is_module_below, IsUnder, IsInside, AreEntriesOfFiles, AreListingEntries}
 use Rattle.search.proofs.PartLemmas.{parts_of-below}
-use Rattle.search.proofs.UnderLemmas.{name_from, inside, outside}
+use Rattle.search.proofs.UnderLemmas.{name_from}
 use Rattle.search.proofs.RowLemmas.{has_left, rows_same, rows_append, rows_of_files}
 
 pub has_middle : (v : Text) (xs ys : List Text) → has v (xs ++ v ∷ ys) ≡ true
 has_middle v [] ys = or_left (bytes_eq v v) (has v ys) (itself v)
 has_middle v (x ∷ xs) ys = or_right (bytes_eq v x) (has v (xs ++ v ∷ ys)) (has_middle v xs ys)
 
-has_last : (v n : Text) (xs : List Text) → has v (xs ++ n ∷ []) ≡ true → (has v xs ≡ true) ⊎ (v ≡ n)
+pub has_last : (v n : Text) (xs : List Text) → has v (xs ++ n ∷ []) ≡ true → (has v xs ≡ true) ⊎ (v ≡ n)
 has_last v n [] h = ⊎_elim (λ q. inr (same v n q)) (λ q. absurd (cc)) (or_cases (bytes_eq v n) false h)
 has_last v n (x ∷ xs) h =
     ⊎_elim (λ q. inl (or_left (bytes_eq v x) (has v xs) q)) (λ q. ⊎_elim (λ r. inl (or_right (bytes_eq v x) (has v xs) r)) (λ r. inr r) (has_last v n xs q))
@@ -34,13 +34,12 @@ module _ {X : Type 0} (view : X → Text) (x : X) (xs : List X) (i : ℕ) (withi
   one_more = ap (map view) (take_more xs i x within) ∙ map-append view (take i xs) (get_or xs i x ∷ []) ∙ ap (λ y. map view (take i xs) ++ view y ∷ []) (sym is)
 
 -- one level down
-pub deeper : (prefix : Option Text) (entries names done after : List Text) (n name : Text) (levels : ℕ) → names ≡ names_in prefix entries → names ≡ done ++ n ∷ after → name ≡ n
-    → 4 ≤ length (parts_of prefix) + levels → levels ≢ 0 → 4 ≤ length (parts name) + (levels - 1)
-deeper prefix entries names done after n name levels named split is deep some =
-    let h : has n (names_in prefix entries) ≡ true = ap (has n) (sym named ∙ split) ∙ has_middle n done after in
-    let r = name_from prefix entries n h in
-    let made : parts name ≡ parts_of prefix ++ r.0 ∷ [] = ap parts (is ∙ r.1) ∙ parts_of-below prefix r.0 r.3 in
-    let e : length (parts name) ≡ length (parts_of prefix ++ r.0 ∷ []) = ap length made in
+pub deeper : (prefix : Option Text) (entries names : List Text) (n : Text) (levels : ℕ) → names ≡ names_in prefix entries → has n names ≡ true
+    → 4 ≤ length (parts_of prefix) + levels → levels ≢ 0 → 4 ≤ length (parts n) + (levels - 1)
+deeper prefix entries names n levels named there deep some =
+    let r = name_from prefix entries n (ap (has n) (sym named) ∙ there) in
+    let made : parts n ≡ parts_of prefix ++ r.0 ∷ [] = ap parts r.1 ∙ parts_of-below prefix r.0 r.3 in
+    let e : length (parts n) ≡ length (parts_of prefix ++ r.0 ∷ []) = ap length made in
     let l = length-append (parts_of prefix) (r.0 ∷ []) in
     omega arith
 
@@ -60,12 +59,3 @@ module _ (results : Text → Text → Option DefaultFileResult → Type 0) (file
       (λ v u. inr (name, has_middle name done [], u))
       (λ v u. ⊎_elim (λ q. inl (inl q)) (λ q. ⊎_elim (λ r. inl (inr (q.0, r, q.2))) (λ r. inr (subst (λ n. IsUnder files folders dir (Some n) v) r q.2)) (has_last q.0 name done q.1)) u)
       listing_entries more a b
-
-  pub rows_finished : (prefix : Option Text) (entries : List Text) → folders (folder_path dir prefix) ≡ Some entries → (names done : List Text) → names ≡ names_in prefix entries → names ≡ done
-      → (listing_entries : List ListingEntry) → AreListingEntries results files folders dir (IsInside files folders dir names done) listing_entries → AreListingEntries results files folders dir (IsUnder files folders dir prefix) listing_entries
-  rows_finished prefix entries listed names done named all listing_entries a =
-      let made : AreListingEntries results files folders dir (IsInside files folders dir (names_in prefix entries) (names_in prefix entries)) listing_entries =
-      subst (λ ns. AreListingEntries results files folders dir (IsInside files folders dir ns ns) listing_entries) named
-      (subst (λ ns. AreListingEntries results files folders dir (IsInside files folders dir names ns) listing_entries) (sym all) a) in
-      rows_same results files folders dir (IsInside files folders dir (names_in prefix entries) (names_in prefix entries)) (IsUnder files folders dir prefix)
-      (λ v u. outside files folders dir prefix entries listed v u) (λ v u. inside files folders dir prefix entries listed v u) listing_entries made

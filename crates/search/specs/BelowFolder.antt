@@ -1,6 +1,6 @@
 -- What stands below a folder of a directory of MODULEPATH: the definitions that the walk through folders follows, for
 -- this crate's own contracts alone.
-use Rattle.std.specs.Prelude.{◌≡◌, ◌↔◌, ◌⊎◌, Bool, true, List, [], map, filter, Option, Some, None, bytes_eq}
+use Rattle.std.specs.Prelude.{◌≡◌, ◌↔◌, ◌⊎◌, Bool, true, false, List, [], map, filter, Option, Some, None, bytes_eq}
 use Rattle.std.specs.List.{list_any, AllByRecursion}
 use Rattle.modulename.specs.ModuleName.{Text, parts, is_module_name}
 use Rattle.filetree.specs.Agreement.{Files, Listings}
@@ -99,3 +99,12 @@ abbrev pub LooksFromFolder : (Text → Text → Option DefaultFileResult → Typ
     → Option Text → Text → Type 0
 LooksFromFolder results files folders dir prefix at = IsFolderOf folders dir prefix
     → LooksForListing results files folders dir at
+
+-- each of these texts is one of the others
+abbrev pub AreAmong : List Text → List Text → Type 0
+AreAmong some all = (v : Text) → list_any (bytes_eq v) some ≡ true → list_any (bytes_eq v) all ≡ true
+
+-- of these names below a directory, those at whose paths a directory is are among these folders
+abbrev pub HasAllFolders : Listings → Text → List Text → List Text → Type 0
+HasAllFolders listings dir names folders = (n : Text) → list_any (bytes_eq n) names ≡ true
+    → list_any (bytes_eq n) folders ≡ false → listings (path_of dir n) ≡ None

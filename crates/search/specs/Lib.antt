@@ -16,3 +16,5 @@ pub mod Versions
 pub mod Steps
 pub mod Marks
 pub mod BelowFolder
+-- What the definitions above cite, so that a caller need not name the crates below.
+pub use Rattle.modulename.specs.ModuleName

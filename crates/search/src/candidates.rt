@@ -1,5 +1,5 @@
 //! Whether a full name below a directory, or a version of a name, is that of a module.
-ghost use Rattle.std.specs.Prelude.{◌≡◌, IfOk};
+ghost use Rattle.std.specs.Prelude.{◌≡◌, false, None, IfOk};
 ghost use Rattle.filetree.specs.Agreement.{FailsAt, InEachPair, Narrows, FailsOnlyByDevice, is_device};
 ghost use Rattle.filetree.specs.Modulefiles.{path_of};
 ghost use Rattle.search.specs.BelowFolder.{is_module_below};
@@ -27,6 +27,42 @@ pub(crate) fn is_module_below<T: Tree>(
 {
     let path = path_of(alloc, dir, name)?;
     holds_module(tree, &path)
+}
+
+/// What a listing asks of a name below a directory.
+#[derive(Clone, Copy)]
+pub(crate) struct Seen {
+    /// Whether its file begins with `#%Module`.
+    pub(crate) is_module: bool,
+    /// Whether a directory may be at its path.
+    pub(crate) may_list: bool,
+}
+
+/// What is at the path of this full name below the directory.
+///
+/// It fails as the tree does, at that path, and for want of memory.
+pub(crate) fn see_below<T: Tree>(
+    alloc: Global,
+    tree: &mut T,
+    dir: &str,
+    name: &str,
+) -> Result<Seen, TreeFault>
+    ensures narrows { Narrows (T.agrees tree.old) (T.agrees tree.new) }
+    ensures answer { IfOk result (λ seen. InEachPair (T.agrees tree.new) (λ files listings.
+        is_module_below files dir.now name.now ≡ seen.is_module)) }
+    ensures nothing { IfOk result (λ seen. seen.may_list ≡ false → InEachPair (T.agrees tree.new) (λ files listings.
+        listings (path_of dir.now name.now) ≡ None)) }
+    ensures cause { FailsOnlyByDevice (T.failures tree.old) (T.failures tree.new) result }
+    ensures failed { FailsAt is_device (T.failed tree.old) (T.failed tree.new) result (λ at.
+        at ≡ path_of dir.now name.now) }
+{
+    let path = path_of(alloc, dir, name)?;
+    let is_module = holds_module(tree, &path)?;
+    let may_list = tree.may_list(&path);
+    Ok(Seen {
+        is_module,
+        may_list,
+    })
 }
 
 /// Whether the file of a version of a name, below the directory, begins with `#%Module`.

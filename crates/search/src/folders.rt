@@ -3,14 +3,14 @@ ghost use Rattle.std.specs.Prelude.{◌≡◌, ◌++◌, ◌+◌, ◌≤◌, Lis
 ghost use Rattle.std.specs.Option.{option_map};
 ghost use Rattle.filetree.specs.Agreement.{FailsWhere, InEachPair, Narrows, FailsOnlyByDevice, is_device};
 ghost use Rattle.search.specs.Listed as listed;
-ghost use Rattle.search.specs.BelowFolder.{folder_path, parts_of, names_in, IsUnder, AreEntriesOfFiles, AreListingEntries, IsDefaultOf};
+ghost use Rattle.search.specs.BelowFolder.{folder_path, parts_of, names_in, IsUnder, AreEntriesOfFiles, AreListingEntries, IsDefaultOf, AreAmong, HasAllFolders};
 ghost use Rattle.search.specs.BelowFolder.{LooksForDefault, LooksFromFolder};
 ghost use Rattle.search.specs.ListingEntries.{listing_entry_view};
 
 use crate::default_files::DefaultFiles;
 use crate::defaults::{NamedVersion, named_default};
 use crate::listing_entries::{ListingEntry, push_listing_entries};
-use crate::names::{folder_path, modules_among, names_in};
+use crate::names::{Sorted, folder_path, names_in, sort_out};
 use crate::paths::path_of;
 use filetree::{Tree, TreeFault};
 use std::alloc::Global;
@@ -65,38 +65,43 @@ impl<D: DefaultFiles> Walk<'_, D> {
         }
     }
 
-    /// Adds the modules that are files in a folder with these entries and these full names of them. Default files are
-    /// read only where there is a module.
-    fn list_files<T: Tree>(
+    /// Adds the modules that are files in a folder with these entries and these full names of them, and gives the names
+    /// that may be those of folders. Default files are read only where there is a module.
+    fn list_files<'n, T: Tree>(
         &self,
         tree: &mut T,
         prefix: Option<&str>,
         entries: &[String],
-        names: &[String],
+        names: &'n [String],
         listing_entries: &mut Vec<ListingEntry>,
-    ) -> Result<(), TreeFault>
+    ) -> Result<Vec<&'n str>, TreeFault>
         requires listed { InEachPair (T.agrees tree.old) (λ files folders.
             folders (folder_path self.now.dir.now (option_map (λ f. f.now) prefix))
             ≡ Some (map string_bytes entries.now)) }
         requires named { map string_bytes names.now
             ≡ names_in (option_map (λ f. f.now) prefix) (map string_bytes entries.now) }
+        ensures named { IfOk result (λ below.
+            AreAmong (map (λ f. f.now) below.items) (map string_bytes names.entry.now)) }
+        ensures others { IfOk result (λ below. InEachPair (T.agrees tree.new) (λ files folders.
+            HasAllFolders folders self.now.dir.now (map string_bytes names.entry.now)
+            (map (λ f. f.now) below.items))) }
         ensures narrows { Narrows (T.agrees tree.old) (T.agrees tree.new) }
         ensures added { OnOk result (InEachPair (T.agrees tree.new) (λ files folders. (more : List listed.ListingEntry)
             × (map listing_entry_view listing_entries.new.items ≡ map listing_entry_view listing_entries.old.items ++ more)
             × AreEntriesOfFiles (D.results self.now.default_files.now) files folders self.now.dir.now
-            (map string_bytes names.now) more)) }
+            (map string_bytes names.entry.now) more)) }
         ensures cause { FailsOnlyByDevice (T.failures tree.old) (T.failures tree.new) result }
         ensures failed { FailsWhere is_device T.agrees T.failed tree.old tree.new result (λ files folders.
             LooksFromFolder (D.results self.now.default_files.now) files folders self.now.dir.now
             (option_map (λ f. f.now) prefix.entry)) }
     {
-        let modules = modules_among(self.alloc, tree, self.dir, names)?;
+        let Sorted { modules, folders } = sort_out(self.alloc, tree, self.dir, names)?;
         if modules.is_empty() {
-            return Ok(());
+            return Ok(folders);
         }
         let default = self.default_name(tree, prefix, entries)?;
         push_listing_entries(self.alloc, listing_entries, &modules, default.as_deref())?;
-        Ok(())
+        Ok(folders)
     }
 
     /// Adds the modules in a folder and in the folders below it, `levels` levels of names in all. A name has four parts
@@ -127,9 +132,9 @@ impl<D: DefaultFiles> Walk<'_, D> {
             return Ok(());
         };
         let names = names_in(self.alloc, prefix, &entries)?;
-        self.list_files(tree, prefix, &entries, &names, listing_entries)?;
-        for name in &names {
-            self.list_folder(tree, Some(name.as_str()), levels - 1, listing_entries)?;
+        let below = self.list_files(tree, prefix, &entries, &names, listing_entries)?;
+        for name in &below {
+            self.list_folder(tree, Some(*name), levels - 1, listing_entries)?;
         }
         Ok(())
     }

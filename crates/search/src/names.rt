@@ -1,11 +1,11 @@
 //! Full names and paths of what stands below a directory, folder by folder.
-ghost use Rattle.std.specs.Prelude.{◌≡◌, map, filter, IfOk, string_bytes};
+ghost use Rattle.std.specs.Prelude.{◌≡◌, ◌++◌, ◌∷◌, [], map, filter, IfOk, OnOk, string_bytes, if◌then◌else◌};
 ghost use Rattle.std.specs.Option.{option_map};
 ghost use Rattle.filetree.specs.Agreement.{FailsAt, InEachPair, Narrows, FailsOnlyByDevice, is_device};
 ghost use Rattle.search.specs.Single.{is_single};
-ghost use Rattle.search.specs.BelowFolder.{folder_path, name_below, names_in, is_module_below, LooksAmong};
+ghost use Rattle.search.specs.BelowFolder.{folder_path, name_below, names_in, is_module_below, LooksAmong, AreAmong, HasAllFolders};
 
-use crate::candidates::is_module_below;
+use crate::candidates::see_below;
 use crate::paths::{is_single, path_of};
 use filetree::{Tree, TreeFault};
 use modulename::is_module_name;
@@ -56,27 +56,53 @@ pub(crate) fn names_in(
     Ok(names)
 }
 
-/// Those of the names below a directory whose files begin with `#%Module`.
+/// Adds the name where the test is true.
+fn push_if<'a>(names: &mut Vec<&'a str>, test: bool, name: &'a str) -> Result<(), AllocError>
+    ensures { OnOk result (map (λ n. n.now) names.new.items
+        ≡ map (λ n. n.now) names.old.items ++ (if test then name.now ∷ [] else [])) }
+{
+    if test {
+        names.push(name)?;
+    }
+    Ok(())
+}
+
+/// The names below a directory that a listing goes on with.
+#[derive(Drop)]
+pub(crate) struct Sorted<'a> {
+    /// Those whose files begin with `#%Module`.
+    pub(crate) modules: Vec<&'a str>,
+    /// Those at whose paths a directory may be.
+    pub(crate) folders: Vec<&'a str>,
+}
+
+/// Sorts out the names below a directory.
 ///
 /// It fails as the tree does, at the path of one of the names, and for want of memory.
-pub(crate) fn modules_among<'a, T: Tree>(
+pub(crate) fn sort_out<'a, T: Tree>(
     alloc: Global,
     tree: &mut T,
     dir: &str,
     names: &'a [String],
-) -> Result<Vec<&'a str>, TreeFault>
+) -> Result<Sorted<'a>, TreeFault>
     ensures narrows { Narrows (T.agrees tree.old) (T.agrees tree.new) }
-    ensures answer { IfOk result (λ modules. InEachPair (T.agrees tree.new) (λ files folders.
-        map (λ m. m.now) modules.items ≡ filter (is_module_below files dir.now) (map string_bytes names.entry.now))) }
+    ensures answer { IfOk result (λ sorted. InEachPair (T.agrees tree.new) (λ files folders.
+        map (λ m. m.now) sorted.modules.items
+        ≡ filter (is_module_below files dir.now) (map string_bytes names.entry.now))) }
+    ensures named { IfOk result (λ sorted.
+        AreAmong (map (λ f. f.now) sorted.folders.items) (map string_bytes names.entry.now)) }
+    ensures others { IfOk result (λ sorted. InEachPair (T.agrees tree.new) (λ files folders.
+        HasAllFolders folders dir.now (map string_bytes names.entry.now) (map (λ f. f.now) sorted.folders.items))) }
     ensures cause { FailsOnlyByDevice (T.failures tree.old) (T.failures tree.new) result }
     ensures failed { FailsAt is_device (T.failed tree.old) (T.failed tree.new) result
         (LooksAmong dir.now (map string_bytes names.entry.now)) }
 {
     let mut modules = Vec::with_capacity(alloc, names.len())?;
+    let mut folders = Vec::new(alloc);
     for name in names {
-        if is_module_below(alloc, tree, dir, name)? {
-            modules.push(name.as_str())?;
-        }
+        let seen = see_below(alloc, tree, dir, name)?;
+        push_if(&mut modules, seen.is_module, name.as_str())?;
+        push_if(&mut folders, seen.may_list, name.as_str())?;
     }
-    Ok(modules)
+    Ok(Sorted { modules, folders })
 }

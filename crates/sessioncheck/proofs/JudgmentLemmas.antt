@@ -6,7 +6,7 @@ use Rattle.envvars.specs.Texts.{Text, slice_texts, texts_in}
 use Rattle.envvars.specs.Environment.{Environment}
 use Rattle.filetree.specs.Agreement.{Files, Listings, InEachPair, Narrows}
 use Rattle.filetree.specs.Causes.{Cause, Applies, memory, device, because}
-use Rattle.modulerecords.specs.Moves.{Move, Loads, Unloads, loaded_names}
+use Rattle.requests.specs.Moves.{Move, Loads, Unloads, loaded_names}
 use Rattle.tclrules.specs.declared.limits.Limits.{Limits}
 use Rattle.requests.specs.Reasons.{RequestReason}
 use Rattle.requests.specs.Sessions.{Response, session_moves, env_after}

@@ -4,7 +4,7 @@ use Rattle.envvars.specs.Texts.{Text}
 use Rattle.envvars.specs.Environment.{Environment}
 use Rattle.envvars.specs.Fields.{without_repeats}
 use Rattle.filetree.specs.Agreement.{Files, Listings}
-use Rattle.modulerecords.specs.Moves.{loaded_names}
+use Rattle.requests.specs.Moves.{loaded_names}
 use Rattle.tclrules.specs.declared.limits.Limits.{Limits}
 use Rattle.requests.specs.Sessions.{Response, session_moves}
 use Rattle.requests.specs.Verdicts.{HasVerdict}

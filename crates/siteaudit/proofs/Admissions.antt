@@ -7,11 +7,11 @@ use Rattle.envloaded.specs.Loaded.{Entry, names_of, loaded_in}
 use Rattle.shells.specs.declared.shell.Shell.{Shell}
 use Rattle.filetree.specs.Modulefiles.{script, modulefile}
 use Rattle.filetree.specs.Relations.{Is, Then, If}
-use Rattle.modulerecords.specs.Records.{Record}
-use Rattle.modulerecords.specs.Effects as modes
-use Rattle.modulerecords.specs.Effects.{Mode}
-use Rattle.modulerecords.specs.Moves.{Module, Move, Loads, Unloads, moved}
-use Rattle.modulerecords.specs.Moves as moves
+use Rattle.requests.specs.Records.{Record}
+use Rattle.requests.specs.Effects as modes
+use Rattle.requests.specs.Effects.{Mode}
+use Rattle.requests.specs.Moves.{Module, Move, Loads, Unloads, moved}
+use Rattle.requests.specs.Moves as moves
 use Rattle.modulefile.specs.Files.{Ran}
 use Rattle.search.specs.Reasons.{bad_name}
 use Rattle.search.specs.Found as search

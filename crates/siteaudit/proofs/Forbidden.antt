@@ -6,8 +6,8 @@ use Rattle.modulename.specs.ModuleName.{means}
 use Rattle.envvars.specs.Texts.{Text}
 use Rattle.envvars.proofs.TextLemmas.{or_left, or_right}
 use Rattle.envloaded.specs.Loaded.{Entry}
-use Rattle.modulerecords.specs.Records.{conflict_names, prereq_groups}
-use Rattle.modulerecords.specs.Moves.{Module}
+use Rattle.requests.specs.Records.{conflict_names, prereq_groups}
+use Rattle.requests.specs.Moves.{Module}
 use Rattle.requests.specs.Reasons.{RequestReason, conflict_with, prereq_missing}
 use Rattle.requests.specs.Conditions.{recorded_conflict, own_conflict, missing_group, load_objection}
 use Rattle.certificate.specs.Clashes.{in_conflict_with_entry}

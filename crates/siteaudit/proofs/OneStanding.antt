@@ -9,12 +9,12 @@ use Rattle.envvars.proofs.TextLemmas.{bytes_eq-same}
 use Rattle.filetree.specs.Modulefiles.{modulefile}
 use Rattle.filetree.specs.Relations.{IsOne}
 use Rattle.filetree.proofs.OneOutcome.{one_is, one_then}
-use Rattle.modulerecords.specs.Effects as modes
-use Rattle.modulerecords.specs.Records.{Record}
-use Rattle.modulerecords.specs.Moves.{Module}
+use Rattle.requests.specs.Effects as modes
+use Rattle.requests.specs.Records.{Record}
+use Rattle.requests.specs.Moves.{Module}
 use Rattle.modulefile.specs.Files.{Ran, RunsFile}
 use Rattle.modulefile.specs.Laws as files
-use Rattle.reversal.specs.VariableUses.{VariableUse, Untouched, Fixed, Pathed, Stacked}
+use Rattle.requests.specs.VariableUses.{VariableUse, Untouched, Fixed, Pathed, Stacked}
 use Rattle.requests.specs.Refusals.{refused_as, RefusedAs}
 use Rattle.requests.specs.Reasons.{RequestReason, file_refused}
 use Rattle.requests.specs.Steps.{entries_of, script_at, context_of}

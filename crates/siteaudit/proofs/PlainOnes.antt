@@ -2,8 +2,8 @@
 use Rattle.std.proofs.Common.{◌≡◌, ◌⊎◌, inl, inr, List, [], ◌∷◌, map, Option, Some, None, Result, Ok, Err, refl, ap, sym, ◌∙◌, subst}
 use Rattle.std.specs.Prelude.{filter_map}
 use Rattle.std.specs.List.{cons_option}
-use Rattle.modulerecords.specs.Records.{Record}
-use Rattle.modulerecords.specs.Moves.{Module}
+use Rattle.requests.specs.Records.{Record}
+use Rattle.requests.specs.Moves.{Module}
 use Rattle.modulefile.specs.Files.{Ran}
 use Rattle.modulefile.specs.Laws as files
 use Rattle.requests.specs.Reasons.{RequestReason}

@@ -4,10 +4,10 @@ use Rattle.std.specs.List.{list_all}
 use Rattle.envvars.specs.Texts.{Text}
 use Rattle.filetree.specs.Modulefiles.{script, modulefile}
 use Rattle.filetree.specs.Relations.{Is, ◌>>◌}
-use Rattle.modulerecords.specs.Effects as modes
+use Rattle.requests.specs.Effects as modes
 use Rattle.modulefile.specs.Files.{Ran, refused_by, RunsFile, IsSameOrRefused}
 use Rattle.modulefile.specs.Laws.{PlainFilesAgree}
-use Rattle.reversal.specs.VariableUses.{is_reversible}
+use Rattle.requests.specs.VariableUses.{is_reversible}
 use Rattle.requests.specs.Refusals.{RefusedAs}
 use Rattle.requests.specs.Reasons.{file_refused}
 use Rattle.requests.specs.Steps.{RequestContext, entries_of, script_at, context_of}

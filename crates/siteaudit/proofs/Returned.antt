@@ -6,13 +6,13 @@ use Rattle.envvars.specs.Texts.{Text}
 use Rattle.envvars.specs.Environment.{Environment}
 use Rattle.envloaded.specs.Loaded.{Entry, loaded_in}
 use Rattle.envstate.proofs.StateLemmas.{list_in_order}
-use Rattle.modulerecords.specs.Moves.{Module, Move, Loads, Unloads, Fits, moved, MovesReach}
+use Rattle.requests.specs.Moves.{Module, Move, Loads, Unloads, Fits, moved, MovesReach}
 use Rattle.modulefile.specs.Files.{Ran}
-use Rattle.reversal.specs.Live.{entries_over}
-use Rattle.reversal.specs.Starts.{IsInOrder, IsStartWith}
-use Rattle.reversal.specs.Requests as moves
-use Rattle.reversal.specs.Runs.{live_named, without_live, Undoes}
-use Rattle.reversal.specs.Laws.{Holds}
+use Rattle.requests.specs.Live.{entries_over}
+use Rattle.requests.specs.Starts.{IsInOrder, IsStartWith}
+use Rattle.requests.specs.RequestMoves as moves
+use Rattle.requests.specs.Runs.{live_named, without_live, Undoes}
+use Rattle.requests.specs.ReversalLaws.{Holds}
 use Rattle.requests.specs.Requests.{Request}
 use Rattle.requests.specs.Steps.{RequestContext}
 use Rattle.requests.specs.PlainRuns.{HasEvaluatedTo}

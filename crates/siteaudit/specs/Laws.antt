@@ -4,12 +4,12 @@ use Rattle.std.specs.Prelude.{◌≡◌, ◌↔◌, List, [], ◌∷◌, ◌++�
 use Rattle.envvars.specs.Texts.{Text}
 use Rattle.envvars.specs.Environment.{Environment}
 use Rattle.shells.specs.declared.shell.Shell.{Shell}
-use Rattle.modulerecords.specs.Records.{Record}
-use Rattle.modulerecords.specs.Moves.{Module, Move, Loads, Unloads}
+use Rattle.requests.specs.Records.{Record}
+use Rattle.requests.specs.Moves.{Module, Move, Loads, Unloads}
 use Rattle.modulefile.specs.Files.{Ran}
-use Rattle.reversal.specs.Starts.{IsInOrder, IsStartWith}
-use Rattle.reversal.specs.Runs.{live_after}
-use Rattle.reversal.specs.Laws.{Holds}
+use Rattle.requests.specs.Starts.{IsInOrder, IsStartWith}
+use Rattle.requests.specs.Runs.{live_after}
+use Rattle.requests.specs.ReversalLaws.{Holds}
 use Rattle.defaultfiles.specs.DefaultFileResults.{HasResult}
 use Rattle.search.specs.Listed.{ListingEntry, names_of, IsListing}
 use Rattle.requests.specs.Requests.{RequestedAction, Request}

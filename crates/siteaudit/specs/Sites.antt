@@ -9,9 +9,9 @@ use Rattle.shells.specs.declared.shell.Shell.TheVariants.{Sh}
 use Rattle.filetree.specs.Agreement.{Files, Listings}
 use Rattle.filetree.specs.Modulefiles.{modulefile, directories, path_of}
 use Rattle.filetree.specs.Relations.{Is, ◌>>◌}
-use Rattle.modulerecords.specs.Records.{Record, Set, Unset, Push, Front, Back, Remove, Conflict, Prereq, Whatis}
-use Rattle.modulerecords.specs.Effects as modes
-use Rattle.modulerecords.specs.Moves.{Module}
+use Rattle.requests.specs.Records.{Record, Set, Unset, Push, Front, Back, Remove, Conflict, Prereq, Whatis}
+use Rattle.requests.specs.Effects as modes
+use Rattle.requests.specs.Moves.{Module}
 use Rattle.modulefile.specs.Files.{Ran, RunsFile}
 use Rattle.search.specs.Listed.{IsBelow}
 use Rattle.requests.specs.Refusals.{RefusedAs}

@@ -8,9 +8,9 @@ use Rattle.tclchars.specs.declared.fault.TextFault.TheVariants as texts
 use Rattle.tcloperators.specs.declared.fault.ValueFault.{ValueFault}
 use Rattle.tcloperators.specs.declared.fault.ValueFault.TheVariants as faults
 use Rattle.tclvalue.specs.Faults.{HasReason}
-use Rattle.tclexpr.specs.Tree.{Expr}
-use Rattle.tclexpr.specs.Operands.{Operand}
-use Rattle.tclnumber.specs.Numerals.{numeral}
+use Rattle.tclrules.specs.ExpressionTree.{Expr}
+use Rattle.tclrules.specs.Operands.{Operand}
+use Rattle.tclrules.specs.Numerals.{numeral}
 use Rattle.tclvalue.specs.Operators.{truth}
 use Rattle.tclrules.specs.Expressions.{fault_of, expr, normal}
 use Rattle.tclrules.specs.Variables.{State}

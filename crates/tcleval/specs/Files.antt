@@ -2,7 +2,7 @@
 -- of the program.
 use Rattle.std.specs.Prelude.{◌≡◌, ℕ, Result, Ok, Err, string_bytes, String}
 use Rattle.std.specs.declared.alloc.Global.{Global}
-use Rattle.tclchars.specs.Runs.{Text}
+use Rattle.tclrules.specs.Runs.{Text}
 use Rattle.tclrules.specs.Derivation.{EvaluationOutcome, Ended, Halted}
 use Rattle.tclrules.specs.Variables.{State}
 use Rattle.tclrules.specs.Plans as plans

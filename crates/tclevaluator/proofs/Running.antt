@@ -1,14 +1,16 @@
 -- How an evaluation comes on in a derivation, besides the steps of words and expressions.
-use Rattle.std.proofs.Common.{◌≡◌, ℕ, ◌+◌, ◌<◌, ◌≤◌, Bool, true, false, List, [], ◌∷◌, length, get_or, drop, drop-cons, add-one, suc, map, String, Global, Result, Ok, Err, Option, Some, None, Bor, refl, sym, ◌∙◌, ap, ◌++◌, append_assoc, append-nil, arith, rules}
+use Rattle.std.proofs.Common.{◌≡◌, ℕ, ◌+◌, ◌<◌, ◌≤◌, Bool, true, false, List, [], ◌∷◌, length, get_or, drop, drop-cons, add-one, suc, map, String, Global, Vec, Result, Ok, Err, Option, Some, None, Bor, refl, sym, ◌∙◌, ap, ◌++◌, append_assoc, append-nil, arith, rules}
 use Rattle.std.specs.Prelude.{string_bytes, IsErrAnd, IfOk, IfSome, if◌then◌else◌, nat_le}
 use Rattle.std.proofs.lemmas.Bool.Decides.{nat_tests}
 use Rattle.std.proofs.lemmas.Bool.{ne_eqb}
 use Rattle.tclscript.specs.Tree as tree
 use Rattle.tclscript.specs.Tree.{commands_of, words_of}
-use Rattle.tclscript.specs.View.{script_view, command_view, word_view, parts_view}
+use Rattle.tclscript.specs.View.{script_view, command_view, word_view, content_view, parts_view}
 use Rattle.tclscript.specs.declared.tree.Script as rust_script
 use Rattle.tclscript.specs.declared.tree.Command as rust_command
 use Rattle.tclscript.specs.declared.tree.Word as rust_word
+use Rattle.tclscript.specs.declared.tree.WordContent as rust_content
+use Rattle.tclscript.specs.declared.tree.Part.{Part}
 use Rattle.tclrules.specs.Derivation.{Runs, TooDeep}
 use Rattle.tclrules.specs.Variables.{State}
 use Rattle.tclrules.specs.Plans as plans
@@ -154,8 +156,17 @@ module _ {P : Type 0} (range_text : P → Text) where
   pub command_place : (c : rust_command.Command P) → (command_view range_text c).offset ≡ (rust_command.out-Command P c).offset
   command_place c = search (rules, rust_command.the_lemmas)
 
-  pub word_parts : (w : rust_word.Word P) → word_view range_text w ≡ tree.word_of (rust_word.out-Word P w).expands (parts_view range_text (rust_word.out-Word P w).parts.items)
-  word_parts w = search (rules, rust_word.the_lemmas)
+  pub word_content : (w : rust_word.Word P) → word_view range_text w ≡ tree.word_of (rust_word.out-Word P w).expands (content_view range_text (rust_word.out-Word P w).content)
+  word_content w = search (rules, rust_word.the_lemmas)
+
+  pub content_bare : (s : P) → content_view range_text (rust_content.Bare s) ≡ tree.part (tree.literal (range_text s)) tree.no_parts
+  content_bare s = search (rules, rust_content.the_lemmas)
+
+  pub content_braced : (s : P) → content_view range_text (rust_content.Braced s) ≡ tree.part (tree.braced (range_text s)) tree.no_parts
+  content_braced s = search (rules, rust_content.the_lemmas)
+
+  pub content_parts : (v : Vec (Part P) Global) → content_view range_text (rust_content.Parts v) ≡ parts_view range_text v.items
+  content_parts v = search (rules, rust_content.the_lemmas)
 
 -- later and later
 pub begins_refl : {A : Type 0} {xs : List A} → BeginsWith xs xs

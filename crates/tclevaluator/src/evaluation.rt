@@ -3,7 +3,7 @@
 ghost use Rattle.std.specs.Prelude.{◌≡◌, ◌<◌, ◌∷◌, [], Bool, true, false, List, drop, map, option_map, IfOk, string_bytes};
 ghost use Rattle.tclchars.specs.Runs.{Text};
 ghost use Rattle.tclscript.specs.Tree.{commands_of, words_of};
-ghost use Rattle.tclscript.specs.View.{script_view, command_view, word_view, parts_view};
+ghost use Rattle.tclscript.specs.View.{script_view, command_view, word_view, content_view, parts_view};
 ghost use Rattle.tclrules.specs.Derivation.{Counts, Runs};
 ghost use Rattle.tclrules.specs.Variables.{State, lookup};
 ghost use Rattle.tclvariables.specs.Views.{procedure_view};
@@ -31,7 +31,7 @@ use crate::loop_body::LoopBody;
 use crate::sourced::Sourced;
 use crate::trees::{expression_tree, normal};
 use crate::turns::begin_turn;
-use crate::words::{literal, push_words};
+use crate::words::{braced_value, copied, literal_part, push_words};
 use tclcommands::assign;
 use tclcontrol::{
     CommandWords, ResultUse, after_call, after_catch, after_next, after_turn, simple_command,
@@ -40,7 +40,7 @@ use tclcontrol::{
 use tclexpr::OwnedExpr;
 use tclforms::{ForLoop, Form, Loops, Simple, WhileLoop, chosen, core_form, parameter_values};
 use tclrules::Host;
-use tclscript::{ByteRange, Command, Part, Script, Word};
+use tclscript::{ByteRange, Command, Part, Script, Word, WordContent};
 use tclsubstitution::{Control, Step, Stop, SubstitutionContext, advance};
 use tclvalue::{concatenated, truth, value_command};
 use tclvariables::Procedure;
@@ -201,20 +201,50 @@ impl Evaluator {
     {
         let mut texts = Vec::new(self.alloc);
         for word in words.tree {
-            let parts = Sourced {
+            let content = Sourced {
                 source: words.source,
-                tree: word.parts.as_slice(),
+                tree: &word.content,
             };
-            let text = self.word(host, bounds, parts)?;
+            let text = self.word(host, bounds, content)?;
             push_words(self.alloc, &mut texts, word.expands, text)?;
         }
         Ok(texts)
     }
 
-    /// The value of a word. One that is a single literal part is copied without steps.
+    /// The value of a word. One that is a piece of the source is made without steps.
     #[cycle(evaluate)]
     #[tactic(none)]
     fn word<H: Host>(
+        &mut self,
+        host: &mut H,
+        bounds: Bounds,
+        word: Sourced<'_, &WordContent<ByteRange>>,
+    ) -> Result<String, Stop>
+        ensures evaluates_to { (k : Next) → Continues H.oracle H.trace bounds
+            (pieces.parts (bounds_of bounds) (content_view (range_text word.entry.source.now) word.entry.tree.now) []
+            self.old.variables k)
+            (host.old, self.old) result (with_text k) (host.new, self.new) }
+        ensures only_grows { OnlyGrows self.old self.new }
+    {
+        match word.tree {
+            WordContent::Bare(range) => copied(self.alloc, bounds.limits, range.of(word.source)),
+            WordContent::Braced(range) => {
+                braced_value(self.alloc, bounds.limits, range.of(word.source))
+            }
+            WordContent::Parts(parts) => {
+                let parts = Sourced {
+                    source: word.source,
+                    tree: parts.as_slice(),
+                };
+                self.joined_parts(host, bounds, parts)
+            }
+        }
+    }
+
+    /// The values of parts, joined. One literal part is copied without steps.
+    #[cycle(evaluate)]
+    #[tactic(none)]
+    fn joined_parts<H: Host>(
         &mut self,
         host: &mut H,
         bounds: Bounds,
@@ -226,9 +256,8 @@ impl Evaluator {
             (host.old, self.old) result (with_text k) (host.new, self.new) }
         ensures only_grows { OnlyGrows self.old self.new }
     {
-        if let Some(range) = literal(parts.tree) {
-            let text = String::from_str(self.alloc, range.of(parts.source))?;
-            return sized(bounds.limits, text);
+        if let Some(range) = literal_part(parts.tree) {
+            return copied(self.alloc, bounds.limits, range.of(parts.source));
         }
         let start = Control::Parts(String::new(self.alloc), parts.tree);
         self.value(host, bounds, parts.source, start)

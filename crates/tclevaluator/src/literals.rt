@@ -29,7 +29,7 @@ fn literal_text<'t>(limits: Limits, source: &'t str, word: &Word<ByteRange>) -> 
     if word.expands {
         return None;
     }
-    let text = literal(word.parts.as_slice())?.of(source);
+    let text = literal(&word.content)?.of(source);
     if text.len() > limits.value_bytes {
         return None;
     }

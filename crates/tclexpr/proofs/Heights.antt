@@ -4,7 +4,7 @@ use Rattle.std.specs.Ordering.{ord_max, nat_cmp}
 use Rattle.std.proofs.lemmas.Bool.Decides.{nat_tests}
 use Rattle.tclchars.specs.Runs.{Text}
 use Rattle.std.proofs.lemmas.List.{map_push}
-use Rattle.tclscript.specs.View.{script_view, command_view, word_view, part_view, parts_view}
+use Rattle.tclscript.specs.View.{script_view, command_view, word_view, content_view, part_view, parts_view}
 use Rattle.tclscript.specs.declared.tree.Part as rust_part
 use Rattle.tclscript.specs.declared.tree.Word as rust_word
 use Rattle.tclscript.specs.declared.tree.Command as rust_command
@@ -54,7 +54,7 @@ module _ {P : Type 0} (shown : P → Text) where
   pub words_of_command : (c : rust_command.Command P) → (command_view shown c).words ≡ words_view shown (rust_command.out-Command P c).words.items
   words_of_command c = search (rules, rust_command.the_lemmas)
 
-  pub word_height : (w : rust_word.Word P) → word_nesting (word_view shown w) ≡ parts_nesting (parts_view shown (rust_word.out-Word P w).parts.items)
+  pub word_height : (w : rust_word.Word P) → word_nesting (word_view shown w) ≡ parts_nesting (content_view shown (rust_word.out-Word P w).content)
   word_height w = search (rules, rust_word.the_lemmas)
 
   pub script_height : (s : rust_script.Script P) → nesting (script_view shown s) ≡ nesting (commands_of (map (command_view shown) (rust_script.out-Script P s).commands.items))

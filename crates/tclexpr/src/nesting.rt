@@ -2,10 +2,10 @@
 ghost use Rattle.std.specs.Prelude.{◌≡◌, ◌≤◌};
 ghost use Rattle.tclchars.specs.Runs.{Text};
 ghost use Rattle.tclscript.specs.Tree.{nesting, words_nesting, parts_nesting, part_nesting};
-ghost use Rattle.tclscript.specs.View.{script_view, part_view, parts_view};
+ghost use Rattle.tclscript.specs.View.{script_view, content_view, part_view, parts_view};
 ghost use Rattle.tclexpr.specs.View.{words_view};
 
-use tclscript::{Command, Part, Script, Word};
+use tclscript::{Command, Part, Script, Word, WordContent};
 
 /// How deep brackets and the parentheses of indexes nest in a script; `usize::MAX` where that is no `usize`.
 #[cycle(nesting)]
@@ -28,9 +28,21 @@ fn words_nesting<P: Drop>(words: &Vec<Word<P>>) -> usize
 {
     let mut height = 0;
     for word in words {
-        height = height.max(parts_nesting(&word.parts));
+        height = height.max(content_nesting(&word.content));
     }
     height
+}
+
+/// How deep they nest in what a word is made of.
+#[cycle(nesting)]
+fn content_nesting<P: Drop>(content: &WordContent<P>) -> usize
+    ensures { (shown : P → Text) → parts_nesting (content_view shown content.now) ≤ usize.MAX
+        → result ≡ parts_nesting (content_view shown content.now) }
+{
+    match content {
+        WordContent::Parts(parts) => parts_nesting(parts),
+        WordContent::Bare(_) | WordContent::Braced(_) => 0,
+    }
 }
 
 /// How deep they nest in parts.

@@ -1,6 +1,6 @@
 //! The values that a call gives the parameters of a procedure (proc(n)).
 ghost use Rattle.std.specs.Prelude.{◌≡◌, OnOk, map, string_bytes};
-ghost use Rattle.tclchars.specs.Answers.{Gives};
+ghost use Rattle.tclrules.specs.Answers.{Gives};
 ghost use Rattle.tcloperators.specs.Faults.{reason_of};
 ghost use Rattle.tclrules.specs.Rules.{argument, parameter_value, parameter_values};
 ghost use Rattle.tclvariables.specs.Views.{parameter_view};

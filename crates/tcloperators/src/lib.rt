@@ -19,5 +19,7 @@ pub use messages::{
     not_a_whole_number, not_numeric, tcl_error, unsupported, unsupported_subcommand, wrong_words,
 };
 pub use operands::sum;
-pub use operators::{Computed, binary, compute, text_order, truth_text, unary};
+pub use operators::{
+    Computed, binary, compare_numbers, compute, text_order, truth_text, unary, whole_number,
+};
 pub use truth_values::truth;

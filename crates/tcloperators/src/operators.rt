@@ -1,5 +1,9 @@
 //! The operators of expressions on the texts of their operands (expr(n), OPERATORS).
-ghost use Rattle.std.specs.Prelude.{◌≡◌, neg_ℤ, Ok};
+ghost use Rattle.std.specs.Prelude.{◌≡◌, neg_ℤ, Ok, IfSome};
+ghost use Rattle.tclchars.specs.Runs.{Text};
+ghost use Rattle.tclnumber.specs.Numerals.{numeral};
+ghost use Rattle.tclnumber.specs.declared.number.Numeral.TheVariants.{Whole};
+ghost use Rattle.tcloperators.specs.declared.operators.Computed.TheVariants.{Truth};
 ghost use Rattle.tclexpr.specs.Symbols.{binary_symbol};
 ghost use Rattle.tclchars.specs.Answers.{Gives};
 ghost use Rattle.tcloperators.specs.Faults.{reason_of, GivesText};
@@ -115,6 +119,32 @@ pub fn compute(
         BinaryOperator::BitOr => whole_operands(alloc, op, left, right)?.bitwise_or(),
     };
     Ok(Computed::Whole(number))
+}
+
+/// The whole number that a text spells; None for any other text.
+pub fn whole_number(text: &str) -> Option<i64>
+    ensures { IfSome result (λ number. numeral text.now ≡ Whole number) }
+{
+    match read_number(text) {
+        Numeral::Whole(number) => Some(number),
+        Numeral::TooLarge | Numeral::Fraction | Numeral::Text => None,
+    }
+}
+
+/// Whether an operator that compares holds of two operands that spell these whole numbers; None for any other operator.
+pub fn compare_numbers(op: BinaryOperator, left: i64, right: i64) -> Option<bool>
+    ensures { IfSome result (λ holds. (a b : Text) → numeral a ≡ Whole left → numeral b ≡ Whole right
+        → binary_value op a b ≡ Ok (computed_text (Truth holds))) }
+{
+    match op {
+        BinaryOperator::Less => Some(left < right),
+        BinaryOperator::Greater => Some(left > right),
+        BinaryOperator::LessEqual => Some(left <= right),
+        BinaryOperator::GreaterEqual => Some(left >= right),
+        BinaryOperator::Equal => Some(left == right),
+        BinaryOperator::NotEqual => Some(left != right),
+        _ => None,
+    }
 }
 
 /// Whether a text is an element of a list.

@@ -18,3 +18,17 @@ pub mod Meaning
 pub mod Promise
 pub mod Simulates
 pub mod Shown
+-- What the definitions above cite, so that a caller need not name the crates below.
+pub use Rattle.message.specs.Answers
+pub use Rattle.tclchars.specs.Runs
+pub use Rattle.tclchars.specs.Braces
+pub use Rattle.tclchars.specs.Faults as TextFaults
+pub use Rattle.tclscript.specs.Reading as ScriptReading
+pub use Rattle.tclscript.specs.ScanState
+pub use Rattle.tclexpr.specs.Marks
+pub use Rattle.tclexpr.specs.Operands
+pub use Rattle.tclexpr.specs.Tree as ExpressionTree
+pub use Rattle.tclexpr.specs.Reading as ExpressionReading
+pub use Rattle.tcllist.specs.Lists
+pub use Rattle.tcllist.specs.ListReading
+pub use Rattle.tclnumber.specs.Numerals

@@ -7,6 +7,7 @@ pub mod Scans
 pub mod Going
 pub mod Loops
 pub mod Turns
+pub mod BareWords
 pub mod Views
 pub mod Nested
 pub mod PassedOver

@@ -105,7 +105,7 @@ spans InQuotes b bs h k l m = grind (arith, nat_tests)
 no_mark : (mark b : ℕ) (bs : Text) → begins mark (b ∷ bs) ≡ false → (b == mark) ≡ false
 no_mark mark b bs h = h
 
-literal_behind : (context : Context) (bs : Text) → parts_end context bs ≡ false → begins 36 bs ≡ false → begins 91 bs ≡ false → begins 92 bs ≡ false → IsBehind bs (drop_while (in_class (class_of context)) bs)
+pub literal_behind : (context : Context) (bs : Text) → parts_end context bs ≡ false → begins 36 bs ≡ false → begins 91 bs ≡ false → begins 92 bs ≡ false → IsBehind bs (drop_while (in_class (class_of context)) bs)
 literal_behind InScript [] h k l m = cc
 literal_behind InBracket [] h k l m = cc
 literal_behind InIndex [] h k l m = cc

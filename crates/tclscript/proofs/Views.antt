@@ -2,11 +2,12 @@
 use Rattle.std.proofs.Common.{◌≡◌, ℕ, Bool, map, rules, Vec}
 use Rattle.std.specs.declared.alloc.Global.{Global}
 use Rattle.tclchars.specs.Runs.{Text}
-use Rattle.tclscript.specs.Tree.{bracket, word_of, words_of, commands_of}
-use Rattle.tclscript.specs.View.{script_view, command_view, word_view, part_view, parts_view}
+use Rattle.tclscript.specs.Tree.{bracket, part, literal, braced, no_parts, word_of, words_of, commands_of}
+use Rattle.tclscript.specs.View.{script_view, command_view, word_view, content_view, part_view, parts_view}
 use Rattle.tclscript.specs.declared.tree.Script.{Script, roll-Script}
 use Rattle.tclscript.specs.declared.tree.Command.{Command, roll-Command}
 use Rattle.tclscript.specs.declared.tree.Word.{Word, roll-Word}
+use Rattle.tclscript.specs.declared.tree.WordContent.{WordContent, Bare, Braced, Parts}
 use Rattle.tclscript.specs.declared.tree.Part.{Part, Bracket, the_lemmas}
 
 module _ {P : Type 0} (shown : P → Text) where
@@ -17,8 +18,17 @@ module _ {P : Type 0} (shown : P → Text) where
   pub view-Script : (v : Vec (Command P) Global) → script_view shown (roll-Script P (record { commands = v })) ≡ commands_of (map (command_view shown) v.items)
   view-Script v = search (rules, the_lemmas)
 
-  pub view-Word : (expands : Bool) (v : Vec (Part P) Global) → word_view shown (roll-Word P (record { expands = expands; parts = v })) ≡ word_of expands (parts_view shown v.items)
-  view-Word expands v = search (rules, the_lemmas)
+  pub view-Word : (expands : Bool) (content : WordContent P) → word_view shown (roll-Word P (record { expands = expands; content = content })) ≡ word_of expands (content_view shown content)
+  view-Word expands content = search (rules, the_lemmas)
+
+  pub view-Bare : (s : P) → content_view shown (Bare s) ≡ part (literal (shown s)) no_parts
+  view-Bare s = search (rules, the_lemmas)
+
+  pub view-Braced : (s : P) → content_view shown (Braced s) ≡ part (braced (shown s)) no_parts
+  view-Braced s = search (rules, the_lemmas)
+
+  pub view-Parts : (v : Vec (Part P) Global) → content_view shown (Parts v) ≡ parts_view shown v.items
+  view-Parts v = search (rules, the_lemmas)
 
   pub view-Bracket : (s : Script P) → part_view shown (Bracket s) ≡ bracket (script_view shown s)
   view-Bracket s = search (rules, the_lemmas)

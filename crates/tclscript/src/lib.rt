@@ -18,4 +18,4 @@ pub use piece::{ByteRange, Source, taken};
 pub use reading::{read_bracket, read_dollar, read_quotes};
 pub use tclchars::{MAX_BYTES, MAX_NESTING};
 pub use text::{parse_pieces, parse_script};
-pub use tree::{Command, Part, Script, Word};
+pub use tree::{Command, Part, Script, Word, WordContent};

@@ -1,20 +1,21 @@
 //! The words and commands of a script, read from left to right (Tcl(n), rules 1 to 9).
-ghost use Rattle.std.specs.Prelude.{◌≡◌, ◌∷◌, ◌<◌, option_map};
+ghost use Rattle.std.specs.Prelude.{◌≡◌, ◌∷◌, ◌<◌, Ok, IfSome, option_map};
 ghost use Rattle.tclchars.specs.Bytes.{dollar, backslash};
 ghost use Rattle.tclchars.specs.Answers.{Gives};
 ghost use Rattle.tclchars.specs.Reading.{stopped_by};
 ghost use Rattle.tclscript.specs.Pieces.{IsSuffixOf, IsPrefixOf};
 ghost use Rattle.tclscript.specs.Tree as tree;
-ghost use Rattle.tclscript.specs.Ends.{is_nested};
-ghost use Rattle.tclscript.specs.Reading.{after_closing, require_word_end, after_expansion, inner_at, script_with, command_at, word_at, unexpanded_word_at, braced_word_at, quoted_word_at, quotes_at, parts_with, part_at, literal_at, dollar_at, braced_name_at, index_at, bracket_at, backslash_at, scalar_variable, whole_script};
-ghost use Rattle.tclscript.specs.View.{script_view, command_view, word_view, part_view, parts_view};
+ghost use Rattle.tclscript.specs.Tree.{part, literal, no_parts};
+ghost use Rattle.tclscript.specs.Ends.{is_nested, bare};
+ghost use Rattle.tclscript.specs.Reading.{Inner, after_closing, require_word_end, after_expansion, inner_at, script_with, command_at, word_at, unexpanded_word_at, braced_word_at, quoted_word_at, quotes_at, parts_with, part_at, literal_at, dollar_at, braced_name_at, index_at, bracket_at, backslash_at, scalar_variable, whole_script};
+ghost use Rattle.tclscript.specs.View.{script_view, command_view, word_view, content_view, part_view, parts_view};
 
 use crate::context::{
     Context, Nesting, bare, command_ends, parts_end, script_ends, split_literal, word_ends,
 };
 use crate::piece::{Source, taken};
 use crate::runs::{skip_blanks, skip_gap, split_name};
-use crate::tree::{Command, Part, Script, Word};
+use crate::tree::{Command, Part, Script, Word, WordContent};
 use std::alloc::Global;
 use tclchars::{
     Class, Fault, ReadError, after_mark, read_backslash, remaining_with_mark, split_close,
@@ -67,6 +68,20 @@ fn read_literal<'a, S: Source<P>, P: Drop>(
 {
     let (run, rest) = split_literal(text, context);
     (Part::Literal(source.cut(text, run)), rest)
+}
+
+/// The run of literal bytes that is a whole word, and the rest; None where no word begins with the text or it has other
+/// parts.
+fn literal_word(text: &str, nesting: Nesting) -> Option<(&str, &str)>
+    ensures prefix { IfSome result (λ x. IsPrefixOf text.now x.0.now) }
+    ensures parts { IfSome result (λ x. (inner : Inner) → parts_with (bare (is_nested nesting)) inner text.now
+        ≡ Ok (part (literal x.0.now) no_parts, x.1.now)) }
+{
+    let (run, rest) = split_literal(text, bare(nesting));
+    if run.is_empty() || !word_ends(rest, nesting) {
+        return None;
+    }
+    Some((run, rest))
 }
 
 /// The part of a dollar and a name without an index; without a name the dollar is literal.
@@ -126,25 +141,22 @@ fn read_braced_name<'a, S: Source<P>, P: Drop>(
     Ok((Part::Variable(source.cut(text, name)), rest))
 }
 
-/// The one part of a word in braces, and the rest; `text` follows the opening brace.
+/// The content of a word in braces, and the rest; `text` follows the opening brace.
 #[tactic(auto, unfolding(crate::specs::Reading::braced_word_at))]
 fn read_braced<'a, S: Source<P>, P: Drop>(
-    alloc: Global,
     source: &S,
     text: &'a str,
     nesting: Nesting,
-) -> Result<(Vec<Part<P>>, &'a str), ReadError>
+) -> Result<(WordContent<P>, &'a str), ReadError>
     requires { IsSuffixOf (S.text source.now) text.now }
-    ensures { Gives stopped_by (λ x. (parts_view (S.shown source.now) x.0.items, x.1.now)) result
+    ensures { Gives stopped_by (λ x. (content_view (S.shown source.now) x.0, x.1.now)) result
         (braced_word_at (is_nested nesting) text.now) }
 {
     let Some((inner, after)) = split_close(text) else {
         return Err(ReadError::Fault(Fault::OpenBrace(remaining_with_mark(text))));
     };
     let rest = require_word_end(after, nesting)?;
-    let mut parts = Vec::with_capacity(alloc, 1)?;
-    parts.push(Part::Braced(source.cut(text, inner)))?;
-    Ok((parts, rest))
+    Ok((WordContent::Braced(source.cut(text, inner)), rest))
 }
 
 /// The tree of a whole source, in which `depth` brackets and indexes may nest.
@@ -242,21 +254,21 @@ fn read_word<'a, S: Source<P>, P: Drop>(
 {
     match after_expansion(text, nesting) {
         Some(following) => {
-            let (parts, rest) = read_unexpanded_word(alloc, source, following, depth, nesting)?;
+            let (content, rest) = read_unexpanded_word(alloc, source, following, depth, nesting)?;
             Ok((
                 Word {
                     expands: true,
-                    parts,
+                    content,
                 },
                 rest,
             ))
         }
         None => {
-            let (parts, rest) = read_unexpanded_word(alloc, source, text, depth, nesting)?;
+            let (content, rest) = read_unexpanded_word(alloc, source, text, depth, nesting)?;
             Ok((
                 Word {
                     expands: false,
-                    parts,
+                    content,
                 },
                 rest,
             ))
@@ -264,7 +276,7 @@ fn read_word<'a, S: Source<P>, P: Drop>(
     }
 }
 
-/// The parts of a word in braces, in quotes or in neither, and the rest.
+/// The content of a word in braces, in quotes or in neither, and the rest.
 #[inline(always)]
 #[cycle(read)]
 #[tactic(auto, unfolding(crate::specs::Reading::unexpanded_word_at))]
@@ -274,18 +286,38 @@ fn read_unexpanded_word<'a, S: Source<P>, P: Drop>(
     text: &'a str,
     depth: usize,
     nesting: Nesting,
-) -> Result<(Vec<Part<P>>, &'a str), ReadError>
+) -> Result<(WordContent<P>, &'a str), ReadError>
     requires { IsSuffixOf (S.text source.now) text.now }
-    ensures { Gives stopped_by (λ x. (parts_view (S.shown source.now) x.0.items, x.1.now)) result
+    ensures { Gives stopped_by (λ x. (content_view (S.shown source.now) x.0, x.1.now)) result
         (unexpanded_word_at (is_nested nesting) (inner_at depth) text.now) }
 {
     if let Some(following) = after_mark(text, b'{') {
-        return read_braced(alloc, source, following, nesting);
+        return read_braced(source, following, nesting);
     }
     match after_mark(text, b'"') {
         Some(following) => read_quoted(alloc, source, following, depth, nesting),
-        None => read_parts(alloc, source, text, depth, bare(nesting)),
+        None => read_bare(alloc, source, text, depth, nesting),
     }
+}
+
+/// The content of a word without quotes and braces, and the rest. One that is a run of literal text has no parts.
+#[cycle(read)]
+fn read_bare<'a, S: Source<P>, P: Drop>(
+    alloc: Global,
+    source: &S,
+    text: &'a str,
+    depth: usize,
+    nesting: Nesting,
+) -> Result<(WordContent<P>, &'a str), ReadError>
+    requires { IsSuffixOf (S.text source.now) text.now }
+    ensures { Gives stopped_by (λ x. (content_view (S.shown source.now) x.0, x.1.now)) result
+        (parts_with (bare (is_nested nesting)) (inner_at depth) text.now) }
+{
+    if let Some((run, rest)) = literal_word(text, nesting) {
+        return Ok((WordContent::Bare(source.cut(text, run)), rest));
+    }
+    let (parts, rest) = read_parts(alloc, source, text, depth, bare(nesting))?;
+    Ok((WordContent::Parts(parts), rest))
 }
 
 /// The parts of a text in quotes, and the rest after the closing quote (Tcl(n), rule 4); `text` follows the opening
@@ -309,7 +341,7 @@ pub fn read_quotes<'a, S: Source<P>, P: Drop>(
     Ok((parts, rest))
 }
 
-/// The parts of a word in quotes, and the rest; `text` follows the opening quote.
+/// The content of a word in quotes, and the rest; `text` follows the opening quote.
 #[cycle(read)]
 #[tactic(auto, unfolding(crate::specs::Reading::quoted_word_at, crate::specs::Reading::quotes_at))]
 fn read_quoted<'a, S: Source<P>, P: Drop>(
@@ -318,14 +350,14 @@ fn read_quoted<'a, S: Source<P>, P: Drop>(
     text: &'a str,
     depth: usize,
     nesting: Nesting,
-) -> Result<(Vec<Part<P>>, &'a str), ReadError>
+) -> Result<(WordContent<P>, &'a str), ReadError>
     requires { IsSuffixOf (S.text source.now) text.now }
-    ensures { Gives stopped_by (λ x. (parts_view (S.shown source.now) x.0.items, x.1.now)) result
+    ensures { Gives stopped_by (λ x. (content_view (S.shown source.now) x.0, x.1.now)) result
         (quoted_word_at (is_nested nesting) (inner_at depth) text.now) }
 {
     let (parts, after) = read_quotes(alloc, source, text, depth)?;
     let rest = require_word_end(after, nesting)?;
-    Ok((parts, rest))
+    Ok((WordContent::Parts(parts), rest))
 }
 
 /// The parts up to where they end in that context, and the rest.

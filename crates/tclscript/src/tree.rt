@@ -21,24 +21,34 @@ pub struct Command<P> {
     pub words: Vec<Word<P>>,
 }
 
-/// A word of a command: the values of its parts, joined.
+/// A word of a command.
 #[cycle(tree)]
 #[derive(Debug, Drop)]
 pub struct Word<P> {
     /// Whether the word begins with `{*}`: the elements of its list are words of the command.
     pub expands: bool,
-    /// The parts; the word in empty quotes has none.
-    pub parts: Vec<Part<P>>,
+    /// What the value of the word is made of.
+    pub content: WordContent<P>,
 }
 
-/// A part of a word.
+/// What the value of a word is made of. Most words are one piece of the text, and take no memory of their own.
+#[cycle(tree)]
+#[derive(Debug, Drop)]
+pub enum WordContent<P> {
+    /// Literal text without quotes and braces, which is its own value.
+    Bare(P),
+    /// The text between the braces of the word, as it is.
+    Braced(P),
+    /// Parts, whose values are joined; the word in empty quotes has none.
+    Parts(Vec<Part<P>>),
+}
+
+/// A part of a word that isn't in braces.
 #[cycle(tree)]
 #[derive(Debug, Drop)]
 pub enum Part<P> {
     /// Text that is its own value.
     Literal(P),
-    /// The text between the braces of a word, as it is.
-    Braced(P),
     /// The character that a backslash and the characters after it stand for.
     Backslash(char),
     /// The value of the variable of this name.

@@ -7,7 +7,7 @@ use Rattle.tclchars.specs.Runs.{Text}
 use Rattle.tclscript.specs.Tree as tree
 use Rattle.tclscript.specs.View.{script_view, part_view, parts_view}
 use Rattle.tclscript.specs.declared.tree.Script.{Script}
-use Rattle.tclscript.specs.declared.tree.Part.{Part, Literal, Braced, Backslash, Variable, Indexed, Bracket, the_lemmas}
+use Rattle.tclscript.specs.declared.tree.Part.{Part, Literal, Backslash, Variable, Indexed, Bracket, the_lemmas}
 use Rattle.tclexpr.specs.Tree as expr
 use Rattle.tclexpr.specs.View.{operand_view, expr_view}
 use Rattle.tclexpr.specs.declared.operators.UnaryOperator.{UnaryOperator}
@@ -24,9 +24,6 @@ use Rattle.tclsubstitution.specs.declared.frame.Step.TheVariants as steps
 module _ {P : Type 0} (range_text : P → Text) where
   pub view-Literal : (s : P) → part_view range_text (Literal s) ≡ tree.literal (range_text s)
   view-Literal s = search (rules, the_lemmas)
-
-  pub view-Braced : (s : P) → part_view range_text (Braced s) ≡ tree.braced (range_text s)
-  view-Braced s = search (rules, the_lemmas)
 
   pub view-Backslash : (c : ℕ) → part_view range_text (Backslash c) ≡ tree.backslash (encode_utf8 c)
   view-Backslash c = search (rules, the_lemmas)

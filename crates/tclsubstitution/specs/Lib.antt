@@ -1,3 +1,4 @@
 pub mod Stops
 pub mod Weights
 pub mod Machine
+pub mod BorrowedOperands

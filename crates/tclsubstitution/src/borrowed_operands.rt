@@ -1,8 +1,12 @@
 //! Operators between two operands that are literals or scalar variables. Their texts are borrowed from the source or
 //! from the variables, so that the comparisons and sums of most loops take no continuation frame and copy no text.
-ghost use Rattle.std.specs.Prelude.{◌≡◌, ℕ, IfSome, IfOk, IfErr, MatchResult};
+ghost use Rattle.std.specs.Prelude.{◌≡◌, ℕ, Ok, IfSome, IfOk, IfErr};
 ghost use Rattle.tclexpr.specs.View.{expr_view, operand_view};
+ghost use Rattle.tclnumber.specs.Numerals.{numeral};
+ghost use Rattle.tclnumber.specs.declared.number.Numeral.TheVariants.{Whole};
+ghost use Rattle.tcloperators.specs.Operators.{binary_value};
 ghost use Rattle.tcloperators.specs.Values.{computed_text};
+ghost use Rattle.tcloperators.specs.declared.operators.Computed.TheVariants.{Truth};
 ghost use Rattle.tclrules.specs.Variables.{State};
 ghost use Rattle.tclrules.specs.Plans as plans;
 ghost use Rattle.tclrules.specs.Plans.{Job, Next};
@@ -10,20 +14,51 @@ ghost use Rattle.tclrules.specs.Simulates.{Simulates, Point};
 ghost use Rattle.tclchars.specs.Runs.{Text};
 ghost use Rattle.tclrules.specs.Words.{read, read_scalar};
 ghost use Rattle.tclrules.specs.Expressions.{expr, operand_value};
+ghost use Rattle.tclsubstitution.specs.BorrowedOperands.{operand_text};
 ghost use Rattle.tclsubstitution.specs.Machine.{range_text, bounds};
 ghost use Rattle.tclsubstitution.specs.Stops.{stopped};
 ghost use Rattle.tclvariables.specs.Locations.{is_global};
 
 use crate::context::SubstitutionContext;
 use crate::stop::Stop;
-use std::alloc::Global;
-use tclexpr::{Expr, Operand};
-use tcloperators::{Computed, compute};
+use tclexpr::{BinaryOperator, Expr, Operand};
+use tcloperators::{Computed, compare_numbers, compute, whole_number};
 use tclscript::ByteRange;
-use tclvariables::{Location, Scalar, Variables, location_named};
+use tclvariables::{Content, Scalar, Variables, plain_scalar};
 
-/// The value of a scalar variable; None where it is unset, or is the array `env`.
-fn value_of<'v>(variables: &'v Variables, variable: Scalar<'_>) -> Option<&'v str>
+/// An operand whose text is borrowed.
+#[derive(Clone, Copy)]
+enum BorrowedOperand<'t> {
+    /// A number or a truth word of the source.
+    Literal(&'t str),
+    /// What a scalar variable holds.
+    Variable(&'t Content),
+}
+
+impl<'t> BorrowedOperand<'t> {
+    /// The text of the operand.
+    fn text(self) -> &'t str
+        ensures { result.now ≡ operand_text self.entry }
+    {
+        match self {
+            BorrowedOperand::Literal(text) => text,
+            BorrowedOperand::Variable(content) => content.as_str(),
+        }
+    }
+
+    /// The whole number that the operand spells; None for any other text.
+    fn whole_number(self) -> Option<i64>
+        ensures { IfSome result (λ number. numeral (operand_text self.entry) ≡ Whole number) }
+    {
+        match self {
+            BorrowedOperand::Literal(text) => whole_number(text),
+            BorrowedOperand::Variable(content) => content.whole_number(),
+        }
+    }
+}
+
+/// What a scalar variable holds; None where it is unset, or is the array `env`.
+fn content_of<'v>(variables: &'v Variables, variable: Scalar<'_>) -> Option<&'v Content>
     ensures { IfSome result (λ v. (spelled : Text) (k : Next)
         → read_scalar spelled (is_global variable.entry.scope) variable.entry.name.now variables.entry.now k
         ≡ k v.now variables.entry.now) }
@@ -31,54 +66,99 @@ fn value_of<'v>(variables: &'v Variables, variable: Scalar<'_>) -> Option<&'v st
     if variable.is_env() {
         return None;
     }
-    variables.get(variable)
+    variables.content(variable)
 }
 
-/// The value of the scalar variable of a name; None where the name means an element of an array, or can't be read.
-fn scalar_value<'v>(alloc: Global, variables: &'v Variables, name: &str) -> Option<&'v str>
+/// What the scalar variable of a name holds; None where the name has an index or a colon, or can't be read.
+fn scalar_content<'v>(variables: &'v Variables, name: &str) -> Option<&'v Content>
     ensures { IfSome result (λ v. (k : Next) → read name.now variables.entry.now k ≡ k v.now variables.entry.now) }
 {
-    match location_named(variables, alloc, name) {
-        Ok(Location::Scalar(variable)) => value_of(variables, variable),
-        _ => None,
-    }
+    content_of(variables, plain_scalar(variables, name)?)
 }
 
-/// The text of an operand that is a number, a truth word or a scalar variable; None for all other operands.
-fn operand_text<'t>(
-    alloc: Global,
+/// The operand that is a number, a truth word or a scalar variable; None for all other operands.
+fn borrowed_operand<'t>(
     source: &'t str,
     variables: &'t Variables,
     operand: &'t Operand<ByteRange>,
-) -> Option<&'t str>
-    ensures { IfSome result (λ t. (bytes remaining : ℕ) (k : Next) → operand_value (bounds bytes remaining)
+) -> Option<BorrowedOperand<'t>>
+    ensures { IfSome result (λ made. (bytes remaining : ℕ) (k : Next) → operand_value (bounds bytes remaining)
         (operand_view (range_text source.entry.now) operand.entry.now) variables.entry.now k
-        ≡ k t.now variables.entry.now) }
+        ≡ k (operand_text made) variables.entry.now) }
 {
     match operand {
-        Operand::Number(range) | Operand::Word(range) => Some(range.of(source)),
-        Operand::Variable(name) => scalar_value(alloc, variables, name.of(source)),
+        Operand::Number(range) | Operand::Word(range) => {
+            Some(BorrowedOperand::Literal(range.of(source)))
+        }
+        Operand::Variable(name) => {
+            Some(BorrowedOperand::Variable(scalar_content(variables, name.of(source))?))
+        }
         _ => None,
     }
 }
 
-/// The text of an expression that is one such operand and within the limit on the bytes of a value.
-fn borrowed_text<'t>(
+/// The expression that is one such operand, whose text is within the limit on the bytes of a value.
+fn borrowed<'t>(
     context: SubstitutionContext<'t, 't>,
     expression: &'t Expr<ByteRange>,
-) -> Option<&'t str>
-    ensures { IfSome result (λ t. (remaining : ℕ) (k : Next) → expr (bounds context.entry.limits.value_bytes remaining)
+) -> Option<BorrowedOperand<'t>>
+    ensures { IfSome result (λ made. (remaining : ℕ) (k : Next)
+        → expr (bounds context.entry.limits.value_bytes remaining)
         (expr_view (range_text context.entry.source.now) expression.entry.now) context.entry.variables.now k
-        ≡ k t.now context.entry.variables.now) }
+        ≡ k (operand_text made) context.entry.variables.now) }
 {
     let Expr::Operand(operand) = expression else {
         return None;
     };
-    let text = operand_text(context.alloc, context.source, context.variables, operand)?;
-    if text.len() > context.limits.value_bytes {
+    let made = borrowed_operand(context.source, context.variables, operand)?;
+    if made.text().len() > context.limits.value_bytes {
         return None;
     }
-    Some(text)
+    Some(made)
+}
+
+/// Whether an operator that compares holds of two operands that are whole numbers; None for any other operator, and
+/// for other operands.
+fn compared(
+    operator: BinaryOperator,
+    left: BorrowedOperand<'_>,
+    right: BorrowedOperand<'_>,
+) -> Option<bool>
+    ensures { IfSome result (λ holds. binary_value operator (operand_text left.entry) (operand_text right.entry)
+        ≡ Ok (computed_text (Truth holds))) }
+{
+    match operator {
+        BinaryOperator::Less
+        | BinaryOperator::Greater
+        | BinaryOperator::LessEqual
+        | BinaryOperator::GreaterEqual
+        | BinaryOperator::Equal
+        | BinaryOperator::NotEqual => {
+            compare_numbers(operator, left.whole_number()?, right.whole_number()?)
+        }
+        _ => None,
+    }
+}
+
+/// Whether a comparison of two whole numbers holds that are literals or scalar variables; None for any other
+/// expression.
+pub fn compare_borrowed(
+    context: SubstitutionContext<'_, '_>,
+    expression: &Expr<ByteRange>,
+) -> Option<bool>
+    ensures { IfSome result (λ holds. (remaining : ℕ) (k : Next)
+        → expr (bounds context.entry.limits.value_bytes remaining)
+        (expr_view (range_text context.entry.source.now) expression.now) context.entry.variables.now k
+        ≡ k (computed_text (Truth holds)) context.entry.variables.now) }
+{
+    let Expr::Binary(operator, left, right) = expression else {
+        return None;
+    };
+    compared(
+        *operator,
+        borrowed(context, left)?,
+        borrowed(context, right)?,
+    )
 }
 
 /// What a binary operator makes of two operands whose texts can be borrowed (literals and scalar variables); None for
@@ -100,11 +180,12 @@ pub fn compute_borrowed(
     let Expr::Binary(operator, left, right) = expression else {
         return Ok(None);
     };
-    let Some(left) = borrowed_text(context, left) else {
+    let Some(left) = borrowed(context, left) else {
         return Ok(None);
     };
-    let Some(right) = borrowed_text(context, right) else {
+    let Some(right) = borrowed(context, right) else {
         return Ok(None);
     };
-    Ok(Some(compute(context.alloc, *operator, left, right)?))
+    let made = compute(context.alloc, *operator, left.text(), right.text())?;
+    Ok(Some(made))
 }

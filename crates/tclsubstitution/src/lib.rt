@@ -10,9 +10,9 @@ mod reading;
 mod stop;
 mod substitution;
 
-pub use borrowed_operands::compute_borrowed;
+pub use borrowed_operands::{compare_borrowed, compute_borrowed};
 pub use context::SubstitutionContext;
 pub use frame::{Control, Step, WaitingFrame};
 pub use reading::{read, read_element};
 pub use stop::Stop;
-pub use substitution::advance;
+pub use substitution::{advance, braced};

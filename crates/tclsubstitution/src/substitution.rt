@@ -52,7 +52,9 @@ fn copy(alloc: Global, text: &str) -> Result<String, Stop>
 }
 
 /// The value of a text in braces (Tcl(n), rule 6).
-fn braced(alloc: Global, text: &str) -> Result<String, Stop>
+///
+/// Errors: `OutOfMemory`.
+pub fn braced(alloc: Global, text: &str) -> Result<String, Stop>
     ensures ok { IfOk result (λ t. string_bytes t ≡ braced_text text.now) }
     ensures err { IfErr result (λ stop. stop ≡ Fault OutOfMemory) }
 {
@@ -151,10 +153,6 @@ fn part<'a, H: Host>(
             source_text(context.source, *range),
             rest,
         ),
-        Part::Braced(range) => {
-            let value = braced(context.alloc, source_text(context.source, *range))?;
-            append_piece(context, host, stack, text, value.as_str(), rest)
-        }
         Part::Backslash(escaped) => {
             let value = character(context.alloc, *escaped)?;
             append_piece(context, host, stack, text, value.as_str(), rest)

@@ -14,6 +14,6 @@ pub use tclnumber::{
 };
 pub use tclpattern::glob_match;
 pub use tclscript::{
-    ByteRange, Command, OwnedScript, Part, Script, Source, Word, own_script, parse_pieces,
-    parse_script,
+    ByteRange, Command, OwnedScript, Part, Script, Source, Word, WordContent, own_script,
+    parse_pieces, parse_script,
 };

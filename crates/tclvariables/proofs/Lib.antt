@@ -5,3 +5,4 @@ pub mod Stores
 pub mod Names
 pub mod Plain
 pub mod Places
+pub mod Decimals

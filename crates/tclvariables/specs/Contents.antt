@@ -1,7 +1,11 @@
--- Texts that are the text of a list, as list(n) writes it.
-use Rattle.std.specs.Prelude.{◌≡◌, List, Option, Some, None}
-use Rattle.tclchars.specs.Runs.{Text}
-use Rattle.tcllist.specs.Lists.{list_text}
+-- What is known of the texts of variables: that one is the text of a list, as list(n) writes it, or the sum of two
+-- numbers, as incr(n) writes it.
+use Rattle.std.specs.Prelude.{◌≡◌, ◌≤◌, ℕ, ℤ, length, List, Option, Some, None, Ok}
+use Rattle.tclnumber.specs.Numerals.{numeral}
+use Rattle.tclnumber.specs.declared.number.Numeral.TheVariants.{Whole}
+use Rattle.tclrules.specs.Runs.{Text}
+use Rattle.tclrules.specs.Lists.{list_text}
+use Rattle.tclrules.specs.Rules.{increased}
 
 -- the text is what list(n) writes for some elements
 abbrev pub IsListText : Text → Type 0
@@ -11,3 +15,9 @@ IsListText t = (es : List Text) × (t ≡ list_text es)
 abbrev pub HoldsList : Option Text → Type 0
 HoldsList None = ⊥
 HoldsList (Some t) = IsListText t
+
+-- the variable is set, and this text, of so many bytes at most, is its value with the amount added to it
+abbrev pub IsIncreased : Option Text → ℤ → ℕ → Text → Type 0
+IsIncreased None amount limit t = ⊥
+IsIncreased (Some old) amount limit t =
+    ((n : Text) → numeral n ≡ Whole amount → increased old n ≡ Ok t) × (length t ≤ limit)

@@ -1,26 +1,34 @@
-//! What a variable holds: a text, of which may be known that it is a list.
-ghost use Rattle.std.specs.Prelude.{◌≡◌, string_bytes, true};
+//! What a variable holds: a text, of which may be known that it is a list, or which whole number it spells.
+ghost use Rattle.std.specs.Prelude.{◌≡◌, string_bytes, true, OnOk, IfSome};
+ghost use Rattle.tclnumber.specs.Numerals.{numeral};
+ghost use Rattle.tclnumber.specs.declared.number.Numeral.TheVariants.{Whole};
 ghost use Rattle.tclvariables.specs.Contents.{IsListText};
 
+use std::alloc::AllocError;
 use std::marker::Model;
+use tcloperators::whole_number;
 
 /// The value of a variable. Of one that `lappend` wrote it is known that it is the text of a list as list(n) writes it,
-/// so that the next `lappend` need not parse it again.
+/// so that the next `lappend` need not parse it again; of one that `incr` wrote, which number it is.
 #[derive(Drop)]
 pub struct Content {
     text: String,
     is_list: bool,
+    number: Option<i64>,
 }
 
 impl Model for Content {
-    ghost use Rattle.std.specs.Prelude.{◌≡◌, ℕ, List, string_bytes, true};
+    ghost use Rattle.std.specs.Prelude.{◌≡◌, ℕ, List, string_bytes, true, IfSome};
+    ghost use Rattle.tclnumber.specs.Numerals.{numeral};
+    ghost use Rattle.tclnumber.specs.declared.number.Numeral.TheVariants.{Whole};
     ghost use Rattle.tclvariables.specs.Contents.{IsListText};
 
     ghost Value = { List ℕ };
 
     ghost view = { λ c. string_bytes c.text };
 
-    ghost invariant = { λ c. c.is_list ≡ true → IsListText (string_bytes c.text) };
+    ghost invariant = { λ c. (c.is_list ≡ true → IsListText (string_bytes c.text))
+        × IfSome c.number (λ n. numeral (string_bytes c.text) ≡ Whole n) };
 }
 
 impl Content {
@@ -31,6 +39,7 @@ impl Content {
         Content {
             text,
             is_list: false,
+            number: None,
         }
     }
 
@@ -42,6 +51,7 @@ impl Content {
         Content {
             text,
             is_list: true,
+            number: None,
         }
     }
 
@@ -57,6 +67,31 @@ impl Content {
         ensures { result ≡ true → IsListText self.now }
     {
         self.is_list
+    }
+
+    /// The whole number that the text spells, which is read where it isn't known; None for any other text.
+    pub fn whole_number(&self) -> Option<i64>
+        ensures { IfSome result (λ n. numeral self.now ≡ Whole n) }
+    {
+        match self.number {
+            Some(number) => Some(number),
+            None => whole_number(self.text.as_str()),
+        }
+    }
+
+    /// Gives it another text, in the memory of the one that it has, and the number that the text is known to spell.
+    ///
+    /// Errors: memory runs out; then the text is empty.
+    pub(crate) fn overwrite(&mut self, text: &str, number: Option<i64>) -> Result<(), AllocError>
+        requires { IfSome number (λ n. numeral text.now ≡ Whole n) }
+        ensures { OnOk result (self.new ≡ text.now) }
+    {
+        self.is_list = false;
+        self.number = None;
+        self.text.clear();
+        self.text.push_str(text)?;
+        self.number = number;
+        Ok(())
     }
 
     /// The text of the value, owned.

@@ -11,5 +11,7 @@ mod variables;
 
 pub use content::Content;
 pub use local::Local;
-pub use location::{Location, Scalar, Scope, location_named, location_of, sharable, writable};
+pub use location::{
+    Location, Scalar, Scope, location_named, location_of, plain_scalar, sharable, writable,
+};
 pub use variables::{Parameter, Procedure, Variables};

@@ -1,12 +1,12 @@
 //! The frame of a procedure that runs: its own variables, and the global ones that it sees.
-ghost use Rattle.std.specs.Prelude.{◌≡◌, [], true, map, OnOk, OnErr, option_map, bytes_eq, string_bytes};
-ghost use Rattle.tclchars.specs.Runs.{Text};
-ghost use Rattle.tclvariables.specs.Contents.{HoldsList};
+ghost use Rattle.std.specs.Prelude.{◌≡◌, [], true, false, map, OnOk, OnErr, IfOk, option_map, bytes_eq, string_bytes};
+ghost use Rattle.tclrules.specs.Runs.{Text};
+ghost use Rattle.tclvariables.specs.Contents.{HoldsList, IsIncreased};
 ghost use Rattle.std.specs.List.{list_any};
 ghost use Rattle.tclrules.specs.Variables.{Frame, lookup, store, without, with_name};
 
 use crate::content::Content;
-use crate::table::{Table, holds_list, put, remove, take, text_in};
+use crate::table::{Table, content_in, holds_list, increase, put, remove, take, text_in};
 use indexmap::{IndexMap, IndexSet};
 use std::alloc::{AllocError, Global};
 use std::marker::Model;
@@ -53,6 +53,13 @@ impl Local {
         text_in(&self.own, name)
     }
 
+    /// What a variable of the procedure holds.
+    pub(crate) fn content(&self, name: &str) -> Option<&Content>
+        ensures { option_map (λ c. c.now) result ≡ lookup self.now.own name.now }
+    {
+        content_in(&self.own, name)
+    }
+
     /// Gives a variable of the procedure what it is to hold.
     pub(crate) fn put(
         &mut self,
@@ -80,6 +87,21 @@ impl Local {
         ensures shared { self.new.shared ≡ self.old.shared }
     {
         take(&mut self.own, alloc, name)
+    }
+
+    /// Adds a whole number to that which a variable of the procedure holds, as `Variables::increase`.
+    pub(crate) fn increase(
+        &mut self,
+        name: &str,
+        amount: i64,
+        limit: usize,
+    ) -> Result<bool, AllocError>
+        ensures done { IfOk result (λ done. done ≡ true → (t : Text)
+            × IsIncreased (lookup self.old.own name.now) amount limit t
+            × (self.new ≡ record self.old { own = store self.old.own name.now t })) }
+        ensures same { IfOk result (λ done. done ≡ false → self.new ≡ self.old) }
+    {
+        increase(&mut self.own, name, amount, limit)
     }
 
     /// Unsets a variable of the procedure, if it is set.

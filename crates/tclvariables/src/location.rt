@@ -1,9 +1,10 @@
 //! The location that the name of a variable denotes (Tcl(n), rule 8; global(n)).
-ghost use Rattle.std.specs.Prelude.{◌≡◌, ◌==◌, option_map};
+ghost use Rattle.std.specs.Prelude.{◌≡◌, ◌==◌, IfSome, Ok, option_map};
 ghost use Rattle.std.specs.List.{list_any};
-ghost use Rattle.tclchars.specs.Answers.{Gives};
+ghost use Rattle.tclrules.specs.Answers.{Gives};
 ghost use Rattle.tclvalue.specs.Faults.{reason_of};
-ghost use Rattle.tclrules.specs.Variables.{name_and_index, has_colons, unqualified, indexed, location_of, location_named, writable};
+ghost use Rattle.tclrules.specs.Variables.{name_and_index, has_colons, unqualified, indexed, location_of, location_named, writable, writable_scalar};
+ghost use Rattle.tclrules.specs.Variables as rules;
 ghost use Rattle.tclvariables.specs.Locations.{is_env, is_global, location_view, scalar_view, shared_name};
 
 use crate::variables::Variables;
@@ -116,6 +117,19 @@ pub fn location_of<'a>(
     }
 }
 
+/// The scalar variable of a name in which neither an index nor a colon stands, as in most names; None for any other.
+pub fn plain_scalar<'a>(variables: &Variables, name: &'a str) -> Option<Scalar<'a>>
+    ensures { IfSome result (λ v. location_named variables.now name.now
+        ≡ Ok (rules.Scalar (is_global v.scope) v.name.now)) }
+{
+    let (array, index) = name_and_index(name);
+    if index.is_none() && !has_colon(array) {
+        let scope = variables.scope_of(array);
+        return Some(Scalar { scope, name: array });
+    }
+    None
+}
+
 /// The location of a name as it is spelled, with its index in parentheses.
 ///
 /// Errors: `LeftOut` for another array than `env` and for a namespace, `OutOfMemory`.
@@ -126,13 +140,10 @@ pub fn location_named<'a>(
 ) -> Result<Location<'a>, ValueFault>
     ensures { Gives reason_of location_view result (location_named variables.now name.now) }
 {
-    let (array, index) = name_and_index(name);
-
-    // Most names are of a scalar without namespaces.
-    if index.is_none() && !has_colon(array) {
-        let scope = variables.scope_of(array);
-        return Ok(Location::Scalar(Scalar { scope, name: array }));
+    if let Some(scalar) = plain_scalar(variables, name) {
+        return Ok(Location::Scalar(scalar));
     }
+    let (array, index) = name_and_index(name);
     location_of(variables, alloc, array, index)
 }
 
@@ -146,7 +157,17 @@ pub fn writable<'a>(
 ) -> Result<Scalar<'a>, ValueFault>
     ensures { Gives reason_of scalar_view result (writable variables.now name.now) }
 {
-    match location_named(variables, alloc, name)? {
+    match plain_scalar(variables, name) {
+        Some(scalar) if scalar.name != "env" => Ok(scalar),
+        _ => writable_location(alloc, location_named(variables, alloc, name)?),
+    }
+}
+
+/// The scalar variable at a location, where it may be written.
+fn writable_location(alloc: Global, location: Location<'_>) -> Result<Scalar<'_>, ValueFault>
+    ensures { Gives reason_of scalar_view result (writable_scalar (location_view location.entry)) }
+{
+    match location {
         Location::Scalar(scalar) => {
             if scalar.name == "env" {
                 return Err(unsupported(alloc, "env"));

@@ -1,15 +1,21 @@
 //! Variables by name, in the order of their making: the global ones, or those of one procedure.
-ghost use Rattle.std.specs.Prelude.{◌≡◌, ◌<◌, true, OnOk, OnErr, IfSome, option_map, bytes_eq, string_bytes};
+ghost use Rattle.std.specs.Prelude.{◌≡◌, ◌<◌, true, false, Ok, OnOk, OnErr, IfOk, IfSome, option_map, bytes_eq, string_bytes};
+ghost use Rattle.std.specs.Fmt.{signed_decimal};
+ghost use Rattle.tclnumber.specs.Numerals.{numeral};
+ghost use Rattle.tclnumber.specs.declared.number.Numeral.TheVariants.{Whole};
+ghost use Rattle.tclrules.specs.Rules.{increased};
 ghost use Rattle.indexmap.specs.IndexMap.{index_of_by, index_map_len};
-ghost use Rattle.tclchars.specs.Runs.{Text};
+ghost use Rattle.tclrules.specs.Runs.{Text};
 ghost use Rattle.tclrules.specs.Variables.{lookup, store, without};
-ghost use Rattle.tclvariables.specs.Contents.{HoldsList};
+ghost use Rattle.tclvariables.specs.Contents.{HoldsList, IsIncreased};
 ghost use Rattle.tclvariables.specs.Views.{texts_of};
 
 use crate::content::Content;
 use indexmap::IndexMap;
+use itoa::Buffer;
 use std::alloc::{AllocError, Global};
 use std::mem;
+use tcloperators::sum;
 
 /// Variables by name.
 pub(crate) type Table = IndexMap<String, Content>;
@@ -30,7 +36,7 @@ fn place_of(table: &Table, name: &str) -> Option<usize>
 }
 
 /// What a variable holds.
-fn content_in<'a>(table: &'a Table, name: &str) -> Option<&'a Content>
+pub(crate) fn content_in<'a>(table: &'a Table, name: &str) -> Option<&'a Content>
     ensures { option_map (λ c. c.now) result ≡ lookup (texts_of table.now.entries) name.now }
 {
     match place_of(table, name) {
@@ -92,6 +98,55 @@ pub(crate) fn put(
         }
     }
     Ok(())
+}
+
+/// The number that a sum is known to be where its decimal digits are read: one that isn't negative.
+fn known_number(sum: i64) -> Option<i64>
+    ensures { IfSome result (λ n. numeral (signed_decimal sum) ≡ Whole n) }
+{
+    if sum < 0 { None } else { Some(sum) }
+}
+
+/// The sum of the whole number that a variable holds and another; None where it holds none, or the sum lies outside 64
+/// bits.
+fn sum_of(content: &Content, amount: i64) -> Option<i64>
+    ensures { IfSome result (λ total. (n : Text) → numeral n ≡ Whole amount
+        → increased content.now n ≡ Ok (signed_decimal total)) }
+{
+    match sum(content.whole_number()?, amount) {
+        Ok(total) => Some(total),
+        Err(_) => None,
+    }
+}
+
+/// Adds a whole number to that which a variable holds, in the memory of its text. False, and nothing is changed, where
+/// the variable is unset or holds none, or where the sum lies outside 64 bits or has more bytes than `limit`.
+///
+/// Errors: memory runs out; then the value is lost.
+pub(crate) fn increase(
+    table: &mut Table,
+    name: &str,
+    amount: i64,
+    limit: usize,
+) -> Result<bool, AllocError>
+    ensures done { IfOk result (λ done. done ≡ true → (t : Text)
+        × IsIncreased (lookup (texts_of table.old.entries) name.now) amount limit t
+        × (texts_of table.new.entries ≡ store (texts_of table.old.entries) name.now t)) }
+    ensures same { IfOk result (λ done. done ≡ false → texts_of table.new.entries ≡ texts_of table.old.entries) }
+{
+    let Some(index) = place_of(table, name) else {
+        return Ok(false);
+    };
+    let Some(sum) = sum_of(&table[index], amount) else {
+        return Ok(false);
+    };
+    let mut buffer = Buffer::new();
+    let text = buffer.format(sum);
+    if text.len() > limit {
+        return Ok(false);
+    }
+    table[index].overwrite(text, known_number(sum))?;
+    Ok(true)
 }
 
 /// Unsets a variable, if it is set.

@@ -1,7 +1,7 @@
 //! All that an evaluation has of variables and procedures.
-ghost use Rattle.std.specs.Prelude.{◌≡◌, [], true, map, string_bytes, OnOk, OnErr, IfOk, option_map, is_some};
-ghost use Rattle.tclchars.specs.Runs.{Text};
-ghost use Rattle.tclvariables.specs.Contents.{HoldsList};
+ghost use Rattle.std.specs.Prelude.{◌≡◌, [], true, false, map, string_bytes, OnOk, OnErr, IfOk, option_map, is_some};
+ghost use Rattle.tclrules.specs.Runs.{Text};
+ghost use Rattle.tclvariables.specs.Contents.{HoldsList, IsIncreased};
 ghost use Rattle.tclrules.specs.Variables.{initial_state, in_frame, sees, value_at, with_value, without_value, shared_in, lookup};
 ghost use Rattle.tclrules.specs.Rules.{new_frame, with_procedure};
 ghost use Rattle.tclrules.specs.Promise as promise;
@@ -11,7 +11,7 @@ ghost use Rattle.tclvariables.specs.Views.{texts_of, procedure_view};
 use crate::content::Content;
 use crate::local::Local;
 use crate::location::{Scalar, Scope};
-use crate::table::{Table, holds_list, put, remove, take, text_in};
+use crate::table::{Table, content_in, holds_list, increase, put, remove, take, text_in};
 use indexmap::IndexMap;
 use std::alloc::{AllocError, Global};
 use std::marker::Model;
@@ -107,6 +107,16 @@ impl Variables {
         }
     }
 
+    /// What a variable holds; None where it is unset.
+    pub fn content(&self, variable: Scalar<'_>) -> Option<&Content>
+        ensures { option_map (λ c. c.now) result ≡ value_at self.now (scalar_view variable.entry) }
+    {
+        match variable.scope {
+            Scope::Global => content_in(&self.globals, variable.name),
+            Scope::Procedure => self.local.as_ref()?.content(variable.name),
+        }
+    }
+
     /// Gives a variable a value; one of a procedure has an effect only where a procedure runs.
     pub fn set(
         &mut self,
@@ -164,6 +174,30 @@ impl Variables {
             Scope::Procedure => match &mut self.local {
                 None => None,
                 Some(local) => local.take(alloc, variable.name),
+            },
+        }
+    }
+
+    /// Adds a whole number to that which a variable holds, in the memory of its text. False, and nothing is changed,
+    /// where the variable is unset or holds none, or where the sum lies outside 64 bits or has more bytes than `limit`.
+    ///
+    /// Errors: memory runs out; then the value is lost.
+    pub fn increase(
+        &mut self,
+        variable: Scalar<'_>,
+        amount: i64,
+        limit: usize,
+    ) -> Result<bool, AllocError>
+        ensures done { IfOk result (λ done. done ≡ true → (t : Text)
+            × IsIncreased (value_at self.old (scalar_view variable.entry)) amount limit t
+            × (self.new ≡ with_value self.old (scalar_view variable.entry) t)) }
+        ensures same { IfOk result (λ done. done ≡ false → self.new ≡ self.old) }
+    {
+        match variable.scope {
+            Scope::Global => increase(&mut self.globals, variable.name, amount, limit),
+            Scope::Procedure => match &mut self.local {
+                None => Ok(false),
+                Some(local) => local.increase(variable.name, amount, limit),
             },
         }
     }

@@ -40,6 +40,7 @@ loop-name-preserved g c = record {
       c.loop-name.invariant.done_so files listings (c.act_on_name.ensures.reads.narrows files listings a) o
       (each_on (λ (s : String Global). string_bytes s) D c.args.names.now c.loop-name.name-index c.name-item.result c.loop-name-test.true c.name-item.is d mid
       (subst (λ (n : Text). D n d (Ok mid)) c.as_str.ensures.value (c.in_ok-act_on_name.ensures.over_tree files listings a)) o k);
+  listed = c.in_ok-act_on_name.ensures.listed;
   base = c.act_on_name.ensures.base ∙ c.loop-name.invariant.base;
   unfailed = c.in_ok-act_on_name.ensures.failed ∙ c.loop-name.invariant.unfailed;
   looked = λ files listings a at k.
@@ -78,3 +79,9 @@ returns-clause-over_tree g c = λ files listings a.
 
 pub returns-clause-failed : goal.returns-clause-failed
 returns-clause-failed g c = c.loop-name.invariant.unfailed
+
+pub act_on_name-requires : goal.act_on_name-requires
+act_on_name-requires g c = c.loop-name.invariant.listed
+
+pub returns-clause-listed : goal.returns-clause-listed
+returns-clause-listed g c = c.loop-name.invariant.listed

@@ -1,4 +1,7 @@
-use Rattle.std.proofs.Common.{◌<◌, refl}
+use Rattle.std.proofs.Common.{◌<◌, List, map, refl, ap, ◌∙◌}
+use Rattle.envloaded.specs.LoadedEntries.{entry_view}
+use Rattle.envloaded.specs.declared.entry.Loaded.{Loaded}
+use Rattle.requeststep.proofs.ListedLemmas.{listing, listed_on}
 use Rattle.requeststep.specs.declared.commands.NameAction.{NameAction}
 use Rattle.requeststep.specs.declared.commands.NameAction.TheVariants.{Load, Unload, ReportOn}
 use Rattle.requeststep.specs.Views.{request_context_of, done_view}
@@ -62,3 +65,21 @@ returns-in-ReportOn-clause-failed g c =
     fails_of agrees before now c.report_name.result
     (λ (name_action : NameAction) files listings. NameActionLooksAt name_action (request_context_of c.args.settings files listings) c.args.typed.now d) c.args.name_action (ReportOn c.in-ReportOn.report_kind) c.in-ReportOn.is
     c.report_name.ensures.failed
+
+pub load_name-requires : goal.load_name-requires
+load_name-requires g c = c.requires
+
+pub unload_name-requires : goal.unload_name-requires
+unload_name-requires g c = c.requires
+
+pub report_name-requires : goal.report_name-requires
+report_name-requires g c = ap (λ (es : List Loaded). listing (map entry_view es)) c.as_slice.ensures.value ∙ c.requires
+
+pub returns-in-Load-clause-listed : goal.returns-in-Load-clause-listed
+returns-in-Load-clause-listed g c = c.load_name.ensures.listed
+
+pub returns-in-Unload-clause-listed : goal.returns-in-Unload-clause-listed
+returns-in-Unload-clause-listed g c = c.unload_name.ensures.listed
+
+pub returns-in-ReportOn-clause-listed : goal.returns-in-ReportOn-clause-listed
+returns-in-ReportOn-clause-listed g c = listed_on c.report_name.result (map entry_view c.args.entries.now.items) (g.V.Vars.vars c.args.env.now) (g.V.Vars.vars c.report_name.new.env) c.requires c.report_name.ensures.listed

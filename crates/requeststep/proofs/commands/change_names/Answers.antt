@@ -1,4 +1,4 @@
-use Rattle.std.proofs.Common.{◌<◌, map, string_bytes, String, Ok, Err, refl}
+use Rattle.std.proofs.Common.{◌<◌, List, map, string_bytes, String, Ok, Err, refl, ap, ◌∙◌}
 use Rattle.std.proofs.lemmas.Result.{err_from_is_err_and}
 use Rattle.std.specs.declared.alloc.Global.{Global}
 use Rattle.envloaded.specs.LoadedEntries.{entry_view}
@@ -10,6 +10,8 @@ use Rattle.requeststep.specs.Parts.{NameActionStep, entries_view}
 use Rattle.requeststep.proofs.StepLemmas.{over_tree_same, gives_refused}
 use Rattle.requeststep.proofs.EachLemmas.{named_some}
 use Rattle.requeststep.proofs.FailureLemmas.{unfailed}
+use Rattle.envloaded.specs.declared.entry.Loaded.{Loaded}
+use Rattle.requeststep.proofs.ListedLemmas.{listing}
 use Rattle.requeststep.proofs.commands.change_names.Goals as goal
 
 pub returns-in_err-before-clause-over_tree : goal.returns-in_err-before-clause-over_tree
@@ -40,3 +42,6 @@ returns-in_err-before-clause-failed g c =
     let p = err_from_is_err_and c.from_residual.result c.from_residual.ensures.1 in
     let failed = g.T.Tree.failed c.args.tree.now in
     rw (p.1, p.2) (unfailed c.in_err-before.field-0.0 (λ r. Is (entries_of (g.V.Vars.vars c.args.env.now)) (Err r)) failed failed _ c.in_err-before.ensures.given refl)
+
+pub change_each-requires : goal.change_each-requires
+change_each-requires g c = ap (λ (es : List Loaded). listing (map entry_view es)) c.as_slice.ensures.value ∙ c.in_ok-before.ensures.given

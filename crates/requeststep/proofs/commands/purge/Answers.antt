@@ -18,6 +18,7 @@ use Rattle.search.proofs.FailureLemmas.{fails_last}
 use Rattle.requests.specs.Looked.{UnloadLooksAt, EachLooksAt, PurgeLooksAt}
 use Rattle.requeststep.specs.Answers.{is_failure}
 use Rattle.requeststep.proofs.FailureLemmas.{unfailed}
+use Rattle.requeststep.proofs.ListedLemmas.{listing}
 use Rattle.requeststep.proofs.commands.purge.Goals as goal
 
 pub returns-in_err-before-clause-over_tree : goal.returns-in_err-before-clause-over_tree
@@ -65,3 +66,6 @@ returns-clause-failed g c =
       unloading = subst (λ (ns : List Text). EachLooksAt (UnloadsName (request_context_of c.args.settings files listings) false) UnloadLooksAt ns (nothing_done e) at) back (h files listings a);
     })
     failed
+
+pub change_each-requires : goal.change_each-requires
+change_each-requires g c = ap (λ (es : List Loaded). listing (map entry_view es)) c.as_slice-3.ensures.value ∙ c.in_ok-before.ensures.given

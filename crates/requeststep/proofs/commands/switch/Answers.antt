@@ -1,20 +1,22 @@
-use Rattle.std.proofs.Common.{◌<◌, true, map, Some, Ok, Err, refl, subst}
+use Rattle.std.proofs.Common.{◌<◌, true, List, map, Some, Ok, Err, refl, sym, ap, ◌∙◌, subst}
 use Rattle.std.proofs.lemmas.Result.{err_from_is_err_and}
 use Rattle.std.specs.Option.{option_map}
 use Rattle.envvars.specs.Texts.{Text}
 use Rattle.envloaded.specs.LoadedEntries.{entry_view}
+use Rattle.envloaded.specs.declared.entry.Loaded.{Loaded}
 use Rattle.filetree.specs.Relations.{Is, Then}
 use Rattle.requests.specs.Requests as actions
 use Rattle.requests.specs.Steps.{nothing_done, entries_of, EndsRequest, RequestStep, LoadsName, UnloadsName, Switches, old_name}
 use Rattle.requeststep.specs.declared.done.Done.{Done}
 use Rattle.requeststep.specs.Views.{request_context_of, done_view}
-use Rattle.requeststep.specs.Parts.{entries_view}
+use Rattle.requeststep.specs.Parts.{AreEntriesOf, entries_view}
 use Rattle.requeststep.proofs.StepLemmas.{over_tree_refused, gives_refused}
 use Rattle.filetree.specs.Agreement.{InEachPair}
 use Rattle.search.proofs.FailureLemmas.{fails_then}
 use Rattle.requests.specs.Looked.{SwitchLooksAt}
 use Rattle.requeststep.specs.Answers.{is_failure}
 use Rattle.requeststep.proofs.FailureLemmas.{unfailed}
+use Rattle.requeststep.proofs.ListedLemmas.{listing}
 use Rattle.requeststep.proofs.commands.switch.Goals as goal
 
 pub returns-in_err-before-clause-over_tree : goal.returns-in_err-before-clause-over_tree
@@ -53,7 +55,9 @@ returns-in_err-refuse_lost_prereqs-clause-over_tree g c =
     let d = done_view c.switch_names.new.done (g.V.Vars.vars c.switch_names.new.env) in
     let xs = map entry_view c.in_ok-before.before.items in
     let rose = g.T.Tree.failures c.args.tree.now < g.T.Tree.failures c.switch_names.new.tree in
-    let ended = rw c.as_slice.ensures.value at c.in_err-refuse_lost_prereqs.ensures in
+    let last = g.V.Vars.vars c.switch_names.new.env in
+    let listed : AreEntriesOf (map entry_view c.as_slice-3.result.now) last = subst (λ (es : List Loaded). AreEntriesOf (map entry_view es) last) (sym c.as_slice-3.ensures.value) c.in_ok-switch_names.ensures.listed in
+    let ended = rw c.as_slice-2.ensures.value at c.in_err-refuse_lost_prereqs.ensures last listed in
     rw (p.1, p.2) (gives_refused (g.T.Tree.agrees c.switch_names.new.tree) rose (λ (u : Unit {0}). d) (λ (x : Done). d) c.in_err-refuse_lost_prereqs.field-0.0
     (EndsRequest xs d) (λ files listings. RequestStep (request_context_of c.args.settings files listings) e (actions.switch (option_map (λ x. x.now) c.args.old) c.args.new.now))
     (λ files listings r a h. (
@@ -73,7 +77,9 @@ returns-clause-over_tree g c = λ files listings a.
     let e = g.V.Vars.vars c.args.env.now in
     let d = done_view c.switch_names.new.done (g.V.Vars.vars c.switch_names.new.env) in
     let xs = map entry_view c.in_ok-before.before.items in
-    let ended = rw c.as_slice.ensures.value at c.in_ok-refuse_lost_prereqs.ensures in (
+    let last = g.V.Vars.vars c.switch_names.new.env in
+    let listed : AreEntriesOf (map entry_view c.as_slice-3.result.now) last = subst (λ (es : List Loaded). AreEntriesOf (map entry_view es) last) (sym c.as_slice-3.ensures.value) c.in_ok-switch_names.ensures.listed in
+    let ended = rw c.as_slice-2.ensures.value at c.in_ok-refuse_lost_prereqs.ensures last listed in (
       Ok xs,
       c.in_ok-before.ensures.given,
       (
@@ -110,5 +116,10 @@ pub returns-in_err-refuse_lost_prereqs-clause-failed : goal.returns-in_err-refus
 returns-in_err-refuse_lost_prereqs-clause-failed g c =
     let p = err_from_is_err_and c.from_residual-in_err-refuse_lost_prereqs.result c.from_residual-in_err-refuse_lost_prereqs.ensures.1 in
     let d = done_view c.switch_names.new.done (g.V.Vars.vars c.switch_names.new.env) in
-    rw (p.1, p.2) (unfailed c.in_err-refuse_lost_prereqs.field-0.0 (λ r. EndsRequest (map entry_view c.as_slice.result.now) d (Err r))
-    (g.T.Tree.failed c.args.tree.now) (g.T.Tree.failed c.switch_names.new.tree) _ c.in_err-refuse_lost_prereqs.ensures c.in_ok-switch_names.ensures.failed)
+    let last = g.V.Vars.vars c.switch_names.new.env in
+    let listed : AreEntriesOf (map entry_view c.as_slice-3.result.now) last = subst (λ (es : List Loaded). AreEntriesOf (map entry_view es) last) (sym c.as_slice-3.ensures.value) c.in_ok-switch_names.ensures.listed in
+    rw (p.1, p.2) (unfailed c.in_err-refuse_lost_prereqs.field-0.0 (λ r. EndsRequest (map entry_view c.as_slice-2.result.now) d (Err r))
+    (g.T.Tree.failed c.args.tree.now) (g.T.Tree.failed c.switch_names.new.tree) _ (c.in_err-refuse_lost_prereqs.ensures last listed) c.in_ok-switch_names.ensures.failed)
+
+pub switch_names-requires : goal.switch_names-requires
+switch_names-requires g c = ap listing (c.in_ok-entries.ensures ∙ ap (map entry_view) c.as_slice.ensures.value) ∙ c.in_ok-before.ensures.given

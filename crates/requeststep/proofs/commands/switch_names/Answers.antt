@@ -51,3 +51,12 @@ returns-clause-failed g c =
     (λ at. InEachPair agrees (λ files listings. SwitchLooksAt (request_context_of c.args.settings files listings) c.args.old.now c.args.new.now d at)) c.in_ok-unload_name.ensures.failed
     (λ at h files listings a. inr (mid, c.in_ok-unload_name.ensures.over_tree files listings (c.load_name.ensures.reads.narrows files listings a), h files listings a))
     c.load_name.ensures.failed
+
+pub unload_name-requires : goal.unload_name-requires
+unload_name-requires g c = c.requires
+
+pub load_name-requires : goal.load_name-requires
+load_name-requires g c = c.in_ok-unload_name.ensures.listed
+
+pub returns-clause-listed : goal.returns-clause-listed
+returns-clause-listed g c = c.load_name.ensures.listed

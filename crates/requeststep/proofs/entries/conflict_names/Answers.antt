@@ -1,5 +1,5 @@
 use Rattle.envvars.specs.Texts.{slice_texts}
-use Rattle.modulerecords.specs.Records.{conflict_names}
+use Rattle.requests.specs.Records.{conflict_names}
 use Rattle.modulefile.specs.RecordViews.{record_view}
 use Rattle.reports.proofs.ReportLemmas.{turn}
 use Rattle.requeststep.proofs.RecordLemmas.{conflicts-append}

@@ -1,6 +1,6 @@
 use Rattle.std.proofs.Common.{◌≡◌, map, take}
 use Rattle.envvars.specs.Texts.{slice_texts}
-use Rattle.modulerecords.specs.Records.{conflict_names}
+use Rattle.requests.specs.Records.{conflict_names}
 use Rattle.modulefile.specs.RecordViews.{record_view}
 use Rattle.requeststep.proofs.entries.conflict_names.Given as goal
 

@@ -1,6 +1,6 @@
 use Rattle.std.proofs.Common.{◌≡◌, map, take}
 use Rattle.envvars.specs.Texts.{texts_in}
-use Rattle.modulerecords.specs.Records.{prereq_groups}
+use Rattle.requests.specs.Records.{prereq_groups}
 use Rattle.modulefile.specs.RecordViews.{record_view}
 use Rattle.requeststep.proofs.entries.prereq_groups.Given as goal
 

@@ -6,7 +6,7 @@ use Rattle.envloaded.specs.LoadedEntries.{entry_view}
 use Rattle.envloaded.specs.declared.entry.Loaded.{Loaded}
 use Rattle.filetree.specs.Relations.{Is}
 use Rattle.search.specs.Answers.{found_view}
-use Rattle.requests.specs.Steps.{entries_of, Finds, LoadsFound, LoadsName}
+use Rattle.requests.specs.Steps.{Finds, LoadsFound, LoadsName}
 use Rattle.requeststep.specs.Views.{request_context_of, done_view}
 use Rattle.requeststep.specs.Parts.{entries_view}
 use Rattle.requeststep.proofs.StepLemmas.{over_tree_given, gives_refused, over_tree_refused}
@@ -20,16 +20,16 @@ use Rattle.requeststep.proofs.files.load_name.Goals as goal
 
 pub returns-in_err-found-clause-over_tree : goal.returns-in_err-found-clause-over_tree
 returns-in_err-found-clause-over_tree g c =
-    let p = err_from_is_err_and c.from_residual-in_err-found.result c.from_residual-in_err-found.ensures.1 in
+    let p = err_from_is_err_and c.from_residual.result c.from_residual.ensures.1 in
     let a = c.args.name_request in
     let e = g.V.Vars.vars c.args.env.now in
     let d = done_view c.args.done.now e in
-    let items = c.in_ok-entries.entries.items in
+    let items = c.args.entries.now.items in
     let rose = g.T.Tree.failures c.args.tree.now < g.T.Tree.failures c.find_module.new.tree in
     let no : has a.typed.now (names_of (map entry_view items)) ≡ false = ap (λ (es : List Loaded). has a.typed.now (names_of (map entry_view es))) (sym c.as_slice.ensures.value) ∙ (sym c.is_loaded.ensures ∙ c.if-is_loaded.false) in
     rw (p.1, p.2) (over_tree_refused (g.T.Tree.agrees c.find_module.new.tree) rose rose found_view (λ (u : Unit {0}). d) c.in_err-found.field-0.0
     (λ files listings. Finds (request_context_of a.settings files listings) e a.typed.now) (λ files listings. LoadsName (request_context_of a.settings files listings) a.in_switch a.typed.now d) (λ q. q)
-    (λ files listings r k h. loads_unfound (request_context_of a.settings files listings) a.in_switch a.typed.now d (map entry_view items) c.in_ok-entries.ensures.given no r h)
+    (λ files listings r k h. loads_unfound (request_context_of a.settings files listings) a.in_switch a.typed.now d (map entry_view items) c.requires no r h)
     c.in_err-found.ensures.over_tree)
 
 pub returns-clause-over_tree : goal.returns-clause-over_tree
@@ -37,48 +37,30 @@ returns-clause-over_tree g c =
     let a = c.args.name_request in
     let e = g.V.Vars.vars c.args.env.now in
     let d = done_view c.args.done.now e in
-    let items = c.in_ok-entries.entries.items in
+    let items = c.args.entries.now.items in
     let m = found_view c.in_ok-found.found in
     let rose = g.T.Tree.failures c.args.tree.now < g.T.Tree.failures c.find_module.new.tree in
     let no : has a.typed.now (names_of (map entry_view items)) ≡ false = ap (λ (es : List Loaded). has a.typed.now (names_of (map entry_view es))) (sym c.as_slice.ensures.value) ∙ (sym c.is_loaded.ensures ∙ c.if-is_loaded.false) in
-    let given = rw c.as_slice-2.ensures.value at c.load_found.ensures.given in
     over_tree_given (g.T.Tree.agrees c.find_module.new.tree) rose (λ (u : Unit {0}). done_view c.load_found.new.done (g.V.Vars.vars c.load_found.new.env)) c.load_found.result
     (λ files listings. LoadsFound (request_context_of a.settings files listings) a.in_switch a.typed.now d (map entry_view items) m) (λ files listings. LoadsName (request_context_of a.settings files listings) a.in_switch a.typed.now d)
-    (λ files listings o k h. loads_found (request_context_of a.settings files listings) a.in_switch a.typed.now d (map entry_view items) c.in_ok-entries.ensures.given no m (c.in_ok-found.ensures.over_tree files listings k) o h)
-    given
-
-pub returns-in_err-entries-clause-over_tree : goal.returns-in_err-entries-clause-over_tree
-returns-in_err-entries-clause-over_tree g c =
-    let p = err_from_is_err_and c.from_residual.result c.from_residual.ensures.1 in
-    let a = c.args.name_request in
-    let e = g.V.Vars.vars c.args.env.now in
-    let d = done_view c.args.done.now e in
-    let failures = g.T.Tree.failures c.args.tree.now in
-    rw (p.1, p.2) (gives_refused (g.T.Tree.agrees c.args.tree.now) (failures < failures) entries_view (λ (u : Unit {0}). d) c.in_err-entries.field-0.0
-    (Is (entries_of e)) (λ files listings. LoadsName (request_context_of a.settings files listings) a.in_switch a.typed.now d)
-    (λ files listings r k h. loads_unread (request_context_of a.settings files listings) a.in_switch a.typed.now d r h) c.in_err-entries.ensures.given)
+    (λ files listings o k h. loads_found (request_context_of a.settings files listings) a.in_switch a.typed.now d (map entry_view items) c.requires no m (c.in_ok-found.ensures.over_tree files listings k) o h)
+    c.load_found.ensures.given
 
 pub returns-then-is_loaded-clause-over_tree : goal.returns-then-is_loaded-clause-over_tree
 returns-then-is_loaded-clause-over_tree g c = λ files listings k.
     let a = c.args.name_request in
     let d = done_view c.args.done.now (g.V.Vars.vars c.args.env.now) in
-    let items = c.in_ok-entries.entries.items in
+    let items = c.args.entries.now.items in
     let yes : has a.typed.now (names_of (map entry_view items)) ≡ true = ap (λ (es : List Loaded). has a.typed.now (names_of (map entry_view es))) (sym c.as_slice.ensures.value) ∙ (sym c.is_loaded.ensures ∙ c.if-is_loaded.true) in
-    loads_loaded (request_context_of a.settings files listings) a.in_switch a.typed.now d (map entry_view items) c.in_ok-entries.ensures.given yes
-
-pub returns-in_err-entries-clause-failed : goal.returns-in_err-entries-clause-failed
-returns-in_err-entries-clause-failed g c =
-    let p = err_from_is_err_and c.from_residual.result c.from_residual.ensures.1 in
-    let failed = g.T.Tree.failed c.args.tree.now in
-    rw (p.1, p.2) (unfailed c.in_err-entries.field-0.0 (λ r. Is (entries_of (g.V.Vars.vars c.args.env.now)) (Err r)) failed failed _ c.in_err-entries.ensures.given refl)
+    loads_loaded (request_context_of a.settings files listings) a.in_switch a.typed.now d (map entry_view items) c.requires yes
 
 pub returns-in_err-found-clause-failed : goal.returns-in_err-found-clause-failed
 returns-in_err-found-clause-failed g c =
-    let p = err_from_is_err_and c.from_residual-in_err-found.result c.from_residual-in_err-found.ensures.1 in
+    let p = err_from_is_err_and c.from_residual.result c.from_residual.ensures.1 in
     let a = c.args.name_request in
     let e = g.V.Vars.vars c.args.env.now in
     let d = done_view c.args.done.now e in
-    let items = c.in_ok-entries.entries.items in
+    let items = c.args.entries.now.items in
     let no : has a.typed.now (names_of (map entry_view items)) ≡ false = ap (λ (es : List Loaded). has a.typed.now (names_of (map entry_view es))) (sym c.as_slice.ensures.value) ∙ (sym c.is_loaded.ensures ∙ c.if-is_loaded.false) in
     let before = g.T.Tree.failed c.args.tree.now in
     let agrees = g.T.Tree.agrees c.find_module.new.tree in
@@ -86,7 +68,7 @@ returns-in_err-found-clause-failed g c =
     rw (p.1, p.2) (fails_then fails fails before before (g.T.Tree.failed c.find_module.new.tree)
     (λ at. InEachPair agrees (λ files listings. SearchLooksAt (request_context_of a.settings files listings) e a.typed.now at))
     (λ at. InEachPair agrees (λ files listings. LoadLooksAt (request_context_of a.settings files listings) a.typed.now d at))
-    refl refl (λ at h files listings k. record { entries = map entry_view items; read = c.in_ok-entries.ensures.given; unloaded = no; searched = h files listings k })
+    refl refl (λ at h files listings k. record { entries = map entry_view items; read = c.requires; unloaded = no; searched = h files listings k })
     c.in_err-found.ensures.failed)
 
 pub returns-clause-failed : goal.returns-clause-failed
@@ -94,5 +76,14 @@ returns-clause-failed g c =
     let a = c.args.name_request in
     let d = done_view c.args.done.now (g.V.Vars.vars c.args.env.now) in
     gives_unfailed (λ (u : Unit {0}). done_view c.load_found.new.done (g.V.Vars.vars c.load_found.new.env)) c.load_found.result
-    (LoadsFound (request_context_of a.settings (λ path. None) (λ path. None)) a.in_switch a.typed.now d (map entry_view c.as_slice-2.result.now) (found_view c.in_ok-found.found))
+    (LoadsFound (request_context_of a.settings (λ path. None) (λ path. None)) a.in_switch a.typed.now d (map entry_view c.args.entries.now.items) (found_view c.in_ok-found.found))
     (g.T.Tree.failed c.args.tree.now) (g.T.Tree.failed c.find_module.new.tree) _ (c.load_found.ensures.given (λ path. None) (λ path. None)) c.in_ok-found.ensures.failed
+
+pub load_found-requires : goal.load_found-requires
+load_found-requires g c = c.requires
+
+pub returns-clause-listed : goal.returns-clause-listed
+returns-clause-listed g c = c.load_found.ensures.listed
+
+pub returns-then-is_loaded-clause-listed : goal.returns-then-is_loaded-clause-listed
+returns-then-is_loaded-clause-listed g c = c.requires

@@ -44,3 +44,6 @@ returns-clause-given g c =
       ap Ok (c.in_ok-report_on.ensures last
           ∙ (ap (λ (x : Environment). with_report (done_view c.args.done.now x) ran.messages c.as_str.result.now) same ∙ ap (λ (t : Text). with_report d ran.messages t) said)),
     )
+
+pub returns-clause-listed : goal.returns-clause-listed
+returns-clause-listed g c = c.in_ok-ran.ensures.listed

@@ -16,48 +16,31 @@ use Rattle.requeststep.proofs.files.report_name.Goals as goal
 
 pub returns-in_err-found-clause-over_tree : goal.returns-in_err-found-clause-over_tree
 returns-in_err-found-clause-over_tree g c =
-    let p = err_from_is_err_and c.from_residual-in_err-found.result c.from_residual-in_err-found.ensures.1 in
+    let p = err_from_is_err_and c.from_residual.result c.from_residual.ensures.1 in
     let e = g.V.Vars.vars c.args.env.now in
     let d = done_view c.args.done.now e in
     let rose = g.T.Tree.failures c.args.tree.now < g.T.Tree.failures c.find_module.new.tree in
     rw (p.1, p.2) (over_tree_refused (g.T.Tree.agrees c.find_module.new.tree) rose rose found_view (λ (u : Unit {0}). d) c.in_err-found.field-0.0
     (λ files listings. Finds (request_context_of c.args.settings files listings) e c.args.typed.now)
     (λ files listings. ShowsName (request_context_of c.args.settings files listings) (report_mode c.args.report_kind) (report_text c.args.report_kind) c.args.typed.now d) (λ q. q)
-    (λ files listings r k h. (Ok (map entry_view c.in_ok-entries.entries.items), c.in_ok-entries.ensures.given, (Err r, h, refl)))
+    (λ files listings r k h. (Ok (map entry_view c.args.entries.now), c.requires, (Err r, h, refl)))
     c.in_err-found.ensures.over_tree)
 
 pub returns-clause-over_tree : goal.returns-clause-over_tree
 returns-clause-over_tree g c =
     let e = g.V.Vars.vars c.args.env.now in
     let d = done_view c.args.done.now e in
-    let items = c.in_ok-entries.entries.items in
+    let items = c.args.entries.now in
     let m = found_view c.in_ok-found.found in
-    let given = rw c.as_slice.ensures.value at c.report_found.ensures.given in
     over_tree_given (g.T.Tree.agrees c.find_module.new.tree) (g.T.Tree.failures c.args.tree.now < g.T.Tree.failures c.find_module.new.tree)
     (λ (u : Unit {0}). done_view c.report_found.new.done (g.V.Vars.vars c.report_found.new.env)) c.report_found.result
     (λ files listings. ReportsFound (record { settings = c.args.settings; in_switch = false; typed = c.args.typed }) c.args.report_kind m (map entry_view items) d)
     (λ files listings. ShowsName (request_context_of c.args.settings files listings) (report_mode c.args.report_kind) (report_text c.args.report_kind) c.args.typed.now d)
-    (λ files listings o k h. (Ok (map entry_view items), c.in_ok-entries.ensures.given, (Ok m, c.in_ok-found.ensures.over_tree files listings k, h))) (λ files listings. given)
-
-pub returns-in_err-entries-clause-over_tree : goal.returns-in_err-entries-clause-over_tree
-returns-in_err-entries-clause-over_tree g c =
-    let p = err_from_is_err_and c.from_residual.result c.from_residual.ensures.1 in
-    let e = g.V.Vars.vars c.args.env.now in
-    let d = done_view c.args.done.now e in
-    let failures = g.T.Tree.failures c.args.tree.now in
-    rw (p.1, p.2) (gives_refused (g.T.Tree.agrees c.args.tree.now) (failures < failures) entries_view (λ (u : Unit {0}). d) c.in_err-entries.field-0.0
-    (Is (entries_of e)) (λ files listings. ShowsName (request_context_of c.args.settings files listings) (report_mode c.args.report_kind) (report_text c.args.report_kind) c.args.typed.now d)
-    (λ files listings r k h. (Err r, h, refl)) c.in_err-entries.ensures.given)
-
-pub returns-in_err-entries-clause-failed : goal.returns-in_err-entries-clause-failed
-returns-in_err-entries-clause-failed g c =
-    let p = err_from_is_err_and c.from_residual.result c.from_residual.ensures.1 in
-    let failed = g.T.Tree.failed c.args.tree.now in
-    rw (p.1, p.2) (unfailed c.in_err-entries.field-0.0 (λ r. Is (entries_of (g.V.Vars.vars c.args.env.now)) (Err r)) failed failed _ c.in_err-entries.ensures.given refl)
+    (λ files listings o k h. (Ok (map entry_view items), c.requires, (Ok m, c.in_ok-found.ensures.over_tree files listings k, h))) (λ files listings. c.report_found.ensures.given)
 
 pub returns-in_err-found-clause-failed : goal.returns-in_err-found-clause-failed
 returns-in_err-found-clause-failed g c =
-    let p = err_from_is_err_and c.from_residual-in_err-found.result c.from_residual-in_err-found.ensures.1 in
+    let p = err_from_is_err_and c.from_residual.result c.from_residual.ensures.1 in
     let e = g.V.Vars.vars c.args.env.now in
     let d = done_view c.args.done.now e in
     let before = g.T.Tree.failed c.args.tree.now in
@@ -66,12 +49,15 @@ returns-in_err-found-clause-failed g c =
     rw (p.1, p.2) (fails_then fails fails before before (g.T.Tree.failed c.find_module.new.tree)
     (λ at. InEachPair agrees (λ files listings. SearchLooksAt (request_context_of c.args.settings files listings) e c.args.typed.now at))
     (λ at. InEachPair agrees (λ files listings. ShowLooksAt (request_context_of c.args.settings files listings) c.args.typed.now d at))
-    refl refl (λ at h files listings a. record { entries = map entry_view c.in_ok-entries.entries.items; read = c.in_ok-entries.ensures.given; searched = h files listings a })
+    refl refl (λ at h files listings a. record { entries = map entry_view c.args.entries.now; read = c.requires; searched = h files listings a })
     c.in_err-found.ensures.failed)
 
 pub returns-clause-failed : goal.returns-clause-failed
 returns-clause-failed g c =
     let d = done_view c.args.done.now (g.V.Vars.vars c.args.env.now) in
     gives_unfailed (λ (u : Unit {0}). done_view c.report_found.new.done (g.V.Vars.vars c.report_found.new.env)) c.report_found.result
-    (ReportsFound (record { settings = c.args.settings; in_switch = false; typed = c.args.typed }) c.args.report_kind (found_view c.in_ok-found.found) (map entry_view c.as_slice.result.now) d)
+    (ReportsFound (record { settings = c.args.settings; in_switch = false; typed = c.args.typed }) c.args.report_kind (found_view c.in_ok-found.found) (map entry_view c.args.entries.now) d)
     (g.T.Tree.failed c.args.tree.now) (g.T.Tree.failed c.find_module.new.tree) _ c.report_found.ensures.given c.in_ok-found.ensures.failed
+
+pub returns-clause-listed : goal.returns-clause-listed
+returns-clause-listed g c = c.report_found.ensures.listed

@@ -6,9 +6,9 @@ use Rattle.modulename.specs.ModuleName.{is_module_name}
 use Rattle.filetree.specs.Relations.{Is}
 use Rattle.search.specs.Reasons.{bad_name}
 use Rattle.requests.specs.Reasons.{missed}
-use Rattle.requests.specs.Steps.{entries_of, UnloadsEntry, UnloadsName}
+use Rattle.requests.specs.Steps.{UnloadsName}
 use Rattle.requeststep.specs.Views.{request_context_of, done_view}
-use Rattle.requeststep.specs.Parts.{entries_view}
+use Rattle.requeststep.specs.Parts.{UnloadsFrom}
 use Rattle.requeststep.proofs.StepLemmas.{gives_refused, over_tree_same}
 use Rattle.requeststep.proofs.NameLemmas.{unloads_unread, unloads_misnamed, unloads_meant}
 use Rattle.search.proofs.FailureLemmas.{fails_last}
@@ -17,17 +17,6 @@ use Rattle.requeststep.specs.Answers.{is_failure}
 use Rattle.requeststep.proofs.FailureLemmas.{unfailed}
 use Rattle.requeststep.proofs.files.unload_name.Goals as goal
 
-pub returns-in_err-entries-clause-over_tree : goal.returns-in_err-entries-clause-over_tree
-returns-in_err-entries-clause-over_tree g c =
-    let p = err_from_is_err_and c.from_residual.result c.from_residual.ensures.1 in
-    let a = c.args.name_request in
-    let e = g.V.Vars.vars c.args.env.now in
-    let d = done_view c.args.done.now e in
-    let failures = g.T.Tree.failures c.args.tree.now in
-    rw (p.1, p.2) (gives_refused (g.T.Tree.agrees c.args.tree.now) (failures < failures) entries_view (λ (u : Unit {0}). d) c.in_err-entries.field-0.0
-    (Is (entries_of e)) (λ files listings. UnloadsName (request_context_of a.settings files listings) a.in_switch a.typed.now d)
-    (λ files listings r k h. unloads_unread (request_context_of a.settings files listings) a.in_switch a.typed.now d r h) c.in_err-entries.ensures.given)
-
 pub returns-then-not-is_module_name-clause-over_tree : goal.returns-then-not-is_module_name-clause-over_tree
 returns-then-not-is_module_name-clause-over_tree g c = λ files listings k.
     let a = c.args.name_request in
@@ -35,7 +24,7 @@ returns-then-not-is_module_name-clause-over_tree g c = λ files listings k.
     let d = done_view c.args.done.now (g.V.Vars.vars c.args.env.now) in
     let no : is_module_name a.typed.now ≡ false = sym c.is_module_name.ensures ∙ c.if-not-is_module_name.true in
     subst (λ (t : Text). UnloadsName s a.in_switch a.typed.now d (Err (missed (bad_name t)))) (sym c.in_ok-name.ensures.ok)
-    (unloads_misnamed s a.in_switch a.typed.now d (map entry_view c.in_ok-entries.entries.items) c.in_ok-entries.ensures.given no)
+    (unloads_misnamed s a.in_switch a.typed.now d (map entry_view c.args.entries.now.items) c.requires no)
 
 pub returns-in-None-clause-over_tree : goal.returns-in-None-clause-over_tree
 returns-in-None-clause-over_tree g c = λ files listings k.
@@ -44,37 +33,41 @@ returns-in-None-clause-over_tree g c = λ files listings k.
     let d = done_view c.args.done.now (g.V.Vars.vars c.args.env.now) in
     let yes : is_module_name a.typed.now ≡ true = sym c.is_module_name.ensures ∙ c.if-not-is_module_name.false in
     let meant = rw c.as_slice.ensures.value at c.in-None.ensures in
-    unloads_meant s a.in_switch a.typed.now d (map entry_view c.in_ok-entries.entries.items) c.in_ok-entries.ensures.given yes None meant (Ok d) refl
+    unloads_meant s a.in_switch a.typed.now d (map entry_view c.args.entries.now.items) c.requires yes None meant (Ok d) refl
 
-pub returns-clause-over_tree : goal.returns-clause-over_tree
-returns-clause-over_tree g c =
+pub returns-in_ok-unloading-in-Some-clause-over_tree : goal.returns-in_ok-unloading-in-Some-clause-over_tree
+returns-in_ok-unloading-in-Some-clause-over_tree g c =
     let a = c.args.name_request in
     let e = g.V.Vars.vars c.args.env.now in
     let d = done_view c.args.done.now e in
-    let xs = map entry_view c.in_ok-entries.entries.items in
+    let xs = map entry_view c.args.entries.now.items in
     let x = entry_view c.in-Some.entry.now in
-    let rose = g.T.Tree.failures c.args.tree.now < g.T.Tree.failures c.unload_entry.new.tree in
+    let rose = g.T.Tree.failures c.args.tree.now < g.T.Tree.failures c.unload_module.new.tree in
     let yes : is_module_name a.typed.now ≡ true = sym c.is_module_name.ensures ∙ c.if-not-is_module_name.false in
     let meant = rw c.as_slice.ensures.value at c.in-Some.ensures in
-    let over_tree = rw c.as_slice-in-Some.ensures.value at c.unload_entry.ensures.over_tree in
-    over_tree_same (g.T.Tree.agrees c.unload_entry.new.tree) rose rose (λ (u : Unit {0}). done_view c.unload_entry.new.done (g.V.Vars.vars c.unload_entry.new.env)) c.unload_entry.result
-    (λ files listings. UnloadsEntry (request_context_of a.settings files listings) a.in_switch a.typed.now d xs x) (λ files listings. UnloadsName (request_context_of a.settings files listings) a.in_switch a.typed.now d) (λ q. q)
-    (λ files listings o k h. unloads_meant (request_context_of a.settings files listings) a.in_switch a.typed.now d xs c.in_ok-entries.ensures.given yes (Some x) meant o h) over_tree
+    let over_tree = rw (c.in_ok-unloading-in-Some.ensures.name, c.in_ok-unloading-in-Some.ensures.path) at c.unload_module.ensures.over_tree in
+    over_tree_same (g.T.Tree.agrees c.unload_module.new.tree) rose rose (λ (u : Unit {0}). done_view c.unload_module.new.done (g.V.Vars.vars c.unload_module.new.env)) c.unload_module.result
+    (λ files listings. UnloadsFrom (request_context_of a.settings files listings) a.in_switch a.typed.now d xs x.name x.path) (λ files listings. UnloadsName (request_context_of a.settings files listings) a.in_switch a.typed.now d) (λ q. q)
+    (λ files listings o k h. unloads_meant (request_context_of a.settings files listings) a.in_switch a.typed.now d xs c.requires yes (Some x) meant o h) over_tree
 
-pub returns-in_err-entries-clause-failed : goal.returns-in_err-entries-clause-failed
-returns-in_err-entries-clause-failed g c =
-    let p = err_from_is_err_and c.from_residual.result c.from_residual.ensures.1 in
-    let failed = g.T.Tree.failed c.args.tree.now in
-    rw (p.1, p.2) (unfailed c.in_err-entries.field-0.0 (λ r. Is (entries_of (g.V.Vars.vars c.args.env.now)) (Err r)) failed failed _ c.in_err-entries.ensures.given refl)
-
-pub returns-clause-failed : goal.returns-clause-failed
-returns-clause-failed g c =
+pub returns-in_ok-unloading-in-Some-clause-failed : goal.returns-in_ok-unloading-in-Some-clause-failed
+returns-in_ok-unloading-in-Some-clause-failed g c =
     let a = c.args.name_request in
     let d = done_view c.args.done.now (g.V.Vars.vars c.args.env.now) in
-    let xs = map entry_view c.in_ok-entries.entries.items in
+    let xs = map entry_view c.args.entries.now.items in
     let x = entry_view c.in-Some.entry.now in
     let yes : is_module_name a.typed.now ≡ true = sym c.is_module_name.ensures ∙ c.if-not-is_module_name.false in
     let meant = rw c.as_slice.ensures.value at c.in-Some.ensures in
     let before = g.T.Tree.failed c.args.tree.now in
-    fails_last is_failure before before (g.T.Tree.failed c.unload_entry.new.tree) c.unload_entry.result (λ at. at ≡ x.path) (UnloadLooksAt a.typed.now d) refl
-    (λ at h. record { entries = xs; read = c.in_ok-entries.ensures.given; spelled = yes; entry = x; meant = meant; recorded = h }) c.unload_entry.ensures.failed
+    let failed = rw c.in_ok-unloading-in-Some.ensures.path at c.unload_module.ensures.failed in
+    fails_last is_failure before before (g.T.Tree.failed c.unload_module.new.tree) c.unload_module.result (λ at. at ≡ x.path) (UnloadLooksAt a.typed.now d) refl
+    (λ at h. record { entries = xs; read = c.requires; spelled = yes; entry = x; meant = meant; recorded = h }) failed
+
+pub unload_module-requires : goal.unload_module-requires
+unload_module-requires g c = c.requires
+
+pub returns-in-None-clause-listed : goal.returns-in-None-clause-listed
+returns-in-None-clause-listed g c = c.requires
+
+pub returns-in_ok-unloading-in-Some-clause-listed : goal.returns-in_ok-unloading-in-Some-clause-listed
+returns-in_ok-unloading-in-Some-clause-listed g c = c.unload_module.ensures.listed

@@ -1,5 +1,5 @@
 use Rattle.std.proofs.Common.{rules, arith, refl, map, ◌+◌, drop}
-use Rattle.tclchars.specs.Runs.{Text}
+use Rattle.tclrules.specs.Runs.{Text}
 use Rattle.tclscript.specs.Tree.{commands_of}
 use Rattle.tclscript.specs.View.{command_view}
 use Rattle.tclrules.specs.Variables.{State}

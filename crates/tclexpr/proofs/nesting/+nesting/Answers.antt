@@ -46,6 +46,6 @@ words_nesting-loop-word-preserved g t c = λ shown less.
     let items = c.deref-word-items.result.now in
     let i = c.loop-word.word-index in
     let e : take (i + 1) items ≡ take i items ++ c.word-item.result ∷ [] = take_more items i c.word-item.result (omega arith) ∙ ap (λ x. take i items ++ x ∷ []) (sym c.word-item.is) in
-    let k = tallest_more 18446744073709551615 c.loop-word.height c.parts_nesting.result (words_nesting (words_view shown (take i items))) (word_nesting (word_view shown c.word-item.result))
-    (words_nesting (words_view shown (take (i + 1) items))) (words_step shown (take i items) (take (i + 1) items) c.word-item.result e) (c.loop-word.invariant shown) (subst (Tallest 18446744073709551615 c.parts_nesting.result) (sym (word_height shown c.word-item.result)) (c.parts_nesting.ensures shown)) less in
+    let k = tallest_more 18446744073709551615 c.loop-word.height c.content_nesting.result (words_nesting (words_view shown (take i items))) (word_nesting (word_view shown c.word-item.result))
+    (words_nesting (words_view shown (take (i + 1) items))) (words_step shown (take i items) (take (i + 1) items) c.word-item.result e) (c.loop-word.invariant shown) (subst (Tallest 18446744073709551615 c.content_nesting.result) (sym (word_height shown c.word-item.result)) (c.content_nesting.ensures shown)) less in
     c.max-height.ensures ∙ max_of _ _ ∙ k

@@ -8,37 +8,40 @@ use Rattle.tclscript.proofs.Turns.{CommandsSoFar, WordsSoFar, PartsSoFar}
 use Rattle.tclscript.proofs.reading.+read.Given as goal
 
 abbrev pub decreases-read_bracket : goal.decreases-read_bracket
-decreases-read_bracket g l = 10 * l.depth
+decreases-read_bracket g l = 11 * l.depth
 
 abbrev pub decreases-read_index : goal.decreases-read_index
-decreases-read_index g l = 10 * l.depth
+decreases-read_index g l = 11 * l.depth
 
 abbrev pub decreases-read_dollar : goal.decreases-read_dollar
-decreases-read_dollar g l = 10 * l.depth + 1
+decreases-read_dollar g l = 11 * l.depth + 1
 
 abbrev pub decreases-read_part : goal.decreases-read_part
-decreases-read_part g l = 10 * l.depth + 2
+decreases-read_part g l = 11 * l.depth + 2
 
 abbrev pub decreases-read_parts : goal.decreases-read_parts
-decreases-read_parts g l = 10 * l.depth + 3
+decreases-read_parts g l = 11 * l.depth + 3
 
 abbrev pub decreases-read_quotes : goal.decreases-read_quotes
-decreases-read_quotes g l = 10 * l.depth + 4
+decreases-read_quotes g l = 11 * l.depth + 4
 
 abbrev pub decreases-read_quoted : goal.decreases-read_quoted
-decreases-read_quoted g l = 10 * l.depth + 5
+decreases-read_quoted g l = 11 * l.depth + 5
+
+abbrev pub decreases-read_bare : goal.decreases-read_bare
+decreases-read_bare g l = 11 * l.depth + 6
 
 abbrev pub decreases-read_unexpanded_word : goal.decreases-read_unexpanded_word
-decreases-read_unexpanded_word g l = 10 * l.depth + 6
+decreases-read_unexpanded_word g l = 11 * l.depth + 7
 
 abbrev pub decreases-read_word : goal.decreases-read_word
-decreases-read_word g l = 10 * l.depth + 7
+decreases-read_word g l = 11 * l.depth + 8
 
 abbrev pub decreases-read_command : goal.decreases-read_command
-decreases-read_command g l = 10 * l.depth + 8
+decreases-read_command g l = 11 * l.depth + 9
 
 abbrev pub decreases-read_script : goal.decreases-read_script
-decreases-read_script g l = 10 * l.depth + 9
+decreases-read_script g l = 11 * l.depth + 10
 
 abbrev pub invariant-read_command-loop-alloc : goal.invariant-read_command-loop-alloc
 invariant-read_command-loop-alloc g l = record {

@@ -3,14 +3,11 @@ use Rattle.std.proofs.lemmas.Result.{err_from_is_err_and}
 use Rattle.tclscript.specs.View.{part_view}
 use Rattle.tclrules.proofs.Leading.{stay, continue_with, starve}
 use Rattle.tclsubstitution.specs.Machine.{range_text}
-use Rattle.tclsubstitution.proofs.Trees.{view-Literal, view-Braced, view-Backslash, view-Variable, view-Indexed, view-Bracket, on_top, less_more}
+use Rattle.tclsubstitution.proofs.Trees.{view-Literal, view-Backslash, view-Variable, view-Indexed, view-Bracket, on_top, less_more}
 use Rattle.tclsubstitution.proofs.substitution.part.Goals as goal
 
 pub source_text-requires-text-source : goal.source_text-requires-text-source
 source_text-requires-text-source g c = search rules
-
-pub source_text-requires-in-Braced-text-source : goal.source_text-requires-in-Braced-text-source
-source_text-requires-in-Braced-text-source g c = search rules
 
 pub source_text-requires-in-Variable-text-source : goal.source_text-requires-in-Variable-text-source
 source_text-requires-in-Variable-text-source g c = search rules
@@ -24,26 +21,15 @@ returns-in-Literal g c =
     let h = rw c.source_text.ensures at c.append_piece.ensures in
     rw v (h.0, less_more _ _ _ _ _ h.1 (omega arith))
 
-pub returns-in_err-value-in-Braced : goal.returns-in_err-value-in-Braced
-returns-in_err-value-in-Braced g c =
-    let p = err_from_is_err_and c.from_residual.result c.from_residual.ensures.1 in
-    rw (p.1, p.2, c.in_err-value-in-Braced.ensures.err) (λ most used remaining r k. starve, tt)
-
-pub returns-in_ok-value-in-Braced : goal.returns-in_ok-value-in-Braced
-returns-in_ok-value-in-Braced g c =
-    let v = ap (part_view (range_text c.args.context.source.now)) c.in-Braced.is ∙ view-Braced (range_text c.args.context.source.now) c.in-Braced.range in
-    let h = rw (c.as_str.ensures.value, c.in_ok-value-in-Braced.ensures.ok, c.source_text-in-Braced.ensures) at c.append_piece-in-Braced.ensures in
-    rw v (h.0, less_more _ _ _ _ _ h.1 (omega arith))
-
 pub returns-in_err-value-in-Backslash : goal.returns-in_err-value-in-Backslash
 returns-in_err-value-in-Backslash g c =
-    let p = err_from_is_err_and c.from_residual-in_err-value-in-Backslash.result c.from_residual-in_err-value-in-Backslash.ensures.1 in
+    let p = err_from_is_err_and c.from_residual.result c.from_residual.ensures.1 in
     rw (p.1, p.2, c.in_err-value-in-Backslash.ensures.err) (λ most used remaining r k. starve, tt)
 
 pub returns-in_ok-value-in-Backslash : goal.returns-in_ok-value-in-Backslash
 returns-in_ok-value-in-Backslash g c =
     let v = ap (part_view (range_text c.args.context.source.now)) c.in-Backslash.is ∙ view-Backslash (range_text c.args.context.source.now) c.in-Backslash.escaped in
-    let h = rw (c.as_str-in-Backslash.ensures.value, c.in_ok-value-in-Backslash.ensures.ok) at c.append_piece-in-Backslash.ensures in
+    let h = rw (c.as_str.ensures.value, c.in_ok-value-in-Backslash.ensures.ok) at c.append_piece-in-Backslash.ensures in
     rw v (h.0, less_more _ _ _ _ _ h.1 (omega arith))
 
 pub returns-in_err-value-in-Variable : goal.returns-in_err-value-in-Variable

@@ -4,7 +4,7 @@ use Rattle.envvars.specs.Environment.{Environment}
 use Rattle.modulefile.specs.Calls.{call_of}
 use Rattle.modulefile.specs.RecordViews.{mode_view, record_view}
 use Rattle.modulerun.specs.declared.accepted.AcceptedCommand.{AcceptedCommand}
-use Rattle.modulerun.specs.Journals.{JournalState, journal_state, words_of, IsJournal, AddsCommand}
+use Rattle.modulerun.specs.Journals.{JournalState, journal_state, words_in, words_of, IsJournal, AddsCommand}
 use Rattle.modulerun.proofs.JournalLemmas.{kept_by, noted_by}
 use Rattle.modulerun.proofs.journal.Journal.add_command.Goals as goal
 
@@ -19,7 +19,7 @@ pub returns : goal.returns
 returns g c =
     let entry : AcceptedCommand = record { words = c.in_ok-words.words; recorded = c.args.recorded } in
     subst (λ (ws : List Text). AddsCommand c.add_entry.result ws (record_view c.args.recorded) c.args.self.now (journal_state c.self.inside.mode c.self.inside.module_name.now c.add_entry.new.env.old (words_of c.add_entry.new.entries.items))) c.in_ok-words.ensures
-    (subst (λ (s : JournalState). AddsCommand c.add_entry.result (map string_bytes c.in_ok-words.words.items) (record_view c.args.recorded) s (journal_state c.self.inside.mode c.self.inside.module_name.now c.add_entry.new.env.old (words_of c.add_entry.new.entries.items))) c.self.view_is
-    (subst (λ (e : Environment). AddsCommand c.add_entry.result (map string_bytes c.in_ok-words.words.items) (record_view c.args.recorded) (journal_state c.self.inside.mode c.self.inside.module_name.now c.self.inside.working.old (words_of c.self.inside.entries.items)) (journal_state c.self.inside.mode c.self.inside.module_name.now e (words_of c.add_entry.new.entries.items))) (sym c.add_entry.ensures.base)
+    (subst (λ (s : JournalState). AddsCommand c.add_entry.result (words_in c.in_ok-words.words) (record_view c.args.recorded) s (journal_state c.self.inside.mode c.self.inside.module_name.now c.add_entry.new.env.old (words_of c.add_entry.new.entries.items))) c.self.view_is
+    (subst (λ (e : Environment). AddsCommand c.add_entry.result (words_in c.in_ok-words.words) (record_view c.args.recorded) (journal_state c.self.inside.mode c.self.inside.module_name.now c.self.inside.working.old (words_of c.self.inside.entries.items)) (journal_state c.self.inside.mode c.self.inside.module_name.now e (words_of c.add_entry.new.entries.items))) (sym c.add_entry.ensures.base)
     (noted_by c.add_entry.result c.self.inside.mode c.self.inside.module_name.now c.self.inside.working.old c.self.inside.working.new c.add_entry.new.env.new c.self.inside.entries.items c.add_entry.new.entries.items entry
     c.add_entry.ensures.ok c.add_entry.ensures.err c.add_entry.ensures.edits c.self.invariant)))

@@ -1,16 +1,19 @@
-use Rattle.std.proofs.lemmas.List.{take_all}
-use Rattle.std.proofs.Common.{◌≡◌, ◌≤◌, true, ◌++◌, ◌+◌, [], ◌∷◌, length, map, option_map, string_bytes, take, drop, Some, None, refl, sym, ap, ◌∙◌, append_assoc, append-nil, subst, arith, rules}
+use Rattle.std.proofs.lemmas.List.{take_all, get_or_default}
+use Rattle.std.proofs.Common.{◌≡◌, ◌≤◌, ◌++◌, ℕ, List, Bor, [], length, get_or, map, option_map, string_bytes, take, Some, None, refl, sym, ap, ◌∙◌, append_assoc, append-nil, subst, arith, rules}
 use Rattle.std.proofs.lemmas.Result.{err_from_is_err_and}
 use Rattle.filetree.specs.Agreement.{InEachPair, is_device, listing_answer}
 use Rattle.search.proofs.FailureLemmas.{fails_then}
-use Rattle.search.proofs.VersionLemmas.{has}
 use Rattle.search.specs.ListingEntries.{listing_entry_view}
-use Rattle.search.specs.BelowFolder.{folder_path, parts_of, IsUnder, IsInside, AreListingEntries, LooksFromFolder}
+use Rattle.search.specs.BelowFolder.{folder_path, names_in, parts_of, IsUnder, IsInside, AreListingEntries, LooksFromFolder, AreAmong, HasAllFolders}
 use Rattle.search.proofs.UnderLemmas.{none_under, deep_under}
 use Rattle.search.proofs.RowLemmas.{rows_none}
-use Rattle.search.proofs.WalkLemmas.{split_at, has_middle, deeper, rows_begun, rows_more, rows_finished, one_more}
+use Rattle.search.proofs.WalkLemmas.{deeper, rows_begun, rows_more, one_more}
+use Rattle.search.proofs.FolderLemmas.{read_among, rows_ended}
 use Rattle.search.proofs.ListingLookLemmas.{looks_inside}
 use Rattle.search.proofs.folders.Walk.+list_folder.Goals as goal
+
+nothing : Bor (List ℕ)
+nothing = record { ref_ptr = (0, 0); now = [] }
 
 pub returns-then-levels-eq0-clause-added : goal.returns-then-levels-eq0-clause-added
 returns-then-levels-eq0-clause-added g t c = λ files folders a.
@@ -23,31 +26,36 @@ pub returns-in_default-clause-added : goal.returns-in_default-clause-added
 returns-in_default-clause-added g t c = λ files folders a.
     let dir = c.args.self.now.dir.now in
     let prefix = option_map (λ f. f.now) c.args.prefix in
-    let nothing : folders (folder_path dir prefix) ≡ None = ap folders (sym (c.deref.ensures ∙ c.in_ok-folder.ensures)) ∙ c.in_ok-entries.ensures.answer files folders a ∙ ap listing_answer c.in_default.is in
-    ([], sym (append-nil _), rows_none (g.D.DefaultFiles.results c.args.self.now.default_files.now) files folders dir (IsUnder files folders dir prefix) (λ v u. none_under files folders dir prefix v nothing u))
+    let absent : folders (folder_path dir prefix) ≡ None = ap folders (sym (c.deref.ensures ∙ c.in_ok-folder.ensures)) ∙ c.in_ok-entries.ensures.answer files folders a ∙ ap listing_answer c.in_default.is in
+    ([], sym (append-nil _), rows_none (g.D.DefaultFiles.results c.args.self.now.default_files.now) files folders dir (IsUnder files folders dir prefix) (λ v u. none_under files folders dir prefix v absent u))
 
 pub loop-name-init : goal.loop-name-init
-loop-name-init g t c = record {
-  reads = record { narrows = λ files folders a. a; counts_failures = omega arith };
-  walked = λ files folders a.
-      let f = c.in_ok-list_files.ensures.added files folders a in (
-        f.0,
-        f.1,
-        rows_begun (g.D.DefaultFiles.results c.args.self.now.default_files.now) files folders c.args.self.now.dir.now
-            (map string_bytes c.deref-4.result.now) (map string_bytes c.deref-name-items.result.now) f.0
-            (ap (map string_bytes) (c.deref-4.ensures.value ∙ sym c.deref-name-items.ensures.value)) f.2,
-      );
-  unfailed = refl;
-}
+loop-name-init g t c =
+    let prefix = option_map (λ f. f.now) c.args.prefix in
+    let all = names_in prefix (map string_bytes c.in-Some.entries.items) in record {
+      reads = record { narrows = λ files folders a. a; counts_failures = omega arith };
+      walked = λ files folders a.
+          let f = c.in_ok-below.ensures.added files folders a in (
+            f.0,
+            f.1,
+            rows_begun (g.D.DefaultFiles.results c.args.self.now.default_files.now) files folders c.args.self.now.dir.now
+                (map string_bytes c.deref-4.result.now) all f.0
+                (ap (map string_bytes) c.deref-4.ensures.value ∙ (c.in_ok-names.ensures ∙ ap (λ es. names_in prefix (map string_bytes es)) c.deref-2.ensures.value)) f.2,
+          );
+      unfailed = refl;
+    }
 
 pub list_folder-requires : goal.list_folder-requires
+unfolding nothing
 list_folder-requires g t c = λ κs h.
-    let names = c.deref-name-items.result.now in
+    let prefix = option_map (λ f. f.now) c.args.prefix in
+    let entries = map string_bytes c.in-Some.entries.items in
+    let below = c.deref-name-items.result.now in
     let i = c.loop-name.name-index in
-    let name = c.name-item.result in
-    let deep = deeper (option_map (λ f. f.now) c.args.prefix) (map string_bytes c.deref-2.result.now) (map string_bytes names) (map string_bytes (take i names)) (map string_bytes (drop (i + 1) names))
-    (string_bytes name) c.as_str.result.now c.args.levels (ap (map string_bytes) c.deref-name-items.ensures.value ∙ c.in_ok-names.ensures) (split_at string_bytes name names i c.loop-name-test.true c.name-item.is)
-    c.as_str.ensures.value c.requires c.if-levels-eq0.false in
+    let name = get_or below i nothing in
+    let given = ap (map string_bytes) c.deref-4.ensures.value ∙ (c.in_ok-names.ensures ∙ ap (λ es. names_in prefix (map string_bytes es)) c.deref-2.ensures.value) in
+    let there = read_among below c.in_ok-below.below.items nothing i c.loop-name-test.true c.deref-name-items.ensures.value _ (names_in prefix entries) given c.in_ok-below.ensures.named in
+    let deep = deeper prefix entries (names_in prefix entries) name.now c.args.levels refl there c.requires c.if-levels-eq0.false in
     (omega arith, (h.0, (h.1, deep)))
 
 pub returns-in_err-list_folder-clause-narrows : goal.returns-in_err-list_folder-clause-narrows
@@ -55,56 +63,57 @@ returns-in_err-list_folder-clause-narrows g t c = λ files folders a.
     c.entries.ensures.narrows files folders (c.list_files.ensures.narrows files folders (c.loop-name.invariant.reads.narrows files folders (c.list_folder.ensures.narrows files folders a)))
 
 pub loop-name-preserved : goal.loop-name-preserved
+unfolding nothing
 loop-name-preserved g t c =
     let results = g.D.DefaultFiles.results c.args.self.now.default_files.now in
     let dir = c.args.self.now.dir.now in
-    let names = c.deref-name-items.result.now in
-    let done = map string_bytes (take c.loop-name.name-index names) in
-    let name = c.as_str.result.now in record {
+    let prefix = option_map (λ f. f.now) c.args.prefix in
+    let names = names_in prefix (map string_bytes c.in-Some.entries.items) in
+    let below = c.deref-name-items.result.now in
+    let i = c.loop-name.name-index in
+    let done = map (λ (f : Bor (List ℕ)). f.now) (take i below) in
+    let name = get_or below i nothing in record {
       reads = record { narrows = λ files folders a. c.loop-name.invariant.reads.narrows files folders (c.list_folder.ensures.narrows files folders a); counts_failures = omega arith };
       walked = λ files folders a.
           let v = c.loop-name.invariant.walked files folders (c.list_folder.ensures.narrows files folders a) in
           let m = c.in_ok-list_folder.ensures.added files folders a in
-          let one = ap (λ n. done ++ n ∷ []) c.as_str.ensures.value ∙ sym (one_more string_bytes c.name-item.result names c.loop-name.name-index c.loop-name-test.true c.name-item.is) in (
+          let one = sym (one_more (λ (f : Bor (List ℕ)). f.now) name below i c.loop-name-test.true (get_or_default below i nothing name c.loop-name-test.true)) in (
             v.0 ++ m.0,
             m.1 ∙ ap (λ listing_entries. listing_entries ++ m.0) v.1 ∙ append_assoc (map listing_entry_view c.args.listing_entries.now.items) v.0 m.0,
-            subst (λ walked. AreListingEntries results files folders dir (IsInside files folders dir (map string_bytes names) walked) (v.0 ++ m.0)) one
-                (rows_more results files folders dir (map string_bytes names) done name v.0 m.0 v.2 m.2),
+            subst (λ walked. AreListingEntries results files folders dir (IsInside files folders dir names walked) (v.0 ++ m.0)) one
+                (rows_more results files folders dir names done name.now v.0 m.0 v.2 m.2),
           );
       unfailed = c.in_ok-list_folder.ensures.failed ∙ c.loop-name.invariant.unfailed;
     }
 
 pub returns-in_err-list_folder-clause-failed : goal.returns-in_err-list_folder-clause-failed
+unfolding nothing
 returns-in_err-list_folder-clause-failed g t c =
     let results = g.D.DefaultFiles.results c.args.self.now.default_files.now in
     let dir = c.args.self.now.dir.now in
     let prefix = option_map (λ f. f.now) c.args.prefix in
-    let entries = map string_bytes c.deref-2.result.now in
-    let names = map string_bytes c.deref-name-items.result.now in
-    let name = c.as_str.result.now in
+    let entries = map string_bytes c.in-Some.entries.items in
+    let below = c.deref-name-items.result.now in
     let i = c.loop-name.name-index in
-    let done = map string_bytes (take i c.deref-name-items.result.now) in
-    let after = map string_bytes (drop (i + 1) c.deref-name-items.result.now) in
+    let name = (get_or below i nothing).now in
     let agrees = g.T.Tree.agrees c.list_folder.new.tree in
     let fails = is_device c.in_err-list_folder.field-0.0 in
     let p = err_from_is_err_and c.from_residual-in_err-list_folder.result c.from_residual-in_err-list_folder.ensures.1 in
-    let there : has name names ≡ true =
-    ap (has name) (split_at string_bytes c.name-item.result c.deref-name-items.result.now i c.loop-name-test.true c.name-item.is ∙ ap (λ n. done ++ n ∷ after) (sym c.as_str.ensures.value))
-    ∙ has_middle name done after in
+    let given = ap (map string_bytes) c.deref-4.ensures.value ∙ (c.in_ok-names.ensures ∙ ap (λ es. names_in prefix (map string_bytes es)) c.deref-2.ensures.value) in
+    let there = read_among below c.in_ok-below.below.items nothing i c.loop-name-test.true c.deref-name-items.ensures.value _ (names_in prefix entries) given c.in_ok-below.ensures.named in
     rw (p.1, p.2) (fails_then fails fails (g.T.Tree.failed c.args.tree.now) (g.T.Tree.failed c.loop-name.tree) (g.T.Tree.failed c.list_folder.new.tree)
     (λ at. InEachPair agrees (λ files folders. LooksFromFolder results files folders dir (Some name) at))
     (λ at. InEachPair agrees (λ files folders. LooksFromFolder results files folders dir prefix at))
-    (c.loop-name.invariant.unfailed ∙ c.in_ok-list_files.ensures.failed ∙ c.in_ok-entries.ensures.failed) refl
+    (c.loop-name.invariant.unfailed ∙ c.in_ok-below.ensures.failed ∙ c.in_ok-entries.ensures.failed) refl
     (λ at h files folders a.
     let b = c.list_files.ensures.narrows files folders (c.loop-name.invariant.reads.narrows files folders (c.list_folder.ensures.narrows files folders a)) in
     let listed : folders (folder_path dir prefix) ≡ Some entries =
-    ap folders (sym (c.deref.ensures ∙ c.in_ok-folder.ensures)) ∙ c.in_ok-entries.ensures.answer files folders b ∙ ap listing_answer c.in-Some.is
-    ∙ ap (λ items. Some (map string_bytes items)) (sym c.deref-2.ensures.value) in
-    looks_inside results files folders dir prefix entries listed names (ap (map string_bytes) c.deref-name-items.ensures.value ∙ c.in_ok-names.ensures) name there at (h files folders a))
+    ap folders (sym (c.deref.ensures ∙ c.in_ok-folder.ensures)) ∙ c.in_ok-entries.ensures.answer files folders b ∙ ap listing_answer c.in-Some.is in
+    looks_inside results files folders dir prefix entries listed (names_in prefix entries) refl name there at (h files folders a))
     c.in_err-list_folder.ensures.failed)
 
 pub returns-clause-failed : goal.returns-clause-failed
-returns-clause-failed g t c = c.loop-name.invariant.unfailed ∙ c.in_ok-list_files.ensures.failed ∙ c.in_ok-entries.ensures.failed
+returns-clause-failed g t c = c.loop-name.invariant.unfailed ∙ c.in_ok-below.ensures.failed ∙ c.in_ok-entries.ensures.failed
 
 pub returns-clause-narrows : goal.returns-clause-narrows
 returns-clause-narrows g t c = λ files folders a.
@@ -115,19 +124,24 @@ returns-clause-added g t c = λ files folders a.
     let results = g.D.DefaultFiles.results c.args.self.now.default_files.now in
     let dir = c.args.self.now.dir.now in
     let prefix = option_map (λ f. f.now) c.args.prefix in
+    let entries = map string_bytes c.in-Some.entries.items in
     let v = c.loop-name.invariant.walked files folders a in
-    let all = c.deref-name-items.result.now in
+    let below = c.deref-name-items.result.now in
+    let texts = map (λ (f : Bor (List ℕ)). f.now) below in
     let i = c.loop-name.name-index in
-    let names = map string_bytes all in
-    let entries = map string_bytes c.deref-2.result.now in
-    let b = c.list_files.ensures.narrows files folders (c.loop-name.invariant.reads.narrows files folders a) in
+    let given = ap (map string_bytes) c.deref-4.ensures.value ∙ (c.in_ok-names.ensures ∙ ap (λ es. names_in prefix (map string_bytes es)) c.deref-2.ensures.value) in
+    let all = ap (map (λ (f : Bor (List ℕ)). f.now)) (sym c.deref-name-items.ensures.value) in
+    let walked = ap (map (λ (f : Bor (List ℕ)). f.now)) (take_all i below c.loop-name-test.false) in
+    let l = c.loop-name.invariant.reads.narrows files folders a in
+    let b = c.list_files.ensures.narrows files folders l in
     let listed : folders (folder_path dir prefix) ≡ Some entries =
-    ap folders (sym (c.deref.ensures ∙ c.in_ok-folder.ensures)) ∙ c.in_ok-entries.ensures.answer files folders b ∙ ap listing_answer c.in-Some.is
-    ∙ ap (λ items. Some (map string_bytes items)) (sym c.deref-2.ensures.value) in (
+    ap folders (sym (c.deref.ensures ∙ c.in_ok-folder.ensures)) ∙ c.in_ok-entries.ensures.answer files folders b ∙ ap listing_answer c.in-Some.is in (
       v.0,
       v.1,
-      rows_finished results files folders dir prefix entries listed names (map string_bytes (take i all)) (ap (map string_bytes) c.deref-name-items.ensures.value ∙ c.in_ok-names.ensures)
-          (ap (map string_bytes) (sym (take_all i all c.loop-name-test.false))) v.0 v.2,
+      rows_ended results files folders dir prefix entries listed (names_in prefix entries) texts refl
+          (subst (λ ns. AreAmong texts ns) given (subst (λ fs. AreAmong fs (map string_bytes c.deref-4.result.now)) all c.in_ok-below.ensures.named))
+          (subst (λ ns. HasAllFolders folders dir ns texts) given (subst (λ fs. HasAllFolders folders dir (map string_bytes c.deref-4.result.now) fs) all (c.in_ok-below.ensures.others files folders l)))
+          v.0 (subst (λ fs. AreListingEntries results files folders dir (IsInside files folders dir (names_in prefix entries) fs) v.0) walked v.2),
     )
 
 pub returns-clause-cause : goal.returns-clause-cause

@@ -30,13 +30,13 @@ returns-in_err-modules-clause-failed g c =
     let prefix = option_map (λ f. f.now) c.args.prefix in
     let entries = map string_bytes c.args.entries.now in
     let names = map string_bytes c.args.names.now in
-    let agrees = g.T.Tree.agrees c.modules_among.new.tree in
+    let agrees = g.T.Tree.agrees c.sort_out.new.tree in
     let fails = is_device c.in_err-modules.field-0.0 in
     let p = err_from_is_err_and c.from_residual.result c.from_residual.ensures.1 in
-    rw (p.1, p.2) (fails_then fails fails (g.T.Tree.failed c.args.tree.now) (g.T.Tree.failed c.args.tree.now) (g.T.Tree.failed c.modules_among.new.tree)
+    rw (p.1, p.2) (fails_then fails fails (g.T.Tree.failed c.args.tree.now) (g.T.Tree.failed c.args.tree.now) (g.T.Tree.failed c.sort_out.new.tree)
     (LooksAmong dir names) (λ at. InEachPair agrees (λ files folders. LooksFromFolder results files folders dir prefix at)) refl refl
     (λ at h files folders a.
-    looks_among results files folders dir prefix entries (c.requires.listed files folders (c.modules_among.ensures.narrows files folders a)) names c.requires.named at h)
+    looks_among results files folders dir prefix entries (c.requires.listed files folders (c.sort_out.ensures.narrows files folders a)) names c.requires.named at h)
     c.in_err-modules.ensures.failed)
 
 pub returns-in_err-default-clause-failed : goal.returns-in_err-default-clause-failed
@@ -46,16 +46,16 @@ returns-in_err-default-clause-failed g c =
     let prefix = option_map (λ f. f.now) c.args.prefix in
     let entries = map string_bytes c.args.entries.now in
     let names = map string_bytes c.args.names.now in
-    let modules = map (λ m. m.now) c.in_ok-modules.modules.items in
+    let modules = map (λ m. m.now) c.in_ok-modules.field-0.modules.items in
     let agrees = g.T.Tree.agrees c.default_name.new.tree in
     let fails = is_device c.in_err-default.field-0.0 in
     let p = err_from_is_err_and c.from_residual-in_err-default.result c.from_residual-in_err-default.ensures.1 in
-    rw (p.1, p.2) (fails_then fails fails (g.T.Tree.failed c.args.tree.now) (g.T.Tree.failed c.modules_among.new.tree) (g.T.Tree.failed c.default_name.new.tree)
+    rw (p.1, p.2) (fails_then fails fails (g.T.Tree.failed c.args.tree.now) (g.T.Tree.failed c.sort_out.new.tree) (g.T.Tree.failed c.default_name.new.tree)
     (λ at. InEachPair agrees (λ files folders. LooksForDefault results files folders dir prefix at))
     (λ at. InEachPair agrees (λ files folders. LooksFromFolder results files folders dir prefix at)) c.in_ok-modules.ensures.failed refl
     (λ at h files folders a.
     let b = c.default_name.ensures.narrows files folders a in
-    looks_at_default results files folders dir prefix entries (c.requires.listed files folders (c.modules_among.ensures.narrows files folders b)) names modules c.requires.named
+    looks_at_default results files folders dir prefix entries (c.requires.listed files folders (c.sort_out.ensures.narrows files folders b)) names modules c.requires.named
     (c.in_ok-modules.ensures.answer files folders b)
-    (some_seen (λ m. m.now) c.in_ok-modules.modules.items (vec_len c.in_ok-modules.modules) c.is_empty.result c.in_ok-modules.modules.ok.0 c.is_empty.ensures c.if-is_empty.false) at (h files folders a))
+    (some_seen (λ m. m.now) c.in_ok-modules.field-0.modules.items (vec_len c.in_ok-modules.field-0.modules) c.is_empty.result c.in_ok-modules.field-0.modules.ok.0 c.is_empty.ensures c.if-is_empty.false) at (h files folders a))
     c.in_err-default.ensures.failed)

@@ -1,7 +1,7 @@
 use Rattle.std.proofs.Common.{rules, arith, refl, sym, ap, ◌∙◌, ◌≡◌, ◌<◌, [], List, Bor, get_or, map, option_map, string_bytes, ℕ, ◌+◌, ◌++◌, drop}
 use Rattle.tclchars.specs.Runs.{Text}
 use Rattle.tclscript.specs.Tree.{words_of}
-use Rattle.tclscript.specs.View.{word_view}
+use Rattle.tclscript.specs.View.{word_view, content_view}
 use Rattle.tclrules.specs.Derivation.{Runs}
 use Rattle.tclrules.specs.Simulates.{point}
 use Rattle.tclrules.specs.Variables.{State}
@@ -30,7 +30,7 @@ use Rattle.tclsubstitution.proofs.Leading.{passed_on, starved_end, given_on, giv
 use Rattle.tclsubstitution.proofs.Trees.{empty_of}
 use Rattle.tclcontrol.proofs.Stopping.{same_as}
 use Rattle.tclcontrol.proofs.CommandWordLemmas.{whole}
-use Rattle.tclevaluator.proofs.Running.{run_known, run_normal, run_comes, run_turn, run_next, comes_stopped, comes_cut, begin_on, begin_stops, drop_here, script_commands, command_words, word_parts, later_refl, later_on, later_still, later_counted, later_beside, later_begun, later_parsed, text_stops, limited_stops, limited_on, ok_any, counted_on, core_stops, turned_some, turned_none, foreach_done, foreach_more, on_branch, branch_on}
+use Rattle.tclevaluator.proofs.Running.{run_known, run_normal, run_comes, run_turn, run_next, comes_stopped, comes_cut, begin_on, begin_stops, drop_here, script_commands, command_words, word_content, content_bare, content_braced, content_parts, later_refl, later_on, later_still, later_counted, later_beside, later_begun, later_parsed, text_stops, limited_stops, limited_on, ok_any, counted_on, core_stops, turned_some, turned_none, foreach_done, foreach_more, on_branch, branch_on}
 use Rattle.tclevaluator.proofs.evaluator.Evaluator.+evaluate.Goals as goal
 
 pub bracket-commands-requires : goal.bracket-commands-requires
@@ -901,11 +901,11 @@ words-loop-word-preserved g t c = record {
   evaluates_to = λ k.
       let b = bounds_of c.args.bounds in
       let d = drop_here _ _ _ c.loop-word-test.true c.word-item.is in
-      let l = rw (d, word_parts (range_text c.args.words.source.now) c.word-item.result) at (c.loop-word.invariant.evaluates_to k) in
+      let l = rw (d, word_content (range_text c.args.words.source.now) c.word-item.result) at (c.loop-word.invariant.evaluates_to k) in
       let item = out-Word ByteRange c.word-item.result in
       let rest = words_of (map (word_view (range_text c.args.words.source.now)) (drop (c.loop-word.word-index + 1) c.args.words.tree.now)) in
       let next = λ (t : Text) (s' : State). given (expanded item.expands t) s' (λ ts. pieces.words b rest (map string_bytes c.loop-word.texts.items ++ ts) s' k) in
-      let w = rw c.as_slice.ensures.value at (c.in_ok-text.ensures.evaluates_to next) in
+      let w = c.in_ok-text.ensures.evaluates_to next in
       let p = c.in_ok-push_words.ensures in
       rw p.2 (continue_with (continue_with l w) (given_on _ _ _ _ p.1));
   only_grows = later_on c.loop-word.invariant.only_grows c.in_ok-text.ensures.only_grows;
@@ -929,11 +929,11 @@ pub words-returns-in_err-push_words-clause-evaluates_to : goal.words-returns-in_
 words-returns-in_err-push_words-clause-evaluates_to g t c = λ k.
     let b = bounds_of c.args.bounds in
     let d = drop_here _ _ _ c.loop-word-test.true c.word-item.is in
-    let l = rw (d, word_parts (range_text c.args.words.source.now) c.word-item.result) at (c.loop-word.invariant.evaluates_to k) in
+    let l = rw (d, word_content (range_text c.args.words.source.now) c.word-item.result) at (c.loop-word.invariant.evaluates_to k) in
     let item = out-Word ByteRange c.word-item.result in
     let rest = words_of (map (word_view (range_text c.args.words.source.now)) (drop (c.loop-word.word-index + 1) c.args.words.tree.now)) in
     let next = λ (t : Text) (s' : State). given (expanded item.expands t) s' (λ ts. pieces.words b rest (map string_bytes c.loop-word.texts.items ++ ts) s' k) in
-    let w = rw c.as_slice.ensures.value at (c.in_ok-text.ensures.evaluates_to next) in
+    let w = c.in_ok-text.ensures.evaluates_to next in
     continue_with (continue_with l w) (value_stops _ _ _ _ _ _ c.from_residual-in_err-push_words.ensures.1 c.in_err-push_words.ensures)
 
 pub words-returns-in_err-push_words-clause-only_grows : goal.words-returns-in_err-push_words-clause-only_grows
@@ -943,11 +943,11 @@ pub words-returns-in_err-text-clause-evaluates_to : goal.words-returns-in_err-te
 words-returns-in_err-text-clause-evaluates_to g t c = λ k.
     let b = bounds_of c.args.bounds in
     let d = drop_here _ _ _ c.loop-word-test.true c.word-item.is in
-    let l = rw (d, word_parts (range_text c.args.words.source.now) c.word-item.result) at (c.loop-word.invariant.evaluates_to k) in
+    let l = rw (d, word_content (range_text c.args.words.source.now) c.word-item.result) at (c.loop-word.invariant.evaluates_to k) in
     let item = out-Word ByteRange c.word-item.result in
     let rest = words_of (map (word_view (range_text c.args.words.source.now)) (drop (c.loop-word.word-index + 1) c.args.words.tree.now)) in
     let next = λ (t : Text) (s' : State). given (expanded item.expands t) s' (λ ts. pieces.words b rest (map string_bytes c.loop-word.texts.items ++ ts) s' k) in
-    let w = rw c.as_slice.ensures.value at (c.in_err-text.ensures.evaluates_to next) in
+    let w = c.in_err-text.ensures.evaluates_to next in
     passed_on _ _ _ _ c.from_residual.ensures.1 (continue_with l w)
 
 pub words-returns-in_err-text-clause-only_grows : goal.words-returns-in_err-text-clause-only_grows
@@ -983,37 +983,69 @@ form-catch-requires-text-body g t c κs within = search rules
 pub otherwise-script-requires-text-text : goal.otherwise-script-requires-text-text
 otherwise-script-requires-text-text g t c κs within = search rules
 
-pub word-value-requires : goal.word-value-requires
-word-value-requires g t c κs within = search rules
-
-pub word-value-requires-text-source : goal.word-value-requires-text-source
-word-value-requires-text-source g t c κs within = search rules
-
-pub word-returns-clause-evaluates_to : goal.word-returns-clause-evaluates_to
-word-returns-clause-evaluates_to g t c = λ k. rw c.new.ensures.bytes at (c.value.ensures.evaluates_to k)
-
-pub word-returns-clause-only_grows : goal.word-returns-clause-only_grows
-word-returns-clause-only_grows g t c = c.value.ensures.only_grows
-
-pub word-returns-in-Some-clause-evaluates_to : goal.word-returns-in-Some-clause-evaluates_to
-word-returns-in-Some-clause-evaluates_to g t c = λ k.
-    let e = c.in_ok-text.ensures.ok ∙ c.of.ensures in
-    rw (c.in-Some.ensures c.args.parts.source.now, ← e) (c.sized.ensures.evaluates_to _ _ k _ _)
-
-pub word-returns-in-Some-clause-only_grows : goal.word-returns-in-Some-clause-only_grows
-word-returns-in-Some-clause-only_grows g t c = later_refl
-
-pub word-returns-in_err-text-clause-evaluates_to : goal.word-returns-in_err-text-clause-evaluates_to
-word-returns-in_err-text-clause-evaluates_to g t c = λ k. starved_end _ _ _ c.from_residual.ensures.1
-
-pub word-returns-in_err-text-clause-only_grows : goal.word-returns-in_err-text-clause-only_grows
-word-returns-in_err-text-clause-only_grows g t c = later_refl
+pub word-joined_parts-requires : goal.word-joined_parts-requires
+word-joined_parts-requires g t c κs within = search rules
 
 pub word-of-requires-text-text : goal.word-of-requires-text-text
 word-of-requires-text-text g t c κs = search rules
 
-pub word-from_str-requires-text-s : goal.word-from_str-requires-text-s
-word-from_str-requires-text-s g t c κs = search rules
+pub word-of-requires-in-Braced-text-text : goal.word-of-requires-in-Braced-text-text
+word-of-requires-in-Braced-text-text g t c κs = search rules
+
+pub word-copied-requires-text-text : goal.word-copied-requires-text-text
+word-copied-requires-text-text g t c κs = search rules
+
+pub word-braced_value-requires-text-inside : goal.word-braced_value-requires-text-inside
+word-braced_value-requires-text-inside g t c κs = search rules
+
+pub word-returns-in-Bare-clause-evaluates_to : goal.word-returns-in-Bare-clause-evaluates_to
+word-returns-in-Bare-clause-evaluates_to g t c = λ k.
+    let v = ap (content_view (range_text c.args.word.source.now)) c.in-Bare.is ∙ content_bare (range_text c.args.word.source.now) c.in-Bare.range in
+    rw (v, ← c.of.ensures) (c.copied.ensures _ _ k _ _)
+
+pub word-returns-in-Bare-clause-only_grows : goal.word-returns-in-Bare-clause-only_grows
+word-returns-in-Bare-clause-only_grows g t c = later_refl
+
+pub word-returns-in-Braced-clause-evaluates_to : goal.word-returns-in-Braced-clause-evaluates_to
+word-returns-in-Braced-clause-evaluates_to g t c = λ k.
+    let v = ap (content_view (range_text c.args.word.source.now)) c.in-Braced.is ∙ content_braced (range_text c.args.word.source.now) c.in-Braced.range in
+    rw (v, ← c.of-in-Braced.ensures) (c.braced_value.ensures _ _ k _ _)
+
+pub word-returns-in-Braced-clause-only_grows : goal.word-returns-in-Braced-clause-only_grows
+word-returns-in-Braced-clause-only_grows g t c = later_refl
+
+pub word-returns-in-Parts-clause-evaluates_to : goal.word-returns-in-Parts-clause-evaluates_to
+word-returns-in-Parts-clause-evaluates_to g t c = λ k.
+    let v = ap (content_view (range_text c.args.word.source.now)) c.in-Parts.is ∙ content_parts (range_text c.args.word.source.now) c.in-Parts.parts in
+    rw v (rw c.as_slice.ensures.value at (c.joined_parts.ensures.evaluates_to k))
+
+pub word-returns-in-Parts-clause-only_grows : goal.word-returns-in-Parts-clause-only_grows
+word-returns-in-Parts-clause-only_grows g t c = c.joined_parts.ensures.only_grows
+
+pub joined_parts-value-requires : goal.joined_parts-value-requires
+joined_parts-value-requires g t c κs within = search rules
+
+pub joined_parts-value-requires-text-source : goal.joined_parts-value-requires-text-source
+joined_parts-value-requires-text-source g t c κs within = search rules
+
+pub joined_parts-returns-clause-evaluates_to : goal.joined_parts-returns-clause-evaluates_to
+joined_parts-returns-clause-evaluates_to g t c = λ k. rw c.new.ensures.bytes at (c.value.ensures.evaluates_to k)
+
+pub joined_parts-returns-clause-only_grows : goal.joined_parts-returns-clause-only_grows
+joined_parts-returns-clause-only_grows g t c = c.value.ensures.only_grows
+
+pub joined_parts-returns-in-Some-clause-evaluates_to : goal.joined_parts-returns-in-Some-clause-evaluates_to
+joined_parts-returns-in-Some-clause-evaluates_to g t c = λ k.
+    rw (c.in-Some.ensures c.args.parts.source.now, ← c.of.ensures) (c.copied.ensures _ _ k _ _)
+
+pub joined_parts-returns-in-Some-clause-only_grows : goal.joined_parts-returns-in-Some-clause-only_grows
+joined_parts-returns-in-Some-clause-only_grows g t c = later_refl
+
+pub joined_parts-of-requires-text-text : goal.joined_parts-of-requires-text-text
+joined_parts-of-requires-text-text g t c κs = search rules
+
+pub joined_parts-copied-requires-text-text : goal.joined_parts-copied-requires-text-text
+joined_parts-copied-requires-text-text g t c κs = search rules
 
 pub command-returns-in-Some-clause-evaluates_to : goal.command-returns-in-Some-clause-evaluates_to
 command-returns-in-Some-clause-evaluates_to g t c =

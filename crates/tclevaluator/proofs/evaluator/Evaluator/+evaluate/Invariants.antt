@@ -93,10 +93,13 @@ abbrev pub decreases-foreach_turns : goal.decreases-foreach_turns
 decreases-foreach_turns g l = 16 * l.bounds.remaining + 4
 
 abbrev pub decreases-words : goal.decreases-words
-decreases-words g l = 16 * l.bounds.remaining + 3
+decreases-words g l = 16 * l.bounds.remaining + 4
 
 abbrev pub decreases-word : goal.decreases-word
-decreases-word g l = 16 * l.bounds.remaining + 2
+decreases-word g l = 16 * l.bounds.remaining + 3
+
+abbrev pub decreases-joined_parts : goal.decreases-joined_parts
+decreases-joined_parts g l = 16 * l.bounds.remaining + 2
 
 abbrev pub decreases-command : goal.decreases-command
 decreases-command g l = 16 * l.bounds.remaining + 10

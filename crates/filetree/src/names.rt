@@ -1,0 +1,89 @@
+//! The names in a directory, read from the system and kept as one text.
+ghost use Rattle.std.specs.Prelude.{◌≡◌, map, string_bytes, IfOk};
+ghost use Rattle.filetree.specs.Names.{names_of};
+
+use crate::memory::own_names;
+use modulename::version_order;
+use std::alloc::{AllocError, Global};
+use std::io;
+use std::io::Read;
+use std::rt::Files;
+
+/// The names in a directory, hidden ones too, in version order, since whoever asks for them mostly sorts them so.
+#[derive(Drop)]
+pub(crate) struct Names {
+    /// The names, each ended by a NUL.
+    text: String,
+    /// Whether one begins with a point.
+    hides: bool,
+}
+
+/// The names in a text in which a NUL ends each.
+fn parted(alloc: Global, text: &str) -> Result<Vec<&str>, AllocError>
+    ensures { IfOk result (λ names. map (λ name. name.now) names.items ≡ names_of text.entry.now) }
+{
+    text.split('\0')
+        .filter(|name| !name.is_empty())
+        .collect(alloc)
+}
+
+impl Names {
+    /// The names as owned strings.
+    pub(crate) fn copies(&self, alloc: Global) -> Result<Vec<String>, AllocError>
+        ensures { IfOk result (λ copies. map string_bytes copies.items ≡ names_of (string_bytes self.now.text)) }
+    {
+        let names = parted(alloc, &self.text)?;
+        own_names(alloc, &names)
+    }
+
+    /// Whether this is one of the names, for a name that begins with a point.
+    pub(crate) fn has_hidden(&self, name: &str) -> bool {
+        self.hides && self.text.split('\0').any(|other| other == name)
+    }
+
+    /// The names of a text in which a NUL ends each, without those of the directory itself and the one above it.
+    fn of_text(alloc: Global, text: &str) -> Result<Names, AllocError> {
+        let mut names = parted(alloc, text)?;
+        names.retain(|name| *name != "." && *name != "..");
+        names.sort_by(|left, right| version_order(left, right))?;
+        let mut sorted = String::with_capacity(alloc, text.len())?;
+        let mut hides = false;
+        for name in &names {
+            hides = hides || name.starts_with('.');
+            sorted.push_str(name)?;
+            sorted.push('\0')?;
+        }
+        Ok(Names {
+            text: sorted,
+            hides,
+        })
+    }
+}
+
+/// How many bytes of a directory's names are read at once. A name has some hundred at most.
+const NAMES_AT_ONCE: usize = 2000;
+
+/// The names in a directory, each ended by a NUL, as one text. `fs::read_dir` would make a path of each.
+fn text_of_names<R: Files + AllocGlobal>(rt: &R, dir: &str) -> io::Result<Vec<u8>> {
+    // The slash makes the system follow a symbolic link to a directory.
+    let mut names = rt.open_dir(&format!(in rt.alloc(); "{dir}/")?)?;
+    let mut room = [0; NAMES_AT_ONCE];
+    let mut text = Vec::new(rt.alloc());
+    for _ in 0..u64::MAX {
+        let count = names.read(&mut room)?;
+        if count == 0 {
+            break;
+        }
+        text.extend_from_slice(&room[..count])?;
+    }
+    Ok(text)
+}
+
+/// The names in a directory.
+pub(crate) fn list<R: Files + AllocGlobal>(rt: &R, dir: &str) -> io::Result<Names> {
+    let bytes = text_of_names(rt, dir)?;
+    let Ok(text) = str::from_utf8(&bytes) else {
+        return Err(io::Error::from(io::ErrorKind::InvalidFilename));
+    };
+    Ok(Names::of_text(rt.alloc(), text)?)
+}

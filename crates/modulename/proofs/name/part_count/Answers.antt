@@ -1,7 +1,0 @@
-use Rattle.std.proofs.Common.{arith}
-use Rattle.std.proofs.lemmas.Iterator.Consumers.{count_from_yields_List}
-use Rattle.std.proofs.lemmas.Iterator.Splits.{YieldsList-from_str_split}
-use Rattle.modulename.proofs.name.part_count.Goals as goal
-
-pub returns : goal.returns
-returns c = count_from_yields_List _ _ c.count.ensures.ran (YieldsList-from_str_split 47 c.args.name.now (omega arith) c.split.ensures.text c.split.ensures.has_more c.split.ensures.pattern)

@@ -1,0 +1,7 @@
+mod Values
+mod PathAnew
+mod LoadedAnew
+mod UnusedNames
+mod StackAnew
+mod StackRewritten
+mod Reported

@@ -1,0 +1,3 @@
+pub mod Disagreements
+pub mod DisagreementViews
+pub mod Rewriting

@@ -1,0 +1,229 @@
+"""Why modules aren't certified: for each standing but that of a module that asks, and for each rule of clashes, a session
+of the built program in which the start is lost, or an unload takes what another loaded module has set.
+
+    python3 -B tests/losses.py PROGRAM
+
+Each row has its modulefiles, the standing of each by the rules in docs/DEFINITIONS.md (and so by the model in
+`standings.py`, where the records stand in the row), the variables of the start, the commands, and what is there after
+them. The start agrees with all that the modules use, where any start does. What is there is typed by hand from
+modulefile(5).
+"""
+
+import os
+import shutil
+import subprocess
+import sys
+
+from harness import SECONDS, case, run_all, same, true
+
+import standings
+from standings import SiteModule
+
+SH = shutil.which("dash") or "/bin/sh"
+ENV = shutil.which("env")
+OWN = ("PWD", "OLDPWD", "_")
+
+
+class Row:
+    """A site of a few modules, and a session over it that loses something."""
+
+    def __init__(self, files, stand, commands, found, start=None, reads=None):
+        self.files = files
+        self.stand = stand
+        self.commands = commands
+        self.found = found
+        self.start = start or {}
+        # What is set besides in the session, and not where the site is judged.
+        self.reads = reads or {}
+
+
+# By what is lost. `found` has the variables after the commands that differ from the start, None for one that is unset.
+ROWS = {
+    # Standings of one module: the start is lost where it is unloaded again.
+    "a value that no unload knows": Row(
+        {"a/1": "unsetenv V\n"}, ["one-way"], ["load a", "unload a"], {"V": None}, {"V": "x"}
+    ),
+    "an element that no unload puts back": Row(
+        {"a/1": "remove-path V /b\n"}, ["one-way"], ["load a", "unload a"], {"V": "/a"}, {"V": "/a:/b"}
+    ),
+    "a variable that is set and pushed": Row(
+        {"a/1": "setenv V x\npushenv V y\n"}, ["out-of-step"], ["load a", "unload a"], {"V": "x"}
+    ),
+    "two delimiters in one module": Row(
+        {"a/1": "append-path V b\nappend-path -d , V c\n"},
+        ["out-of-step"],
+        ["load a", "unload a"],
+        {"V": "a:b"},
+        {"V": "a"},
+    ),
+    "a refused evaluation": Row(
+        {"a/1": "remove-path V $env(W)\n"},
+        ["refused"],
+        ["load a", "unload a"],
+        {"V": "/a"},
+        {"V": "/a:/b"},
+        reads={"W": "/b"},
+    ),
+    "a MODULEPATH that is pushed": Row(
+        {"a/1": "append-path MODULEPATH /x\npushenv MODULEPATH /y\n"},
+        ["out-of-step"],
+        ["load a", "unload a/1"],
+        {"MODULEPATH": "/m:/x"},
+    ),
+    # Clashes of modules that may be loaded at once: an unload takes what another has set.
+    "a variable that both set": Row(
+        {"a/1": "setenv V x\n", "b/1": "setenv V y\n"},
+        ["clashes", "clashes"],
+        ["load a", "load b", "unload a"],
+        {"V": None, "LOADEDMODULES": "b/1", "_LMFILES_": "/m/b/1"},
+    ),
+    "two versions of one module": Row(
+        {"a/1": "setenv V x\n", "a/2": "setenv V y\n"},
+        ["clashes", "clashes"],
+        ["load a/1", "load a/2", "unload a/1"],
+        {"V": None, "LOADEDMODULES": "a/2", "_LMFILES_": "/m/a/2"},
+    ),
+    "a variable that both unset": Row(
+        {"a/1": "unsetenv V x\n", "b/1": "unsetenv V x\n"},
+        ["clashes", "clashes"],
+        ["load a", "load b", "unload a"],
+        {"LOADEDMODULES": "b/1", "_LMFILES_": "/m/b/1"},
+        {"V": "x"},
+    ),
+    "a conflict with the letters of a name": Row(
+        {"a/1": "conflict b\nsetenv V x\n", "bb/1": "setenv V y\n"},
+        ["clashes", "clashes"],
+        ["load a", "load bb", "unload a"],
+        {"V": None, "LOADEDMODULES": "bb/1", "_LMFILES_": "/m/bb/1"},
+    ),
+    # Clashes of such modules: the start is lost.
+    "two delimiters": Row(
+        {"a/1": "append-path V b\n", "b/1": "append-path -d , V c\n"},
+        ["clashes", "clashes"],
+        ["load a", "load b", "unload a", "unload b"],
+        {"V": "a:b"},
+        {"V": "a"},
+    ),
+    "a path that is also a stack": Row(
+        {"a/1": "append-path V b\n", "b/1": "pushenv V y\n"},
+        ["clashes", "clashes"],
+        ["load a", "load b", "unload a", "unload b"],
+        {"V": "a:b"},
+        {"V": "a"},
+    ),
+    "a variable that is set, and pushed by another": Row(
+        {"a/1": "setenv V x\n", "b/1": "pushenv V y\n"},
+        ["clashes", "clashes"],
+        ["load a", "load b", "unload a", "unload b"],
+        {"V": "x"},
+    ),
+    # Clashes of modules that exclude each other: of two starts each agrees with one of them, and loses by the other.
+    "set here and unset there": Row(
+        {"a/1": "conflict b\nsetenv V x\n", "b/1": "unsetenv V y\n"},
+        ["clashes", "clashes"],
+        ["load b", "unload b"],
+        {"V": "y"},
+    ),
+    "unset here and set there": Row(
+        {"a/1": "conflict b\nsetenv V x\n", "b/1": "unsetenv V y\n"},
+        ["clashes", "clashes"],
+        ["load a", "unload a"],
+        {"V": None},
+        {"V": "y"},
+    ),
+    "two values that are unset": Row(
+        {"a/1": "conflict b\nunsetenv V x\n", "b/1": "unsetenv V y\n"},
+        ["clashes", "clashes"],
+        ["load b", "unload b"],
+        {"V": "y"},
+        {"V": "x"},
+    ),
+}
+
+
+class Session:
+    """Modulefiles, and an environment that commands change."""
+
+    def __init__(self, folder, row):
+        self.folder = folder
+        for name, text in row.files.items():
+            folder.module(name, text)
+        self.start = {"MODULEPATH": "/m", **row.start, **row.reads}
+        self.env = {name: self.real(value) for name, value in self.start.items()}
+
+    def real(self, text):
+        return text.replace("/m", os.fsdecode(self.folder.modules))
+
+    def does(self, words):
+        """Runs a command, and has sh evaluate what it prints."""
+        done = subprocess.run(
+            [SH, "-c", f'text=$("$0" sh {words}) || exit 1; eval "$text"; exec {ENV} -0', os.fsdecode(self.folder.program)],
+            env=self.env,
+            capture_output=True,
+            text=True,
+            timeout=SECONDS,
+            check=False,
+        )
+        same((done.stderr, done.returncode), ("", 0), f"what is said to {words}")
+        pairs = [entry.split("=", 1) for entry in done.stdout.split("\0") if entry]
+        self.env = {name: value for name, value in pairs if name not in OWN}
+
+
+def loses(folder, what, row):
+    session = Session(folder, row)
+    for words in row.commands:
+        session.does(words)
+    wanted = {name: value for name, value in {**session.start, **row.found}.items() if value is not None}
+    same(session.env, {name: session.real(value) for name, value in wanted.items()}, f"what {what} leaves")
+    true(session.env != {name: session.real(value) for name, value in session.start.items()}, f"{what} loses something")
+    for name in row.files:
+        os.remove(folder.at(name))
+
+
+@case
+def each_row_loses_its_start_or_what_is_loaded(folder):
+    for what, row in ROWS.items():
+        loses(folder, what, row)
+
+
+# What the modulefiles of the rows leave; a refused one leaves nothing.
+def records_of(text):
+    records = []
+    for line in text.splitlines():
+        kind, *words = line.split()
+        if kind in ("append-path", "remove-path"):
+            delim = words[1] if words[0] == "-d" else ":"
+            records.append((kind, delim, words[-2], words[-1].split(delim)))
+        elif kind == "conflict":
+            records.append((kind, words))
+        else:
+            records.append((kind, words[0], words[1] if len(words) > 1 else None))
+    return records
+
+
+@case
+def each_row_stands_as_it_says(_):
+    for what, row in ROWS.items():
+        modules = [
+            SiteModule(name, f"/m/{name}", records_of(text), fault="unset" if "$env" in text else None)
+            for name, text in row.files.items()
+        ]
+        same([standings.standing_of(module, modules) for module in modules], row.stand, f"how modules stand in {what}")
+
+
+@case
+def each_standing_has_a_row(_):
+    standing = {word for row in ROWS.values() for word in row.stand}
+    same(sorted(standing), ["clashes", "one-way", "out-of-step", "refused"], "the standings of the rows")
+
+
+def main():
+    if len(sys.argv) != 2:
+        sys.exit(f"{sys.argv[0]} PROGRAM")
+    passed, failed = run_all(sys.argv[1])
+    print(f"{passed} passed, {failed} failed")
+    return 1 if failed else 0
+
+
+if __name__ == "__main__":
+    sys.exit(main())
