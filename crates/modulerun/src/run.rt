@@ -22,6 +22,9 @@ pub struct Ran {
     pub records: Vec<Record>,
     pub messages: Vec<String>,
     pub asked: bool,
+    /// The words of the first question, as `getenv HOME` or `$env(HOME)`. Where it asked nothing there are none, and
+    /// where memory was short there can be none; no clause speaks of them.
+    pub question: Option<String>,
 }
 
 /// What an accepted file leaves, and the changes that its environment doesn't have yet.

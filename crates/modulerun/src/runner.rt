@@ -34,6 +34,8 @@ pub(crate) struct Runner<'a, V: Vars> {
     pub journal: Journal<'a, V>,
     pub messages: Vec<String>,
     pub asked: bool,
+    /// The words of the first question, once the file has asked.
+    pub question: Option<String>,
     /// Why the last refused command was refused: the evaluator has its number alone, and this has the name as well.
     pub refusal: Option<CommandRefusal>,
 }
@@ -47,6 +49,7 @@ impl<'a, V: Vars> Drop for Runner<'a, V> {
             journal: _journal,
             messages: _messages,
             asked: _asked,
+            question: _question,
             refusal: _refusal,
         } = self;
     }
@@ -68,6 +71,7 @@ impl<'a, V: Vars> Runner<'a, V> {
             journal: Journal::over(alloc, context.mode, context.name, before),
             messages: Vec::new(alloc),
             asked: false,
+            question: None,
             refusal: None,
         }
     }
@@ -142,6 +146,26 @@ impl<'a, V: Vars> Runner<'a, V> {
         match text {
             Ok(text) => HostAnswer::Done(text),
             Err(_) => HostAnswer::OutOfMemory,
+        }
+    }
+
+    /// Notes the words of a command that was the first question. Where memory is short it stays without them.
+    fn note_question(&mut self, words: &[String])
+        ensures trace { trace_of self.new ≡ trace_of self.old }
+        ensures same { context_of self.new ≡ context_of self.old }
+    {
+        if self.asked && self.question.is_none() {
+            self.question = spaced(self.alloc, words).ok();
+        }
+    }
+
+    /// Notes that the first question was for this variable of the environment.
+    fn note_variable(&mut self, name: &str)
+        ensures trace { trace_of self.new ≡ trace_of self.old }
+        ensures same { context_of self.new ≡ context_of self.old }
+    {
+        if self.question.is_none() {
+            self.question = format!(in self.alloc; "$env({name})").ok();
         }
     }
 
@@ -231,6 +255,7 @@ impl<'a, V: Vars> Runner<'a, V> {
             journal,
             messages,
             asked,
+            question,
             refusal: _refusal,
         } = self;
         let FinishedFile { records, changes } = journal.finish()?;
@@ -238,6 +263,7 @@ impl<'a, V: Vars> Runner<'a, V> {
             records,
             messages,
             asked,
+            question,
         };
         Ok(Draft { ran, changes })
     }
@@ -253,6 +279,7 @@ impl<'a, V: Vars> Runner<'a, V> {
             journal: _journal,
             messages: _messages,
             asked: _asked,
+            question: _question,
             refusal: command,
         } = self;
         refusal(fault, command)
@@ -303,6 +330,18 @@ impl<'a, V: Vars> Runner<'a, V> {
     }
 }
 
+/// The words of a command, with spaces between them.
+fn spaced(alloc: Global, words: &[String]) -> Result<String, AllocError> {
+    let mut text = String::new(alloc);
+    for word in words {
+        if !text.is_empty() {
+            text.push(' ')?;
+        }
+        text.push_str(word.as_str())?;
+    }
+    Ok(text)
+}
+
 /// Adds a message, with a newline or without.
 fn push_message(
     alloc: Global,
@@ -351,13 +390,18 @@ impl<'a, V: Vars> Host for Runner<'a, V> {
         ensures same { oracle_of (context_of self.new) ≡ oracle_of (context_of self.old) }
     {
         match call_of(self.alloc, words) {
-            Ok(call) => self.answer(words, call),
+            Ok(call) => {
+                let answer = self.answer(words, call);
+                self.note_question(words);
+                answer
+            }
             Err(fault) => self.not_done(fault),
         }
     }
 
     fn read_env(&mut self, name: &str) -> Result<Option<String>, AllocError> {
         self.asked = true;
+        self.note_variable(name);
         match self.journal.get(name) {
             None => Ok(None),
             Some(value) => Ok(Some(String::from_str(self.alloc, value)?)),
