@@ -1,0 +1,4 @@
+mod AmongLemmas
+mod DirectoryLemmas
+mod OutcomeLemmas
+mod WalkLemmas

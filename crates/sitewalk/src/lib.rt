@@ -3,7 +3,12 @@
 //! Used by siteaudit.
 #![tactic(auto)]
 
+mod below;
+mod directories;
 mod fault;
+mod files;
+mod given_up;
+mod plain;
 mod progress;
 mod walk;
 
