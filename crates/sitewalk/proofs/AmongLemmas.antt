@@ -86,3 +86,6 @@ module _ {X Y : Type 0} (f : X → List Y) where
       by_cases (parted y (f x) (flat_map f xs) a)
       (λ (b : IsAmong y (f x)). (x, inl refl, b))
       (λ (b : IsAmong y (flat_map f xs)). let i = of_flat_map y xs b in (i.0, inr i.1, i.2))
+
+pub flat_seen : {X Y Z : Type 0} (f : Y → List Z) (view : X → Y) (xs ys : List X) → flat_map f (map view (xs ++ ys)) ≡ flat_map f (map view xs) ++ flat_map f (map view ys)
+flat_seen f view xs ys = ap (flat_map f) (map_parts view xs ys) ∙ flat_map_parts f (map view xs) (map view ys)

@@ -1,10 +1,10 @@
 -- Directories that are put together, each once, and those of one text.
-use Rattle.std.proofs.Common.{◌≡◌, ◌⊎◌, inl, inr, ℕ, Bool, true, false, cond, not, ◌||◌, ◌==◌, List, [], ◌∷◌, ◌++◌, filter, String, Global, map, refl, sym, ap, ◌∙◌, subst, append-nil, append_assoc}
+use Rattle.std.proofs.Common.{◌≡◌, ◌⊎◌, inl, inr, ℕ, Bool, true, false, cond, not, ◌||◌, ◌==◌, ◌+◌, ◌<◌, length, get_or, take, List, [], ◌∷◌, ◌++◌, filter, String, Global, map, refl, sym, ap, ◌∙◌, subst, append-nil, append_assoc}
 use Rattle.std.specs.Prelude.{bytes_eq, flat_map, string_bytes}
 use Rattle.std.specs.List.{list_any, slice_split, onto_first}
 use Rattle.std.specs.String.{string_eq}
 use Rattle.std.proofs.lemmas.Bool.{false≢true}
-use Rattle.std.proofs.lemmas.List.{map-append}
+use Rattle.std.proofs.lemmas.List.{map-append, take_more}
 use Rattle.indexmap.specs.IndexSet.{insert_key}
 use Rattle.envvars.specs.Texts.{Text, has}
 use Rattle.envvars.specs.Fields.{without_repeats}
@@ -78,6 +78,15 @@ came d dirs (x ∷ more) a =
     by_cases (came d (insert_key bytes_eq dirs x) more a)
     (λ b. by_cases (one_of d dirs x (has x dirs) b) (λ k. inl k) (λ e. inr (inl e)))
     (λ b. inr (inr b))
+
+-- with those of one item more
+pub dirs_turn : {X : Type 0} (of : List X → List Text) → ((xs ys : List X) → of (xs ++ ys) ≡ of xs ++ of ys) → (start old new piece : List Text) (xs : List X) (i : ℕ) (d x : X) → i < length xs → x ≡ get_or xs i d
+    → of (x ∷ []) ≡ piece → old ≡ with_directories start (of (take i xs)) → new ≡ with_directories old piece → new ≡ with_directories start (of (take (i + 1) xs))
+dirs_turn {X} of append start old new piece xs i d x l e one h k =
+    k ∙ (ap (λ (ds : List Text). with_directories ds piece) h
+    ∙ (sym (with-append start (of (take i xs)) piece)
+    ∙ ap (with_directories start) (ap (λ (ts : List Text). of (take i xs) ++ ts) (sym one)
+    ∙ (sym (append (take i xs) (x ∷ [])) ∙ ap of (sym (take_more xs i d l ∙ ap (λ (y : X). take i xs ++ y ∷ []) (sym e)))))))
 
 -- ---- a key of the code's set
 
