@@ -11,11 +11,11 @@ use Rattle.requests.specs.Reasons.{RequestReason}
 use Rattle.requests.specs.Requests.{Request}
 use Rattle.requests.specs.Returning.{AreNew}
 use Rattle.requests.specs.Steps.{Done, RequestStep, request_context_in}
-use Rattle.siteaudit.specs.RecordUses.{uses_by}
-use Rattle.siteaudit.specs.Certificates.{certified, certificate, AgreesWith}
-use Rattle.siteaudit.specs.CertificateLaws.{AreCertifiedTogether}
-use Rattle.siteaudit.specs.Sites.{site_of, ArePlainModules}
-use Rattle.siteaudit.specs.Laws.{LoadsAreOf, SiteSessionsReturn, SiteCommandsReturn}
+use Rattle.sitelaws.specs.RecordUses.{uses_by}
+use Rattle.sitelaws.specs.Certificates.{certified, certificate, AgreesWith}
+use Rattle.sitelaws.specs.CertificateLaws.{AreCertifiedTogether}
+use Rattle.sitelaws.specs.Sites.{site_of, ArePlainModules}
+use Rattle.sitelaws.specs.Laws.{LoadsAreOf, SiteSessionsReturn, SiteCommandsReturn}
 use Rattle.modulecmd.specs.Command.{CommandResult, CommandHasResult, standard, with_shell}
 use Rattle.modulecmd.specs.Runs.{PrintedCommand, ShellsHold, moves_in}
 use Rattle.modulecmd.specs.Sites.{SiteShellsReturn}

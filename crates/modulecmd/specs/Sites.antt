@@ -6,10 +6,10 @@ use Rattle.requests.specs.Moves.{Module}
 use Rattle.reversal.specs.Runs.{live_after}
 use Rattle.reversal.specs.Laws.{Holds}
 use Rattle.requests.specs.Returning.{AreNew}
-use Rattle.siteaudit.specs.RecordUses.{uses_by}
-use Rattle.siteaudit.specs.Certificates.{certified, certificate, AgreesWith}
-use Rattle.siteaudit.specs.Sites.{site_of, ArePlainModules}
-use Rattle.siteaudit.specs.Laws.{LoadsAreOf}
+use Rattle.sitelaws.specs.RecordUses.{uses_by}
+use Rattle.sitelaws.specs.Certificates.{certified, certificate, AgreesWith}
+use Rattle.sitelaws.specs.Sites.{site_of, ArePlainModules}
+use Rattle.sitelaws.specs.Laws.{LoadsAreOf}
 use Rattle.modulecmd.specs.Command.{standard}
 use Rattle.modulecmd.specs.Runs.{PrintedCommand, ShellsHold, moves_in}
 

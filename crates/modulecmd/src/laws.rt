@@ -29,8 +29,8 @@ pub fn commands_return()
 pub fn site_commands_return()
     ensures { SiteShellsReturn }
 {
-    siteaudit::laws::sessions_return();
-    siteaudit::laws::command_returns();
+    sitelaws::laws::sessions_return();
+    sitelaws::laws::command_returns();
     shelltext::laws::one_effect();
     shelltext::laws::difference_makes();
 }

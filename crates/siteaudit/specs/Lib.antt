@@ -1,8 +1,0 @@
-pub mod Sites
-pub mod Standings
-pub mod Admitted
-pub mod Laws
--- What the definitions above cite, so that a caller need not name the crates below.
-pub use Rattle.certificate.specs.Certificates
-pub use Rattle.certificate.specs.Laws as CertificateLaws
-pub use Rattle.certificate.specs.RecordUses

@@ -1,7 +1,14 @@
-//! A whole site judged: its directories, its modules, how each stands, and the law of sessions of certified modules.
-//! Touches nothing: these are definitions and laws, without code.
-//! Used by modulecmd, whose law of commands over a site stands on the laws here.
+//! The audit of a whole site: how each of its modules stands, the certificate of those that need no judgement, remarks.
+//! Takes memory, reads the files and directories (`Tree`) that it is given, and says how far it has come.
+//! Used by modulecmd, for the program modaudit.
 #![tactic(auto)]
 
-pub mod laws;
-pub mod rows;
+mod auditing;
+mod standing;
+
+pub use auditing::{AuditedModule, SiteAudit, UnknownNames, audit};
+pub use certificate::{UsedVariable, VariableUse};
+pub use siteclash::Clash;
+pub use sitewalk::{MAX_DIRECTORIES, Progress, Silent, WalkFault};
+pub use standing::Standing;
+pub use startcheck::Disagreement;

@@ -1,6 +1,0 @@
-use Rattle.siteaudit.proofs.Returned.{site_commands_return}
-use Rattle.siteaudit.proofs.laws.command_returns.Goals as goal
-
-pub returns : goal.returns
-returns c =
-    site_commands_return c.outcomes.ensures.reach c.certified.ensures c.conflicts.ensures c.steps.ensures c.plain_records.ensures

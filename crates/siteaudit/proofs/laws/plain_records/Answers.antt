@@ -1,5 +1,0 @@
-use Rattle.siteaudit.proofs.Records.{plain_records_are_all}
-use Rattle.siteaudit.proofs.laws.plain_records.Goals as goal
-
-pub returns : goal.returns
-returns c = plain_records_are_all c.plain.ensures

@@ -1,0 +1,8 @@
+//! Clashes: which modules of a site clash in a variable that they use, found by a table of variables.
+//! Takes memory and touches nothing else; no work grows with the pairs of modules.
+//! Used by siteaudit.
+#![tactic(auto)]
+
+mod clashes;
+
+pub use clashes::{Clash, clashes};

@@ -1,0 +1,10 @@
+mod Parts
+mod Admissions
+mod Records
+mod Standing
+mod OneStanding
+mod Forbidden
+mod Unloaded
+mod Returned
+mod Walked
+mod PlainOnes

@@ -1,0 +1,73 @@
+-- How each module of a site stands (own): whether it is certified, and else why it is not.
+use Rattle.std.specs.Prelude.{◌≡◌, true, false, not, List, ◌∷◌, codes, find, Some, Ok, Err}
+use Rattle.envvars.specs.Texts.{Text}
+use Rattle.envvars.specs.Fields.{colon}
+use Rattle.requests.specs.Records.{Record}
+use Rattle.requests.specs.Moves.{Module}
+use Rattle.modulefile.specs.Files.{Ran}
+use Rattle.requests.specs.VariableUses.{VariableUse, Pathed, is_reversible}
+use Rattle.requests.specs.Reasons.{RequestReason}
+use Rattle.requests.specs.Verdicts.{asked, one_way, verdict_of}
+use Rattle.certificate.specs.RecordUses.{IsAmong, used_by, same_use, modulepath, IsInStep}
+use Rattle.certificate.specs.Clashes.{Clash}
+use Rattle.certificate.specs.Certificates.{is_other, IsCertified}
+use Rattle.sitelaws.specs.Sites.{Site, SiteModule, EvaluatesTo, HasPlainRecords, with_records}
+
+pub data Standing : Type 0 where
+  -- plain, in step, and without a clash: its loads and unloads need no judgement
+  Certified : Standing
+  -- its evaluation asked a question, so that its records may differ elsewhere
+  Asks : Standing
+  -- it asked nothing, and this is the first of its records that unloading doesn't undo
+  OneWay : (first : Record) → Standing
+  -- it is plain, and uses the variable in these two ways; or the variable is MODULEPATH, and the second way is that of a
+  -- path with colons
+  OutOfStep : (variable : Text) (one other : VariableUse) → Standing
+  -- it is plain and in step, and clashes with another such module in the variable, by its own use and that of the other
+  Clashes : (variable : Text) (own theirs : VariableUse) (other : Module) → Standing
+  -- its evaluation is refused
+  Refused : RequestReason → Standing
+
+-- the standing in one word
+abbrev pub standing_word : Standing → Text
+standing_word Certified = codes "certified"
+standing_word Asks = codes "asks"
+standing_word (OneWay first) = codes "one-way"
+standing_word (OutOfStep variable one other) = codes "out-of-step"
+standing_word (Clashes variable own theirs other) = codes "clashes"
+standing_word (Refused reason) = codes "refused"
+
+-- The first record that unloading doesn't undo.
+abbrev pub IsFirstOneWay : List Record → Record → Type 0
+IsFirstOneWay rs r = find (λ x. not (is_reversible x)) rs ≡ Some r
+
+-- The records use the variable in two ways, of which the second may be that of MODULEPATH as a path with colons.
+pub record IsUsedTwice (rs : List Record) (v : Text) (x y : VariableUse) : Type 0 where
+  pub first : IsAmong (v, x) (used_by rs)
+  pub second : IsAmong (v, y) ((modulepath, Pathed colon) ∷ used_by rs)
+  pub differ : same_use x y ≡ false
+
+-- The module clashes in the variable with another of these plain modules, where both are in step.
+pub record ClashesWith (ms : List Module) (m : Module) (v : Text) (x y : VariableUse) (other : Module) : Type 0 where
+  pub in_step : IsInStep m
+  pub listed : IsAmong other ms
+  pub other_in_step : IsInStep other
+  pub another : is_other m other ≡ true
+  pub clash : Clash m other v x y
+
+-- the module is plain, and this holds of it with its records
+abbrev pub IsPlainAnd : Site → SiteModule → (Module → Type 0) → Type 0
+IsPlainAnd site m P = (rs : List Record) × HasPlainRecords site m rs × P (with_records m rs)
+
+-- A module of the site, whose plain modules are these, stands so. Each module stands in one of the six ways: its
+-- evaluation is refused, or asks, or has a record that unloading doesn't undo, or it is plain; and a plain one is out of
+-- step, or is in step and clashes, or is certified.
+abbrev pub HasStanding : Site → List Module → SiteModule → Standing → Type 0
+HasStanding site ms m Certified = IsPlainAnd site m (λ n. IsCertified ms n)
+HasStanding site ms m Asks = (ran : Ran) × EvaluatesTo site m (Ok ran) × (verdict_of ran ≡ asked)
+HasStanding site ms m (OneWay first) =
+    (ran : Ran) × EvaluatesTo site m (Ok ran) × (verdict_of ran ≡ one_way) × IsFirstOneWay ran.records first
+HasStanding site ms m (OutOfStep variable one other) = IsPlainAnd site m (λ n. IsUsedTwice n.records variable one other)
+HasStanding site ms m (Clashes variable own theirs other) =
+    IsPlainAnd site m (λ n. ClashesWith ms n variable own theirs other)
+HasStanding site ms m (Refused reason) = EvaluatesTo site m (Err reason)

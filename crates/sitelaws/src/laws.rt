@@ -1,0 +1,70 @@
+//! Laws of sites. Each function does nothing: its contract is the law.
+ghost use Rattle.sitelaws.specs.Laws.{StepsAreAdmitted, SessionsAreAdmitted, NamesListed, DirectoriesFound, ModulesFound, PlainModulesFound};
+ghost use Rattle.sitelaws.specs.Laws.{PlainRecordsAreAll, EachStands, OneStanding, CertifiedStand};
+ghost use Rattle.sitelaws.specs.Laws.{SiteSessionsReturn, AuditsHold, SiteCommandsReturn};
+
+/// Nothing that was loaded at the moment of an accepted load forbade it: neither a conflict that the loaded list records,
+/// nor a conflict of the module itself, nor a prereq. So it is for requests, and for sessions.
+pub fn admissions()
+    ensures steps { StepsAreAdmitted }
+    ensures sessions { SessionsAreAdmitted }
+{}
+
+/// A walk over a site that has gone through each directory that it found has all directories of the site, and the modules
+/// that `avail` lists in them are those of the site. The plain ones among them are those whose evaluation says so.
+pub fn walks()
+    ensures names { NamesListed }
+    ensures directories { DirectoriesFound }
+    ensures modules { ModulesFound }
+    ensures plain { PlainModulesFound }
+{
+    modulefile::files();
+}
+
+/// The records of a plain module are those that every accepted evaluation of its file leaves.
+pub fn plain_records()
+    ensures { PlainRecordsAreAll }
+{
+    modulefile::plain();
+}
+
+/// Each module of a site stands in one of the six ways, and in no other. It stands as certified exactly where it is one of the certified modules among the
+/// plain ones of the site.
+pub fn standings()
+    ensures each { EachStands }
+    ensures one { OneStanding }
+    ensures certified { CertifiedStand }
+{
+    modulefile::files();
+    certificate::laws::certified();
+}
+
+/// From a start that agrees with the certificate of a site, in a session over that site whose accepted loads are of
+/// certified modules, and which unloads none that is loaded at the start: each environment is in order, and is the start
+/// with the live modules layered on it; where none is live it is the start, and the maps are equal. There is no premise
+/// about records: conflicts that are judged at each load keep apart what excludes each other. So it is for any modules
+/// that are certified, and any uses among which are those of the certificate.
+pub fn sessions_return()
+    ensures certificate { SiteSessionsReturn }
+    ensures audits { AuditsHold }
+{
+    admissions();
+    plain_records();
+    requests::sessions();
+    certificate::laws::certified();
+    certificate::laws::conflicts();
+    certificate::laws::runs();
+    certificate::laws::steps();
+}
+
+/// The same for one command, which knows no history.
+pub fn command_returns()
+    ensures { SiteCommandsReturn }
+{
+    admissions();
+    plain_records();
+    requests::outcomes();
+    certificate::laws::certified();
+    certificate::laws::conflicts();
+    certificate::laws::steps();
+}

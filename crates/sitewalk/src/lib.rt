@@ -1,0 +1,12 @@
+//! The walk over a site: its directories, its modules, and what the evaluation of each module's file leaves.
+//! Takes memory, reads the files and directories (`Tree`) that it is given, and says how far it has come.
+//! Used by siteaudit.
+#![tactic(auto)]
+
+mod fault;
+mod progress;
+mod walk;
+
+pub use fault::WalkFault;
+pub use progress::{Progress, Silent};
+pub use walk::{Evaluation, MAX_DIRECTORIES, Walk, walk};
