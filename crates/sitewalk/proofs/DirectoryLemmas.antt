@@ -13,6 +13,7 @@ use Rattle.envvars.proofs.FieldLemmas.{without_repeats-step, without_repeats-sta
 use Rattle.filetree.specs.Modulefiles.{colon, is_empty, directories}
 use Rattle.certificate.specs.RecordUses.{IsAmong, modulepath}
 use Rattle.requests.specs.Records.{Record, Set, Unset, Push, Front, Back, Remove, Conflict, Prereq, Whatis}
+use Rattle.requests.specs.Steps as requests
 use Rattle.sitelaws.specs.Sites.{Site, IsDirectory, first, added, directories_in, directories_by, added_directories}
 use Rattle.sitewalk.specs.Parts.{with_directories}
 use Rattle.sitewalk.proofs.AmongLemmas.{by_cases, left_among, right_among, filtered, of_flat_map}
@@ -168,5 +169,5 @@ alone_by d (Whatis text) a = absurd a
 
 -- so is each directory of a site
 pub is_alone : (site : Site) (d : Text) → IsDirectory site d → IsAlone d
-is_alone site d (first a) = alone_in d _ a
+is_alone site d (first a) = alone_in d (requests.modulepath site.env) a
 is_alone site d (added m rs from there records a) = let i = of_flat_map directories_by d rs a in alone_by d i.0 i.2

@@ -9,7 +9,7 @@ use Rattle.filetree.specs.Agreement.{Files, Listings, InEachPair}
 use Rattle.filetree.specs.Causes.{Cause, Applies, memory, device, because}
 use Rattle.filetree.specs.Modulefiles.{modulefile}
 use Rattle.tclrules.specs.declared.limits.Limits.{Limits}
-use Rattle.modulefile.specs.Files as files
+use Rattle.modulefile.specs.Files as runs
 use Rattle.modulefile.specs.Files.{RunsFile}
 use Rattle.modulerun.specs.declared.run.Ran.{Ran}
 use Rattle.modulerun.specs.Running.{ran_view}
@@ -34,7 +34,7 @@ module _ (limits : Limits) (env : Environment) (names : List Text) (loaded : Has
   ReadsScript files listings o = o ≡ script_at m.path (modulefile (files m.path))
 
   -- an outcome of the script is one of the module
-  pub evaluated : (files : Files) (listings : Listings) (text : Text) (o : Result files.Ran RequestReason) → ReadsScript files listings (Ok text)
+  pub evaluated : (files : Files) (listings : Listings) (text : Text) (o : Result runs.Ran RequestReason) → ReadsScript files listings (Ok text)
       → RefusedAs file_refused (RunsFile limits (site_context m.name m.path names env) text) o → EvaluatesTo (site_of limits env files listings) m o
   evaluated files listings text o read ran =
       let l = loaded_list (loaded_in env) names loaded in (
@@ -73,7 +73,7 @@ module _ (limits : Limits) (env : Environment) (names : List Text) (loaded : Has
 
 -- ---- outcomes that say something of the file, and others
 
-by_cause : (c : Cause RequestReason) (agrees : Files → Listings → Type 0) (failed : Type 0) (Outcomes : Files → Listings → Result files.Ran RequestReason → Type 0) → is_given_up c ≡ false
+by_cause : (c : Cause RequestReason) (agrees : Files → Listings → Type 0) (failed : Type 0) (Outcomes : Files → Listings → Result runs.Ran RequestReason → Type 0) → is_given_up c ≡ false
     → Applies c failed (λ r. InEachPair agrees (λ files listings. Outcomes files listings (Err r)))
     → (reason : RequestReason) × (c ≡ because reason) × InEachPair agrees (λ files listings. Outcomes files listings (Err reason))
 by_cause memory agrees failed Outcomes k h = absurd (cc)
@@ -81,9 +81,9 @@ by_cause device agrees failed Outcomes k h = absurd (cc)
 by_cause (because reason) agrees failed Outcomes k h = (reason, refl, h)
 
 -- an outcome that isn't given up stands for one of the definitions
-pub has_outcome : (agrees : Files → Listings → Type 0) (failed : Type 0) (Outcomes : Files → Listings → Result files.Ran RequestReason → Type 0) (o : Result Ran Refusal)
+pub has_outcome : (agrees : Files → Listings → Type 0) (failed : Type 0) (Outcomes : Files → Listings → Result runs.Ran RequestReason → Type 0) (o : Result Ran Refusal)
     → ComesToOverTree agrees failed o Outcomes → IfErr o (λ refusal. is_given_up (cause_of refusal) ≡ false)
-    → InEachPair agrees (λ files listings. (outcome : Result files.Ran RequestReason) × Outcomes files listings outcome × IsOutcome o outcome)
+    → InEachPair agrees (λ files listings. (outcome : Result runs.Ran RequestReason) × Outcomes files listings outcome × IsOutcome o outcome)
 has_outcome agrees failed Outcomes (Ok ran) h k = λ files listings a. (Ok (ran_view ran h.0), h.1 files listings a, (h.0, refl))
 has_outcome agrees failed Outcomes (Err refusal) h k =
     let p = by_cause (cause_of refusal) agrees failed Outcomes k h in
@@ -95,7 +95,7 @@ given_up_by device failed P k h = h
 given_up_by (because reason) failed P k h = absurd (cc)
 
 -- a refusal that is given up has its cause
-pub gives_up : (agrees : Files → Listings → Type 0) (failed : Type 0) (Outcomes : Files → Listings → Result files.Ran RequestReason → Type 0) (o : Result Ran Refusal) (refusal : Refusal)
+pub gives_up : (agrees : Files → Listings → Type 0) (failed : Type 0) (Outcomes : Files → Listings → Result runs.Ran RequestReason → Type 0) (o : Result Ran Refusal) (refusal : Refusal)
     → ComesToOverTree agrees failed o Outcomes → o ≡ Err refusal → is_given_up (cause_of refusal) ≡ true → GivesUp failed refusal
 gives_up agrees failed Outcomes o refusal h e k =
     given_up_by (cause_of refusal) failed (λ r. InEachPair agrees (λ files listings. Outcomes files listings (Err r))) k

@@ -26,7 +26,7 @@ use Rattle.certificate.specs.RecordUses.{IsAmong}
 use Rattle.sitelaws.specs.Sites.{Site, SiteModule, Evaluated, EvaluatesTo, HasPlainRecords, IsIn, IsDirectory, first, added, IsClosed, AreDirectories, AreNamesBelow, AreModulesIn, module_below, first_directories, added_directories, over_site, with_records, plain_by, plain_of}
 use Rattle.sitelaws.specs.Laws.{DirectoriesFound}
 use Rattle.sitewalk.specs.declared.walk.Evaluation.{Evaluation}
-use Rattle.sitewalk.specs.declared.TheConstants.{MAX_DIRECTORIES}
+use Rattle.sitewalk.specs.declared.walk.TheConstants.{MAX_DIRECTORIES}
 use Rattle.sitewalk.specs.Walks.{directories_by_plain, directories_of, IsWalk, IsOutcome, IsEvaluation, AreEvaluations, HasTooMany}
 use Rattle.sitewalk.specs.Parts.{with_directories, is_plain_ran, directories_after, directories_found, AreEvaluationsOf, AreEvaluationsBelow, IsEvaluationOf, GoesThrough}
 use Rattle.sitewalk.proofs.AmongLemmas.{by_cases, left_among, right_among, parted, at_place, take_next, take_all_gone, map_parts, in_map, of_map, flat_map_parts, in_flat_map, of_flat_map}
@@ -150,13 +150,13 @@ adds_its one site d m o rs h p a =
 -- ---- the walk
 
 -- So far a walk has these directories, of which it has gone through the first, and these evaluations.
-pub record IsWalkTo (site : Site) (place : ℕ) (dirs : List Text) (evaluations : List Evaluation) : Type 0 where
+pub record IsWalkTo (site : Site) (place : ℕ) (dirs : List Text) (found : List Evaluation) : Type 0 where
   pub outcomes : List Evaluated
   pub order : dirs ≡ with_directories [] (first_directories site ++ flat_map directories_of outcomes)
   pub modules : AreModulesIn site (take place dirs) (map (λ outcome. outcome.0) outcomes)
   pub evaluated : (outcome : Evaluated) → IsAmong outcome outcomes → EvaluatesTo site outcome.0 outcome.1
   pub directories : (dir : Text) → IsAmong dir dirs → IsDirectory site dir
-  pub evaluations : AreEvaluations evaluations outcomes
+  pub evaluations : AreEvaluations found outcomes
 
 -- at its beginning
 pub walk_begins : (site : Site) (dirs : List Text) → dirs ≡ with_directories [] (first_directories site) → IsWalkTo site 0 dirs []

@@ -83,11 +83,11 @@ IsEvaluationOf site m evaluation =
     (outcome : Result files.Ran RequestReason) × EvaluatesTo site m outcome × IsEvaluation evaluation (m, outcome)
 
 -- the same of each of these modules
-pub record AreEvaluationsOf (site : Site) (ms : List SiteModule) (evaluations : List Evaluation) : Type 0 where
+pub record AreEvaluationsOf (site : Site) (ms : List SiteModule) (found : List Evaluation) : Type 0 where
   pub outcomes : List Evaluated
   pub modules : map (λ outcome. outcome.0) outcomes ≡ ms
   pub evaluated : (outcome : Evaluated) → IsAmong outcome outcomes → EvaluatesTo site outcome.0 outcome.1
-  pub evaluations : AreEvaluations evaluations outcomes
+  pub evaluations : AreEvaluations found outcomes
 
 -- the evaluations are those of the modules below the directory
 abbrev pub AreEvaluationsBelow : Site → Text → List Evaluation → Type 0

@@ -16,4 +16,4 @@ mod walk;
 
 pub use fault::WalkFault;
 pub use progress::{Progress, Silent};
-pub use walk::{Evaluation, MAX_DIRECTORIES, Walk, walk};
+pub use walk::{Evaluation, MAX_DIRECTORIES, Walk, walk_site};

@@ -1,5 +1,5 @@
 //! Walks over small sites, by hand (module(1), MODULEPATH).
-use crate::{Silent, Walk, WalkFault, walk};
+use crate::{Silent, Walk, WalkFault, walk_site};
 use envvars::{Env, EnvFault};
 use filetree::MemoryTree;
 use requeststep::Refusal;
@@ -41,7 +41,7 @@ fn text_of(alloc: Global, found: &Walk) -> Result<String, AllocError> {
 /// The walk over the site of this MODULEPATH in a tree, as a text.
 fn walked(alloc: Global, tree: &mut MemoryTree, modulepath: &str) -> Result<String, WalkFault> {
     let env = env_with(alloc, modulepath).map_err(Refusal::from)?;
-    let found = walk(alloc, &env, tree, LIMITS, &mut Silent)?;
+    let found = walk_site(alloc, &env, tree, LIMITS, &mut Silent)?;
     Ok(text_of(alloc, &found)?)
 }
 

@@ -125,7 +125,7 @@ fn walk_from<T: Tree, P: Progress>(
 ///
 /// Errors: loaded lists that don't fit together (35); a device that failed in this call (43); want of memory (11, 31,
 /// 41); more than `MAX_DIRECTORIES` directories.
-pub fn walk<T: Tree, P: Progress>(
+pub fn walk_site<T: Tree, P: Progress>(
     alloc: Global,
     env: &Env,
     tree: &mut T,
