@@ -1,5 +1,5 @@
 -- What is among the members of a list.
-use Rattle.std.proofs.Common.{◌≡◌, ◌⊎◌, inl, inr, ℕ, suc, zero, Bool, true, false, cond, List, [], ◌∷◌, ◌++◌, map, flat_map, filter, take, slice_get, Option, Some, None, refl, sym, ap, ◌∙◌, subst}
+use Rattle.std.proofs.Common.{◌≡◌, ◌⊎◌, inl, inr, ℕ, ◌<◌, length, arith, suc, zero, Bool, true, false, cond, List, [], ◌∷◌, ◌++◌, map, flat_map, filter, take, slice_get, Option, Some, None, refl, sym, ap, ◌∙◌, subst}
 use Rattle.certificate.specs.RecordUses.{IsAmong}
 
 pub by_cases : {A B P : Type 0} → A ⊎ B → (A → P) → (B → P) → P
@@ -40,6 +40,11 @@ module _ {X : Type 0} where
   at_place x (y ∷ xs) zero h = inl (cc)
   at_place x (y ∷ xs) (suc n) h = inr (at_place x xs n h)
 
+  pub place_below : (x : X) (xs : List X) (n : ℕ) → slice_get xs n ≡ Some x → n < length xs
+  place_below x [] n h = absurd (cc)
+  place_below x (y ∷ xs) zero h = omega arith
+  place_below x (y ∷ xs) (suc n) h = omega (arith, place_below x xs n h)
+
   pub take_next : (n : ℕ) (xs rest : List X) (x : X) → slice_get xs n ≡ Some x → take (suc n) (xs ++ rest) ≡ take n xs ++ x ∷ []
   take_next n [] rest x h = absurd (cc)
   take_next zero (y ∷ xs) rest x h = let e : y ≡ x = cc in ap (λ (z : X). z ∷ []) e
@@ -55,6 +60,10 @@ module _ {X Y : Type 0} (f : X → Y) where
   pub map_parts : (xs ys : List X) → map f (xs ++ ys) ≡ map f xs ++ map f ys
   map_parts [] ys = refl
   map_parts (x ∷ xs) ys = ap (λ (l : List Y). f x ∷ l) (map_parts xs ys)
+
+  pub length_mapped : (xs : List X) → length (map f xs) ≡ length xs
+  length_mapped [] = refl
+  length_mapped (x ∷ xs) = ap (λ (n : ℕ). suc n) (length_mapped xs)
 
   pub in_map : (x : X) (xs : List X) → IsAmong x xs → IsAmong (f x) (map f xs)
   in_map x [] a = absurd a

@@ -1,6 +1,7 @@
 -- A walk over a site, directory by directory.
-use Rattle.std.proofs.Common.{◌≡◌, ◌⊎◌, inl, inr, ℕ, ◌<◌, suc, zero, Bool, true, false, cond, not, ◌&&◌, List, [], ◌∷◌, ◌++◌, map, flat_map, take, slice_get, length, Option, Some, None, Result, Ok, Err, refl, sym, ap, ◌∙◌, subst, append-nil, append_assoc, string_bytes}
+use Rattle.std.proofs.Common.{◌≡◌, ◌⊎◌, inl, inr, ℕ, ◌+◌, ◌<◌, suc, zero, Bool, true, false, cond, not, ◌&&◌, List, [], ◌∷◌, ◌++◌, map, flat_map, take, slice_get, length, get_or, Option, Some, None, Result, Ok, Err, refl, sym, ap, ◌∙◌, subst, append-nil, append_assoc, string_bytes}
 use Rattle.std.specs.List.{list_all}
+use Rattle.std.proofs.lemmas.List.{take_more}
 use Rattle.envvars.specs.Texts.{Text, texts_in}
 use Rattle.envvars.specs.Environment.{Environment}
 use Rattle.envvars.specs.Fields.{without_repeats, are_distinct}
@@ -14,6 +15,8 @@ use Rattle.modulefile.specs.Laws as laws
 use Rattle.modulefile.specs.RecordViews.{record_view}
 use Rattle.modulerun.specs.declared.run.Ran.{Ran}
 use Rattle.modulerun.specs.Running.{ran_view}
+use Rattle.search.specs.ListingEntries.{name_of}
+use Rattle.search.specs.declared.listing_entries.ListingEntry.{ListingEntry}
 use Rattle.requests.specs.Effects as modes
 use Rattle.requests.specs.Records.{Record}
 use Rattle.requests.specs.Reasons.{RequestReason, file_refused}
@@ -64,7 +67,30 @@ one_evaluated site ms m xs x all (outcome, h, k) =
     only p o h (inl e) = subst (λ (q : Evaluated). EvaluatesTo site q.0 q.1) (sym e) h
     only p o h (inr a) = absurd a
 
+-- and one more of the entries of a listing
+pub next_evaluated : (site : Site) (dir : Text) (entries : List ListingEntry) (i : ℕ) (entry : ListingEntry) (name : Text) (old new : List Evaluation) (x : Evaluation) → i < length entries → entry ≡ get_or entries i entry
+    → name ≡ name_of entry → new ≡ old ++ x ∷ [] → AreEvaluationsOf site (map (module_below dir) (map name_of (take i entries))) old → IsEvaluationOf site (module_below dir name) x
+    → AreEvaluationsOf site (map (module_below dir) (map name_of (take (i + 1) entries))) new
+next_evaluated site dir entries i entry name old new x l e named pushed before now =
+    let view : ListingEntry → SiteModule = λ k. module_below dir (name_of k) in
+    let seen : (ks : List ListingEntry) → map (module_below dir) (map name_of ks) ≡ map view ks = twice in
+    let more : take (i + 1) entries ≡ take i entries ++ entry ∷ [] = take_more entries i entry l ∙ ap (λ (k : ListingEntry). take i entries ++ k ∷ []) (sym e) in
+    let modules : map (module_below dir) (map name_of (take (i + 1) entries)) ≡ map (module_below dir) (map name_of (take i entries)) ++ module_below dir name ∷ [] =
+        seen (take (i + 1) entries) ∙ (ap (map view) more ∙ (map_parts view (take i entries) (entry ∷ [])
+        ∙ ap (λ (ms : List SiteModule). ms ++ view entry ∷ []) (sym (seen (take i entries))) ∙ ap (λ (n : Text). map (module_below dir) (map name_of (take i entries)) ++ module_below dir n ∷ []) (sym named))) in
+    subst (λ (ms : List SiteModule). AreEvaluationsOf site ms new) (sym modules)
+    (subst (λ (xs : List Evaluation). AreEvaluationsOf site (map (module_below dir) (map name_of (take i entries)) ++ module_below dir name ∷ []) xs) (sym pushed)
+    (one_evaluated site (map (module_below dir) (map name_of (take i entries))) (module_below dir name) old x before now))
+  where
+    twice : (ks : List ListingEntry) → map (module_below dir) (map name_of ks) ≡ map (λ k. module_below dir (name_of k)) ks
+    twice [] = refl
+    twice (k ∷ ks) = ap (λ (ms : List SiteModule). module_below dir (name_of k) ∷ ms) (twice ks)
+
 -- ---- the directories that evaluated modules add
+
+-- a file that asked nothing is plain by its records
+pub asks_nothing : (ran : Ran) (b : Bool) → ran.asked ≡ false → b ≡ list_all is_reversible (map record_view ran.records.items) → b ≡ is_plain_ran ran
+asks_nothing ran b quiet same = same ∙ ap (λ (a : Bool). not a && list_all is_reversible (map record_view ran.records.items)) (sym quiet)
 
 by_tests : (ran : files.Ran) (m : SiteModule) (a b : Bool)
     → directories_by_plain (plain_by (cond a asked (cond b plain one_way)) m ran.records) ≡ cond (not a && b) (added_directories ran.records) []
