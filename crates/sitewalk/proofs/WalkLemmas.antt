@@ -76,8 +76,8 @@ next_evaluated site dir entries i entry name old new x l e named pushed before n
     let seen : (ks : List ListingEntry) → map (module_below dir) (map name_of ks) ≡ map view ks = twice in
     let more : take (i + 1) entries ≡ take i entries ++ entry ∷ [] = take_more entries i entry l ∙ ap (λ (k : ListingEntry). take i entries ++ k ∷ []) (sym e) in
     let modules : map (module_below dir) (map name_of (take (i + 1) entries)) ≡ map (module_below dir) (map name_of (take i entries)) ++ module_below dir name ∷ [] =
-        seen (take (i + 1) entries) ∙ (ap (map view) more ∙ (map_parts view (take i entries) (entry ∷ [])
-        ∙ ap (λ (ms : List SiteModule). ms ++ view entry ∷ []) (sym (seen (take i entries))) ∙ ap (λ (n : Text). map (module_below dir) (map name_of (take i entries)) ++ module_below dir n ∷ []) (sym named))) in
+    seen (take (i + 1) entries) ∙ (ap (map view) more ∙ (map_parts view (take i entries) (entry ∷ [])
+    ∙ ap (λ (ms : List SiteModule). ms ++ view entry ∷ []) (sym (seen (take i entries))) ∙ ap (λ (n : Text). map (module_below dir) (map name_of (take i entries)) ++ module_below dir n ∷ []) (sym named))) in
     subst (λ (ms : List SiteModule). AreEvaluationsOf site ms new) (sym modules)
     (subst (λ (xs : List Evaluation). AreEvaluationsOf site (map (module_below dir) (map name_of (take i entries)) ++ module_below dir name ∷ []) xs) (sym pushed)
     (one_evaluated site (map (module_below dir) (map name_of (take i entries))) (module_below dir name) old x before now))
@@ -202,15 +202,6 @@ walks_on site place dirs evaluations dir w at = w.directories dir (at_place dir 
 
 module _ (site : Site) (place : ℕ) (dirs last : List Text) (evaluations now : List Evaluation) (dir : Text) (w : IsWalkTo site place dirs evaluations) (at : slice_get dirs place ≡ Some dir)
     (through : GoesThrough site dir dirs last evaluations now) where
-  names : List Text
-  names = through.evaluated.0
-
-  below : AreNamesBelow site dir through.evaluated.0
-  below = through.evaluated.1
-
-  all : AreEvaluationsOf site (map (module_below dir) through.evaluated.0) through.below
-  all = through.evaluated.2
-
   found : last ≡ with_directories dirs (flat_map directories_of through.evaluated.2.outcomes)
   found = through.found ∙ ap (with_directories dirs) (found_same through.below through.evaluated.2.outcomes through.evaluated.2.evaluations)
 

@@ -55,7 +55,7 @@ fn modulepath(env: &Env) -> &str
     }
 }
 
-/// Evaluates each module below a directory, and adds those that the plain ones add to the directories.
+/// Evaluates each module below a directory, and adds to the directories those that the plain ones add.
 ///
 /// Errors: a device that failed; want of memory.
 fn walk_directory<T: Tree, P: Progress>(

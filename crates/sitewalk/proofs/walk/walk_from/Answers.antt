@@ -16,8 +16,8 @@ loop-evaluations-init g c =
     let a = c.args.settings in
     let dirs = map string_bytes c.push_directories.new.dirs.keys in
     let begun = c.in_ok-push_directories.ensures
-        ∙ (ap (λ (ks : List (String Global)). with_directories (map string_bytes ks) (directories c.args.modulepath.now)) c.new-dirs.ensures.empty
-        ∙ ap (λ (t : Text). with_directories [] (directories t)) c.requires.begins) in
+    ∙ (ap (λ (ks : List (String Global)). with_directories (map string_bytes ks) (directories c.args.modulepath.now)) c.new-dirs.ensures.empty
+    ∙ ap (λ (t : Text). with_directories [] (directories t)) c.requires.begins) in
     record {
       reads = record { narrows = λ files listings k. k; counts_failures = omega arith };
       walked = λ files listings k.
@@ -71,4 +71,11 @@ loop-evaluations-preserved g c =
     }
 
 pub returns-clause-walked : goal.returns-clause-walked
-returns-clause-walked g c = ?
+returns-clause-walked g c = λ files listings k.
+    let a = c.args.settings in
+    let place = c.loop-evaluations.place in
+    let dirs = map string_bytes c.loop-evaluations.dirs.keys in
+    let site = site_of a.limits a.env.now files listings in
+    let gone : slice_get dirs place ≡ None = sym c.in_ok-dir.ensures ∙ ap (option_map string_bytes) c.in_default.is in
+    let ends = walk_ends site place dirs c.loop-evaluations.evaluations.items (c.loop-evaluations.invariant.walked files listings k) c.files.ensures.one c.walks.ensures.directories gone in
+    (ends.0, subst (λ (ds : List Text). IsWalk site ds ends.0) (sym c.in_ok-in_order.ensures) ends.1, ends.2)
