@@ -14,7 +14,7 @@ use Rattle.filetree.specs.Modulefiles.{colon, is_empty, directories}
 use Rattle.certificate.specs.RecordUses.{IsAmong, modulepath}
 use Rattle.requests.specs.Records.{Record, Set, Unset, Push, Front, Back, Remove, Conflict, Prereq, Whatis}
 use Rattle.requests.specs.Steps as requests
-use Rattle.sitelaws.specs.Sites.{Site, IsDirectory, first, added, directories_in, directories_by, added_directories}
+use Rattle.sitelaws.specs.Sites.{Site, IsDirectory, first, added, directories_by}
 use Rattle.sitewalk.specs.Parts.{with_directories}
 use Rattle.sitewalk.proofs.AmongLemmas.{by_cases, left_among, right_among, filtered, of_flat_map}
 

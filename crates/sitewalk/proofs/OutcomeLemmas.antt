@@ -1,7 +1,6 @@
 -- Outcomes of evaluations over a tree, by what their parts answered.
-use Rattle.std.proofs.Common.{◌≡◌, Bool, true, false, List, Option, Some, None, Result, Ok, Err, IfErr, refl, sym, ap, ◌∙◌, subst, string_bytes}
+use Rattle.std.proofs.Common.{◌≡◌, true, false, List, Option, Some, None, Result, Ok, Err, IfErr, refl, sym, subst}
 use Rattle.std.specs.Option.{option_map}
-use Rattle.std.proofs.lemmas.Bool.{false≢true}
 use Rattle.envvars.specs.Texts.{Text}
 use Rattle.envvars.specs.Environment.{Environment}
 use Rattle.envloaded.specs.Loaded.{Entry, names_of, loaded_in}
@@ -19,7 +18,7 @@ use Rattle.requests.specs.Steps.{consistent, script_at}
 use Rattle.requeststep.specs.declared.refusal.Refusal.{Refusal}
 use Rattle.requeststep.specs.Answers.{cause_of}
 use Rattle.requeststep.proofs.StepLemmas.{stands_as}
-use Rattle.sitelaws.specs.Sites.{Site, SiteModule, EvaluatesTo, site_of}
+use Rattle.sitelaws.specs.Sites.{SiteModule, EvaluatesTo, site_of}
 use Rattle.sitewalk.specs.Walks.{IsOutcome}
 use Rattle.sitewalk.specs.Parts.{HasLoaded, site_context, ComesTo, ComesToOverTree, is_given_up, GivesUp}
 

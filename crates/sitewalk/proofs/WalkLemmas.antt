@@ -1,12 +1,11 @@
 -- A walk over a site, directory by directory.
-use Rattle.std.proofs.Common.{◌≡◌, ◌⊎◌, inl, inr, ℕ, ◌+◌, ◌<◌, suc, zero, Bool, true, false, cond, not, ◌&&◌, List, [], ◌∷◌, ◌++◌, map, flat_map, take, slice_get, length, get_or, Option, Some, None, Result, Ok, Err, refl, sym, ap, ◌∙◌, subst, append-nil, append_assoc, string_bytes}
+use Rattle.std.proofs.Common.{◌≡◌, inl, inr, ℕ, ◌+◌, ◌<◌, suc, Bool, true, false, cond, not, ◌&&◌, List, [], ◌∷◌, ◌++◌, map, flat_map, take, slice_get, length, get_or, Some, None, Result, Ok, Err, refl, sym, ap, ◌∙◌, subst, append-nil, append_assoc}
 use Rattle.std.specs.List.{list_all}
 use Rattle.std.proofs.lemmas.List.{take_more}
-use Rattle.envvars.specs.Texts.{Text, texts_in}
-use Rattle.envvars.specs.Environment.{Environment}
+use Rattle.envvars.specs.Texts.{Text}
 use Rattle.envvars.specs.Fields.{without_repeats, are_distinct}
 use Rattle.envloaded.proofs.LoadedReadable.{distinct_firsts}
-use Rattle.filetree.specs.Modulefiles.{modulefile, path_of, directories}
+use Rattle.filetree.specs.Modulefiles.{modulefile, path_of}
 use Rattle.filetree.specs.Relations.{IsOne}
 use Rattle.filetree.proofs.OneOutcome.{one_is, one_then}
 use Rattle.modulefile.specs.Files as files
@@ -26,14 +25,14 @@ use Rattle.requests.specs.VariableUses.{is_reversible}
 use Rattle.requests.specs.Verdicts.{Verdict, plain, asked, one_way, verdict_of}
 use Rattle.requeststep.specs.declared.refusal.Refusal.{Refusal}
 use Rattle.certificate.specs.RecordUses.{IsAmong}
-use Rattle.sitelaws.specs.Sites.{Site, SiteModule, Evaluated, EvaluatesTo, HasPlainRecords, IsIn, IsDirectory, first, added, IsClosed, AreDirectories, AreNamesBelow, AreModulesIn, module_below, first_directories, added_directories, over_site, with_records, plain_by, plain_of}
+use Rattle.sitelaws.specs.Sites.{Site, SiteModule, Evaluated, EvaluatesTo, HasPlainRecords, IsIn, IsDirectory, first, added, IsClosed, AreNamesBelow, AreModulesIn, module_below, first_directories, added_directories, over_site, plain_by}
 use Rattle.sitelaws.specs.Laws.{DirectoriesFound}
 use Rattle.sitewalk.specs.declared.walk.Evaluation.{Evaluation}
 use Rattle.sitewalk.specs.declared.walk.TheConstants.{MAX_DIRECTORIES}
-use Rattle.sitewalk.specs.Walks.{directories_by_plain, directories_of, IsWalk, IsOutcome, IsEvaluation, AreEvaluations, HasTooMany}
-use Rattle.sitewalk.specs.Parts.{with_directories, is_plain_ran, directories_after, directories_found, AreEvaluationsOf, AreEvaluationsBelow, IsEvaluationOf, GoesThrough}
+use Rattle.sitewalk.specs.Walks.{directories_by_plain, directories_of, IsWalk, IsOutcome, AreEvaluations, HasTooMany}
+use Rattle.sitewalk.specs.Parts.{with_directories, is_plain_ran, directories_after, directories_found, AreEvaluationsOf, IsEvaluationOf, GoesThrough}
 use Rattle.sitewalk.proofs.AmongLemmas.{by_cases, left_among, right_among, parted, at_place, take_next, take_all_gone, map_parts, in_map, of_map, flat_map_parts, in_flat_map, of_flat_map}
-use Rattle.sitewalk.proofs.DirectoryLemmas.{with-append, once, begins, stays, comes, came}
+use Rattle.sitewalk.proofs.DirectoryLemmas.{with-append, once, begins, comes, came}
 
 -- ---- lists of evaluations
 

@@ -1,9 +1,5 @@
-use Rattle.std.proofs.Common.{List, [], ◌∷◌, ◌++◌, map, take, string_bytes, sym, ap, ◌∙◌, subst, take_all, arith}
-use Rattle.std.proofs.lemmas.List.{take_more}
-use Rattle.envvars.specs.Texts.{Text}
-use Rattle.search.specs.ListingEntries.{name_of}
-use Rattle.search.specs.declared.listing_entries.ListingEntry.{ListingEntry}
-use Rattle.sitelaws.specs.Sites.{SiteModule, site_of, module_below}
+use Rattle.std.proofs.Common.{List, [], sym, subst, arith}
+use Rattle.sitelaws.specs.Sites.{site_of}
 use Rattle.sitewalk.specs.declared.walk.Evaluation.{Evaluation}
 use Rattle.sitewalk.specs.Parts.{AreEvaluationsOf}
 use Rattle.sitewalk.proofs.WalkLemmas.{none_evaluated, next_evaluated}

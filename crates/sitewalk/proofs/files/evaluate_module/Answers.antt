@@ -1,6 +1,5 @@
 use Rattle.std.proofs.Common.{◌<◌, Result, sym, ◌∙◌, subst}
 use Rattle.envvars.specs.Texts.{Text}
-use Rattle.filetree.specs.Modulefiles.{path_of}
 use Rattle.modulerun.specs.declared.run.Ran.{Ran}
 use Rattle.requeststep.specs.declared.refusal.Refusal.{Refusal}
 use Rattle.sitelaws.specs.Sites.{EvaluatesTo, site_of, module_below}

@@ -1,4 +1,4 @@
-use Rattle.std.proofs.Common.{ap, sym, ◌∙◌}
+use Rattle.std.proofs.Common.{ap, ◌∙◌}
 use Rattle.std.specs.List.{list_all}
 use Rattle.modulefile.specs.RecordViews.{record_view}
 use Rattle.requests.specs.VariableUses.{is_reversible}

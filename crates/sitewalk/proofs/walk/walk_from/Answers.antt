@@ -1,4 +1,4 @@
-use Rattle.std.proofs.Common.{◌≡◌, ◌+◌, ◌<◌, ◌≤◌, ℕ, List, [], ◌∷◌, Some, None, Fits, w64, map, length, slice_get, option_map, add-one, string_bytes, String, Global, sym, ap, ◌∙◌, subst, arith, rules}
+use Rattle.std.proofs.Common.{◌≡◌, ◌<◌, List, [], Some, None, map, length, slice_get, option_map, add-one, string_bytes, String, Global, sym, ap, ◌∙◌, subst, arith}
 use Rattle.envvars.specs.Texts.{Text}
 use Rattle.filetree.specs.Modulefiles.{directories}
 use Rattle.sitelaws.specs.Sites.{site_of}
