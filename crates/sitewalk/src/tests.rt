@@ -1,5 +1,5 @@
 //! Walks over small sites, by hand (module(1), MODULEPATH).
-use crate::{Silent, Walk, WalkFault, walk_site};
+use crate::{Progress, Silent, Walk, WalkFault, walk_site};
 use envvars::{Env, EnvFault};
 use filetree::MemoryTree;
 use requeststep::Refusal;
@@ -71,5 +71,37 @@ fn a_module_that_asks_adds_none(rt: HostRuntime) -> Result<(), Fail> {
     tree.put_file("/a/one", asks)?;
     let text = walked(rt.alloc(), &mut tree, "/a:/c:/a")?;
     assert_eq!(rt; text.as_str(), "/a /c /a/one ");
+    Ok(())
+}
+
+/// What a walk said of how far it had come: how often, and its last words.
+#[derive(Drop)]
+struct Heard {
+    times: usize,
+    done: usize,
+    found: usize,
+}
+
+impl Progress for Heard {
+    fn evaluated(&mut self, done: usize, found: usize) {
+        self.times = self.times.wrapping_add(1);
+        self.done = done;
+        self.found = found;
+    }
+}
+
+#[test]
+fn says_how_far_it_has_come(rt: HostRuntime) -> Result<(), Fail> {
+    let mut tree = two_directories(rt.alloc())?;
+    let env = env_with(rt.alloc(), "/a")?;
+    let mut heard = Heard {
+        times: 0,
+        done: 0,
+        found: 0,
+    };
+    let _found = walk_site(rt.alloc(), &env, &mut tree, LIMITS, &mut heard)?;
+    assert_eq!(rt; heard.times, 3);
+    assert_eq!(rt; heard.done, 3);
+    assert_eq!(rt; heard.found, 3);
     Ok(())
 }
