@@ -3,6 +3,13 @@
 //! Used by siteaudit.
 #![tactic(auto)]
 
-mod clashes;
+mod answers;
+mod conflicts;
+mod families;
+mod modules;
+mod names;
+mod table;
+mod users;
+mod ways;
 
-pub use clashes::{Clash, clashes};
+pub use answers::{Clash, clashes};
