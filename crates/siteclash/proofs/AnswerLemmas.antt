@@ -1,5 +1,5 @@
 -- From the users of each variable to what is answered of each module.
-use Rattle.std.proofs.Common.{zero, suc, arith, ◌≡◌, ◌⊎◌, inl, inr, ℕ, ◌+◌, ◌<◌, ◌≤◌, Bool, true, false, ◌&&◌, List, [], ◌∷◌, ◌++◌, map, length, take, get_or, append_assoc, append-nil, refl, sym, ap, ◌∙◌, subst, Option, Some, None}
+use Rattle.std.proofs.Common.{zero, suc, arith, ◌≡◌, inl, inr, ℕ, ◌+◌, ◌<◌, ◌≤◌, Bool, true, false, ◌&&◌, List, [], ◌∷◌, ◌++◌, map, length, take, get_or, append_assoc, append-nil, refl, sym, ap, ◌∙◌, subst, Option}
 use Rattle.std.specs.Prelude.{bytes_eq, string_bytes}
 use Rattle.std.specs.List.{list_any, flat_map}
 use Rattle.std.proofs.lemmas.Bool.{false≢true}
@@ -10,14 +10,13 @@ use Rattle.envvars.proofs.TextLemmas.{same_text}
 use Rattle.reversal.specs.Moves.{Module}
 use Rattle.reversal.specs.VariableUses.{VariableUse}
 use Rattle.certificate.specs.RecordUses.{UsedVariable, used_by, IsAmong}
-use Rattle.certificate.specs.Clashes as clashes
 use Rattle.certificate.specs.Clashes.{exclude, uses_clash}
 use Rattle.certificate.specs.Certificates.{is_other}
 use Rattle.certificate.specs.UseViews.{use_view, used_view}
 use Rattle.certificate.specs.declared.uses.UsedVariable as code
 use Rattle.certificate.proofs.UsedLemmas.{by_test, by_cases, among_left, among_right, among_either}
 use Rattle.siteclash.specs.declared.answers.Clash.{Clash}
-use Rattle.siteclash.specs.Users.{ModuleUse, HasOneMore, Enters, EntersAll, AreUsersOf, IsFoundOf, do_users_clash, uses_of_module, uses_of_modules}
+use Rattle.siteclash.specs.Users.{ModuleUse, Enters, EntersAll, AreUsersOf, do_users_clash, uses_of_module, uses_of_modules}
 use Rattle.siteclash.specs.ClashingUsers.{IsClashBetween}
 use Rattle.siteclash.specs.ClashAnswers.{IsClashOf, ClashesWithNone, IsAnswer, AreAnswers}
 use Rattle.siteclash.proofs.Members.{fails_each}

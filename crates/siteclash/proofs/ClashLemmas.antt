@@ -13,7 +13,7 @@ use Rattle.reversal.specs.Records.{conflict_names}
 use Rattle.reversal.specs.Moves.{Module}
 use Rattle.reversal.specs.VariableUses.{VariableUse, Untouched, Fixed, Pathed, Stacked}
 use Rattle.certificate.specs.RecordUses.{IsAmong}
-use Rattle.certificate.specs.Clashes.{names_in_conflict, exclude, go_together, agree_at_start, uses_clash}
+use Rattle.certificate.specs.Clashes.{names_in_conflict, exclude, go_together, uses_clash}
 use Rattle.certificate.specs.Certificates.{is_other}
 use Rattle.siteclash.specs.Users.{ModuleUse, first_part, do_users_clash, IsClashAmong}
 use Rattle.siteclash.proofs.Members.{among_all, none_passes, any_flat}

@@ -1,19 +1,19 @@
 -- The users of each variable in a map, and one more of them.
-use Rattle.std.proofs.Common.{◌≡◌, Bor, Bool, true, false, cond, List, [], refl, sym, ap, ◌∙◌, subst, Option, Some, None, Result, Ok, Err}
-use Rattle.std.specs.Prelude.{bytes_eq, is_some, OnOk}
-use Rattle.std.specs.Option.{option_map_or, option_map}
+use Rattle.std.proofs.Common.{◌≡◌, Bor, Bool, false, cond, List, [], sym, ap, ◌∙◌, subst, Option, Some}
+use Rattle.std.specs.Prelude.{bytes_eq}
+use Rattle.std.specs.Option.{option_map_or}
 use Rattle.std.specs.HashMap.{UpdatesBy}
 use Rattle.std.proofs.lemmas.Map.Text.{hash_map_updates_str}
 use Rattle.indexmap.specs.IndexMap.{IndexMap, get_by}
 use Rattle.envvars.specs.Texts.{Text}
-use Rattle.envvars.proofs.TextLemmas.{same_text, bytes_eq-same, bytes_eq-symmetric}
+use Rattle.envvars.proofs.TextLemmas.{bytes_eq-symmetric}
 use Rattle.reversal.specs.Moves.{Module}
 use Rattle.certificate.specs.declared.uses.UsedVariable as code
 use Rattle.certificate.specs.UseViews.{used_view}
 use Rattle.std.specs.List.{list_any}
 use Rattle.siteclash.specs.Users.{ModuleUse, HasOneMore, Enters, do_users_clash}
 use Rattle.siteclash.specs.Ways.{users_in}
-use Rattle.siteclash.specs.declared.table.VariableUsers.{VariableUsers}
+use Rattle.siteclash.specs.declared.variables.VariableUsers.{VariableUsers}
 
 -- the users of a variable in the map
 abbrev pub users_of : {S : Type 0} → IndexMap (Bor Text) VariableUsers S → Text → List ModuleUse

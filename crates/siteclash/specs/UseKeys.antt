@@ -1,8 +1,8 @@
 -- The keys of uses in the code, as the definitions see them (own).
 use Rattle.std.specs.Prelude.{Some, None}
 use Rattle.reversal.specs.VariableUses.{VariableUse, Fixed, Pathed, Stacked}
-use Rattle.siteclash.specs.declared.table.UseKey.{UseKey}
-use Rattle.siteclash.specs.declared.table.UseKey.TheVariants as keys
+use Rattle.siteclash.specs.declared.variables.UseKey.{UseKey}
+use Rattle.siteclash.specs.declared.variables.UseKey.TheVariants as keys
 
 -- the use of a key
 abbrev pub key_view : UseKey → VariableUse

@@ -1,5 +1,4 @@
 -- The users of variables in the code, as the definitions see them (own).
-use Rattle.std.specs.Prelude.{map, List}
 use Rattle.requeststep.specs.MoveViews.{module_view}
 use Rattle.certificate.specs.UseViews.{used_view}
 use Rattle.siteclash.specs.Users.{ModuleUse}

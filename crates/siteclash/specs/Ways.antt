@@ -1,9 +1,5 @@
 -- The ways in which a variable is used in the code, as the definitions see them (own).
-use Rattle.std.specs.Prelude.{List, [], flat_map, bytes_eq}
-use Rattle.std.specs.Option.{option_map_or}
-use Rattle.std.specs.Borrow.{Bor}
-use Rattle.envvars.specs.Texts.{Text}
-use Rattle.indexmap.specs.IndexMap.{get_by}
+use Rattle.std.specs.Prelude.{List, flat_map}
 use Rattle.siteclash.specs.Users.{ModuleUse}
 use Rattle.siteclash.specs.Families.{all_members}
 use Rattle.siteclash.specs.declared.ways.Way.{Way}

@@ -9,7 +9,10 @@ mod families;
 mod modules;
 mod names;
 mod table;
+#[cfg(test)]
+mod tests;
 mod users;
+mod variables;
 mod ways;
 
 pub use answers::{Clash, clashes};

@@ -1,5 +1,4 @@
 use Rattle.std.proofs.Common.{◌≡◌, false, take, map}
-use Rattle.siteclash.specs.Users.{IsFoundOf}
 use Rattle.siteclash.specs.Tables.{users_at}
 use Rattle.siteclash.specs.UsingModules.{module_of}
 use Rattle.siteclash.proofs.TableLemmas.{use_of, some_clash}

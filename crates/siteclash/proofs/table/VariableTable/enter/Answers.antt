@@ -3,7 +3,7 @@ use Rattle.std.proofs.lemmas.Result.{on_ok_weaker}
 use Rattle.siteclash.specs.Users.{ModuleUse, HasOneMore}
 use Rattle.siteclash.specs.UserViews.{user_view}
 use Rattle.siteclash.specs.Ways.{users_in}
-use Rattle.siteclash.proofs.TableLemmas.{users_of, user_entered, users_found}
+use Rattle.siteclash.proofs.TableLemmas.{user_entered, users_found}
 use Rattle.siteclash.proofs.table.VariableTable.enter.Goals as goal
 
 pub returns-in-Some : goal.returns-in-Some

@@ -1,5 +1,4 @@
 use Rattle.std.proofs.Common.{map, take}
-use Rattle.certificate.specs.UseViews.{used_view}
 use Rattle.siteclash.specs.Users.{EntersAll}
 use Rattle.siteclash.specs.Tables.{users_at}
 use Rattle.siteclash.specs.UsingModules.{module_of}

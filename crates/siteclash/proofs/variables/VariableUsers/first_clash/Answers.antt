@@ -2,7 +2,7 @@ use Rattle.siteclash.specs.UserViews.{user_view}
 use Rattle.siteclash.specs.Families.{all_members}
 use Rattle.siteclash.specs.declared.ways.Way.{Way}
 use Rattle.siteclash.proofs.ClashLemmas.{found_in_one, none_in_more, none_in_all}
-use Rattle.siteclash.proofs.table.VariableUsers.first_clash.Goals as goal
+use Rattle.siteclash.proofs.variables.VariableUsers.first_clash.Goals as goal
 
 pub loop-way-preserved : goal.loop-way-preserved
 loop-way-preserved c =

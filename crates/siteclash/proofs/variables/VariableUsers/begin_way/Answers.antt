@@ -2,7 +2,7 @@ use Rattle.siteclash.specs.UserViews.{user_view}
 use Rattle.siteclash.specs.Families.{all_members}
 use Rattle.siteclash.specs.declared.ways.Way.{Way}
 use Rattle.siteclash.proofs.Members.{one_of_list}
-use Rattle.siteclash.proofs.table.VariableUsers.begin_way.Goals as goal
+use Rattle.siteclash.proofs.variables.VariableUsers.begin_way.Goals as goal
 
 pub returns : goal.returns
 returns c =

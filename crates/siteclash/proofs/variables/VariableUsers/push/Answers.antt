@@ -2,7 +2,7 @@ use Rattle.siteclash.specs.UserViews.{user_view}
 use Rattle.siteclash.specs.Families.{all_members}
 use Rattle.siteclash.specs.declared.ways.Way.{Way}
 use Rattle.siteclash.proofs.Members.{changed_in_place}
-use Rattle.siteclash.proofs.table.VariableUsers.push.Goals as goal
+use Rattle.siteclash.proofs.variables.VariableUsers.push.Goals as goal
 
 pub returns-in-Some : goal.returns-in-Some
 returns-in-Some c =
