@@ -65,3 +65,12 @@ pub(crate) struct Seeker<'a> {
     ghost named: { (name : Text) → has_name conflicts.now name
         ≡ has name (conflict_names (map record_view user.owner.now.records.items)) },
 }
+
+impl Seeker<'_> {
+    /// Whether a conflict of its module excludes all modules whose names have this first part.
+    pub(crate) fn excludes_family(&self, root: &str) -> bool
+        ensures { result ≡ has root.now (conflict_names (map record_view self.now.user.owner.now.records.items)) }
+    {
+        self.conflicts.contains(root)
+    }
+}

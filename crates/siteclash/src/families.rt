@@ -52,7 +52,7 @@ impl<'a> Family<'a> {
         ensures { IsClashAmong (user_view seeker.now.user) (map user_view self.now.users.items)
             (option_map user_view result) }
     {
-        if seeker.conflicts.contains(self.root) && !uses_clash(true, &seeker.user.used.used, way) {
+        if seeker.excludes_family(self.root) && !uses_clash(true, &seeker.user.used.used, way) {
             return None;
         }
         first_clash_among(seeker.user, self.users.as_slice())

@@ -36,7 +36,9 @@ impl<'a> User<'a> {
 /// A user of a variable, and another with which it clashes.
 #[derive(Clone, Copy)]
 pub(crate) struct ClashingUsers<'a> {
+    /// The user.
     pub(crate) own: User<'a>,
+    /// The other, of another module.
     pub(crate) other: User<'a>,
 }
 

@@ -45,7 +45,7 @@ fn key_of(used: &VariableUse) -> UseKey<'_>
 pub(crate) struct VariableUsers<'a> {
     /// The users, by their ways.
     pub(crate) ways: Vec<Way<'a>>,
-    /// Where the way of each use is.
+    /// Where the way of each use is. Speed alone rests on it: a way that it missed would be begun anew.
     places: IndexMap<UseKey<'a>, usize>,
 }
 
@@ -62,7 +62,7 @@ impl<'a> VariableUsers<'a> {
         Ok(users)
     }
 
-    /// The place of the way of this use.
+    /// The place of a way of this use, if one is known.
     fn place_of(&self, used: &VariableUse) -> Option<usize>
         ensures place { IfSome result (λ place. place < length self.now.ways.items) }
         ensures used { IfSome result (HoldsAt (λ way. use_view used.now ≡ use_view way.used.now) self.now.ways.items) }

@@ -22,7 +22,7 @@ pub(crate) struct Way<'a> {
     pub(crate) used: &'a VariableUse,
     /// The users, by families.
     pub(crate) families: Vec<Family<'a>>,
-    /// Where the family of each first part is.
+    /// Where the family of each first part is. Speed alone rests on it: a family that it missed would be begun anew.
     pub(crate) places: IndexMap<&'a str, usize>,
     ghost alike: { (y : ModuleUse) → IsAmong y (all_members families.items) → y.used.1 ≡ use_view used.now },
 }
@@ -41,7 +41,7 @@ impl<'a> Way<'a> {
         Ok(way)
     }
 
-    /// The place of the family of this first part.
+    /// The place of a family of this first part, if one is known.
     fn place_of(&self, root: &str) -> Option<usize>
         ensures place { IfSome result (λ place. place < length self.now.families.items) }
         ensures root { IfSome result (HoldsAt (λ family. root.now ≡ family.root.now) self.now.families.items) }

@@ -9,7 +9,7 @@ use Rattle.siteclash.proofs.families.Family.first_clash.Goals as goal
 pub returns-then-not-uses_clash : goal.returns-then-not-uses_clash
 returns-then-not-uses_clash c =
     family_passed_over (user_view c.args.seeker.now.user) c.args.self.now.root.now (use_view c.args.way.now) (map user_view c.args.self.now.users.items)
-    (sym (c.args.seeker.now.named c.args.self.now.root.now) ∙ (sym c.contains.ensures ∙ c.if-contains.true))
+    (sym c.excludes_family.ensures ∙ c.if-excludes_family.true)
     (sym c.uses_clash.ensures ∙ c.if-not-uses_clash.true) c.args.self.now.rooted c.requires
 
 pub returns : goal.returns
