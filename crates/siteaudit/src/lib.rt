@@ -4,6 +4,10 @@
 #![tactic(auto)]
 
 mod auditing;
+mod defaults;
+mod folders;
+mod judgement;
+mod names;
 mod standing;
 
 pub use auditing::{AuditedModule, SiteAudit, UnknownNames, audit};
