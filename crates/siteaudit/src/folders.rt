@@ -1,5 +1,6 @@
 //! The folder and the directory of a module, by its name and the path of its file.
 ghost use Rattle.std.specs.Prelude.{◌≡◌, true, MatchOption};
+ghost use Rattle.envvars.specs.Texts.{Text};
 ghost use Rattle.filetree.specs.Modulefiles.{path_of};
 ghost use Rattle.search.specs.Single.{is_single};
 ghost use Rattle.siteaudit.specs.Folders.{IsInFolder};
