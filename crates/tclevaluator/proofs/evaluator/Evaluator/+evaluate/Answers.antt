@@ -1252,3 +1252,9 @@ foreach_turns-new-script-requires-text-text g t c κs = search rules
 
 pub while_turns-new-body-requires-text-text : goal.while_turns-new-body-requires-text-text
 while_turns-new-body-requires-text-text g t c κs = search rules
+
+pub words-fact_in-content : goal.words-fact_in-content
+words-fact_in-content g t c = search rules
+
+pub word-fact_in-parts : goal.word-fact_in-parts
+word-fact_in-parts g t c = search rules
