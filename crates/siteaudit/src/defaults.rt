@@ -1,5 +1,5 @@
 //! Folders of a site whose default files have a fault, so that a search for the folder is refused.
-ghost use Rattle.std.specs.Prelude.{◌≡◌, ◌↔◌, ◌⊎◌, ◌<◌, Some, map, IfOk, IfErr, OnOk, string_bytes};
+ghost use Rattle.std.specs.Prelude.{◌≡◌, ◌↔◌, ◌⊎◌, ◌<◌, ◌++◌, option_to_list, Some, map, IfOk, IfErr, OnOk, string_bytes};
 ghost use Rattle.std.specs.Option.{option_map};
 ghost use Rattle.envvars.specs.Texts.{texts_in};
 ghost use Rattle.filetree.specs.Agreement.{InEachPair, ReadsOn};
@@ -104,6 +104,16 @@ fn bad_default_file<T: Tree>(
     }
 }
 
+/// Adds the path that was found, if one was.
+fn push_found(paths: &mut Vec<String>, found: Option<String>) -> Result<(), AllocError>
+    ensures { OnOk result (texts_in paths.new ≡ texts_in paths.old ++ option_to_list (option_map string_bytes found)) }
+{
+    if let Some(path) = found {
+        paths.push(path)?;
+    }
+    Ok(())
+}
+
 /// The paths of the default files of these folders that have a fault.
 fn bad_in_folders<T: Tree>(
     alloc: Global,
@@ -119,9 +129,8 @@ fn bad_in_folders<T: Tree>(
 {
     let mut paths = Vec::new(alloc);
     for folder in folders {
-        if let Some(path) = bad_default_file(alloc, tree, limits, folder)? {
-            paths.push(path)?;
-        }
+        let found = bad_default_file(alloc, tree, limits, folder)?;
+        push_found(&mut paths, found)?;
     }
     Ok(paths)
 }

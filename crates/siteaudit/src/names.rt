@@ -182,6 +182,22 @@ fn judge_evaluation(
     }
 }
 
+/// What the evaluated modules mention that means no module.
+fn judge_evaluations(
+    alloc: Global,
+    meaning: &IndexSet<String>,
+    evaluations: &[Evaluation],
+) -> Result<Vec<UnknownNames>, AllocError>
+    ensures { IfOk result (λ unknown. map mention_of unknown.items
+        ≡ flat_map (unknown_of (known_in meaning.now.keys)) evaluations.now) }
+{
+    let mut unknown = Vec::new(alloc);
+    for module in evaluations {
+        judge_evaluation(alloc, meaning, module, &mut unknown)?;
+    }
+    Ok(unknown)
+}
+
 /// The names in conflicts and prereqs of which none means one of the modules.
 pub(crate) fn unknown_names(
     alloc: Global,
@@ -191,9 +207,5 @@ pub(crate) fn unknown_names(
         ≡ flat_map (unknown_of (is_known evaluations.now)) evaluations.now) }
 {
     let meaning = meaning_names(alloc, evaluations)?;
-    let mut unknown = Vec::new(alloc);
-    for module in evaluations {
-        judge_evaluation(alloc, &meaning, module, &mut unknown)?;
-    }
-    Ok(unknown)
+    judge_evaluations(alloc, &meaning, evaluations)
 }
