@@ -9,6 +9,8 @@ mod folders;
 mod judgement;
 mod names;
 mod standing;
+#[cfg(test)]
+mod tests;
 
 pub use auditing::{AuditedModule, SiteAudit, UnknownNames, audit};
 pub use certificate::{UsedVariable, VariableUse};
