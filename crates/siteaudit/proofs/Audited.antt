@@ -11,7 +11,7 @@ use Rattle.certificate.specs.UseViews.{used_view}
 use Rattle.sitelaws.specs.Sites.{Site, SiteModule, file_of, ArePlainModules, AreModulesIn, Evaluated, plain_of, AreEvaluated}
 use Rattle.sitelaws.specs.Laws.{ModulesFound, PlainModulesFound, CertificateHolds, SiteSessionsReturn}
 use Rattle.siteclash.specs.ClashAnswers.{AreAnswers}
-use Rattle.siteclash.specs.declared.clashes.Clash.{Clash}
+use Rattle.siteclash.specs.declared.answers.Clash.{Clash}
 use Rattle.sitewalk.specs.declared.walk.Evaluation.{Evaluation}
 use Rattle.sitewalk.specs.declared.walk.Walk.{Walk}
 use Rattle.sitewalk.specs.Walks.{IsWalk, IsWalkAnswer, AreEvaluations}
@@ -42,10 +42,10 @@ evaluated_all : Laws → (site : Site) (dirs : List Text) (outs : List Evaluated
 evaluated_all laws site dirs outs w = record { modules = λ m. laws.modules site dirs (map (λ (o : Evaluated). o.0) outs) w.directories w.modules m; evaluated = w.evaluated }
 
 -- how the modules stand
-record AreJudgedRight (site : Site) (ms : List Module) (outs : List Evaluated) (modules : List AuditedModule) (uses : List UsedVariable) : Type 0 where
+record AreJudgedRight (site : Site) (ms : List Module) (outs : List Evaluated) (modules : List AuditedModule) (found : List UsedVariable) : Type 0 where
   files : map audited_file modules ≡ map (λ (o : Evaluated). o.0) outs
   standing : AllStand site ms modules
-  uses : uses ≡ certificate ms
+  uses : found ≡ certificate ms
   certain : certified_files modules ≡ map file_of (certified ms)
 
 judged_right : Laws → (site : Site) (es : List Evaluation) (outs : List Evaluated) (modules : List AuditedModule) (uses : List UsedVariable) → AreEvaluated site outs → AreEvaluations es outs → AreStandings es modules uses

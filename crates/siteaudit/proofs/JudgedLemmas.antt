@@ -8,7 +8,7 @@ use Rattle.requests.specs.Moves.{Module}
 use Rattle.requeststep.specs.MoveViews.{module_view}
 use Rattle.certificate.specs.RecordUses.{UsedVariable, used_by, used_by_modules}
 use Rattle.siteaudit.specs.declared.standing.Finding.{Finding}
-use Rattle.siteclash.specs.declared.clashes.Clash.{Clash}
+use Rattle.siteclash.specs.declared.answers.Clash.{Clash}
 use Rattle.sitewalk.specs.declared.walk.Evaluation.{Evaluation}
 use Rattle.siteaudit.specs.declared.judgement.Judged.{Judged}
 use Rattle.siteaudit.specs.Findings.{Shown, IsFinding, IsShown, judged_of, steps_in, AreJudged, without_clash, without_clashes}

@@ -27,7 +27,7 @@ use Rattle.certificate.proofs.UsedLemmas.{by_test, by_cases}
 use Rattle.sitelaws.specs.Sites.{Site, SiteModule, file_of, with_records, EvaluatesTo, HasPlainRecords, IsOfSite, ArePlainModules, Evaluated, plain_by, plain_of}
 use Rattle.sitelaws.specs.Standings.{IsFirstOneWay, IsUsedTwice, ClashesWith}
 use Rattle.siteclash.specs.ClashAnswers.{IsAnswer, AreAnswers}
-use Rattle.siteclash.specs.declared.clashes.Clash.{Clash}
+use Rattle.siteclash.specs.declared.answers.Clash.{Clash}
 use Rattle.sitewalk.specs.declared.walk.Evaluation.{Evaluation}
 use Rattle.sitewalk.specs.Walks.{IsOutcome, IsEvaluation, AreEvaluations}
 use Rattle.siteaudit.specs.declared.standing.Standing.{Standing}
@@ -193,39 +193,37 @@ tests_true : CertifiedAreExact → (ms : List Module) (m : Module) → IsCertifi
 tests_true exact ms m k = (filtered (certain_test ms) ms m ((exact ms m).1 k)).1
 
 tests_false : CertifiedAreExact → (ms : List Module) (m : Module) → IsAmong m ms → (IsCertified ms m → ⊥) → certain_test ms m ≡ false
-tests_false exact ms m a no = by_test (certain_test ms m) _
-    (λ t. absurd (no ((exact ms m).0 (in_filter (certain_test ms) ms m a t))))
+tests_false exact ms m a uncertain = by_test (certain_test ms m) _
+    (λ t. absurd (uncertain ((exact ms m).0 (in_filter (certain_test ms) ms m a t))))
     (λ f. f)
 
 out_of_step : (ms : List Module) (m : Module) → is_in_step m ≡ false → certain_test ms m ≡ false
 out_of_step ms m f = rw f refl
 
+-- A module in step with its answer, before the others.
+unclashed_first : CertifiedAreExact → (all ms : List Module) (m : Module) (answers : List (Option Clash)) → IsAmong m all → is_in_step m ≡ true → AreAnswers (in_step_of all) (m ∷ in_step_of ms) answers
+    → ((left : List (Option Clash)) → AreAnswers (in_step_of all) (in_step_of ms) left → without_clashes (in_step_of ms) left ≡ filter (certain_test all) ms)
+    → without_clashes (in_step_of (m ∷ ms)) answers ≡ filter (certain_test all) (m ∷ ms)
+unclashed_first exact all ms m [] a t h rest = absurd h
+unclashed_first exact all ms m (None ∷ answers) a t h rest =
+    let p : certain_test all m ≡ true = tests_true exact all m (certain exact all m a t h.0) in
+    ap (λ (l : List Module). without_clashes l (None ∷ answers)) (sym (kept_step m ms t))
+    ∙ (ap (λ (l : List Module). m ∷ l) (rest answers h.1) ∙ sym (ap (λ (b : Bool). cond b (m ∷ filter (certain_test all) ms) (filter (certain_test all) ms)) p))
+unclashed_first exact all ms m (Some clash ∷ answers) a t h rest =
+    let p : certain_test all m ≡ false = tests_false exact all m a (clashing exact all m clash h.0) in
+    ap (λ (l : List Module). without_clashes l (Some clash ∷ answers)) (sym (kept_step m ms t))
+    ∙ (rest answers h.1 ∙ sym (ap (λ (b : Bool). cond b (m ∷ filter (certain_test all) ms) (filter (certain_test all) ms)) p))
+
 -- The modules whose answers are that they clash with none are the certified ones.
 unclashed : CertifiedAreExact → (all ms : List Module) (answers : List (Option Clash)) → ((m : Module) → IsAmong m ms → IsAmong m all) → AreAnswers (in_step_of all) (in_step_of ms) answers
     → without_clashes (in_step_of ms) answers ≡ filter (certain_test all) ms
-unclashed exact all [] answers within h = none answers
-  where
-    none : (left : List (Option Clash)) → without_clashes [] left ≡ []
-    none left = refl
+unclashed exact all [] answers within h = refl
 unclashed exact all (m ∷ ms) answers within h = by_test (is_in_step m) _
-    (λ t. kept t answers (subst (λ (l : List Module). AreAnswers (in_step_of all) l answers) (sym (kept_step m ms t)) h))
+    (λ t. unclashed_first exact all ms m answers (within m (inl refl)) t (subst (λ (l : List Module). AreAnswers (in_step_of all) l answers) (sym (kept_step m ms t)) h)
+    (λ left k. unclashed exact all ms left (λ n a. within n (inr a)) k))
     (λ f. ap (λ (l : List Module). without_clashes l answers) (sym (left_step m ms f))
     ∙ (unclashed exact all ms answers (λ n a. within n (inr a)) (subst (λ (l : List Module). AreAnswers (in_step_of all) l answers) (sym (left_step m ms f)) h)
     ∙ sym (ap (λ (b : Bool). cond b (m ∷ filter (certain_test all) ms) (filter (certain_test all) ms)) (out_of_step all m f))))
-  where
-    rest : (answers : List (Option Clash)) → AreAnswers (in_step_of all) (in_step_of ms) answers → without_clashes (in_step_of ms) answers ≡ filter (certain_test all) ms
-    rest answers h = unclashed exact all ms answers (λ n a. within n (inr a)) h
-
-    kept : is_in_step m ≡ true → (answers : List (Option Clash)) → AreAnswers (in_step_of all) (m ∷ in_step_of ms) answers → without_clashes (in_step_of (m ∷ ms)) answers ≡ filter (certain_test all) (m ∷ ms)
-    kept t [] h = absurd h
-    kept t (None ∷ answers) h =
-        let p : certain_test all m ≡ true = tests_true exact all m (certain exact all m (within m (inl refl)) t h.0) in
-        ap (λ (l : List Module). without_clashes l (None ∷ answers)) (sym (kept_step m ms t))
-        ∙ (ap (λ (l : List Module). m ∷ l) (rest answers h.1) ∙ sym (ap (λ (b : Bool). cond b (m ∷ filter (certain_test all) ms) (filter (certain_test all) ms)) p))
-    kept t (Some clash ∷ answers) h =
-        let p : certain_test all m ≡ false = tests_false exact all m (within m (inl refl)) (clashing exact all m clash h.0) in
-        ap (λ (l : List Module). without_clashes l (Some clash ∷ answers)) (sym (kept_step m ms t))
-        ∙ (rest answers h.1 ∙ sym (ap (λ (b : Bool). cond b (m ∷ filter (certain_test all) ms) (filter (certain_test all) ms)) p))
 
 pub certified_are : CertifiedAreExact → (ms : List Module) (answers : List (Option Clash)) → AreAnswers (in_step_of ms) (in_step_of ms) answers → without_clashes (in_step_of ms) answers ≡ certified ms
 certified_are exact ms answers h = unclashed exact ms ms answers (λ m a. a) h

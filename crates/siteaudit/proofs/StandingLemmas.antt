@@ -55,7 +55,7 @@ pub first_within : {X : Type 0} (q : X → Bool) (xs : List X) (j : ℕ) → pos
 first_within q xs j e = let i = first_from q xs 0 j (sym (position_from-zero (λ x. not (q x)) xs) ∙ e) in omega (arith, i.inside)
 
 pub first_found : {X : Type 0} (q : X → Bool) (xs : List X) (j : ℕ) (r : X) → position (λ x. not (q x)) xs ≡ Some j → r ≡ get_or xs j r → find (λ x. not (q x)) xs ≡ Some r
-first_found q xs j r e h = (first_from q xs 0 j (sym (position_from-zero (λ x. not (q x)) xs) ∙ e)).found r h
+first_found q xs j r e h = (first_from q xs 0 j (sym (position_from-zero (λ x. not (q x)) xs) ∙ e)).found r (let z : j - 0 ≡ j = omega arith in subst (λ (k : ℕ). r ≡ get_or xs k r) (sym z) h)
 
 pub found_seen : {X Y : Type 0} (q : Y → Bool) (view : X → Y) (xs : List X) (r : X) → find (λ x. not (q (view x))) xs ≡ Some r → find (λ y. not (q y)) (map view xs) ≡ Some (view r)
 found_seen q view [] r e = absurd (cc)

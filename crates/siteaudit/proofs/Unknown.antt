@@ -179,15 +179,18 @@ of_outcome : (known : Text → Bool) (m : SiteModule) (outcome : Result code.Ran
 of_outcome known m (Ok ran) out mention o a = record { ran = ran_view ran o.0; accepted = o.1; of_it = of_records known m (map record_view ran.records.items) mention a }
 of_outcome known m (Err refusal) out mention o a = absurd a
 
-ok_is : (a b : Ran) → Ok a ≡ Ok b → a ≡ b
+ok_is : (a b : Ran) → ◌≡◌ {A = Result Ran RequestReason} (Ok a) (Ok b) → a ≡ b
 ok_is a b e = cc
+
+refused_is : (reason : RequestReason) (a : Ran) → ◌≡◌ {A = Result Ran RequestReason} (Err reason) (Ok a) → ⊥
+refused_is reason a e = cc
 
 in_outcome : (known : Text → Bool) (m : SiteModule) (outcome : Result code.Ran Refusal) (out : Result Ran RequestReason) (ran : Ran) (b : Bool) (names : List Text) → IsOutcome outcome out → out ≡ Ok ran
     → AreMentioned ran.records b names → list_any known names ≡ false → IsAmong (record { by = m; is_prereq = b; names = names }) (unknown_after known m outcome)
 in_outcome known m (Ok done) out ran b names o e a f =
     let same : ran_view done o.0 ≡ ran = ok_is (ran_view done o.0) ran (sym o.1 ∙ e) in
     in_records known m (map record_view done.records.items) b names (subst (λ (r : Ran). AreMentioned r.records b names) (sym same) a) f
-in_outcome known m (Err refusal) out ran b names o e a f = absurd (let k : Err o.0 ≡ Ok ran = sym o.2 ∙ e in cc)
+in_outcome known m (Err refusal) out ran b names o e a f = absurd (refused_is o.0 ran (sym o.2 ∙ e))
 
 -- ---- all modules
 

@@ -14,7 +14,7 @@ use Rattle.certificate.specs.RecordUses.{UsedVariable, used_by, used_by_modules,
 use Rattle.certificate.specs.UseViews.{use_view}
 use Rattle.sitelaws.specs.Sites.{SiteModule, with_records}
 use Rattle.sitelaws.specs.Standings.{IsFirstOneWay, IsUsedTwice}
-use Rattle.siteclash.specs.declared.clashes.Clash.{Clash}
+use Rattle.siteclash.specs.declared.answers.Clash.{Clash}
 use Rattle.siteclash.specs.ClashAnswers.{AreAnswers}
 use Rattle.sitewalk.specs.declared.walk.Evaluation.{Evaluation}
 use Rattle.siteaudit.specs.declared.standing.UnlikeUses.{UnlikeUses}

@@ -16,7 +16,7 @@ use certificate::UsedVariable;
 use envvars::Env;
 use filetree::Tree;
 use requeststep::Refusal;
-use sitewalk::{Evaluation, Progress, Walk, WalkFault, walk};
+use sitewalk::{Evaluation, Progress, Walk, WalkFault, walk_site};
 use startcheck::{Disagreement, disagreements};
 use std::alloc::Global;
 use tclrules::Limits;
@@ -126,9 +126,6 @@ pub fn audit<T: Tree, P: Progress>(
     let Walk {
         directories: _,
         evaluations,
-    } = walk(alloc, env, tree, limits, progress)?;
-    match audit_evaluations(alloc, env, tree, limits, evaluations) {
-        Ok(found) => Ok(found),
-        Err(refusal) => Err(WalkFault::Refused(refusal)),
-    }
+    } = walk_site(alloc, env, tree, limits, progress)?;
+    Ok(audit_evaluations(alloc, env, tree, limits, evaluations)?)
 }

@@ -1,5 +1,6 @@
 //! How each module of a site stands: whether it is certified, and else why it is not.
-ghost use Rattle.std.specs.Prelude.{◌≡◌, true, false, not, ◌++◌, find, map, position, IfOk, MatchOption};
+ghost use Rattle.std.specs.Prelude.{◌≡◌, true, false, not, ◌++◌, find, map, position, string_bytes, IfOk, MatchOption};
+ghost use Rattle.std.specs.List.{list_all};
 ghost use Rattle.std.specs.Option.{option_map};
 ghost use Rattle.envvars.specs.Fields.{colon};
 ghost use Rattle.modulefile.specs.RecordViews.{record_view};
