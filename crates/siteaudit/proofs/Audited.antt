@@ -1,6 +1,6 @@
 -- The parts of an audit, by the evaluations of a walk over a site, are an audit of the site.
-use Rattle.std.proofs.Common.{◌≡◌, inr, List, map, filter, Option, refl, ap, sym, ◌∙◌, subst}
-use Rattle.std.specs.Prelude.{◌↔◌, filter_map, flat_map}
+use Rattle.std.proofs.Common.{◌≡◌, List, map, filter, ap, sym, ◌∙◌, subst}
+use Rattle.std.specs.Prelude.{filter_map, flat_map}
 use Rattle.envvars.specs.Texts.{Text, texts_in}
 use Rattle.modulefile.specs.Laws as files
 use Rattle.requests.specs.Moves.{Module}
@@ -8,19 +8,15 @@ use Rattle.certificate.specs.RecordUses.{UsedVariable, IsAmong, used_by_modules,
 use Rattle.certificate.specs.Certificates.{certified, certificate}
 use Rattle.certificate.specs.Laws.{CertifiedAreExact}
 use Rattle.certificate.specs.UseViews.{used_view}
-use Rattle.sitelaws.specs.Sites.{Site, SiteModule, file_of, ArePlainModules, AreModulesIn, Evaluated, plain_of, AreEvaluated}
+use Rattle.sitelaws.specs.Sites.{Site, file_of, AreModulesIn, Evaluated, plain_of, AreEvaluated}
 use Rattle.sitelaws.specs.Laws.{ModulesFound, PlainModulesFound, CertificateHolds, SiteSessionsReturn}
 use Rattle.siteclash.specs.ClashAnswers.{AreAnswers}
-use Rattle.siteclash.specs.declared.answers.Clash.{Clash}
 use Rattle.sitewalk.specs.declared.walk.Evaluation.{Evaluation}
-use Rattle.sitewalk.specs.declared.walk.Walk.{Walk}
-use Rattle.sitewalk.specs.Walks.{IsWalk, IsWalkAnswer, AreEvaluations}
+use Rattle.sitewalk.specs.Walks.{IsWalk, AreEvaluations}
 use Rattle.siteaudit.specs.declared.auditing.AuditedModule.{AuditedModule}
-use Rattle.siteaudit.specs.declared.auditing.SiteAudit.{SiteAudit}
-use Rattle.siteaudit.specs.Audits.{Mention, mention_of, audited_file, AllStand, certified_files, IsBadDefaultFile, IsUnknown, IsAudit, CertificateStands}
+use Rattle.siteaudit.specs.Audits.{audited_file, AllStand, certified_files}
 use Rattle.siteaudit.specs.Findings.{Shown, judged_of, steps_in, settled, without_clashes, AreStandings}
-use Rattle.siteaudit.specs.Mentions.{is_known, unknown_of}
-use Rattle.siteaudit.specs.Parts.{AreParts, PartsAreAudits}
+use Rattle.siteaudit.specs.Parts.{PartsAreAudits}
 use Rattle.siteaudit.proofs.AmongLemmas.{among_map}
 use Rattle.siteaudit.proofs.Settled.{IsJudging, steps_are, certified_are, all_stand, files_are, certified_files_are}
 use Rattle.siteaudit.proofs.Unknown.{of_all, in_all}

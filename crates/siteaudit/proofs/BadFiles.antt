@@ -1,11 +1,9 @@
 -- Default files with a fault, in the folders of the modules of a site.
-use Rattle.std.proofs.Common.{◌≡◌, List, refl, ap, sym, ◌∙◌, subst, string_bytes}
-use Rattle.std.specs.Prelude.{◌↔◌}
+use Rattle.std.proofs.Common.{◌≡◌, List, refl, sym, ◌∙◌, subst}
 use Rattle.envvars.specs.Texts.{Text}
 use Rattle.filetree.specs.Modulefiles.{path_of}
 use Rattle.search.specs.Listed.{IsBelow}
-use Rattle.certificate.specs.RecordUses.{IsAmong}
-use Rattle.sitelaws.specs.Sites.{Site, SiteModule, module_below, IsDirectory, IsOfSite, Evaluated, AreEvaluated}
+use Rattle.sitelaws.specs.Sites.{Site, SiteModule, module_below, IsDirectory, Evaluated, AreEvaluated}
 use Rattle.sitewalk.specs.declared.walk.Evaluation.{Evaluation}
 use Rattle.sitewalk.specs.Walks.{AreEvaluations}
 use Rattle.siteaudit.specs.Audits.{IsBadDefaultFile}

@@ -1,17 +1,15 @@
 -- The evaluations of the code and the outcomes that they stand for: the same modules, in the same order.
-use Rattle.std.proofs.Common.{◌≡◌, ◌⊎◌, inl, inr, false, List, [], ◌∷◌, map, Result, Ok, Err, refl, ap, sym, ◌∙◌, subst}
-use Rattle.std.specs.Prelude.{◌↔◌}
+use Rattle.std.proofs.Common.{◌≡◌, inl, inr, false, List, [], ◌∷◌, Result, refl, ap, sym, ◌∙◌, subst}
 use Rattle.filetree.specs.Modulefiles.{modulefile}
 use Rattle.filetree.specs.Relations.{IsOne}
 use Rattle.filetree.proofs.OneOutcome.{one_is, one_then}
 use Rattle.requests.specs.Effects as modes
-use Rattle.modulefile.specs.Files.{Ran, RunsFile}
+use Rattle.modulefile.specs.Files.{RunsFile}
 use Rattle.modulefile.specs.Laws as files
 use Rattle.requests.specs.Refusals.{refused_as, RefusedAs}
 use Rattle.requests.specs.Reasons.{file_refused}
 use Rattle.requests.specs.Steps.{entries_of, script_at, context_of}
 use Rattle.certificate.specs.RecordUses.{IsAmong}
-use Rattle.certificate.proofs.UsedLemmas.{by_cases}
 use Rattle.sitelaws.specs.Sites.{Site, SiteModule, over_site, EvaluatesTo, IsOfSite, Evaluated, AreEvaluated}
 use Rattle.sitewalk.specs.declared.walk.Evaluation.{Evaluation}
 use Rattle.sitewalk.specs.Walks.{IsEvaluation, AreEvaluations}

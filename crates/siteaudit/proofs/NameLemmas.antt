@@ -1,14 +1,13 @@
 -- Which names mean a module.
-use Rattle.std.proofs.Common.{◌≡◌, ◌⊎◌, inl, inr, ℕ, ◌==◌, Bool, true, false, cond, not, ◌&&◌, ◌||◌, List, [], ◌∷◌, ◌++◌, map, String, Global, string_bytes, refl, sym, ap, ◌∙◌, subst}
+use Rattle.std.proofs.Common.{◌≡◌, Bool, true, false, cond, ◌&&◌, ◌||◌, List, [], ◌∷◌, ◌++◌, map, String, Global, string_bytes, refl, sym, ap, ◌∙◌, subst}
 use Rattle.std.specs.Prelude.{bytes_eq}
 use Rattle.std.specs.List.{list_any}
 use Rattle.std.specs.String.{string_eq}
-use Rattle.std.proofs.lemmas.Bool.{false≢true}
 use Rattle.std.proofs.lemmas.List.{map-append}
 use Rattle.indexmap.specs.IndexSet.{insert_key}
 use Rattle.modulename.specs.ModuleName.{means}
 use Rattle.envvars.specs.Texts.{Text, has}
-use Rattle.envvars.proofs.TextLemmas.{same_text, bytes_eq-same, bytes_eq-symmetric, has-push}
+use Rattle.envvars.proofs.TextLemmas.{same_text, bytes_eq-symmetric, has-push}
 use Rattle.filetree.specs.Modulefiles.{path_of}
 use Rattle.search.specs.Single.{is_single}
 use Rattle.siteaudit.specs.Mentions.{known_in}

@@ -1,41 +1,37 @@
 -- How modules stand by what each shows by itself, and by what is answered of clashes.
-use Rattle.std.proofs.Common.{◌≡◌, ◌⊎◌, inl, inr, Bool, true, false, cond, not, ◌&&◌, ◌||◌, List, [], ◌∷◌, ◌++◌, map, filter, find, Option, Some, None, Result, Ok, Err, refl, ap, sym, ◌∙◌, subst, string_bytes}
+use Rattle.std.proofs.Common.{◌≡◌, inl, inr, Bool, true, false, cond, not, ◌&&◌, List, [], ◌∷◌, ◌++◌, map, filter, find, Option, Some, None, Result, Ok, Err, refl, ap, sym, ◌∙◌, subst}
 use Rattle.std.specs.Prelude.{bytes_eq, filter_map, flat_map}
-use Rattle.std.specs.List.{list_all, list_any, cons_option, AllByRecursion}
+use Rattle.std.specs.List.{list_all, cons_option, AllByRecursion}
 use Rattle.std.specs.Option.{option_eq}
-use Rattle.std.proofs.lemmas.Bool.{false≢true, and_parts, and_from, eq-eqb}
-use Rattle.envvars.specs.Environment.{Environment}
+use Rattle.std.proofs.lemmas.Bool.{false≢true, and_parts, and_from}
 use Rattle.envvars.specs.Texts.{Text}
 use Rattle.envvars.specs.Fields.{colon}
 use Rattle.envvars.proofs.TextLemmas.{bytes_eq-same}
-use Rattle.filetree.specs.Causes.{because}
 use Rattle.modulefile.specs.Files.{Ran}
 use Rattle.modulefile.specs.RecordViews.{record_view}
 use Rattle.modulerun.specs.declared.run.Ran as code
 use Rattle.modulerun.specs.Running.{ran_view}
 use Rattle.requests.specs.Records.{Record}
 use Rattle.requests.specs.Moves.{Module}
-use Rattle.requests.specs.VariableUses.{VariableUse, Untouched, Fixed, Pathed, Stacked, is_reversible}
+use Rattle.requests.specs.VariableUses.{VariableUse, Pathed, is_reversible}
 use Rattle.requests.specs.Reasons.{RequestReason}
-use Rattle.requests.specs.Verdicts.{plain, asked, one_way, verdict_of}
-use Rattle.requeststep.specs.Answers.{cause_of}
+use Rattle.requests.specs.Verdicts.{plain, asked, one_way}
 use Rattle.requeststep.specs.declared.refusal.Refusal.{Refusal}
 use Rattle.certificate.specs.RecordUses.{UsedVariable, used_by, IsAmong, modulepath, same_use, use_alike, are_in_step, is_in_step, IsInStep}
 use Rattle.certificate.specs.Certificates.{is_other, IsCertified, clashes_among, certified}
 use Rattle.certificate.specs.Laws.{CertifiedAreExact}
 use Rattle.certificate.proofs.UsedLemmas.{by_test, by_cases}
 use Rattle.sitelaws.specs.Sites.{Site, SiteModule, file_of, with_records, EvaluatesTo, HasPlainRecords, IsOfSite, ArePlainModules, Evaluated, plain_by, plain_of}
-use Rattle.sitelaws.specs.Standings.{IsFirstOneWay, IsUsedTwice, ClashesWith}
+use Rattle.sitelaws.specs.Standings.{IsUsedTwice}
 use Rattle.siteclash.specs.ClashAnswers.{IsAnswer, AreAnswers}
 use Rattle.siteclash.specs.declared.answers.Clash.{Clash}
-use Rattle.sitewalk.specs.declared.walk.Evaluation.{Evaluation}
-use Rattle.sitewalk.specs.Walks.{IsOutcome, IsEvaluation, AreEvaluations}
+use Rattle.sitewalk.specs.Walks.{IsOutcome, AreEvaluations}
 use Rattle.siteaudit.specs.declared.standing.Standing.{Standing}
 use Rattle.siteaudit.specs.declared.standing.Standing.TheVariants.{Certified, Asks, OneWay, OutOfStep, Clashes, Refused}
 use Rattle.siteaudit.specs.declared.standing.Finding.{Finding}
 use Rattle.siteaudit.specs.declared.standing.Finding.TheVariants.{Stands, InStep}
 use Rattle.siteaudit.specs.Audits.{StandsAs, audited_file, AllStand, is_certified, certified_files}
-use Rattle.siteaudit.specs.Findings.{IsDecided, IsFindingOf, IsFinding, standing_of, steps_of, evaluated_file, Shown, judged_of, steps_in, IsShown, standing_by, standing_with, answers_left, module_with, settled, without_clash, without_clashes}
+use Rattle.siteaudit.specs.Findings.{IsFindingOf, IsFinding, standing_of, steps_of, evaluated_file, Shown, judged_of, steps_in, IsShown, standing_by, standing_with, answers_left, settled, without_clashes}
 use Rattle.siteaudit.proofs.Evaluations.{same_file}
 
 -- ---- tests

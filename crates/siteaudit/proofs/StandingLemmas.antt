@@ -1,22 +1,20 @@
 -- What a module shows by itself: its first record that unloading doesn't undo, and uses that differ.
-use Rattle.std.proofs.Common.{◌≡◌, ◌⊎◌, inl, inr, ℕ, ◌+◌, ◌-◌, ◌<◌, ◌≤◌, Bool, true, false, cond, not, ◌&&◌, ◌||◌, List, [], ◌∷◌, ◌++◌, map, find, length, get_or, take, take_all, Option, Some, None, Bor, refl, sym, ap, ◌∙◌, subst, arith, zero, suc, string_bytes}
-use Rattle.std.specs.Prelude.{bytes_eq, position, MatchOption}
+use Rattle.std.proofs.Common.{◌≡◌, inl, inr, ℕ, ◌+◌, ◌-◌, ◌<◌, ◌≤◌, Bool, true, false, not, ◌&&◌, ◌||◌, List, [], ◌∷◌, ◌++◌, map, find, length, get_or, take, Some, None, refl, sym, ap, ◌∙◌, subst, arith, zero, suc, string_bytes}
+use Rattle.std.specs.Prelude.{bytes_eq, position}
 use Rattle.std.specs.List.{list_all, position_from}
-use Rattle.std.specs.Option.{option_map}
 use Rattle.std.proofs.lemmas.Bool.{false≢true, and_parts, and_from}
 use Rattle.std.proofs.lemmas.Iterator.Adapters.{position_from-zero}
 use Rattle.std.proofs.lemmas.List.{map-append}
-use Rattle.envvars.specs.Texts.{Text}
 use Rattle.envvars.specs.Fields.{colon}
-use Rattle.envvars.proofs.TextLemmas.{same_text, bytes_eq-same}
+use Rattle.envvars.proofs.TextLemmas.{same_text}
 use Rattle.requests.specs.VariableUses.{VariableUse, Pathed}
 use Rattle.certificate.specs.declared.uses.UsedVariable as code
-use Rattle.certificate.specs.RecordUses.{UsedVariable, IsAmong, modulepath, same_use, use_alike, are_in_step}
+use Rattle.certificate.specs.RecordUses.{UsedVariable, IsAmong, modulepath, same_use, use_alike}
 use Rattle.certificate.specs.UseViews.{use_view, used_view}
-use Rattle.certificate.proofs.UsedLemmas.{by_test, by_cases}
+use Rattle.certificate.proofs.UsedLemmas.{by_test}
 use Rattle.siteaudit.specs.declared.standing.UnlikeUses.{UnlikeUses}
 use Rattle.siteaudit.specs.Findings.{AreUnlike}
-use Rattle.siteaudit.proofs.AmongLemmas.{among_map, taken}
+use Rattle.siteaudit.proofs.AmongLemmas.{taken}
 
 -- ---- the first that fails a test
 

@@ -1,6 +1,5 @@
 -- The names that modules mention and that mean no module of the site.
-use Rattle.std.proofs.Common.{◌≡◌, ◌⊎◌, inl, inr, Bool, true, false, cond, List, [], ◌∷◌, ◌++◌, map, flat_map, Result, Ok, Err, refl, ap, sym, ◌∙◌, subst, string_bytes}
-use Rattle.std.specs.Prelude.{◌↔◌}
+use Rattle.std.proofs.Common.{◌≡◌, inl, inr, Bool, true, false, List, [], ◌∷◌, map, flat_map, Result, Ok, Err, refl, ap, sym, ◌∙◌, subst, string_bytes}
 use Rattle.std.specs.List.{list_any}
 use Rattle.std.proofs.lemmas.Bool.{false≢true}
 use Rattle.modulename.specs.ModuleName.{means}

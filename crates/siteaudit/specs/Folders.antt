@@ -1,5 +1,5 @@
 -- The folders in which the modules of a site are: for this crate's own contracts alone.
-use Rattle.std.specs.Prelude.{◌≡◌, ◌↔◌, true, List, map, Option, Some, Err, string_bytes}
+use Rattle.std.specs.Prelude.{◌≡◌, ◌↔◌, true, List, Option, Some, Err, string_bytes}
 use Rattle.envvars.specs.Texts.{Text}
 use Rattle.tclrules.specs.declared.limits.Limits.{Limits}
 use Rattle.filetree.specs.Agreement.{Files, Listings}

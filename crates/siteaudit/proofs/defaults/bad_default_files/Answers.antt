@@ -1,8 +1,7 @@
-use Rattle.std.proofs.Common.{◌≡◌, map, subst, List}
+use Rattle.std.proofs.Common.{map}
 use Rattle.std.specs.Prelude.{◌↔◌}
 use Rattle.std.proofs.lemmas.Result.{IfOk-weaker}
 use Rattle.certificate.specs.RecordUses.{IsAmong}
-use Rattle.siteaudit.specs.declared.defaults.Folder.{Folder}
 use Rattle.siteaudit.specs.Folders.{FolderText, folder_view, HoldsOneOf}
 use Rattle.siteaudit.proofs.defaults.bad_default_files.Goals as goal
 

@@ -1,7 +1,7 @@
 use Rattle.std.proofs.Common.{string_bytes, ◌≡◌, ◌∙◌, sym, ap, subst}
 use Rattle.envvars.specs.Texts.{Text}
 use Rattle.filetree.specs.Modulefiles.{path_of}
-use Rattle.siteaudit.specs.Folders.{FolderText, folder_view, IsInFolder}
+use Rattle.siteaudit.specs.Folders.{IsInFolder}
 use Rattle.siteaudit.proofs.FolderLemmas.{found_folder}
 use Rattle.siteaudit.proofs.defaults.folder_with.Goals as goal
 

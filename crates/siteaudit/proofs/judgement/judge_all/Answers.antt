@@ -1,4 +1,4 @@
-use Rattle.std.proofs.Common.{◌≡◌, ◌∷◌, [], ◌++◌, map, List, append_assoc, ap, ◌∙◌, sym}
+use Rattle.std.proofs.Common.{◌∷◌, [], ◌++◌, map, List, append_assoc, ap, ◌∙◌, sym}
 use Rattle.std.specs.Vec.Iter.{into_iter_items}
 use Rattle.requeststep.specs.MoveViews.{module_view}
 use Rattle.sitewalk.specs.declared.walk.Evaluation.{Evaluation}
