@@ -32,8 +32,8 @@ use Rattle.siteaudit.specs.declared.auditing.SiteAudit.{SiteAudit}
 
 -- ---- standings
 
--- A module of a site, whose plain modules are these, stands as the code says. The other module of a clash has the name and
--- the path that are given, and a refusal has its reason. The words of a question are of no clause.
+-- A module of a site, whose plain modules are these, stands as the code says. The other module of a clash has the name
+-- and the path that are given, and a refusal has its reason. The words of a question are of no clause.
 abbrev pub StandsAs : Site → List Module → SiteModule → Standing → Type 0
 StandsAs site ms m Certified = HasStanding site ms m standings.Certified
 StandsAs site ms m (Asks question) = HasStanding site ms m standings.Asks
@@ -71,8 +71,8 @@ certified_files ms = map audited_file (filter (λ m. is_certified m.standing) ms
 
 -- ---- default files
 
--- A folder of a directory of the site has a module in it, and a fault in its default file at this path, so that the search
--- for the folder is refused.
+-- A folder of a directory of the site has a module in it, and a fault in its default file at this path, so that the
+-- search for the folder is refused.
 pub record IsBadDefaultFile (site : Site) (path : Text) : Type 0 where
   pub dir : Text
   pub folder : Text
@@ -116,8 +116,8 @@ pub record IsUnknown (site : Site) (mention : Mention) : Type 0 where
 -- ---- the whole
 
 -- What was found is an audit of the site. It has each module in each directory, in their order, with how it stands; the
--- certificate of its certified modules; each bad default file; the names that mean no module; and where the environment at
--- hand doesn't agree with the certificate, and why.
+-- certificate of its certified modules; each bad default file; the names that mean no module; and where the environment
+-- at hand doesn't agree with the certificate, and why.
 pub record IsAudit (site : Site) (found : SiteAudit) : Type 0 where
   pub plain : List Module
   pub plain_modules : ArePlainModules site plain
@@ -133,8 +133,8 @@ pub record IsAudit (site : Site) (found : SiteAudit) : Type 0 where
   pub disagreements : (d : Disagreement) → IsAmong d (map disagreement_view found.disagreements.items)
       ↔ IsDisagreement (map used_view found.certificate.items) site.env d
 
--- What the certificate that was found promises of the site: these modules are those that stand as certified, and sessions
--- that load no others return to a start that agrees with it.
+-- What the certificate that was found promises of the site: these modules are those that stand as certified, and
+-- sessions that load no others return to a start that agrees with it.
 pub record CertificateStands (site : Site) (found : SiteAudit) : Type 0 where
   pub certain : List Module
   pub exact : map file_of certain ≡ certified_files found.modules.items

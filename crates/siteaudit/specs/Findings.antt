@@ -1,5 +1,5 @@
--- What each module of a site shows by itself, and what the answers about clashes make of it: for this crate's own contracts
--- alone.
+-- What each module of a site shows by itself, and what the answers about clashes make of it: for this crate's own
+-- contracts alone.
 use Rattle.std.specs.Prelude.{◌≡◌, Bool, true, false, List, [], ◌∷◌, ◌++◌, map, flat_map, Option, Some, None, Result, Ok, Err, string_bytes}
 use Rattle.std.specs.List.{list_all, AllByRecursion}
 use Rattle.envvars.specs.Fields.{colon}

@@ -103,8 +103,8 @@ fn audit_evaluations<T: Tree>(
 /// Judges a whole site: that of the MODULEPATH of an environment, over a tree and within limits. Each file is evaluated
 /// once; the environment doesn't change.
 ///
-/// The certified modules may be loaded and unloaded, in sessions that begin where the certificate is agreed with, and such
-/// a session returns to its start (`certificate`).
+/// What is found is an audit of the site (`exact`). Its certificate stands (`holds`): a session that begins in an
+/// environment that agrees with it, and loads modules alone that stand as certified, returns to its start.
 ///
 /// Errors: loaded lists that don't fit together (35); a device that failed in this call (43); want of memory (11, 31,
 /// 41); more than `MAX_DIRECTORIES` directories.

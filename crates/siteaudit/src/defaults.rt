@@ -72,7 +72,8 @@ fn folders_of(alloc: Global, evaluations: &[Evaluation]) -> Result<Vec<Folder>, 
     folders.into_iter().collect(alloc)
 }
 
-/// The path of the default file of a folder that has a fault; `None` where the search for the folder isn't refused by one.
+/// The path of the default file of a folder that has a fault; `None` where the search for the folder isn't refused by
+/// one.
 fn bad_default_file<T: Tree>(
     alloc: Global,
     tree: &mut T,

@@ -34,7 +34,8 @@ pub(crate) struct Judgement {
     pub(crate) in_step: Vec<Module>,
 }
 
-/// Where other modules decide how a module stands, it joins those that are plain and in step; else this is how it stands.
+/// Where other modules decide how a module stands, it joins those that are plain and in step; else this is how it
+/// stands.
 fn sort_out(
     alloc: Global,
     name: &str,

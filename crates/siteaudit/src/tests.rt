@@ -12,7 +12,6 @@ use requeststep::Refusal;
 use siteclash::Clash;
 use sitewalk::Evaluation;
 use std::alloc::{AllocError, Global};
-use std::process::Abort;
 use std::test::Fail;
 use tclrules::Limits;
 
