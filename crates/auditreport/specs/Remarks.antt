@@ -1,5 +1,5 @@
 -- The remarks in the report of an audit (own): each is a line that begins with `# `.
-use Rattle.std.specs.Prelude.{Bool, if◌then◌else◌, ◌∷◌, ◌++◌, codes, flat_map, string_bytes}
+use Rattle.std.specs.Prelude.{if◌then◌else◌, ◌∷◌, ◌++◌, codes, flat_map, string_bytes}
 use Rattle.std.specs.declared.alloc.Global.{Global}
 use Rattle.std.specs.declared.string.String.{String}
 use Rattle.envvars.specs.Texts.{Text}

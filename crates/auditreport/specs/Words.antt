@@ -1,6 +1,6 @@
 -- What is said of a module in the report of an audit (own): how it stands in one word, and why; and how texts are spelled
 -- in a line.
-use Rattle.std.specs.Prelude.{ℕ, ◌/◌, ◌%◌, ◌==◌, ◌||◌, nat_lt, Bool, true, false, not, if◌then◌else◌, List, [], ◌∷◌, ◌++◌, codes, count_by, flat_map, Some, None, string_bytes}
+use Rattle.std.specs.Prelude.{ℕ, ◌/◌, ◌%◌, ◌==◌, ◌||◌, nat_lt, Bool, true, not, if◌then◌else◌, List, [], ◌∷◌, ◌++◌, codes, count_by, flat_map, Some, None, string_bytes}
 use Rattle.std.specs.Char.{digit_char}
 use Rattle.envvars.specs.Texts.{Text}
 use Rattle.tcllist.specs.Lists.{list_text}
@@ -11,6 +11,7 @@ use Rattle.certificate.specs.declared.uses.VariableUse.{VariableUse}
 use Rattle.certificate.specs.declared.uses.VariableUse.TheVariants.{Fixed, Pathed, Stacked}
 use Rattle.siteclash.specs.declared.clashes.Clash.{Clash}
 use Rattle.requeststep.specs.Messages.{message_of}
+use Rattle.siteaudit.specs.Audits.{is_certified}
 use Rattle.siteaudit.specs.declared.auditing.AuditedModule.{AuditedModule}
 use Rattle.siteaudit.specs.declared.standing.Standing.{Standing}
 use Rattle.siteaudit.specs.declared.standing.Standing.TheVariants.{Certified, Asks, OneWay, OutOfStep, Clashes, Refused}
@@ -34,15 +35,6 @@ abbrev pub spelled : Text → Text
 spelled text = flat_map spelled_byte text
 
 -- ---- standings
-
--- a module that stands so is certified
-abbrev pub is_certified : Standing → Bool
-is_certified Certified = true
-is_certified (Asks question) = false
-is_certified (OneWay first) = false
-is_certified (OutOfStep variable one other) = false
-is_certified (Clashes clash) = false
-is_certified (Refused refusal) = false
 
 -- a report names a module that stands so
 abbrev pub is_named : Selection → Standing → Bool

@@ -1,5 +1,6 @@
 //! Which modules a report names, and how many of them are certified.
 ghost use Rattle.std.specs.Prelude.{◌≡◌, ◌≤◌, count_by, length};
+ghost use Rattle.siteaudit.specs.Audits.{is_certified};
 ghost use Rattle.auditreport.specs.Words as spec;
 
 use siteaudit::{AuditedModule, Standing};
@@ -27,7 +28,7 @@ impl Selection {
 
 /// Whether a module that stands so is certified.
 fn is_certified(standing: &Standing) -> bool
-    ensures { result ≡ spec.is_certified standing.now }
+    ensures { result ≡ is_certified standing.now }
 {
     match standing {
         Standing::Certified => true,

@@ -1,4 +1,4 @@
-use Rattle.std.proofs.Common.{◌≡◌, ◌<◌, ◌∷◌, [], ◌∙◌, string_bytes, arith}
+use Rattle.std.proofs.Common.{◌≡◌, ◌<◌, ◌∷◌, [], string_bytes, arith}
 use Rattle.auditreport.proofs.tokens.write_delimiter.Goals as goal
 
 pub returns : goal.returns
