@@ -9,7 +9,7 @@ use Rattle.modulefile.specs.RecordViews.{record_view}
 use Rattle.modulefile.specs.Reports.{shown_words}
 use Rattle.certificate.specs.declared.uses.VariableUse.{VariableUse}
 use Rattle.certificate.specs.declared.uses.VariableUse.TheVariants.{Fixed, Pathed, Stacked}
-use Rattle.siteclash.specs.declared.clashes.Clash.{Clash}
+use Rattle.siteclash.specs.declared.answers.Clash.{Clash}
 use Rattle.requeststep.specs.Messages.{message_of}
 use Rattle.siteaudit.specs.Audits.{is_certified}
 use Rattle.siteaudit.specs.declared.auditing.AuditedModule.{AuditedModule}
