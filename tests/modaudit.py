@@ -20,7 +20,6 @@ import time
 
 import certified
 import losses
-import standings
 from harness import HERE, SECONDS, case, refuser, refuses_each, run_all, same, true
 from worked import FOLDER, real, write
 
@@ -33,11 +32,6 @@ SITES = 150
 
 # How much more a site of twice as many modules may cost, where all grows with their number.
 TWICE = 2.6
-
-
-def listed(paths):
-    """Paths in the order of directories and of `avail`: here that of the names, since no row has versions to compare."""
-    return sorted(paths, key=lambda path: (path.split("/", 2)[1], path.split("/", 2)[2]))
 
 
 class Site:
@@ -532,36 +526,6 @@ def reads_that_fail(folder):
 # The model.
 
 
-def use_of(value):
-    """A use of the document, as the model has it."""
-    if value["use"] == "set":
-        return ("fixed", None)
-    if value["use"] == "unset":
-        return ("fixed", value["value"])
-    return ("path", value["delimiter"]) if value["use"] == "path" else ("stack",)
-
-
-def agrees_with_the_model(program, site, env, what):
-    """The program says of a site what the model says. The site's files are written."""
-    done = subprocess.run(
-        [program, "--json", "--", *site.modulepath.split(":")], env=env, capture_output=True, timeout=SECONDS, check=False
-    )
-    same(done.stderr, b"", f"standard error {what}")
-    found = json.loads(done.stdout)
-    modules = [(module["name"], module["path"], module["standing"]) for module in found["modules"]]
-    wanted = [(module.name, module.path, standings.standing_of(module, site.modules)) for module in site.modules]
-    same(sorted(modules), sorted(wanted), f"the standings {what}")
-    same([module[1] for module in modules], [module[1] for module in wanted], f"the order of the modules {what}")
-    uses = [(use["variable"], use_of(use)) for use in found["certificate"]]
-    same(sorted(set(uses), key=repr), sorted(set(site.uses), key=repr), f"the certificate {what}")
-    same((found["certified"], found["count"]), (len(site.certified), len(site.modules)), f"the counts {what}")
-    judged = {**env, "MODULEPATH": site.modulepath}
-    wrong = {(name, use) for name, use in site.uses if not standings.agrees_with_use(judged, name, use)}
-    said = {(use["variable"], use_of(use)) for use in found["disagreements"] if use["use"] != "loaded"}
-    same(said, wrong, f"the disagreements {what}")
-    return found
-
-
 @case
 def random_sites_by_the_model(folder):
     program = os.fsdecode(folder.program)
@@ -570,7 +534,8 @@ def random_sites_by_the_model(folder):
         os.mkdir(top)
         run = certified.Run(number, top, "sh")
         run.tree.write()
-        found = agrees_with_the_model(program, run.site, run.start, f"of site {number}")
+        found = certified.audit_of(program, run.site, run.start)
+        same(certified.differs(found, run.site, run.start), None, f"what differs from the model in site {number}")
         strays = [use for use in found["disagreements"] if use.get("variable") != "MODULEPATH"]
         same(strays, [], f"the disagreements of a start that agrees, of site {number}")
         shutil.rmtree(top)
