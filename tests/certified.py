@@ -343,32 +343,34 @@ def uses_in(values):
     return {(value["variable"], use_of(value)) for value in values if value["use"] != "loaded"}
 
 
-def directories_of(modules):
-    """The directories that modules are in, each once, in their order."""
-    return list(dict.fromkeys(path.removesuffix("/" + name) for name, path, _ in modules))
-
-
-def differs(found, site, env):
-    """In what a document differs from the model of a site, or none."""
-    judged = dict(env, MODULEPATH=site.modulepath)
-    wrong = {(name, use) for name, use in site.uses if not standings.agrees_with_use(judged, name, use)}
+def differs(found, site):
+    """In what a document of a site, judged in an environment without variables, differs from the model, or none."""
     modules = [(one["name"], one["path"], one["standing"]) for one in found["modules"]]
     wanted = [(one.name, one.path, standings.standing_of(one, site.modules)) for one in site.modules]
     pairs = {
         "the modules": (sorted(modules), sorted(wanted)),
-        "the directories": (directories_of(modules), directories_of(wanted)),
         "the certificate": (uses_in(found["certificate"]), set(site.uses)),
         "the counts": ((found["certified"], found["count"]), (len(site.certified), len(site.modules))),
-        "the disagreements": (uses_in(found["disagreements"]), wrong),
     }
     return next((f"{what}: {one!r}, by the model {other!r}" for what, (one, other) in pairs.items() if one != other), None)
+
+
+def disagrees(found, site, env):
+    """In what a document says otherwise than the model whether an environment agrees with its certificate, or none. Of
+    MODULEPATH its value and its counters are those of the audit."""
+    judged = {name: value for name, value in env.items() if name != model.SHARE + MODULEPATH}
+    judged[MODULEPATH] = site.modulepath
+    said = uses_in(found["disagreements"])
+    wanted = {use for use in uses_in(found["certificate"]) if not standings.agrees_with_use(judged, *use)}
+    return None if said == wanted else f"the disagreements: {said!r}, by the model {wanted!r}"
 
 
 def audited(program, run):
     """What modaudit says otherwise than the model of the site of a run, and of its start, or none."""
     program = os.path.join(os.path.dirname(program), "modaudit")
     try:
-        return differs(audit_of(program, run.site, run.start), run.site, run.start)
+        found = differs(audit_of(program, run.site, {}), run.site)
+        return found or disagrees(audit_of(program, run.site, run.start), run.site, run.start)
     except Lost as lost:
         return str(lost)
 

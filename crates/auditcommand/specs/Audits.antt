@@ -31,10 +31,13 @@ use Rattle.auditcommand.specs.declared.audit_fault.AuditFault.TheVariants.{Refus
 
 -- ---- what is judged
 
--- the environment that is judged: that at hand; where directories are given, with these as its MODULEPATH
+-- The environment that is judged: that at hand; where directories are given, with these as its MODULEPATH, and without
+-- counters of it.
 abbrev pub judged_env : Environment → List Text → Environment
 judged_env e [] = e
-judged_env e (dir ∷ dirs) = with_value e (codes "MODULEPATH") (Some (join_with_byte 58 (dir ∷ dirs)))
+judged_env e (dir ∷ dirs) =
+    with_value (with_value e (codes "__MODULES_SHARE_MODULEPATH") None) (codes "MODULEPATH")
+    (Some (join_with_byte 58 (dir ∷ dirs)))
 
 -- the site that is judged, over these maps
 abbrev pub judged_site : Environment → Wanted → Files → Listings → Site

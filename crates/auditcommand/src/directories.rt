@@ -82,6 +82,8 @@ pub(crate) fn judged_env(alloc: Global, env: Env, dirs: &[String]) -> Result<Env
     let dirs = slices(alloc, dirs)?;
     let text = join(alloc, dirs.as_slice(), ':')?;
     let mut judged = env;
+    // The counters are those of the MODULEPATH that was there.
+    judged.unset("__MODULES_SHARE_MODULEPATH");
     judged.set("MODULEPATH", text.as_str())?;
     Ok(judged)
 }

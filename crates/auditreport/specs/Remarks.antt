@@ -1,7 +1,8 @@
 -- The remarks in the report of an audit (own): each is a line that begins with `# `.
-use Rattle.std.specs.Prelude.{if◌then◌else◌, ◌∷◌, ◌++◌, codes, flat_map, string_bytes}
+use Rattle.std.specs.Prelude.{if◌then◌else◌, ◌∷◌, ◌++◌, codes, flat_map, map, List, string_bytes}
 use Rattle.std.specs.declared.alloc.Global.{Global}
 use Rattle.std.specs.declared.string.String.{String}
+use Rattle.envvars.specs.Fields.{without_repeats}
 use Rattle.envvars.specs.Texts.{Text}
 use Rattle.modulefile.specs.declared.delimiter.Delimiter.{Delimiter}
 use Rattle.startcheck.specs.declared.disagreement.Disagreement.{Disagreement}
@@ -48,6 +49,10 @@ disagreement_words (PathNotInOrder variable delim) =
     string_bytes variable ++ (codes " isn't in order as a path with " ++ delimiter delim)
 disagreement_words (StackNotInOrder variable) = string_bytes variable ++ codes " isn't in order as a stack"
 
--- the line of it
-unfoldable pub disagreement_line : Disagreement → Text
-disagreement_line d = codes "# environment: " ++ (spelled (disagreement_words d) ++ codes "\n")
+-- the line of it, in words
+unfoldable pub environment_line : Text → Text
+environment_line words = codes "# environment: " ++ (spelled words ++ codes "\n")
+
+-- a line for each of them; for one that comes again, none
+abbrev pub environment_lines : List Disagreement → Text
+environment_lines ds = flat_map environment_line (without_repeats (map disagreement_words ds))

@@ -5,7 +5,7 @@ use Rattle.siteaudit.specs.declared.auditing.AuditedModule.{AuditedModule}
 use Rattle.siteaudit.specs.declared.auditing.SiteAudit.{SiteAudit}
 use Rattle.auditreport.specs.declared.selection.Selection.{Selection}
 use Rattle.auditreport.specs.Words.{spelled, standing_word, reason, is_named, certified_count}
-use Rattle.auditreport.specs.Remarks.{bad_file_line, unknown_line, disagreement_line}
+use Rattle.auditreport.specs.Remarks.{bad_file_line, unknown_line, environment_lines}
 
 -- the line of a module: its name, its standing in one word, the reason and its path, parted by tabs
 unfoldable pub module_line : AuditedModule → Text
@@ -27,4 +27,4 @@ abbrev pub report_of : Selection → SiteAudit → Text
 report_of selection found =
     flat_map (named_line selection) found.modules.items ++ (count_line found.modules.items
     ++ (flat_map bad_file_line found.bad_default_files.items ++ (flat_map unknown_line found.unknown_names.items
-    ++ flat_map disagreement_line found.disagreements.items)))
+    ++ environment_lines found.disagreements.items)))

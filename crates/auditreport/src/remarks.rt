@@ -1,8 +1,9 @@
 //! The remarks after the lines of the modules: on default files, on names, on the environment at hand.
-ghost use Rattle.std.specs.Prelude.{◌≡◌, ◌++◌, OnOk, IfOk, string_bytes, flat_map};
+ghost use Rattle.std.specs.Prelude.{◌≡◌, ◌++◌, OnOk, IfOk, map, string_bytes, flat_map};
 ghost use Rattle.auditreport.specs.Remarks as spec;
 
 use crate::fields::{push_field, push_text};
+use envvars::fields::{deduplicated, slices};
 use modulefile::Delimiter;
 use siteaudit::{Disagreement, UnknownNames};
 use std::alloc::{AllocError, Global};
@@ -136,30 +137,47 @@ fn disagreement_words(alloc: Global, reason: &Disagreement) -> Result<String, Al
     }
 }
 
-/// Adds the line of a disagreement of the environment at hand.
-fn push_disagreement(
-    alloc: Global,
-    report: &mut Vec<u8>,
-    reason: &Disagreement,
-) -> Result<(), AllocError>
-    ensures { OnOk result (report.new.items ≡ report.old.items ++ spec.disagreement_line reason.now) }
+/// The disagreements of the environment at hand, each in words.
+fn all_words(alloc: Global, reasons: &[Disagreement]) -> Result<Vec<String>, AllocError>
+    ensures { IfOk result (λ words. map string_bytes words.items ≡ map spec.disagreement_words reasons.now) }
 {
-    let words = disagreement_words(alloc, reason)?;
+    let mut words = Vec::new(alloc);
+    for reason in reasons {
+        words.push(disagreement_words(alloc, reason)?)?;
+    }
+    Ok(words)
+}
+
+/// Adds the line of a disagreement of the environment at hand.
+fn push_disagreement(report: &mut Vec<u8>, words: &str) -> Result<(), AllocError>
+    ensures { OnOk result (report.new.items ≡ report.old.items ++ spec.environment_line words.now) }
+{
     push_text(report, "# environment: ")?;
-    push_field(report, words.as_str())?;
+    push_field(report, words)?;
     push_text(report, "\n")
 }
 
-/// Adds a line for each disagreement of the environment at hand.
+/// Adds such lines.
+fn push_all_words(report: &mut Vec<u8>, words: &[&str]) -> Result<(), AllocError>
+    ensures { OnOk result (report.new.items
+        ≡ report.old.items ++ flat_map (λ text. spec.environment_line text.now) words.now) }
+{
+    for text in words {
+        push_disagreement(report, text)?;
+    }
+    Ok(())
+}
+
+/// Adds a line for each disagreement of the environment at hand; for one that comes again, none.
 pub(crate) fn push_disagreements(
     alloc: Global,
     report: &mut Vec<u8>,
     reasons: &[Disagreement],
 ) -> Result<(), AllocError>
-    ensures { OnOk result (report.new.items ≡ report.old.items ++ flat_map spec.disagreement_line reasons.now) }
+    ensures { OnOk result (report.new.items ≡ report.old.items ++ spec.environment_lines reasons.now) }
 {
-    for reason in reasons {
-        push_disagreement(alloc, report, reason)?;
-    }
-    Ok(())
+    let words = all_words(alloc, reasons)?;
+    let slices = slices(alloc, words.as_slice())?;
+    let firsts = deduplicated(alloc, slices.as_slice())?;
+    push_all_words(report, firsts.as_slice())
 }
