@@ -324,11 +324,16 @@ def some_site(rng, names, words, top):
 
 def audit_of(program, site, env):
     """The document that the program writes of a site in an environment, whose MODULEPATH is the site's."""
-    words = [program, "--json", "--", *site.modulepath.split(":")]
-    done = subprocess.run(words, env=env, capture_output=True, timeout=60, check=False)
+    done = subprocess.run([program, "--json"], env=judged(site, env), capture_output=True, timeout=60, check=False)
     if done.stderr or done.returncode not in (0, 1):
         raise Lost(f"modaudit ends with status {done.returncode}, and {done.stderr!r}")
     return json.loads(done.stdout)
+
+
+def judged(site, env):
+    """The environment, with the MODULEPATH of the site, and without counters of it."""
+    others = {name: value for name, value in env.items() if name != model.SHARE + MODULEPATH}
+    return dict(others, MODULEPATH=site.modulepath)
 
 
 def use_of(value):
@@ -356,12 +361,10 @@ def differs(found, site):
 
 
 def disagrees(found, site, env):
-    """In what a document says otherwise than the model whether an environment agrees with its certificate, or none. Of
-    MODULEPATH its value and its counters are those of the audit."""
-    judged = {name: value for name, value in env.items() if name != model.SHARE + MODULEPATH}
-    judged[MODULEPATH] = site.modulepath
+    """In what a document says otherwise than the model whether an environment agrees with its certificate, or none."""
     said = uses_in(found["disagreements"])
-    wanted = {use for use in uses_in(found["certificate"]) if not standings.agrees_with_use(judged, *use)}
+    its = judged(site, env)
+    wanted = {use for use in uses_in(found["certificate"]) if not standings.agrees_with_use(its, *use)}
     return None if said == wanted else f"the disagreements: {said!r}, by the model {wanted!r}"
 
 

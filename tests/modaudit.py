@@ -208,7 +208,7 @@ ROWS = {
         [("a/1", "one-way", "unsetenv W")],
     ),
     "a directory behind a directory": (
-        {"/m/a/1": "prepend-path MODULEPATH /n\n", "/n/b/1": "prepend-path MODULEPATH /o /m\n", "/o/c/1": "getenv X\n"},
+        {"/m/a/1": "prepend-path MODULEPATH /n\n", "/n/b/1": "prepend-path MODULEPATH /o:/m\n", "/o/c/1": "getenv X\n"},
         [("a/1", "certified", ""), ("b/1", "certified", ""), ("c/1", "asks", "getenv X")],
     ),
     "a directory that isn't there": ({"/m/a/1": "append-path MODULEPATH /o\n"}, [("a/1", "certified", "")]),
