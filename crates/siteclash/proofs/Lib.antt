@@ -1,0 +1,5 @@
+mod Members
+mod ClashLemmas
+mod ConflictLemmas
+mod TableLemmas
+mod AnswerLemmas

@@ -7,7 +7,7 @@ use Rattle.certificate.specs.RecordUses.{IsAmong}
 use Rattle.certificate.specs.Clashes as clashes
 use Rattle.certificate.specs.Certificates.{is_other}
 use Rattle.certificate.specs.UseViews.{use_view}
-use Rattle.siteclash.specs.declared.clashes.Clash.{Clash}
+use Rattle.siteclash.specs.declared.answers.Clash.{Clash}
 
 -- The module clashes with another one of these, as the answer says: in this variable, by these two uses, and the other
 -- has this name and this file.

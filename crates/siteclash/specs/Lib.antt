@@ -1,1 +1,10 @@
 pub mod ClashAnswers
+pub mod Users
+pub mod UserViews
+pub mod Families
+pub mod Ways
+pub mod Tables
+pub mod Conflicts
+pub mod UsingModules
+pub mod ClashingUsers
+pub mod UseKeys

@@ -1238,9 +1238,6 @@ script-fact_in-script g t c = search rules
 pub value-fact_in-source-in-Bracket : goal.value-fact_in-source-in-Bracket
 value-fact_in-source-in-Bracket g t c = search rules
 
-pub words-fact_in-parts : goal.words-fact_in-parts
-words-fact_in-parts g t c = search rules
-
 pub for_turns-new-body-requires-text-text : goal.for_turns-new-body-requires-text-text
 for_turns-new-body-requires-text-text g t c κs = search rules
 
