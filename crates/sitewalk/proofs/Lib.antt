@@ -1,0 +1,5 @@
+mod AmongLemmas
+mod DirectoryLemmas
+mod OutcomeLemmas
+mod ListingLemmas
+mod WalkLemmas

@@ -1,5 +1,5 @@
 -- What a walk over a site answers (own).
-use Rattle.std.specs.Prelude.{◌≡◌, ◌<◌, ℕ, true, List, [], ◌∷◌, ◌++◌, length, map, flat_map, Option, Some, None, Result, Ok, Err, string_bytes}
+use Rattle.std.specs.Prelude.{◌≡◌, ◌<◌, true, List, [], ◌∷◌, ◌++◌, length, map, flat_map, Option, Some, None, Result, Ok, Err, string_bytes}
 use Rattle.envvars.specs.Texts.{Text, texts_in}
 use Rattle.envvars.specs.Fields.{without_repeats, are_distinct}
 use Rattle.envvars.specs.Environment.{Environment}
@@ -18,7 +18,7 @@ use Rattle.requeststep.specs.Answers.{cause_of}
 use Rattle.requeststep.specs.declared.refusal.Refusal.{Refusal}
 use Rattle.certificate.specs.RecordUses.{IsAmong}
 use Rattle.sitelaws.specs.Sites.{Site, Evaluated, EvaluatesTo, first_directories, added_directories, plain_of, site_of, IsDirectory, AreDirectories, AreModulesIn}
-use Rattle.sitewalk.specs.declared.TheConstants.{MAX_DIRECTORIES}
+use Rattle.sitewalk.specs.declared.walk.TheConstants.{MAX_DIRECTORIES}
 use Rattle.sitewalk.specs.declared.fault.WalkFault.{WalkFault}
 use Rattle.sitewalk.specs.declared.fault.WalkFault.TheVariants.{Refused, TooManyDirectories}
 use Rattle.sitewalk.specs.declared.walk.Evaluation.{Evaluation}
@@ -49,10 +49,10 @@ IsOutcome (Ok ran) outcome = (e : Environment) × (outcome ≡ Ok (ran_view ran 
 IsOutcome (Err refusal) outcome = (reason : RequestReason) × (cause_of refusal ≡ because reason) × (outcome ≡ Err reason)
 
 -- the same of a module
-pub record IsEvaluation (evaluation : Evaluation) (outcome : Evaluated) : Type 0 where
-  pub name : outcome.0.name ≡ string_bytes evaluation.name
-  pub path : outcome.0.path ≡ string_bytes evaluation.path
-  pub outcome : IsOutcome evaluation.outcome outcome.1
+pub record IsEvaluation (evaluation : Evaluation) (evaluated : Evaluated) : Type 0 where
+  pub name : evaluated.0.name ≡ string_bytes evaluation.name
+  pub path : evaluated.0.path ≡ string_bytes evaluation.path
+  pub outcome : IsOutcome evaluation.outcome evaluated.1
 
 -- the same of each module, in their order
 abbrev pub AreEvaluations : List Evaluation → List Evaluated → Type 0

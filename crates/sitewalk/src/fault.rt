@@ -1,5 +1,10 @@
 //! Why a site can't be walked over.
+ghost use Rattle.std.specs.Prelude.{◌≡◌};
+ghost use Rattle.sitewalk.specs.declared.fault.WalkFault.TheVariants as faults;
+ghost use Rattle.requeststep.specs.declared.refusal.Refusal.TheVariants as refusals;
+
 use requeststep::Refusal;
+use std::alloc::AllocError;
 
 /// Why a site can't be walked over.
 #[derive(Debug, Drop)]
@@ -9,4 +14,20 @@ pub enum WalkFault {
     Refused(Refusal),
     /// The site has more than `MAX_DIRECTORIES` directories.
     TooManyDirectories,
+}
+
+impl From<Refusal> for WalkFault {
+    ghost from_gives = { λ refusal e. e ≡ faults.Refused refusal };
+
+    fn from(refusal: Refusal) -> WalkFault {
+        WalkFault::Refused(refusal)
+    }
+}
+
+impl From<AllocError> for WalkFault {
+    ghost from_gives = { λ _ e. e ≡ faults.Refused refusals.OutOfMemory };
+
+    fn from(_e: AllocError) -> WalkFault {
+        WalkFault::Refused(Refusal::OutOfMemory)
+    }
 }

@@ -1,13 +1,20 @@
 //! Each directory of a site once, in the order in which they are found, and each module in them, evaluated once.
-ghost use Rattle.std.specs.Prelude.{◌<◌, IfOk, IfErr};
+ghost use Rattle.std.specs.Prelude.{◌≡◌, ◌<◌, [], ◌∷◌, IfOk, IfErr, OnOk, map, string_bytes};
 ghost use Rattle.filetree.specs.Agreement.{InEachPair, ReadsOn};
+ghost use Rattle.filetree.specs.Modulefiles.{directories};
+ghost use Rattle.requests.specs.Steps.{modulepath as modulepath_of};
 ghost use Rattle.sitelaws.specs.Sites.{site_of};
 ghost use Rattle.sitewalk.specs.Walks.{IsWalkAnswer, HasCause};
+ghost use Rattle.sitewalk.specs.Parts.{HasLoaded, GivesUp, GoesThrough};
 
+use crate::below::evaluate_below;
+use crate::directories::{Directories, directory_at, in_order, push_directories, push_found};
 use crate::fault::WalkFault;
+use crate::files::{SiteSettings, loaded_names};
 use crate::progress::Progress;
-use envvars::Env;
+use envvars::{Env, Vars};
 use filetree::Tree;
+use indexmap::IndexSet;
 use modulerun::Ran;
 use requeststep::Refusal;
 use std::alloc::Global;
@@ -38,12 +45,87 @@ pub struct Walk {
     pub evaluations: Vec<Evaluation>,
 }
 
+/// MODULEPATH, or the empty text where it is unset.
+fn modulepath(env: &Env) -> &str
+    ensures { result.now ≡ modulepath_of env.now }
+{
+    match env.get("MODULEPATH") {
+        None => "",
+        Some(text) => text,
+    }
+}
+
+/// Evaluates each module below a directory, and adds to the directories those that the plain ones add.
+///
+/// Errors: a device that failed; want of memory.
+fn walk_directory<T: Tree, P: Progress>(
+    settings: SiteSettings<'_>,
+    tree: &mut T,
+    dir: &str,
+    dirs: &mut Directories,
+    evaluations: &mut Vec<Evaluation>,
+    progress: &mut P,
+) -> Result<(), Refusal>
+    requires { HasLoaded settings.env.now (map string_bytes settings.loaded.now) }
+    ensures reads { ReadsOn T.agrees T.failures tree.old tree.new }
+    ensures walked { directories dir.now ≡ dir.now ∷ [] → OnOk result (InEachPair (T.agrees tree.new) (λ files listings.
+        GoesThrough (site_of settings.entry.limits settings.entry.env.now files listings) dir.now
+        (map string_bytes dirs.old.keys) (map string_bytes dirs.new.keys) evaluations.old.items evaluations.new.items)) }
+    ensures cause { IfErr result (GivesUp (T.failures tree.old < T.failures tree.new)) }
+{
+    let mut below = evaluate_below(settings, tree, dir, evaluations.len(), progress)?;
+    push_found(settings.alloc, dirs, below.as_slice())?;
+    evaluations.append(&mut below)?;
+    Ok(())
+}
+
+/// Walks over the site of a MODULEPATH.
+fn walk_from<T: Tree, P: Progress>(
+    settings: SiteSettings<'_>,
+    tree: &mut T,
+    modulepath: &str,
+    progress: &mut P,
+) -> Result<Walk, WalkFault>
+    requires loaded { HasLoaded settings.env.now (map string_bytes settings.loaded.now) }
+    requires begins { modulepath.now ≡ modulepath_of settings.env.now }
+    ensures reads { ReadsOn T.agrees T.failures tree.old tree.new }
+    ensures walked { IfOk result (λ found. InEachPair (T.agrees tree.new) (λ files listings.
+        IsWalkAnswer (site_of settings.entry.limits settings.entry.env.now files listings) found)) }
+    ensures cause { IfErr result (HasCause (T.agrees tree.new) (T.failures tree.old < T.failures tree.new)
+        settings.entry.limits settings.entry.env.now) }
+{
+    sitelaws::laws::walks();
+    modulefile::files();
+    let mut dirs = IndexSet::new(settings.alloc);
+    let mut evaluations = Vec::new(settings.alloc);
+    push_directories(settings.alloc, &mut dirs, modulepath)?;
+    let mut place = 0;
+    while let Some(dir) = directory_at(settings.alloc, &dirs, place)? {
+        if dirs.len() > MAX_DIRECTORIES {
+            return Err(WalkFault::TooManyDirectories);
+        }
+        walk_directory(
+            settings,
+            tree,
+            dir.as_str(),
+            &mut dirs,
+            &mut evaluations,
+            progress,
+        )?;
+        place += 1;
+    }
+    Ok(Walk {
+        directories: in_order(settings.alloc, dirs)?,
+        evaluations,
+    })
+}
+
 /// Walks over a site, that of the MODULEPATH of an environment over a tree and within limits: each file is evaluated
 /// once, for loading, in sh, in that environment, which doesn't change.
 ///
 /// Errors: loaded lists that don't fit together (35); a device that failed in this call (43); want of memory (11, 31,
 /// 41); more than `MAX_DIRECTORIES` directories.
-pub fn walk<T: Tree, P: Progress>(
+pub fn walk_site<T: Tree, P: Progress>(
     alloc: Global,
     env: &Env,
     tree: &mut T,
@@ -55,6 +137,12 @@ pub fn walk<T: Tree, P: Progress>(
         IsWalkAnswer (site_of limits env.now files listings) found)) }
     ensures cause { IfErr result (HasCause (T.agrees tree.new) (T.failures tree.old < T.failures tree.new) limits env.now) }
 {
-    let _ = (alloc, env, tree, limits, progress);
-    Err(WalkFault::Refused(Refusal::OutOfMemory))
+    let loaded = loaded_names(alloc, env)?;
+    let settings = SiteSettings {
+        alloc,
+        env,
+        limits,
+        loaded: loaded.as_slice(),
+    };
+    walk_from(settings, tree, modulepath(env), progress)
 }

@@ -1,0 +1,100 @@
+-- What is among the members of a list.
+use Rattle.std.proofs.Common.{◌≡◌, ◌⊎◌, inl, inr, ℕ, ◌<◌, length, arith, suc, zero, Bool, true, false, cond, List, [], ◌∷◌, ◌++◌, map, flat_map, filter, take, slice_get, Some, None, refl, sym, ap, ◌∙◌, subst}
+use Rattle.certificate.specs.RecordUses.{IsAmong}
+
+pub by_cases : {A B P : Type 0} → A ⊎ B → (A → P) → (B → P) → P
+by_cases (inl a) f g = f a
+by_cases (inr b) f g = g b
+
+module _ {X : Type 0} where
+  pub left_among : (x : X) (xs ys : List X) → IsAmong x xs → IsAmong x (xs ++ ys)
+  left_among x [] ys a = absurd a
+  left_among x (y ∷ xs) ys (inl e) = inl e
+  left_among x (y ∷ xs) ys (inr a) = inr (left_among x xs ys a)
+
+  pub right_among : (x : X) (xs ys : List X) → IsAmong x ys → IsAmong x (xs ++ ys)
+  right_among x [] ys a = a
+  right_among x (y ∷ xs) ys a = inr (right_among x xs ys a)
+
+  pub parted : (x : X) (xs ys : List X) → IsAmong x (xs ++ ys) → IsAmong x xs ⊎ IsAmong x ys
+  parted x [] ys a = inr a
+  parted x (y ∷ xs) ys (inl e) = inl (inl e)
+  parted x (y ∷ xs) ys (inr a) = by_cases (parted x xs ys a) (λ b. inl (inr b)) (λ b. inr b)
+
+  kept : (x y : X) (p : X → Bool) (b : Bool) (rest : List X) → p y ≡ b → IsAmong x (cond b (y ∷ rest) rest) → ((x ≡ y) × (p y ≡ true)) ⊎ IsAmong x rest
+  kept x y p true rest q (inl e) = inl (e, q)
+  kept x y p true rest q (inr a) = inr a
+  kept x y p false rest q a = inr a
+
+  -- what a filter leaves was there, and passes its test
+  pub filtered : (x : X) (p : X → Bool) (xs : List X) → IsAmong x (filter p xs) → IsAmong x xs × (p x ≡ true)
+  filtered x p [] a = absurd a
+  filtered x p (y ∷ xs) a =
+      by_cases (kept x y p (p y) (filter p xs) refl a)
+      (λ (k : (x ≡ y) × (p y ≡ true)). (inl k.0, ap p k.0 ∙ k.1))
+      (λ (b : IsAmong x (filter p xs)). let f = filtered x p xs b in (inr f.0, f.1))
+
+  -- at a place
+  pub at_place : (x : X) (xs : List X) (n : ℕ) → slice_get xs n ≡ Some x → IsAmong x xs
+  at_place x [] n h = absurd (cc)
+  at_place x (y ∷ xs) zero h = inl (cc)
+  at_place x (y ∷ xs) (suc n) h = inr (at_place x xs n h)
+
+  pub place_below : (x : X) (xs : List X) (n : ℕ) → slice_get xs n ≡ Some x → n < length xs
+  place_below x [] n h = absurd (cc)
+  place_below x (y ∷ xs) zero h = omega arith
+  place_below x (y ∷ xs) (suc n) h = omega (arith, place_below x xs n h)
+
+  pub take_next : (n : ℕ) (xs rest : List X) (x : X) → slice_get xs n ≡ Some x → take (suc n) (xs ++ rest) ≡ take n xs ++ x ∷ []
+  take_next n [] rest x h = absurd (cc)
+  take_next zero (y ∷ xs) rest x h = let e : y ≡ x = cc in ap (λ (z : X). z ∷ []) e
+  take_next (suc n) (y ∷ xs) rest x h = ap (λ (l : List X). y ∷ l) (take_next n xs rest x h)
+
+  pub take_all_gone : (n : ℕ) (xs : List X) → slice_get xs n ≡ None → take n xs ≡ xs
+  take_all_gone zero [] h = refl
+  take_all_gone (suc n) [] h = refl
+  take_all_gone zero (y ∷ xs) h = absurd (cc)
+  take_all_gone (suc n) (y ∷ xs) h = ap (λ (l : List X). y ∷ l) (take_all_gone n xs h)
+
+module _ {X Y : Type 0} (f : X → Y) where
+  pub map_parts : (xs ys : List X) → map f (xs ++ ys) ≡ map f xs ++ map f ys
+  map_parts [] ys = refl
+  map_parts (x ∷ xs) ys = ap (λ (l : List Y). f x ∷ l) (map_parts xs ys)
+
+  pub length_mapped : (xs : List X) → length (map f xs) ≡ length xs
+  length_mapped [] = refl
+  length_mapped (x ∷ xs) = ap (λ (n : ℕ). suc n) (length_mapped xs)
+
+  pub in_map : (x : X) (xs : List X) → IsAmong x xs → IsAmong (f x) (map f xs)
+  in_map x [] a = absurd a
+  in_map x (y ∷ xs) (inl e) = inl (ap f e)
+  in_map x (y ∷ xs) (inr a) = inr (in_map x xs a)
+
+  pub of_map : (y : Y) (xs : List X) → IsAmong y (map f xs) → (x : X) × IsAmong x xs × (y ≡ f x)
+  of_map y [] a = absurd a
+  of_map y (x ∷ xs) (inl e) = (x, inl refl, e)
+  of_map y (x ∷ xs) (inr a) = let i = of_map y xs a in (i.0, inr i.1, i.2)
+
+module _ {X Y : Type 0} (f : X → List Y) where
+  pub flat_map_parts : (xs ys : List X) → flat_map f (xs ++ ys) ≡ flat_map f xs ++ flat_map f ys
+  flat_map_parts [] ys = refl
+  flat_map_parts (x ∷ xs) ys = ap (λ (l : List Y). f x ++ l) (flat_map_parts xs ys) ∙ sym (joined (f x) (flat_map f xs) (flat_map f ys))
+    where
+      joined : (us vs ws : List Y) → (us ++ vs) ++ ws ≡ us ++ (vs ++ ws)
+      joined [] vs ws = refl
+      joined (u ∷ us) vs ws = ap (λ (l : List Y). u ∷ l) (joined us vs ws)
+
+  pub in_flat_map : (y : Y) (x : X) (xs : List X) → IsAmong x xs → IsAmong y (f x) → IsAmong y (flat_map f xs)
+  in_flat_map y x [] a b = absurd a
+  in_flat_map y x (z ∷ xs) (inl e) b = left_among y (f z) (flat_map f xs) (subst (λ (w : X). IsAmong y (f w)) e b)
+  in_flat_map y x (z ∷ xs) (inr a) b = right_among y (f z) (flat_map f xs) (in_flat_map y x xs a b)
+
+  pub of_flat_map : (y : Y) (xs : List X) → IsAmong y (flat_map f xs) → (x : X) × IsAmong x xs × IsAmong y (f x)
+  of_flat_map y [] a = absurd a
+  of_flat_map y (x ∷ xs) a =
+      by_cases (parted y (f x) (flat_map f xs) a)
+      (λ (b : IsAmong y (f x)). (x, inl refl, b))
+      (λ (b : IsAmong y (flat_map f xs)). let i = of_flat_map y xs b in (i.0, inr i.1, i.2))
+
+pub flat_seen : {X Y Z : Type 0} (f : Y → List Z) (view : X → Y) (xs ys : List X) → flat_map f (map view (xs ++ ys)) ≡ flat_map f (map view xs) ++ flat_map f (map view ys)
+flat_seen f view xs ys = ap (flat_map f) (map_parts view xs ys) ∙ flat_map_parts f (map view xs) (map view ys)

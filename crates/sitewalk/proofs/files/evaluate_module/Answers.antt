@@ -1,0 +1,25 @@
+use Rattle.std.proofs.Common.{◌<◌, Result, sym, ◌∙◌, subst}
+use Rattle.envvars.specs.Texts.{Text}
+use Rattle.modulerun.specs.declared.run.Ran.{Ran}
+use Rattle.requeststep.specs.declared.refusal.Refusal.{Refusal}
+use Rattle.sitelaws.specs.Sites.{EvaluatesTo, site_of, module_below}
+use Rattle.sitewalk.specs.Parts.{ComesToOverTree}
+use Rattle.sitewalk.proofs.OutcomeLemmas.{has_outcome}
+use Rattle.sitewalk.proofs.files.evaluate_module.Goals as goal
+
+pub returns-clause-evaluated : goal.returns-clause-evaluated
+returns-clause-evaluated g c = λ files listings k.
+    let a = c.args.settings in
+    let dir = c.args.dir.now in
+    let name = c.args.name.now in
+    let agrees = g.T.Tree.agrees c.evaluate_file.new.tree in
+    let failed = g.T.Tree.failures c.args.tree.now < g.T.Tree.failures c.evaluate_file.new.tree in
+    let here = subst (λ (path : Text). ComesToOverTree agrees failed c.evaluate_file.result (λ files listings. EvaluatesTo (site_of a.limits a.env.now files listings) (record { name = name; path = path })))
+    (c.as_str.ensures.value ∙ c.in_ok-path.ensures) c.evaluate_file.ensures.over_tree in
+    let comes = subst (λ (o : Result Ran Refusal). ComesToOverTree agrees failed o (λ files listings. EvaluatesTo (site_of a.limits a.env.now files listings) (module_below dir name)))
+    (sym c.in_ok-outcome.ensures.same) here in
+    let h = has_outcome agrees failed (λ files listings. EvaluatesTo (site_of a.limits a.env.now files listings) (module_below dir name)) c.in_ok-outcome.outcome comes c.in_ok-outcome.ensures.kept files listings k in (
+      h.0,
+      h.1,
+      record { name = sym c.in_ok-full_name.ensures.ok; path = sym c.in_ok-path.ensures; outcome = h.2 },
+    )
