@@ -1,0 +1,10 @@
+mod AmongLemmas
+mod FolderLemmas
+mod NameLemmas
+mod JudgedLemmas
+mod StandingLemmas
+mod Evaluations
+mod Settled
+mod Unknown
+mod BadFiles
+mod Audited

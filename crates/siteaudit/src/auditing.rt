@@ -1,13 +1,23 @@
 //! The audit of a whole site.
-ghost use Rattle.filetree.specs.Agreement.{ReadsOn};
+ghost use Rattle.std.specs.Prelude.{◌<◌, IfOk, IfErr};
+ghost use Rattle.filetree.specs.Agreement.{InEachPair, ReadsOn};
+ghost use Rattle.filetree.specs.Causes.{Applies};
+ghost use Rattle.requeststep.specs.Answers.{cause_of};
+ghost use Rattle.sitelaws.specs.Sites.{site_of};
+ghost use Rattle.sitewalk.specs.Walks.{HasCause};
+ghost use Rattle.siteaudit.specs.Audits.{IsAudit, CertificateStands};
+ghost use Rattle.siteaudit.specs.Parts.{AreParts, PartsAreAudits};
 
+use crate::defaults::bad_default_files;
+use crate::judgement::{Standings, judge_modules};
+use crate::names::unknown_names;
 use crate::standing::Standing;
 use certificate::UsedVariable;
 use envvars::Env;
 use filetree::Tree;
 use requeststep::Refusal;
-use sitewalk::{Progress, WalkFault};
-use startcheck::Disagreement;
+use sitewalk::{Evaluation, Progress, Walk, WalkFault, walk_site};
+use startcheck::{Disagreement, disagreements};
 use std::alloc::Global;
 use tclrules::Limits;
 
@@ -50,8 +60,51 @@ pub struct SiteAudit {
     pub disagreements: Vec<Disagreement>,
 }
 
+/// The parts of an audit, by the evaluations of a walk, are an audit.
+fn parts_are_audits()
+    ensures { PartsAreAudits }
+{
+    modulefile::files();
+    certificate::laws::certified();
+    sitelaws::laws::walks();
+    sitelaws::laws::sessions_return();
+}
+
+/// The parts of an audit, by the evaluations of a walk.
+fn audit_evaluations<T: Tree>(
+    alloc: Global,
+    env: &Env,
+    tree: &mut T,
+    limits: Limits,
+    evaluations: Vec<Evaluation>,
+) -> Result<SiteAudit, Refusal>
+    ensures reads { ReadsOn T.agrees T.failures tree.old tree.new }
+    ensures parts { IfOk result (λ found. InEachPair (T.agrees tree.new) (λ files listings.
+        AreParts (site_of limits env.now files listings) evaluations.items found)) }
+    ensures cause { IfErr result (λ refusal.
+        Applies (cause_of refusal) (T.failures tree.old < T.failures tree.new) (λ reason. ⊥)) }
+{
+    let unknown_names = unknown_names(alloc, evaluations.as_slice())?;
+    let bad_default_files = bad_default_files(alloc, tree, limits, evaluations.as_slice())?;
+    let Standings {
+        modules,
+        certificate,
+    } = judge_modules(alloc, evaluations)?;
+    let disagreements = disagreements(alloc, env, certificate.as_slice())?;
+    Ok(SiteAudit {
+        modules,
+        certificate,
+        bad_default_files,
+        unknown_names,
+        disagreements,
+    })
+}
+
 /// Judges a whole site: that of the MODULEPATH of an environment, over a tree and within limits. Each file is evaluated
 /// once; the environment doesn't change.
+///
+/// What is found is an audit of the site (`exact`). Its certificate stands (`holds`): a session that begins in an
+/// environment that agrees with it, and loads modules alone that stand as certified, returns to its start.
 ///
 /// Errors: loaded lists that don't fit together (35); a device that failed in this call (43); want of memory (11, 31,
 /// 41); more than `MAX_DIRECTORIES` directories.
@@ -63,7 +116,16 @@ pub fn audit<T: Tree, P: Progress>(
     progress: &mut P,
 ) -> Result<SiteAudit, WalkFault>
     ensures reads { ReadsOn T.agrees T.failures tree.old tree.new }
+    ensures exact { IfOk result (λ found. InEachPair (T.agrees tree.new) (λ files listings.
+        IsAudit (site_of limits env.now files listings) found)) }
+    ensures holds { IfOk result (λ found. InEachPair (T.agrees tree.new) (λ files listings.
+        CertificateStands (site_of limits env.now files listings) found)) }
+    ensures cause { IfErr result (HasCause (T.agrees tree.new) (T.failures tree.old < T.failures tree.new) limits env.now) }
 {
-    let _ = (alloc, env, tree, limits, progress);
-    Err(WalkFault::Refused(Refusal::OutOfMemory))
+    parts_are_audits();
+    let Walk {
+        directories: _,
+        evaluations,
+    } = walk_site(alloc, env, tree, limits, progress)?;
+    Ok(audit_evaluations(alloc, env, tree, limits, evaluations)?)
 }

@@ -4,7 +4,13 @@
 #![tactic(auto)]
 
 mod auditing;
+mod defaults;
+mod folders;
+mod judgement;
+mod names;
 mod standing;
+#[cfg(test)]
+mod tests;
 
 pub use auditing::{AuditedModule, SiteAudit, UnknownNames, audit};
 pub use certificate::{UsedVariable, VariableUse};

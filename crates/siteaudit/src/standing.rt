@@ -1,8 +1,20 @@
 //! How each module of a site stands: whether it is certified, and else why it is not.
-use certificate::VariableUse;
-use modulefile::Record;
+ghost use Rattle.std.specs.Prelude.{◌≡◌, true, false, not, ◌++◌, find, map, position, string_bytes, IfOk, MatchOption};
+ghost use Rattle.std.specs.List.{list_all};
+ghost use Rattle.std.specs.Option.{option_map};
+ghost use Rattle.envvars.specs.Fields.{colon};
+ghost use Rattle.modulefile.specs.RecordViews.{record_view};
+ghost use Rattle.requests.specs.VariableUses as variable_uses;
+ghost use Rattle.certificate.specs.RecordUses.{use_alike, are_in_step, modulepath};
+ghost use Rattle.certificate.specs.UseViews.{use_view, used_view};
+ghost use Rattle.siteaudit.specs.Findings.{AreUnlike, IsFinding, IsFindingOf};
+
+use certificate::{UsedVariable, VariableUse, first_unlike, used_by};
+use modulefile::{Delimiter, PathEdit, Record};
+use modulerun::Ran;
 use requeststep::Refusal;
 use siteclash::Clash;
+use std::alloc::{AllocError, Global};
 
 /// How a module of a site stands.
 #[derive(Debug, Drop)]
@@ -25,4 +37,155 @@ pub enum Standing {
     Clashes(Clash),
     /// Its evaluation is refused.
     Refused(Refusal),
+}
+
+/// Two uses of one variable that differ.
+#[derive(Drop)]
+pub(crate) struct UnlikeUses {
+    variable: String,
+    one: VariableUse,
+    other: VariableUse,
+}
+
+/// What a module shows by itself.
+#[derive(Drop)]
+pub(crate) enum Finding {
+    /// It stands so, whatever the other modules do.
+    Stands(Standing),
+    /// It is plain and in step, with these records: the other modules decide.
+    InStep(Vec<Record>),
+}
+
+/// Whether unloading undoes the effect of a record.
+fn is_reversible(recorded: &Record) -> bool
+    ensures { result ≡ variable_uses.is_reversible (record_view recorded.now) }
+{
+    !matches!(
+        recorded,
+        Record::Unset { value: None, .. }
+            | Record::Path {
+                edit: PathEdit::Remove,
+                ..
+            }
+    )
+}
+
+/// The place of the first record that unloading doesn't undo.
+fn first_one_way(records: &[Record]) -> Option<usize>
+    ensures { result ≡ position (λ r. not (variable_uses.is_reversible (record_view r))) records.now }
+{
+    records.iter().position(|recorded| !is_reversible(recorded))
+}
+
+/// MODULEPATH, as a path with colons.
+fn directories_use(alloc: Global) -> Result<UsedVariable, AllocError>
+    ensures { IfOk result (λ used. used_view used ≡ (modulepath, variable_uses.Pathed colon)) }
+{
+    Ok(UsedVariable {
+        variable: String::from_str(alloc, "MODULEPATH")?,
+        used: VariableUse::Pathed(Delimiter::COLON),
+    })
+}
+
+/// The first use of a variable in another way: that of the directories, or one of the module's own.
+fn find_unlike<'a>(
+    one: &UsedVariable,
+    directories: &'a [UsedVariable],
+    used: &'a [UsedVariable],
+) -> Option<&'a UsedVariable>
+    ensures { option_map (λ x. used_view x.now) result ≡ find (λ other. not (use_alike (used_view one.now) other))
+        (map used_view directories.entry.now ++ map used_view used.entry.now) }
+{
+    match first_unlike(one, directories) {
+        Some(other) => Some(other),
+        None => first_unlike(one, used),
+    }
+}
+
+/// Copies of two uses of one variable.
+fn unlike_of(
+    alloc: Global,
+    one: &UsedVariable,
+    other: &UsedVariable,
+) -> Result<UnlikeUses, AllocError>
+    ensures variable { IfOk result (λ unlike. string_bytes unlike.variable ≡ (used_view one.now).0) }
+    ensures one { IfOk result (λ unlike. use_view unlike.one ≡ (used_view one.now).1) }
+    ensures other { IfOk result (λ unlike. use_view unlike.other ≡ (used_view other.now).1) }
+{
+    Ok(UnlikeUses {
+        variable: String::from_str(alloc, one.variable.as_str())?,
+        one: one.used.copy(alloc)?,
+        other: other.used.copy(alloc)?,
+    })
+}
+
+/// Two ways in which one variable is used, of which the second may be that of MODULEPATH as a path with colons; `None`
+/// where the uses are in step.
+fn unlike_uses(alloc: Global, used: &[UsedVariable]) -> Result<Option<UnlikeUses>, AllocError>
+    ensures { IfOk result (λ found. MatchOption found (are_in_step (map used_view used.now) ≡ true)
+        (AreUnlike (map used_view used.now))) }
+{
+    let directories = [directories_use(alloc)?];
+    for one in used {
+        if let Some(other) = find_unlike(one, &directories, used) {
+            return Ok(Some(unlike_of(alloc, one, other)?));
+        }
+    }
+    Ok(None)
+}
+
+/// What a plain module shows by itself.
+fn judge_plain(alloc: Global, records: Vec<Record>) -> Result<Finding, AllocError>
+    requires { list_all variable_uses.is_reversible (map record_view records.items) ≡ true }
+    ensures { IfOk result (IsFindingOf false (map record_view records.items)) }
+{
+    let used = used_by(alloc, records.as_slice())?;
+    match unlike_uses(alloc, used.as_slice())? {
+        Some(unlike) => {
+            let UnlikeUses {
+                variable,
+                one,
+                other,
+            } = unlike;
+            Ok(Finding::Stands(Standing::OutOfStep {
+                variable,
+                one,
+                other,
+            }))
+        }
+        None => Ok(Finding::InStep(records)),
+    }
+}
+
+/// What a module that asked nothing shows by itself.
+fn judge_records(alloc: Global, records: Vec<Record>) -> Result<Finding, AllocError>
+    ensures { IfOk result (IsFindingOf false (map record_view records.items)) }
+{
+    match first_one_way(records.as_slice()) {
+        Some(place) => {
+            let mut records = records;
+            Ok(Finding::Stands(Standing::OneWay(records.swap_remove(place))))
+        }
+        None => judge_plain(alloc, records),
+    }
+}
+
+/// What a module shows by itself, whose evaluation is accepted.
+fn judge_ran(alloc: Global, ran: Ran) -> Result<Finding, AllocError>
+    ensures { IfOk result (IsFindingOf ran.asked (map record_view ran.records.items)) }
+{
+    if ran.asked {
+        return Ok(Finding::Stands(Standing::Asks(ran.question)));
+    }
+    judge_records(alloc, ran.records)
+}
+
+/// What a module shows by itself, by the outcome of its evaluation.
+pub(crate) fn judge(alloc: Global, outcome: Result<Ran, Refusal>) -> Result<Finding, AllocError>
+    ensures { IfOk result (IsFinding outcome) }
+{
+    match outcome {
+        Ok(ran) => judge_ran(alloc, ran),
+        Err(refusal) => Ok(Finding::Stands(Standing::Refused(refusal))),
+    }
 }

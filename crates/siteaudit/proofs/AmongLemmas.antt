@@ -1,0 +1,61 @@
+-- Members of lists.
+use Rattle.std.proofs.Common.{◌≡◌, ◌⊎◌, inl, inr, ℕ, ◌+◌, ◌<◌, Bool, true, false, ◌||◌, List, [], ◌∷◌, ◌++◌, map, take, length, get_or, refl, sym, ap, ◌∙◌, subst}
+use Rattle.std.specs.Prelude.{◌↔◌}
+use Rattle.std.specs.List.{list_any}
+use Rattle.std.proofs.lemmas.Bool.{false≢true, or_cases}
+use Rattle.std.proofs.lemmas.List.{take_more}
+use Rattle.certificate.specs.RecordUses.{IsAmong}
+use Rattle.certificate.proofs.UsedLemmas.{by_cases, among_left, among_right, among_either}
+
+-- the image of a member
+pub among_map : {X Y : Type 0} (f : X → Y) (x : X) (xs : List X) → IsAmong x xs → IsAmong (f x) (map f xs)
+among_map f x [] h = absurd h
+among_map f x (y ∷ xs) (inl e) = inl (ap f e)
+among_map f x (y ∷ xs) (inr h) = inr (among_map f x xs h)
+
+-- each member of an image is one
+pub of_map : {X Y : Type 0} (f : X → Y) (y : Y) (xs : List X) → IsAmong y (map f xs) → (x : X) × IsAmong x xs × (f x ≡ y)
+of_map f y [] h = absurd h
+of_map f y (x ∷ xs) (inl e) = (x, inl refl, sym e)
+of_map f y (x ∷ xs) (inr h) = let i = of_map f y xs h in (i.0, inr i.1, i.2)
+
+-- a member that passes a test
+pub any_some : {X : Type 0} (p : X → Bool) (xs : List X) → list_any p xs ≡ true → (x : X) × IsAmong x xs × (p x ≡ true)
+any_some p [] h = absurd (false≢true h)
+any_some p (y ∷ xs) h = by_cases (or_cases (p y) (list_any p xs) h)
+    (λ t. (y, inl refl, t))
+    (λ t. let i = any_some p xs t in (i.0, inr i.1, i.2))
+
+pub some_any : {X : Type 0} (p : X → Bool) (xs : List X) (x : X) → IsAmong x xs → p x ≡ true → list_any p xs ≡ true
+some_any p [] x a h = absurd a
+some_any p (y ∷ xs) x (inl e) h = let t : p y ≡ true = ap p (sym e) ∙ h in rw t refl
+some_any p (y ∷ xs) x (inr a) h = or_true (p y) (list_any p xs) (some_any p xs x a h)
+  where
+    or_true : (c d : Bool) → d ≡ true → (c || d) ≡ true
+    or_true true d k = refl
+    or_true false d k = k
+
+-- ---- one more at a time
+
+-- one more
+pub among_one : {X : Type 0} (x y : X) (xs : List X) → IsAmong x (xs ++ y ∷ []) ↔ (IsAmong x xs ⊎ (x ≡ y))
+among_one x y xs = (
+  (λ h. by_cases (among_either x xs (y ∷ []) h) (λ k. inl k) (λ k. by_cases k (λ e. inr e) (λ no. absurd no))),
+  (λ h. by_cases h (λ k. among_left x xs (y ∷ []) k) (λ e. among_right x xs (y ∷ []) (inl e))),
+)
+
+-- one more of a slice
+pub taken : {X : Type 0} (xs : List X) (i : ℕ) (x : X) → i < length xs → x ≡ get_or xs i x → take (i + 1) xs ≡ take i xs ++ x ∷ []
+taken xs i x l e = take_more xs i x l ∙ ap (λ y. take i xs ++ y ∷ []) (sym e)
+
+-- what holds of one of the first, or of the next, holds of one of those with the next
+pub one_more : {X : Type 0} (P : X → Type 0) (xs : List X) (i : ℕ) (x : X) → i < length xs → x ≡ get_or xs i x
+    → (((y : X) × IsAmong y (take i xs) × P y) ⊎ P x) ↔ ((y : X) × IsAmong y (take (i + 1) xs) × P y)
+one_more {X} P xs i x l e = (
+  (λ h. by_cases h
+      (λ k. (k.0, subst (IsAmong k.0) (sym (taken xs i x l e)) (among_left k.0 (take i xs) (x ∷ []) k.1), k.2))
+      (λ p. (x, subst (IsAmong x) (sym (taken xs i x l e)) (among_right x (take i xs) (x ∷ []) (inl refl)), p))),
+  (λ k. by_cases ((among_one k.0 x (take i xs)).0 (subst (IsAmong k.0) (taken xs i x l e) k.1))
+      (λ a. inl (k.0, a, k.2))
+      (λ same. inr (subst P same k.2))),
+)

@@ -1,0 +1,235 @@
+-- Names in folders, and paths below directories.
+use Rattle.std.proofs.Common.{Some, None, option_to_list, Option, Bor, subst, ◌+◌, ◌≡◌, ◌≢◌, ◌⊎◌, inl, inr, ℕ, ◌<◌, ◌≤◌, ◌==◌, Bool, true, false, not, ◌||◌, List, [], ◌∷◌, ◌++◌, length, get_or, take, drop, append_assoc, refl, sym, ap, ◌∙◌, arith, suc}
+use Rattle.std.specs.List.{list_any}
+use Rattle.std.specs.Str.{NoCharPasses}
+use Rattle.std.specs.Str.Pattern.{RFindsChar}
+use Rattle.std.proofs.lemmas.Bool.Decides.{nat_tests}
+use Rattle.std.specs.Prelude.{MatchOption}
+use Rattle.std.proofs.Common.{string_bytes}
+use Rattle.std.specs.Str.Pattern.{FindsTextSuffix, FindsCharSuffix, StripsSuffix}
+use Rattle.std.proofs.lemmas.Bool.{false≢true}
+use Rattle.std.proofs.lemmas.List.{take-append-drop, append_cancel_right, length-append}
+use Rattle.std.proofs.lemmas.Str.Pattern.{strip_suffix_char}
+use Rattle.std.proofs.lemmas.Str.Pattern.{NoCharPasses-char, drop_at_char}
+use Rattle.modulename.specs.ModuleName.{Text, slash}
+use Rattle.filetree.specs.Modulefiles.{path_of}
+use Rattle.search.specs.Single.{is_single}
+use Rattle.std.proofs.Common.{map, cond, take_all}
+use Rattle.std.proofs.lemmas.Bool.{and_parts}
+use Rattle.std.specs.Prelude.{bytes_eq}
+use Rattle.envvars.proofs.TextLemmas.{same_text}
+use Rattle.std.specs.Prelude.{◌↔◌}
+use Rattle.std.proofs.lemmas.List.{map-append}
+use Rattle.indexmap.specs.IndexSet.{insert_key}
+use Rattle.certificate.specs.RecordUses.{IsAmong}
+use Rattle.siteaudit.specs.declared.defaults.Folder.{Folder}
+use Rattle.siteaudit.specs.contracts.defaults.FolderPartialEq.TheImpl as FolderPartialEq
+use Rattle.sitewalk.specs.declared.walk.Evaluation.{Evaluation}
+use Rattle.siteaudit.specs.Folders.{IsInFolder, FolderText, folder_view, HoldsModule, HoldsOneOf}
+use Rattle.certificate.proofs.UsedLemmas.{by_cases, among_left, among_right, among_either}
+use Rattle.siteaudit.proofs.AmongLemmas.{taken, among_one, among_map, any_some, one_more}
+
+-- the last part of a name
+
+no_slash : (b : ℕ) → b ≢ 47 → (b == 47) ≡ false
+no_slash b ne = grind (arith, nat_tests)
+
+none_is : (bs : Text) → ((i : ℕ) → i < length bs → get_or bs i 0 ≢ 47) → list_any (λ b. b == slash) bs ≡ false
+none_is [] h = refl
+none_is (b ∷ bs) h =
+    rw (no_slash b (h 0 (omega arith)), none_is bs (λ i l. h (suc i) (omega arith))) refl
+
+-- a text without the byte is one part
+pub single : (bs : Text) → NoCharPasses (λ d. d == 47) bs → is_single bs ≡ true
+single bs h = ap not (none_is bs (λ i l. NoCharPasses-char 47 bs i h (omega arith) l))
+
+-- what is before and after the last such byte
+pub in_folder : (bs front : Text) (i j : ℕ) → RFindsChar 47 bs (Some (i, j)) → front ≡ take i bs → IsInFolder bs front
+in_folder bs front i j h e = record {
+  version = drop j bs;
+  joined = sym (take-append-drop i bs) ∙ (ap (λ (l : Text). take i bs ++ l) (drop_at_char 47 bs i j h.1 (omega arith)) ∙ ap (λ (l : Text). l ++ (47 ∷ drop j bs)) (sym e));
+  single = single (drop j bs) h.0;
+}
+
+-- the folder of a name is one
+
+single_parts : (t u : Bool) → not (t || u) ≡ true → (t ≡ false) × (not u ≡ true)
+single_parts true u h = absurd (false≢true h)
+single_parts false u h = (refl, h)
+
+pub tail_single : (b : ℕ) (bs : Text) → is_single (b ∷ bs) ≡ true → ((b == 47) ≡ false) × (is_single bs ≡ true)
+tail_single b bs h = single_parts (b == 47) (list_any (λ b. b == slash) bs) h
+
+head_of : (a b : ℕ) (xs ys : Text) → a ∷ xs ≡ b ∷ ys → a ≡ b
+head_of a b xs ys e = cc
+
+tail_of : (a b : ℕ) (xs ys : Text) → a ∷ xs ≡ b ∷ ys → xs ≡ ys
+tail_of a b xs ys e = cc
+
+-- what is parted is not one part
+pub parted : (front last : Text) → is_single (path_of front last) ≡ true → ⊥
+parted [] last h = false≢true h
+parted (b ∷ front) last h = parted front last (tail_single b (path_of front last) h).1
+
+pub same_folder : (front last other another : Text) → is_single last ≡ true → is_single another ≡ true → path_of front last ≡ path_of other another → front ≡ other
+same_folder [] last [] another s t e = refl
+same_folder [] last (b ∷ other) another s t e =
+    absurd (parted other another (subst (λ (l : Text). is_single l ≡ true) (tail_of 47 b last (path_of other another) e) s))
+same_folder (b ∷ front) last [] another s t e =
+    absurd (parted front last (subst (λ (l : Text). is_single l ≡ true) (sym (tail_of b 47 (path_of front last) another e)) t))
+same_folder (b ∷ front) last (k ∷ other) another s t e =
+    let h : b ≡ k = head_of b k (path_of front last) (path_of other another) e in
+    let i : front ≡ other = same_folder front last other another s t (tail_of b k (path_of front last) (path_of other another) e) in
+    cc
+
+-- a folder is shorter than a name in it
+pub shorter : (name folder : Text) → IsInFolder name folder → length folder < length name
+shorter name folder h = let e : length name ≡ length (path_of folder h.version) = ap length h.joined in omega (arith, length-append {A = ℕ})
+
+-- the directory of a path
+
+slash_joined : (dir name : Text) → path_of dir name ≡ (dir ++ 47 ∷ []) ++ name
+slash_joined dir name = sym (append_assoc dir (47 ∷ []) name)
+
+pub no_directory : (path name : Text) → ((front : Text) → path ≢ front ++ name) → (dir : Text) → path ≡ path_of dir name → ⊥
+no_directory path name none dir e = none (dir ++ 47 ∷ []) (e ∙ slash_joined dir name)
+
+pub same_directory : (dir other name : Text) → path_of dir name ≡ path_of other name → dir ≡ other
+same_directory dir other name e =
+    append_cancel_right dir other (47 ∷ name) e
+
+before_slash : (path name mid : Text) (r : Option (Bor Text)) → path ≡ mid ++ name → MatchOption r ((front : Text) → mid ≢ front ++ 47 ∷ []) (λ x. mid ≡ x.now ++ 47 ∷ [])
+    → MatchOption r ((dir : Text) → path ≡ path_of dir name → ⊥) (λ dir. path ≡ path_of dir.now name)
+before_slash path name mid None e none = λ dir k. none dir (append_cancel_right mid (dir ++ 47 ∷ []) name (sym e ∙ (k ∙ slash_joined dir name)))
+before_slash path name mid (Some dir) e h = e ∙ (ap (λ (l : Text). l ++ name) h ∙ sym (slash_joined dir.now name))
+
+pub directory : (path name mid : Text) (r : Option (Bor Text)) → StripsSuffix (FindsTextSuffix name) path mid
+    → MatchOption r (FindsCharSuffix 47 mid None) (λ x. StripsSuffix (FindsCharSuffix 47) mid x.now)
+    → MatchOption r ((dir : Text) → path ≡ path_of dir name → ⊥) (λ dir. path ≡ path_of dir.now name)
+directory path name mid r h k =
+    before_slash path name mid r (h.1.1 ∙ ap (λ (l : Text). l ++ name) (sym h.2)) (strip_suffix_char 47 mid r k (omega arith))
+
+-- the folder and the directory of a module
+
+pub in_none : (name path : Text) → is_single name ≡ true → (folder : FolderText) → HoldsModule folder name path → ⊥
+in_none name path s folder h = parted folder.1 h.1.version (subst (λ (l : Text). is_single l ≡ true) h.1.joined s)
+
+pub holds_one : (name path dir front : Text) → path ≡ path_of dir name → IsInFolder name front → (folder : FolderText) → HoldsModule folder name path → (dir, front) ≡ folder
+holds_one name path dir front e f folder h =
+    let d : dir ≡ folder.0 = same_directory dir folder.0 name (sym e ∙ h.0) in
+    let n : front ≡ folder.1 = same_folder front f.version folder.1 h.1.version f.single h.1.single (sym f.joined ∙ h.1.joined) in
+    λ i. (d i, n i)
+
+pub some_folder : (a b : FolderText) → Some a ≡ Some b → a ≡ b
+some_folder a b e = cc
+
+pub no_folder : (a : FolderText) → None ≡ Some a → ⊥
+no_folder a e = cc
+
+-- ---- folders, each once
+
+-- one more, which may be there already
+pub inserted_folder : (eq : Folder → Folder → Bool) → ((a b : Folder) → eq a b ≡ true → folder_view a ≡ folder_view b) → (ks new : List Folder) (k : Folder) → new ≡ insert_key eq ks k
+    → (folder : FolderText) → IsAmong folder (map folder_view new) ↔ (IsAmong folder (map folder_view ks) ⊎ (folder ≡ folder_view k))
+inserted_folder eq same ks new k e folder =
+    subst (λ (l : List Folder). IsAmong folder (map folder_view l) ↔ (IsAmong folder (map folder_view ks) ⊎ (folder ≡ folder_view k))) (sym e) (go (list_any (eq k) ks) refl)
+  where
+    there : list_any (eq k) ks ≡ true → folder ≡ folder_view k → IsAmong folder (map folder_view ks)
+    there h f =
+        let i = any_some (eq k) ks h in
+        subst (λ (t : FolderText). IsAmong t (map folder_view ks)) (sym (f ∙ same k i.0 i.2)) (among_map folder_view i.0 ks i.1)
+
+    go : (b : Bool) → list_any (eq k) ks ≡ b → IsAmong folder (map folder_view (cond b ks (ks ++ k ∷ []))) ↔ (IsAmong folder (map folder_view ks) ⊎ (folder ≡ folder_view k))
+    go true h = ((λ a. inl a), (λ a. by_cases a (λ b. b) (λ f. there h f)))
+    go false h = subst (λ (l : List FolderText). IsAmong folder l ↔ (IsAmong folder (map folder_view ks) ⊎ (folder ≡ folder_view k))) (sym (map-append folder_view ks (k ∷ [])))
+        (among_one folder (folder_view k) (map folder_view ks))
+
+-- the folder of one module more
+pub added_folder : (ks new : List Folder) (k : Folder) (name path : Text) → ((folder : FolderText) → IsAmong folder (map folder_view new) ↔ (IsAmong folder (map folder_view ks) ⊎ (folder ≡ folder_view k)))
+    → ((folder : FolderText) → (Some (folder_view k) ≡ Some folder) ↔ HoldsModule folder name path)
+    → (folder : FolderText) → IsAmong folder (map folder_view new) ↔ (IsAmong folder (map folder_view ks) ⊎ HoldsModule folder name path)
+added_folder ks new k name path h w folder = (
+  (λ a. by_cases ((h folder).0 a) (λ b. inl b) (λ e. inr ((w folder).0 (ap (λ (t : FolderText). Some t) (sym e))))),
+  (λ a. (h folder).1 (by_cases a (λ b. inl b) (λ m. inr (sym (some_folder (folder_view k) folder ((w folder).1 m)))))),
+)
+
+-- no folder is added
+pub added_none : (ks : List Folder) (name path : Text) → ((folder : FolderText) → HoldsModule folder name path → None ≡ Some folder)
+    → (folder : FolderText) → IsAmong folder (map folder_view ks) ↔ (IsAmong folder (map folder_view ks) ⊎ HoldsModule folder name path)
+added_none ks name path w folder = (
+  (λ a. inl a),
+  (λ a. by_cases a (λ b. b) (λ m. absurd (no_folder folder (w folder m)))),
+)
+
+-- the folders of one module more
+pub folders_more : (old new : List Folder) (modules : List Evaluation) (i : ℕ) (m : Evaluation) → i < length modules → m ≡ get_or modules i m
+    → ((folder : FolderText) → IsAmong folder (map folder_view old) ↔ HoldsOneOf (take i modules) folder)
+    → ((folder : FolderText) → IsAmong folder (map folder_view new) ↔ (IsAmong folder (map folder_view old) ⊎ HoldsModule folder (string_bytes m.name) (string_bytes m.path)))
+    → (folder : FolderText) → IsAmong folder (map folder_view new) ↔ HoldsOneOf (take (i + 1) modules) folder
+folders_more old new modules i m l e before turn folder =
+    let P : (Evaluation → Type 0) = λ k. HoldsModule folder (string_bytes k.name) (string_bytes k.path) in
+    let more = one_more P modules i m l e in (
+      (λ a. more.0 (by_cases ((turn folder).0 a) (λ b. inl ((before folder).0 b)) (λ h. inr h))),
+      (λ a. (turn folder).1 (by_cases (more.1 a) (λ b. inl ((before folder).1 b)) (λ h. inr h))),
+    )
+
+pub same_view : (a b : Folder) → (FolderPartialEq.eq-value).it a b ≡ true → folder_view a ≡ folder_view b
+same_view a b h =
+    let p = and_parts (bytes_eq (string_bytes a.dir) (string_bytes b.dir)) (bytes_eq (string_bytes a.name) (string_bytes b.name)) h in
+    let d : string_bytes a.dir ≡ string_bytes b.dir = same_text (string_bytes a.dir) (string_bytes b.dir) p.0 in
+    let n : string_bytes a.name ≡ string_bytes b.name = same_text (string_bytes a.name) (string_bytes b.name) p.1 in
+    λ i. (d i, n i)
+
+-- all modules
+pub folders_whole : (folders : List Folder) (ks : List Folder) (modules : List Evaluation) (i : ℕ) → length modules ≤ i → ((folder : FolderText) → IsAmong folder (map folder_view ks) ↔ HoldsOneOf (take i modules) folder)
+    → folders ≡ ks → (folder : FolderText) → IsAmong folder (map folder_view folders) ↔ HoldsOneOf modules folder
+folders_whole folders ks modules i l h e folder =
+    let all : take i modules ≡ modules = take_all i modules l in
+    subst (λ (fs : List Folder). IsAmong folder (map folder_view fs) ↔ HoldsOneOf modules folder) (sym e)
+    (subst (λ (ms : List Evaluation). IsAmong folder (map folder_view ks) ↔ HoldsOneOf ms folder) all (h folder))
+
+-- the folder that is found of a module
+pub found_folder : (name path dir front : Text) → path ≡ path_of dir name → IsInFolder name front → (f : FolderText) → f ≡ (dir, front)
+    → (folder : FolderText) → (Some f ≡ Some folder) ↔ HoldsModule folder name path
+found_folder name path dir front e i f same folder = (
+  (λ s. subst (λ (t : FolderText). HoldsModule t name path) (sym same ∙ some_folder f folder s) (e, i)),
+  (λ h. ap (λ (t : FolderText). Some t) (same ∙ holds_one name path dir front e i folder h)),
+)
+
+-- ---- bad default files
+
+-- the path of one folder more, if it has one
+bad_turn : (IsBad : FolderText → Text → Type 0) (fs : List FolderText) (f : FolderText) (old : List Text) (answer : Option Text) (path : Text) → ((answer ≡ Some path) ↔ IsBad f path)
+    → (IsAmong path old ↔ ((k : FolderText) × IsAmong k fs × IsBad k path)) → IsAmong path (old ++ option_to_list answer) ↔ ((k : FolderText) × IsAmong k (fs ++ f ∷ []) × IsBad k path)
+bad_turn IsBad fs f old answer path is before = (
+  (λ a. by_cases (among_either path old (option_to_list answer) a)
+      (λ b. let k = before.0 b in (k.0, among_left k.0 fs (f ∷ []) k.1, k.2))
+      (λ b. (f, among_right f fs (f ∷ []) (inl refl), is.0 (of_option answer b)))),
+  (λ k. by_cases ((among_one k.0 f fs).0 k.1)
+      (λ b. among_left path old (option_to_list answer) (before.1 (k.0, b, k.2)))
+      (λ same. among_right path old (option_to_list answer) (to_option answer (is.1 (subst (λ (t : FolderText). IsBad t path) same k.2))))),
+)
+  where
+    of_option : (o : Option Text) → IsAmong path (option_to_list o) → o ≡ Some path
+    of_option None b = absurd b
+    of_option (Some p) (inl e) = ap (λ (t : Text). Some t) (sym e)
+    of_option (Some p) (inr b) = absurd b
+
+    to_option : (o : Option Text) → o ≡ Some path → IsAmong path (option_to_list o)
+    to_option o e = subst (λ (x : Option Text). IsAmong path (option_to_list x)) (sym e) (inl refl)
+
+pub bad_more : (IsBad : FolderText → Text → Type 0) (folders : List Folder) (i : ℕ) (folder : Folder) (old new : List Text) (answer : Option Text) (path : Text) → i < length folders → folder ≡ get_or folders i folder
+    → ((answer ≡ Some path) ↔ IsBad (folder_view folder) path) → new ≡ old ++ option_to_list answer
+    → (IsAmong path old ↔ ((k : FolderText) × IsAmong k (map folder_view (take i folders)) × IsBad k path)) → IsAmong path new ↔ ((k : FolderText) × IsAmong k (map folder_view (take (i + 1) folders)) × IsBad k path)
+bad_more IsBad folders i folder old new answer path l e is pushed before =
+    let turned = bad_turn IsBad (map folder_view (take i folders)) (folder_view folder) old answer path is before in
+    let fs : map folder_view (take (i + 1) folders) ≡ map folder_view (take i folders) ++ folder_view folder ∷ [] =
+    ap (map folder_view) (taken folders i folder l e) ∙ map-append folder_view (take i folders) (folder ∷ []) in
+    subst (λ (ks : List FolderText). IsAmong path new ↔ ((k : FolderText) × IsAmong k ks × IsBad k path)) (sym fs)
+    (subst (λ (ps : List Text). IsAmong path ps ↔ ((k : FolderText) × IsAmong k (map folder_view (take i folders) ++ folder_view folder ∷ []) × IsBad k path)) (sym pushed) turned)
+
+pub bad_whole : (IsBad : FolderText → Text → Type 0) (folders : List Folder) (i : ℕ) (paths : List Text) (path : Text) → length folders ≤ i
+    → (IsAmong path paths ↔ ((k : FolderText) × IsAmong k (map folder_view (take i folders)) × IsBad k path)) → IsAmong path paths ↔ ((k : FolderText) × IsAmong k (map folder_view folders) × IsBad k path)
+bad_whole IsBad folders i paths path l h =
+    let all : take i folders ≡ folders = take_all i folders l in
+    subst (λ (fs : List Folder). IsAmong path paths ↔ ((k : FolderText) × IsAmong k (map folder_view fs) × IsBad k path)) all h

@@ -1,0 +1,12 @@
+use Rattle.siteaudit.proofs.Audited as audited
+use Rattle.siteaudit.proofs.auditing.parts_are_audits.Goals as goal
+
+pub returns : goal.returns
+returns c =
+    audited.parts_are_audits (record {
+      one = c.files.ensures.one;
+      exact = c.certified.ensures;
+      modules = c.walks.ensures.modules;
+      plain = c.walks.ensures.plain;
+      sessions = c.sessions_return.ensures.certificate;
+    })

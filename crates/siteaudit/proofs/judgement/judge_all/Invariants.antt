@@ -1,0 +1,12 @@
+use Rattle.std.proofs.Common.{◌≡◌, ◌++◌, map, List}
+use Rattle.std.specs.Vec.Iter.{into_iter_items}
+use Rattle.requeststep.specs.MoveViews.{module_view}
+use Rattle.siteaudit.specs.Findings.{AreJudged}
+use Rattle.sitewalk.specs.declared.walk.Evaluation.{Evaluation}
+use Rattle.siteaudit.proofs.judgement.judge_all.Given as goal
+
+-- those so far are judged, and the rest are left
+abbrev pub invariant-loop-evaluation : goal.invariant-loop-evaluation
+invariant-loop-evaluation l =
+    (done : List Evaluation) × (done ++ into_iter_items l.evaluation-iterator ≡ l.fn.evaluations.items)
+    × AreJudged done l.judgement.judged.items (map module_view l.judgement.in_step.items)

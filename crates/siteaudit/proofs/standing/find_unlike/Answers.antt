@@ -1,0 +1,14 @@
+use Rattle.std.proofs.Common.{◌∙◌, sym, not, map}
+use Rattle.certificate.specs.RecordUses.{UsedVariable, use_alike}
+use Rattle.certificate.specs.UseViews.{used_view}
+use Rattle.siteaudit.proofs.StandingLemmas.{found_first, found_second}
+use Rattle.siteaudit.proofs.standing.find_unlike.Goals as goal
+
+pub returns-in-Some : goal.returns-in-Some
+returns-in-Some c =
+    sym (found_first (λ (other : UsedVariable). not (use_alike (used_view c.args.one.now) other)) (map used_view c.args.directories.now) (map used_view c.args.used.now) (used_view c.in-Some.other.now) (sym c.in-Some.ensures))
+
+pub returns-in-None : goal.returns-in-None
+returns-in-None c =
+    c.first_unlike-in-None.ensures
+    ∙ sym (found_second (λ (other : UsedVariable). not (use_alike (used_view c.args.one.now) other)) (map used_view c.args.directories.now) (map used_view c.args.used.now) (sym c.in-None.ensures))

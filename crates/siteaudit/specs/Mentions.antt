@@ -1,0 +1,49 @@
+-- The names that records mention, and which of them are unknown: for this crate's own contracts alone.
+use Rattle.std.specs.Prelude.{Bool, true, false, List, [], ◌∷◌, map, flat_map, if◌then◌else◌, Result, Ok, Err, string_bytes}
+use Rattle.std.specs.List.{list_any}
+use Rattle.std.specs.declared.alloc.Global.{Global}
+use Rattle.std.specs.declared.string.String.{String}
+use Rattle.modulename.specs.ModuleName.{means}
+use Rattle.envvars.specs.Texts.{Text, has}
+use Rattle.modulefile.specs.RecordViews.{record_view}
+use Rattle.modulerun.specs.declared.run.Ran.{Ran}
+use Rattle.requests.specs.Records.{Record, Set, Unset, Push, Front, Back, Remove, Conflict, Prereq, Whatis}
+use Rattle.requeststep.specs.declared.refusal.Refusal.{Refusal}
+use Rattle.sitelaws.specs.Sites.{SiteModule}
+use Rattle.sitewalk.specs.declared.walk.Evaluation.{Evaluation}
+use Rattle.siteaudit.specs.Audits.{Mention}
+use Rattle.siteaudit.specs.Findings.{evaluated_file}
+
+-- the name means one of the evaluated modules
+abbrev pub is_known : List Evaluation → Text → Bool
+is_known evaluations name = list_any (λ e. means name (string_bytes e.name)) evaluations
+
+-- the name is one of these
+abbrev pub known_in : List (String Global) → Text → Bool
+known_in names name = has name (map string_bytes names)
+
+-- the names that a module has in a record, where none of them is known
+abbrev pub unknown_by : (Text → Bool) → SiteModule → Bool → List Text → List Mention
+unknown_by known m is_prereq names =
+    if list_any known names then [] else record { by = m; is_prereq = is_prereq; names = names } ∷ []
+
+-- what a record of a module mentions that is unknown
+abbrev pub unknown_in : (Text → Bool) → SiteModule → Record → List Mention
+unknown_in known m (Set var value) = []
+unknown_in known m (Unset var value) = []
+unknown_in known m (Push var value) = []
+unknown_in known m (Front delim var elements) = []
+unknown_in known m (Back delim var elements) = []
+unknown_in known m (Remove delim var elements) = []
+unknown_in known m (Conflict names) = flat_map (λ name. unknown_by known m false (name ∷ [])) names
+unknown_in known m (Prereq names) = unknown_by known m true names
+unknown_in known m (Whatis text) = []
+
+-- what the records of an evaluation mention
+abbrev pub unknown_after : (Text → Bool) → SiteModule → Result Ran Refusal → List Mention
+unknown_after known m (Ok ran) = flat_map (unknown_in known m) (map record_view ran.records.items)
+unknown_after known m (Err refusal) = []
+
+-- what an evaluated module mentions
+abbrev pub unknown_of : (Text → Bool) → Evaluation → List Mention
+unknown_of known e = unknown_after known (evaluated_file e) e.outcome

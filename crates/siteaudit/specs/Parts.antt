@@ -1,0 +1,32 @@
+-- The parts of an audit, by the evaluations of a walk: for this crate's own contracts alone.
+use Rattle.std.specs.Prelude.{◌≡◌, ◌↔◌, List, [], map, flat_map}
+use Rattle.envvars.specs.Texts.{texts_in}
+use Rattle.certificate.specs.RecordUses.{IsAmong}
+use Rattle.certificate.specs.Certificates.{AgreesWith}
+use Rattle.certificate.specs.UseViews.{used_view}
+use Rattle.startcheck.specs.Disagreements.{Disagreement, IsDisagreement}
+use Rattle.startcheck.specs.DisagreementViews.{disagreement_view}
+use Rattle.sitelaws.specs.Sites.{Site}
+use Rattle.sitewalk.specs.Walks.{IsWalkAnswer}
+use Rattle.sitewalk.specs.declared.walk.Evaluation.{Evaluation}
+use Rattle.sitewalk.specs.declared.walk.Walk.{Walk}
+use Rattle.siteaudit.specs.Audits.{mention_of, IsAudit, CertificateStands}
+use Rattle.siteaudit.specs.Findings.{AreStandings}
+use Rattle.siteaudit.specs.Folders.{AreBadAmong}
+use Rattle.siteaudit.specs.Mentions.{is_known, unknown_of}
+use Rattle.siteaudit.specs.declared.auditing.SiteAudit.{SiteAudit}
+
+-- What was found are the parts of an audit, by these evaluations.
+pub record AreParts (site : Site) (evaluations : List Evaluation) (found : SiteAudit) : Type 0 where
+  pub standings : AreStandings evaluations found.modules.items (map used_view found.certificate.items)
+  pub bad_default_files : AreBadAmong site.limits site.files site.listings evaluations (texts_in found.bad_default_files)
+  pub unknown_names : map mention_of found.unknown_names.items ≡ flat_map (unknown_of (is_known evaluations)) evaluations
+  pub agrees : (found.disagreements.items ≡ []) ↔ AgreesWith (map used_view found.certificate.items) site.env
+  pub disagreements : (d : Disagreement) → IsAmong d (map disagreement_view found.disagreements.items)
+      ↔ IsDisagreement (map used_view found.certificate.items) site.env d
+
+-- The parts, by the evaluations of a walk over a site, are an audit of the site, and its certificate stands.
+abbrev pub PartsAreAudits : Type 0
+PartsAreAudits =
+    (site : Site) (walk : Walk) (found : SiteAudit) → IsWalkAnswer site walk
+    → AreParts site walk.evaluations.items found → IsAudit site found × CertificateStands site found

@@ -1,0 +1,223 @@
+//! All modules of a site together: each judged by itself, the answers about clashes, and the certificate.
+ghost use Rattle.std.specs.Prelude.{◌≡◌, ◌++◌, [], ◌∷◌, map, IfOk, OnOk};
+ghost use Rattle.std.specs.Vec.Iter.{into_iter_items};
+ghost use Rattle.requeststep.specs.MoveViews.{module_view};
+ghost use Rattle.certificate.specs.RecordUses.{used_by_modules};
+ghost use Rattle.certificate.specs.UseViews.{used_view};
+ghost use Rattle.siteaudit.specs.Findings as findings;
+ghost use Rattle.siteaudit.specs.Findings.{standing_of, steps_of, AddsJudged, AreJudged, AreStandings, answers_left, settled, without_clash, without_clashes};
+
+use crate::auditing::AuditedModule;
+use crate::standing::{Finding, Standing, judge};
+use certificate::{UsedVariable, used_by};
+use requeststep::Module;
+use siteclash::{Clash, clashes};
+use sitewalk::Evaluation;
+use std::alloc::{AllocError, Global};
+use std::vec::IntoIter;
+
+/// A module that is judged by itself.
+#[derive(Drop)]
+pub(crate) struct Judged {
+    name: String,
+    path: String,
+    /// How it stands; `None` where it is plain and in step, so that the other modules decide.
+    standing: Option<Standing>,
+}
+
+/// The modules of a site, each judged by itself.
+#[derive(Drop)]
+pub(crate) struct Judgement {
+    /// All of them, in their order.
+    pub(crate) judged: Vec<Judged>,
+    /// The plain ones in step, in the same order.
+    pub(crate) in_step: Vec<Module>,
+}
+
+/// Where other modules decide how a module stands, it joins those that are plain and in step; else this is how it
+/// stands.
+fn sort_out(
+    alloc: Global,
+    name: &str,
+    path: &str,
+    finding: Finding,
+    in_step: &mut Vec<Module>,
+) -> Result<Option<Standing>, AllocError>
+    ensures standing { IfOk result (λ standing. standing ≡ standing_of finding) }
+    ensures steps { OnOk result (map module_view in_step.new.items
+        ≡ map module_view in_step.old.items ++ steps_of (record { name = name.now; path = path.now }) finding) }
+{
+    match finding {
+        Finding::Stands(standing) => Ok(Some(standing)),
+        Finding::InStep(records) => {
+            in_step.push(Module {
+                name: String::from_str(alloc, name)?,
+                path: String::from_str(alloc, path)?,
+                records,
+            })?;
+            Ok(None)
+        }
+    }
+}
+
+/// Judges one module more by itself.
+fn judge_next(
+    alloc: Global,
+    evaluation: Evaluation,
+    judgement: &mut Judgement,
+) -> Result<(), AllocError>
+    ensures { OnOk result (AddsJudged evaluation judgement.old judgement.new) }
+{
+    let Evaluation {
+        name,
+        path,
+        outcome,
+    } = evaluation;
+    let finding = judge(alloc, outcome)?;
+    let standing = sort_out(
+        alloc,
+        name.as_str(),
+        path.as_str(),
+        finding,
+        &mut judgement.in_step,
+    )?;
+    judgement.judged.push(Judged {
+        name,
+        path,
+        standing,
+    })?;
+    Ok(())
+}
+
+/// Judges each module by itself.
+pub(crate) fn judge_all(
+    alloc: Global,
+    evaluations: Vec<Evaluation>,
+) -> Result<Judgement, AllocError>
+    ensures { IfOk result (λ judgement. AreJudged evaluations.items judgement.judged.items
+        (map module_view judgement.in_step.items)) }
+{
+    let mut judgement = Judgement {
+        judged: Vec::new(alloc),
+        in_step: Vec::new(alloc),
+    };
+    for evaluation in evaluations {
+        judge_next(alloc, evaluation, &mut judgement)?;
+    }
+    Ok(judgement)
+}
+
+/// How a module stands by its answer: it clashes with another, or is certified.
+fn standing_by(answer: Option<Clash>) -> Standing
+    ensures { result ≡ findings.standing_by (answer ∷ []) }
+{
+    match answer {
+        Some(clash) => Standing::Clashes(clash),
+        None => Standing::Certified,
+    }
+}
+
+/// How a module stands by what it shows by itself, or else by the next answer.
+fn standing_with(standing: Option<Standing>, answers: &mut IntoIter<Option<Clash>>) -> Standing
+    ensures standing { result ≡ findings.standing_with standing (into_iter_items answers.old) }
+    ensures left { into_iter_items answers.new ≡ answers_left standing (into_iter_items answers.old) }
+{
+    match standing {
+        Some(standing) => standing,
+        None => match answers.next() {
+            Some(answer) => standing_by(answer),
+            None => Standing::Certified,
+        },
+    }
+}
+
+/// The module with its standing.
+fn module_with(judged: Judged, answers: &mut IntoIter<Option<Clash>>) -> AuditedModule
+    ensures module { result ≡ findings.module_with judged (into_iter_items answers.old) }
+    ensures left { into_iter_items answers.new ≡ answers_left judged.standing (into_iter_items answers.old) }
+{
+    let Judged {
+        name,
+        path,
+        standing,
+    } = judged;
+    AuditedModule {
+        name,
+        path,
+        standing: standing_with(standing, answers),
+    }
+}
+
+/// The modules with their standings: those for whom others decide have these answers, in their order.
+pub(crate) fn settle(
+    alloc: Global,
+    judged: Vec<Judged>,
+    answers: Vec<Option<Clash>>,
+) -> Result<Vec<AuditedModule>, AllocError>
+    ensures { IfOk result (λ modules. modules.items ≡ settled judged.items answers.items) }
+{
+    let mut modules = Vec::new(alloc);
+    let mut answers = answers.into_iter();
+    for one in judged {
+        modules.push(module_with(one, &mut answers))?;
+    }
+    Ok(modules)
+}
+
+/// Adds what a module uses, where its answer is that it clashes with none.
+fn add_uses(
+    alloc: Global,
+    module: &Module,
+    answer: &Option<Clash>,
+    used: &mut Vec<UsedVariable>,
+) -> Result<(), AllocError>
+    ensures { OnOk result (map used_view used.new.items
+        ≡ map used_view used.old.items ++ used_by_modules (without_clash (module_view module.now) answer.now)) }
+{
+    if answer.is_none() {
+        let mut own = used_by(alloc, module.records.as_slice())?;
+        used.append(&mut own)?;
+    }
+    Ok(())
+}
+
+/// What those of the modules use whose answers are that they clash with none.
+pub(crate) fn uses_without_clash(
+    alloc: Global,
+    in_step: &[Module],
+    answers: &[Option<Clash>],
+) -> Result<Vec<UsedVariable>, AllocError>
+    ensures { IfOk result (λ used. map used_view used.items
+        ≡ used_by_modules (without_clashes (map module_view in_step.now) answers.now)) }
+{
+    let mut used = Vec::new(alloc);
+    for (module, answer) in in_step.iter().zip(answers) {
+        add_uses(alloc, module, answer, &mut used)?;
+    }
+    Ok(used)
+}
+
+/// How the modules of a site stand, and what the certified ones use.
+#[derive(Drop)]
+pub(crate) struct Standings {
+    pub(crate) modules: Vec<AuditedModule>,
+    pub(crate) certificate: Vec<UsedVariable>,
+}
+
+/// Judges the modules of a site: each by itself, and those that are plain and in step by their clashes.
+pub(crate) fn judge_modules(
+    alloc: Global,
+    evaluations: Vec<Evaluation>,
+) -> Result<Standings, AllocError>
+    ensures { IfOk result (λ found.
+        AreStandings evaluations.items found.modules.items (map used_view found.certificate.items)) }
+{
+    let Judgement { judged, in_step } = judge_all(alloc, evaluations)?;
+    let answers = clashes(alloc, in_step.as_slice())?;
+    let certificate = uses_without_clash(alloc, in_step.as_slice(), answers.as_slice())?;
+    let modules = settle(alloc, judged, answers)?;
+    Ok(Standings {
+        modules,
+        certificate,
+    })
+}
