@@ -1,6 +1,6 @@
-# Builds, shows and tests the programs modulecmd and modcheck.
+# Builds, shows and tests the programs modulecmd, modcheck and modaudit.
 #
-#   make build   proves the crates that the programs stand on, side by side, and leaves both in build/bin, linked
+#   make build   proves the crates that the programs stand on, side by side, and leaves them in build/bin, linked
 #                statically by the system's compiler where it is there; JOBS=N says how many processors may be used
 #   make check   proves every crate as `make build` does, without the gate; with CRATE=name that crate and those below;
 #                with ONLY=function besides, that function of the crate and what it calls
@@ -20,7 +20,7 @@ PREFIX ?= /opt/modulecmd
 DESTDIR ?=
 CRATE ?=
 ONLY ?=
-PROGRAMS = build/bin/modulecmd build/bin/modcheck
+PROGRAMS = build/bin/modulecmd build/bin/modcheck build/bin/modaudit
 
 .PHONY: build check deps install uninstall package demo test bench clean
 

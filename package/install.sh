@@ -28,7 +28,7 @@ cd "$(dirname "$0")"
 if test "$action" = uninstall; then
     exec sh tools/product.sh uninstall "${DESTDIR-}" "$prefix"
 fi
-sh tools/product.sh install "${DESTDIR-}" "$prefix" bin/modulecmd bin/modcheck
+sh tools/product.sh install "${DESTDIR-}" "$prefix" bin/modulecmd bin/modcheck bin/modaudit
 cat << END
 What start-up files take it up (as root; where a folder isn't there, that shell isn't either):
   ln -s '$prefix/init/profile.sh' /etc/profile.d/modulecmd.sh      # sh, bash, ksh

@@ -9,12 +9,17 @@ means; and after the last one `env -0` writes what it wrote at the start.
 
     python3 -B tests/certified.py PROGRAM [RUNS [SEED [SHELL]]]
 
+The program `modaudit`, which stands beside it, has to say the same of each site: how its modules stand, in which order,
+their certificate, and that the start agrees with it.
+
 Runs are numbered from SEED on (0); SHELL is sh, tcsh or fish. Without a program (a folder in its place) the model alone
 is run, and besides with clauses of the definition left out, each of which has to lose a start or what is loaded.
 """
 
+import json
 import os
 import random
+import subprocess
 import sys
 import tempfile
 
@@ -314,6 +319,65 @@ def some_site(rng, names, words, top):
             pass
 
 
+# The program that judges sites.
+
+
+def audit_of(program, site, env):
+    """The document that the program writes of a site in an environment, whose MODULEPATH is the site's."""
+    done = subprocess.run([program, "--json"], env=judged(site, env), capture_output=True, timeout=60, check=False)
+    if done.stderr or done.returncode not in (0, 1):
+        raise Lost(f"modaudit ends with status {done.returncode}, and {done.stderr!r}")
+    return json.loads(done.stdout)
+
+
+def judged(site, env):
+    """The environment, with the MODULEPATH of the site, and without counters of it."""
+    others = {name: value for name, value in env.items() if name != model.SHARE + MODULEPATH}
+    return dict(others, MODULEPATH=site.modulepath)
+
+
+def use_of(value):
+    """A use of the document, as the model has it."""
+    kind = value["use"]
+    if kind in ("set", "unset"):
+        return ("fixed", value.get("value"))
+    return ("path", value["delimiter"]) if kind == "path" else ("stack",)
+
+
+def uses_in(values):
+    return {(value["variable"], use_of(value)) for value in values if value["use"] != "loaded"}
+
+
+def differs(found, site):
+    """In what a document of a site, judged in an environment without variables, differs from the model, or none."""
+    modules = [(one["name"], one["path"], one["standing"]) for one in found["modules"]]
+    wanted = [(one.name, one.path, standings.standing_of(one, site.modules)) for one in site.modules]
+    pairs = {
+        "the modules": (sorted(modules), sorted(wanted)),
+        "the certificate": (uses_in(found["certificate"]), set(site.uses)),
+        "the counts": ((found["certified"], found["count"]), (len(site.certified), len(site.modules))),
+    }
+    return next((f"{what}: {one!r}, by the model {other!r}" for what, (one, other) in pairs.items() if one != other), None)
+
+
+def disagrees(found, site, env):
+    """In what a document says otherwise than the model whether an environment agrees with its certificate, or none."""
+    said = uses_in(found["disagreements"])
+    its = judged(site, env)
+    wanted = {use for use in uses_in(found["certificate"]) if not standings.agrees_with_use(its, *use)}
+    return None if said == wanted else f"the disagreements: {said!r}, by the model {wanted!r}"
+
+
+def audited(program, run):
+    """What modaudit says otherwise than the model of the site of a run, and of its start, or none."""
+    program = os.path.join(os.path.dirname(program), "modaudit")
+    try:
+        found = differs(audit_of(program, run.site, {}), run.site)
+        return found or disagrees(audit_of(program, run.site, run.start), run.site, run.start)
+    except Lost as lost:
+        return str(lost)
+
+
 # All of it.
 
 
@@ -326,7 +390,7 @@ def in_a_shell(program, count, seed, shell):
             top = os.path.realpath(top)
             run = Run(number, top, shell)
             run.tree.write()
-            found = sentence.lost(run, program, top)
+            found = audited(program, run) or sentence.lost(run, program, top)
             accepted += sum(1 for one in run.commands if one[3] == 0)
             refused += sum(1 for one in run.commands if one[3] == 1)
             modules += len(run.site.modules)

@@ -353,6 +353,8 @@ def shells_log_in_by_the_links_of_debian_s_package(folder):
         os.remove(f"{MACHINE.root}/etc/zsh/zshrc")
         out, err, _ = MACHINE.run(["modcheck", "sh"], input="load foo\nunload foo\n")
         true("foo/1.0: Plain" in out + err, f"modcheck: found {out}{err}")
+        out, err, _ = MACHINE.run(["modaudit"])
+        true("foo/1.0\tcertified" in out, f"modaudit: found {out}{err}")
 
 
 @case_where(IS_ROOT, HAS_DPKG)

@@ -3,7 +3,7 @@ which docs/SITES.md looks at the modulefiles of a site.
 
     python3 -B tests/pages.py PROGRAM
 
-modcheck stands beside the program. A block `console` is a session: commands stand behind `$ `, and below each what the
+modcheck and modaudit stand beside the program. A block `console` is a session: commands stand behind `$ `, and below each what the
 terminal shows. All blocks of a page are typed into one bash, in their order, with the modulefiles of tests/sites at the
 place that the pages name.
 """
@@ -124,7 +124,7 @@ class Typed:
 
 
 def install(prefix):
-    programs = [os.path.join(os.path.dirname(os.path.abspath(sys.argv[1])), name) for name in ("modulecmd", "modcheck")]
+    programs = [os.path.join(os.path.dirname(os.path.abspath(sys.argv[1])), name) for name in ("modulecmd", "modcheck", "modaudit")]
     command = ["sh", os.path.join(TOP, "tools", "product.sh"), "install", "", prefix, *programs]
     subprocess.run(command, stdout=subprocess.DEVNULL, check=True)
 

@@ -29,6 +29,7 @@ COUNTS = re.compile(r"(\d+) passed, (\d+) failed")
 PROGRAMS = {
     "modulecmd": ("modulecmd_main", "modulecmd_main"),
     "modcheck": ("modcheck", "modcheck"),
+    "modaudit": ("modaudit", "modaudit"),
     "cases_tcl": ("cases_tcl", "cases_tcl"),
     "cases_environment": ("cases_environment", "cases_environment"),
     "cases_requests": ("cases_requests", "cases_requests"),
@@ -48,6 +49,7 @@ SUITES = (
     ("certified.py", "modulecmd", "40", "0", "fish"),
     ("losses.py", "modulecmd"),
     ("modcheck.py", "modcheck"),
+    ("modaudit.py", "modaudit"),
     ("plain.py", "modcheck"),
     ("memory.py", "modulecmd"),
     ("numbers.py", "cases_requests"),

@@ -5,7 +5,7 @@
 
 Proves the crates that are named and those below them, each once the crates that it stands on are there: as many at a
 time as processors and memory allow, the longest chain of crates first. A program among them is built and left in
-build/bin; with `--check` nothing is left there. Without a name: the two programs of the product, or every crate with
+build/bin; with `--check` nothing is left there. Without a name: the programs of the product, or every crate with
 `--check`. With `--only` the crates below are proved, and of the crate itself one function with what it calls.
 
 What was proved lies in crates/*/out/build and is taken again where neither the crate nor anything below it changed.
@@ -30,7 +30,7 @@ import link  # noqa: E402
 import rtlib  # noqa: E402  (the kit's own module: it knows the words that a crate is proved with)
 
 # The crates of the product's programs, and the programs whose name is not that of their crate.
-PRODUCT = ["modulecmd_main", "modcheck"]
+PRODUCT = ["modulecmd_main", "modcheck", "modaudit"]
 NAMES = {"modulecmd_main": "modulecmd"}
 MOST_JOBS = 4  # of one crate: more of them gain nothing
 SHOWN_LINES = 30

@@ -36,6 +36,7 @@ LINKS = {
     "/etc/profile.d/modulecmd.sh": f"{PREFIX}/init/profile.sh",
     "/etc/csh/cshrc.d/modulecmd": f"{PREFIX}/init/profile.csh",
     "/usr/share/fish/vendor_conf.d/modulecmd.fish": "../../../lib/modulecmd/init/fish",
+    "/usr/bin/modaudit": "../lib/modulecmd/bin/modaudit",
     "/usr/bin/modcheck": "../lib/modulecmd/bin/modcheck",
 }
 CONFFILES = ("/etc/modulecmd/modulespath",)

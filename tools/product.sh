@@ -31,9 +31,10 @@ esac
 files='init/sh init/bash init/ksh init/zsh init/csh init/tcsh init/fish init/profile.sh
     init/profile.csh libexec/module.csh libexec/ml.csh libexec/collection.awk libexec/listing.awk
     completion/bash completion/_module completion/fish completion/tcsh
-    share/man/man1/module.1 share/man/man1/modcheck.1 share/man/man5/modulefile.5 etc/modulespath.example'
+    share/man/man1/module.1 share/man/man1/modcheck.1 share/man/man1/modaudit.1 share/man/man5/modulefile.5
+    etc/modulespath.example'
 runs='libexec/usage libexec/modulespath libexec/names libexec/report libexec/changes libexec/suggest'
-programs='bin/modulecmd bin/modcheck'
+programs='bin/modulecmd bin/modcheck bin/modaudit'
 folders='bin init libexec completion etc share/man/man1 share/man/man5 share/man share'
 
 # What a file holds.

@@ -16,6 +16,7 @@ INIT = ("bash", "csh", "fish", "ksh", "profile.csh", "profile.sh", "sh", "tcsh",
 
 # Every file below the prefix.
 FILES = [
+    "bin/modaudit",
     "bin/modcheck",
     "bin/modulecmd",
     "completion/_module",
@@ -35,6 +36,7 @@ FILES = [
     "libexec/report",
     "libexec/suggest",
     "libexec/usage",
+    "share/man/man1/modaudit.1",
     "share/man/man1/modcheck.1",
     "share/man/man1/module.1",
     "share/man/man5/modulefile.5",
@@ -160,7 +162,7 @@ def completion_offers_what_the_program_does(folder):
 
 @case
 def the_pages_are_well_formed(folder):
-    pages = [os.path.join(TOP, "man", name) for name in ("module.1", "modcheck.1", "modulefile.5")]
+    pages = [os.path.join(TOP, "man", name) for name in ("module.1", "modcheck.1", "modaudit.1", "modulefile.5")]
     true(shutil.which("mandoc"), "mandoc is installed")
     lint = subprocess.run(["mandoc", "-T", "lint", *pages], capture_output=True, check=False)
     # Whether the other page is installed on this machine is nothing to the page.

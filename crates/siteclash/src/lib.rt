@@ -1,6 +1,5 @@
 //! Clashes: which modules of a site clash in a variable that they use, found by a table of variables.
-//! Takes memory and touches nothing else. A module is compared with others one by one until its first clash. Users whose
-//! use goes together with its own, and families that a conflict of its own excludes, are passed over as a whole.
+//! Takes memory and touches nothing else. Uses that go together, and excluded families, are passed over as a whole.
 //! Used by siteaudit.
 #![tactic(auto)]
 

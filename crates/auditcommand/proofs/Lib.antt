@@ -1,0 +1,3 @@
+pub mod WriterLemmas
+pub mod DirectoryLemmas
+pub mod AuditLemmas

@@ -1,0 +1,28 @@
+use Rattle.std.proofs.Common.{◌<◌}
+use Rattle.std.proofs.lemmas.List.{take_all}
+use Rattle.std.proofs.lemmas.Result.{err_from_is_err_and}
+use Rattle.auditcommand.proofs.DirectoryLemmas.{reads_more, fails_later, directory_more, fault_among}
+use Rattle.auditcommand.proofs.directories.judge_directories.Goals as goal
+
+pub loop-dir-preserved : goal.loop-dir-preserved
+loop-dir-preserved g c = record {
+  reads = reads_more g.T.Tree.agrees g.T.Tree.failures c.args.tree.now c.loop-dir.tree c.judge_directory.new.tree c.loop-dir.invariant.reads c.in_ok-judge_directory.ensures.reads;
+  there = directory_more (g.T.Tree.agrees c.loop-dir.tree) (g.T.Tree.agrees c.judge_directory.new.tree) c.args.dirs.now c.loop-dir.dir-index c.dir-item.result c.loop-dir-test.true c.dir-item.is
+      c.in_ok-judge_directory.ensures.reads.narrows c.loop-dir.invariant.there (rw c.as_str.ensures.value at c.in_ok-judge_directory.ensures.there);
+}
+
+pub returns-in_err-judge_directory-clause-reads : goal.returns-in_err-judge_directory-clause-reads
+returns-in_err-judge_directory-clause-reads g c =
+    reads_more g.T.Tree.agrees g.T.Tree.failures c.args.tree.now c.loop-dir.tree c.judge_directory.new.tree c.loop-dir.invariant.reads c.in_err-judge_directory.ensures.reads
+
+pub returns-in_err-judge_directory-clause-cause : goal.returns-in_err-judge_directory-clause-cause
+returns-in_err-judge_directory-clause-cause g c =
+    let p = err_from_is_err_and c.from_residual.result c.from_residual.ensures.1 in
+    let first = g.T.Tree.failures c.args.tree.now in
+    let was = g.T.Tree.failures c.loop-dir.tree in
+    let is = g.T.Tree.failures c.judge_directory.new.tree in
+    rw (p.1, p.2) (fault_among (g.T.Tree.agrees c.judge_directory.new.tree) (was < is) (first < is) c.args.dirs.now c.loop-dir.dir-index c.dir-item.result c.in_err-judge_directory.field-0.0
+    (λ h. fails_later first was is c.loop-dir.invariant.reads.counts_failures h) c.loop-dir-test.true c.dir-item.is (rw c.as_str.ensures.value at c.in_err-judge_directory.ensures.cause))
+
+pub returns-clause-there : goal.returns-clause-there
+returns-clause-there g c = rw (take_all c.loop-dir.dir-index c.args.dirs.now c.loop-dir-test.false) at c.loop-dir.invariant.there

@@ -1,0 +1,6 @@
+-- The definitions of a whole audit (own): the words of its command line, what it writes, and why there is none.
+pub mod Arguments
+pub mod ArgumentViews
+pub mod Faults
+pub mod Audits
+pub mod Steps

@@ -1,0 +1,44 @@
+//! The program `modaudit [--quiet] [--json] [DIR...]`: says how each module of a site stands (modaudit(1)).
+//! Touches its arguments, its environment, the standard streams and the clock, and reads files and directories.
+//! Nothing stands above it; it has no clause, so it has little code.
+#![tactic(auto)]
+
+mod progress_line;
+
+use auditcommand::{AuditExit, run_audit};
+use modulecmd::{CommandFault, DiskTree, process_input, write_refusal};
+use progress_line::ProgressLine;
+use std::process::ExitCode;
+
+/// Says why there is no audit, and with which status the program ends.
+fn refused(rt: &HostRuntime, fault: &CommandFault) -> ExitCode {
+    let _ = write_refusal(fault, &mut rt.stderr());
+    ExitCode::from(AuditExit::Reported.status())
+}
+
+/// Audits a site, and ends with the status of the audit.
+fn main(rt: HostRuntime) -> ExitCode {
+    let (arguments, env) = match process_input(&rt) {
+        Ok(given) => given,
+        Err(fault) => return refused(&rt, &fault),
+    };
+    let mut out = rt.stdout();
+    let mut err = rt.stderr();
+    let alloc = rt.alloc();
+    let mut progress = ProgressLine::new(&rt, rt.stderr());
+    let disk = match rt.clone() {
+        Ok(disk) => disk,
+        Err(e) => return refused(&rt, &CommandFault::from(e)),
+    };
+    let mut tree = DiskTree::new(disk);
+    let exit = run_audit(
+        alloc,
+        arguments.as_slice(),
+        env,
+        &mut tree,
+        &mut progress,
+        &mut out,
+        &mut err,
+    );
+    ExitCode::from(exit.status())
+}

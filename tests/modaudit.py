@@ -1,0 +1,730 @@
+"""What the built program `modaudit` says of sites, over real folders.
+
+    python3 -B tests/modaudit.py PROGRAM
+
+The rows are typed by hand from the rules in docs/DEFINITIONS.md (sites, certificates); random sites are compared with the
+model in `standings.py`, which shares nothing with the program. In rows and modulefiles `/m`, `/n` and `/o` stand for the
+folders that a case makes.
+"""
+
+import json
+import os
+import pty
+import random
+import re
+import select
+import shutil
+import subprocess
+import sys
+import time
+
+import certified
+import losses
+from harness import CASES, HERE, SECONDS, case, refuser, refuses_each, run_all, same, true
+from worked import FOLDER, real, write
+
+# The cases of `losses.py` are a suite of their own.
+CASES.clear()
+
+TOP = os.path.dirname(HERE)
+ERROR = "ERROR: {}\n"
+WRITING_FAILED = ERROR.format("Writing failed").encode()
+
+# How many random sites are compared with the model.
+SITES = 150
+
+# How much more a site of twice as many modules may cost, where all grows with their number.
+TWICE = 2.6
+
+
+class Site:
+    """Modulefiles, and an environment that a site is judged in."""
+
+    def __init__(self, folder, files, modulepath="/m", **variables):
+        self.folder = folder
+        for path, text in files.items():
+            write(folder, path, text)
+        self.env = {b"MODULEPATH": real(folder, modulepath)}
+        self.env.update({name.encode(): real(folder, value) for name, value in variables.items()})
+
+    def run(self, *words, **streams):
+        return self.folder.run(*words, env=self.env, **streams)
+
+    def clear(self):
+        for name in (b"m", b"n", b"o"):
+            shutil.rmtree(os.path.join(self.folder.path, name), ignore_errors=True)
+
+    def says(self, lines, *words, status=None):
+        """These lines stand on standard output, and nothing on standard error."""
+        done = self.run(*words)
+        wanted = real(self.folder, "".join(line + "\n" for line in lines))
+        what = f"of {words} over {lines}"
+        same((done.stderr, done.stdout.decode().splitlines()), (b"", wanted.decode().splitlines()), f"what is said {what}")
+        count = re.search(r"^# (\d+) certified of (\d+)$", wanted.decode(), re.MULTILINE)
+        same(done.returncode, int(count[1] != count[2]) if status is None else status, f"the status {what}")
+
+    def refuses(self, text, *words):
+        """There is no audit, and this is said after `ERROR: `."""
+        done = self.run(*words)
+        same(done.stderr, real(self.folder, ERROR.format(text)), f"standard error of {words}")
+        same((done.stdout, done.returncode), (b"", 2), f"standard output and status of {words}")
+
+    def document(self, *words):
+        done = self.run("--json", *words)
+        same(done.stderr, b"", f"standard error of {words}")
+        true(done.stdout.endswith(b"\n") and done.stdout.count(b"\n") == 1, "the document is a line")
+        return json.loads(done.stdout)
+
+
+# Standings, by hand: modulefiles; of each module in turn its name, its standing and the reason; and remarks.
+
+ROWS = {
+    "a variable that is set, and an element": (
+        {"/m/a/1": "setenv V x\nprepend-path P /b\n"},
+        [("a/1", "certified", "")],
+    ),
+    "an empty file": ({"/m/a/1": ""}, [("a/1", "certified", "")]),
+    "a question": ({"/m/a/1": "getenv HOME\nis-loaded b\n"}, [("a/1", "asks", "getenv HOME")]),
+    "a question to the mode": ({"/m/a/1": "if {[module-info mode load]} {}\n"}, [("a/1", "asks", "module-info mode load")]),
+    "a question and a one-way record": ({"/m/a/1": "unsetenv V\ngetenv HOME\n"}, [("a/1", "asks", "getenv HOME")]),
+    "a value that no unload knows": ({"/m/a/1": "unsetenv V\n"}, [("a/1", "one-way", "unsetenv V")]),
+    "an element that no unload puts back": (
+        {"/m/a/1": "setenv V x\nremove-path P /b\nunsetenv W\n"},
+        [("a/1", "one-way", "remove-path P /b")],
+    ),
+    "elements with another delimiter": (
+        {"/m/a/1": "remove-path -d , P /b,/c\n"},
+        [("a/1", "one-way", "remove-path --delim , P /b,/c")],
+    ),
+    "a refused evaluation": (
+        {"/m/a/1": "setenv V x\nnope\n"},
+        [("a/1", "refused", 'invalid command name "nope" (line 3)')],
+    ),
+    "a file that stops": ({"/m/a/1": "exit\n"}, [("a/1", "refused", "Stopped by the modulefile")]),
+    # Out of step.
+    "a variable that is set and pushed": (
+        {"/m/a/1": "setenv V x\npushenv V y\n"},
+        [("a/1", "out-of-step", "V: set, and stack")],
+    ),
+    "two delimiters in one module": (
+        {"/m/a/1": "append-path V b\nappend-path -d , V c\n"},
+        [("a/1", "out-of-step", "V: path with ':', and path with ','")],
+    ),
+    "two values in one module": (
+        {"/m/a/1": "unsetenv V x\nunsetenv V y\n"},
+        [("a/1", "out-of-step", "V: unset of 'x', and unset of 'y'")],
+    ),
+    "a MODULEPATH that is pushed": (
+        {"/m/a/1": "pushenv MODULEPATH /n\n", "/n/b/1": ""},
+        [("a/1", "out-of-step", "MODULEPATH: stack, and path with ':'")],
+    ),
+    "a MODULEPATH with another delimiter": (
+        {"/m/a/1": "append-path -d , MODULEPATH /n\n", "/n/b/1": ""},
+        [("a/1", "out-of-step", "MODULEPATH: path with ',', and path with ':'"), ("b/1", "certified", "")],
+    ),
+    "a module out of step keeps no other from being certified": (
+        {"/m/a/1": "setenv V x\npushenv V y\n", "/m/b/1": "setenv V z\n"},
+        [("a/1", "out-of-step", "V: set, and stack"), ("b/1", "certified", "")],
+    ),
+    # Clashes: one clause decides in each of these, and in what stands beside it.
+    "two delimiters": (
+        {"/m/a/1": "append-path V b\n", "/m/b/1": "append-path -d , V c\n"},
+        [
+            ("a/1", "clashes", "V: path with ':' here, path with ',' in b/1 (/m/b/1)"),
+            ("b/1", "clashes", "V: path with ',' here, path with ':' in a/1 (/m/a/1)"),
+        ],
+    ),
+    "one delimiter": (
+        {"/m/a/1": "append-path -d , V b\n", "/m/b/1": "prepend-path -d , V c\n"},
+        [("a/1", "certified", ""), ("b/1", "certified", "")],
+    ),
+    "one stack": (
+        {"/m/a/1": "pushenv V b\n", "/m/b/1": "pushenv V c\n"},
+        [("a/1", "certified", ""), ("b/1", "certified", "")],
+    ),
+    "a clash without a conflict": (
+        {"/m/a/1": "setenv V x\n", "/m/b/1": "setenv V y\n"},
+        [("a/1", "clashes", "V: set here, set in b/1 (/m/b/1)"), ("b/1", "clashes", "V: set here, set in a/1 (/m/a/1)")],
+    ),
+    "a conflict of the first": (
+        {"/m/a/1": "conflict b\nsetenv V x\n", "/m/b/1": "setenv V y\n"},
+        [("a/1", "certified", ""), ("b/1", "certified", "")],
+    ),
+    "a conflict of the second": (
+        {"/m/a/1": "setenv V x\n", "/m/b/1": "conflict a/1\nsetenv V y\n"},
+        [("a/1", "certified", ""), ("b/1", "certified", "")],
+    ),
+    "a conflict by the name's first part": (
+        {"/m/a/b/1": "setenv V x\n", "/m/c/1": "conflict a\nsetenv V y\n"},
+        [("a/b/1", "certified", ""), ("c/1", "certified", "")],
+    ),
+    "a conflict with the letters of a name": (
+        {"/m/ab/1": "setenv V x\n", "/m/c/1": "conflict a\nsetenv V y\n", "/m/d/1": "conflict ab\nsetenv W y\n"},
+        [
+            ("ab/1", "clashes", "V: set here, set in c/1 (/m/c/1)"),
+            ("c/1", "clashes", "V: set here, set in ab/1 (/m/ab/1)"),
+            ("d/1", "certified", ""),
+        ],
+        ["# c/1 (/m/c/1): conflict names no module: 'a'"],
+    ),
+    "two versions of one module": (
+        {"/m/a/1": "setenv V x\n", "/m/a/2": "setenv V y\n"},
+        [("a/1", "clashes", "V: set here, set in a/2 (/m/a/2)"), ("a/2", "clashes", "V: set here, set in a/1 (/m/a/1)")],
+    ),
+    "two versions in conflict": (
+        {"/m/a/1": "conflict a\nsetenv V x\n", "/m/a/2": "setenv V y\n"},
+        [("a/1", "certified", ""), ("a/2", "certified", "")],
+    ),
+    "uses that differ between modules that exclude each other": (
+        {"/m/a/1": "conflict b\npushenv V x\nappend-path W c\n", "/m/b/1": "setenv V y\nappend-path -d , W c\n"},
+        [("a/1", "certified", ""), ("b/1", "certified", "")],
+    ),
+    "an unset value": (
+        {"/m/a/1": "conflict b\nunsetenv V x\n", "/m/b/1": "unsetenv V x\n"},
+        [("a/1", "certified", ""), ("b/1", "certified", "")],
+        ["# environment: V isn't 'x'"],
+    ),
+    "two unset values": (
+        {"/m/a/1": "conflict b\nunsetenv V x\n", "/m/b/1": "unsetenv V y\n"},
+        [
+            ("a/1", "clashes", "V: unset of 'x' here, unset of 'y' in b/1 (/m/b/1)"),
+            ("b/1", "clashes", "V: unset of 'y' here, unset of 'x' in a/1 (/m/a/1)"),
+        ],
+    ),
+    "unset here and set there": (
+        {"/m/a/1": "conflict b\nunsetenv V x\n", "/m/b/1": "setenv V y\n"},
+        [
+            ("a/1", "clashes", "V: unset of 'x' here, set in b/1 (/m/b/1)"),
+            ("b/1", "clashes", "V: set here, unset of 'x' in a/1 (/m/a/1)"),
+        ],
+    ),
+    # Directories.
+    "a directory that only a module adds": (
+        {"/m/a/1": "append-path MODULEPATH /n\nsetenv V x\n", "/n/b/1": "setenv V y\n"},
+        [("a/1", "clashes", "V: set here, set in b/1 (/n/b/1)"), ("b/1", "clashes", "V: set here, set in a/1 (/m/a/1)")],
+    ),
+    "a directory that a module adds which isn't plain": (
+        {"/m/a/1": "append-path MODULEPATH /n\nunsetenv W\n", "/n/b/1": "setenv V y\n"},
+        [("a/1", "one-way", "unsetenv W")],
+    ),
+    "a directory behind a directory": (
+        {"/m/a/1": "prepend-path MODULEPATH /n\n", "/n/b/1": "prepend-path MODULEPATH /o:/m\n", "/o/c/1": "getenv X\n"},
+        [("a/1", "certified", ""), ("b/1", "certified", ""), ("c/1", "asks", "getenv X")],
+    ),
+    "a directory that isn't there": ({"/m/a/1": "append-path MODULEPATH /o\n"}, [("a/1", "certified", "")]),
+    # Names.
+    "a plain module with a default by module-version": (
+        {"/m/a/1": "setenv V x\n", "/m/a/2": "setenv W x\n", "/m/a/.modulerc": "module-version a/1 default\n"},
+        [("a/1", "certified", ""), ("a/2", "certified", "")],
+    ),
+}
+
+
+def place_of(name, files):
+    """Where the module of this name is, in the rows that have each name once."""
+    return next(path for path in files if path.split("/", 2)[2] == name)
+
+
+def lines_of(files, rows, remarks=()):
+    lines = ["\t".join([name, word, reason, place_of(name, files)]) for name, word, reason in rows]
+    sure = sum(word == "certified" for _, word, _ in rows)
+    return [*lines, f"# {sure} certified of {len(rows)}", *remarks]
+
+
+@case
+def the_standing_of_each_row(folder):
+    for what, (files, *rows) in ROWS.items():
+        site = Site(folder, files)
+        try:
+            site.says(lines_of(files, *rows))
+        except Exception:
+            print(f"(in the row: {what})")
+            raise
+        site.clear()
+
+
+@case
+def each_standing_has_a_row(_):
+    words = {word for _, rows, *_ in ROWS.values() for _, word, _ in rows}
+    same(sorted(words), ["asks", "certified", "clashes", "one-way", "out-of-step", "refused"], "the standings of the rows")
+
+
+@case
+def quiet_leaves_certified_modules_out(folder):
+    for files, *rows in ROWS.values():
+        site = Site(folder, files)
+        lines = lines_of(files, *rows)
+        site.says([line for line in lines if "\tcertified\t" not in line], "--quiet")
+        site.clear()
+
+
+@case
+def what_is_lost_stands_so(folder):
+    """Each module of the sessions that lose something (`losses.py`) stands as it is said there."""
+    for what, row in losses.ROWS.items():
+        site = Site(folder, {f"/m/{name}": text for name, text in row.files.items()})
+        found = {module["name"]: module["standing"] for module in site.document()["modules"]}
+        same(found, dict(zip(row.files, row.stand)), f"how modules stand in {what}")
+        site.clear()
+
+
+# Two files of one name.
+
+
+@case
+def two_files_of_one_name(folder):
+    files = {"/m/a/1": "setenv V x\n", "/n/a/1": "unsetenv V y\n"}
+    lines = [
+        "a/1\tclashes\tV: set here, unset of 'y' in a/1 (/n/a/1)\t/m/a/1",
+        "a/1\tclashes\tV: unset of 'y' here, set in a/1 (/m/a/1)\t/n/a/1",
+        "# 0 certified of 2",
+    ]
+    Site(folder, files, "/m:/n").says(lines)
+    lines = ["a/1\tcertified\t\t/m/a/1", "a/1\tcertified\t\t/n/a/1", "# 2 certified of 2"]
+    Site(folder, {"/n/a/1": "setenv V y\n"}, "/m:/n").says(lines)
+
+
+# Remarks.
+
+
+@case
+def remarks_on_default_files_and_names(folder):
+    files = {
+        "/m/a/1": "",
+        "/m/a/.version": "nope\n",
+        "/m/b/1": "conflict a z\nprereq a q\nprereq y x\n",
+        "/m/c/1": "conflict c/1 c/2 {}\ngetenv HOME\nconflict w\n",
+        "/m/d/1": "conflict v\nnope\n",
+        "/m/e/f/.modulerc": "nope\n",
+    }
+    lines = [
+        "a/1\tcertified\t\t/m/a/1",
+        "b/1\tcertified\t\t/m/b/1",
+        "c/1\tasks\tgetenv HOME\t/m/c/1",
+        "d/1\trefused\tinvalid command name \"nope\" (line 3)\t/m/d/1",
+        "# 2 certified of 4",
+        "# bad default file: /m/a/.version",
+        "# b/1 (/m/b/1): conflict names no module: 'z'",
+        "# b/1 (/m/b/1): prereq names no module: 'y' 'x'",
+        "# c/1 (/m/c/1): conflict names no module: 'c/2'",
+        "# c/1 (/m/c/1): conflict names no module: 'w'",
+    ]
+    files["/m/c/1"] = files["/m/c/1"].replace(" {}", "")
+    Site(folder, files).says(lines, status=1)
+
+
+@case
+def remarks_on_the_environment_at_hand(folder):
+    files = {
+        "/m/a/1": "setenv V x\nunsetenv W y\nappend-path P /b\nappend-path -d , Q /b\npushenv S z\n",
+        "/m/b/1": "setenv N x\nnope\n",
+    }
+    lines = [
+        "a/1\tcertified\t\t/m/a/1",
+        'b/1\trefused\tinvalid command name "nope" (line 3)\t/m/b/1',
+        "# 1 certified of 2",
+    ]
+    bad = [
+        "# environment: V is set",
+        "# environment: W isn't 'y'",
+        "# environment: P isn't in order as a path with ':'",
+        "# environment: Q isn't in order as a path with ','",
+        "# environment: S isn't in order as a stack",
+    ]
+    Site(folder, files, W="y", N="1", P="/a", S="1").says(lines)
+    odd = {"V": "1", "W": "z", "P": "", "Q": "/a,/b", "__MODULES_SHARE_Q": "/c:2", "S": "2", "__MODULES_PUSHENV_S": "k&1"}
+    Site(folder, files, LOADEDMODULES="k", _LMFILES_="/o/k", **odd).says([*lines, *bad])
+    unfit = {"W": "y", "LOADEDMODULES": "k", "_LMFILES_": "/o/k", "__MODULES_LMCONFLICT": "other&x"}
+    Site(folder, files, **unfit).says([*lines, "# environment: the loaded modules aren't in order"])
+
+
+# Texts.
+
+
+@case
+def control_characters_in_paths_and_reasons(folder):
+    directory = os.path.join(os.fsdecode(folder.path), "a\tb\nc\\d\x01\x7f\u00e9")
+    os.makedirs(os.path.join(directory, "a"))
+    with open(os.path.join(directory, "a", "1"), "w", encoding="utf-8") as file:
+        file.write('#%Module\nerror "x\\ny\\tz\\\\ \\r"\n')
+    done = folder.run(directory)
+    path = os.path.join(os.fsdecode(folder.path), "a\\tb\\nc\\\\d\\x01\\x7f\u00e9")
+    wanted = f"a/1\trefused\tx\\ny\\tz\\\\ \\x0d (line 2)\t{path}/a/1\n# 0 certified of 1\n"
+    same((done.stdout.decode(), done.stderr, done.returncode), (wanted, b"", 1), "what is said")
+    found = json.loads(folder.run("--json", directory).stdout)["modules"][0]
+    same((found["path"], found["refusal"]), (f"{directory}/a/1", "x\ny\tz\\ \r (line 2)"), "the document")
+
+
+@case
+def the_document_says_the_same(folder):
+    files = {
+        "/m/a/1": "setenv V x\nunsetenv W y\nappend-path -d , P /b\npushenv S z\nconflict q\n",
+        "/m/a/.version": "nope\n",
+        "/m/b/1": "getenv HOME\n",
+        "/m/c/1": "unsetenv V\n",
+        "/m/d/1": "setenv D 1\npushenv D 2\n",
+        "/m/e/1": "setenv E 1\n",
+        "/m/f/1": "pushenv E 1\nprereq y z\n",
+        "/m/g/1": "nope\n",
+    }
+    found = Site(folder, files, V="1").document()
+    there = os.fsdecode(folder.modules)
+    wanted = {
+        "modules": [
+            {"name": "a/1", "standing": "certified"},
+            {"name": "b/1", "standing": "asks", "question": "getenv HOME"},
+            {"name": "c/1", "standing": "one-way", "record": "unsetenv V"},
+            {"name": "d/1", "standing": "out-of-step", "variable": "D", "uses": [{"use": "set"}, {"use": "stack"}]},
+            {
+                "name": "e/1",
+                "standing": "clashes",
+                "variable": "E",
+                "uses": [{"use": "set"}, {"use": "stack"}],
+                "other": {"name": "f/1", "path": f"{there}/f/1"},
+            },
+            {
+                "name": "f/1",
+                "standing": "clashes",
+                "variable": "E",
+                "uses": [{"use": "stack"}, {"use": "set"}],
+                "other": {"name": "e/1", "path": f"{there}/e/1"},
+            },
+            {"name": "g/1", "standing": "refused", "refusal": 'invalid command name "nope" (line 2)'},
+        ],
+        "certified": 1,
+        "count": 7,
+        "certificate": [
+            {"variable": "V", "use": "set"},
+            {"variable": "W", "use": "unset", "value": "y"},
+            {"variable": "P", "use": "path", "delimiter": ","},
+            {"variable": "S", "use": "stack"},
+        ],
+        "bad_default_files": [f"{there}/a/.version"],
+        "unknown_names": [
+            {"name": "a/1", "path": f"{there}/a/1", "command": "conflict", "names": ["q"]},
+            {"name": "f/1", "path": f"{there}/f/1", "command": "prereq", "names": ["y", "z"]},
+        ],
+        "disagreements": [
+            {"variable": "V", "use": "set"},
+            {"variable": "W", "use": "unset", "value": "y"},
+        ],
+    }
+    for module in wanted["modules"]:
+        module["path"] = f"{there}/{module['name']}"
+    same(found, wanted, "the document")
+    site = Site(folder, files, V="1")
+    quiet = {**wanted, "modules": wanted["modules"][1:]}
+    same(site.document("--quiet"), quiet, "the quiet document")
+    done = site.run("--quiet", "--json")
+    same((done.returncode, done.stderr), (1, b""), "the status")
+    site.clear()
+    same(Site(folder, {"/m/a/1": ""}).run("--json").returncode, 0, "the status where each module is certified")
+
+
+# Arguments.
+
+
+@case
+def directories_in_place_of_modulepath(folder):
+    files = {"/m/a/1": "", "/n/b/1": "", "/o/c/1": ""}
+    site = Site(folder, files, "/o")
+    at = [os.fsdecode(os.path.join(folder.path, name)) for name in (b"m", b"n")]
+    lines = ["a/1\tcertified\t\t/m/a/1", "b/1\tcertified\t\t/n/b/1", "# 2 certified of 2"]
+    site.says(lines, *at)
+    site.says([lines[1], lines[0], lines[2]], *at[::-1])
+    site.says([lines[2]], "--quiet", *at)
+    site.says([lines[2]], *at, "--quiet", "--")
+    site.says([lines[2]], at[0], "--quiet", "--", at[1])
+    site.says(["c/1\tcertified\t\t/o/c/1", "# 1 certified of 1"])
+    site.says(["c/1\tcertified\t\t/o/c/1", "# 1 certified of 1"], "--")
+    site.env[b"MODULEPATH"] = b""
+    site.says(["# 0 certified of 0"])
+    del site.env[b"MODULEPATH"]
+    site.says(["# 0 certified of 0"])
+
+
+@case
+def arguments_that_are_refused(folder):
+    site = Site(folder, {"/m/a/1": ""})
+    for words in (("-",), ("--nope",), ("-q",), ("/m", "--nope"), ("--quiet=1",), (b"\xff",), ("--help",)):
+        site.refuses("Bad arguments", *words)
+    here = os.fsdecode(folder.path)
+    for word in (f"{here}/nope", f"{here}/m/a/1", f"{here}/m:{here}/m", "", "nope"):
+        site.refuses(f"Not a directory: '{word}'", word)
+        site.refuses(f"Not a directory: '{word}'", f"{here}/m", "--quiet", "--", word, "/none")
+    site.refuses("Not a directory: '--quiet'", "--", "--quiet")
+
+
+# Faults.
+
+
+@case
+def faults_of_a_whole_audit(folder):
+    site = Site(folder, {"/m/a/1": ""}, LOADEDMODULES="x")
+    site.refuses("Loaded modules are inconsistent")
+    del site.env[b"LOADEDMODULES"]
+    path = real(folder, "/m/b")
+    os.symlink("b", path)
+    done = site.run()
+    same((done.stdout, done.stderr, done.returncode), (b"", b"ERROR: Reading failed\n", 2), "a ring of links")
+    os.remove(path)
+
+
+@case
+def a_standard_output_that_takes_nothing(folder):
+    site = Site(folder, {"/m/a/1": "", "/m/b/1": "getenv HOME\n"})
+    with open("/dev/full", "wb", buffering=0) as full:
+        for streams in ({"stdout": full}, {"close": (1,)}):
+            for words in ((), ("--json",), ("--quiet",)):
+                done = site.run(*words, **streams)
+                same((done.stderr, done.returncode), (WRITING_FAILED, 2), f"what is said with {streams}")
+        same(site.run(stderr=full).returncode, 1, "nothing is said on standard error")
+        same(site.run("--nope", stderr=full).returncode, 2, "a standard error that takes nothing")
+
+
+@case
+def a_standard_output_that_fails_at_each_byte(folder):
+    site = Site(folder, {"/m/a/1": "", "/m/b/1": "getenv HOME\n"})
+    path = os.path.join(folder.path, b"taken")
+    text = site.run().stdout
+    for most in range(0, len(text), 7):
+        with open(path, "wb") as file:
+            done = site.run(stdout=file, most=most)
+        with open(path, "rb") as file:
+            same((file.read(), done.stderr, done.returncode), (text[:most], WRITING_FAILED, 2), f"at {most} bytes")
+
+
+def is_lost_by(said):
+    """The audit is lost, or what single modules lose of it stands in their reasons."""
+
+    def is_lost(done):
+        out, err, status = done
+        if err == b"ERROR: " + said + b"\n":
+            return (out, status) == (b"", 2)
+        return err == b"" and status == 1 and b"\trefused\t" + said in out
+
+    return is_lost
+
+
+def answers_or_loses(folder, shim, said):
+    files = {"/m/a/1": "setenv V x\n", "/m/b/1": "setenv V y\nconflict q\n", "/m/b/.version": "nope\n", "/m/c/1": "pushenv S 1\n"}
+    site = Site(folder, files)
+    for words in ((), ("--json",)):
+        plain = site.run(*words)
+
+        def run(asked, words=words):
+            done = folder.run(*words, env={**site.env, **asked})
+            return done.stdout, done.stderr, done.returncode
+
+        same(run({}), (plain.stdout, b"", 1), "what is said without a loss")
+        refuses_each(shim, run, is_lost_by(said), said)
+
+
+@case
+def memory_that_is_refused(folder):
+    answers_or_loses(folder, refuser(folder.path), b"Out of memory")
+
+
+@case
+def reads_that_fail(folder):
+    answers_or_loses(folder, refuser(folder.path, "failing_calls"), b"Reading failed")
+
+
+# The model.
+
+
+@case
+def random_sites_by_the_model(folder):
+    program = os.fsdecode(folder.program)
+    for number in range(SITES):
+        top = os.path.join(os.fsdecode(folder.path), f"site-{number}")
+        os.mkdir(top)
+        run = certified.Run(number, top, "sh")
+        run.tree.write()
+        found = certified.audit_of(program, run.site, {})
+        same(certified.differs(found, run.site), None, f"what differs from the model in site {number}")
+        found = certified.audit_of(program, run.site, run.start)
+        same(certified.disagrees(found, run.site, run.start), None, f"what differs of the start of site {number}")
+        shutil.rmtree(top)
+
+
+# Large sites.
+
+
+def large_site(folder, count):
+    """Modulefiles as package managers write them: versions of many packages, each with what it needs."""
+    rng = random.Random(count)
+    packages = [f"p{number}" for number in range(count // 4)]
+    for package in packages:
+        for version in range(4):
+            root = f"/opt/{package}/{version}"
+            needs = "".join(f"prereq {other}\n" for other in rng.sample(packages, 2) if other != package)
+            text = (
+                f"module-whatis {{{package} {version}}}\nconflict {package}\n{needs}"
+                f"setenv {package.upper()}_ROOT {root}\nprepend-path PATH {root}/bin\nprepend-path MANPATH {root}/man\n"
+                f"prepend-path LD_LIBRARY_PATH {root}/lib\nprepend-path PKG_CONFIG_PATH {root}/lib/pkgconfig\n"
+            )
+            folder.module(f"{package}/{version}", text)
+
+
+def seconds(folder, program, *words):
+    """The processor time of a run, the least of three."""
+    least = None
+    for _ in range(3):
+        with open(os.devnull, "wb") as nowhere:
+            started = subprocess.Popen(
+                [program, *words], env=folder.environment(), stdin=subprocess.DEVNULL, stdout=nowhere, stderr=nowhere
+            )
+            _, _, used = os.wait4(started.pid, 0)
+        spent = used.ru_utime + used.ru_stime
+        least = spent if least is None else min(least, spent)
+    return least
+
+
+@case
+def a_site_of_two_thousand_modules(folder):
+    large_site(folder, 2000)
+    done = folder.run()
+    lines = done.stdout.decode().splitlines()
+    same((len(lines), lines[-1], done.stderr, done.returncode), (2001, "# 2000 certified of 2000", b"", 0), "what is said")
+    folder.module("p0/own", "setenv P1_ROOT x\n")
+    done = folder.run("--quiet")
+    lines = done.stdout.decode().splitlines()
+    same(lines[-1], "# 1996 certified of 2001", "one that sets the variable of four others")
+    same({line.split("\t")[1] for line in lines[:-1]}, {"clashes"}, "how these stand")
+    same(len(lines), 6, "the lines")
+
+
+@case
+def twice_as_many_modules_cost_twice_as_much(folder):
+    program = os.fsdecode(folder.program)
+    large_site(folder, 2000)
+    small = seconds(folder, program)
+    large_site(folder, 4000)
+    large = seconds(folder, program)
+    print(f"2,000 modules: {small:.2f} s; 4,000: {large:.2f} s")
+    true(large <= TWICE * small, f"4,000 modules take {large:.2f} s, and 2,000 {small:.2f} s")
+
+
+# Sites as they are written.
+
+
+@case
+def the_modulefiles_of_sites(folder):
+    for name in sorted(os.listdir(os.path.join(HERE, "sites"))):
+        for version in os.listdir(os.path.join(HERE, "sites", name)):
+            with open(os.path.join(HERE, "sites", name, version), "rb") as file:
+                folder.file(f"{name}/{version}", file.read())
+    found = json.loads(folder.run("--json", env=folder.environment(HOME="/home/u", USER="u")).stdout)
+    same({module["name"]: module["standing"] for module in found["modules"]}, OF_SITES, "how these stand")
+
+
+# How the modulefiles of tests/sites stand, in that environment.
+OF_SITES = {
+    "clang/17": "certified",
+    "gcc/13.2.0": "certified",
+    "greeting/1": "asks",
+    "hdf5/1.14": "certified",
+    "openmpi/4.1.6": "certified",
+    "plugins/2.3": "refused",
+    "profile/1": "asks",
+    "python/3.11.6": "one-way",
+    "solver/2024": "certified",
+    "toolbox/5.0": "certified",
+    "workdir/1": "asks",
+}
+
+
+# The line of progress.
+
+
+def on_a_terminal(folder, *words, env=None):
+    """What a run writes to a terminal that is its standard error, and its status."""
+    master, slave = pty.openpty()
+    running = subprocess.Popen(
+        [folder.program, *words],
+        env=env or folder.environment(),
+        stdin=subprocess.DEVNULL,
+        stdout=subprocess.DEVNULL,
+        stderr=slave,
+    )
+    os.close(slave)
+    text, end = b"", time.monotonic() + SECONDS
+    while time.monotonic() < end:
+        ready, _, _ = select.select([master], [], [], 1)
+        if not ready:
+            if running.poll() is not None:
+                break
+            continue
+        try:
+            part = os.read(master, 65536)
+        except OSError:
+            part = b""
+        if not part:
+            break
+        text += part
+    os.close(master)
+    return text, running.wait(SECONDS)
+
+
+@case
+def a_line_of_progress_on_a_terminal(folder):
+    folder.module("a/1", "")
+    same(on_a_terminal(folder), (b"", 0), "an audit that takes no second")
+    same(on_a_terminal(folder, "--nope"), (b"ERROR: Bad arguments\r\n", 2), "a fault")
+    busy = "for {set i 0} {$i < 20000} {incr i} {set x $i}\n"
+    count = 0
+    while count < 400:
+        for number in range(count, count + 50):
+            folder.module(f"b/{number}", busy)
+        count += 50
+        text, status = on_a_terminal(folder)
+        if text:
+            break
+    true(text, "an audit of more than a second shows a line")
+    same(status, 0, "status")
+    shown = text.split(b"\r")
+    same((shown[0], shown[-1], shown[-2].strip()), (b"", b"", b""), "what begins and ends the line")
+    parts = [re.fullmatch(rb"(\d+) of (\d+) files", part) for part in shown[1:-2]]
+    true(all(parts), f"the lines {shown}")
+    true(all(int(part[1]) <= int(part[2]) for part in parts), f"the numbers {shown}")
+    same(folder.run().stderr, b"", "nothing is shown where standard error is no terminal")
+
+
+# What users are told.
+
+
+def content(*names):
+    with open(os.path.join(TOP, *names), encoding="utf-8") as file:
+        return file.read()
+
+
+@case
+def the_example_of_the_page(folder):
+    """A block that begins with the cookie is the modulefile of the name in front of it; in the other a command stands
+    behind `$ `, and what it prints below it."""
+    page = content("man", "modaudit.1").split(".Sh EXAMPLES\n")[1].split(".Sh ")[0]
+    names = re.findall(r"^\.Pa (/m/\S+)", page, re.MULTILINE)
+    blocks = re.findall(r"^\.Bd -literal[^\n]*\n(.*?)^\.Ed", page, re.DOTALL | re.MULTILINE)
+    blocks = [block.replace("\\(aq", "'").replace("\\e", "\\") for block in blocks]
+    texts = [block for block in blocks if block.startswith("#%Module\n")]
+    same(len(names), len(texts), "the names of modulefiles")
+    for name, text in zip(names, texts):
+        write(folder, name, text.removeprefix("#%Module\n"))
+    (session,) = [block for block in blocks if block.startswith("$ ")]
+    command, lines = session.split("\n", 1)
+    same(command, "$ '@prefix@/bin/modaudit' /m", "the command")
+    done = folder.run(folder.modules, env={})
+    same(done.stdout + done.stderr, FOLDER.sub(lambda found: os.path.join(folder.path, found[1]), lines.encode()), "what it prints")
+
+
+def main():
+    if len(sys.argv) != 2:
+        sys.exit(f"{sys.argv[0]} PROGRAM")
+    passed, failed = run_all(sys.argv[1])
+    print(f"{passed} passed, {failed} failed")
+    return 1 if failed else 0
+
+
+if __name__ == "__main__":
+    sys.exit(main())
