@@ -23,6 +23,10 @@ import losses
 from harness import CASES, HERE, SECONDS, case, refuser, refuses_each, run_all, same, true
 from worked import FOLDER, real, write
 
+sys.path += [os.path.join(os.path.dirname(HERE), "bench"), os.path.join(os.path.dirname(HERE), "tools")]
+
+from instructions import instructions  # noqa: E402
+
 # The cases of `losses.py` are a suite of their own.
 CASES.clear()
 
@@ -33,8 +37,8 @@ WRITING_FAILED = ERROR.format("Writing failed").encode()
 # How many random sites are compared with the model.
 SITES = 150
 
-# How much more a site of twice as many modules may cost, where all grows with their number.
-TWICE = 2.6
+# How many instructions a site of twice as many modules may cost, as a multiple, where all grows with their number.
+TWICE = 2.3
 
 
 class Site:
@@ -567,20 +571,6 @@ def large_site(folder, count):
             folder.module(f"{package}/{version}", text)
 
 
-def seconds(folder, program, *words):
-    """The processor time of a run, the least of three."""
-    least = None
-    for _ in range(3):
-        with open(os.devnull, "wb") as nowhere:
-            started = subprocess.Popen(
-                [program, *words], env=folder.environment(), stdin=subprocess.DEVNULL, stdout=nowhere, stderr=nowhere
-            )
-            _, _, used = os.wait4(started.pid, 0)
-        spent = used.ru_utime + used.ru_stime
-        least = spent if least is None else min(least, spent)
-    return least
-
-
 @case
 def a_site_of_two_thousand_modules(folder):
     large_site(folder, 2000)
@@ -597,13 +587,13 @@ def a_site_of_two_thousand_modules(folder):
 
 @case
 def twice_as_many_modules_cost_twice_as_much(folder):
-    program = os.fsdecode(folder.program)
-    large_site(folder, 2000)
-    small = seconds(folder, program)
-    large_site(folder, 4000)
-    large = seconds(folder, program)
-    print(f"2,000 modules: {small:.2f} s; 4,000: {large:.2f} s")
-    true(large <= TWICE * small, f"4,000 modules take {large:.2f} s, and 2,000 {small:.2f} s")
+    program, place = os.fsdecode(folder.program), os.fsdecode(folder.path)
+    counts = []
+    for count in (500, 1000):
+        large_site(folder, count)
+        counts.append(instructions(place, [program], folder.environment()))
+    print(f"500 modules: {counts[0]:,} instructions; 1,000: {counts[1]:,}")
+    true(counts[1] <= TWICE * counts[0], f"1,000 modules take {counts[1]:,} instructions, and 500 {counts[0]:,}")
 
 
 # Sites as they are written.
