@@ -140,7 +140,7 @@ fn paths(rt: HostRuntime) {
 }
 
 #[test]
-fn stacks(rt: HostRuntime) {
+fn stacks_in_order(rt: HostRuntime) {
     check_all(
         &rt,
         rt.alloc(),
@@ -162,30 +162,31 @@ fn stacks(rt: HostRuntime) {
                 "V stack",
                 "",
             ),
-            (
-                "V=1 __MODULES_PUSHENV_V=x&1:y&0 LOADEDMODULES=x _LMFILES_=/m/x",
-                "V stack",
-                "V stack",
-            ),
-            (
-                "V=1 __MODULES_PUSHENV_V=x&1:x&0 LOADEDMODULES=x _LMFILES_=/m/x",
-                "V stack",
-                "V stack",
-            ),
-            (
-                "V=2 __MODULES_PUSHENV_V=x&1 LOADEDMODULES=x _LMFILES_=/m/x",
-                "V stack",
-                "V stack",
-            ),
-            (
-                "__MODULES_PUSHENV_V=x&1 LOADEDMODULES=x _LMFILES_=/m/x",
-                "V stack",
-                "V stack",
-            ),
-            ("V=1 __MODULES_PUSHENV_V=x&1", "V stack", "V stack"),
-            ("V=1 __MODULES_PUSHENV_V=&1", "V stack", "V stack"),
-            ("V=1 __MODULES_PUSHENV_V=1", "V stack", "V stack"),
-            ("V= __MODULES_PUSHENV_V=", "V stack", "V stack"),
+        ],
+    );
+}
+
+/// Whether each start is found to have a stack of `V` that isn't in order.
+fn check_disorder(rt: &impl Abort, alloc: Global, starts: &[&str]) {
+    for entries in starts {
+        check_all(rt, alloc, &[(*entries, "V stack", "V stack")]);
+    }
+}
+
+#[test]
+fn stacks_out_of_order(rt: HostRuntime) {
+    check_disorder(
+        &rt,
+        rt.alloc(),
+        &[
+            "V=1 __MODULES_PUSHENV_V=x&1:y&0 LOADEDMODULES=x _LMFILES_=/m/x",
+            "V=1 __MODULES_PUSHENV_V=x&1:x&0 LOADEDMODULES=x _LMFILES_=/m/x",
+            "V=2 __MODULES_PUSHENV_V=x&1 LOADEDMODULES=x _LMFILES_=/m/x",
+            "__MODULES_PUSHENV_V=x&1 LOADEDMODULES=x _LMFILES_=/m/x",
+            "V=1 __MODULES_PUSHENV_V=x&1",
+            "V=1 __MODULES_PUSHENV_V=&1",
+            "V=1 __MODULES_PUSHENV_V=1",
+            "V= __MODULES_PUSHENV_V=",
         ],
     );
 }
