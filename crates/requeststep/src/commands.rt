@@ -202,7 +202,8 @@ fn change_names<T: Tree, V: Vars>(
     ensures over_tree { StepAnswersOverTree (T.agrees tree.new) (T.failures tree.old < T.failures tree.new)
         (λ done. done_view done (V.vars env.new)) result
         (λ files listings. NeedsNames (map string_bytes names.now) (ChangesLoaded (V.vars env.old)
-        (λ before. Each (NameActionStep name_action (request_context_of settings files listings)) (map string_bytes names.now)))) }
+        (λ before. Each (NameActionStep name_action (request_context_of settings files listings))
+        (map string_bytes names.now)))) }
     ensures failed { FailsAt is_failure (T.failed tree.old) (T.failed tree.new) result (λ at.
         InEachPair (T.agrees tree.new) (λ files listings.
         EachActionLooksAt name_action (request_context_of settings files listings) (map string_bytes names.now)

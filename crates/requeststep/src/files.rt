@@ -335,8 +335,8 @@ pub(crate) fn unload_name<T: Tree, V: Vars>(
     ensures base { V.base env.new ≡ V.base env.old }
     ensures over_tree { StepAnswersOverTree (T.agrees tree.new) (T.failures tree.old < T.failures tree.new)
         (λ u. done_view done.new (V.vars env.new)) result
-        (λ files listings. UnloadsName (request_context_of name_request.entry.settings files listings) name_request.entry.in_switch
-        name_request.entry.typed.now (done_view done.old (V.vars env.old))) }
+        (λ files listings. UnloadsName (request_context_of name_request.entry.settings files listings)
+        name_request.entry.in_switch name_request.entry.typed.now (done_view done.old (V.vars env.old))) }
     ensures failed { FailsAt is_failure (T.failed tree.old) (T.failed tree.new) result
         (UnloadLooksAt name_request.entry.typed.now (done_view done.old (V.vars env.old))) }
 {
