@@ -202,6 +202,29 @@ ROWS = {
             ("b/1", "clashes", "V: set here, unset of 'x' in a/1 (/m/a/1)"),
         ],
     ),
+    "a path and a stack": (
+        {"/m/a/1": "append-path V b\n", "/m/b/1": "pushenv V c\n"},
+        [
+            ("a/1", "clashes", "V: path with ':' here, stack in b/1 (/m/b/1)"),
+            ("b/1", "clashes", "V: stack here, path with ':' in a/1 (/m/a/1)"),
+        ],
+    ),
+    "two variables of three modules": (
+        {"/m/a/1": "setenv V x\nsetenv W x\n", "/m/b/1": "setenv W y\n", "/m/c/1": "append-path V d\n"},
+        [
+            ("a/1", "clashes", "V: set here, path with ':' in c/1 (/m/c/1)"),
+            ("b/1", "clashes", "W: set here, set in a/1 (/m/a/1)"),
+            ("c/1", "clashes", "V: path with ':' here, set in a/1 (/m/a/1)"),
+        ],
+    ),
+    "one conflict among three modules": (
+        {"/m/a/1": "conflict b\nsetenv V x\n", "/m/b/1": "setenv V y\n", "/m/b/2": "append-path V z\n"},
+        [
+            ("a/1", "certified", ""),
+            ("b/1", "clashes", "V: set here, path with ':' in b/2 (/m/b/2)"),
+            ("b/2", "clashes", "V: path with ':' here, set in b/1 (/m/b/1)"),
+        ],
+    ),
     # Directories.
     "a directory that only a module adds": (
         {"/m/a/1": "append-path MODULEPATH /n\nsetenv V x\n", "/n/b/1": "setenv V y\n"},
@@ -340,6 +363,69 @@ def remarks_on_the_environment_at_hand(folder):
     Site(folder, files, LOADEDMODULES="k", _LMFILES_="/o/k", **odd).says([*lines, *bad])
     unfit = {"W": "y", "LOADEDMODULES": "k", "_LMFILES_": "/o/k", "__MODULES_LMCONFLICT": "other&x"}
     Site(folder, files, **unfit).says([*lines, "# environment: the loaded modules aren't in order"])
+
+
+# A start, by hand: what a module says, the variables at hand, and what of them doesn't agree with its certificate.
+# `LOADED` and `TWO` are the variables of one loaded module and of two.
+LOADED = {"LOADEDMODULES": "x", "_LMFILES_": "/o/x"}
+TWO = {"LOADEDMODULES": "y:x", "_LMFILES_": "/o/y:/o/x"}
+NO_PATH, NO_OTHER, NO_STACK = "V isn't in order as a path with ':'", "V isn't in order as a path with ';'", "V isn't in order as a stack"
+NO_LIST = "the loaded modules aren't in order"
+
+STARTS = [
+    ("setenv V x", {}, []),
+    ("setenv V x", {"V": "1"}, ["V is set"]),
+    ("setenv V x", {"V": ""}, ["V is set"]),
+    ("setenv V x", {"W": "1"}, []),
+    ("unsetenv V 1", {"V": "1"}, []),
+    ("unsetenv V 1", {"V": "2"}, ["V isn't '1'"]),
+    ("unsetenv V 1", {}, ["V isn't '1'"]),
+    ("setenv A x\nsetenv C x\nunsetenv B 3", {"A": "1", "B": "2"}, ["A is set", "B isn't '3'"]),
+    ("conflict z", {"A": "1"}, []),
+    # Paths, and their counters.
+    ("append-path V /z", {}, []),
+    ("append-path V /z", {"V": "/a:/b"}, []),
+    ("append-path V /z", {"V": "/a:/b", "__MODULES_SHARE_V": "/a:2"}, []),
+    ("append-path V /z", {"V": "/a:/b", "__MODULES_SHARE_V": "/a:1"}, [NO_PATH]),
+    ("append-path V /z", {"V": "/a:/b", "__MODULES_SHARE_V": "/c:2"}, [NO_PATH]),
+    ("append-path V /z", {"__MODULES_SHARE_V": "/a:2"}, [NO_PATH]),
+    ("append-path V /z", {"V": ""}, [NO_PATH]),
+    ("append-path V /z", {"V": "", "__MODULES_SHARE_V": ":1"}, []),
+    ("append-path V /z", {"V": "/a;/b", "__MODULES_SHARE_V": "/a:2"}, [NO_PATH]),
+    ("append-path -d {;} V /z", {"V": "/a;/b", "__MODULES_SHARE_V": "/a:2"}, []),
+    ("append-path -d {;} V /z", {"V": "/a;/b", "__MODULES_SHARE_V": "/c:2"}, [NO_OTHER]),
+    # Stacks, and the modules that pushed.
+    ("pushenv V z", {}, []),
+    ("pushenv V z", {"V": "1"}, []),
+    ("pushenv V z", {"V": "1", "__MODULES_PUSHENV_V": "x&1", **LOADED}, []),
+    ("pushenv V z", {"V": "1", "__MODULES_PUSHENV_V": "x&1:&0", **LOADED}, []),
+    ("pushenv V z", {"V": "1", "__MODULES_PUSHENV_V": "x&1:y&0", **TWO}, []),
+    ("pushenv V z", {"V": "1", "__MODULES_PUSHENV_V": "x&1:y&0", **LOADED}, [NO_STACK]),
+    ("pushenv V z", {"V": "1", "__MODULES_PUSHENV_V": "x&1:x&0", **LOADED}, [NO_STACK]),
+    ("pushenv V z", {"V": "2", "__MODULES_PUSHENV_V": "x&1", **LOADED}, [NO_STACK]),
+    ("pushenv V z", {"__MODULES_PUSHENV_V": "x&1", **LOADED}, [NO_STACK]),
+    ("pushenv V z", {"V": "1", "__MODULES_PUSHENV_V": "x&1"}, [NO_STACK]),
+    ("pushenv V z", {"V": "1", "__MODULES_PUSHENV_V": "&1"}, [NO_STACK]),
+    ("pushenv V z", {"V": "1", "__MODULES_PUSHENV_V": "1"}, [NO_STACK]),
+    ("pushenv V z", {"V": "", "__MODULES_PUSHENV_V": ""}, [NO_STACK]),
+    # The loaded modules.
+    ("append-path V /z", LOADED, []),
+    ("setenv V x", {"LOADEDMODULES": "x:x", "_LMFILES_": "/o/x:/o/x"}, [NO_LIST]),
+    ("setenv V x", {"__MODULES_LMCONFLICT": "x&z", **LOADED}, []),
+    ("setenv V x", {"__MODULES_LMCONFLICT": "y&z", **LOADED}, [NO_LIST]),
+    ("setenv V x", {"__MODULES_LMPREREQ": "x&z"}, [NO_LIST]),
+    ("setenv V x", {"V": "1", "__MODULES_LMPREREQ": "x&z"}, [NO_LIST, "V is set"]),
+]
+
+
+@case
+def starts_that_agree_and_that_do_not(folder):
+    for text, variables, reasons in STARTS:
+        site = Site(folder, {"/m/a/1": text + "\n"}, **variables)
+        remarks = [f"# environment: {reason}" for reason in reasons]
+        names = ["# a/1 (/m/a/1): conflict names no module: 'z'"] if text == "conflict z" else []
+        site.says(["a/1\tcertified\t\t/m/a/1", "# 1 certified of 1", *names, *remarks])
+        site.clear()
 
 
 # Texts.
@@ -583,6 +669,16 @@ def a_site_of_two_thousand_modules(folder):
     same(lines[-1], "# 1996 certified of 2001", "one that sets the variable of four others")
     same({line.split("\t")[1] for line in lines[:-1]}, {"clashes"}, "how these stand")
     same(len(lines), 6, "the lines")
+
+
+@case
+def a_family_of_two_thousand_versions(folder):
+    """All set one variable: none clashes where they exclude each other, and each does where they don't."""
+    for conflict, certified_ones in (("conflict m\n", 2000), ("", 0)):
+        for number in range(2000):
+            folder.module(f"m/{number}", f"{conflict}setenv V x\nprepend-path P /p\n")
+        lines = folder.run().stdout.decode().splitlines()
+        same((len(lines), lines[-1]), (2001, f"# {certified_ones} certified of 2000"), f"what is said with {conflict!r}")
 
 
 @case

@@ -283,6 +283,84 @@ def the_text_of_all_requests_for_each_family(folder):
             check.says(given, lines, "".join(line.format(*pair) for pair in names), shell=shell)
 
 
+# Whole checks: the modulefiles beside the worked ones, the variables, the shell and its input; then the text, the lines
+# on standard error and the status.
+WHOLE_FILES = {
+    "/m/reads/1": "prepend-path P $env(FOO)\n",
+    "/m/p/1": "proc p {} {return [info exists ::env(HOME)]}\nif {[p]} {setenv X 1}\n",
+    "/m/one/1": "unsetenv LANG\n",
+    "/m/both/1": "unsetenv LANG\ngetenv HOME\n",
+    "/m/il/1": "if {![is-loaded gcc]} {setenv X 1}\n",
+    "/m/me/1": "setenv ME [module-info name]\n",
+    "/m/says/1": "puts stderr hello\n",
+}
+WHOLE = (
+    (
+        {"PATH": "/usr/bin:/bin"},
+        "sh",
+        "load foo\nload reads\n",
+        "FOO='on'; export FOO;\nLOADEDMODULES='foo/1.0:reads/1'; export LOADEDMODULES;\nP='on'; export P;\n"
+        "PATH='/opt/foo/bin:/usr/bin:/bin'; export PATH;\n_LMFILES_='/m/foo/1.0:/m/reads/1'; export _LMFILES_;\n",
+        ["1 accepted", "2 accepted", "foo/1.0: Plain", 'reads/1: can\'t read "env(FOO)": no such variable (line 2)'],
+        0,
+    ),
+    (
+        {"PATH": "/usr/bin:/bin"},
+        "sh",
+        "load nope foo\nload foo\nload w foo\nunload foo\nload foo\npurge\n",
+        "X='1'; export X;\n",
+        [
+            "1 refused: Unable to locate a modulefile for 'nope'",
+            *(f"{number} accepted" for number in range(2, 7)),
+            "foo/1.0: Plain",
+            "w/1: Asked",
+        ],
+        1,
+    ),
+    (
+        {"PATH": "/usr/bin:/bin"},
+        "sh",
+        "nope x\nload\n#load w\nlist\nlist x\nload says\nunload says\n",
+        "",
+        [
+            "1 refused: Unknown subcommand 'nope'",
+            "2 refused: Bad arguments",
+            "3 refused: Unknown subcommand '#load'",
+            "4 accepted",
+            "5 refused: Bad arguments",
+            "6 accepted",
+            "7 accepted",
+            "says/1: Plain",
+        ],
+        1,
+    ),
+    (
+        {"LANG": "C"},
+        "sh",
+        "load p one both il me\npurge\n",
+        "unset LANG;\n",
+        ["1 accepted", "2 accepted", "p/1: Asked", "one/1: OneWay", "both/1: Asked", "il/1: Asked", "me/1: Plain"],
+        0,
+    ),
+    (
+        {"LOADEDMODULES": "foo/1.0"},
+        "sh",
+        "load w\navail\n",
+        "",
+        ["1 refused: Loaded modules are inconsistent", "2 accepted"],
+        1,
+    ),
+    ({"PATH": "/bin"}, "csh", "load w\nunload w\n", "setenv X '1';\n", ["1 accepted", "2 accepted", "w/1: Asked"], 0),
+    ({"PATH": "/bin"}, "fish", "load w\nunload w\n", "set -xg X '1';\n", ["1 accepted", "2 accepted", "w/1: Asked"], 0),
+)
+
+
+@case
+def whole_checks(folder):
+    for variables, shell, given, out, lines, status in WHOLE:
+        Check(folder, files=WHOLE_FILES, **variables).says(given, lines, out, status, shell)
+
+
 @case
 def only_the_last_state_has_to_be_said(folder):
     check = Check(folder)

@@ -1,4 +1,4 @@
-//! Worked examples of requests: answers what lines ask about searches, modulefiles, whole commands and checks.
+//! Worked examples of requests: answers what lines ask about searches, modulefiles and whole commands.
 //! Touches standard input and output, and reads files and directories of the disk; else it works over trees in memory.
 //! Nothing stands above it; the files `stdin` and `stdout` of this crate are these lines and their answers.
 //!
@@ -43,19 +43,9 @@
 //! OUT ERR KIND WORD...` runs a command whose writers take so many bytes, and shows how it ended and what they hold.
 //! `failing WORD...` runs a command while each of its reads and listings in turn fails, and shows what is new of its
 //! answers. `refused KIND WORD` shows the line that is written of a refusal.
-//!
-//! `checks` are checks of lines. `new`, `folder`, `file` and `bytes` make the tree as for searches; `from
-//! NAME=VALUE...` are the variables, `arguments WORD...` the arguments from there on. `check TEXT` checks this input,
-//! and shows what it wrote to standard output, each line of standard error after `! `, and its status. `spoilt COUNT
-//! TEXT` does so where the input fails after so many bytes, `odd TEXT` where a byte that is not UTF-8 stands after it,
-//! `long COUNT TEXT` where blanks fill it up to so many bytes; they show how many bytes were read. `write OUT ERR KIND
-//! TEXT` checks over writers that take so many bytes, and shows how it ended and what they hold. `failing TEXT` checks
-//! while each read and listing of the tree in turn fails, and shows what is new of the answers; `poor PATH TEXT` where
-//! memory is refused for the file at the path.
 #![tactic(auto)]
 
 mod calls;
-mod checks;
 mod commands;
 mod counted;
 mod failing;
@@ -79,7 +69,6 @@ fn answer(rt: &HostRuntime, paragraph: &[String]) -> io::Result<()> {
         "searches" => searches::answer(rt, lines),
         "files" => runs::answer(rt, lines),
         "commands" => commands::answer(rt, lines),
-        "checks" => checks::answer(rt, lines),
         _ => println!(rt; "no such lines: {subject}"),
     }?;
     println!(rt;)

@@ -12,8 +12,8 @@ pub ok_of_refused_as : {A R S : Type 0} (f : R → S) (r : Result A R) (a : A) �
 ok_of_refused_as f (Ok x) a e = cc
 ok_of_refused_as f (Err r) a e = absurd (cc)
 
-pub allowed : {A R : Type 0} (o : Option R) (r : Result A R) (a : A) → unless o r ≡ Ok a → r ≡ Ok a
-allowed None r a e = e
+pub allowed : {A R : Type 0} (o : Option R) (r : Result A R) (a : A) → unless o r ≡ Ok a → (o ≡ None) × (r ≡ Ok a)
+allowed None r a e = (refl, e)
 allowed (Some x) r a e = absurd (cc)
 
 went_at : {A B R : Type 0} (First : Result A R → Type 0) (Rest : A → Result B R → Type 0) (y : B) (first : Result A R) → First first → After Rest first (Ok y) → (x : A) × First (Ok x) × Rest x (Ok y)

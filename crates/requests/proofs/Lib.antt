@@ -1,14 +1,14 @@
-mod Bound
+pub mod Bound
 mod OneStep
 mod SomeFound
 mod SomeStep
 mod MadeByMoves
 mod Reporting
 mod SessionMoves
-mod Undone
+pub mod Undone
 mod Returned
-mod FoundText
+pub mod FoundText
 mod Origins
-mod PlainMoves
+pub mod PlainMoves
 mod Judging
 mod JudgedMoves

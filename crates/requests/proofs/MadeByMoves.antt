@@ -74,7 +74,7 @@ made_found : (s : RequestContext) (w : Bool) (typed : Text) (e : Environment) (d
 made_found s w typed e d xs m read by_moves =
     made_if e (has m.name (names_of xs)) _ _ (λ b. made_same e d by_moves) (λ b. made_then e (λ ran h.
     λ t g. made_went e d (Loads (module_of m.name m.path ran)) ran.messages (xs, read, b) by_moves t
-    (sym (allowed (load_objection m.name ran.records xs) (continued d (Loads (module_of m.name m.path ran)) ran.messages) t (sym g)))))
+    (sym (allowed (load_objection m.name ran.records xs) (continued d (Loads (module_of m.name m.path ran)) ran.messages) t (sym g)).1)))
 
 made_load : (s : RequestContext) (w : Bool) (e : Environment) (typed : Text) (d : Done) → IsMadeByMoves e d → AreMadeByMoves e (LoadsName s w typed d)
 made_load s w e typed d by_moves =
@@ -108,7 +108,7 @@ made_named e (name ∷ names) Does all_made = all_made
 
 made_end : (e : Environment) (before : List Entry) (d : Done) → IsMadeByMoves e d → AreMadeByMoves e (EndsRequest before d)
 made_end e before d by_moves =
-    made_then e (λ after h. λ t g. made_same e d by_moves t (sym (allowed (end_objection before after) (Ok d) t (sym g))))
+    made_then e (λ after h. λ t g. made_same e d by_moves t (sym (allowed (end_objection before after) (Ok d) t (sym g)).1))
 
 made_changes : (e : Environment) (Does : List Entry → Done → Result Done RequestReason → Type 0) → ((before : List Entry) (d : Done) → IsMadeByMoves e d → AreMadeByMoves e (Does before d)) → AreMadeByMoves e (ChangesLoaded e Does)
 made_changes e Does all_made =

@@ -73,7 +73,7 @@ trace_found s w typed d xs m file from =
     trace_if s (has m.name (names_of xs)) _ _ (trace_same s d from) (trace_then s (λ ran h t g.
     trace_went s d (Loads (module_of m.name m.path ran)) ran.messages from
     (ran, record { text = m.text; file = file; context = context_of s modes.load w typed m.name m.path xs d.env; named = refl; at_path = refl; runs = as_ok s (context_of s modes.load w typed m.name m.path xs d.env) m.text ran h }, refl)
-    t (sym (allowed (load_objection m.name ran.records xs) (continued d (Loads (module_of m.name m.path ran)) ran.messages) t (sym g)))))
+    t (sym (allowed (load_objection m.name ran.records xs) (continued d (Loads (module_of m.name m.path ran)) ran.messages) t (sym g)).1)))
 
 trace_load : (s : RequestContext) (w : Bool) (typed : Text) (d : Done) → AllFrom s d.moves → Traces s (LoadsName s w typed d)
 trace_load s w typed d from =
@@ -110,7 +110,7 @@ trace_named s (name ∷ names) Does traces = traces
 
 trace_end : (s : RequestContext) (before : List Entry) (d : Done) → AllFrom s d.moves → Traces s (EndsRequest before d)
 trace_end s before d from =
-    trace_then s (λ after h t g. trace_same s d from t (sym (allowed (end_objection before after) (Ok d) t (sym g))))
+    trace_then s (λ after h t g. trace_same s d from t (sym (allowed (end_objection before after) (Ok d) t (sym g)).1))
 
 trace_changes : (s : RequestContext) (e : Environment) (Does : List Entry → Done → Result Done RequestReason → Type 0) → ((before : List Entry) (d : Done) → AllFrom s d.moves → Traces s (Does before d)) → Traces s (ChangesLoaded e Does)
 trace_changes s e Does traces =

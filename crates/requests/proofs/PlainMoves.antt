@@ -67,7 +67,7 @@ same_at m n l bs live false e distinct any found more =
     let d = are_distinct-push (names_of (entries_over bs live)) n.name distinct in
     more d.0 (older_any m n (list_any (is_entry_of m) (entries_over bs live)) e any) found
 
-same_live : (m l : Module) (bs : List Entry) (live : List Module) → are_distinct (names_of (entries_over bs live)) ≡ true → list_any (is_entry_of m) (entries_over bs live) ≡ true → live_named m.name live ≡ Some l → (m.name ≡ l.name) × (m.path ≡ l.path)
+pub same_live : (m l : Module) (bs : List Entry) (live : List Module) → are_distinct (names_of (entries_over bs live)) ≡ true → list_any (is_entry_of m) (entries_over bs live) ≡ true → live_named m.name live ≡ Some l → (m.name ≡ l.name) × (m.path ≡ l.path)
 same_live m l bs [] distinct any found = absurd (cc)
 same_live m l bs (n ∷ live) distinct any found =
     same_at m n l bs live (bytes_eq m.name n.name) refl

@@ -9,8 +9,6 @@ mod folders;
 mod judgement;
 mod names;
 mod standing;
-#[cfg(test)]
-mod tests;
 
 pub use auditing::{AuditedModule, SiteAudit, UnknownNames, audit};
 pub use certificate::{UsedVariable, VariableUse};

@@ -9,8 +9,6 @@ mod families;
 mod modules;
 mod names;
 mod table;
-#[cfg(test)]
-mod tests;
 mod users;
 mod variables;
 mod ways;

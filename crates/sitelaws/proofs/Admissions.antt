@@ -24,7 +24,8 @@ use Rattle.requests.specs.PlainRuns.{HasEvaluatedTo}
 use Rattle.requests.specs.Sessions.{Response, accepted, refused, given_up, IsResponse, env_after, end_environment, in_shell, Session, session_moves}
 use Rattle.sitelaws.specs.Admitted.{IsAdmitted, AdmittedMovesReach}
 use Rattle.sitelaws.specs.Laws.{StepsAreAdmitted, SessionsAreAdmitted}
-use Rattle.sitelaws.proofs.Parts.{bound, ok_of_refused_as, allowed, went_on, ran_ok, script_held, found_script}
+use Rattle.requests.proofs.Bound.{bound, ok_of_refused_as, allowed, went_on}
+use Rattle.sitelaws.proofs.Parts.{ran_ok, script_held, found_script}
 
 -- the records are those that the file made
 abbrev pub IsFrom : RequestContext → Module → Type 0

@@ -16,7 +16,8 @@ use Rattle.requests.specs.PlainRuns.{HasEvaluatedTo}
 use Rattle.certificate.specs.Laws.{CertifiedAreExact}
 use Rattle.sitelaws.specs.Sites.{Site, SiteModule, over_site, EvaluatesTo, with_records}
 use Rattle.sitelaws.specs.Laws.{PlainRecordsAreAll, CertifiedStand}
-use Rattle.sitelaws.proofs.Parts.{went_on, ran_ok, script_held}
+use Rattle.requests.proofs.Bound.{went_on}
+use Rattle.sitelaws.proofs.Parts.{ran_ok, script_held}
 
 unasked_at : (a b : Bool) → cond a asked (cond b plain one_way) ≡ plain → a ≡ false
 unasked_at true b h = absurd (cc)

@@ -28,7 +28,8 @@ use Rattle.sitelaws.specs.Admitted.{IsAdmitted}
 use Rattle.sitelaws.specs.Laws.{PlainRecordsAreAll, IsOneOf, LoadsAreOf, SiteSessionsReturn, AuditsHold, SiteCommandsReturn}
 use Rattle.sitelaws.proofs.Admissions.{IsFrom, TracedReach, traced, any_shell, session_traced}
 use Rattle.sitelaws.proofs.Forbidden.{no_conflict}
-use Rattle.sitelaws.proofs.Unloaded.{same_list, of_live}
+use Rattle.requests.proofs.Undone.{same_list}
+use Rattle.sitelaws.proofs.Unloaded.{of_live}
 
 -- records
 

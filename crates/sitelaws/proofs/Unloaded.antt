@@ -18,18 +18,8 @@ use Rattle.requests.specs.Live.{entries_over}
 use Rattle.requests.specs.Starts.{IsInOrder, IsStartWith}
 use Rattle.requests.specs.Runs.{live_named}
 use Rattle.requests.specs.Returning.{IsNew}
-
--- the entry is that of the module
-abbrev is_entry_of : Module → Entry → Bool
-is_entry_of m x = bytes_eq m.name x.name && bytes_eq m.path x.path
-
-not_among_step : (a b c d : Bool) → (a || c) ≡ false → ((a && b) || d) ≡ true → (c ≡ false → d ≡ true → false ≡ true) → false ≡ true
-not_among_step true b c d h k r = sym h
-not_among_step false b c d h k r = r h k
-
-not_among : (m : Module) (xs : List Entry) → has m.name (names_of xs) ≡ false → list_any (is_entry_of m) xs ≡ true → false ≡ true
-not_among m [] h k = k
-not_among m (x ∷ xs) h k = not_among_step (bytes_eq m.name x.name) (bytes_eq m.path x.path) (has m.name (names_of xs)) (list_any (is_entry_of m) xs) h k (not_among m xs)
+use Rattle.requests.proofs.Undone.{is_entry_of, not_among, same_list}
+use Rattle.requests.proofs.PlainMoves.{same_live}
 
 -- it is live
 
@@ -44,51 +34,7 @@ live_among m xs (n ∷ live) h k =
     live_step m n live (bytes_eq m.name n.name) (list_any (is_entry_of m) (entries_over xs live))
     (sym (list_any-append (is_entry_of m) (entries_over xs live) (entry_of n ∷ [])) ∙ k) (live_among m xs live h)
 
--- its file is that of the live one
-
-same_module : (m n : Module) → Some m ≡ Some n → m ≡ n
-same_module m n e = cc
-
-newest : (m n : Module) (older : List Entry) (o p : Bool) → bytes_eq m.name n.name ≡ true → has n.name (names_of older) ≡ false → list_any (is_entry_of m) older ≡ o → bytes_eq m.path n.path ≡ p
-    → (o || ((bytes_eq m.name n.name && p) || false)) ≡ true → (m.name ≡ n.name) × (m.path ≡ n.path)
-newest m n older true p e apart any path h =
-    let name : m.name ≡ n.name = same_text m.name n.name e in
-    absurd (let q : false ≡ true = not_among m older (subst (λ (x : Text). has x (names_of older) ≡ false) (sym name) apart) any in cc)
-newest m n older false true e apart any path h = (same_text m.name n.name e, same_text m.path n.path path)
-newest m n older false false e apart any path h = absurd (let q : (bytes_eq m.name n.name && false) ≡ true = no_false (bytes_eq m.name n.name && false) h in let r = and_parts (bytes_eq m.name n.name) false q in let z : false ≡ true = r.1 in cc)
-  where
-    no_false : (b : Bool) → (b || false) ≡ true → b ≡ true
-    no_false true h = refl
-    no_false false h = h
-
-older_any : (m n : Module) (o : Bool) → bytes_eq m.name n.name ≡ false → (o || ((bytes_eq m.name n.name && bytes_eq m.path n.path) || false)) ≡ true → o ≡ true
-older_any m n true e h = refl
-older_any m n false e h = absurd (let q : (false || ((false && bytes_eq m.path n.path) || false)) ≡ true = subst (λ (b : Bool). (false || ((b && bytes_eq m.path n.path) || false)) ≡ true) e h in cc)
-
-same_at : (m n l : Module) (bs : List Entry) (live : List Module) (b : Bool) → bytes_eq m.name n.name ≡ b → are_distinct (names_of (entries_over bs live) ++ n.name ∷ []) ≡ true
-    → (list_any (is_entry_of m) (entries_over bs live) || ((bytes_eq m.name n.name && bytes_eq m.path n.path) || false)) ≡ true
-    → cond b (Some n) (live_named m.name live) ≡ Some l
-    → (are_distinct (names_of (entries_over bs live)) ≡ true → list_any (is_entry_of m) (entries_over bs live) ≡ true → live_named m.name live ≡ Some l → (m.name ≡ l.name) × (m.path ≡ l.path))
-    → (m.name ≡ l.name) × (m.path ≡ l.path)
-same_at m n l bs live true e distinct any found more =
-    let d = are_distinct-push (names_of (entries_over bs live)) n.name distinct in
-    subst (λ (x : Module). (m.name ≡ x.name) × (m.path ≡ x.path)) (same_module n l found)
-    (newest m n (entries_over bs live) (list_any (is_entry_of m) (entries_over bs live)) (bytes_eq m.path n.path) e d.1 refl refl any)
-same_at m n l bs live false e distinct any found more =
-    let d = are_distinct-push (names_of (entries_over bs live)) n.name distinct in
-    more d.0 (older_any m n (list_any (is_entry_of m) (entries_over bs live)) e any) found
-
-same_live : (m l : Module) (bs : List Entry) (live : List Module) → are_distinct (names_of (entries_over bs live)) ≡ true → list_any (is_entry_of m) (entries_over bs live) ≡ true → live_named m.name live ≡ Some l → (m.name ≡ l.name) × (m.path ≡ l.path)
-same_live m l bs [] distinct any found = absurd (cc)
-same_live m l bs (n ∷ live) distinct any found =
-    same_at m n l bs live (bytes_eq m.name n.name) refl
-    (subst (λ (xs : List Text). are_distinct xs ≡ true) (map-append (λ (x : Entry). x.name) (entries_over bs live) (entry_of n ∷ [])) distinct)
-    (sym (list_any-append (is_entry_of m) (entries_over bs live) (entry_of n ∷ [])) ∙ any) found (same_live m l bs live)
-
 -- both
-
-pub same_list : (xs ys : List Entry) → Some xs ≡ Some ys → xs ≡ ys
-same_list xs ys e = cc
 
 pub record IsOfLive (live : List Module) (m : Module) : Type 0 where
   pub loaded : Module

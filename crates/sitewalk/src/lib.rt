@@ -12,8 +12,6 @@ mod files;
 mod given_up;
 mod plain;
 mod progress;
-#[cfg(test)]
-mod tests;
 mod walk;
 
 pub use fault::WalkFault;

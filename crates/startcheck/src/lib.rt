@@ -9,8 +9,6 @@ mod disagreement;
 mod list;
 mod paths;
 mod stacks;
-#[cfg(test)]
-mod tests;
 
 pub use agreement::disagreements;
 pub use disagreement::Disagreement;
