@@ -3,15 +3,13 @@
 ghost use Rattle.std.specs.Prelude.{◌≡◌, ◌<◌, IfOk, OnOk, map, string_bytes};
 ghost use Rattle.envloaded.specs.LoadedEntries.{entry_view};
 ghost use Rattle.filetree.specs.Agreement.{Files, Listings, FailsAt, InEachPair, ReadsOn};
-ghost use Rattle.filetree.specs.Modulefiles.{modulefile};
-ghost use Rattle.filetree.specs.Relations.{Is};
 ghost use Rattle.modulefile.specs.RecordViews.{mode_view, record_view};
 ghost use Rattle.modulefile.specs.Files.{RunsFile};
 ghost use Rattle.search.specs.Answers.{found_view};
 ghost use Rattle.modulerun.specs.Running.{ran_view};
 ghost use Rattle.requests.specs.Reasons.{file_refused};
 ghost use Rattle.requests.specs.Refusals.{RefusedAs};
-ghost use Rattle.requests.specs.Steps.{entries_of, Finds, LoadsFound, LoadsName, UnloadsName, ShowsName, script_at};
+ghost use Rattle.requests.specs.Steps.{entries_of, Finds, LoadsFound, LoadsName, UnloadsName, ShowsName};
 ghost use Rattle.requests.specs.Looked.{SearchLooksAt, LoadLooksAt, UnloadLooksAt, ShowLooksAt};
 ghost use Rattle.requeststep.specs.Views.{request_context_of, done_view};
 ghost use Rattle.requeststep.specs.Answers.{GivesOrRefuses, StepAnswersOverTree, is_failure};
@@ -21,10 +19,11 @@ use crate::conditions::{is_loaded, last_meant};
 use crate::done::{Done, EvaluationSettings, Module, Move};
 use crate::entries::{join_loaded, modulepath, names_of};
 use crate::refusal::Refusal;
+use crate::scripts::script_at;
 use defaultfiles::Evaluated;
 use envloaded::{Loaded, drop_from_list};
 use envvars::Vars;
-use filetree::{FileContent, FindFault, Tree, read_modulefile};
+use filetree::{FindFault, Tree};
 use modulefile::Mode;
 use modulename::is_module_name;
 use modulerun::{FileContext, Ran, run_file};
@@ -204,25 +203,6 @@ pub(crate) fn load_name<T: Tree, V: Vars>(
     }
     let found = find_module(alloc, name_request, env, tree)?;
     load_found(alloc, name_request, entries, found, env, done)
-}
-
-/// The script in the file of a loaded module: 54 where no file is there, 55 where it has no cookie, 46 where it isn't
-/// UTF-8.
-fn script_at<T: Tree>(alloc: Global, tree: &mut T, path: &str) -> Result<String, Refusal>
-    ensures reads { ReadsOn T.agrees T.failures tree.old tree.new }
-    ensures over_tree { StepAnswersOverTree (T.agrees tree.new) (T.failures tree.old < T.failures tree.new)
-        (λ text. string_bytes text)
-        result (λ files listings. Is (script_at path.now (modulefile (files path.now)))) }
-    ensures failed { FailsAt is_failure (T.failed tree.old) (T.failed tree.new) result (λ at. at ≡ path.now) }
-{
-    match read_modulefile(tree, path)? {
-        FileContent::Script(text) => Ok(text),
-        FileContent::Absent => Err(Refusal::FileGone(String::from_str(alloc, path)?)),
-        FileContent::NoCookie => Err(Refusal::NotAModulefile(String::from_str(alloc, path)?)),
-        FileContent::NotUtf8 => Err(Refusal::Find(FindFault::NotUtf8(String::from_str(
-            alloc, path,
-        )?))),
-    }
 }
 
 /// A loaded module that is unloaded by the file at its recorded path.

@@ -22,8 +22,8 @@ pub enum Verdict {
     OneWay,
 }
 
-/// Whether unloading undoes the effect of a record.
-fn is_reversible(recorded: &Record) -> bool
+/// Whether unloading undoes the effect of a record: of all but `unsetenv` without a value, and `remove-path`.
+pub fn is_reversible(recorded: &Record) -> bool
     ensures { result ≡ uses.is_reversible (record_view recorded.now) }
 {
     !matches!(
@@ -37,7 +37,7 @@ fn is_reversible(recorded: &Record) -> bool
 }
 
 /// Whether unloading undoes the effect of each record.
-fn are_reversible(records: &[Record]) -> bool
+pub fn are_reversible(records: &[Record]) -> bool
     ensures { result ≡ list_all (λ r. uses.is_reversible (record_view r)) records.now }
 {
     records.iter().all(|record| is_reversible(record))

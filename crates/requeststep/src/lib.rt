@@ -14,11 +14,13 @@ mod judged;
 mod missing;
 mod progress;
 mod refusal;
+mod scripts;
 mod verdicts;
 
 pub use commands::step;
 pub use done::{Done, EvaluationSettings, Module, Move};
-pub use judged::Verdict;
+pub use judged::{Verdict, are_reversible, is_reversible};
 pub use missing::MissingNames;
 pub use refusal::Refusal;
+pub use scripts::script_at;
 pub use verdicts::verdict;
