@@ -1,3 +1,4 @@
 pub mod Limits
 pub mod ListTexts
 pub mod Insides
+pub mod Sums

@@ -1,14 +1,15 @@
 -- How a command of the program follows the rules of evaluation (own; the commands are those of Tcl's pages): the plan
 -- of its form evaluates to whatever follows it, with the result and the variables that the call gave.
-use Rattle.std.specs.Prelude.{ℕ, Bool, List, [], ◌∷◌, map, String, string_bytes, Result, unwrap_or}
+use Rattle.std.specs.Prelude.{ℕ, ℤ, Bool, List, [], ◌∷◌, map, codes, String, string_bytes, Result, unwrap_or}
 use Rattle.std.specs.Borrow.{Bor}
+use Rattle.std.specs.Fmt.{signed_decimal}
 use Rattle.std.specs.declared.alloc.Global.{Global}
 use Rattle.tclchars.specs.Runs.{Text}
 use Rattle.tclrules.specs.Variables.{State, value_at}
 use Rattle.tclrules.specs.Simulates.{Point, Simulates}
 use Rattle.tclrules.specs.Plans as plans
 use Rattle.tclrules.specs.Plans.{Bounds, Job, Next, given}
-use Rattle.tclrules.specs.Rules.{lengthened, value_or, write_at}
+use Rattle.tclrules.specs.Rules.{increased, lengthened, value_or, write_at}
 use Rattle.tclsubstitution.specs.Machine.{bounds}
 use Rattle.tclsubstitution.specs.Stops.{after}
 use Rattle.tclsubstitution.specs.declared.stop.Stop.{Stop}
@@ -20,6 +21,7 @@ use Rattle.tclcommands.specs.declared.value.Value.TheVariants as values
 abbrev pub value_text : Value → State → Text
 value_text (values.Text t) s = string_bytes t
 value_text (values.Word w) s = w.now
+value_text (values.Number n) s = signed_decimal n
 value_text (values.Variable v) s = unwrap_or (value_at s (scalar_view v)) []
 
 -- the first of the words, which is a command's name
@@ -53,6 +55,12 @@ ContinuesWithinLimit p limit result s =
     (most remaining : ℕ) (r : Job → plans.Step) (k : Next) (x : Point)
     → Simulates most r (p (bounds limit remaining) k) x (after result (λ v s'. k (value_text v s') s') s) x
 
+-- the same of a call that gives a whole number, which is written in decimal
+abbrev pub ContinuesWithNumber : (Bounds → Next → plans.Step) → ℕ → Result ℤ Stop → State → Type 0
+ContinuesWithNumber p limit result s =
+    (most remaining : ℕ) (r : Job → plans.Step) (k : Next) (x : Point)
+    → Simulates most r (p (bounds limit remaining) k) x (after result (λ n s'. k (signed_decimal n) s') s) x
+
 -- the same of a call without a result: the plan continues with this text of the variables after the call
 abbrev pub ContinuesWithText : (Bounds → Next → plans.Step) → ℕ → Result (Unit {0}) Stop → (State → Text) → State
     → Type 0
@@ -83,3 +91,7 @@ ContinuesWithAnswer p result s x y =
 -- the plan that appends elements to the list in the variable at a location
 abbrev pub append_at : Bounds → Bool × Text → List Text → State → Next → plans.Step
 append_at b p xs s k = given (lengthened (value_or [] s p) xs) s (λ t. write_at b p t s k)
+
+-- the plan that adds a whole number to that in the variable at a location, 0 where it is unset
+abbrev pub increase_at : Bounds → Bool × Text → Text → State → Next → plans.Step
+increase_at b p n s k = given (increased (value_or (codes "0") s p) n) s (λ t. write_at b p t s k)

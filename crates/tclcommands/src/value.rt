@@ -1,11 +1,11 @@
 //! The result of a command before it is copied into a text of its own.
-ghost use Rattle.std.specs.Prelude.{◌≡◌, length, IfOk, string_bytes};
+ghost use Rattle.std.specs.Prelude.{◌≡◌, length, nat_le, IfOk, string_bytes};
 ghost use Rattle.tclrules.specs.Rules.{value_or};
 ghost use Rattle.tclcommands.specs.Continuations.{value_text};
 ghost use Rattle.tclvariables.specs.Locations.{scalar_view};
 
 use std::alloc::{AllocError, Global};
-use tclvariables::{Scalar, Variables};
+use tclvariables::{Scalar, Variables, is_number_within};
 
 /// The result of a command. Most results are dropped by the script, so a copy is made only where one is needed.
 #[derive(Drop)]
@@ -14,6 +14,8 @@ pub enum Value<'a> {
     Text(String),
     /// A word of the command.
     Word(&'a str),
+    /// A whole number in decimal.
+    Number(i64),
     /// The value of this variable.
     Variable(Scalar<'a>),
 }
@@ -28,20 +30,22 @@ impl Value<'_> {
         match self {
             Value::Text(text) => Ok(text),
             Value::Word(word) => String::from_str(alloc, word),
+            Value::Number(number) => number.to_string(alloc),
             Value::Variable(variable) => {
                 String::from_str(alloc, value_or(variables, variable, ""))
             }
         }
     }
 
-    /// The length of the text in bytes.
-    pub fn len(&self, variables: &Variables) -> usize
-        ensures { result ≡ length (value_text self.now variables.now) }
+    /// Whether the text has so many bytes at most.
+    pub fn is_within(&self, variables: &Variables, limit: usize) -> bool
+        ensures { result ≡ nat_le (length (value_text self.now variables.now)) limit }
     {
         match self {
-            Value::Text(text) => text.len(),
-            Value::Word(word) => word.len(),
-            Value::Variable(variable) => value_or(variables, *variable, "").len(),
+            Value::Text(text) => text.len() <= limit,
+            Value::Word(word) => word.len() <= limit,
+            Value::Number(number) => is_number_within(*number, limit),
+            Value::Variable(variable) => value_or(variables, *variable, "").len() <= limit,
         }
     }
 }

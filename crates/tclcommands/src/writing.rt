@@ -1,5 +1,5 @@
 //! Commands that write a variable: set(n), append(n), incr(n), within the limit on the bytes of a value.
-ghost use Rattle.std.specs.Prelude.{◌≡◌, ◌++◌, [], map, string_bytes, IfOk, OnOk};
+ghost use Rattle.std.specs.Prelude.{◌≡◌, ◌≤◌, ◌++◌, [], None, Ok, codes, length, map, string_bytes, IfOk, IfSome, OnOk};
 ghost use Rattle.std.specs.Fmt.{signed_decimal};
 ghost use Rattle.tclchars.specs.Answers.{Gives};
 ghost use Rattle.tclvalue.specs.Faults.{GivesText, reason_of};
@@ -9,13 +9,14 @@ ghost use Rattle.tclchars.specs.Runs.{Text};
 ghost use Rattle.tclrules.specs.Variables.{with_value};
 ghost use Rattle.tclrules.specs.Forms.{Set, Append, Increase};
 ghost use Rattle.tclrules.specs.Rules.{write_at, write, assign, form, value_or, increased};
-ghost use Rattle.tclcommands.specs.Continuations.{named_values, ContinuesWithVariablesWithin, ContinuesWithText, ContinuesWithinLimit};
+ghost use Rattle.tclcommands.specs.Continuations.{named_values, increase_at, ContinuesWithVariablesWithin, ContinuesWithText, ContinuesWithNumber, ContinuesWithinLimit};
 ghost use Rattle.tclvariables.specs.Locations.{scalar_view};
 
 use crate::value::{Value, value_or};
 use itoa::Buffer;
 use std::alloc::{AllocError, Global};
 use tclforms::increase_of;
+use tcloperators::whole_number;
 use tclrules::EvalFault;
 use tclsubstitution::Stop;
 use tclvalue::{ValueFault, count_of, sum};
@@ -186,6 +187,64 @@ fn decimal_in(text: String, number: i64) -> Result<String, AllocError>
     Ok(text)
 }
 
+/// Adds a whole number to the one that a variable holds, as `Variables::increase`; None also where the increase is no
+/// whole number.
+fn increase_in_place(
+    variables: &mut Variables,
+    limit: usize,
+    variable: Scalar<'_>,
+    increase: &str,
+) -> Result<Option<i64>, AllocError>
+    ensures sum { IfOk result (λ made. IfSome made (λ total.
+        (increased (value_or (codes "0") variables.old (scalar_view variable.entry)) increase.now
+        ≡ Ok (signed_decimal total))
+        × (length (signed_decimal total) ≤ limit)
+        × (variables.new ≡ with_value variables.old (scalar_view variable.entry) (signed_decimal total)))) }
+    ensures same { IfOk result (λ made. made ≡ None → variables.new ≡ variables.old) }
+{
+    match whole_number(increase) {
+        Some(amount) => variables.increase(variable, amount, limit),
+        None => Ok(None),
+    }
+}
+
+/// Adds a whole number to the value of a variable, 0 where it is unset, which is read and written anew.
+#[tactic(none)]
+fn increase_anew(
+    alloc: Global,
+    variables: &mut Variables,
+    limit: usize,
+    variable: Scalar<'_>,
+    increase: &str,
+) -> Result<i64, Stop>
+    ensures { ContinuesWithNumber (λ b. increase_at b (scalar_view variable.entry) increase.now variables.old) limit
+        result variables.new }
+{
+    let sum = increased(alloc, value_or(variables, variable, "0"), increase)?;
+    let old = take_text(alloc, variables, variable);
+    let value = decimal_in(old, sum)?;
+    write_at(alloc, variables, limit, variable, value)?;
+    Ok(sum)
+}
+
+/// Adds a whole number to the value of a variable: in place where it holds one.
+#[tactic(none)]
+fn increase_at(
+    alloc: Global,
+    variables: &mut Variables,
+    limit: usize,
+    variable: Scalar<'_>,
+    increase: &str,
+) -> Result<i64, Stop>
+    ensures { ContinuesWithNumber (λ b. increase_at b (scalar_view variable.entry) increase.now variables.old) limit
+        result variables.new }
+{
+    match increase_in_place(variables, limit, variable, increase)? {
+        Some(sum) => Ok(sum),
+        None => increase_anew(alloc, variables, limit, variable, increase),
+    }
+}
+
 /// incr(n): adds a whole number, 1 where none is given, to the value of a variable, 0 where it is unset. The result is
 /// the sum. The number of words is judged here, after the name.
 ///
@@ -205,9 +264,6 @@ pub fn increase<'a>(
 {
     let variable = writable(variables, alloc, name)?;
     let increase = increase_of(alloc, increases)?;
-    let sum = increased(alloc, value_or(variables, variable, "0"), increase)?;
-    let old = take_text(alloc, variables, variable);
-    let value = decimal_in(old, sum)?;
-    write_at(alloc, variables, limit, variable, value)?;
-    Ok(Value::Variable(variable))
+    let sum = increase_at(alloc, variables, limit, variable, increase)?;
+    Ok(Value::Number(sum))
 }

@@ -1,5 +1,5 @@
 -- The words of a command by its name and its operands.
-use Rattle.std.proofs.Common.{◌≡◌, ℕ, ◌<◌, List, [], ◌∷◌, map, drop, length, get_or, String, Global, refl, ap, arith}
+use Rattle.std.proofs.Common.{◌≡◌, ◌<◌, List, [], ◌∷◌, map, drop, length, get_or, String, Global, refl, arith}
 use Rattle.std.specs.Prelude.{string_bytes}
 use Rattle.tclcontrol.specs.CommandTexts.{name_of}
 

@@ -94,7 +94,7 @@ fn result_text(
         → Simulates most r (sized limits.value_bytes (value_text value.entry variables.now) (k (value_text value.entry
         variables.now) variables.now)) x (after result (λ _ s. k t s) variables.now) x) }
 {
-    if value.len(variables) > limits.value_bytes {
+    if !value.is_within(variables, limits.value_bytes) {
         return Err(Stop::Fault(EvalFault::ValueTooLong));
     }
     match result_use {

@@ -1,13 +1,7 @@
 -- Plans of operands that are at hand, and of scalar variables.
-use Rattle.std.proofs.Common.{◌≡◌, ℕ, Bool, true, false, List, Bor, Option, Some, None, Ok, option_map, refl, ◌∙◌}
+use Rattle.std.proofs.Common.{◌≡◌, ℕ, Bool, true, false, List, Bor, Option, Some, None, option_map, refl}
 use Rattle.std.specs.Prelude.{IfSome}
 use Rattle.tclchars.specs.Runs.{Text}
-use Rattle.tclexpr.specs.Tree.{Expr, binary}
-use Rattle.tclexpr.specs.Operands.{Operand}
-use Rattle.tclexpr.specs.declared.operators.BinaryOperator.{BinaryOperator}
-use Rattle.tclvalue.specs.Operators.{binary_value, truth_text}
-use Rattle.tclrules.specs.Expressions.{expr}
-use Rattle.tclsubstitution.specs.Machine.{bounds}
 use Rattle.tclrules.specs.Messages.{is_array, no_variable}
 use Rattle.tclrules.specs.Plans.{Job, Step, Next, raise}
 use Rattle.tclrules.specs.Simulates.{Point, Simulates}
@@ -35,12 +29,3 @@ scalar_found spelled (false, n) s k h = refl
 pub value_found : (o : Option (Bor (List ℕ))) (p : Bool × Text) (s : State) → is_env p ≡ false → option_map (λ v. v.now) o ≡ value_at s p → IfSome o (λ v. (spelled : Text) (k : Next) → read_scalar spelled p.0 p.1 s k ≡ k v.now s)
 value_found None p s h e = tt
 value_found (Some v) p s h e = λ spelled k. rw (scalar_found spelled p s k h, ← e) refl
-
--- an operator between two operands that are at hand, where its truth value is known
-pub compared_found : (o : Option Bool) (op : BinaryOperator) (l r : Expr Operand) (x y : Text) (limit : ℕ) (s : State)
-    → ((remaining : ℕ) (k : Next) → expr (bounds limit remaining) l s k ≡ k x s)
-    → ((remaining : ℕ) (k : Next) → expr (bounds limit remaining) r s k ≡ k y s)
-    → IfSome o (λ holds. binary_value op x y ≡ Ok (truth_text holds))
-    → IfSome o (λ holds. (remaining : ℕ) (k : Next) → expr (bounds limit remaining) (binary op l r) s k ≡ k (truth_text holds) s)
-compared_found None op l r x y limit s first second e = tt
-compared_found (Some holds) op l r x y limit s first second e = λ remaining k. first remaining _ ∙ second remaining _ ∙ rw e refl

@@ -11,7 +11,9 @@ ghost use Rattle.tclrules.specs.Variables.{State};
 ghost use Rattle.tclrules.specs.Plans as plans;
 ghost use Rattle.tclrules.specs.Plans.{Job, Next};
 ghost use Rattle.tclrules.specs.Simulates.{Simulates, Point};
+ghost use Rattle.tclchars.specs.Answers.{Gives};
 ghost use Rattle.tclchars.specs.Runs.{Text};
+ghost use Rattle.tcloperators.specs.Faults.{reason_of};
 ghost use Rattle.tclrules.specs.Words.{read, read_scalar};
 ghost use Rattle.tclrules.specs.Expressions.{expr, operand_value};
 ghost use Rattle.tclsubstitution.specs.BorrowedOperands.{operand_text};
@@ -21,8 +23,9 @@ ghost use Rattle.tclvariables.specs.Locations.{is_global};
 
 use crate::context::SubstitutionContext;
 use crate::stop::Stop;
+use std::alloc::Global;
 use tclexpr::{BinaryOperator, Expr, Operand};
-use tcloperators::{Computed, compare_numbers, compute, whole_number};
+use tcloperators::{Computed, ValueFault, compare_numbers, compute, whole_number};
 use tclscript::ByteRange;
 use tclvariables::{Content, Scalar, Variables, plain_scalar};
 
@@ -140,25 +143,20 @@ fn compared(
     }
 }
 
-/// Whether a comparison of two whole numbers holds that are literals or scalar variables; None for any other
-/// expression.
-pub fn compare_borrowed(
-    context: SubstitutionContext<'_, '_>,
-    expression: &Expr<ByteRange>,
-) -> Option<bool>
-    ensures { IfSome result (λ holds. (remaining : ℕ) (k : Next)
-        → expr (bounds context.entry.limits.value_bytes remaining)
-        (expr_view (range_text context.entry.source.now) expression.now) context.entry.variables.now k
-        ≡ k (computed_text (Truth holds)) context.entry.variables.now) }
+/// The value of an operator between two such operands. A comparison of whole numbers that are known reads no text.
+fn computed(
+    alloc: Global,
+    operator: BinaryOperator,
+    left: BorrowedOperand<'_>,
+    right: BorrowedOperand<'_>,
+) -> Result<Computed, ValueFault>
+    ensures { Gives reason_of computed_text result
+        (binary_value operator (operand_text left.entry) (operand_text right.entry)) }
 {
-    let Expr::Binary(operator, left, right) = expression else {
-        return None;
-    };
-    compared(
-        *operator,
-        borrowed(context, left)?,
-        borrowed(context, right)?,
-    )
+    match compared(operator, left, right) {
+        Some(holds) => Ok(Computed::Truth(holds)),
+        None => compute(alloc, operator, left.text(), right.text()),
+    }
 }
 
 /// What a binary operator makes of two operands whose texts can be borrowed (literals and scalar variables); None for
@@ -186,6 +184,6 @@ pub fn compute_borrowed(
     let Some(right) = borrowed(context, right) else {
         return Ok(None);
     };
-    let made = compute(context.alloc, *operator, left.text(), right.text())?;
+    let made = computed(context.alloc, *operator, left, right)?;
     Ok(Some(made))
 }

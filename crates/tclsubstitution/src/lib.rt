@@ -10,7 +10,7 @@ mod reading;
 mod stop;
 mod substitution;
 
-pub use borrowed_operands::{compare_borrowed, compute_borrowed};
+pub use borrowed_operands::compute_borrowed;
 pub use context::SubstitutionContext;
 pub use frame::{Control, Step, WaitingFrame};
 pub use reading::{read, read_element};

@@ -1,7 +1,7 @@
 -- A number that isn't negative is read from its decimal digits.
-use Rattle.std.proofs.Common.{◌≡◌, ℕ, zero, suc, ◌<◌, ◌^◌, ◌==◌, true, false, not, nat_lt, ℤ, pos, negsuc, w64, FitsSigned, List, [], ◌∷◌, get_or, length, append-nil, refl, sym, ap, ◌∙◌, arith}
+use Rattle.std.proofs.Common.{◌≡◌, ℕ, zero, suc, ◌<◌, ◌≤◌, ◌^◌, ◌==◌, true, false, not, nat_lt, ℤ, pos, negsuc, w64, FitsSigned, List, [], ◌∷◌, get_or, length, append-nil, refl, sym, ap, ◌∙◌, arith}
 use Rattle.std.proofs.lemmas.Bool.Decides.{nat_tests}
-use Rattle.std.proofs.lemmas.Fmt.{decimal_is_IsNumeral, decimal_digit, first_decimal}
+use Rattle.std.proofs.lemmas.Fmt.{decimal_is_IsNumeral, decimal_digit, first_decimal, length-decimal-le}
 use Rattle.std.specs.Fmt.{decimal, signed_decimal}
 use Rattle.tclchars.specs.Bytes.{DoesBegin}
 use Rattle.tclnumber.specs.Numbers as numbers
@@ -37,3 +37,8 @@ decimal_read (suc m) h =
 pub known : (z : ℤ) → FitsSigned w64 z → ((n : ℕ) → z ≡ negsuc n → ⊥) → numeral (signed_decimal z) ≡ Whole z
 known (pos n) fits h = decimal_read n fits.sfits
 known (negsuc n) fits h = absurd (h n refl)
+
+-- no whole number of 64 bits has more than 20 bytes
+pub short : (z : ℤ) → FitsSigned w64 z → length (signed_decimal z) ≤ 20
+short (pos n) fits = let small = fits.sfits in omega (arith, length-decimal-le 19 n (omega arith) (omega arith) (omega arith))
+short (negsuc n) fits = let small = fits.sfits in omega (arith, length-decimal-le 19 (suc n) (omega arith) (omega arith) (omega arith))

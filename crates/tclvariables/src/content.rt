@@ -1,9 +1,11 @@
 //! What a variable holds: a text, of which may be known that it is a list, or which whole number it spells.
-ghost use Rattle.std.specs.Prelude.{◌≡◌, string_bytes, true, OnOk, IfSome};
+ghost use Rattle.std.specs.Prelude.{◌≡◌, length, nat_le, string_bytes, true, OnOk, IfSome};
+ghost use Rattle.std.specs.Fmt.{signed_decimal};
 ghost use Rattle.tclnumber.specs.Numerals.{numeral};
 ghost use Rattle.tclnumber.specs.declared.number.Numeral.TheVariants.{Whole};
 ghost use Rattle.tclvariables.specs.Contents.{IsListText};
 
+use itoa::Buffer;
 use std::alloc::AllocError;
 use std::marker::Model;
 use tcloperators::whole_number;
@@ -101,4 +103,14 @@ impl Content {
         let Content { text, .. } = self;
         text
     }
+}
+
+/// So many bytes hold any whole number in decimal.
+const NUMBER_BYTES: usize = 20;
+
+/// Whether a number has so many bytes at most in decimal.
+pub fn is_number_within(number: i64, limit: usize) -> bool
+    ensures { result ≡ nat_le (length (signed_decimal number)) limit }
+{
+    limit >= NUMBER_BYTES || Buffer::new().format(number).len() <= limit
 }

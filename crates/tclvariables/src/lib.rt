@@ -9,7 +9,7 @@ mod location;
 mod table;
 mod variables;
 
-pub use content::Content;
+pub use content::{Content, is_number_within};
 pub use local::Local;
 pub use location::{
     Location, Scalar, Scope, location_named, location_of, plain_scalar, sharable, writable,

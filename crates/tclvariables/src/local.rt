@@ -1,5 +1,6 @@
 //! The frame of a procedure that runs: its own variables, and the global ones that it sees.
-ghost use Rattle.std.specs.Prelude.{◌≡◌, [], true, false, map, OnOk, OnErr, IfOk, option_map, bytes_eq, string_bytes};
+ghost use Rattle.std.specs.Prelude.{◌≡◌, [], true, None, map, OnOk, OnErr, IfOk, IfSome, option_map, bytes_eq, string_bytes};
+ghost use Rattle.std.specs.Fmt.{signed_decimal};
 ghost use Rattle.tclrules.specs.Runs.{Text};
 ghost use Rattle.tclvariables.specs.Contents.{HoldsList, IsIncreased};
 ghost use Rattle.std.specs.List.{list_any};
@@ -95,11 +96,11 @@ impl Local {
         name: &str,
         amount: i64,
         limit: usize,
-    ) -> Result<bool, AllocError>
-        ensures done { IfOk result (λ done. done ≡ true → (t : Text)
-            × IsIncreased (lookup self.old.own name.now) amount limit t
-            × (self.new ≡ record self.old { own = store self.old.own name.now t })) }
-        ensures same { IfOk result (λ done. done ≡ false → self.new ≡ self.old) }
+    ) -> Result<Option<i64>, AllocError>
+        ensures sum { IfOk result (λ made. IfSome made (λ total.
+            IsIncreased (lookup self.old.own name.now) amount limit (signed_decimal total)
+            × (self.new ≡ record self.old { own = store self.old.own name.now (signed_decimal total) }))) }
+        ensures same { IfOk result (λ made. made ≡ None → self.new ≡ self.old) }
     {
         increase(&mut self.own, name, amount, limit)
     }

@@ -1,5 +1,5 @@
 //! Variables by name, in the order of their making: the global ones, or those of one procedure.
-ghost use Rattle.std.specs.Prelude.{◌≡◌, ◌<◌, true, false, Ok, OnOk, OnErr, IfOk, IfSome, option_map, bytes_eq, string_bytes};
+ghost use Rattle.std.specs.Prelude.{◌≡◌, ◌<◌, true, None, Ok, OnOk, OnErr, IfOk, IfSome, option_map, bytes_eq, string_bytes};
 ghost use Rattle.std.specs.Fmt.{signed_decimal};
 ghost use Rattle.tclnumber.specs.Numerals.{numeral};
 ghost use Rattle.tclnumber.specs.declared.number.Numeral.TheVariants.{Whole};
@@ -119,8 +119,9 @@ fn sum_of(content: &Content, amount: i64) -> Option<i64>
     }
 }
 
-/// Adds a whole number to that which a variable holds, in the memory of its text. False, and nothing is changed, where
-/// the variable is unset or holds none, or where the sum lies outside 64 bits or has more bytes than `limit`.
+/// Adds a whole number to that which a variable holds, in the memory of its text, and gives the sum. None, and nothing is
+/// changed, where the variable is unset or holds none, or where the sum lies outside 64 bits or has more bytes than
+/// `limit`.
 ///
 /// Errors: memory runs out; then the value is lost.
 pub(crate) fn increase(
@@ -128,25 +129,25 @@ pub(crate) fn increase(
     name: &str,
     amount: i64,
     limit: usize,
-) -> Result<bool, AllocError>
-    ensures done { IfOk result (λ done. done ≡ true → (t : Text)
-        × IsIncreased (lookup (texts_of table.old.entries) name.now) amount limit t
-        × (texts_of table.new.entries ≡ store (texts_of table.old.entries) name.now t)) }
-    ensures same { IfOk result (λ done. done ≡ false → texts_of table.new.entries ≡ texts_of table.old.entries) }
+) -> Result<Option<i64>, AllocError>
+    ensures sum { IfOk result (λ made. IfSome made (λ total.
+        IsIncreased (lookup (texts_of table.old.entries) name.now) amount limit (signed_decimal total)
+        × (texts_of table.new.entries ≡ store (texts_of table.old.entries) name.now (signed_decimal total)))) }
+    ensures same { IfOk result (λ made. made ≡ None → texts_of table.new.entries ≡ texts_of table.old.entries) }
 {
     let Some(index) = place_of(table, name) else {
-        return Ok(false);
+        return Ok(None);
     };
     let Some(sum) = sum_of(&table[index], amount) else {
-        return Ok(false);
+        return Ok(None);
     };
     let mut buffer = Buffer::new();
     let text = buffer.format(sum);
     if text.len() > limit {
-        return Ok(false);
+        return Ok(None);
     }
     table[index].overwrite(text, known_number(sum))?;
-    Ok(true)
+    Ok(Some(sum))
 }
 
 /// Unsets a variable, if it is set.

@@ -1,5 +1,6 @@
 //! All that an evaluation has of variables and procedures.
-ghost use Rattle.std.specs.Prelude.{◌≡◌, [], true, false, map, string_bytes, OnOk, OnErr, IfOk, option_map, is_some};
+ghost use Rattle.std.specs.Prelude.{◌≡◌, [], true, None, map, string_bytes, OnOk, OnErr, IfOk, IfSome, option_map, is_some};
+ghost use Rattle.std.specs.Fmt.{signed_decimal};
 ghost use Rattle.tclrules.specs.Runs.{Text};
 ghost use Rattle.tclvariables.specs.Contents.{HoldsList, IsIncreased};
 ghost use Rattle.tclrules.specs.Variables.{initial_state, in_frame, sees, value_at, with_value, without_value, shared_in, lookup};
@@ -178,8 +179,8 @@ impl Variables {
         }
     }
 
-    /// Adds a whole number to that which a variable holds, in the memory of its text. False, and nothing is changed,
-    /// where the variable is unset or holds none, or where the sum lies outside 64 bits or has more bytes than `limit`.
+    /// Adds a whole number to that which a variable holds, and gives the sum. None, and nothing is changed, where the
+    /// variable is unset or holds none, or where the sum lies outside 64 bits or has more bytes than `limit`.
     ///
     /// Errors: memory runs out; then the value is lost.
     pub fn increase(
@@ -187,16 +188,16 @@ impl Variables {
         variable: Scalar<'_>,
         amount: i64,
         limit: usize,
-    ) -> Result<bool, AllocError>
-        ensures done { IfOk result (λ done. done ≡ true → (t : Text)
-            × IsIncreased (value_at self.old (scalar_view variable.entry)) amount limit t
-            × (self.new ≡ with_value self.old (scalar_view variable.entry) t)) }
-        ensures same { IfOk result (λ done. done ≡ false → self.new ≡ self.old) }
+    ) -> Result<Option<i64>, AllocError>
+        ensures sum { IfOk result (λ made. IfSome made (λ total.
+            IsIncreased (value_at self.old (scalar_view variable.entry)) amount limit (signed_decimal total)
+            × (self.new ≡ with_value self.old (scalar_view variable.entry) (signed_decimal total)))) }
+        ensures same { IfOk result (λ made. made ≡ None → self.new ≡ self.old) }
     {
         match variable.scope {
             Scope::Global => increase(&mut self.globals, variable.name, amount, limit),
             Scope::Procedure => match &mut self.local {
-                None => Ok(false),
+                None => Ok(None),
                 Some(local) => local.increase(variable.name, amount, limit),
             },
         }

@@ -1,4 +1,4 @@
-use Rattle.std.specs.Prelude.{◌≡◌, List, Ok, Err, map}
+use Rattle.std.specs.Prelude.{◌≡◌, List, Ok, Err}
 use Rattle.std.specs.Option.{IfSome}
 use Rattle.std.proofs.Common.{subst}
 use Rattle.std.proofs.lemmas.Result.{err_from_is_err_and}

@@ -1,4 +1,3 @@
-use Rattle.std.proofs.Common.{rules}
 use Rattle.std.proofs.lemmas.Result.{err_from_is_err_and}
 use Rattle.tclrules.proofs.Leading.{continue_with}
 use Rattle.tclsubstitution.proofs.Leading.{given_stops, given_on}

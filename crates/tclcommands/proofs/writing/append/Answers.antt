@@ -1,6 +1,5 @@
-use Rattle.std.proofs.Common.{Bool, string_bytes, ap, ◌∙◌, rules}
+use Rattle.std.proofs.Common.{string_bytes, ap, ◌∙◌, rules}
 use Rattle.std.proofs.lemmas.Result.{err_from_is_err_and}
-use Rattle.tclchars.specs.Runs.{Text}
 use Rattle.tclrules.specs.Variables.{value_at}
 use Rattle.tclrules.proofs.Leading.{continue_with}
 use Rattle.tclsubstitution.proofs.Leading.{given_stops, given_on}

@@ -1,5 +1,4 @@
-use Rattle.std.proofs.Common.{◌≡◌, true, false, sym, ◌∙◌, [], drop, map}
-use Rattle.std.specs.Prelude.{string_bytes}
+use Rattle.std.proofs.Common.{◌≡◌, true, false, sym, ◌∙◌, []}
 use Rattle.tclrules.proofs.Leading.{continue_with}
 use Rattle.tclsubstitution.proofs.Leading.{passed_on}
 use Rattle.tclcontrol.proofs.Stopping.{fault_stops}

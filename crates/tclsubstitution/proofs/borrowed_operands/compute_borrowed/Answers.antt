@@ -13,7 +13,7 @@ returns-in_err-made-clause-err c =
     let p = err_from_is_err_and c.from_residual.result c.from_residual.ensures.1 in
     let first = rw c.deref.ensures at c.in-Some.ensures in
     let second = rw c.deref-2.ensures at c.in-Some-borrowed.ensures in
-    let made = rw (c.text.ensures, c.text-2.ensures) at c.in_err-made.ensures in
+    let made = c.in_err-made.ensures in
     rw (p.1, p.2, v) (λ most remaining r k x. from_same (first remaining _ ∙ second remaining _) (given_stops _ _ _ _ made))
 
 pub returns-clause-some : goal.returns-clause-some
@@ -21,5 +21,5 @@ returns-clause-some c =
     let v = ap (expr_view (range_text c.args.context.source.now)) c.in-Binary.is ∙ view-Binary (range_text c.args.context.source.now) c.in-Binary.operator c.in-Binary.left c.in-Binary.right in
     let first = rw c.deref.ensures at c.in-Some.ensures in
     let second = rw c.deref-2.ensures at c.in-Some-borrowed.ensures in
-    let made = rw (c.text.ensures, c.text-2.ensures) at c.in_ok-made.ensures in
+    let made = c.in_ok-made.ensures in
     rw v (λ most remaining r k x. from_same (first remaining _ ∙ second remaining _) (given_on _ _ _ _ made))

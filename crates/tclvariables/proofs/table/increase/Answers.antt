@@ -5,8 +5,8 @@ use Rattle.tclnumber.specs.declared.number.Numeral.TheVariants.{Whole}
 use Rattle.tclvariables.proofs.Places.{set_at_place, lookup_at_place}
 use Rattle.tclvariables.proofs.table.increase.Goals as goal
 
-pub returns-clause-done : goal.returns-clause-done
-returns-clause-done c =
+pub returns-clause-sum : goal.returns-clause-sum
+returns-clause-sum c =
     let entries = c.args.table.now.entries in
     let name = c.args.name.now in
     let place = c.in-Some.ensures.place in
@@ -16,6 +16,6 @@ returns-clause-done c =
     let written = c.in_ok-overwrite.ensures in
     let text : signed_decimal total ≡ c.format-text.result.now = sym (rw (to_z-of_z w64 total fits) at c.format-text.ensures.text) in
     let same = text ∙ sym written in
-    let short : length c.overwrite.new.self ≤ c.args.limit = omega (arith, ap length written, c.if-text-limit.false) in
+    let long : length c.overwrite.new.self ≤ c.args.limit = omega (arith, ap length written, c.if-text-limit.false) in
     let amount : Whole c.args.amount ≡ Whole (to_z w64 (of_z w64 c.args.amount)) = ap Whole (sym (to_z-of_z w64 c.args.amount c.ranges.amount)) in
-    λ e. (c.overwrite.new.self, rw (← held) ((λ n h. c.in-Some-sum_of.ensures n (h ∙ amount) ∙ ap Ok same), short), set_at_place (λ t. t) entries name c.in-Some.index place c.overwrite.new.self)
+    rw (to_z-of_z w64 total fits, same, ← held) (((λ n h. c.in-Some-sum_of.ensures n (h ∙ amount) ∙ ap Ok same), long), set_at_place (λ t. t) entries name c.in-Some.index place c.overwrite.new.self)

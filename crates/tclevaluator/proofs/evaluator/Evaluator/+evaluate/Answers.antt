@@ -2,14 +2,14 @@ use Rattle.std.proofs.Common.{rules, arith, refl, sym, ap, ◌∙◌, ◌≡◌,
 use Rattle.tclchars.specs.Runs.{Text}
 use Rattle.tclscript.specs.Tree.{words_of}
 use Rattle.tclscript.specs.View.{word_view, content_view}
-use Rattle.tclrules.specs.Derivation.{Runs}
+use Rattle.tclrules.specs.Derivation.{Runs, Counts}
 use Rattle.tclrules.specs.Simulates.{point}
 use Rattle.tclrules.specs.Variables.{State}
 use Rattle.tclrules.specs.Plans as plans
 use Rattle.tclrules.specs.Words as pieces
 use Rattle.tclrules.specs.Plans.{Next, sized}
 use Rattle.tclrules.specs.Rules.{rule, called, turn}
-use Rattle.tclforms.specs.Views.{pair_texts}
+use Rattle.tclforms.specs.Views.{pair_texts, form_view}
 use Rattle.tclsubstitution.specs.Machine.{range_text}
 use Rattle.tclevaluator.specs.Continues.{bounds_of}
 use Rattle.tclcontrol.specs.Completions.{sized_next, guarded, condition_plan}
@@ -174,7 +174,7 @@ called-returns-in-None-clause-evaluates_to g t c =
     let e = ap (map string_bytes) (sym c.in-Some.ensures) ∙ whole command.words.now command.not_empty in
     let v = rw (e, c.in-None.is) at c.in_ok-value.ensures in
     let h = c.core_command.ensures.evaluates_to in
-    (h.0, h.1, λ k. rw e (continue_with (given_on _ _ _ _ v) (h.2 k)))
+    (h.0, h.1, λ k. from_same (ap (λ ws. called (bounds_of c.args.bounds) ws c.args.self.now.variables (sized_next c.args.bounds.limits.value_bytes k)) e) (continue_with (given_on _ _ _ _ v) (h.2 k)))
 
 pub called-returns-in-None-clause-only_grows : goal.called-returns-in-None-clause-only_grows
 called-returns-in-None-clause-only_grows g t c = c.core_command.ensures.only_grows
@@ -185,7 +185,7 @@ called-returns-in-Some-2-clause-evaluates_to g t c =
     let e = ap (map string_bytes) (sym c.in-Some.ensures) ∙ whole command.words.now command.not_empty in
     let h = rw (e, c.in-Some-2.is) at c.in_ok-value.ensures in
     let w = c.within.ensures c.args.result_use c.args.self.now.variables in
-    (w.0, w.1, λ k. rw e (continue_with (given_on _ _ _ _ h) (w.2 _ _ k _)))
+    (w.0, w.1, λ k. from_same (ap (λ ws. called (bounds_of c.args.bounds) ws c.args.self.now.variables (sized_next c.args.bounds.limits.value_bytes k)) e) (continue_with (given_on _ _ _ _ h) (w.2 _ _ k _)))
 
 pub called-returns-in-Some-2-clause-only_grows : goal.called-returns-in-Some-2-clause-only_grows
 called-returns-in-Some-2-clause-only_grows g t c = later_refl
@@ -202,7 +202,7 @@ called-returns-in_err-value-clause-evaluates_to g t c =
     let command = c.in-Some.command in
     let e = ap (map string_bytes) (sym c.in-Some.ensures) ∙ whole command.words.now command.not_empty in
     let h = rw e at c.in_err-value.ensures in
-    comes_stopped _ _ _ _ _ c.from_residual.ensures.1 (λ k. rw e (given_stops _ _ _ _ h))
+    comes_stopped _ _ _ _ _ c.from_residual.ensures.1 (λ k. from_same (ap (λ ws. called (bounds_of c.args.bounds) ws c.args.self.now.variables (sized_next c.args.bounds.limits.value_bytes k)) e) (given_stops _ _ _ _ h))
 
 pub called-returns-in_err-value-clause-only_grows : goal.called-returns-in_err-value-clause-only_grows
 called-returns-in_err-value-clause-only_grows g t c = later_refl
@@ -226,7 +226,7 @@ command-returns-clause-evaluates_to g t c =
     let v = command_words (range_text c.args.command.source.now) c.args.command.tree.now in
     let a = rw c.deref.ensures.value at c.called.ensures.evaluates_to in
     let w = λ (k : Next). rw (h.variables, h.counted.1, c.as_slice.ensures.value) at (c.in_ok-texts.ensures.evaluates_to (λ texts s1. called b texts s1 (sized_next c.args.bounds.limits.value_bytes k))) in
-    (a.0, a.1, λ k. rw v (continue_with (continue_with (count_on h.counted.0) (w k)) (a.2 k)))
+    (a.0, a.1, λ k. from_same (ap (λ ws. Counts (pieces.words (bounds_of c.args.bounds) ws [] c.args.self.now.variables (λ texts s1. called (bounds_of c.args.bounds) texts s1 (sized_next c.args.bounds.limits.value_bytes k)))) v) (continue_with (continue_with (count_on h.counted.0) (w k)) (a.2 k)))
 
 pub command-returns-clause-only_grows : goal.command-returns-clause-only_grows
 command-returns-clause-only_grows g t c = later_on (later_counted c.in_ok-count.ensures.counted.1 c.in_ok-count.ensures.cache) (later_on c.in_ok-texts.ensures.only_grows c.called.ensures.only_grows)
@@ -245,7 +245,7 @@ command-returns-in_err-texts-clause-evaluates_to g t c =
     let h = c.in_ok-count.ensures in
     let v = command_words (range_text c.args.command.source.now) c.args.command.tree.now in
     let w = λ (k : Next). rw (h.variables, h.counted.1, c.as_slice.ensures.value) at (c.in_err-texts.ensures.evaluates_to (λ texts s1. called b texts s1 (sized_next c.args.bounds.limits.value_bytes k))) in
-    comes_stopped _ _ _ _ _ c.from_residual-in_err-texts.ensures.1 (λ k. rw v (continue_with (count_on h.counted.0) (w k)))
+    comes_stopped _ _ _ _ _ c.from_residual-in_err-texts.ensures.1 (λ k. from_same (ap (λ ws. Counts (pieces.words (bounds_of c.args.bounds) ws [] c.args.self.now.variables (λ texts s1. called (bounds_of c.args.bounds) texts s1 (sized_next c.args.bounds.limits.value_bytes k)))) v) (continue_with (count_on h.counted.0) (w k)))
 
 pub command-returns-in_err-texts-clause-only_grows : goal.command-returns-in_err-texts-clause-only_grows
 command-returns-in_err-texts-clause-only_grows g t c = later_on (later_counted c.in_ok-count.ensures.counted.1 c.in_ok-count.ensures.cache) c.in_err-texts.ensures.only_grows
@@ -530,7 +530,7 @@ form-otherwise-requires g t c κs within = search rules
 pub form-returns-in-Catch-clause-evaluates_to : goal.form-returns-in-Catch-clause-evaluates_to
 form-returns-in-Catch-clause-evaluates_to g t c =
     let w = c.within-in-Catch.ensures c.args.result_use c.catch.new.self.variables in
-    (w.0, w.1, λ k. rw c.in-Catch.is (continue_with (c.catch.ensures.evaluates_to (sized_next c.args.bounds.limits.value_bytes k)) (w.2 _ _ k _)))
+    (w.0, w.1, λ k. from_same (ap (λ form. table.form (bounds_of c.args.bounds) (form_view form) c.args.self.now.variables (sized_next c.args.bounds.limits.value_bytes k)) c.in-Catch.is) (continue_with (c.catch.ensures.evaluates_to (sized_next c.args.bounds.limits.value_bytes k)) (w.2 _ _ k _)))
 
 pub form-returns-in-Catch-clause-only_grows : goal.form-returns-in-Catch-clause-only_grows
 form-returns-in-Catch-clause-only_grows g t c = c.catch.ensures.only_grows
@@ -538,7 +538,7 @@ form-returns-in-Catch-clause-only_grows g t c = c.catch.ensures.only_grows
 pub form-returns-in-For-clause-evaluates_to : goal.form-returns-in-For-clause-evaluates_to
 form-returns-in-For-clause-evaluates_to g t c =
     let w = c.within-in-For.ensures c.args.result_use c.for_loop.new.self.variables in
-    (w.0, w.1, λ k. rw c.in-For.is (continue_with (c.for_loop.ensures.evaluates_to (sized_next c.args.bounds.limits.value_bytes k)) (w.2 _ _ k _)))
+    (w.0, w.1, λ k. from_same (ap (λ form. table.form (bounds_of c.args.bounds) (form_view form) c.args.self.now.variables (sized_next c.args.bounds.limits.value_bytes k)) c.in-For.is) (continue_with (c.for_loop.ensures.evaluates_to (sized_next c.args.bounds.limits.value_bytes k)) (w.2 _ _ k _)))
 
 pub form-returns-in-For-clause-only_grows : goal.form-returns-in-For-clause-only_grows
 form-returns-in-For-clause-only_grows g t c = c.for_loop.ensures.only_grows
@@ -550,7 +550,7 @@ form-returns-in-Foreach-clause-evaluates_to g t c =
       w.1,
       λ k.
           let h = rw c.as_slice-in-Foreach.ensures.value at (c.foreach.ensures.evaluates_to (sized_next c.args.bounds.limits.value_bytes k)) in
-          rw c.in-Foreach.is (continue_with h (w.2 _ _ k _)),
+          from_same (ap (λ form. table.form (bounds_of c.args.bounds) (form_view form) c.args.self.now.variables (sized_next c.args.bounds.limits.value_bytes k)) c.in-Foreach.is) (continue_with h (w.2 _ _ k _)),
     )
 
 pub form-returns-in-Foreach-clause-only_grows : goal.form-returns-in-Foreach-clause-only_grows
@@ -559,7 +559,7 @@ form-returns-in-Foreach-clause-only_grows g t c = c.foreach.ensures.only_grows
 pub form-returns-in-If-clause-evaluates_to : goal.form-returns-in-If-clause-evaluates_to
 form-returns-in-If-clause-evaluates_to g t c =
     let a = rw c.as_slice.ensures.value at c.branches.ensures.evaluates_to in
-    (a.0, a.1, λ k. rw c.in-If.is (a.2 k))
+    (a.0, a.1, λ k. from_same (ap (λ form. table.form (bounds_of c.args.bounds) (form_view form) c.args.self.now.variables (sized_next c.args.bounds.limits.value_bytes k)) c.in-If.is) (a.2 k))
 
 pub form-returns-in-If-clause-only_grows : goal.form-returns-in-If-clause-only_grows
 form-returns-in-If-clause-only_grows g t c = c.branches.ensures.only_grows
@@ -576,7 +576,7 @@ form-returns-in-Switch-clause-only_grows g t c = c.otherwise.ensures.only_grows
 pub form-returns-in-While-clause-evaluates_to : goal.form-returns-in-While-clause-evaluates_to
 form-returns-in-While-clause-evaluates_to g t c =
     let w = c.within-in-While.ensures c.args.result_use c.while_turns.new.self.variables in
-    (w.0, w.1, λ k. rw c.in-While.is (continue_with (c.while_turns.ensures.evaluates_to (sized_next c.args.bounds.limits.value_bytes k)) (w.2 _ _ k _)))
+    (w.0, w.1, λ k. from_same (ap (λ form. table.form (bounds_of c.args.bounds) (form_view form) c.args.self.now.variables (sized_next c.args.bounds.limits.value_bytes k)) c.in-While.is) (continue_with (c.while_turns.ensures.evaluates_to (sized_next c.args.bounds.limits.value_bytes k)) (w.2 _ _ k _)))
 
 pub form-returns-in-While-clause-only_grows : goal.form-returns-in-While-clause-only_grows
 form-returns-in-While-clause-only_grows g t c = c.while_turns.ensures.only_grows
@@ -584,7 +584,7 @@ form-returns-in-While-clause-only_grows g t c = c.while_turns.ensures.only_grows
 pub form-returns-in-Simple-clause-evaluates_to : goal.form-returns-in-Simple-clause-evaluates_to
 form-returns-in-Simple-clause-evaluates_to g t c =
     let a = c.simple.ensures.evaluates_to in
-    (a.0, a.1, λ k. rw c.in-Simple.is (a.2 k))
+    (a.0, a.1, λ k. from_same (ap (λ form. table.form (bounds_of c.args.bounds) (form_view form) c.args.self.now.variables (sized_next c.args.bounds.limits.value_bytes k)) c.in-Simple.is) (a.2 k))
 
 pub form-returns-in-Simple-clause-only_grows : goal.form-returns-in-Simple-clause-only_grows
 form-returns-in-Simple-clause-only_grows g t c = c.simple.ensures.only_grows
@@ -1054,7 +1054,7 @@ command-returns-in-Some-clause-evaluates_to g t c =
     let a = c.simple.ensures.evaluates_to in
     let e = λ (k : Next). rw c.as_slice.ensures.value at (c.in-Some.ensures c.args.bounds.remaining c.args.self.now.variables (sized_next c.args.bounds.limits.value_bytes k)) in
     let w = λ (k : Next). rw (h.variables, h.counted.1) at (a.2 k) in
-    (a.0, a.1, λ k. rw v (continue_with (count_on h.counted.0) (from_same (e k) (w k))))
+    (a.0, a.1, λ k. from_same (ap (λ ws. Counts (pieces.words (bounds_of c.args.bounds) ws [] c.args.self.now.variables (λ texts s1. called (bounds_of c.args.bounds) texts s1 (sized_next c.args.bounds.limits.value_bytes k)))) v) (continue_with (count_on h.counted.0) (from_same (e k) (w k))))
 
 pub command-returns-in-Some-clause-only_grows : goal.command-returns-in-Some-clause-only_grows
 command-returns-in-Some-clause-only_grows g t c = later_on (later_counted c.in_ok-count.ensures.counted.1 c.in_ok-count.ensures.cache) c.simple.ensures.only_grows
@@ -1197,7 +1197,7 @@ for_turns-returns-in_err-condition-clause-only_grows g t c = later_begun refl c.
 pub form-returns-in-Express-clause-evaluates_to : goal.form-returns-in-Express-clause-evaluates_to
 form-returns-in-Express-clause-evaluates_to g t c =
     let w = c.within.ensures c.args.result_use c.express_words.new.self.variables in
-    (w.0, w.1, λ k. rw c.in-Express.is (continue_with (c.express_words.ensures.evaluates_to (sized_next c.args.bounds.limits.value_bytes k)) (w.2 _ _ k _)))
+    (w.0, w.1, λ k. from_same (ap (λ form. table.form (bounds_of c.args.bounds) (form_view form) c.args.self.now.variables (sized_next c.args.bounds.limits.value_bytes k)) c.in-Express.is) (continue_with (c.express_words.ensures.evaluates_to (sized_next c.args.bounds.limits.value_bytes k)) (w.2 _ _ k _)))
 
 pub form-returns-in-Express-clause-only_grows : goal.form-returns-in-Express-clause-only_grows
 form-returns-in-Express-clause-only_grows g t c = c.express_words.ensures.only_grows
