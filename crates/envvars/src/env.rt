@@ -12,7 +12,7 @@ use crate::change::Change;
 use crate::fault::EnvFault;
 use crate::fields::{owned, sorted_once};
 use crate::given::Given;
-use crate::table::{Table, found, make_changes, names_of, write_entry};
+use crate::table::{Table, found, make_changes, names_of, write_entry, write_value};
 use crate::vars::Vars;
 use indexmap::IndexMap;
 use std::alloc::{AllocError, Global};
@@ -106,6 +106,17 @@ impl Env {
         Ok(())
     }
 
+    /// Sets a variable to a value that is handed over. The only error is `OutOfMemory`, which leaves the environment
+    /// unchanged.
+    pub fn put(&mut self, name: &str, value: String) -> Result<(), EnvFault>
+        ensures ok { OnOk result (self.new ≡ finite.insert self.old name.now (string_bytes value)) }
+        ensures err { OnErr result (self.new ≡ self.old) }
+        ensures only { IfErr result (λ e. e ≡ OutOfMemory) }
+    {
+        write_value(self.alloc, &mut self.written, name, Some(value))?;
+        Ok(())
+    }
+
     /// Unsets a variable. It takes no memory, and an unset variable stays as it is.
     pub fn unset(&mut self, name: &str)
         ensures { self.new ≡ finite.remove self.old name.now }
@@ -162,6 +173,10 @@ impl Vars for Env {
 
     fn set(&mut self, name: &str, value: &str) -> Result<(), EnvFault> {
         self.set(name, value)
+    }
+
+    fn put(&mut self, name: &str, value: String) -> Result<(), EnvFault> {
+        self.put(name, value)
     }
 
     fn unset(&mut self, name: &str) -> Result<(), EnvFault> {

@@ -113,7 +113,7 @@ pub fn copy(alloc: Global, text: Option<&str>) -> Result<Option<String>, AllocEr
 pub fn slices(alloc: Global, texts: &[String]) -> Result<Vec<&str>, AllocError>
     ensures { IfOk result (λ v. slice_texts v.items ≡ map string_bytes texts.now) }
 {
-    let mut slices = Vec::new(alloc);
+    let mut slices = Vec::with_capacity(alloc, texts.len())?;
     for text in texts {
         slices.push(text.as_str())?;
     }
@@ -124,7 +124,7 @@ pub fn slices(alloc: Global, texts: &[String]) -> Result<Vec<&str>, AllocError>
 pub fn owned(alloc: Global, texts: &[&str]) -> Result<Vec<String>, AllocError>
     ensures { IfOk result (λ v. texts_in v ≡ slice_texts texts.now) }
 {
-    let mut owned = Vec::new(alloc);
+    let mut owned = Vec::with_capacity(alloc, texts.len())?;
     for text in texts {
         owned.push(String::from_str(alloc, text)?)?;
     }
@@ -135,7 +135,7 @@ pub fn owned(alloc: Global, texts: &[&str]) -> Result<Vec<String>, AllocError>
 pub fn copies(alloc: Global, texts: &[String]) -> Result<Vec<String>, AllocError>
     ensures { IfOk result (λ v. texts_in v ≡ map string_bytes texts.now) }
 {
-    let mut copies = Vec::new(alloc);
+    let mut copies = Vec::with_capacity(alloc, texts.len())?;
     for text in texts {
         copies.push(String::from_str(alloc, text.as_str())?)?;
     }

@@ -1,5 +1,5 @@
 //! How variables are named, which of them are protected, and which values a variable can have.
-ghost use Rattle.std.specs.Prelude.{◌≡◌, IfOk, string_bytes};
+ghost use Rattle.std.specs.Prelude.{◌≡◌, ◌++◌, IfOk, string_bytes};
 ghost use Rattle.std.specs.List.{list_all};
 ghost use Rattle.envvars.specs.Names.{is_name_start, is_name_byte, is_variable_name, is_protected, is_nul_free, name_reason, share_name, stack_name};
 ghost use Rattle.envvars.specs.Reasons.{Judges};
@@ -68,16 +68,26 @@ pub fn is_nul_free(value: &str) -> bool
     value.as_bytes().iter().all(|b| *b != 0)
 }
 
+/// The two texts, one behind the other.
+fn joined(alloc: Global, front: &str, back: &str) -> Result<String, AllocError>
+    ensures { IfOk result (λ s. string_bytes s ≡ front.now ++ back.now) }
+{
+    let mut text = String::with_capacity(alloc, front.len().saturating_add(back.len()))?;
+    text.push_str(front)?;
+    text.push_str(back)?;
+    Ok(text)
+}
+
 /// The name of the variable that holds the counters of a path variable: `__MODULES_SHARE_` and its name.
 pub fn share_name(alloc: Global, name: &str) -> Result<String, AllocError>
     ensures { IfOk result (λ s. string_bytes s ≡ share_name name.now) }
 {
-    format!(in alloc; "__MODULES_SHARE_{name}")
+    joined(alloc, "__MODULES_SHARE_", name)
 }
 
 /// The name of the variable that holds the stack of a variable: `__MODULES_PUSHENV_` and its name.
 pub fn stack_name(alloc: Global, name: &str) -> Result<String, AllocError>
     ensures { IfOk result (λ s. string_bytes s ≡ stack_name name.now) }
 {
-    format!(in alloc; "__MODULES_PUSHENV_{name}")
+    joined(alloc, "__MODULES_PUSHENV_", name)
 }

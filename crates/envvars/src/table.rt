@@ -31,14 +31,34 @@ pub(crate) fn found<'a>(table: &'a Table, name: &str) -> Option<Option<&'a str>>
 pub(crate) fn names_of(alloc: Global, table: &Table) -> Result<Vec<&str>, AllocError>
     ensures { IfOk result (λ v. slice_texts v.items ≡ names_of table.now.entries) }
 {
-    let mut names = Vec::new(alloc);
+    let mut names = Vec::with_capacity(alloc, table.len())?;
     for (name, _) in table {
         names.push(name.as_str())?;
     }
     Ok(names)
 }
 
-/// Enters a name with a value or with none, in place of its older entry.
+/// Enters a name with a value or with none, in place of its older entry. The name is copied where it has none.
+pub(crate) fn write_value(
+    alloc: Global,
+    table: &mut Table,
+    name: &str,
+    value: Option<String>,
+) -> Result<(), AllocError>
+    ensures ok { OnOk result ((x : Text) → slot table.new x
+        ≡ (if bytes_eq x name.now then Some (option_map string_bytes value) else slot table.old x)) }
+    ensures err { OnErr result ((x : Text) → slot table.new x ≡ slot table.old x) }
+{
+    if let Some(older) = table.get_mut(name) {
+        *older = value;
+        return Ok(());
+    }
+    let key = String::from_str(alloc, name)?;
+    table.insert(key, value)?;
+    Ok(())
+}
+
+/// Enters a name with a copy of a value or with none, in place of its older entry.
 pub(crate) fn write_entry(
     alloc: Global,
     table: &mut Table,
@@ -49,9 +69,8 @@ pub(crate) fn write_entry(
         ≡ (if bytes_eq x name.now then Some (option_map (λ t. t.now) value.entry) else slot table.old x)) }
     ensures err { OnErr result ((x : Text) → slot table.new x ≡ slot table.old x) }
 {
-    let key = String::from_str(alloc, name)?;
     let value = copy(alloc, value)?;
-    table.insert(key, value)?;
+    write_value(alloc, table, name, value)?;
     Ok(())
 }
 

@@ -1,5 +1,5 @@
 //! The interface of everything that holds variables: an environment, or a working environment over one.
-ghost use Rattle.std.specs.Prelude.{◌≡◌, map, IfErr, OnOk, OnErr};
+ghost use Rattle.std.specs.Prelude.{◌≡◌, map, string_bytes, IfErr, OnOk, OnErr};
 ghost use Rattle.std.specs.Option.{option_map};
 ghost use Rattle.std.specs.FinMap as finite;
 ghost use Rattle.envvars.specs.Environment.{Environment, lookup};
@@ -25,6 +25,13 @@ pub trait Vars {
     /// Sets a variable. Any name and any value are accepted.
     fn set(&mut self, name: &str, value: &str) -> Result<(), EnvFault>
         ensures ok { OnOk result (vars self.new ≡ finite.insert (vars self.old) name.now value.now) }
+        ensures err { OnErr result (vars self.new ≡ vars self.old) }
+        ensures only { IfErr result (λ e. e ≡ OutOfMemory) }
+        ensures base { base self.new ≡ base self.old };
+
+    /// Sets a variable to a value that is handed over, as `set` does to a copy.
+    fn put(&mut self, name: &str, value: String) -> Result<(), EnvFault>
+        ensures ok { OnOk result (vars self.new ≡ finite.insert (vars self.old) name.now (string_bytes value)) }
         ensures err { OnErr result (vars self.new ≡ vars self.old) }
         ensures only { IfErr result (λ e. e ≡ OutOfMemory) }
         ensures base { base self.new ≡ base self.old };

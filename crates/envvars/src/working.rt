@@ -7,7 +7,7 @@ use crate::change::Change;
 use crate::difference::changes_among;
 use crate::env::Env;
 use crate::fault::EnvFault;
-use crate::table::{Table, found, make_changes, names_of, write_entry};
+use crate::table::{Table, found, make_changes, names_of, write_entry, write_value};
 use crate::vars::Vars;
 use indexmap::IndexMap;
 use std::alloc::Global;
@@ -95,6 +95,11 @@ impl<'a, B: Vars> Vars for Working<'a, B> {
 
     fn set(&mut self, name: &str, value: &str) -> Result<(), EnvFault> {
         write_entry(self.alloc, &mut self.touched, name, Some(value))?;
+        Ok(())
+    }
+
+    fn put(&mut self, name: &str, value: String) -> Result<(), EnvFault> {
+        write_value(self.alloc, &mut self.touched, name, Some(value))?;
         Ok(())
     }
 

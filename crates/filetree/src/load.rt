@@ -1,5 +1,5 @@
 //! Asks the system for files and directories, and says what its answers make known of a path.
-ghost use Rattle.std.specs.Prelude.{◌≡◌, false, IfOk};
+ghost use Rattle.std.specs.Prelude.{◌≡◌, true, false, IfOk};
 ghost use Rattle.filetree.specs.Devices.{is_directory, is_file};
 ghost use Rattle.filetree.specs.Known.{SaysNoLess, has_directory, has_file, is_read_in_part, is_unlisted};
 
@@ -56,6 +56,24 @@ pub(crate) fn load_rest<R: Files + AllocGlobal>(
     }
 }
 
+/// The file at a path, of which the first `size` bytes are read. One that is shorter is read whole, and so is one of which
+/// more is asked for than is kept as a prefix.
+fn start_of_file<R: Files + AllocGlobal>(
+    rt: &R,
+    path: &str,
+    size: usize,
+) -> Result<Known, TreeFault>
+    ensures file { IfOk result (λ known. has_file known ≡ true) }
+    ensures directory { IfOk result (λ known. has_directory known ≡ false) }
+{
+    if size <= MOST {
+        if let Some(prefix) = first_bytes(fs::open(rt, path)?, size)? {
+            return Ok(Known::File(prefix));
+        }
+    }
+    Ok(Known::WholeFile(fs::read(rt, path)?))
+}
+
 /// What is at a path where this is, of whose file the first `size` bytes are read; more than are kept as a prefix are not
 /// read without the rest.
 fn prefix_of_kind<R: Files + AllocGlobal>(
@@ -68,11 +86,7 @@ fn prefix_of_kind<R: Files + AllocGlobal>(
     ensures directory { IfOk result (λ known. has_directory known ≡ is_directory path_kind) }
 {
     match path_kind {
-        PathKind::File if size <= MOST => {
-            let bytes = first_bytes(rt.alloc(), fs::open(rt, path)?, size)?;
-            Ok(Known::File(Prefix::new(size, &bytes)))
-        }
-        PathKind::File => Ok(Known::WholeFile(fs::read(rt, path)?)),
+        PathKind::File => start_of_file(rt, path, size),
         PathKind::Directory => Ok(Known::Directory),
         PathKind::Nothing | PathKind::Other => Ok(Known::Neither),
     }

@@ -66,7 +66,10 @@ const NAMES_AT_ONCE: usize = 2000;
 /// The names in a directory, each ended by a NUL, as one text. `fs::read_dir` would make a path of each.
 fn text_of_names<R: Files + AllocGlobal>(rt: &R, dir: &str) -> io::Result<Vec<u8>> {
     // The slash makes the system follow a symbolic link to a directory.
-    let mut names = rt.open_dir(&format!(in rt.alloc(); "{dir}/")?)?;
+    let mut path = String::with_capacity(rt.alloc(), dir.len().saturating_add(1))?;
+    path.push_str(dir)?;
+    path.push('/')?;
+    let mut names = rt.open_dir(&path)?;
     let mut room = [0; NAMES_AT_ONCE];
     let mut text = Vec::new(rt.alloc());
     for _ in 0..u64::MAX {

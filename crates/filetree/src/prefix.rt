@@ -1,11 +1,10 @@
 //! The first bytes of files: read without the rest, and compared with what is read later.
-ghost use Rattle.std.specs.Prelude.{◌≡◌, Some, List, ℕ, Option, take, IfOk, IfSome, true};
+ghost use Rattle.std.specs.Prelude.{◌≡◌, ◌≤◌, Some, List, ℕ, Option, take, IfOk, IfSome, true};
 ghost use Rattle.filetree.specs.Agreement.{HaveSamePrefix, begins_with};
 ghost use Rattle.filetree.specs.Prefixes.{prefix_bytes};
 
-use std::alloc::Global;
 use std::io;
-use std::io::Read;
+use std::io::{ErrorKind, Read};
 
 /// How many first bytes of a file are kept, at most.
 pub(crate) const MOST: usize = 8;
@@ -57,18 +56,23 @@ impl Prefix {
     }
 }
 
-/// The first bytes of a reader, at most `size`. No more is read.
-pub(crate) fn first_bytes<F: Read + Drop>(
-    alloc: Global,
-    file: F,
-    size: usize,
-) -> io::Result<Vec<u8>>
-    ensures { IfSome (F.remaining file) (λ bytes. IfOk result (λ prefix. prefix.items ≡ take size bytes)) }
+/// So many first bytes of a reader, at most `MOST`, or `None` where it has fewer. No more is read.
+pub(crate) fn first_bytes<F: Read + Drop>(file: F, size: usize) -> io::Result<Option<Prefix>>
+    requires { size ≤ MOST }
+    ensures { IfSome (F.remaining file) (λ bytes. IfOk result (λ prefix. IfSome prefix (λ prefix.
+        prefix_bytes prefix ≡ take size bytes))) }
 {
-    // With room for one more byte the end is found without another growth.
-    let mut prefix = Vec::with_capacity(alloc, size.saturating_add(1))?;
-    file.take(size as u64).read_to_end(&mut prefix)?;
-    Ok(prefix)
+    let mut file = file;
+    let mut room = [0; MOST];
+    match file.read_exact(&mut room[..size]) {
+        Ok(()) => Ok(Some(Prefix {
+            size,
+            room,
+            count: size,
+        })),
+        Err(e) if e.kind() == ErrorKind::UnexpectedEof => Ok(None),
+        Err(e) => Err(e),
+    }
 }
 
 /// The first bytes of a slice, at most `size`.

@@ -1,8 +1,7 @@
 -- The names of a folder that may be those of folders.
-use Rattle.std.proofs.Common.{◌≡◌, ◌⊎◌, Bool, true, false, List, [], ◌∷◌, ◌++◌, Option, Some, None, refl, sym, ap, ◌∙◌, subst, inl, inr, ⊎_elim, append-nil, append_assoc, filter, ℕ, ◌<◌, Bor, length, get_or, map}
+use Rattle.std.proofs.Common.{◌≡◌, ◌⊎◌, Bool, true, false, List, [], ◌∷◌, ◌++◌, Option, Some, None, refl, sym, ap, ◌∙◌, subst, inl, inr, ⊎_elim, append-nil, append_assoc, filter, ℕ, ◌<◌, length, get_or, map}
 use Rattle.std.specs.Prelude.{if◌then◌else◌}
 use Rattle.std.proofs.lemmas.Bool.{cases_Bool}
-use Rattle.std.proofs.lemmas.List.{get_or_default}
 use Rattle.modulename.specs.ModuleName.{Text}
 use Rattle.filetree.specs.Agreement.{Files, Listings}
 use Rattle.filetree.specs.Modulefiles.{path_of}
@@ -18,12 +17,11 @@ last_is : (v n : Text) (xs : List Text) → v ≡ n → has v (xs ++ n ∷ []) �
 last_is v n xs q = ap (λ x. has x (xs ++ n ∷ [])) q ∙ has_middle n xs []
 
 -- a folder that is read from a list of those among some names
-pub read_among : (items below : List (Bor Text)) (d : Bor Text) (i : ℕ) → i < length items → items ≡ below
-    → (given names : List Text) → given ≡ names → AreAmong (map (λ f. f.now) below) given → has (get_or items i d).now names ≡ true
-read_among items below d i within all given names same among =
-    let name = get_or items i d in
-    let there : has name.now (map (λ f. f.now) items) ≡ true = ap (has name.now) (split_at (λ (f : Bor Text). f.now) name items i within (get_or_default items i d name within)) ∙ has_middle name.now _ _ in
-    ap (has name.now) (sym same) ∙ among name.now (ap (λ xs. has name.now (map (λ (f : Bor Text). f.now) xs)) (sym all) ∙ there)
+pub read_among : {X : Type 0} (view : X → Text) (items : List X) (name : X) (i : ℕ) → i < length items → name ≡ get_or items i name
+    → (given names : List Text) → given ≡ names → AreAmong (map view items) given → has (view name) names ≡ true
+read_among view items name i within is given names same among =
+    ap (has (view name)) (sym same)
+    ∙ among (view name) (ap (has (view name)) (split_at view name items i within is) ∙ has_middle (view name) _ _)
 
 -- one name more, which is added where the test is true
 pub more_among : (test : Bool) (some all more : List Text) (n : Text) → more ≡ some ++ (if test then n ∷ [] else []) → AreAmong some all → AreAmong more (all ++ n ∷ [])

@@ -5,7 +5,7 @@ ghost use Rattle.filetree.specs.Modulefiles.{path_of};
 ghost use Rattle.search.specs.BelowFolder.{is_module_below};
 ghost use Rattle.search.specs.Versions.{is_module_in};
 
-use crate::paths::path_of;
+use crate::paths::{path_of, write_path};
 use filetree::{Tree, TreeFault, holds_module};
 use std::alloc::Global;
 
@@ -38,14 +38,14 @@ pub(crate) struct Seen {
     pub(crate) may_list: bool,
 }
 
-/// What is at the path of this full name below the directory.
+/// What is at the path of this full name below the directory. The path is written in place of a text.
 ///
 /// It fails as the tree does, at that path, and for want of memory.
 pub(crate) fn see_below<T: Tree>(
-    alloc: Global,
     tree: &mut T,
     dir: &str,
     name: &str,
+    path: &mut String,
 ) -> Result<Seen, TreeFault>
     ensures narrows { Narrows (T.agrees tree.old) (T.agrees tree.new) }
     ensures answer { IfOk result (λ seen. InEachPair (T.agrees tree.new) (λ files listings.
@@ -56,9 +56,9 @@ pub(crate) fn see_below<T: Tree>(
     ensures failed { FailsAt is_device (T.failed tree.old) (T.failed tree.new) result (λ at.
         at ≡ path_of dir.now name.now) }
 {
-    let path = path_of(alloc, dir, name)?;
-    let is_module = holds_module(tree, &path)?;
-    let may_list = tree.may_list(&path);
+    write_path(path, dir, name)?;
+    let is_module = holds_module(tree, path)?;
+    let may_list = tree.may_list(path);
     Ok(Seen {
         is_module,
         may_list,

@@ -11,7 +11,7 @@ ghost use Rattle.search.specs.Ended.{ended_view};
 
 use crate::candidates::is_module_in;
 use crate::default_files::{DefaultFiles, Ended};
-use crate::paths::{has, path_of};
+use crate::paths::{has, path_in_folder};
 use crate::version_named::DefaultFile;
 use crate::versions::is_version;
 use filetree::{FileContent, Tree, TreeFault, read_modulefile};
@@ -67,8 +67,7 @@ fn version_named_by<T: Tree, D: DefaultFiles>(
     ensures failed { FailsAt is_device (T.failed tree.old) (T.failed tree.new) result (λ at.
         at ≡ default_file dir.now name.now (file_name file)) }
 {
-    let folder = path_of(alloc, dir, name)?;
-    let path = path_of(alloc, &folder, file.file_name())?;
+    let path = path_in_folder(alloc, dir, name, file.file_name())?;
     match read_modulefile(tree, &path)? {
         FileContent::Absent | FileContent::NoCookie => Ok(NamedVersion::Nothing),
         FileContent::NotUtf8 => Ok(NamedVersion::BadFile(path)),

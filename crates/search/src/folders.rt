@@ -67,29 +67,29 @@ impl<D: DefaultFiles> Walk<'_, D> {
 
     /// Adds the modules that are files in a folder with these entries and these full names of them, and gives the names
     /// that may be those of folders. Default files are read only where there is a module.
-    fn list_files<'n, T: Tree>(
+    fn list_files<T: Tree>(
         &self,
         tree: &mut T,
         prefix: Option<&str>,
         entries: &[String],
-        names: &'n [String],
+        names: Vec<String>,
         listing_entries: &mut Vec<ListingEntry>,
-    ) -> Result<Vec<&'n str>, TreeFault>
+    ) -> Result<Vec<String>, TreeFault>
         requires listed { InEachPair (T.agrees tree.old) (λ files folders.
             folders (folder_path self.now.dir.now (option_map (λ f. f.now) prefix))
             ≡ Some (map string_bytes entries.now)) }
-        requires named { map string_bytes names.now
+        requires named { map string_bytes names.items
             ≡ names_in (option_map (λ f. f.now) prefix) (map string_bytes entries.now) }
         ensures named { IfOk result (λ below.
-            AreAmong (map (λ f. f.now) below.items) (map string_bytes names.entry.now)) }
+            AreAmong (map string_bytes below.items) (map string_bytes names.items)) }
         ensures others { IfOk result (λ below. InEachPair (T.agrees tree.new) (λ files folders.
-            HasAllFolders folders self.now.dir.now (map string_bytes names.entry.now)
-            (map (λ f. f.now) below.items))) }
+            HasAllFolders folders self.now.dir.now (map string_bytes names.items)
+            (map string_bytes below.items))) }
         ensures narrows { Narrows (T.agrees tree.old) (T.agrees tree.new) }
         ensures added { OnOk result (InEachPair (T.agrees tree.new) (λ files folders. (more : List listed.ListingEntry)
             × (map listing_entry_view listing_entries.new.items ≡ map listing_entry_view listing_entries.old.items ++ more)
             × AreEntriesOfFiles (D.results self.now.default_files.now) files folders self.now.dir.now
-            (map string_bytes names.entry.now) more)) }
+            (map string_bytes names.items) more)) }
         ensures cause { FailsOnlyByDevice (T.failures tree.old) (T.failures tree.new) result }
         ensures failed { FailsWhere is_device T.agrees T.failed tree.old tree.new result (λ files folders.
             LooksFromFolder (D.results self.now.default_files.now) files folders self.now.dir.now
@@ -100,7 +100,7 @@ impl<D: DefaultFiles> Walk<'_, D> {
             return Ok(folders);
         }
         let default = self.default_name(tree, prefix, entries)?;
-        push_listing_entries(self.alloc, listing_entries, &modules, default.as_deref())?;
+        push_listing_entries(listing_entries, modules, default.as_deref())?;
         Ok(folders)
     }
 
@@ -132,9 +132,9 @@ impl<D: DefaultFiles> Walk<'_, D> {
             return Ok(());
         };
         let names = names_in(self.alloc, prefix, &entries)?;
-        let below = self.list_files(tree, prefix, &entries, &names, listing_entries)?;
+        let below = self.list_files(tree, prefix, &entries, names, listing_entries)?;
         for name in &below {
-            self.list_folder(tree, Some(*name), levels - 1, listing_entries)?;
+            self.list_folder(tree, Some(name.as_str()), levels - 1, listing_entries)?;
         }
         Ok(())
     }

@@ -1,11 +1,11 @@
 //! The entries of a listing: modules with the mark of a default, sorted, each once.
-ghost use Rattle.std.specs.Prelude.{◌≡◌, ◌++◌, map, option_map, OnOk};
+ghost use Rattle.std.specs.Prelude.{◌≡◌, ◌++◌, map, option_map, string_bytes, OnOk};
 ghost use Rattle.std.specs.List.{dedup};
 ghost use Rattle.std.specs.List.Sorted.{IsPermutation, IsSortedBy};
 ghost use Rattle.search.specs.ListingEntries.{listing_entry_view, listing_entry_of, name_of, goes_before, is_same_name};
 
 use modulename::version_order;
-use std::alloc::{AllocError, Global};
+use std::alloc::AllocError;
 
 /// A module in the listing of a directory.
 #[derive(Debug, Drop)]
@@ -18,20 +18,17 @@ pub struct ListingEntry {
 
 /// Adds each of the modules, marked where it is the default.
 pub(crate) fn push_listing_entries(
-    alloc: Global,
     listing_entries: &mut Vec<ListingEntry>,
-    modules: &[&str],
+    modules: Vec<String>,
     default: Option<&str>,
 ) -> Result<(), AllocError>
     ensures { OnOk result (map listing_entry_view listing_entries.new.items
         ≡ map listing_entry_view listing_entries.old.items
-        ++ map (listing_entry_of (option_map (λ d. d.now) default.entry)) (map (λ m. m.now) modules.now)) }
+        ++ map (listing_entry_of (option_map (λ d. d.now) default.entry)) (map string_bytes modules.items)) }
 {
     for name in modules {
-        listing_entries.push(ListingEntry {
-            name: String::from_str(alloc, name)?,
-            is_default: default == Some(*name),
-        })?;
+        let is_default = default == Some(name.as_str());
+        listing_entries.push(ListingEntry { name, is_default })?;
     }
     Ok(())
 }

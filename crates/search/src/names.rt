@@ -5,7 +5,7 @@ ghost use Rattle.filetree.specs.Agreement.{FailsAt, InEachPair, Narrows, FailsOn
 ghost use Rattle.search.specs.Single.{is_single};
 ghost use Rattle.search.specs.BelowFolder.{folder_path, name_below, names_in, is_module_below, LooksAmong, AreAmong, HasAllFolders};
 
-use crate::candidates::see_below;
+use crate::candidates::{Seen, see_below};
 use crate::paths::{is_single, path_of};
 use filetree::{Tree, TreeFault};
 use modulename::is_module_name;
@@ -56,53 +56,65 @@ pub(crate) fn names_in(
     Ok(names)
 }
 
-/// Adds the name where the test is true.
-fn push_if<'a>(names: &mut Vec<&'a str>, test: bool, name: &'a str) -> Result<(), AllocError>
-    ensures { OnOk result (map (λ n. n.now) names.new.items
-        ≡ map (λ n. n.now) names.old.items ++ (if test then name.now ∷ [] else [])) }
-{
-    if test {
-        names.push(name)?;
-    }
-    Ok(())
-}
-
 /// The names below a directory that a listing goes on with.
 #[derive(Drop)]
-pub(crate) struct Sorted<'a> {
+pub(crate) struct Sorted {
     /// Those whose files begin with `#%Module`.
-    pub(crate) modules: Vec<&'a str>,
+    pub(crate) modules: Vec<String>,
     /// Those at whose paths a directory may be.
-    pub(crate) folders: Vec<&'a str>,
+    pub(crate) folders: Vec<String>,
+}
+
+impl Sorted {
+    /// Adds a name by what is at its path. It is copied only where that may be both a module and a directory.
+    fn add(&mut self, name: String, seen: Seen) -> Result<(), AllocError>
+        ensures modules { OnOk result (map string_bytes self.new.modules.items
+            ≡ map string_bytes self.old.modules.items ++ (if seen.is_module then string_bytes name ∷ [] else [])) }
+        ensures folders { OnOk result (map string_bytes self.new.folders.items
+            ≡ map string_bytes self.old.folders.items ++ (if seen.may_list then string_bytes name ∷ [] else [])) }
+    {
+        match (seen.is_module, seen.may_list) {
+            (true, true) => {
+                self.folders.push(name.clone()?)?;
+                self.modules.push(name)?;
+            }
+            (true, false) => self.modules.push(name)?,
+            (false, true) => self.folders.push(name)?,
+            (false, false) => {}
+        }
+        Ok(())
+    }
 }
 
 /// Sorts out the names below a directory.
 ///
 /// It fails as the tree does, at the path of one of the names, and for want of memory.
-pub(crate) fn sort_out<'a, T: Tree>(
+pub(crate) fn sort_out<T: Tree>(
     alloc: Global,
     tree: &mut T,
     dir: &str,
-    names: &'a [String],
-) -> Result<Sorted<'a>, TreeFault>
+    names: Vec<String>,
+) -> Result<Sorted, TreeFault>
     ensures narrows { Narrows (T.agrees tree.old) (T.agrees tree.new) }
     ensures answer { IfOk result (λ sorted. InEachPair (T.agrees tree.new) (λ files folders.
-        map (λ m. m.now) sorted.modules.items
-        ≡ filter (is_module_below files dir.now) (map string_bytes names.entry.now))) }
+        map string_bytes sorted.modules.items
+        ≡ filter (is_module_below files dir.now) (map string_bytes names.items))) }
     ensures named { IfOk result (λ sorted.
-        AreAmong (map (λ f. f.now) sorted.folders.items) (map string_bytes names.entry.now)) }
+        AreAmong (map string_bytes sorted.folders.items) (map string_bytes names.items)) }
     ensures others { IfOk result (λ sorted. InEachPair (T.agrees tree.new) (λ files folders.
-        HasAllFolders folders dir.now (map string_bytes names.entry.now) (map (λ f. f.now) sorted.folders.items))) }
+        HasAllFolders folders dir.now (map string_bytes names.items) (map string_bytes sorted.folders.items))) }
     ensures cause { FailsOnlyByDevice (T.failures tree.old) (T.failures tree.new) result }
     ensures failed { FailsAt is_device (T.failed tree.old) (T.failed tree.new) result
-        (LooksAmong dir.now (map string_bytes names.entry.now)) }
+        (LooksAmong dir.now (map string_bytes names.items)) }
 {
-    let mut modules = Vec::with_capacity(alloc, names.len())?;
-    let mut folders = Vec::new(alloc);
+    let mut sorted = Sorted {
+        modules: Vec::with_capacity(alloc, names.len())?,
+        folders: Vec::new(alloc),
+    };
+    let mut path = String::new(alloc);
     for name in names {
-        let seen = see_below(alloc, tree, dir, name)?;
-        push_if(&mut modules, seen.is_module, name.as_str())?;
-        push_if(&mut folders, seen.may_list, name.as_str())?;
+        let seen = see_below(tree, dir, &name, &mut path)?;
+        sorted.add(name, seen)?;
     }
-    Ok(Sorted { modules, folders })
+    Ok(sorted)
 }

@@ -15,11 +15,11 @@ returns-clause-added g c = λ files folders a.
     let prefix = option_map (λ f. f.now) c.args.prefix in
     let default = option_map (λ t. t.now) c.as_deref.result in
     let before = c.default_name.ensures.narrows files folders a in (
-      map (listing_entry_of default) (map (λ m. m.now) c.deref.result.now),
+      map (listing_entry_of default) (map string_bytes c.in_ok-modules.field-0.modules.items),
       c.in_ok-push_listing_entries.ensures,
       files_made results files folders dir prefix default (map string_bytes c.args.entries.now)
-          (map string_bytes c.args.names.now) (map (λ m. m.now) c.deref.result.now) c.requires.named
-          (ap (map (λ m. m.now)) c.deref.ensures.value ∙ c.in_ok-modules.ensures.answer files folders before)
+          (map string_bytes c.args.names.items) (map string_bytes c.in_ok-modules.field-0.modules.items) c.requires.named
+          (c.in_ok-modules.ensures.answer files folders before)
           (subst (IsDefaultOf results files folders dir prefix) (sym c.as_deref.ensures.value) (c.in_ok-default.ensures.answer files folders a)),
     )
 
@@ -29,7 +29,7 @@ returns-in_err-modules-clause-failed g c =
     let dir = c.args.self.now.dir.now in
     let prefix = option_map (λ f. f.now) c.args.prefix in
     let entries = map string_bytes c.args.entries.now in
-    let names = map string_bytes c.args.names.now in
+    let names = map string_bytes c.args.names.items in
     let agrees = g.T.Tree.agrees c.sort_out.new.tree in
     let fails = is_device c.in_err-modules.field-0.0 in
     let p = err_from_is_err_and c.from_residual.result c.from_residual.ensures.1 in
@@ -45,8 +45,8 @@ returns-in_err-default-clause-failed g c =
     let dir = c.args.self.now.dir.now in
     let prefix = option_map (λ f. f.now) c.args.prefix in
     let entries = map string_bytes c.args.entries.now in
-    let names = map string_bytes c.args.names.now in
-    let modules = map (λ m. m.now) c.in_ok-modules.field-0.modules.items in
+    let names = map string_bytes c.args.names.items in
+    let modules = map string_bytes c.in_ok-modules.field-0.modules.items in
     let agrees = g.T.Tree.agrees c.default_name.new.tree in
     let fails = is_device c.in_err-default.field-0.0 in
     let p = err_from_is_err_and c.from_residual-in_err-default.result c.from_residual-in_err-default.ensures.1 in
@@ -57,5 +57,5 @@ returns-in_err-default-clause-failed g c =
     let b = c.default_name.ensures.narrows files folders a in
     looks_at_default results files folders dir prefix entries (c.requires.listed files folders (c.sort_out.ensures.narrows files folders b)) names modules c.requires.named
     (c.in_ok-modules.ensures.answer files folders b)
-    (some_seen (λ m. m.now) c.in_ok-modules.field-0.modules.items (vec_len c.in_ok-modules.field-0.modules) c.is_empty.result c.in_ok-modules.field-0.modules.ok.0 c.is_empty.ensures c.if-is_empty.false) at (h files folders a))
+    (some_seen string_bytes c.in_ok-modules.field-0.modules.items (vec_len c.in_ok-modules.field-0.modules) c.is_empty.result c.in_ok-modules.field-0.modules.ok.0 c.is_empty.ensures c.if-is_empty.false) at (h files folders a))
     c.in_err-default.ensures.failed)
