@@ -13,7 +13,7 @@ use Rattle.filetree.specs.Relations.{After}
 use Rattle.requests.specs.Effects.{Mode}
 use Rattle.requests.specs.Records.{Record}
 use Rattle.search.specs.Found.{FoundModule}
-use Rattle.requests.specs.Reasons.{RequestReason}
+use Rattle.requests.specs.Reasons.{RequestReason, bad_arguments}
 use Rattle.requests.specs.Looked.{EachLooksAt}
 use Rattle.requests.specs.Steps.{RequestContext, Done, nothing_done, Each, NeedsNames, ShowsName, ShowsNames, first_part}
 
@@ -36,6 +36,15 @@ module _ {X : Type 0} (view : X → Text) (Does : Text → Done → Result Done 
 
     pub looks_on : (mid : Done) → Does (view x) d (Ok mid) → EachLooksAt Does Looks (map view (drop (i + 1) xs)) mid at → EachLooksAt Does Looks (map view (drop i xs)) d at
     looks_on mid h k = subst (λ names. EachLooksAt Does Looks names d at) (sym (split_at view xs i x below is)) (inr (mid, h, k))
+
+some_name : (k : ℕ) → nat_eq (suc k) 0 ≡ true → ⊥
+some_name k h = grind (arith, nat_tests)
+
+-- a request without names
+pub named_none : (names : List (String Global)) (b : Bool) → b ≡ nat_eq (length names) 0 → b ≡ true → (Comes : Result Done RequestReason → Type 0)
+    → NeedsNames (map (λ (s : String Global). string_bytes s) names) Comes (Err bad_arguments)
+named_none [] b e is Comes = refl
+named_none (n ∷ ns) b e is Comes = absurd (some_name (length ns) (sym e ∙ is))
 
 -- a request with names
 pub named_some : (names : List (String Global)) (b : Bool) → b ≡ nat_eq (length names) 0 → b ≡ false → (Comes : Result Done RequestReason → Type 0) (o : Result Done RequestReason) → Comes o

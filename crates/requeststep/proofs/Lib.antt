@@ -7,5 +7,6 @@ pub mod EachLemmas
 pub mod VerdictLemmas
 pub mod MemoryNumberLemmas
 pub mod FailureLemmas
-pub mod ActionLemmas
 pub mod ListedLemmas
+pub mod TreeAnswers
+pub mod SwitchLemmas

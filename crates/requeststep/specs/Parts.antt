@@ -1,5 +1,5 @@
 -- The parts of a step, for the contracts of this crate's private functions.
-use Rattle.std.specs.Prelude.{◌≡◌, Bool, false, List, map, Option, Result, Ok}
+use Rattle.std.specs.Prelude.{◌≡◌, ◌<◌, ℕ, Bool, true, false, List, map, Option, Some, None, Result, Ok, Err}
 use Rattle.std.specs.Option.{option_map, option_or}
 use Rattle.std.specs.declared.vec.Vec.{Vec}
 use Rattle.std.specs.declared.alloc.Global.{Global}
@@ -8,20 +8,27 @@ use Rattle.envvars.specs.Environment.{Environment}
 use Rattle.envloaded.specs.Loaded.{Entry, names_of, added_loaded}
 use Rattle.envloaded.specs.LoadedEntries as code
 use Rattle.envloaded.specs.declared.entry.Loaded.{Loaded}
+use Rattle.filetree.specs.Agreement.{Files, Listings, FailsAt, InEachPair, ReadsOn}
 use Rattle.filetree.specs.Modulefiles.{modulefile}
-use Rattle.filetree.specs.Relations.{Is, ◌>>◌}
+use Rattle.filetree.specs.Relations.{Is, If, ◌>>◌}
 use Rattle.requests.specs.Records.{Record}
 use Rattle.requests.specs.Effects as modes
 use Rattle.requests.specs.Effects.{Mode, edit_outcome}
 use Rattle.requests.specs.Moves.{Module, Unloads, entry_of}
 use Rattle.modulefile.specs.Answers.{FileContext}
 use Rattle.modulefile.specs.Files.{RunsFile}
+use Rattle.modulename.specs.ModuleName.{is_module_name}
 use Rattle.search.specs.Found as search
-use Rattle.requests.specs.Reasons.{RequestReason, conflict_with, prereq_missing, file_refused, refused_edit}
+use Rattle.search.specs.Reasons.{bad_name}
+use Rattle.requests.specs.Reasons.{RequestReason, missed, conflict_with, prereq_missing, file_refused, refused_edit}
 use Rattle.requests.specs.Refusals.{refused_as, unless, RefusedAs}
 use Rattle.requests.specs.Conditions.{recorded_conflict, own_conflict, missing_group, load_objection}
-use Rattle.requests.specs.Steps.{RequestContext, Done, entries_of, context_of, script_at, continued, module_of, with_report, shown_text, described_text, LoadsName, UnloadsName, ShowsName}
+use Rattle.requests.specs.Steps.{RequestContext, Done, entries_of, script_at, last_meant, continued, module_of, with_report, shown_text, described_text, LoadsName, UnloadsName, ShowsName}
 use Rattle.requests.specs.Looked.{LoadLooksAt, UnloadLooksAt, ShowLooksAt, EachLooksAt}
+use Rattle.requests.specs.Verdicts.{Verdict, verdict_of}
+use Rattle.requeststep.specs.Answers.{StepAnswersOverTree, is_failure}
+use Rattle.requeststep.specs.declared.refusal.Refusal.{Refusal}
+use Rattle.requeststep.specs.declared.progress.Progress.{Progress}
 use Rattle.requeststep.specs.declared.files.NameRequest.{NameRequest}
 use Rattle.requeststep.specs.declared.files.ReportKind.{ReportKind}
 use Rattle.requeststep.specs.declared.files.ReportKind.TheVariants.{Show, Whatis}
@@ -35,6 +42,20 @@ entries_view v = map code.entry_view v.items
 -- The list is what the texts of the loaded modules are read as in the environment.
 abbrev pub AreEntriesOf : List Entry → Environment → Type 0
 AreEntriesOf xs e = Ok xs ≡ entries_of e
+
+-- that is so of the list of a request in progress
+abbrev pub IsListedIn : Progress → Environment → Type 0
+IsListedIn progress e = AreEntriesOf (entries_view progress.entries) e
+
+-- What a call over a tree keeps of it, what it answers, and at which paths it may have failed.
+pub record TreeAnswer {T X Y : Type 0} (agrees : T → Files → Listings → Type 0) (failures : T → ℕ)
+    (failed : T → Text → Bool) (old new : T) (view : X → Y) (result : Result X Refusal)
+    (Comes : Files → Listings → Result Y RequestReason → Type 0) (LooksAt : Files → Listings → Text → Type 0)
+    : Type 0 where
+  pub reads : ReadsOn agrees failures old new
+  pub over_tree : StepAnswersOverTree (agrees new) (failures old < failures new) view result Comes
+  pub failed_at : FailsAt is_failure (failed old) (failed new) result (λ at.
+      InEachPair (agrees new) (λ files listings. LooksAt files listings at))
 
 -- what forbids a module with these conflicts and prereqs beside those that are loaded
 abbrev pub objection : Text → List Text → List (List Text) → List Entry → Option RequestReason
@@ -67,22 +88,35 @@ context_with_loaded name_request mode name path loaded e =
 abbrev pub file_context : NameRequest → Mode → Text → Text → List Entry → Environment → FileContext
 file_context name_request mode name path xs e = context_with_loaded name_request mode name path (names_of xs) e
 
--- the module of this name and path is unloaded by this script
-abbrev pub UnloadsByScript : NameRequest → Text → Text → Text → List Entry → Done → Result Done RequestReason → Type 0
-UnloadsByScript name_request name path text xs d =
-    RefusedAs file_refused (RunsFile name_request.settings.limits
-    (file_context name_request modes.unload name path xs d.env) text) >>
-    (λ ran.
-    Is (continued d (Unloads (module_of name path ran)) ran.messages))
+-- the loaded module of this entry, with the script in its file
+abbrev pub ReadsEntry : Files → Entry → Result search.FoundModule RequestReason → Type 0
+ReadsEntry files x =
+    Is (script_at x.path (modulefile (files x.path))) >> (λ text.
+    Is (Ok (record { name = x.name; path = x.path; text = text })))
 
--- the loaded module of this name is unloaded by the file at this path
-abbrev pub UnloadsFrom : RequestContext → Bool → Text → Done → List Entry → Text → Text → Result Done RequestReason
-    → Type 0
-UnloadsFrom s in_switch typed d xs name path =
-    Is (script_at path (modulefile (s.files path))) >> (λ text.
-    RefusedAs file_refused (RunsFile s.limits (context_of s modes.unload in_switch typed name path xs d.env) text) >>
-    (λ ran.
-    Is (continued d (Unloads (module_of name path ran)) ran.messages)))
+-- nothing where there is no such entry
+abbrev pub ReadsMeant : Files → Option Entry → Result (Option search.FoundModule) RequestReason → Type 0
+ReadsMeant files None = Is (Ok None)
+ReadsMeant files (Some x) = ReadsEntry files x >> (λ m. Is (Ok (Some m)))
+
+-- the last of the loaded modules that the name means, with the script in its file
+abbrev pub FindsLoaded : Files → Text → List Entry → Result (Option search.FoundModule) RequestReason → Type 0
+FindsLoaded files typed xs =
+    If (is_module_name typed) (ReadsMeant files (last_meant typed xs)) (Is (Err (missed (bad_name typed))))
+
+-- this looks at the recorded path of that module, and at no other
+pub record LoadedLooksAt (typed : Text) (xs : List Entry) (at : Text) : Type 0 where
+  pub spelled : is_module_name typed ≡ true
+  pub entry : Entry
+  pub meant : Some entry ≡ last_meant typed xs
+  pub recorded : at ≡ entry.path
+
+-- the module is unloaded by its script
+abbrev pub UnloadsFound : NameRequest → search.FoundModule → List Entry → Done → Result Done RequestReason → Type 0
+UnloadsFound name_request m xs d =
+    RefusedAs file_refused
+    (RunsFile name_request.settings.limits (file_context name_request modes.unload m.name m.path xs d.env) m.text)
+    >> (λ ran. Is (continued d (Unloads (module_of m.name m.path ran)) ran.messages))
 
 -- the mode in which a file is evaluated for a report
 abbrev pub report_mode : ReportKind → Mode
@@ -102,6 +136,13 @@ ReportsFound name_request report_kind m xs d =
     (RunsFile name_request.settings.limits (file_context name_request
     (report_mode report_kind) m.name m.path xs d.env) m.text)
     >> (λ ran. Is (Ok (with_report d ran.messages (report_text report_kind m ran.records))))
+
+-- the file of the module is evaluated for loading, and shows the verdict
+abbrev pub JudgesFound : NameRequest → search.FoundModule → List Entry → Environment → Result Verdict RequestReason → Type 0
+JudgesFound name_request m xs e =
+    RefusedAs file_refused
+    (RunsFile name_request.settings.limits (file_context name_request modes.load m.name m.path xs e) m.text)
+    >> (λ ran. Is (Ok (verdict_of ran)))
 
 -- the step for one name
 abbrev pub NameActionStep : NameAction → RequestContext → Text → Done → Result Done RequestReason → Type 0

@@ -19,15 +19,15 @@ ghost use Rattle.requeststep.specs.Views.{request_context_of, done_view};
 ghost use Rattle.requeststep.specs.Answers.{GivesOrRefuses, StepAnswersOverTree, is_failure};
 ghost use Rattle.requeststep.specs.Messages.{MemoryNumberAmong, memory_numbers};
 ghost use Rattle.requeststep.specs.declared.commands.NameAction.TheVariants.{ReportOn};
-ghost use Rattle.requeststep.specs.Parts.{AreEntriesOf, entries_view, NameActionStep, NameActionLooksAt, EachActionLooksAt, report_mode, report_text};
+ghost use Rattle.requeststep.specs.Parts.{AreEntriesOf, IsListedIn, TreeAnswer, NameActionStep, NameActionLooksAt, EachActionLooksAt, report_mode, report_text};
 
-use crate::conditions::first_lost;
 use crate::done::{Done, EvaluationSettings};
 use crate::entries::{entries_of, modulepath, names_of};
 use crate::files::{NameRequest, ReportKind, load_name, report_name, unload_name};
+use crate::progress::Progress;
 use crate::refusal::Refusal;
 use defaultfiles::Evaluated;
-use envloaded::{Loaded, copy_list};
+use envloaded::Loaded;
 use envvars::Vars;
 use filetree::Tree;
 use reports::{avail_report, list_report};
@@ -53,23 +53,19 @@ fn act_on_name<T: Tree, V: Vars>(
     settings: EvaluationSettings,
     name_action: NameAction,
     typed: &str,
-    entries: &mut Vec<Loaded>,
     env: &mut V,
     tree: &mut T,
-    done: &mut Done,
+    progress: &mut Progress,
 ) -> Result<(), Refusal>
-    requires { AreEntriesOf (entries_view entries.old) (V.vars env.old) }
-    ensures reads { ReadsOn T.agrees T.failures tree.old tree.new }
-    ensures listed { OnOk result (AreEntriesOf (entries_view entries.new) (V.vars env.new)) }
-    ensures base { V.base env.new ≡ V.base env.old }
-    ensures over_tree { StepAnswersOverTree (T.agrees tree.new) (T.failures tree.old < T.failures tree.new)
-        (λ u. done_view done.new (V.vars env.new)) result
+    requires { IsListedIn progress.old (V.vars env.old) }
+    ensures done { TreeAnswer T.agrees T.failures T.failed tree.old tree.new
+        (λ u. done_view progress.new.done (V.vars env.new)) result
         (λ files listings. NameActionStep name_action (request_context_of settings files listings) typed.now
-        (done_view done.old (V.vars env.old))) }
-    ensures failed { FailsAt is_failure (T.failed tree.old) (T.failed tree.new) result (λ at.
-        InEachPair (T.agrees tree.new) (λ files listings.
-        NameActionLooksAt name_action (request_context_of settings files listings) typed.now
-        (done_view done.old (V.vars env.old)) at)) }
+        (done_view progress.old.done (V.vars env.old)))
+        (λ files listings. NameActionLooksAt name_action (request_context_of settings files listings) typed.now
+        (done_view progress.old.done (V.vars env.old))) }
+    ensures listed { OnOk result (IsListedIn progress.new (V.vars env.new)) }
+    ensures base { V.base env.new ≡ V.base env.old }
 {
     let name_request = NameRequest {
         settings,
@@ -77,18 +73,11 @@ fn act_on_name<T: Tree, V: Vars>(
         typed,
     };
     match name_action {
-        NameAction::Load => load_name(alloc, name_request, entries, env, tree, done),
-        NameAction::Unload => unload_name(alloc, name_request, entries, env, tree, done),
-        NameAction::ReportOn(report_kind) => report_name(
-            alloc,
-            settings,
-            report_kind,
-            typed,
-            entries.as_slice(),
-            env,
-            tree,
-            done,
-        ),
+        NameAction::Load => load_name(alloc, name_request, env, tree, progress),
+        NameAction::Unload => unload_name(alloc, name_request, env, tree, progress),
+        NameAction::ReportOn(report_kind) => {
+            report_name(alloc, settings, report_kind, typed, env, tree, progress)
+        }
     }
 }
 
@@ -98,24 +87,19 @@ fn act_on_each<T: Tree, V: Vars>(
     settings: EvaluationSettings,
     name_action: NameAction,
     names: &[String],
-    entries: &mut Vec<Loaded>,
     env: &mut V,
     tree: &mut T,
-    done: &mut Done,
+    progress: &mut Progress,
 ) -> Result<(), Refusal>
-    requires { AreEntriesOf (entries_view entries.old) (V.vars env.old) }
-    ensures reads { ReadsOn T.agrees T.failures tree.old tree.new }
-    ensures listed { OnOk result (AreEntriesOf (entries_view entries.new) (V.vars env.new)) }
-    ensures base { V.base env.new ≡ V.base env.old }
-    ensures over_tree { StepAnswersOverTree (T.agrees tree.new) (T.failures tree.old < T.failures tree.new)
-        (λ u. done_view done.new (V.vars env.new)) result
+    requires { IsListedIn progress.old (V.vars env.old) }
+    ensures done { TreeAnswer T.agrees T.failures T.failed tree.old tree.new
+        (λ u. done_view progress.new.done (V.vars env.new)) result
         (λ files listings. Each (NameActionStep name_action (request_context_of settings files listings))
-        (map string_bytes names.now)
-        (done_view done.old (V.vars env.old))) }
-    ensures failed { FailsAt is_failure (T.failed tree.old) (T.failed tree.new) result (λ at.
-        InEachPair (T.agrees tree.new) (λ files listings.
-        EachActionLooksAt name_action (request_context_of settings files listings) (map string_bytes names.now)
-        (done_view done.old (V.vars env.old)) at)) }
+        (map string_bytes names.now) (done_view progress.old.done (V.vars env.old)))
+        (λ files listings. EachActionLooksAt name_action (request_context_of settings files listings)
+        (map string_bytes names.now) (done_view progress.old.done (V.vars env.old))) }
+    ensures listed { OnOk result (IsListedIn progress.new (V.vars env.new)) }
+    ensures base { V.base env.new ≡ V.base env.old }
 {
     for name in names {
         act_on_name(
@@ -123,30 +107,12 @@ fn act_on_each<T: Tree, V: Vars>(
             settings,
             name_action,
             name.as_str(),
-            entries,
             env,
             tree,
-            done,
+            progress,
         )?;
     }
     Ok(())
-}
-
-/// Refuses (53) where a module that was loaded before has lost what it needs.
-fn refuse_lost_prereqs(
-    alloc: Global,
-    before: &[Loaded],
-    after: &[Loaded],
-    done: &Done,
-) -> Result<(), Refusal>
-    ensures { (e : Environment) → AreEntriesOf (map entry_view after.now) e
-        → GivesOrRefuses (λ u. done_view done.now e) result
-        (EndsRequest (map entry_view before.now) (done_view done.now e)) }
-{
-    match first_lost(before, after) {
-        None => Ok(()),
-        Some(entry) => Err(Refusal::StillNeededBy(String::from_str(alloc, entry.name.as_str())?)),
-    }
 }
 
 /// Loads or unloads the module of each name in turn, and then judges what loaded modules need (53).
@@ -160,32 +126,26 @@ fn change_each<T: Tree, V: Vars>(
     tree: &mut T,
 ) -> Result<Done, Refusal>
     requires { AreEntriesOf (map entry_view before.now) (V.vars env.old) }
-    ensures reads { ReadsOn T.agrees T.failures tree.old tree.new }
-    ensures base { V.base env.new ≡ V.base env.old }
-    ensures over_tree { StepAnswersOverTree (T.agrees tree.new) (T.failures tree.old < T.failures tree.new)
+    ensures done { TreeAnswer T.agrees T.failures T.failed tree.old tree.new
         (λ done. done_view done (V.vars env.new)) result
         (λ files listings. Then (Each (NameActionStep name_action (request_context_of settings files listings))
         (map string_bytes names.now)
-        (nothing_done (V.vars env.old))) (EndsRequest (map entry_view before.now))) }
-    ensures failed { FailsAt is_failure (T.failed tree.old) (T.failed tree.new) result (λ at.
-        InEachPair (T.agrees tree.new) (λ files listings.
-        EachActionLooksAt name_action (request_context_of settings files listings) (map string_bytes names.now)
-        (nothing_done (V.vars env.old)) at)) }
+        (nothing_done (V.vars env.old))) (EndsRequest (map entry_view before.now)))
+        (λ files listings. EachActionLooksAt name_action (request_context_of settings files listings)
+        (map string_bytes names.now) (nothing_done (V.vars env.old))) }
+    ensures base { V.base env.new ≡ V.base env.old }
 {
-    let mut entries = copy_list(alloc, before)?;
-    let mut done = Done::new(alloc);
+    let mut progress = Progress::new(alloc, before)?;
     act_on_each(
         alloc,
         settings,
         name_action,
         names,
-        &mut entries,
         env,
         tree,
-        &mut done,
+        &mut progress,
     )?;
-    refuse_lost_prereqs(alloc, before, entries.as_slice(), &done)?;
-    Ok(done)
+    progress.end(alloc, before)
 }
 
 /// Loads or unloads the module of each of at least one name (else 56), as one command.
@@ -197,17 +157,14 @@ fn change_names<T: Tree, V: Vars>(
     env: &mut V,
     tree: &mut T,
 ) -> Result<Done, Refusal>
-    ensures reads { ReadsOn T.agrees T.failures tree.old tree.new }
-    ensures base { V.base env.new ≡ V.base env.old }
-    ensures over_tree { StepAnswersOverTree (T.agrees tree.new) (T.failures tree.old < T.failures tree.new)
+    ensures done { TreeAnswer T.agrees T.failures T.failed tree.old tree.new
         (λ done. done_view done (V.vars env.new)) result
         (λ files listings. NeedsNames (map string_bytes names.now) (ChangesLoaded (V.vars env.old)
         (λ before. Each (NameActionStep name_action (request_context_of settings files listings))
-        (map string_bytes names.now)))) }
-    ensures failed { FailsAt is_failure (T.failed tree.old) (T.failed tree.new) result (λ at.
-        InEachPair (T.agrees tree.new) (λ files listings.
-        EachActionLooksAt name_action (request_context_of settings files listings) (map string_bytes names.now)
-        (nothing_done (V.vars env.old)) at)) }
+        (map string_bytes names.now))))
+        (λ files listings. EachActionLooksAt name_action (request_context_of settings files listings)
+        (map string_bytes names.now) (nothing_done (V.vars env.old))) }
+    ensures base { V.base env.new ≡ V.base env.old }
 {
     if names.is_empty() {
         return Err(Refusal::BadArguments);
@@ -240,14 +197,11 @@ fn purge<T: Tree, V: Vars>(
     env: &mut V,
     tree: &mut T,
 ) -> Result<Done, Refusal>
-    ensures reads { ReadsOn T.agrees T.failures tree.old tree.new }
-    ensures base { V.base env.new ≡ V.base env.old }
-    ensures over_tree { StepAnswersOverTree (T.agrees tree.new) (T.failures tree.old < T.failures tree.new)
+    ensures done { TreeAnswer T.agrees T.failures T.failed tree.old tree.new
         (λ done. done_view done (V.vars env.new)) result
-        (λ files listings. RequestStep (request_context_of settings files listings) (V.vars env.old) actions.purge) }
-    ensures failed { FailsAt is_failure (T.failed tree.old) (T.failed tree.new) result (λ at.
-        InEachPair (T.agrees tree.new) (λ files listings.
-        PurgeLooksAt (request_context_of settings files listings) (V.vars env.old) at)) }
+        (λ files listings. RequestStep (request_context_of settings files listings) (V.vars env.old) actions.purge)
+        (λ files listings. PurgeLooksAt (request_context_of settings files listings) (V.vars env.old)) }
+    ensures base { V.base env.new ≡ V.base env.old }
 {
     let before = entries_of(alloc, env)?;
     let names = names_in_reverse(alloc, before.as_slice())?;
@@ -288,35 +242,32 @@ fn switch_names<T: Tree, V: Vars>(
     settings: EvaluationSettings,
     old: &str,
     new: &str,
-    entries: &mut Vec<Loaded>,
     env: &mut V,
     tree: &mut T,
-    done: &mut Done,
+    progress: &mut Progress,
 ) -> Result<(), Refusal>
-    requires { AreEntriesOf (entries_view entries.old) (V.vars env.old) }
-    ensures reads { ReadsOn T.agrees T.failures tree.old tree.new }
-    ensures listed { OnOk result (AreEntriesOf (entries_view entries.new) (V.vars env.new)) }
-    ensures base { V.base env.new ≡ V.base env.old }
-    ensures over_tree { StepAnswersOverTree (T.agrees tree.new) (T.failures tree.old < T.failures tree.new)
-        (λ u. done_view done.new (V.vars env.new)) result
+    requires { IsListedIn progress.old (V.vars env.old) }
+    ensures done { TreeAnswer T.agrees T.failures T.failed tree.old tree.new
+        (λ u. done_view progress.new.done (V.vars env.new)) result
         (λ files listings. steps.Switches (request_context_of settings files listings) (Some old.now) new.now
-        (done_view done.old (V.vars env.old))) }
-    ensures failed { FailsAt is_failure (T.failed tree.old) (T.failed tree.new) result (λ at.
-        InEachPair (T.agrees tree.new) (λ files listings.
-        SwitchLooksAt (request_context_of settings files listings) old.now new.now (done_view done.old (V.vars env.old)) at)) }
+        (done_view progress.old.done (V.vars env.old)))
+        (λ files listings. SwitchLooksAt (request_context_of settings files listings) old.now new.now
+        (done_view progress.old.done (V.vars env.old))) }
+    ensures listed { OnOk result (IsListedIn progress.new (V.vars env.new)) }
+    ensures base { V.base env.new ≡ V.base env.old }
 {
     let unloading = NameRequest {
         settings,
         in_switch: true,
         typed: old,
     };
-    unload_name(alloc, unloading, entries, env, tree, done)?;
+    unload_name(alloc, unloading, env, tree, progress)?;
     let loading = NameRequest {
         settings,
         in_switch: true,
         typed: new,
     };
-    load_name(alloc, loading, entries, env, tree, done)
+    load_name(alloc, loading, env, tree, progress)
 }
 
 /// Unloads the old name, and then loads the new one, as one command.
@@ -328,32 +279,19 @@ fn switch<T: Tree, V: Vars>(
     env: &mut V,
     tree: &mut T,
 ) -> Result<Done, Refusal>
-    ensures reads { ReadsOn T.agrees T.failures tree.old tree.new }
-    ensures base { V.base env.new ≡ V.base env.old }
-    ensures over_tree { StepAnswersOverTree (T.agrees tree.new) (T.failures tree.old < T.failures tree.new)
+    ensures done { TreeAnswer T.agrees T.failures T.failed tree.old tree.new
         (λ done. done_view done (V.vars env.new)) result
         (λ files listings. RequestStep (request_context_of settings files listings) (V.vars env.old)
-        (actions.switch (option_map (λ x. x.now) old.entry) new.now)) }
-    ensures failed { FailsAt is_failure (T.failed tree.old) (T.failed tree.new) result (λ at.
-        InEachPair (T.agrees tree.new) (λ files listings.
-        SwitchLooksAt (request_context_of settings files listings) (steps.old_name (option_map (λ x. x.now) old.entry) new.now)
-        new.now (nothing_done (V.vars env.old)) at)) }
+        (actions.switch (option_map (λ x. x.now) old.entry) new.now))
+        (λ files listings. SwitchLooksAt (request_context_of settings files listings)
+        (steps.old_name (option_map (λ x. x.now) old.entry) new.now) new.now (nothing_done (V.vars env.old))) }
+    ensures base { V.base env.new ≡ V.base env.old }
 {
     let before = entries_of(alloc, env)?;
-    let mut entries = copy_list(alloc, before.as_slice())?;
-    let mut done = Done::new(alloc);
-    switch_names(
-        alloc,
-        settings,
-        old_name(old, new),
-        new,
-        &mut entries,
-        env,
-        tree,
-        &mut done,
-    )?;
-    refuse_lost_prereqs(alloc, before.as_slice(), entries.as_slice(), &done)?;
-    Ok(done)
+    let mut progress = Progress::new(alloc, before.as_slice())?;
+    let old = old_name(old, new);
+    switch_names(alloc, settings, old, new, env, tree, &mut progress)?;
+    progress.end(alloc, before.as_slice())
 }
 
 /// Reports on the module of each of at least one name (else 56).
@@ -365,34 +303,32 @@ fn report_names<T: Tree, V: Vars>(
     env: &mut V,
     tree: &mut T,
 ) -> Result<Done, Refusal>
-    ensures reads { ReadsOn T.agrees T.failures tree.old tree.new }
-    ensures base { V.base env.new ≡ V.base env.old }
-    ensures over_tree { StepAnswersOverTree (T.agrees tree.new) (T.failures tree.old < T.failures tree.new)
+    ensures done { TreeAnswer T.agrees T.failures T.failed tree.old tree.new
         (λ done. done_view done (V.vars env.new)) result
         (λ files listings. NeedsNames (map string_bytes names.now)
         (ShowsNames (request_context_of settings files listings) (report_mode report_kind)
-        (report_text report_kind) (V.vars env.old) (map string_bytes names.now))) }
-    ensures failed { FailsAt is_failure (T.failed tree.old) (T.failed tree.new) result (λ at.
-        InEachPair (T.agrees tree.new) (λ files listings.
-        EachActionLooksAt (ReportOn report_kind) (request_context_of settings files listings) (map string_bytes names.now)
-        (nothing_done (V.vars env.old)) at)) }
+        (report_text report_kind) (V.vars env.old) (map string_bytes names.now)))
+        (λ files listings. EachActionLooksAt (ReportOn report_kind) (request_context_of settings files listings)
+        (map string_bytes names.now) (nothing_done (V.vars env.old))) }
+    ensures base { V.base env.new ≡ V.base env.old }
 {
     if names.is_empty() {
         return Err(Refusal::BadArguments);
     }
-    let mut entries = entries_of(alloc, env)?;
-    let mut done = Done::new(alloc);
+    let entries = entries_of(alloc, env)?;
+    let done = Done::new(alloc);
+    let mut progress = Progress { entries, done };
+    let name_action = NameAction::ReportOn(report_kind);
     act_on_each(
         alloc,
         settings,
-        NameAction::ReportOn(report_kind),
+        name_action,
         names,
-        &mut entries,
         env,
         tree,
-        &mut done,
+        &mut progress,
     )?;
-    Ok(done)
+    Ok(progress.done)
 }
 
 /// What a request has done that makes no move and reports this text.
@@ -441,6 +377,41 @@ fn avail<T: Tree, V: Vars>(
     Ok(done_with_report(alloc, text.as_str())?)
 }
 
+/// Does what is asked for.
+fn act<T: Tree, V: Vars>(
+    alloc: Global,
+    settings: EvaluationSettings,
+    action: &Action,
+    env: &mut V,
+    tree: &mut T,
+) -> Result<Done, Refusal>
+    ensures done { TreeAnswer T.agrees T.failures T.failed tree.old tree.new
+        (λ done. done_view done (V.vars env.new)) result
+        (λ files listings. RequestStep (request_context_of settings files listings) (V.vars env.old)
+        (action_view action.now))
+        (λ files listings. RequestLooksAt (request_context_of settings files listings) (V.vars env.old)
+        (action_view action.now)) }
+    ensures out_of_memory { IfErr result (MemoryNumberAmong (memory_numbers (action_view action.now))) }
+    ensures base { V.base env.new ≡ V.base env.old }
+{
+    match action {
+        Action::Load(names) => change_names(alloc, settings, NameAction::Load, names, env, tree),
+        Action::Unload(names) => {
+            change_names(alloc, settings, NameAction::Unload, names, env, tree)
+        }
+        Action::Switch(old, new) => {
+            switch(alloc, settings, old.as_deref(), new.as_str(), env, tree)
+        }
+        Action::Purge => purge(alloc, settings, env, tree),
+        Action::List => list(alloc, env),
+        Action::Avail(texts) => avail(alloc, settings, texts, env, tree),
+        Action::Show(names) => { report_names(alloc, settings, ReportKind::Show, names, env, tree) }
+        Action::Whatis(names) => {
+            report_names(alloc, settings, ReportKind::Whatis, names, env, tree)
+        }
+    }
+}
+
 /// Does a request: makes of the variables what its step over a tree of modulefiles makes of them, and answers what it
 /// did besides. Where it loads or unloads, the loaded modules are read first (35); then the names are gone through in
 /// turn, and after them what loaded modules need is judged once more (53).
@@ -471,20 +442,5 @@ pub fn step<T: Tree, V: Vars>(
         limits,
         shell: request.shell,
     };
-    match &request.action {
-        Action::Load(names) => change_names(alloc, settings, NameAction::Load, names, env, tree),
-        Action::Unload(names) => {
-            change_names(alloc, settings, NameAction::Unload, names, env, tree)
-        }
-        Action::Switch(old, new) => {
-            switch(alloc, settings, old.as_deref(), new.as_str(), env, tree)
-        }
-        Action::Purge => purge(alloc, settings, env, tree),
-        Action::List => list(alloc, env),
-        Action::Avail(texts) => avail(alloc, settings, texts, env, tree),
-        Action::Show(names) => { report_names(alloc, settings, ReportKind::Show, names, env, tree) }
-        Action::Whatis(names) => {
-            report_names(alloc, settings, ReportKind::Whatis, names, env, tree)
-        }
-    }
+    act(alloc, settings, &request.action, env, tree)
 }

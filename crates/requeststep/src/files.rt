@@ -1,8 +1,9 @@
 //! One name of a request: its module is found, the module's file is evaluated, and the module is loaded, unloaded or
 //! reported on.
-ghost use Rattle.std.specs.Prelude.{◌≡◌, ◌<◌, IfOk, OnOk, map, string_bytes};
+ghost use Rattle.std.specs.Prelude.{◌≡◌, IfOk, OnOk, map, string_bytes};
+ghost use Rattle.std.specs.Option.{option_map};
 ghost use Rattle.envloaded.specs.LoadedEntries.{entry_view};
-ghost use Rattle.filetree.specs.Agreement.{Files, Listings, FailsAt, InEachPair, ReadsOn};
+ghost use Rattle.filetree.specs.Agreement.{Files, Listings};
 ghost use Rattle.modulefile.specs.RecordViews.{mode_view, record_view};
 ghost use Rattle.modulefile.specs.Files.{RunsFile};
 ghost use Rattle.search.specs.Answers.{found_view};
@@ -12,12 +13,13 @@ ghost use Rattle.requests.specs.Refusals.{RefusedAs};
 ghost use Rattle.requests.specs.Steps.{entries_of, Finds, LoadsFound, LoadsName, UnloadsName, ShowsName};
 ghost use Rattle.requests.specs.Looked.{SearchLooksAt, LoadLooksAt, UnloadLooksAt, ShowLooksAt};
 ghost use Rattle.requeststep.specs.Views.{request_context_of, done_view};
-ghost use Rattle.requeststep.specs.Answers.{GivesOrRefuses, StepAnswersOverTree, is_failure};
-ghost use Rattle.requeststep.specs.Parts.{AreEntriesOf, entries_view, file_context, UnloadsByScript, UnloadsFrom, ReportsFound, report_mode, report_text};
+ghost use Rattle.requeststep.specs.Answers.{GivesOrRefuses};
+ghost use Rattle.requeststep.specs.Parts.{IsListedIn, TreeAnswer, entries_view, file_context, ReadsEntry, FindsLoaded, LoadedLooksAt, UnloadsFound, ReportsFound, report_mode, report_text};
 
 use crate::conditions::{is_loaded, last_meant};
 use crate::done::{Done, EvaluationSettings, Module, Move};
 use crate::entries::{join_loaded, modulepath, names_of};
+use crate::progress::Progress;
 use crate::refusal::Refusal;
 use crate::scripts::script_at;
 use defaultfiles::Evaluated;
@@ -81,15 +83,11 @@ pub(crate) fn find_module<T: Tree, V: Vars>(
     env: &V,
     tree: &mut T,
 ) -> Result<Found, Refusal>
-    ensures reads { ReadsOn T.agrees T.failures tree.old tree.new }
-    ensures over_tree { StepAnswersOverTree (T.agrees tree.new)
-        (T.failures tree.old < T.failures tree.new) found_view result
+    ensures { TreeAnswer T.agrees T.failures T.failed tree.old tree.new found_view result
         (λ files listings. Finds (request_context_of name_request.entry.settings files listings)
+        (V.vars env.now) name_request.entry.typed.now)
+        (λ files listings. SearchLooksAt (request_context_of name_request.entry.settings files listings)
         (V.vars env.now) name_request.entry.typed.now) }
-    ensures failed { FailsAt is_failure (T.failed tree.old) (T.failed tree.new) result (λ at.
-        InEachPair (T.agrees tree.new) (λ files listings.
-        SearchLooksAt (request_context_of name_request.entry.settings files listings)
-        (V.vars env.now) name_request.entry.typed.now at)) }
 {
     let default_files = Evaluated {
         limits: name_request.settings.limits,
@@ -142,19 +140,20 @@ pub(crate) fn evaluate<V: Vars>(
 fn load_found<V: Vars>(
     alloc: Global,
     name_request: NameRequest<'_>,
-    entries: &mut Vec<Loaded>,
     found: Found,
     env: &mut V,
-    done: &mut Done,
+    progress: &mut Progress,
 ) -> Result<(), Refusal>
-    requires { AreEntriesOf (entries_view entries.old) (V.vars env.old) }
-    ensures given { (files : Files) (listings : Listings) → GivesOrRefuses (λ u. done_view done.new (V.vars env.new))
-        result (LoadsFound (request_context_of name_request.entry.settings files listings) name_request.entry.in_switch name_request.entry.typed.now
-        (done_view done.old (V.vars env.old)) (entries_view entries.old) (found_view found)) }
-    ensures listed { OnOk result (AreEntriesOf (entries_view entries.new) (V.vars env.new)) }
+    requires { IsListedIn progress.old (V.vars env.old) }
+    ensures given { (files : Files) (listings : Listings)
+        → GivesOrRefuses (λ u. done_view progress.new.done (V.vars env.new)) result
+        (LoadsFound (request_context_of name_request.entry.settings files listings) name_request.entry.in_switch
+        name_request.entry.typed.now (done_view progress.old.done (V.vars env.old)) (entries_view progress.old.entries)
+        (found_view found)) }
+    ensures listed { OnOk result (IsListedIn progress.new (V.vars env.new)) }
     ensures base { V.base env.new ≡ V.base env.old }
 {
-    if is_loaded(entries.as_slice(), found.name.as_str()) {
+    if is_loaded(progress.entries.as_slice(), found.name.as_str()) {
         return Ok(());
     }
     let file = ModuleFile::of(&found);
@@ -162,7 +161,7 @@ fn load_found<V: Vars>(
         alloc,
         name_request,
         Mode::Load,
-        entries.as_slice(),
+        progress.entries.as_slice(),
         file,
         env,
     )?;
@@ -171,8 +170,10 @@ fn load_found<V: Vars>(
         path: found.path,
         records: ran.records,
     };
-    join_loaded(alloc, entries, &loading, env)?;
-    done.continue_with(Move::Loads(loading), ran.messages)?;
+    join_loaded(alloc, &mut progress.entries, &loading, env)?;
+    progress
+        .done
+        .continue_with(Move::Loads(loading), ran.messages)?;
     Ok(())
 }
 
@@ -180,156 +181,118 @@ fn load_found<V: Vars>(
 pub(crate) fn load_name<T: Tree, V: Vars>(
     alloc: Global,
     name_request: NameRequest<'_>,
-    entries: &mut Vec<Loaded>,
     env: &mut V,
     tree: &mut T,
-    done: &mut Done,
+    progress: &mut Progress,
 ) -> Result<(), Refusal>
-    requires { AreEntriesOf (entries_view entries.old) (V.vars env.old) }
-    ensures reads { ReadsOn T.agrees T.failures tree.old tree.new }
-    ensures listed { OnOk result (AreEntriesOf (entries_view entries.new) (V.vars env.new)) }
+    requires { IsListedIn progress.old (V.vars env.old) }
+    ensures loaded { TreeAnswer T.agrees T.failures T.failed tree.old tree.new
+        (λ u. done_view progress.new.done (V.vars env.new)) result
+        (λ files listings. LoadsName (request_context_of name_request.entry.settings files listings)
+        name_request.entry.in_switch name_request.entry.typed.now (done_view progress.old.done (V.vars env.old)))
+        (λ files listings. LoadLooksAt (request_context_of name_request.entry.settings files listings)
+        name_request.entry.typed.now (done_view progress.old.done (V.vars env.old))) }
+    ensures listed { OnOk result (IsListedIn progress.new (V.vars env.new)) }
     ensures base { V.base env.new ≡ V.base env.old }
-    ensures over_tree { StepAnswersOverTree (T.agrees tree.new) (T.failures tree.old < T.failures tree.new)
-        (λ u. done_view done.new (V.vars env.new)) result
-        (λ files listings. LoadsName (request_context_of name_request.entry.settings files listings) name_request.entry.in_switch
-        name_request.entry.typed.now (done_view done.old (V.vars env.old))) }
-    ensures failed { FailsAt is_failure (T.failed tree.old) (T.failed tree.new) result (λ at.
-        InEachPair (T.agrees tree.new) (λ files listings.
-        LoadLooksAt (request_context_of name_request.entry.settings files listings) name_request.entry.typed.now
-        (done_view done.old (V.vars env.old)) at)) }
 {
-    if is_loaded(entries.as_slice(), name_request.typed) {
+    if is_loaded(progress.entries.as_slice(), name_request.typed) {
         return Ok(());
     }
     let found = find_module(alloc, name_request, env, tree)?;
-    load_found(alloc, name_request, entries, found, env, done)
+    load_found(alloc, name_request, found, env, progress)
 }
 
-/// A loaded module that is unloaded by the file at its recorded path.
-#[derive(Drop)]
-pub(crate) struct Unloading {
-    pub(crate) name: String,
-    pub(crate) path: String,
+/// The module of an entry, with the script in the file at its recorded path.
+fn read_entry<T: Tree>(alloc: Global, entry: &Loaded, tree: &mut T) -> Result<Found, Refusal>
+    ensures { TreeAnswer T.agrees T.failures T.failed tree.old tree.new found_view result
+        (λ files listings. ReadsEntry files (entry_view entry.now))
+        (λ files listings at. at ≡ string_bytes entry.now.path) }
+{
+    Ok(Found {
+        name: String::from_str(alloc, entry.name.as_str())?,
+        path: String::from_str(alloc, entry.path.as_str())?,
+        text: script_at(alloc, tree, entry.path.as_str())?,
+    })
 }
 
-impl Unloading {
-    /// The unloading of the module of an entry.
-    fn of(alloc: Global, entry: &Loaded) -> Result<Unloading, AllocError>
-        ensures name { IfOk result (λ x. string_bytes x.name ≡ string_bytes entry.now.name) }
-        ensures path { IfOk result (λ x. string_bytes x.path ≡ string_bytes entry.now.path) }
-    {
-        Ok(Unloading {
-            name: String::from_str(alloc, entry.name.as_str())?,
-            path: String::from_str(alloc, entry.path.as_str())?,
-        })
+/// The last loaded module that a name means, with the script in its file. There is no search.
+fn find_loaded<T: Tree>(
+    alloc: Global,
+    typed: &str,
+    entries: &[Loaded],
+    tree: &mut T,
+) -> Result<Option<Found>, Refusal>
+    ensures { TreeAnswer T.agrees T.failures T.failed tree.old tree.new (option_map found_view) result
+        (λ files listings. FindsLoaded files typed.now (map entry_view entries.now))
+        (λ files listings. LoadedLooksAt typed.now (map entry_view entries.now)) }
+{
+    if !is_module_name(typed) {
+        let name = String::from_str(alloc, typed)?;
+        return Err(Refusal::Find(FindFault::BadName(name)));
+    }
+    match last_meant(entries, typed) {
+        None => Ok(None),
+        Some(entry) => Ok(Some(read_entry(alloc, entry, tree)?)),
     }
 }
 
-/// Unloads a module by the script in its file, and takes it out of the loaded list.
-fn unload_by_script<V: Vars>(
+/// Unloads a loaded module by its script, and takes it out of the loaded list.
+fn unload_found<V: Vars>(
     alloc: Global,
     name_request: NameRequest<'_>,
-    entries: &mut Vec<Loaded>,
-    unloading: Unloading,
-    text: &str,
+    found: Found,
     env: &mut V,
-    done: &mut Done,
+    progress: &mut Progress,
 ) -> Result<(), Refusal>
-    requires { AreEntriesOf (entries_view entries.old) (V.vars env.old) }
-    ensures given { GivesOrRefuses (λ u. done_view done.new (V.vars env.new)) result
-        (UnloadsByScript name_request.entry (string_bytes unloading.name) (string_bytes unloading.path) text.now
-        (entries_view entries.old) (done_view done.old (V.vars env.old))) }
-    ensures listed { OnOk result (AreEntriesOf (entries_view entries.new) (V.vars env.new)) }
+    requires { IsListedIn progress.old (V.vars env.old) }
+    ensures given { GivesOrRefuses (λ u. done_view progress.new.done (V.vars env.new)) result
+        (UnloadsFound name_request.entry (found_view found) (entries_view progress.old.entries)
+        (done_view progress.old.done (V.vars env.old))) }
+    ensures listed { OnOk result (IsListedIn progress.new (V.vars env.new)) }
     ensures base { V.base env.new ≡ V.base env.old }
 {
-    let file = ModuleFile {
-        name: unloading.name.as_str(),
-        path: unloading.path.as_str(),
-        text,
-    };
+    let file = ModuleFile::of(&found);
     let ran = evaluate(
         alloc,
         name_request,
         Mode::Unload,
-        entries.as_slice(),
+        progress.entries.as_slice(),
         file,
         env,
     )?;
-    drop_from_list(alloc, env, entries, unloading.name.as_str())?;
+    drop_from_list(alloc, env, &mut progress.entries, found.name.as_str())?;
     let unloaded = Module {
-        name: unloading.name,
-        path: unloading.path,
+        name: found.name,
+        path: found.path,
         records: ran.records,
     };
-    done.continue_with(Move::Unloads(unloaded), ran.messages)?;
+    progress
+        .done
+        .continue_with(Move::Unloads(unloaded), ran.messages)?;
     Ok(())
 }
 
-/// Unloads a loaded module by the file at its recorded path.
-fn unload_module<T: Tree, V: Vars>(
-    alloc: Global,
-    name_request: NameRequest<'_>,
-    entries: &mut Vec<Loaded>,
-    unloading: Unloading,
-    env: &mut V,
-    tree: &mut T,
-    done: &mut Done,
-) -> Result<(), Refusal>
-    requires { AreEntriesOf (entries_view entries.old) (V.vars env.old) }
-    ensures reads { ReadsOn T.agrees T.failures tree.old tree.new }
-    ensures listed { OnOk result (AreEntriesOf (entries_view entries.new) (V.vars env.new)) }
-    ensures base { V.base env.new ≡ V.base env.old }
-    ensures over_tree { StepAnswersOverTree (T.agrees tree.new) (T.failures tree.old < T.failures tree.new)
-        (λ u. done_view done.new (V.vars env.new)) result
-        (λ files listings. UnloadsFrom
-        (request_context_of name_request.entry.settings files listings) name_request.entry.in_switch
-        name_request.entry.typed.now (done_view done.old (V.vars env.old)) (entries_view entries.old)
-        (string_bytes unloading.name) (string_bytes unloading.path)) }
-    ensures failed { FailsAt is_failure (T.failed tree.old) (T.failed tree.new) result (λ at.
-        at ≡ string_bytes unloading.path) }
-{
-    let text = script_at(alloc, tree, unloading.path.as_str())?;
-    unload_by_script(
-        alloc,
-        name_request,
-        entries,
-        unloading,
-        text.as_str(),
-        env,
-        done,
-    )
-}
-
-/// Unloads the last loaded module that a name means, if there is one.
+/// Unloads the last loaded module that a name means, if there is one, by the file at its recorded path.
 pub(crate) fn unload_name<T: Tree, V: Vars>(
     alloc: Global,
     name_request: NameRequest<'_>,
-    entries: &mut Vec<Loaded>,
     env: &mut V,
     tree: &mut T,
-    done: &mut Done,
+    progress: &mut Progress,
 ) -> Result<(), Refusal>
-    requires { AreEntriesOf (entries_view entries.old) (V.vars env.old) }
-    ensures reads { ReadsOn T.agrees T.failures tree.old tree.new }
-    ensures listed { OnOk result (AreEntriesOf (entries_view entries.new) (V.vars env.new)) }
-    ensures base { V.base env.new ≡ V.base env.old }
-    ensures over_tree { StepAnswersOverTree (T.agrees tree.new) (T.failures tree.old < T.failures tree.new)
-        (λ u. done_view done.new (V.vars env.new)) result
+    requires { IsListedIn progress.old (V.vars env.old) }
+    ensures unloaded { TreeAnswer T.agrees T.failures T.failed tree.old tree.new
+        (λ u. done_view progress.new.done (V.vars env.new)) result
         (λ files listings. UnloadsName (request_context_of name_request.entry.settings files listings)
-        name_request.entry.in_switch name_request.entry.typed.now (done_view done.old (V.vars env.old))) }
-    ensures failed { FailsAt is_failure (T.failed tree.old) (T.failed tree.new) result
-        (UnloadLooksAt name_request.entry.typed.now (done_view done.old (V.vars env.old))) }
+        name_request.entry.in_switch name_request.entry.typed.now (done_view progress.old.done (V.vars env.old)))
+        (λ files listings. UnloadLooksAt name_request.entry.typed.now (done_view progress.old.done (V.vars env.old))) }
+    ensures listed { OnOk result (IsListedIn progress.new (V.vars env.new)) }
+    ensures base { V.base env.new ≡ V.base env.old }
 {
-    if !is_module_name(name_request.typed) {
-        let name = String::from_str(alloc, name_request.typed)?;
-        return Err(Refusal::Find(FindFault::BadName(name)));
-    }
-    match last_meant(entries.as_slice(), name_request.typed) {
+    let meant = find_loaded(alloc, name_request.typed, progress.entries.as_slice(), tree)?;
+    match meant {
         None => Ok(()),
-        Some(entry) => {
-            let unloading = Unloading::of(alloc, entry)?;
-            unload_module(alloc, name_request, entries, unloading, env, tree, done)
-        }
+        Some(found) => unload_found(alloc, name_request, found, env, progress),
     }
 }
 
@@ -364,15 +327,15 @@ fn report_found<V: Vars>(
     alloc: Global,
     name_request: NameRequest<'_>,
     report_kind: ReportKind,
-    entries: &[Loaded],
     found: &Found,
     env: &mut V,
-    done: &mut Done,
+    progress: &mut Progress,
 ) -> Result<(), Refusal>
-    ensures given { GivesOrRefuses (λ u. done_view done.new (V.vars env.new)) result
-        (ReportsFound name_request.entry report_kind (found_view found.now) (map entry_view entries.now)
-        (done_view done.old (V.vars env.old))) }
-    ensures listed { OnOk result (entries_of (V.vars env.new) ≡ entries_of (V.vars env.old)) }
+    requires { IsListedIn progress.old (V.vars env.old) }
+    ensures given { GivesOrRefuses (λ u. done_view progress.new.done (V.vars env.new)) result
+        (ReportsFound name_request.entry report_kind (found_view found.now) (entries_view progress.old.entries)
+        (done_view progress.old.done (V.vars env.old))) }
+    ensures listed { OnOk result (IsListedIn progress.new (V.vars env.new)) }
     ensures base { V.base env.new ≡ V.base env.old }
 {
     let file = ModuleFile::of(found);
@@ -380,12 +343,12 @@ fn report_found<V: Vars>(
         alloc,
         name_request,
         mode_of_report(report_kind),
-        entries,
+        progress.entries.as_slice(),
         file,
         env,
     )?;
     let text = report_on(alloc, report_kind, found, &ran)?;
-    done.report_on(ran.messages, text.as_str())?;
+    progress.done.report_on(ran.messages, text.as_str())?;
     Ok(())
 }
 
@@ -395,23 +358,19 @@ pub(crate) fn report_name<T: Tree, V: Vars>(
     settings: EvaluationSettings,
     report_kind: ReportKind,
     typed: &str,
-    entries: &[Loaded],
     env: &mut V,
     tree: &mut T,
-    done: &mut Done,
+    progress: &mut Progress,
 ) -> Result<(), Refusal>
-    requires { AreEntriesOf (map entry_view entries.now) (V.vars env.old) }
-    ensures reads { ReadsOn T.agrees T.failures tree.old tree.new }
-    ensures listed { OnOk result (entries_of (V.vars env.new) ≡ entries_of (V.vars env.old)) }
-    ensures base { V.base env.new ≡ V.base env.old }
-    ensures over_tree { StepAnswersOverTree (T.agrees tree.new) (T.failures tree.old < T.failures tree.new)
-        (λ u. done_view done.new (V.vars env.new)) result
+    requires { IsListedIn progress.old (V.vars env.old) }
+    ensures reported { TreeAnswer T.agrees T.failures T.failed tree.old tree.new
+        (λ u. done_view progress.new.done (V.vars env.new)) result
         (λ files listings. ShowsName (request_context_of settings files listings) (report_mode report_kind)
-        (report_text report_kind) typed.now
-        (done_view done.old (V.vars env.old))) }
-    ensures failed { FailsAt is_failure (T.failed tree.old) (T.failed tree.new) result (λ at.
-        InEachPair (T.agrees tree.new) (λ files listings.
-        ShowLooksAt (request_context_of settings files listings) typed.now (done_view done.old (V.vars env.old)) at)) }
+        (report_text report_kind) typed.now (done_view progress.old.done (V.vars env.old)))
+        (λ files listings. ShowLooksAt (request_context_of settings files listings) typed.now
+        (done_view progress.old.done (V.vars env.old))) }
+    ensures listed { OnOk result (IsListedIn progress.new (V.vars env.new)) }
+    ensures base { V.base env.new ≡ V.base env.old }
 {
     let name_request = NameRequest {
         settings,
@@ -419,5 +378,5 @@ pub(crate) fn report_name<T: Tree, V: Vars>(
         typed,
     };
     let found = find_module(alloc, name_request, env, tree)?;
-    report_found(alloc, name_request, report_kind, entries, &found, env, done)
+    report_found(alloc, name_request, report_kind, &found, env, progress)
 }

@@ -1,13 +1,19 @@
-//! What a request has done grows, by one file after another.
-ghost use Rattle.std.specs.Prelude.{◌≡◌, ◌++◌, [], ◌∷◌, OnOk, OnErr};
+//! How far a request has come: what it has done grows, by one file after another.
+ghost use Rattle.std.specs.Prelude.{◌≡◌, ◌++◌, [], ◌∷◌, map, IfOk, OnOk, OnErr};
 ghost use Rattle.envvars.specs.Environment.{Environment};
 ghost use Rattle.envvars.specs.Texts.{texts_in};
+ghost use Rattle.envloaded.specs.LoadedEntries.{entry_view};
 ghost use Rattle.requests.specs.Moves.{loaded_names};
-ghost use Rattle.requests.specs.Steps.{nothing_done, with_move, with_report};
+ghost use Rattle.requests.specs.Steps.{nothing_done, with_move, with_report, EndsRequest};
+ghost use Rattle.requeststep.specs.Answers.{GivesOrRefuses};
 ghost use Rattle.requeststep.specs.MoveViews.{move_view};
 ghost use Rattle.requeststep.specs.Views.{done_view};
+ghost use Rattle.requeststep.specs.Parts.{IsListedIn, entries_view};
 
+use crate::conditions::first_lost;
 use crate::done::{Done, Move};
+use crate::refusal::Refusal;
+use envloaded::{Loaded, copy_list};
 use std::alloc::{AllocError, Global};
 use std::snapshot::Snapshot;
 
@@ -64,5 +70,42 @@ impl Done {
     {
         self.messages.append(&mut messages)?;
         self.report.push_str(text)
+    }
+}
+
+/// How far a request has come.
+#[derive(Drop)]
+pub(crate) struct Progress {
+    /// The modules that are loaded now, in load order.
+    pub(crate) entries: Vec<Loaded>,
+    /// What was done.
+    pub(crate) done: Done,
+}
+
+impl Progress {
+    /// Nothing done yet, where these modules are loaded.
+    pub(crate) fn new(alloc: Global, before: &[Loaded]) -> Result<Progress, AllocError>
+        ensures entries { IfOk result (λ progress. entries_view progress.entries ≡ map entry_view before.now) }
+        ensures done { IfOk result (λ progress. (env : Environment) → done_view progress.done env ≡ nothing_done env) }
+    {
+        Ok(Progress {
+            entries: copy_list(alloc, before)?,
+            done: Done::new(alloc),
+        })
+    }
+
+    /// What was done, unless a module that was loaded before, and is now, has lost what it needs (53).
+    pub(crate) fn end(self, alloc: Global, before: &[Loaded]) -> Result<Done, Refusal>
+        ensures { (env : Environment) → IsListedIn self env
+            → GivesOrRefuses (λ done. done_view done env) result
+            (EndsRequest (map entry_view before.now) (done_view self.done env)) }
+    {
+        match first_lost(before, self.entries.as_slice()) {
+            None => Ok(self.done),
+            Some(entry) => Err(Refusal::StillNeededBy(String::from_str(
+                alloc,
+                entry.name.as_str(),
+            )?)),
+        }
     }
 }

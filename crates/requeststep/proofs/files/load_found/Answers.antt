@@ -22,8 +22,8 @@ pub returns-in_err-ran-clause-given : goal.returns-in_err-ran-clause-given
 returns-in_err-ran-clause-given g c = λ files listings.
     let p = err_from_is_err_and c.from_residual.result c.from_residual.ensures.1 in
     let a = c.args.name_request in
-    let d = done_view c.args.done.now (g.V.Vars.vars c.args.env.now) in
-    let xs = map entry_view c.args.entries.now.items in
+    let d = done_view c.args.progress.now.done (g.V.Vars.vars c.args.env.now) in
+    let xs = map entry_view c.args.progress.now.entries.items in
     let m = found_view c.args.found in
     let no : has m.name (names_of xs) ≡ false = ap (λ (n : Text). has n (names_of xs)) (sym c.as_str.ensures.value) ∙ (ap (λ (es : List Loaded). has c.as_str.result.now (names_of (map entry_view es))) (sym c.as_slice.ensures.value) ∙ (sym c.is_loaded.ensures ∙ c.if-is_loaded.false)) in
     let given = rw (c.of-file.ensures.name, c.of-file.ensures.path, c.of-file.ensures.text, c.as_slice-2.ensures.value) at c.in_err-ran.ensures.given in
@@ -35,8 +35,8 @@ pub returns-in_err-join_loaded-clause-given : goal.returns-in_err-join_loaded-cl
 returns-in_err-join_loaded-clause-given g c = λ files listings.
     let p = err_from_is_err_and c.from_residual-in_err-join_loaded.result c.from_residual-in_err-join_loaded.ensures.1 in
     let a = c.args.name_request in
-    let d = done_view c.args.done.now (g.V.Vars.vars c.args.env.now) in
-    let xs = map entry_view c.args.entries.now.items in
+    let d = done_view c.args.progress.now.done (g.V.Vars.vars c.args.env.now) in
+    let xs = map entry_view c.args.progress.now.entries.items in
     let m = found_view c.args.found in
     let no : has m.name (names_of xs) ≡ false = ap (λ (n : Text). has n (names_of xs)) (sym c.as_str.ensures.value) ∙ (ap (λ (es : List Loaded). has c.as_str.result.now (names_of (map entry_view es))) (sym c.as_slice.ensures.value) ∙ (sym c.is_loaded.ensures ∙ c.if-is_loaded.false)) in
     let mid = g.V.Vars.vars c.evaluate.new.env in
@@ -51,8 +51,8 @@ returns-in_err-join_loaded-clause-given g c = λ files listings.
 pub returns-clause-given : goal.returns-clause-given
 returns-clause-given g c = λ files listings.
     let a = c.args.name_request in
-    let d = done_view c.args.done.now (g.V.Vars.vars c.args.env.now) in
-    let xs = map entry_view c.args.entries.now.items in
+    let d = done_view c.args.progress.now.done (g.V.Vars.vars c.args.env.now) in
+    let xs = map entry_view c.args.progress.now.entries.items in
     let m = found_view c.args.found in
     let no : has m.name (names_of xs) ≡ false = ap (λ (n : Text). has n (names_of xs)) (sym c.as_str.ensures.value) ∙ (ap (λ (es : List Loaded). has c.as_str.result.now (names_of (map entry_view es))) (sym c.as_slice.ensures.value) ∙ (sym c.is_loaded.ensures ∙ c.if-is_loaded.false)) in
     let mid = g.V.Vars.vars c.evaluate.new.env in

@@ -1,73 +1,55 @@
-use Rattle.std.proofs.Common.{◌≡◌, ◌<◌, true, false, map, Some, None, Ok, Err, refl, sym, ◌∙◌, subst}
+use Rattle.std.proofs.Common.{map, Some, None, Ok, Err, refl}
 use Rattle.std.proofs.lemmas.Result.{err_from_is_err_and}
-use Rattle.envvars.specs.Texts.{Text}
+use Rattle.std.specs.Option.{option_map}
 use Rattle.envloaded.specs.LoadedEntries.{entry_view}
-use Rattle.modulename.specs.ModuleName.{is_module_name}
-use Rattle.filetree.specs.Relations.{Is}
-use Rattle.search.specs.Reasons.{bad_name}
-use Rattle.requests.specs.Reasons.{missed}
+use Rattle.search.specs.Answers.{found_view}
 use Rattle.requests.specs.Steps.{UnloadsName}
-use Rattle.requeststep.specs.Views.{request_context_of, done_view}
-use Rattle.requeststep.specs.Parts.{UnloadsFrom}
-use Rattle.requeststep.proofs.StepLemmas.{gives_refused, over_tree_same}
-use Rattle.requeststep.proofs.NameLemmas.{unloads_unread, unloads_misnamed, unloads_meant}
-use Rattle.search.proofs.FailureLemmas.{fails_last}
 use Rattle.requests.specs.Looked.{UnloadLooksAt}
-use Rattle.requeststep.specs.Answers.{is_failure}
-use Rattle.requeststep.proofs.FailureLemmas.{unfailed}
+use Rattle.requeststep.specs.Views.{request_context_of, done_view}
+use Rattle.requeststep.specs.Parts.{FindsLoaded, LoadedLooksAt, UnloadsFound}
+use Rattle.requeststep.proofs.NameLemmas.{unloads_loaded, unloads_at}
+use Rattle.requeststep.proofs.TreeAnswers.{refused, then_answers, then_given}
 use Rattle.requeststep.proofs.files.unload_name.Goals as goal
 
-pub returns-then-not-is_module_name-clause-over_tree : goal.returns-then-not-is_module_name-clause-over_tree
-returns-then-not-is_module_name-clause-over_tree g c = λ files listings k.
+pub returns-in_err-meant-clause-unloaded : goal.returns-in_err-meant-clause-unloaded
+returns-in_err-meant-clause-unloaded g c =
     let a = c.args.name_request in
-    let s = request_context_of a.settings files listings in
-    let d = done_view c.args.done.now (g.V.Vars.vars c.args.env.now) in
-    let no : is_module_name a.typed.now ≡ false = sym c.is_module_name.ensures ∙ c.if-not-is_module_name.true in
-    subst (λ (t : Text). UnloadsName s a.in_switch a.typed.now d (Err (missed (bad_name t)))) (sym c.in_ok-name.ensures.ok)
-    (unloads_misnamed s a.in_switch a.typed.now d (map entry_view c.args.entries.now.items) c.requires no)
+    let d = done_view c.args.progress.now.done (g.V.Vars.vars c.args.env.now) in
+    let xs = map entry_view c.args.progress.now.entries.items in
+    refused (option_map found_view) c.in_err-meant.field-0.0 (λ files listings. FindsLoaded files a.typed.now xs) (λ files listings. LoadedLooksAt a.typed.now xs)
+    (λ (u : Unit {0}). d) c.from_residual.result (λ files listings. UnloadsName (request_context_of a.settings files listings) a.in_switch a.typed.now d) (λ files listings. UnloadLooksAt a.typed.now d)
+    (err_from_is_err_and c.from_residual.result c.from_residual.ensures.1) (rw c.as_slice.ensures.value at c.in_err-meant.ensures)
+    (λ files listings r h. unloads_loaded (request_context_of a.settings files listings) a.in_switch a.typed.now d xs c.requires (Err r) (Err r) h refl)
+    (λ files listings at h. unloads_at (request_context_of a.settings files listings) a.in_switch a.typed.now d xs c.requires at h)
 
-pub returns-in-None-clause-over_tree : goal.returns-in-None-clause-over_tree
-returns-in-None-clause-over_tree g c = λ files listings k.
+pub returns-in-None-clause-unloaded : goal.returns-in-None-clause-unloaded
+returns-in-None-clause-unloaded g c =
     let a = c.args.name_request in
-    let s = request_context_of a.settings files listings in
-    let d = done_view c.args.done.now (g.V.Vars.vars c.args.env.now) in
-    let yes : is_module_name a.typed.now ≡ true = sym c.is_module_name.ensures ∙ c.if-not-is_module_name.false in
-    let meant = rw c.as_slice.ensures.value at c.in-None.ensures in
-    unloads_meant s a.in_switch a.typed.now d (map entry_view c.args.entries.now.items) c.requires yes None meant (Ok d) refl
+    let d = done_view c.args.progress.now.done (g.V.Vars.vars c.args.env.now) in
+    let xs = map entry_view c.args.progress.now.entries.items in
+    then_answers (option_map found_view) None (λ files listings. FindsLoaded files a.typed.now xs) (λ files listings. LoadedLooksAt a.typed.now xs)
+    (λ (u : Unit {0}). d) tt (λ files listings. UnloadsName (request_context_of a.settings files listings) a.in_switch a.typed.now d) (λ files listings. UnloadLooksAt a.typed.now d)
+    (rw (c.as_slice.ensures.value, c.in-None.is) at c.in_ok-meant.ensures)
+    (λ files listings h. unloads_loaded (request_context_of a.settings files listings) a.in_switch a.typed.now d xs c.requires (Ok None) (Ok d) h refl)
 
-pub returns-in_ok-unloading-in-Some-clause-over_tree : goal.returns-in_ok-unloading-in-Some-clause-over_tree
-returns-in_ok-unloading-in-Some-clause-over_tree g c =
+pub returns-in-Some-clause-unloaded : goal.returns-in-Some-clause-unloaded
+returns-in-Some-clause-unloaded g c =
     let a = c.args.name_request in
-    let e = g.V.Vars.vars c.args.env.now in
-    let d = done_view c.args.done.now e in
-    let xs = map entry_view c.args.entries.now.items in
-    let x = entry_view c.in-Some.entry.now in
-    let rose = g.T.Tree.failures c.args.tree.now < g.T.Tree.failures c.unload_module.new.tree in
-    let yes : is_module_name a.typed.now ≡ true = sym c.is_module_name.ensures ∙ c.if-not-is_module_name.false in
-    let meant = rw c.as_slice.ensures.value at c.in-Some.ensures in
-    let over_tree = rw (c.in_ok-unloading-in-Some.ensures.name, c.in_ok-unloading-in-Some.ensures.path) at c.unload_module.ensures.over_tree in
-    over_tree_same (g.T.Tree.agrees c.unload_module.new.tree) rose rose (λ (u : Unit {0}). done_view c.unload_module.new.done (g.V.Vars.vars c.unload_module.new.env)) c.unload_module.result
-    (λ files listings. UnloadsFrom (request_context_of a.settings files listings) a.in_switch a.typed.now d xs x.name x.path) (λ files listings. UnloadsName (request_context_of a.settings files listings) a.in_switch a.typed.now d) (λ q. q)
-    (λ files listings o k h. unloads_meant (request_context_of a.settings files listings) a.in_switch a.typed.now d xs c.requires yes (Some x) meant o h) over_tree
+    let d = done_view c.args.progress.now.done (g.V.Vars.vars c.args.env.now) in
+    let xs = map entry_view c.args.progress.now.entries.items in
+    let found = c.in-Some.found in
+    then_given (option_map found_view) (Some found) (λ files listings. FindsLoaded files a.typed.now xs) (λ files listings. LoadedLooksAt a.typed.now xs)
+    (λ (u : Unit {0}). done_view c.unload_found.new.progress.done (g.V.Vars.vars c.unload_found.new.env)) c.unload_found.result
+    (λ files listings. UnloadsFound a (found_view found) xs d)
+    (λ files listings. UnloadsName (request_context_of a.settings files listings) a.in_switch a.typed.now d) (λ files listings. UnloadLooksAt a.typed.now d)
+    (rw (c.as_slice.ensures.value, c.in-Some.is) at c.in_ok-meant.ensures) (λ files listings. c.unload_found.ensures.given)
+    (λ files listings h o k. unloads_loaded (request_context_of a.settings files listings) a.in_switch a.typed.now d xs c.requires (Ok (Some (found_view found))) o h k)
 
-pub returns-in_ok-unloading-in-Some-clause-failed : goal.returns-in_ok-unloading-in-Some-clause-failed
-returns-in_ok-unloading-in-Some-clause-failed g c =
-    let a = c.args.name_request in
-    let d = done_view c.args.done.now (g.V.Vars.vars c.args.env.now) in
-    let xs = map entry_view c.args.entries.now.items in
-    let x = entry_view c.in-Some.entry.now in
-    let yes : is_module_name a.typed.now ≡ true = sym c.is_module_name.ensures ∙ c.if-not-is_module_name.false in
-    let meant = rw c.as_slice.ensures.value at c.in-Some.ensures in
-    let before = g.T.Tree.failed c.args.tree.now in
-    let failed = rw c.in_ok-unloading-in-Some.ensures.path at c.unload_module.ensures.failed in
-    fails_last is_failure before before (g.T.Tree.failed c.unload_module.new.tree) c.unload_module.result (λ at. at ≡ x.path) (UnloadLooksAt a.typed.now d) refl
-    (λ at h. record { entries = xs; read = c.requires; spelled = yes; entry = x; meant = meant; recorded = h }) failed
-
-pub unload_module-requires : goal.unload_module-requires
-unload_module-requires g c = c.requires
+pub unload_found-requires : goal.unload_found-requires
+unload_found-requires g c = c.requires
 
 pub returns-in-None-clause-listed : goal.returns-in-None-clause-listed
 returns-in-None-clause-listed g c = c.requires
 
-pub returns-in_ok-unloading-in-Some-clause-listed : goal.returns-in_ok-unloading-in-Some-clause-listed
-returns-in_ok-unloading-in-Some-clause-listed g c = c.unload_module.ensures.listed
+pub returns-in-Some-clause-listed : goal.returns-in-Some-clause-listed
+returns-in-Some-clause-listed g c = c.unload_found.ensures.listed
