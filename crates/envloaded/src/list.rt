@@ -131,6 +131,9 @@ fn conflict_names(alloc: Global, element: Option<&str>) -> Result<Vec<String>, A
 {
     let words = words(alloc, element)?;
     let names = names_among(alloc, words.as_slice())?;
+    if names.len() < 2 {
+        return owned(alloc, names.as_slice());
+    }
     let names = deduplicated(alloc, names.as_slice())?;
     owned(alloc, names.as_slice())
 }
@@ -198,7 +201,7 @@ fn entries(
     ensures { IfOk result (λ v. map entry_view v.items
         ≡ entries_from (element_in conflicts.now) (element_in prereqs.now) (slice_texts names.now) (slice_texts files.now)) }
 {
-    let mut entries = Vec::new(alloc);
+    let mut entries = Vec::with_capacity(alloc, names.len())?;
     let mut remaining_names = names;
     let mut remaining_files = files;
     while let [name, later_names @ ..] = remaining_names {

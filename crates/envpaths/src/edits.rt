@@ -304,7 +304,7 @@ fn write_one<V: Vars>(env: &mut V, var: &str, text: Option<String>) -> Result<()
     ensures base { V.base env.new ≡ V.base env.old }
 {
     match text {
-        Some(text) => env.set(var, text.as_str()),
+        Some(text) => env.put(var, text),
         None => env.unset(var),
     }
 }

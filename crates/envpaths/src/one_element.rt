@@ -107,11 +107,11 @@ fn without_element(
     let Some((before, after)) = text.as_str().split_once(wanted.as_str()) else {
         return Ok(None);
     };
-    let kept = join(alloc, &[before, after], delim)?;
-    let Some(kept) = between_delimiters(delim, kept.as_str()) else {
+    let rest = join(alloc, &[before, after], delim)?;
+    let Some(kept) = between_delimiters(delim, rest.as_str()) else {
         return Ok(None);
     };
-    if has_element(alloc, delim, kept, element)? {
+    if rest.as_str().contains(wanted.as_str()) {
         return Ok(None);
     }
     Ok(Some(String::from_str(alloc, kept)?))

@@ -1,6 +1,5 @@
 -- Versions that begin alike.
-use Rattle.std.proofs.Common.{◌≡◌, ℕ, true, false, Option, Some, None, List, [], ◌∷◌, refl, sym, ap, ◌∙◌, Ordering, Equal, ◌≤◌, ◌-◌, suc, length, get_or, take, drop, arith}
-use Rattle.std.proofs.lemmas.List.{take_all}
+use Rattle.std.proofs.Common.{◌≡◌, ℕ, true, false, Option, Some, None, List, [], ◌∷◌, refl, sym, ap, ◌∙◌, Ordering, Equal}
 use Rattle.std.specs.Ordering.{ordering_then}
 use Rattle.std.specs.Cmp.Lexicographic.{slice_cmp}
 use Rattle.std.proofs.lemmas.Cmp.{then_total, on_total, nat_cmp_total, tied_itself}
@@ -28,11 +27,6 @@ pub same_other : (o : Option ℕ) (b : ℕ) (xs ys : List ℕ) → is_digit b �
 same_other None b xs ys e = rw e (same_first (other b) (pieces xs) (pieces ys))
 same_other (Some n) b xs ys e =
     rw e (same_first (run n) (other b ∷ pieces xs) (other b ∷ pieces ys) ∙ same_first (other b) (pieces xs) (pieces ys))
-
--- a text by its first byte and what follows, as a pattern cuts it
-pub cut : (xs : List ℕ) → 1 ≤ length xs → xs ≡ get_or xs 0 0 ∷ take (length xs - 1) (drop 1 xs)
-cut [] h = absurd (omega arith)
-cut (x ∷ xs) h = let n : suc (length xs) - 1 ≡ length xs = omega arith in rw n (ap (λ ys. x ∷ ys) (sym (take_all (length xs) xs (omega arith))))
 
 module _ (all : Ordering) (o : Option ℕ) (b : ℕ) (xs ys ls rs : List ℕ) (first : xs ≡ b ∷ ls) (second : ys ≡ b ∷ rs)
     (before : all ≡ slice_cmp piece_order (pieces_after o xs) (pieces_after o ys)) where

@@ -28,25 +28,16 @@ fn without_common_start<'a>(left: &'a [u8], right: &'a [u8]) -> (&'a [u8], &'a [
     ensures { slice_cmp piece_order (pieces left.entry.now) (pieces right.entry.now)
         ≡ slice_cmp piece_order (pieces result.0.now) (pieces result.1.now) }
 {
-    let mut left_start = left;
-    let mut right_start = right;
-    let mut left_rest = left;
-    let mut right_rest = right;
-    while let [first, left_after @ ..] = left_rest {
-        let [second, right_after @ ..] = right_rest else {
-            break;
-        };
-        if *first != *second {
-            break;
-        }
-        left_rest = left_after;
-        right_rest = right_after;
-        if !first.is_ascii_digit() {
-            left_start = left_rest;
-            right_start = right_rest;
+    let mut start = 0;
+    let mut same = 0;
+    while same < left.len() && same < right.len() && left[same] == right[same] {
+        let is_digit = left[same].is_ascii_digit();
+        same += 1;
+        if !is_digit {
+            start = same;
         }
     }
-    (left_start, right_start)
+    (&left[start..], &right[start..])
 }
 
 /// The order of two versions by their pieces, one after another; a proper prefix comes first.

@@ -1,28 +1,37 @@
-use Rattle.std.proofs.Common.{◌≡◌, ℕ, ◌≤◌, ◌-◌, List, Some, None, ◌∷◌, true, false, get_or, take, drop, length, sym, ap, ◌∙◌}
+use Rattle.std.proofs.Common.{◌≡◌, ◌+◌, ◌∷◌, true, false, Some, None, get_or, drop, sym, ap, ◌∙◌, arith, rules}
+use Rattle.std.proofs.lemmas.List.{drop_more}
 use Rattle.modulename.specs.Versions.{is_digit}
-use Rattle.modulename.proofs.StartLemmas.{cut, run_with, behind_digit, behind_other}
+use Rattle.modulename.proofs.StartLemmas.{run_with, behind_digit, behind_other}
 use Rattle.modulename.proofs.version.without_common_start.Goals as goal
 
--- the second text begins with the same byte
-second_cut : (xs ys : List ℕ) → 1 ≤ length ys → get_or xs 0 0 ≡ get_or ys 0 0 → ys ≡ get_or xs 0 0 ∷ take (length ys - 1) (drop 1 ys)
-second_cut xs ys l e = cut ys l ∙ ap (λ b. b ∷ take (length ys - 1) (drop 1 ys)) (sym e)
+pub loop-same-preserved-then-not-is_digit : goal.loop-same-preserved-then-not-is_digit
+loop-same-preserved-then-not-is_digit c =
+    let xs = c.args.left.now in
+    let ys = c.args.right.now in
+    let i = c.loop-same.same in
+    let held = c.loop-same.invariant.rest in
+    let same : get_or xs i 0 ≡ get_or ys i 0 = search rules in
+    let first = drop_more xs i 0 (omega arith) in
+    let second = drop_more ys i 0 (omega arith) ∙ ap (λ b. b ∷ drop (i + 1) ys) (sym same) in
+    let other : is_digit (get_or xs i 0) ≡ false = search rules in
+    let next = behind_other _ held.0 (get_or xs i 0) (drop i xs) (drop i ys) _ _ first second held.1 other in
+    record { started = omega arith; within = omega arith; inside = omega arith; start = next; rest = (None, next) }
 
-pub loop-left_rest-preserved-then-not-is_ascii_digit : goal.loop-left_rest-preserved-then-not-is_ascii_digit
-loop-left_rest-preserved-then-not-is_ascii_digit c =
-    let xs = c.loop-left_rest.left_rest.now in
-    let ys = c.loop-left_rest.right_rest.now in
-    let held = c.loop-left_rest.invariant.rest in
-    let other : is_digit (get_or xs 0 0) ≡ false = sym c.is_ascii_digit.ensures.value ∙ c.if-not-is_ascii_digit.true in
-    let next = behind_other _ held.0 (get_or xs 0 0) xs ys _ _ (cut xs c.in-len1-up.len_at_least) (second_cut xs ys c.in-len1-up-right_rest.len_at_least c.if-first-second.false) held.1 other in
-    record { start = next; rest = (None, next) }
-
-pub loop-left_rest-preserved : goal.loop-left_rest-preserved
-loop-left_rest-preserved c =
-    let xs = c.loop-left_rest.left_rest.now in
-    let ys = c.loop-left_rest.right_rest.now in
-    let held = c.loop-left_rest.invariant.rest in
-    let digit : is_digit (get_or xs 0 0) ≡ true = sym c.is_ascii_digit.ensures.value ∙ c.if-not-is_ascii_digit.false in
+pub loop-same-preserved : goal.loop-same-preserved
+loop-same-preserved c =
+    let xs = c.args.left.now in
+    let ys = c.args.right.now in
+    let i = c.loop-same.same in
+    let held = c.loop-same.invariant.rest in
+    let same : get_or xs i 0 ≡ get_or ys i 0 = search rules in
+    let first = drop_more xs i 0 (omega arith) in
+    let second = drop_more ys i 0 (omega arith) ∙ ap (λ b. b ∷ drop (i + 1) ys) (sym same) in
+    let digit : is_digit (get_or xs i 0) ≡ true = search rules in
+    let next = behind_digit _ held.0 (get_or xs i 0) (drop i xs) (drop i ys) _ _ first second held.1 digit in
     record {
-      start = c.loop-left_rest.invariant.start;
-      rest = (Some (run_with held.0 (get_or xs 0 0)), behind_digit _ held.0 (get_or xs 0 0) xs ys _ _ (cut xs c.in-len1-up.len_at_least) (second_cut xs ys c.in-len1-up-right_rest.len_at_least c.if-first-second.false) held.1 digit);
+      started = omega arith;
+      within = omega arith;
+      inside = omega arith;
+      start = c.loop-same.invariant.start;
+      rest = (Some (run_with held.0 (get_or xs i 0)), next);
     }

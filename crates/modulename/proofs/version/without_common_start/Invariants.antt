@@ -1,13 +1,16 @@
-use Rattle.std.proofs.Common.{◌≡◌, ℕ, Option, length}
+use Rattle.std.proofs.Common.{◌≡◌, ◌≤◌, ◌-◌, ℕ, Option, length, drop}
 use Rattle.std.specs.Cmp.Lexicographic.{slice_cmp}
 use Rattle.modulename.specs.Versions.{pieces, pieces_after, piece_order}
 use Rattle.modulename.proofs.version.without_common_start.Given as goal
 
-abbrev pub invariant-loop-left_rest : goal.invariant-loop-left_rest
-invariant-loop-left_rest l = record {
-  start : slice_cmp piece_order (pieces l.left) (pieces l.right) ≡ slice_cmp piece_order (pieces l.left_start) (pieces l.right_start);
-  rest : (o : Option ℕ) × (slice_cmp piece_order (pieces l.left) (pieces l.right) ≡ slice_cmp piece_order (pieces_after o l.left_rest) (pieces_after o l.right_rest));
+abbrev pub invariant-loop-same : goal.invariant-loop-same
+invariant-loop-same l = record {
+  started : l.start ≤ l.same;
+  within : l.same ≤ length l.left;
+  inside : l.same ≤ length l.right;
+  start : slice_cmp piece_order (pieces l.left) (pieces l.right) ≡ slice_cmp piece_order (pieces (drop l.start l.left)) (pieces (drop l.start l.right));
+  rest : (o : Option ℕ) × (slice_cmp piece_order (pieces l.left) (pieces l.right) ≡ slice_cmp piece_order (pieces_after o (drop l.same l.left)) (pieces_after o (drop l.same l.right)));
 }
 
-abbrev pub decreases-loop-left_rest : goal.decreases-loop-left_rest
-decreases-loop-left_rest l = length l.left_rest
+abbrev pub decreases-loop-same : goal.decreases-loop-same
+decreases-loop-same l = length l.left - l.same
