@@ -40,10 +40,3 @@ found_failure (finds.NotUtf8 path) = refl
 pub read_failure : (fault : TreeFault) → is_device fault ≡ is_failure (refused_read fault)
 read_failure trees.OutOfMemory = refl
 read_failure trees.Device = refl
-
--- where a call looks that is asked for a value, it looks for what equals it
-pub fails_of : {A X : Type 0} (agrees : Files → Listings → Type 0) (before now : List ℕ → Bool) (r : Result X Refusal) (Looks : A → Files → Listings → Text → Type 0) (x y : A) → x ≡ y
-    → FailsAt is_failure before now r (λ at. InEachPair agrees (λ files listings. Looks y files listings at))
-    → FailsAt is_failure before now r (λ at. InEachPair agrees (λ files listings. Looks x files listings at))
-fails_of agrees before now r Looks x y e h =
-    subst (λ z. FailsAt is_failure before now r (λ at. InEachPair agrees (λ files listings. Looks z files listings at))) (sym e) h

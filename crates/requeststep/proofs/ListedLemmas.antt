@@ -9,7 +9,6 @@ use Rattle.envloaded.specs.Loaded.{Entry, loaded_in, with_conflicts_once, withou
 use Rattle.envloaded.proofs.LoadedEdits.{loaded_after_add}
 use Rattle.envstate.proofs.StateLemmas.{dropped_list}
 use Rattle.requests.specs.Records.{conflict_names, prereq_groups}
-use Rattle.requests.specs.Judgments.{bad_edit}
 use Rattle.requests.specs.Effects.{edit_outcome}
 use Rattle.requests.specs.Moves.{Module, entry_of}
 use Rattle.requests.specs.Reasons.{RequestReason, refused_edit}
@@ -17,7 +16,7 @@ use Rattle.requests.specs.Refusals.{refused_as, unless}
 use Rattle.requests.specs.Conditions.{load_objection}
 use Rattle.requests.specs.Steps.{consistent, entries_of}
 use Rattle.requeststep.specs.declared.refusal.Refusal.{Refusal}
-use Rattle.requeststep.specs.Parts.{AreEntriesOf, added}
+use Rattle.requeststep.specs.Parts.{AreEntriesOf, allowed_entry, added}
 
 as_read : (o : Option (List Entry)) (xs : List Entry) → Ok xs ≡ consistent o → o ≡ Some xs
 as_read None xs h = absurd (cc)
@@ -58,12 +57,32 @@ allowed : (o : Option RequestReason) → Ok tt ≡ unless {A = Unit {0}} o (Ok t
 allowed None h = refl
 allowed (Some r) h = absurd (cc)
 
--- what refuses the edit refuses the module
-pub join_refused : (e : Environment) (xs : List Entry) (m : Module) (x : Entry) (conflicts : List Text) (prereqs : List (List Text)) (r : EnvReason) → AreEntriesOf xs e
-    → x ≡ entry_with m conflicts prereqs → conflicts ≡ conflict_names m.records → prereqs ≡ prereq_groups m.records
-    → Ok tt ≡ unless {A = Unit {0}} (load_objection m.name m.records xs) (Ok tt) → added_to e x (Some xs) ≡ Err r → Err (refused_edit (bad_edit r)) ≡ added xs m e
-join_refused e xs m x conflicts prereqs r h is cs ps free refused =
+-- its entry, where nothing forbids it
+pub entry_allowed : (xs : List Entry) (m : Module) (x : Entry) (conflicts : List Text) (prereqs : List (List Text)) → x ≡ entry_with m conflicts prereqs → conflicts ≡ conflict_names m.records
+    → prereqs ≡ prereq_groups m.records → Ok tt ≡ unless {A = Unit {0}} (load_objection m.name m.records xs) (Ok tt) → Ok x ≡ allowed_entry xs m
+entry_allowed xs m x conflicts prereqs is cs ps free =
     let same : x ≡ entry_of m = is ∙ (ap (λ (c : List Text). entry_with m c prereqs) cs ∙ ap (λ (p : List (List Text)). entry_with m (conflict_names m.records) p) ps) in
-    let made : added_loaded e (entry_of m) ≡ Err r = ap (λ (y : Entry). added_loaded e y) (sym same) ∙ (ap (λ (o : Option (List Entry)). added_to e x o) (read_as xs e h) ∙ refused) in
-    sym (ap (λ (o : Option RequestReason). unless o (refused_as refused_edit (edit_outcome (added_loaded e (entry_of m))))) (allowed (load_objection m.name m.records xs) free)
-    ∙ ap (λ z. refused_as refused_edit (edit_outcome z)) made)
+    ap Ok same ∙ sym (ap (λ (o : Option RequestReason). unless o (Ok (entry_of m))) (allowed (load_objection m.name m.records xs) free))
+
+-- what forbids the entry forbids the module
+pub join_forbidden : {A : Type 0} (o : Option RequestReason) (y : Entry) (z : Result A RequestReason) (r : RequestReason) → Err r ≡ unless o (Ok y) → Err r ≡ unless o z
+join_forbidden None y z r h = absurd (cc)
+join_forbidden (Some s) y z r h = let q : r ≡ s = cc in ap Err q
+
+same_entry : (o : Option RequestReason) (x y : Entry) → Ok x ≡ unless o (Ok y) → x ≡ y
+same_entry None x y h = cc
+same_entry (Some r) x y h = absurd (cc)
+
+unforbidden : (o : Option RequestReason) (x y : Entry) → Ok x ≡ unless o (Ok y) → o ≡ None
+unforbidden None x y h = refl
+unforbidden (Some r) x y h = absurd (cc)
+
+-- what the edit comes to is what the module comes to
+pub join_made : (e : Environment) (xs : List Entry) (m : Module) (x : Entry) (out : Result Environment EnvReason) → AreEntriesOf xs e → Ok x ≡ allowed_entry xs m → added_to e x (Some xs) ≡ out
+    → refused_as refused_edit (edit_outcome out) ≡ added xs m e
+join_made e xs m x out h free made =
+    let objected = load_objection m.name m.records xs in
+    let same : x ≡ entry_of m = same_entry objected x (entry_of m) free in
+    let so : added_loaded e (entry_of m) ≡ out = ap (λ (y : Entry). added_loaded e y) (sym same) ∙ (ap (λ (o : Option (List Entry)). added_to e x o) (read_as xs e h) ∙ made) in
+    sym (ap (λ (o : Option RequestReason). unless o (refused_as refused_edit (edit_outcome (added_loaded e (entry_of m))))) (unforbidden objected x (entry_of m) free)
+    ∙ ap (λ z. refused_as refused_edit (edit_outcome z)) so)

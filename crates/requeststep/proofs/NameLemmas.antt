@@ -67,9 +67,6 @@ module _ (s : RequestContext) (in_switch : Bool) (typed : Text) (d : Done) (xs :
   abbrev ran_on : Result Done RequestReason → Type 0
   ran_on = Then evaluated (λ ran. Is (joins d xs (module_of m.name m.path ran) ran.messages))
 
-  pub found_loaded : has m.name (names_of xs) ≡ true → LoadsFound s in_switch typed d xs m (Ok d)
-  found_loaded e = if_yes (has m.name (names_of xs)) (Is (Ok d)) ran_on (Ok d) e refl
-
   pub found_stopped : has m.name (names_of xs) ≡ false → (r : RequestReason) → evaluated (Err r) → LoadsFound s in_switch typed d xs m (Err r)
   found_stopped e r h = if_no (has m.name (names_of xs)) (Is (Ok d)) ran_on (Err r) e (Err r, h, refl)
 

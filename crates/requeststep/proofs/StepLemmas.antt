@@ -62,11 +62,6 @@ over_tree_same agrees failed before view (Ok x) Trace Comes later then h = λ fi
 over_tree_same agrees failed before view (Err e) Trace Comes later then h =
     stands_as (cause_of e) failed before _ _ later (λ r k files listings a. then files listings (Err r) a (k files listings a)) h
 
--- the answer for a value is that for what equals it
-pub over_tree_of : {A X Y : Type 0} (agrees : Files → Listings → Type 0) (before : Type 0) (view : X → Y) (r : Result X Refusal)
-    (Comes : A → Files → Listings → Result Y RequestReason → Type 0) (x y : A) → x ≡ y → StepAnswersOverTree agrees before view r (Comes y) → StepAnswersOverTree agrees before view r (Comes x)
-over_tree_of agrees before view r Comes x y e h = subst (λ z. StepAnswersOverTree agrees before view r (Comes z)) (sym e) h
-
 -- a refusal of one step is a refusal of the whole
 pub over_tree_refused : {X Y V W : Type 0} (agrees : Files → Listings → Type 0) (failed before : Type 0) (view : X → Y) (view' : V → W) (e : Refusal)
     (Trace : Files → Listings → Result Y RequestReason → Type 0) (Comes : Files → Listings → Result W RequestReason → Type 0)
@@ -74,14 +69,6 @@ pub over_tree_refused : {X Y V W : Type 0} (agrees : Files → Listings → Type
     → StepAnswersOverTree agrees failed view (Err e) Trace → StepAnswersOverTree agrees before view' (Err e) Comes
 over_tree_refused agrees failed before view view' e Trace Comes later then h =
     stands_as (cause_of e) failed before _ _ later (λ r k files listings a. then files listings r a (k files listings a)) h
-
--- the same of one without a tree, before a step over one
-pub gives_refused : {X Y V W : Type 0} (agrees : Files → Listings → Type 0) (before : Type 0) (view : X → Y) (view' : V → W) (e : Refusal)
-    (Gave : Result Y RequestReason → Type 0) (Comes : Files → Listings → Result W RequestReason → Type 0)
-    → ((files : Files) (listings : Listings) (r : RequestReason) → agrees files listings → Gave (Err r) → Comes files listings (Err r))
-    → GivesOrRefuses view (Err e) Gave → StepAnswersOverTree agrees before view' (Err e) Comes
-gives_refused agrees before view view' e Gave Comes then h =
-    stands_as (cause_of e) ⊥ before _ _ (λ q. absurd q) (λ r k files listings a. then files listings r a k) h
 
 pub if_yes : {A R : Type 0} (b : Bool) (Yes No : Result A R → Type 0) (o : Result A R) → b ≡ true → Yes o → If b Yes No o
 if_yes true Yes No o e h = h
@@ -199,19 +186,13 @@ pub edit_refused : (o : Option EnvReason) (P : EnvReason → Type 0) (Q : Reques
 edit_refused None P Q then h = tt
 edit_refused (Some r) P Q then h = then r h
 
-pub judged : (o p : Option RequestReason) → o ≡ p → (x : Result Environment RequestReason) (r : RequestReason) → Err r ≡ unless {A = Unit {0}} o (Ok tt) → Err r ≡ unless p x
+pub judged : {A : Type 0} (o p : Option RequestReason) → o ≡ p → (x : Result A RequestReason) (r : RequestReason) → Err r ≡ unless {A = Unit {0}} o (Ok tt) → Err r ≡ unless p x
 judged None p e x r h = absurd (cc)
 judged (Some s) p e x r h = let q : r ≡ s = cc in subst (λ z. Err r ≡ unless z x) e (ap Err q)
 
 pub objection_same : (n m : Text) (cs ds : List Text) (gs hs : List (List Text)) (xs : List Entry) → n ≡ m → cs ≡ ds → gs ≡ hs → objection n cs gs xs ≡ objection m ds hs xs
 objection_same n m cs ds gs hs xs a b e =
     ap (λ y. objection y cs gs xs) a ∙ (ap (λ y. objection m y gs xs) b ∙ ap (λ y. objection m ds y xs) e)
-
-pub unloaded_as : (d : Done) (n m p q : Text) (rs : List Record) (messages : List Text) (e : Environment) → n ≡ m → p ≡ q
-    → with_move d (Unloads (record { name = n; path = p; records = rs })) messages e ≡ with_move d (Unloads (record { name = m; path = q; records = rs })) messages e
-unloaded_as d n m p q rs messages e a b =
-    ap (λ (y : Text). with_move d (Unloads (record { name = y; path = p; records = rs })) messages e) a
-    ∙ ap (λ (y : Text). with_move d (Unloads (record { name = m; path = y; records = rs })) messages e) b
 
 -- a report changes nothing
 pub topic_same : (report_kind : ReportKind) (owner : Text) (rs : List Record) (e d : Environment) → effects (report_mode report_kind) owner rs e ≡ Ok d → d ≡ e

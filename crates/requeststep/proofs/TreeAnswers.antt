@@ -162,10 +162,6 @@ module _ {T : Type 0} {agrees : T → Files → Listings → Type 0} {failures :
   -- ---- one call after the other
 
   module _ {W : Type 0} {Whole : Outcomes W} {Wider : Paths} where
-    -- before the first
-    pub leads_first : (t : T) → Leads agrees failures failed t t Whole Whole Wider Wider
-    leads_first t = record { reads = same_tree t; comes = λ files listings a o h. h; looks = λ files listings a at h. h; unfailed = refl }
-
     module _ {old mid : T} {Rest : Outcomes W} {Looks : Paths} (leads : Leads agrees failures failed old mid Rest Whole Looks Wider) where
       -- after one more
       pub leads_on : {X Y : Type 0} {new : T} (view : X → Y) (x : X) (First : Outcomes Y) (Looks' : Paths) (Left : Outcomes W) (Looks-left : Paths) → TreeAnswer agrees failures failed mid new view (Ok x) First Looks'

@@ -64,6 +64,10 @@ objection name conflicts prereqs entries =
     option_or (option_map (λ x. conflict_with x.name) (own_conflict conflicts entries)) (
     option_map prereq_missing (missing_group prereqs entries)))
 
+-- the entry of a module, unless something forbids it
+abbrev pub allowed_entry : List Entry → Module → Result Entry RequestReason
+allowed_entry entries m = unless (load_objection m.name m.records entries) (Ok (entry_of m))
+
 -- the environment with the entry of a module, unless something forbids it
 abbrev pub added : List Entry → Module → Environment → Result Environment RequestReason
 added entries m e =

@@ -11,6 +11,7 @@ ghost use Rattle.defaultfiles.specs.DefaultFileResults.{HasResult};
 ghost use Rattle.search.specs.Looked.{ListingLooksAt};
 ghost use Rattle.modulename.specs.ModuleName.{parts};
 ghost use Rattle.requests.specs.Requests as actions;
+ghost use Rattle.requests.specs.Reports.{loaded_text};
 ghost use Rattle.requests.specs.RequestViews.{action_view};
 ghost use Rattle.requests.specs.Steps as steps;
 ghost use Rattle.requests.specs.Steps.{nothing_done, Each, EndsRequest, NeedsNames, ChangesLoaded, ShowsNames, ListsLoaded, ListsAll, RequestStep, request_context_in};
@@ -332,13 +333,23 @@ fn report_names<T: Tree, V: Vars>(
 }
 
 /// What a request has done that makes no move and reports this text.
-fn done_with_report(alloc: Global, text: &str) -> Result<Done, AllocError>
-    ensures { IfOk result (λ done. (e : Environment) → done_view done e ≡ steps.with_report (nothing_done e)
-        [] text.now) }
+fn done_with_report(alloc: Global, text: String) -> Done
+    ensures { (e : Environment) → done_view result e ≡ steps.with_report (nothing_done e) [] (string_bytes text) }
 {
-    let mut done = Done::new(alloc);
-    done.report_on(Vec::new(alloc), text)?;
-    Ok(done)
+    Done {
+        loaded: Vec::new(alloc),
+        messages: Vec::new(alloc),
+        report: text,
+        moves: Vec::new(alloc),
+    }
+}
+
+/// The report of the loaded modules.
+fn report_loaded(alloc: Global, entries: &[Loaded]) -> Result<String, AllocError>
+    ensures { IfOk result (λ t. string_bytes t ≡ loaded_text (names_of (map entry_view entries.now))) }
+{
+    let names = names_of(alloc, entries)?;
+    list_report(alloc, names.as_slice())
 }
 
 /// Reports the loaded modules.
@@ -347,9 +358,8 @@ fn list<V: Vars>(alloc: Global, env: &V) -> Result<Done, Refusal>
     ensures out_of_memory { IfErr result (MemoryNumberAmong (31 ∷ [])) }
 {
     let entries = entries_of(alloc, env)?;
-    let names = names_of(alloc, entries.as_slice())?;
-    let text = list_report(alloc, names.as_slice())?;
-    Ok(done_with_report(alloc, text.as_str())?)
+    let text = report_loaded(alloc, entries.as_slice())?;
+    Ok(done_with_report(alloc, text))
 }
 
 /// Reports the modules along MODULEPATH whose names begin with one of the texts; without texts, all.
@@ -374,7 +384,7 @@ fn avail<T: Tree, V: Vars>(
     };
     let listings = available(alloc, tree, &default_files, modulepath(env))?;
     let text = avail_report(alloc, texts, listings.as_slice())?;
-    Ok(done_with_report(alloc, text.as_str())?)
+    Ok(done_with_report(alloc, text))
 }
 
 /// Does what is asked for.

@@ -13,12 +13,12 @@ ghost use Rattle.requests.specs.Steps.{entries_of, modulepath};
 ghost use Rattle.requeststep.specs.MoveViews.{module_view};
 ghost use Rattle.requeststep.specs.Answers.{GivesOrRefuses};
 ghost use Rattle.requeststep.specs.Messages.{MemoryNumberAmong};
-ghost use Rattle.requeststep.specs.Parts.{AreEntriesOf, entries_view, objection, added};
+ghost use Rattle.requeststep.specs.Parts.{AreEntriesOf, entries_view, objection, allowed_entry, added};
 
-use crate::conditions::{missing_group, own_conflict, recorded_conflict};
 use crate::done::Module;
 use crate::missing::MissingNames;
 use crate::refusal::Refusal;
+use conditions::{missing_group, own_conflict, recorded_conflict};
 use envloaded::{Loaded, add_to_list, loaded};
 use envvars::Vars;
 use envvars::fields::{copies, deduplicated, owned, slices};
@@ -164,7 +164,25 @@ fn entry_for(
     })
 }
 
-/// Adds the entry of a module at the end of the loaded list and writes the list, unless a conflict (51) or a prereq (52) forbids it.
+/// The entry of a module, unless a conflict (51) or a prereq (52) forbids it beside the loaded ones.
+fn allowed_entry(alloc: Global, entries: &[Loaded], loading: &Module) -> Result<Loaded, Refusal>
+    ensures { GivesOrRefuses entry_view result
+        (Is (allowed_entry (map entry_view entries.now) (module_view loading.now))) }
+{
+    let conflicts = conflict_names(alloc, loading.records.as_slice())?;
+    let prereqs = prereq_groups(alloc, loading.records.as_slice())?;
+    judge(
+        alloc,
+        entries,
+        loading.name.as_str(),
+        conflicts.as_slice(),
+        prereqs.as_slice(),
+    )?;
+    Ok(entry_for(alloc, loading, conflicts.as_slice(), prereqs)?)
+}
+
+/// Adds the entry of a module at the end of the loaded list and writes the list, unless a conflict (51) or a prereq
+/// (52) forbids it.
 pub(crate) fn join_loaded<V: Vars>(
     alloc: Global,
     entries: &mut Vec<Loaded>,
@@ -177,16 +195,7 @@ pub(crate) fn join_loaded<V: Vars>(
     ensures listed { OnOk result (AreEntriesOf (entries_view entries.new) (V.vars env.new)) }
     ensures base { V.base env.new ≡ V.base env.old }
 {
-    let conflicts = conflict_names(alloc, loading.records.as_slice())?;
-    let prereqs = prereq_groups(alloc, loading.records.as_slice())?;
-    judge(
-        alloc,
-        entries.as_slice(),
-        loading.name.as_str(),
-        conflicts.as_slice(),
-        prereqs.as_slice(),
-    )?;
-    let entry = entry_for(alloc, loading, conflicts.as_slice(), prereqs)?;
+    let entry = allowed_entry(alloc, entries.as_slice(), loading)?;
     add_to_list(alloc, env, entries, entry)?;
     Ok(())
 }

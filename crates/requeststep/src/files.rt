@@ -16,12 +16,12 @@ ghost use Rattle.requeststep.specs.Views.{request_context_of, done_view};
 ghost use Rattle.requeststep.specs.Answers.{GivesOrRefuses};
 ghost use Rattle.requeststep.specs.Parts.{IsListedIn, TreeAnswer, entries_view, file_context, ReadsEntry, FindsLoaded, LoadedLooksAt, UnloadsFound, ReportsFound, report_mode, report_text};
 
-use crate::conditions::{is_loaded, last_meant};
 use crate::done::{Done, EvaluationSettings, Module, Move};
 use crate::entries::{join_loaded, modulepath, names_of};
 use crate::progress::Progress;
 use crate::refusal::Refusal;
 use crate::scripts::script_at;
+use conditions::{is_loaded, last_meant};
 use defaultfiles::Evaluated;
 use envloaded::{Loaded, drop_from_list};
 use envvars::Vars;

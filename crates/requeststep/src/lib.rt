@@ -6,7 +6,6 @@
 #![tactic(auto)]
 
 mod commands;
-mod conditions;
 mod done;
 mod entries;
 mod files;

@@ -10,9 +10,9 @@ ghost use Rattle.requeststep.specs.MoveViews.{move_view};
 ghost use Rattle.requeststep.specs.Views.{done_view};
 ghost use Rattle.requeststep.specs.Parts.{IsListedIn, entries_view};
 
-use crate::conditions::first_lost;
 use crate::done::{Done, Move};
 use crate::refusal::Refusal;
+use conditions::first_lost;
 use envloaded::{Loaded, copy_list};
 use std::alloc::{AllocError, Global};
 use std::snapshot::Snapshot;

@@ -21,7 +21,7 @@ returns-clause-over_tree g c = λ files listings a.
     let texts = map string_bytes c.args.texts.now in (
       ls,
       subst (λ (path : Text). Listed (HasResult c.args.settings.limits) files listings path ls) c.modulepath.ensures (c.in_ok-listings.ensures.listed files listings a),
-      ap Ok (c.in_ok-done_with_report.ensures e ∙ ap (λ (t : Text). with_report (nothing_done e) [] t) (c.as_str.ensures.value ∙ (c.in_ok-text.ensures ∙ ap (λ (vs : List code.Listing). avail_text texts (map listing_view vs)) c.as_slice.ensures.value))),
+      ap Ok (c.done_with_report.ensures e ∙ ap (λ (t : Text). with_report (nothing_done e) [] t) (c.in_ok-text.ensures ∙ ap (λ (vs : List code.Listing). avail_text texts (map listing_view vs)) c.as_slice.ensures.value)),
     )
 
 pub returns-in_err-listings-clause-failed : goal.returns-in_err-listings-clause-failed

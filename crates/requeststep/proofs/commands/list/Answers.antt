@@ -1,5 +1,4 @@
-use Rattle.std.proofs.Common.{List, [], map, string_bytes, String, Ok, ap, ◌∙◌}
-use Rattle.std.specs.declared.alloc.Global.{Global}
+use Rattle.std.proofs.Common.{List, [], map, Ok, ap, ◌∙◌}
 use Rattle.envvars.specs.Texts.{Text}
 use Rattle.envloaded.specs.Loaded.{names_of}
 use Rattle.envloaded.specs.LoadedEntries.{entry_view}
@@ -13,7 +12,5 @@ returns-clause-given g c =
     let e = g.V.Vars.vars c.args.env.now in (
       Ok (map entry_view c.in_ok-entries.entries.items),
       c.in_ok-entries.ensures.given,
-      ap Ok (c.in_ok-done_with_report.ensures e ∙ ap (λ (t : Text). with_report (nothing_done e) [] t) (c.as_str.ensures.value ∙ (c.in_ok-text.ensures
-          ∙ (ap (λ (ns : List (String Global)). loaded_text (map (λ (s : String Global). string_bytes s) ns)) c.as_slice-2.ensures.value
-          ∙ (ap loaded_text c.in_ok-names.ensures ∙ ap (λ (es : List Loaded). loaded_text (names_of (map entry_view es))) c.as_slice.ensures.value))))),
+      ap Ok (c.done_with_report.ensures e ∙ ap (λ (t : Text). with_report (nothing_done e) [] t) (c.in_ok-text.ensures ∙ ap (λ (es : List Loaded). loaded_text (names_of (map entry_view es))) c.as_slice.ensures.value)),
     )

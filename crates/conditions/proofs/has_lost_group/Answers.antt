@@ -7,8 +7,8 @@ use Rattle.std.specs.declared.vec.Vec.{Vec}
 use Rattle.std.specs.declared.string.String.{String}
 use Rattle.std.specs.declared.alloc.Global.{Global}
 use Rattle.requests.specs.Conditions.{is_met}
-use Rattle.requeststep.proofs.ListLemmas.{any_seen}
-use Rattle.requeststep.proofs.conditions.has_lost_group.Goals as goal
+use Rattle.conditions.proofs.ListLemmas.{any_seen}
+use Rattle.conditions.proofs.has_lost_group.Goals as goal
 
 pub returns : goal.returns
 returns c =

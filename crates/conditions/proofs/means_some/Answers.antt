@@ -5,8 +5,8 @@ use Rattle.modulename.specs.ModuleName.{means}
 use Rattle.envloaded.specs.Loaded.{Entry}
 use Rattle.envloaded.specs.LoadedEntries.{entry_view}
 use Rattle.envloaded.specs.declared.entry.Loaded.{Loaded}
-use Rattle.requeststep.proofs.ListLemmas.{any_seen}
-use Rattle.requeststep.proofs.conditions.means_some.Goals as goal
+use Rattle.conditions.proofs.ListLemmas.{any_seen}
+use Rattle.conditions.proofs.means_some.Goals as goal
 
 pub returns : goal.returns
 returns c =

@@ -4,8 +4,8 @@ use Rattle.std.proofs.lemmas.Iterator.{YieldsList-from_slice}
 use Rattle.envloaded.specs.Loaded.{Entry}
 use Rattle.envloaded.specs.LoadedEntries.{entry_view}
 use Rattle.envloaded.specs.declared.entry.Loaded.{Loaded}
-use Rattle.requeststep.proofs.ListLemmas.{any_seen}
-use Rattle.requeststep.proofs.conditions.is_loaded.Goals as goal
+use Rattle.conditions.proofs.ListLemmas.{any_seen}
+use Rattle.conditions.proofs.is_loaded.Goals as goal
 
 pub returns : goal.returns
 returns c =

@@ -2,7 +2,7 @@ use Rattle.std.proofs.Common.{◌≡◌, drop, map}
 use Rattle.envvars.specs.Texts.{slice_texts}
 use Rattle.envloaded.specs.LoadedEntries.{entry_view}
 use Rattle.requests.specs.Conditions.{own_conflict}
-use Rattle.requeststep.proofs.conditions.own_conflict.Given as goal
+use Rattle.conditions.proofs.own_conflict.Given as goal
 
 abbrev pub invariant-loop-name : goal.invariant-loop-name
 invariant-loop-name l =

@@ -1,6 +1,8 @@
-//! Where conflicts and prereqs are judged: which loaded modules forbid a load, and which have lost what they need.
-//! `judge` of `entries.rt` asks these in their order for a load, `refuse_lost_prereqs` of `commands.rt` for the whole
-//! request.
+//! Conflicts and prereqs of loaded modules: which of them forbid a load, and which have lost what they need (module(1)).
+//! Takes no memory and touches nothing.
+//! Used by requeststep: its `judge` asks these in their order for a load, its `Progress::end` for a whole request.
+#![tactic(auto)]
+
 ghost use Rattle.std.specs.Prelude.{◌≡◌, ◌&&◌, not, map, find, string_bytes};
 ghost use Rattle.std.specs.List.{list_any};
 ghost use Rattle.std.specs.Option.{option_map};
@@ -15,14 +17,14 @@ use envloaded::Loaded;
 use modulename::means;
 
 /// Whether a module of this full name is loaded.
-pub(crate) fn is_loaded(entries: &[Loaded], name: &str) -> bool
+pub fn is_loaded(entries: &[Loaded], name: &str) -> bool
     ensures { result ≡ has name.now (names_of (map entry_view entries.now)) }
 {
     entries.iter().any(|entry| name == entry.name.as_str())
 }
 
 /// The last loaded module that the name means.
-pub(crate) fn last_meant<'a>(entries: &'a [Loaded], name: &str) -> Option<&'a Loaded>
+pub fn last_meant<'a>(entries: &'a [Loaded], name: &str) -> Option<&'a Loaded>
     ensures { option_map (λ x. entry_view x.now) result
         ≡ last_meant name.now (map entry_view entries.entry.now) }
 {
@@ -64,7 +66,7 @@ fn means_module(names: &[String], full_name: &str) -> bool
 }
 
 /// The first loaded module, in load order, whose own conflicts name this one.
-pub(crate) fn recorded_conflict<'a>(name: &str, entries: &'a [Loaded]) -> Option<&'a Loaded>
+pub fn recorded_conflict<'a>(name: &str, entries: &'a [Loaded]) -> Option<&'a Loaded>
     ensures { option_map (λ x. entry_view x.now) result
         ≡ recorded_conflict name.now (map entry_view entries.entry.now) }
 {
@@ -74,7 +76,7 @@ pub(crate) fn recorded_conflict<'a>(name: &str, entries: &'a [Loaded]) -> Option
 }
 
 /// The first loaded module that one of the names means: the names in order, and for each the modules in load order.
-pub(crate) fn own_conflict<'a>(names: &[&str], entries: &'a [Loaded]) -> Option<&'a Loaded>
+pub fn own_conflict<'a>(names: &[&str], entries: &'a [Loaded]) -> Option<&'a Loaded>
     ensures { option_map (λ x. entry_view x.now) result
         ≡ own_conflict (slice_texts names.now) (map entry_view entries.entry.now) }
 {
@@ -87,10 +89,7 @@ pub(crate) fn own_conflict<'a>(names: &[&str], entries: &'a [Loaded]) -> Option<
 }
 
 /// The first group of which no name means a loaded module.
-pub(crate) fn missing_group<'a>(
-    groups: &'a [Vec<String>],
-    entries: &[Loaded],
-) -> Option<&'a Vec<String>>
+pub fn missing_group<'a>(groups: &'a [Vec<String>], entries: &[Loaded]) -> Option<&'a Vec<String>>
     ensures { option_map (λ x. texts_in x.now) result
         ≡ missing_group (map texts_in groups.entry.now) (map entry_view entries.now) }
 {
@@ -116,7 +115,7 @@ fn has_lost(before: &[Loaded], after: &[Loaded], entry: &Loaded) -> bool
 }
 
 /// The first module in load order that has lost what it needs.
-pub(crate) fn first_lost<'a>(before: &[Loaded], after: &'a [Loaded]) -> Option<&'a Loaded>
+pub fn first_lost<'a>(before: &[Loaded], after: &'a [Loaded]) -> Option<&'a Loaded>
     ensures { option_map (λ x. entry_view x.now) result
         ≡ find (has_lost (map entry_view before.now) (map entry_view after.entry.now)) (map entry_view after.entry.now) }
 {

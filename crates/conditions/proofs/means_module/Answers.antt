@@ -5,8 +5,8 @@ use Rattle.modulename.specs.ModuleName.{means}
 use Rattle.envvars.specs.Texts.{Text}
 use Rattle.std.specs.declared.string.String.{String}
 use Rattle.std.specs.declared.alloc.Global.{Global}
-use Rattle.requeststep.proofs.ListLemmas.{any_seen}
-use Rattle.requeststep.proofs.conditions.means_module.Goals as goal
+use Rattle.conditions.proofs.ListLemmas.{any_seen}
+use Rattle.conditions.proofs.means_module.Goals as goal
 
 pub returns : goal.returns
 returns c =

@@ -5,8 +5,8 @@ use Rattle.modulename.specs.ModuleName.{means}
 use Rattle.envloaded.specs.Loaded.{Entry}
 use Rattle.envloaded.specs.LoadedEntries.{entry_view}
 use Rattle.envloaded.specs.declared.entry.Loaded.{Loaded}
-use Rattle.requeststep.proofs.ListLemmas.{find_seen, map-reverse}
-use Rattle.requeststep.proofs.conditions.last_meant.Goals as goal
+use Rattle.conditions.proofs.ListLemmas.{find_seen, map-reverse}
+use Rattle.conditions.proofs.last_meant.Goals as goal
 
 pub returns : goal.returns
 returns c =

@@ -7,8 +7,8 @@ use Rattle.envvars.specs.Texts.{texts_in}
 use Rattle.envloaded.specs.Loaded.{Entry}
 use Rattle.envloaded.specs.LoadedEntries.{entry_view}
 use Rattle.envloaded.specs.declared.entry.Loaded.{Loaded}
-use Rattle.requeststep.proofs.ListLemmas.{find_seen}
-use Rattle.requeststep.proofs.conditions.recorded_conflict.Goals as goal
+use Rattle.conditions.proofs.ListLemmas.{find_seen}
+use Rattle.conditions.proofs.recorded_conflict.Goals as goal
 
 pub returns : goal.returns
 returns c =

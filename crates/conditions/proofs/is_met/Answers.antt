@@ -7,8 +7,8 @@ use Rattle.envvars.specs.Texts.{Text}
 use Rattle.envloaded.specs.LoadedEntries.{entry_view}
 use Rattle.std.specs.declared.string.String.{String}
 use Rattle.std.specs.declared.alloc.Global.{Global}
-use Rattle.requeststep.proofs.ListLemmas.{any_seen}
-use Rattle.requeststep.proofs.conditions.is_met.Goals as goal
+use Rattle.conditions.proofs.ListLemmas.{any_seen}
+use Rattle.conditions.proofs.is_met.Goals as goal
 
 pub returns : goal.returns
 returns c =

@@ -4,8 +4,8 @@ use Rattle.std.proofs.lemmas.Iterator.{YieldsList-from_slice}
 use Rattle.envloaded.specs.LoadedEntries.{entry_view}
 use Rattle.envloaded.specs.declared.entry.Loaded.{Loaded}
 use Rattle.requests.specs.Conditions.{has_lost}
-use Rattle.requeststep.proofs.ListLemmas.{find_seen}
-use Rattle.requeststep.proofs.conditions.first_lost.Goals as goal
+use Rattle.conditions.proofs.ListLemmas.{find_seen}
+use Rattle.conditions.proofs.first_lost.Goals as goal
 
 pub returns : goal.returns
 returns c =
