@@ -6,8 +6,10 @@
 mod answers;
 mod conflicts;
 mod families;
+mod keys;
 mod modules;
 mod names;
+mod once;
 mod table;
 #[cfg(test)]
 mod tests;
@@ -15,4 +17,4 @@ mod users;
 mod variables;
 mod ways;
 
-pub use answers::{Clash, clashes};
+pub use answers::{Clash, FoundClashes, clashes};

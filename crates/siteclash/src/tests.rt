@@ -101,7 +101,7 @@ fn answer_text(alloc: Global, answer: &Option<Clash>) -> Result<String, AllocErr
 fn found(alloc: Global, texts: &str) -> Result<String, AllocError> {
     let modules = modules_of(alloc, texts)?;
     let mut text = String::new(alloc);
-    for answer in &clashes(alloc, modules.as_slice())? {
+    for answer in &clashes(alloc, modules.as_slice())?.answers {
         if !text.is_empty() {
             text.push_str(",")?;
         }
@@ -173,7 +173,7 @@ fn clashing_versions(alloc: Global, words: &str) -> Result<usize, AllocError> {
         let name = format!(in alloc; "m/{number}")?;
         modules.push(module(alloc, name.as_str(), "/m", words)?)?;
     }
-    let answers = clashes(alloc, modules.as_slice())?;
+    let answers = clashes(alloc, modules.as_slice())?.answers;
     Ok(answers.iter().filter(|answer| answer.is_some()).count())
 }
 
