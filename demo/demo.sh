@@ -1,6 +1,6 @@
 #!/bin/sh
-# Shows loads, a switch, a check and unloads over the modulefiles beside this file, in this shell, with the product
-# that is installed below the directory that is named.
+# Shows loads, a switch, a check, unloads and an audit over the modulefiles beside this file, in this shell, with the
+# product that is installed below the directory that is named.
 set -eu
 
 PRODUCT=$(cd "$1" && pwd)
@@ -55,3 +55,7 @@ echo
 
 run module unload hello greet
 show 'after module unload hello greet'
+
+# Which of these modules are certified, and why the others aren't. The status is 1 where one isn't.
+echo '$ modaudit'
+"$PRODUCT/bin/modaudit" 2>&1 || true

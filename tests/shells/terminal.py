@@ -261,10 +261,11 @@ def add(shell, prefixes):
         at.until(lambda: content(asked).endswith(wanted), "the words of a completed avail")
         at.close()
 
-    @named("completes the name of a shell behind modcheck, and nothing behind that")
-    def completes_a_shell(folder):
+    def completes_behind(folder, name, rows):
+        """What is typed behind the name of a program, with a tabulator at its end, is completed to these words. A slash at
+        the end of one doesn't count: zsh takes it away where the line ends."""
         _, at, place = start(folder, STARTS.get(shell.title, []))
-        program, given = os.path.join(place, "bin", "modcheck"), os.path.join(place, "given")
+        program, given = os.path.join(place, "bin", name), os.path.join(place, "given")
         os.mkdir(os.path.dirname(program))
         with open(program, "w") as file:
             file.write(f"#!/bin/sh\nprintf '%s,' \"$@\" >> '{given}'\n")
@@ -274,16 +275,25 @@ def add(shell, prefixes):
         at.send(adds.format(there) + "\n")
         at.settle(0.1)
         wanted = b""
-        for keys, words in (("modcheck tc", b"tcsh,"), ("modcheck fi", b"fish,"), ("modcheck bash rea", b"bash,rea,")):
-            at.send(keys)
+        for keys, words in rows:
+            at.send(f"{name} {keys}")
             at.settle(0.1)
             at.send("\t")
             at.settle(0.3)
             at.send("\n")
             wanted += words
-            at.until(lambda wanted=wanted: content(given) == wanted, f"the words of {keys!r}")
+            at.until(lambda wanted=wanted: content(given).replace(b"/,", b",") == wanted, f"the words of {keys!r}")
             at.settle(0.1)
         at.close()
+
+    @named("completes the name of a shell behind modcheck, and nothing behind that")
+    def completes_a_shell(folder):
+        completes_behind(folder, "modcheck", (("tc", b"tcsh,"), ("fi", b"fish,"), ("bash rea", b"bash,rea,")))
+
+    @named("completes options and directories behind modaudit")
+    def completes_options(folder):
+        rows = (("--q", b"--quiet,"), ("--j", b"--json,"), ("bi", b"bin,"), ("--quiet bi", b"--quiet,bin,"))
+        completes_behind(folder, "modaudit", rows)
 
     if shell.title == "zsh":
 

@@ -9,13 +9,15 @@ use Rattle.certificate.specs.Certificates.{certified, certificate}
 use Rattle.certificate.specs.Laws.{CertifiedAreExact}
 use Rattle.certificate.specs.UseViews.{used_view}
 use Rattle.sitelaws.specs.Sites.{Site, file_of, AreModulesIn, Evaluated, plain_of, AreEvaluated}
-use Rattle.sitelaws.specs.Laws.{ModulesFound, PlainModulesFound, CertificateHolds, SiteSessionsReturn}
-use Rattle.siteclash.specs.ClashAnswers.{AreAnswers}
+use Rattle.sitelaws.specs.Laws.{ModulesFound, PlainModulesFound, AuditsHold}
+use Rattle.siteclash.specs.ClashAnswers.{AreAnswers, without_clashes}
+use Rattle.siteclash.specs.EachOnce.{each_once}
+use Rattle.siteclash.proofs.OnceLemmas.{in_once}
 use Rattle.sitewalk.specs.declared.walk.Evaluation.{Evaluation}
 use Rattle.sitewalk.specs.Walks.{IsWalk, AreEvaluations}
 use Rattle.siteaudit.specs.declared.auditing.AuditedModule.{AuditedModule}
 use Rattle.siteaudit.specs.Audits.{audited_file, AllStand, certified_files}
-use Rattle.siteaudit.specs.Findings.{Shown, judged_of, steps_in, settled, without_clashes, AreStandings}
+use Rattle.siteaudit.specs.Findings.{Shown, judged_of, steps_in, settled, AreStandings}
 use Rattle.siteaudit.specs.Parts.{PartsAreAudits}
 use Rattle.siteaudit.proofs.AmongLemmas.{among_map}
 use Rattle.siteaudit.proofs.Settled.{IsJudging, steps_are, certified_are, all_stand, files_are, certified_files_are}
@@ -28,7 +30,7 @@ pub record Laws : Type 0 where
   pub exact : CertifiedAreExact
   pub modules : ModulesFound
   pub plain : PlainModulesFound
-  pub sessions : SiteSessionsReturn
+  pub audits : AuditsHold
 
 abbrev plain_in : List Evaluated → List Module
 plain_in outs = filter_map plain_of outs
@@ -41,7 +43,7 @@ evaluated_all laws site dirs outs w = record { modules = λ m. laws.modules site
 record AreJudgedRight (site : Site) (ms : List Module) (outs : List Evaluated) (modules : List AuditedModule) (found : List UsedVariable) : Type 0 where
   files : map audited_file modules ≡ map (λ (o : Evaluated). o.0) outs
   standing : AllStand site ms modules
-  uses : found ≡ certificate ms
+  uses : found ≡ each_once (certificate ms)
   certain : certified_files modules ≡ map file_of (certified ms)
 
 judged_right : Laws → (site : Site) (es : List Evaluation) (outs : List Evaluated) (modules : List AuditedModule) (uses : List UsedVariable) → AreEvaluated site outs → AreEvaluations es outs → AreStandings es modules uses
@@ -61,7 +63,7 @@ judged_right laws site es outs modules uses all h s =
       files = ap (map audited_file) settled_is ∙ files_are shown outs s.answers h';
       standing = subst (AllStand site ms) (sym settled_is)
           (all_stand site ms shown outs s.answers judging h' s.by_themselves.right shown_answers (λ o a. (all.evaluated o a, (all.modules o.0).0 (among_out o outs a))));
-      uses = s.certified ∙ ap used_by_modules (ap (λ (l : List Module). without_clashes l s.answers) step ∙ sure);
+      uses = s.certified ∙ ap (λ (l : List Module). each_once (used_by_modules l)) (ap (λ (l : List Module). without_clashes l s.answers) step ∙ sure);
       certain = ap certified_files settled_is ∙ (certified_files_are (filter is_in_step ms) shown s.answers s.by_themselves.right shown_answers
           ∙ ap (map file_of) (ap (λ (l : List Module). without_clashes l s.answers) steps ∙ sure));
     }
@@ -100,6 +102,7 @@ parts_are_audits laws site walk found (outs, w, h) parts =
       record {
         certain = certified ms;
         exact = sym right.certain;
-        holds = subst (CertificateHolds site (certified ms)) (sym right.uses) (laws.sessions site ms (laws.plain site outs all));
+        holds = laws.audits site ms (certified ms) (map used_view found.certificate.items) (laws.plain site outs all) (λ m a. (laws.exact ms m).0 a)
+            (λ p a. subst (IsAmong p) (sym right.uses) (in_once p (certificate ms) a));
       },
     )

@@ -23,7 +23,7 @@ use Rattle.certificate.specs.Laws.{CertifiedAreExact}
 use Rattle.certificate.proofs.UsedLemmas.{by_test, by_cases}
 use Rattle.sitelaws.specs.Sites.{Site, SiteModule, file_of, with_records, EvaluatesTo, HasPlainRecords, IsOfSite, ArePlainModules, Evaluated, plain_by, plain_of}
 use Rattle.sitelaws.specs.Standings.{IsUsedTwice}
-use Rattle.siteclash.specs.ClashAnswers.{IsAnswer, AreAnswers}
+use Rattle.siteclash.specs.ClashAnswers.{IsAnswer, AreAnswers, without_clashes}
 use Rattle.siteclash.specs.declared.answers.Clash.{Clash}
 use Rattle.sitewalk.specs.Walks.{IsOutcome, AreEvaluations}
 use Rattle.siteaudit.specs.declared.standing.Standing.{Standing}
@@ -31,7 +31,7 @@ use Rattle.siteaudit.specs.declared.standing.Standing.TheVariants.{Certified, As
 use Rattle.siteaudit.specs.declared.standing.Finding.{Finding}
 use Rattle.siteaudit.specs.declared.standing.Finding.TheVariants.{Stands, InStep}
 use Rattle.siteaudit.specs.Audits.{StandsAs, audited_file, AllStand, is_certified, certified_files}
-use Rattle.siteaudit.specs.Findings.{IsFindingOf, IsFinding, standing_of, steps_of, evaluated_file, Shown, judged_of, steps_in, IsShown, standing_by, standing_with, answers_left, settled, without_clashes}
+use Rattle.siteaudit.specs.Findings.{IsFindingOf, IsFinding, standing_of, steps_of, evaluated_file, Shown, judged_of, steps_in, IsShown, standing_by, standing_with, answers_left, settled}
 use Rattle.siteaudit.proofs.Evaluations.{same_file}
 
 -- ---- tests

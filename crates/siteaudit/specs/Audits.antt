@@ -24,6 +24,7 @@ use Rattle.sitelaws.specs.Sites.{Site, SiteModule, file_of, EvaluatesTo, IsDirec
 use Rattle.sitelaws.specs.Standings as standings
 use Rattle.sitelaws.specs.Standings.{HasStanding}
 use Rattle.sitelaws.specs.Laws.{CertificateHolds}
+use Rattle.siteclash.specs.EachOnce.{each_once}
 use Rattle.siteaudit.specs.declared.standing.Standing.{Standing}
 use Rattle.siteaudit.specs.declared.standing.Standing.TheVariants.{Certified, Asks, OneWay, OutOfStep, Clashes, Refused}
 use Rattle.siteaudit.specs.declared.auditing.AuditedModule.{AuditedModule}
@@ -116,7 +117,7 @@ pub record IsUnknown (site : Site) (mention : Mention) : Type 0 where
 -- ---- the whole
 
 -- What was found is an audit of the site. It has each module in each directory, in their order, with how it stands; the
--- certificate of its certified modules; each bad default file; the names that mean no module; and where the environment
+-- certificate of its certified modules, each use once; each bad default file; the names that mean no module; and where the environment
 -- at hand doesn't agree with the certificate, and why.
 pub record IsAudit (site : Site) (found : SiteAudit) : Type 0 where
   pub plain : List Module
@@ -125,7 +126,7 @@ pub record IsAudit (site : Site) (found : SiteAudit) : Type 0 where
   pub directories : AreDirectories site dirs
   pub modules : AreModulesIn site dirs (map audited_file found.modules.items)
   pub standing : AllStand site plain found.modules.items
-  pub certificate : map used_view found.certificate.items ≡ certificate plain
+  pub certificate : map used_view found.certificate.items ≡ each_once (certificate plain)
   pub bad_default_files : (path : Text) → IsAmong path (texts_in found.bad_default_files) ↔ IsBadDefaultFile site path
   pub unknown_names : (mention : Mention) → IsAmong mention (map mention_of found.unknown_names.items)
       ↔ IsUnknown site mention

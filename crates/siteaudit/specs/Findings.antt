@@ -15,7 +15,8 @@ use Rattle.certificate.specs.UseViews.{use_view}
 use Rattle.sitelaws.specs.Sites.{SiteModule, with_records}
 use Rattle.sitelaws.specs.Standings.{IsFirstOneWay, IsUsedTwice}
 use Rattle.siteclash.specs.declared.answers.Clash.{Clash}
-use Rattle.siteclash.specs.ClashAnswers.{AreAnswers}
+use Rattle.siteclash.specs.ClashAnswers.{AreAnswers, without_clashes}
+use Rattle.siteclash.specs.EachOnce.{each_once}
 use Rattle.sitewalk.specs.declared.walk.Evaluation.{Evaluation}
 use Rattle.siteaudit.specs.declared.standing.UnlikeUses.{UnlikeUses}
 use Rattle.siteaudit.specs.declared.standing.Standing.{Standing}
@@ -138,19 +139,8 @@ abbrev pub settled : List Judged → List (Option Clash) → List AuditedModule
 settled [] answers = []
 settled (judged ∷ rest) answers = module_with judged answers ∷ settled rest (answers_left judged.standing answers)
 
--- the module, where its answer is that it clashes with none
-abbrev pub without_clash : Module → Option Clash → List Module
-without_clash m None = m ∷ []
-without_clash m (Some clash) = []
-
--- the modules whose answers are that they clash with none
-abbrev pub without_clashes : List Module → List (Option Clash) → List Module
-without_clashes [] answers = []
-without_clashes (m ∷ ms) [] = []
-without_clashes (m ∷ ms) (answer ∷ answers) = without_clash m answer ++ without_clashes ms answers
-
--- The modules of some evaluations stand so, and these are the uses of those that are certified: by what each shows by
--- itself, and by what is answered of the clashes of those that are plain and in step.
+-- The modules of some evaluations stand so, and these are the uses of those that are certified, each once: by what each
+-- shows by itself, and by what is answered of the clashes of those that are plain and in step.
 pub record AreStandings (evaluations : List Evaluation) (modules : List AuditedModule) (uses : List UsedVariable)
     : Type 0 where
   pub judged : List Judged
@@ -159,4 +149,4 @@ pub record AreStandings (evaluations : List Evaluation) (modules : List AuditedM
   pub by_themselves : AreJudged evaluations judged in_step
   pub answered : AreAnswers in_step in_step answers
   pub settled : modules ≡ settled judged answers
-  pub certified : uses ≡ used_by_modules (without_clashes in_step answers)
+  pub certified : uses ≡ each_once (used_by_modules (without_clashes in_step answers))

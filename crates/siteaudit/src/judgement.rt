@@ -2,16 +2,15 @@
 ghost use Rattle.std.specs.Prelude.{◌≡◌, ◌++◌, [], ◌∷◌, map, IfOk, OnOk};
 ghost use Rattle.std.specs.Vec.Iter.{into_iter_items};
 ghost use Rattle.requeststep.specs.MoveViews.{module_view};
-ghost use Rattle.certificate.specs.RecordUses.{used_by_modules};
 ghost use Rattle.certificate.specs.UseViews.{used_view};
 ghost use Rattle.siteaudit.specs.Findings as findings;
-ghost use Rattle.siteaudit.specs.Findings.{standing_of, steps_of, AddsJudged, AreJudged, AreStandings, answers_left, settled, without_clash, without_clashes};
+ghost use Rattle.siteaudit.specs.Findings.{standing_of, steps_of, AddsJudged, AreJudged, AreStandings, answers_left, settled};
 
 use crate::auditing::AuditedModule;
 use crate::standing::{Finding, Standing, judge};
-use certificate::{UsedVariable, used_by};
+use certificate::UsedVariable;
 use requeststep::Module;
-use siteclash::{Clash, clashes};
+use siteclash::{Clash, FoundClashes, clashes};
 use sitewalk::Evaluation;
 use std::alloc::{AllocError, Global};
 use std::vec::IntoIter;
@@ -164,39 +163,6 @@ pub(crate) fn settle(
     Ok(modules)
 }
 
-/// Adds what a module uses, where its answer is that it clashes with none.
-fn add_uses(
-    alloc: Global,
-    module: &Module,
-    answer: &Option<Clash>,
-    used: &mut Vec<UsedVariable>,
-) -> Result<(), AllocError>
-    ensures { OnOk result (map used_view used.new.items
-        ≡ map used_view used.old.items ++ used_by_modules (without_clash (module_view module.now) answer.now)) }
-{
-    if answer.is_none() {
-        let mut own = used_by(alloc, module.records.as_slice())?;
-        used.append(&mut own)?;
-    }
-    Ok(())
-}
-
-/// What those of the modules use whose answers are that they clash with none.
-pub(crate) fn uses_without_clash(
-    alloc: Global,
-    in_step: &[Module],
-    answers: &[Option<Clash>],
-) -> Result<Vec<UsedVariable>, AllocError>
-    ensures { IfOk result (λ used. map used_view used.items
-        ≡ used_by_modules (without_clashes (map module_view in_step.now) answers.now)) }
-{
-    let mut used = Vec::new(alloc);
-    for (module, answer) in in_step.iter().zip(answers) {
-        add_uses(alloc, module, answer, &mut used)?;
-    }
-    Ok(used)
-}
-
 /// How the modules of a site stand, and what the certified ones use.
 #[derive(Drop)]
 pub(crate) struct Standings {
@@ -213,11 +179,12 @@ pub(crate) fn judge_modules(
         AreStandings evaluations.items found.modules.items (map used_view found.certificate.items)) }
 {
     let Judgement { judged, in_step } = judge_all(alloc, evaluations)?;
-    let answers = clashes(alloc, in_step.as_slice())?;
-    let certificate = uses_without_clash(alloc, in_step.as_slice(), answers.as_slice())?;
-    let modules = settle(alloc, judged, answers)?;
+    let FoundClashes {
+        answers,
+        unclashed_uses,
+    } = clashes(alloc, in_step.as_slice())?;
     Ok(Standings {
-        modules,
-        certificate,
+        modules: settle(alloc, judged, answers)?,
+        certificate: unclashed_uses,
     })
 }

@@ -3,3 +3,4 @@ mod ClashLemmas
 mod ConflictLemmas
 mod TableLemmas
 mod AnswerLemmas
+pub mod OnceLemmas

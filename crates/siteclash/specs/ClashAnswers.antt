@@ -1,5 +1,5 @@
 -- What is answered of the clashes of modules with one another (own).
-use Rattle.std.specs.Prelude.{◌≡◌, true, List, [], ◌∷◌, Option, Some, None, string_bytes}
+use Rattle.std.specs.Prelude.{◌≡◌, true, List, [], ◌∷◌, ◌++◌, Option, Some, None, string_bytes}
 use Rattle.envvars.specs.Texts.{Text}
 use Rattle.reversal.specs.Moves.{Module}
 use Rattle.reversal.specs.VariableUses.{VariableUse}
@@ -35,3 +35,14 @@ AreAnswers ms [] [] = Unit {0}
 AreAnswers ms [] (a ∷ answers) = ⊥
 AreAnswers ms (m ∷ rest) [] = ⊥
 AreAnswers ms (m ∷ rest) (a ∷ answers) = IsAnswer ms m a × AreAnswers ms rest answers
+
+-- the module, where its answer is that it clashes with none
+abbrev pub without_clash : Module → Option Clash → List Module
+without_clash m None = m ∷ []
+without_clash m (Some clash) = []
+
+-- the modules whose answers are that they clash with none
+abbrev pub without_clashes : List Module → List (Option Clash) → List Module
+without_clashes [] answers = []
+without_clashes (m ∷ ms) [] = []
+without_clashes (m ∷ ms) (answer ∷ answers) = without_clash m answer ++ without_clashes ms answers

@@ -1,4 +1,5 @@
 pub mod ClashAnswers
+pub mod EachOnce
 pub mod Users
 pub mod UserViews
 pub mod Families
@@ -8,3 +9,4 @@ pub mod Conflicts
 pub mod UsingModules
 pub mod ClashingUsers
 pub mod UseKeys
+pub mod Once

@@ -1,8 +1,10 @@
 -- The keys of uses in the code, as the definitions see them (own).
 use Rattle.std.specs.Prelude.{Some, None}
 use Rattle.reversal.specs.VariableUses.{VariableUse, Fixed, Pathed, Stacked}
-use Rattle.siteclash.specs.declared.variables.UseKey.{UseKey}
-use Rattle.siteclash.specs.declared.variables.UseKey.TheVariants as keys
+use Rattle.certificate.specs.RecordUses.{UsedVariable}
+use Rattle.siteclash.specs.declared.keys.UseKey.{UseKey}
+use Rattle.siteclash.specs.declared.keys.UseKey.TheVariants as keys
+use Rattle.siteclash.specs.declared.keys.UsedKey.{UsedKey}
 
 -- the use of a key
 abbrev pub key_view : UseKey → VariableUse
@@ -10,3 +12,7 @@ key_view keys.Set = Fixed None
 key_view (keys.Unset value) = Fixed (Some value.now)
 key_view (keys.Path delim) = Pathed delim
 key_view keys.Stack = Stacked
+
+-- the variable of a key, and the use of it
+abbrev pub used_key_view : UsedKey → UsedVariable
+used_key_view key = (key.variable.now, key_view key.used)

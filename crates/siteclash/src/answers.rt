@@ -1,8 +1,11 @@
 //! A clash of each of some modules with another one of them.
-ghost use Rattle.std.specs.Prelude.{List, map, IfOk};
+ghost use Rattle.std.specs.Prelude.{◌≡◌, List, map, IfOk};
 ghost use Rattle.reversal.specs.Moves as moves;
 ghost use Rattle.requeststep.specs.MoveViews.{module_view};
-ghost use Rattle.siteclash.specs.ClashAnswers.{IsAnswer, AreAnswers};
+ghost use Rattle.certificate.specs.RecordUses.{used_by_modules};
+ghost use Rattle.certificate.specs.UseViews.{used_view};
+ghost use Rattle.siteclash.specs.ClashAnswers.{IsAnswer, AreAnswers, without_clashes};
+ghost use Rattle.siteclash.specs.EachOnce.{each_once};
 ghost use Rattle.siteclash.specs.Users.{AreUsersOf, uses_of_modules};
 ghost use Rattle.siteclash.specs.UserViews.{user_view};
 ghost use Rattle.siteclash.specs.Tables.{users_at};
@@ -11,9 +14,10 @@ ghost use Rattle.siteclash.specs.ClashingUsers.{IsClashBetween};
 
 use crate::conflicts::conflict_names;
 use crate::modules::{UsingModule, using_modules};
+use crate::once::unclashed_uses;
 use crate::table::VariableTable;
 use crate::users::ClashingUsers;
-use certificate::VariableUse;
+use certificate::{UsedVariable, VariableUse};
 use requeststep::Module;
 use std::alloc::{AllocError, Global};
 
@@ -79,14 +83,30 @@ fn answers<'a>(
     Ok(found)
 }
 
-/// For each of the modules a clash with another one of them, in their order; `None` where it clashes with none.
+/// What is found of the clashes of some modules with one another.
+#[derive(Debug, Drop)]
+pub struct FoundClashes {
+    /// For each of the modules, in their order, a clash with another one of them; `None` where it clashes with none.
+    pub answers: Vec<Option<Clash>>,
+    /// What those use that clash with none: each use once, in the order in which they first stand.
+    pub unclashed_uses: Vec<UsedVariable>,
+}
+
+/// The clashes of modules with one another, and what those use that have none.
 ///
 /// The only error is want of memory.
-pub fn clashes(alloc: Global, modules: &[Module]) -> Result<Vec<Option<Clash>>, AllocError>
-    ensures { IfOk result (λ found.
-        AreAnswers (map module_view modules.now) (map module_view modules.now) found.items) }
+pub fn clashes(alloc: Global, modules: &[Module]) -> Result<FoundClashes, AllocError>
+    ensures answers { IfOk result (λ found.
+        AreAnswers (map module_view modules.now) (map module_view modules.now) found.answers.items) }
+    ensures uses { IfOk result (λ found. map used_view found.unclashed_uses.items
+        ≡ each_once (used_by_modules (without_clashes (map module_view modules.now) found.answers.items))) }
 {
     let users = using_modules(alloc, modules)?;
     let table = VariableTable::of(alloc, users.as_slice())?;
-    answers(alloc, &table, users.as_slice())
+    let answers = answers(alloc, &table, users.as_slice())?;
+    let unclashed_uses = unclashed_uses(alloc, users.as_slice(), answers.as_slice())?;
+    Ok(FoundClashes {
+        answers,
+        unclashed_uses,
+    })
 }

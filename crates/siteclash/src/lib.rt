@@ -6,11 +6,13 @@
 mod answers;
 mod conflicts;
 mod families;
+mod keys;
 mod modules;
 mod names;
+mod once;
 mod table;
 mod users;
 mod variables;
 mod ways;
 
-pub use answers::{Clash, clashes};
+pub use answers::{Clash, FoundClashes, clashes};

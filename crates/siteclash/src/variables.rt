@@ -6,39 +6,14 @@ ghost use Rattle.certificate.specs.UseViews.{use_view};
 ghost use Rattle.siteclash.specs.Users.{HasOneMore, IsClashAmong};
 ghost use Rattle.siteclash.specs.UserViews.{user_view};
 ghost use Rattle.siteclash.specs.Ways.{users_in};
-ghost use Rattle.siteclash.specs.UseKeys.{key_view};
 
 use crate::conflicts::Seeker;
+use crate::keys::{UseKey, key_of};
 use crate::users::User;
 use crate::ways::Way;
 use certificate::VariableUse;
 use indexmap::IndexMap;
 use std::alloc::{AllocError, Global};
-
-/// A use, as a key.
-#[derive(Clone, Copy, PartialEq, Eq, Hash)]
-enum UseKey<'a> {
-    /// The variable is set.
-    Set,
-    /// It is unset, and has this value else.
-    Unset(&'a str),
-    /// It is a path with this delimiter.
-    Path(char),
-    /// It is a stack.
-    Stack,
-}
-
-/// The key of a use.
-fn key_of(used: &VariableUse) -> UseKey<'_>
-    ensures { key_view result ≡ use_view used.entry.now }
-{
-    match used {
-        VariableUse::Fixed(None) => UseKey::Set,
-        VariableUse::Fixed(Some(value)) => UseKey::Unset(value.as_str()),
-        VariableUse::Pathed(delim) => UseKey::Path(delim.character),
-        VariableUse::Stacked => UseKey::Stack,
-    }
-}
 
 /// The users of one variable, by the ways in which they use it.
 #[derive(Drop)]

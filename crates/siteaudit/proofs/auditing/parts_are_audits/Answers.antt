@@ -8,5 +8,5 @@ returns c =
       exact = c.certified.ensures;
       modules = c.walks.ensures.modules;
       plain = c.walks.ensures.plain;
-      sessions = c.sessions_return.ensures.certificate;
+      audits = c.sessions_return.ensures.audits;
     })
