@@ -1,20 +1,17 @@
 -- Steps that went on, and the text of a module that was found.
-use Rattle.std.proofs.Common.{◌≡◌, inl, inr, true, false, Bool, List, [], ◌∷◌, Option, Some, None, Result, Ok, Err, refl, subst, sym}
-use Rattle.modulename.specs.ModuleName.{Text, is_module_name}
+use Rattle.std.proofs.Common.{◌≡◌, Result, Ok, subst, sym}
+use Rattle.modulename.specs.ModuleName.{Text}
 use Rattle.envvars.specs.Environment.{Environment}
-use Rattle.filetree.specs.Agreement.{Files, Listings}
-use Rattle.filetree.specs.Modulefiles.{FileContent, absent, no_cookie, not_utf8, script, modulefile, directories, path_of}
-use Rattle.filetree.specs.Relations.{Is, After, Then, If}
+use Rattle.filetree.specs.Modulefiles.{FileContent, absent, no_cookie, not_utf8, script, modulefile}
 use Rattle.defaultfiles.specs.DefaultFileResults.{HasResult}
-use Rattle.modulefile.specs.Results.{◌>>=◌}
 use Rattle.modulefile.specs.Answers.{FileContext}
 use Rattle.modulefile.specs.Files.{Ran, RunsFile}
-use Rattle.search.specs.Reasons.{bad_name, not_found}
-use Rattle.search.specs.DefaultFiles.{DefaultFileResult}
-use Rattle.search.specs.Found.{Default, FoundModule, read, ModuleAt, FoundAlong, Found}
-use Rattle.requests.specs.Refusals.{refused_as, unless, RefusedAs}
+use Rattle.search.specs.Found.{FoundModule, Found}
+use Rattle.requests.specs.Refusals.{refused_as, RefusedAs}
 use Rattle.requests.specs.Reasons.{missed, file_refused}
 use Rattle.requests.specs.Steps.{RequestContext, Finds, modulepath, script_at}
+use Rattle.requests.proofs.Bound.{ok_of_refused_as}
+use Rattle.requests.proofs.FoundText.{found_text}
 
 pub ran_ok : (s : RequestContext) (c : FileContext) (text : Text) (ran : Ran) → RefusedAs file_refused (RunsFile s.limits c text) (Ok ran) → RunsFile s.limits c text (Ok ran)
 ran_ok s c text ran h = subst (RunsFile s.limits c text) (ok_of_refused_as file_refused h.0 ran (sym h.2)) h.1
