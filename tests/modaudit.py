@@ -401,16 +401,12 @@ STARTS = [
     ("pushenv V z", {"V": "1", "__MODULES_PUSHENV_V": "x&1:&0", **LOADED}, []),
     ("pushenv V z", {"V": "1", "__MODULES_PUSHENV_V": "x&1:y&0", **TWO}, []),
     ("pushenv V z", {"V": "1", "__MODULES_PUSHENV_V": "x&1:y&0", **LOADED}, [NO_STACK]),
-    ("pushenv V z", {"V": "1", "__MODULES_PUSHENV_V": "x&1:x&0", **LOADED}, [NO_STACK]),
     ("pushenv V z", {"V": "2", "__MODULES_PUSHENV_V": "x&1", **LOADED}, [NO_STACK]),
     ("pushenv V z", {"__MODULES_PUSHENV_V": "x&1", **LOADED}, [NO_STACK]),
     ("pushenv V z", {"V": "1", "__MODULES_PUSHENV_V": "x&1"}, [NO_STACK]),
     ("pushenv V z", {"V": "1", "__MODULES_PUSHENV_V": "&1"}, [NO_STACK]),
-    ("pushenv V z", {"V": "1", "__MODULES_PUSHENV_V": "1"}, [NO_STACK]),
-    ("pushenv V z", {"V": "", "__MODULES_PUSHENV_V": ""}, [NO_STACK]),
     # The loaded modules.
     ("append-path V /z", LOADED, []),
-    ("setenv V x", {"LOADEDMODULES": "x:x", "_LMFILES_": "/o/x:/o/x"}, [NO_LIST]),
     ("setenv V x", {"__MODULES_LMCONFLICT": "x&z", **LOADED}, []),
     ("setenv V x", {"__MODULES_LMCONFLICT": "y&z", **LOADED}, [NO_LIST]),
     ("setenv V x", {"__MODULES_LMPREREQ": "x&z"}, [NO_LIST]),
@@ -426,6 +422,17 @@ def starts_that_agree_and_that_do_not(folder):
         names = ["# a/1 (/m/a/1): conflict names no module: 'z'"] if text == "conflict z" else []
         site.says(["a/1\tcertified\t\t/m/a/1", "# 1 certified of 1", *names, *remarks])
         site.clear()
+
+
+@case
+def starts_that_no_module_can_be_evaluated_over(folder):
+    """A text that is no stack refuses the modules that push onto it; one that is no list of modules, the whole audit."""
+    for text in ("x&1:x&0", "1", ""):
+        site = Site(folder, {"/m/a/1": "pushenv V z\n", "/m/b/1": "setenv W z\n"}, V="1", __MODULES_PUSHENV_V=text, **LOADED)
+        site.says(["a/1\trefused\tBad stack of 'V'\t/m/a/1", "b/1\tcertified\t\t/m/b/1", "# 1 certified of 2"])
+        site.clear()
+    twice = {"LOADEDMODULES": "x:x", "_LMFILES_": "/o/x:/o/x"}
+    Site(folder, {"/m/a/1": "setenv V x\n"}, **twice).refuses("Loaded modules are inconsistent")
 
 
 # Texts.
