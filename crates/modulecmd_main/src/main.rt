@@ -4,6 +4,7 @@
 #![tactic(auto)]
 
 use modulecmd::{DiskTree, modulecmd, process_input, write_refusal};
+use std::mem::forget;
 use std::process::ExitCode;
 
 /// Runs the command of the process's arguments, and ends with its status.
@@ -26,5 +27,7 @@ fn main(rt: HostRuntime) -> ExitCode {
         &mut out,
         &mut err,
     );
+    // The process ends: the system takes back at once what the tree holds.
+    forget(tree);
     ExitCode::from(status)
 }
