@@ -29,6 +29,18 @@ sys.path.insert(0, os.path.join(KIT, "bin"))
 import link  # noqa: E402
 import rtlib  # noqa: E402  (the kit's own module: it knows the words that a crate is proved with)
 
+below = rtlib.Crate.below
+
+
+def below_once(crate):
+    """The crates below a crate. The kit's own goes along every path of crates.txt anew, of which there are many."""
+    if not hasattr(crate, "all_below"):
+        crate.all_below = below(crate)
+    return [*crate.all_below]
+
+
+rtlib.Crate.below = below_once
+
 # The crates of the product's programs, and the programs whose name is not that of their crate.
 PRODUCT = ["modulecmd_main", "modcheck", "modaudit"]
 NAMES = {"modulecmd_main": "modulecmd"}
