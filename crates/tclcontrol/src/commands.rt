@@ -5,7 +5,7 @@ ghost use Rattle.tclrules.specs.Variables.{State};
 ghost use Rattle.tclrules.specs.Plans as plans;
 ghost use Rattle.tclrules.specs.Plans.{Bounds, Job, Next, ended, raise, sized};
 ghost use Rattle.tclrules.specs.Rules as rules;
-ghost use Rattle.tclforms.specs.Views.{simple_view};
+ghost use Rattle.tclcommands.specs.FormViews.{simple_view};
 ghost use Rattle.tclsubstitution.specs.Machine.{bounds};
 ghost use Rattle.tclsubstitution.specs.Stops.{after, stopped};
 ghost use Rattle.tclcommands.specs.Continuations.{value_text};
@@ -16,13 +16,12 @@ use crate::command_words::CommandWords;
 use crate::result_use::ResultUse;
 use std::alloc::Global;
 use tclcommands::{
-    Value, append, consult, define, exists, get, global, increase, list_append, put, set, unset,
+    Simple, Value, Variables, append, consult, define, exists, get, global, increase,
+    is_unsupported, list_append, put, set, unset,
 };
-use tclforms::{Simple, is_unsupported};
 use tclrules::{EvalFault, Host, Limits};
 use tclsubstitution::Stop;
 use tclvalue::unsupported;
-use tclvariables::Variables;
 
 /// The completion of return(n), with this result.
 fn returned(alloc: Global, text: &str) -> Stop

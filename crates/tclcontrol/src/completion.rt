@@ -12,11 +12,9 @@ ghost use Rattle.tclsubstitution.specs.Stops.{after};
 ghost use Rattle.tclcontrol.specs.Completions.{completed, loop_continuation};
 
 use std::alloc::Global;
-use tclcommands::write;
-use tclforms::outside_loop;
+use tclcommands::{Variables, outside_loop, write};
 use tclrules::{EvalFault, Limits};
 use tclsubstitution::Stop;
-use tclvariables::Variables;
 
 /// Whether a loop continues after the completion of its body: `break` ends it, `continue` doesn't.
 ///

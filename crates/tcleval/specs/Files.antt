@@ -11,7 +11,7 @@ use Rattle.tclrules.specs.Promise.{ReportsFault, texts_of}
 use Rattle.tclrules.specs.declared.outcome.Ending.{Ending}
 use Rattle.tclrules.specs.declared.outcome.EvalFault.{EvalFault}
 use Rattle.tclrules.specs.declared.outcome.EvalFault.TheVariants as fault
-use Rattle.tclsubstitution.specs.Stops.{error_or_halt}
+use Rattle.tclevaluator.specs.Stops.{error_or_halt}
 
 -- the outcome of a file that fails in this state
 abbrev pub failure_outcome : EvalFault → State → EvaluationOutcome plans.Completion

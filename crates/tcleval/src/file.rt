@@ -7,23 +7,20 @@ ghost use Rattle.tclrules.specs.Rules as rules;
 ghost use Rattle.tclrules.specs.Rules.{rule, file_ended};
 ghost use Rattle.tclrules.specs.Meaning.{line_at};
 ghost use Rattle.tclrules.specs.Promise.{Evaluates, texts_of};
-ghost use Rattle.tclsubstitution.specs.Machine.{range_text};
-ghost use Rattle.tclcache.specs.Cache.{BeginWith};
+ghost use Rattle.tclevaluator.specs.Machine.{range_text};
+ghost use Rattle.tclevaluator.specs.Cache.{BeginWith};
 ghost use Rattle.tclevaluator.specs.Continues.{Continues, bounds_of};
 ghost use Rattle.tclevaluator.specs.OnlyGrows.{OnlyGrows};
-ghost use Rattle.tclcontrol.specs.Completions.{finish, completed};
+ghost use Rattle.tclevaluator.specs.Completions.{finish, completed};
 ghost use Rattle.tcleval.specs.Files.{after_file, ReportsFailure, AnswersFile};
 
 use std::alloc::Global;
 use std::mem;
-use tclcache::Cache;
-use tclcommands::initial_variables;
-use tclcontrol::ResultUse;
-use tclevaluator::{Bounds, Evaluator, Sourced};
+use tclevaluator::{
+    Bounds, Cache, Evaluator, ResultUse, Sourced, Stop, Variables, initial_variables,
+};
 use tclrules::{Ending, EvalFault, Host, Limits};
 use tclscript::{ByteRange, Script};
-use tclsubstitution::Stop;
-use tclvariables::Variables;
 
 /// Evaluates the commands of a file in turn. The byte offset of the current one is noted, for the line of an error.
 #[tactic(none)]

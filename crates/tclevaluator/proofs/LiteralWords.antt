@@ -14,8 +14,8 @@ use Rattle.tclrules.specs.Forms as forms
 use Rattle.tclrules.specs.Forms.{core_form}
 use Rattle.tclrules.specs.Rules as rules
 use Rattle.tclrules.specs.Rules.{called, value_command, core_command}
-use Rattle.tclforms.specs.Views.{simple_view}
-use Rattle.tclforms.specs.declared.form.Simple.{Simple}
+use Rattle.tclcontrol.specs.FormViews.{simple_view}
+use Rattle.tclcontrol.specs.Simple.{Simple}
 use Rattle.tclsubstitution.specs.Machine.{range_text, bounds}
 
 -- the words of a command with this form do what the form does

@@ -28,7 +28,7 @@ use Rattle.tcloperators.specs.declared.fault.ValueFault.TheVariants as faults
 use Rattle.tclrules.specs.Rules.{parsed, core_command, body, branches, are_done, foreach_turns, assign, turn_pairs, turn, shortened, after_turn, after_next}
 use Rattle.tclrules.specs.Expressions.{decide}
 use Rattle.tclrules.specs.Forms.{Form}
-use Rattle.tclforms.specs.Views.{transposed, pair_texts}
+use Rattle.tclcontrol.specs.FormViews.{transposed, pair_texts}
 use Rattle.tclsubstitution.proofs.Leading.{sized_on, sized_stops}
 use Rattle.tclsubstitution.specs.Stops.{after, error_or_halt, stopped, stop_of, text_stop}
 use Rattle.tclrules.specs.declared.outcome.EvalFault.{EvalFault}

@@ -6,7 +6,7 @@ ghost use Rattle.tclscript.specs.Tree.{commands_of, words_of};
 ghost use Rattle.tclscript.specs.View.{script_view, command_view, word_view, content_view, parts_view};
 ghost use Rattle.tclrules.specs.Derivation.{Counts, Runs};
 ghost use Rattle.tclrules.specs.Variables.{State, lookup};
-ghost use Rattle.tclvariables.specs.Views.{procedure_view};
+ghost use Rattle.tclcontrol.specs.VariableViews.{procedure_view};
 ghost use Rattle.tclrules.specs.Plans as plans;
 ghost use Rattle.tclrules.specs.Plans.{Next, on_normal, sized};
 ghost use Rattle.tclrules.specs.Words as pieces;
@@ -14,7 +14,7 @@ ghost use Rattle.tclrules.specs.Expressions.{express, decide};
 ghost use Rattle.tclrules.specs.Rules as rules;
 ghost use Rattle.tclrules.specs.Rules.{rule, called, turn};
 ghost use Rattle.tclrules.specs.Forms as forms;
-ghost use Rattle.tclforms.specs.Views.{form_view, simple_view, pair_texts};
+ghost use Rattle.tclcontrol.specs.FormViews.{form_view, simple_view, pair_texts};
 ghost use Rattle.tclsubstitution.specs.Machine.{range_text, control_plan};
 ghost use Rattle.tclexpr.specs.Owned as expression;
 ghost use Rattle.tclcontrol.specs.CommandTexts.{name_of};
@@ -32,18 +32,16 @@ use crate::sourced::Sourced;
 use crate::trees::{expression_tree, normal};
 use crate::turns::begin_turn;
 use crate::words::{braced_value, copied, literal_part, push_words};
-use tclcommands::assign;
 use tclcontrol::{
-    CommandWords, ResultUse, after_call, after_catch, after_next, after_turn, simple_command,
-    unknown_command,
+    CommandWords, ForLoop, Form, Loops, Procedure, ResultUse, Simple, WhileLoop, after_call,
+    after_catch, after_next, after_turn, assign, chosen, core_form, parameter_values,
+    simple_command, unknown_command,
 };
 use tclexpr::OwnedExpr;
-use tclforms::{ForLoop, Form, Loops, Simple, WhileLoop, chosen, core_form, parameter_values};
 use tclrules::Host;
 use tclscript::{ByteRange, Command, Part, Script, Word, WordContent};
 use tclsubstitution::{Control, Step, Stop, SubstitutionContext, advance};
 use tclvalue::{concatenated, truth, value_command};
-use tclvariables::Procedure;
 
 impl Evaluator {
     /// Evaluates a text as a script: a body, or the script of catch(n).

@@ -15,11 +15,11 @@ ghost use Rattle.tclrules.specs.declared.outcome.EvalFault.TheVariants.{TooManyC
 
 use std::alloc::Global;
 use tclcache::Cache;
+use tclcontrol::Variables;
 use tclexpr::OwnedExpr;
 use tcloperators::Computed;
 use tclrules::{EvalFault, Limits};
 use tclsubstitution::{Stop, SubstitutionContext, compute_borrowed};
-use tclvariables::Variables;
 
 /// The state of an evaluation.
 #[derive(Drop)]

@@ -11,12 +11,12 @@ ghost use Rattle.tclrules.specs.Plans.{Next};
 ghost use Rattle.tclrules.specs.Words as pieces;
 ghost use Rattle.tclrules.specs.Rules as rules;
 ghost use Rattle.tclrules.specs.Forms.{core_form};
-ghost use Rattle.tclforms.specs.Views.{simple_view};
+ghost use Rattle.tclcontrol.specs.FormViews.{simple_view};
 ghost use Rattle.tclsubstitution.specs.Machine.{range_text, bounds};
 
 use crate::sourced::Sourced;
 use crate::words::literal;
-use tclforms::Simple;
+use tclcontrol::Simple;
 use tclrules::Limits;
 use tclscript::{ByteRange, Word};
 

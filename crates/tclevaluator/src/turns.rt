@@ -9,11 +9,9 @@ ghost use Rattle.tclsubstitution.specs.Machine.{bounds};
 ghost use Rattle.tclsubstitution.specs.Stops.{after};
 
 use std::alloc::Global;
-use tclcommands::assign;
-use tclforms::Loops;
+use tclcontrol::{Loops, Variables, assign};
 use tclrules::Limits;
 use tclsubstitution::Stop;
-use tclvariables::Variables;
 
 /// Gives the variables of a turn the next items of their lists; a list that is used up gives empty texts.
 fn assign_items(

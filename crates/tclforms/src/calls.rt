@@ -10,7 +10,7 @@ ghost use Rattle.tclforms.specs.Firsts.{AreNamesOf, with_first};
 use indexmap::IndexSet;
 use std::alloc::{AllocError, Global};
 use tcloperators::{ValueFault, wrong_words};
-use tclvalue::list_text;
+use tclrules::list_text;
 use tclvariables::Parameter;
 
 /// The value of a parameter, and the words that remain for the others.

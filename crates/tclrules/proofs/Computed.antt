@@ -11,8 +11,8 @@ use Rattle.tclscript.specs.Reading.{whole_script, script_with, command_at, word_
 use Rattle.tclexpr.specs.Marks.{mark_at, after_white}
 use Rattle.tclexpr.specs.Operands.{operand_at, after_number, after_digits, quoted_at}
 use Rattle.tclexpr.specs.Reading.{expr_at, whole_at, chain_at, climb_at, prefix_at, below_at}
-use Rattle.tclnumber.specs.Numerals.{numeral}
-use Rattle.tcllist.specs.ListReading.{list_of, list_at, element_at, piece_of, piece_at}
+use Rattle.tclvalue.specs.Numerals.{numeral}
+use Rattle.tclvalue.specs.ListReading.{list_of, list_at, element_at, piece_of, piece_at}
 use Rattle.tclvalue.specs.Messages.{divide_by_zero}
 use Rattle.tclvalue.specs.Characters.{white_space}
 use Rattle.tclrules.specs.Derivation.{EvaluationOutcome, World, BadText, TooManyCommands, TooDeep, ValueTooLong, ByHost}

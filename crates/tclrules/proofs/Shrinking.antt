@@ -7,7 +7,7 @@ use Rattle.tclchars.specs.declared.fault.TextFault.{TextFault}
 use Rattle.tclscript.specs.Tree as tree
 use Rattle.tclscript.specs.Tree.{Commands, no_commands, command, Parts, no_parts, part, Part}
 use Rattle.tclscript.specs.Text.{script_of}
-use Rattle.tclnumber.specs.Numerals.{numeral}
+use Rattle.tclvalue.specs.Numerals.{numeral}
 use Rattle.tclexpr.specs.Tree.{Expr, operand, unary, binary, conjunction, disjunction, choice}
 use Rattle.tclexpr.specs.Operands as operands
 use Rattle.tclexpr.specs.Operands.{Operand}

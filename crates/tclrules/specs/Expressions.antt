@@ -5,9 +5,9 @@ use Rattle.tclchars.specs.Runs.{Text}
 use Rattle.tclchars.specs.BracedText.{braced_text}
 use Rattle.tclchars.specs.declared.fault.TextFault.{TextFault}
 use Rattle.tclchars.specs.declared.fault.TextFault.TheVariants.{BadExpression}
-use Rattle.tclnumber.specs.Numerals.{numeral}
-use Rattle.tclnumber.specs.declared.number.Numeral.{Numeral}
-use Rattle.tclnumber.specs.declared.number.Numeral.TheVariants as numerals
+use Rattle.tclvalue.specs.Numerals.{numeral}
+use Rattle.tclvalue.specs.Numeral.{Numeral}
+use Rattle.tclvalue.specs.Numeral.TheVariants as numerals
 use Rattle.tclexpr.specs.Tree.{Expr, operand, unary, binary, conjunction, disjunction, choice}
 use Rattle.tclexpr.specs.Operands as operands
 use Rattle.tclexpr.specs.Operands.{Operand}

@@ -7,7 +7,7 @@ use Rattle.tclchars.specs.Runs.{Text}
 use Rattle.tclchars.specs.declared.fault.TextFault.{TextFault}
 use Rattle.tclscript.specs.Tree.{Commands, no_commands, command}
 use Rattle.tclscript.specs.Text.{script_of}
-use Rattle.tcllist.specs.Lists.{list_text}
+use Rattle.tclvalue.specs.Lists.{list_text}
 use Rattle.tclvalue.specs.Faults.{Answer, ◌>>=◌, error}
 use Rattle.tclvalue.specs.Messages.{wrong_words, not_a_list}
 use Rattle.tclvalue.specs.Elements.{elements_of}

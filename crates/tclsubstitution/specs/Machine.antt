@@ -6,7 +6,7 @@ use Rattle.tclscript.specs.Pieces.{between}
 use Rattle.tclscript.specs.View.{parts_view, script_view}
 use Rattle.tclscript.specs.declared.piece.ByteRange.{ByteRange}
 use Rattle.tclexpr.specs.View.{expr_view}
-use Rattle.tclvalue.specs.Operators.{truth, truth_text, unary_value, binary_value}
+use Rattle.tclrules.specs.Operators.{truth, truth_text, unary_value, binary_value}
 use Rattle.tclrules.specs.Derivation.{Runs}
 use Rattle.tclrules.specs.Variables.{State}
 use Rattle.tclrules.specs.Plans as plans

@@ -2,8 +2,8 @@
 //! from the variables, so that the comparisons and sums of most loops take no continuation frame and copy no text.
 ghost use Rattle.std.specs.Prelude.{◌≡◌, ℕ, Ok, IfSome, IfOk, IfErr};
 ghost use Rattle.tclexpr.specs.View.{expr_view, operand_view};
-ghost use Rattle.tclnumber.specs.Numerals.{numeral};
-ghost use Rattle.tclnumber.specs.declared.number.Numeral.TheVariants.{Whole};
+ghost use Rattle.tclrules.specs.Numerals.{numeral};
+ghost use Rattle.tclrules.specs.Numeral.TheVariants.{Whole};
 ghost use Rattle.tcloperators.specs.Operators.{binary_value};
 ghost use Rattle.tcloperators.specs.Values.{computed_text};
 ghost use Rattle.tcloperators.specs.declared.operators.Computed.TheVariants.{Truth};

@@ -1,6 +1,6 @@
 //! The substitution of words (Tcl(n)) and the evaluation of expressions (expr(n)), one step at a time.
 //! Takes memory, also for what waits for an inner part (no stack of the process); asks the host for `env` alone.
-//! Used by the crates from tclcommands to tcleval.
+//! Used by the crates from tclcommands to tclevaluator, which hands it on to tcleval.
 #![tactic(auto)]
 
 mod borrowed_operands;

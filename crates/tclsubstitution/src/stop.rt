@@ -6,8 +6,7 @@ ghost use Rattle.tclrules.specs.declared.outcome.EvalFault.TheVariants.{OutOfMem
 
 use std::alloc::{AllocError, AllocFailed};
 use tclchars::TextFault;
-use tclrules::EvalFault;
-use tclvalue::ValueFault;
+use tclrules::{EvalFault, ValueFault};
 
 /// How a script ended that didn't end with its last command: a completion code of Tcl (catch(n)), or a halt.
 #[derive(Drop)]

@@ -4,7 +4,7 @@ ghost use Rattle.std.specs.Prelude.{◌≡◌, ◌++◌, ◌+◌, ℕ, [], ◌�
 ghost use Rattle.tclchars.specs.BracedText.{braced_text};
 ghost use Rattle.tclscript.specs.View.{part_view, parts_view};
 ghost use Rattle.tclexpr.specs.View.{expr_view, operand_view};
-ghost use Rattle.tclvalue.specs.Operators.{truth_text};
+ghost use Rattle.tclrules.specs.Operators.{truth_text};
 ghost use Rattle.tclrules.specs.Simulates.{point};
 ghost use Rattle.tclrules.specs.Plans.{sized};
 ghost use Rattle.tclrules.specs.Words.{parts, one};
@@ -23,9 +23,8 @@ use crate::stop::Stop;
 use std::alloc::Global;
 use tclchars::push_braced_text;
 use tclexpr::{Expr, Operand};
-use tclrules::{EvalFault, Host};
+use tclrules::{EvalFault, Host, binary, truth, unary};
 use tclscript::{ByteRange, Part};
-use tclvalue::{binary, truth, unary};
 
 /// The text of a piece of the source.
 fn source_text<'a>(source: &'a str, range: ByteRange) -> &'a str

@@ -7,7 +7,7 @@ use Rattle.std.specs.Option.{unwrap_or}
 use Rattle.std.specs.List.{repeat}
 use Rattle.std.specs.Str.{chars}
 use Rattle.tclchars.specs.Runs.{Text}
-use Rattle.tcllist.specs.Lists.{list_text}
+use Rattle.tcloperators.specs.Lists.{list_text}
 use Rattle.tcloperators.specs.Faults.{Answer, ◌>>=◌, error, unsupported}
 use Rattle.tcloperators.specs.Messages.{wrong_words}
 use Rattle.tcloperators.specs.Operators.{truth_text, text_order, is_nil}

@@ -1,6 +1,6 @@
 //! Tcl's commands on lists and texts alone: list, llength, lindex, lrange, split, join, concat, string (their pages).
 //! Takes memory and touches nothing else. Hands on the operators and faults of tcloperators.
-//! Used by tclrules, whose rules they are part of, and by the crates that evaluate: tclforms, tclcommands.
+//! Used by tclrules, whose rules they are part of, and by the crates that evaluate: tclcommands, tclcontrol, tclevaluator.
 #![tactic(auto)]
 
 mod bounded;
@@ -26,5 +26,5 @@ pub use names::is_value_command;
 pub use pattern::glob;
 pub use tcloperators::{
     ValueFault, binary, bits, division, elements, in_quotes, is_among, sum, text_order, truth,
-    truth_text, unary, unsupported,
+    truth_text, unary, unsupported, whole_number,
 };

@@ -3,7 +3,7 @@ use Rattle.std.proofs.Common.{◌≡◌, ℕ, zero, suc, ◌<◌, ◌≤◌, ◌
 use Rattle.std.proofs.lemmas.Bool.Decides.{nat_tests}
 use Rattle.std.proofs.lemmas.Fmt.{decimal_is_IsNumeral, decimal_digit, first_decimal, length-decimal-le}
 use Rattle.std.specs.Fmt.{decimal, signed_decimal}
-use Rattle.tclchars.specs.Bytes.{DoesBegin}
+use Rattle.tclrules.specs.Bytes.{DoesBegin}
 use Rattle.tclnumber.specs.Numbers as numbers
 use Rattle.tclnumber.specs.Numbers.{IsDigits}
 use Rattle.tclnumber.specs.Numerals.{numeral}

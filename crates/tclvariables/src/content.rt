@@ -8,7 +8,7 @@ ghost use Rattle.tclvariables.specs.Contents.{IsListText};
 use itoa::Buffer;
 use std::alloc::AllocError;
 use std::marker::Model;
-use tcloperators::whole_number;
+use tclrules::whole_number;
 
 /// The value of a variable. Of one that `lappend` wrote it is known that it is the text of a list as list(n) writes it,
 /// so that the next `lappend` need not parse it again; of one that `incr` wrote, which number it is.

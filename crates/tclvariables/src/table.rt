@@ -15,7 +15,7 @@ use indexmap::IndexMap;
 use itoa::Buffer;
 use std::alloc::{AllocError, Global};
 use std::mem;
-use tcloperators::sum;
+use tclrules::sum;
 
 /// Variables by name.
 pub(crate) type Table = IndexMap<String, Content>;

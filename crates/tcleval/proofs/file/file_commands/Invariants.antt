@@ -6,7 +6,7 @@ use Rattle.tclscript.specs.declared.piece.ByteRange.{ByteRange}
 use Rattle.tclrules.specs.Simulates.{Simulates, point}
 use Rattle.tclrules.specs.Rules as rules
 use Rattle.tclrules.specs.Rules.{rule}
-use Rattle.tclsubstitution.specs.Machine.{range_text}
+use Rattle.tclevaluator.specs.Machine.{range_text}
 use Rattle.tclevaluator.specs.Continues.{bounds_of}
 use Rattle.tclevaluator.specs.OnlyGrows.{OnlyGrows}
 use Rattle.tcleval.proofs.file.file_commands.Given as goal

@@ -9,7 +9,7 @@ use Rattle.tclrules.specs.Plans as plans
 use Rattle.tclrules.specs.Words as pieces
 use Rattle.tclrules.specs.Plans.{Next, sized}
 use Rattle.tclrules.specs.Rules.{rule, called, turn}
-use Rattle.tclforms.specs.Views.{pair_texts, form_view}
+use Rattle.tclcontrol.specs.FormViews.{pair_texts, form_view}
 use Rattle.tclsubstitution.specs.Machine.{range_text}
 use Rattle.tclevaluator.specs.Continues.{bounds_of}
 use Rattle.tclcontrol.specs.Completions.{sized_next, guarded, condition_plan}

@@ -12,7 +12,7 @@ use Rattle.tclrules.specs.Words as pieces
 use Rattle.tclrules.specs.Rules as rules
 use Rattle.tclrules.specs.Plans.{Next, on_normal}
 use Rattle.tclrules.specs.Rules.{rule}
-use Rattle.tclforms.specs.Views.{pair_texts}
+use Rattle.tclcontrol.specs.FormViews.{pair_texts}
 use Rattle.tclsubstitution.specs.Machine.{range_text, control_plan, stack_continuation, control_weight, frames_weight}
 use Rattle.tclcontrol.specs.Completions.{EvaluatesToText}
 use Rattle.tclevaluator.specs.Continues.{bounds_of}
