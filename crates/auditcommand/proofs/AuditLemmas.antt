@@ -10,9 +10,9 @@ use Rattle.requests.specs.Judgments.{bad_edit}
 use Rattle.requests.specs.Reasons.{RequestReason, refused_edit}
 use Rattle.requeststep.specs.Answers.{cause_of}
 use Rattle.tclrules.specs.declared.limits.Limits.{Limits}
-use Rattle.sitewalk.specs.Walks.{HasCause}
-use Rattle.sitewalk.specs.declared.fault.WalkFault.{WalkFault}
-use Rattle.sitewalk.specs.declared.fault.WalkFault.TheVariants as walks
+use Rattle.auditreport.specs.Walks.{HasCause}
+use Rattle.auditreport.specs.WalkFault.{WalkFault}
+use Rattle.auditreport.specs.WalkFault.TheVariants as walks
 use Rattle.auditcommand.specs.Arguments.{Wanted, wanted_of}
 use Rattle.auditcommand.specs.Audits.{EndsAudit, IsAuditFault, WritesAudit, no_directory, no_walk, given_up, report_text, all_certified}
 use Rattle.auditcommand.specs.Steps.{IsGivenUp, IsPreparedAudit, IsWantedFault}

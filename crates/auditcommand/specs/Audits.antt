@@ -11,11 +11,11 @@ use Rattle.filetree.specs.Causes.{Applies}
 use Rattle.requeststep.specs.Answers.{cause_of}
 use Rattle.requeststep.specs.declared.refusal.Refusal.{Refusal}
 use Rattle.requeststep.specs.declared.refusal.Refusal.TheVariants.{BadArguments}
-use Rattle.sitelaws.specs.Sites.{Site, site_of}
-use Rattle.sitewalk.specs.Walks.{HasCause}
-use Rattle.sitewalk.specs.declared.fault.WalkFault.{WalkFault}
-use Rattle.siteaudit.specs.Audits.{IsAudit, CertificateStands, is_certified}
-use Rattle.siteaudit.specs.declared.auditing.SiteAudit.{SiteAudit}
+use Rattle.auditreport.specs.Sites.{Site, site_of}
+use Rattle.auditreport.specs.Walks.{HasCause}
+use Rattle.auditreport.specs.WalkFault.{WalkFault}
+use Rattle.auditreport.specs.Audits.{IsAudit, CertificateStands, is_certified}
+use Rattle.auditreport.specs.SiteAudit.{SiteAudit}
 use Rattle.auditreport.specs.Documents.{document_text}
 use Rattle.auditreport.specs.Reports.{report_of}
 use Rattle.modulecmd.specs.Command.{standard}

@@ -2,8 +2,8 @@
 use Rattle.std.specs.Prelude.{codes, string_bytes}
 use Rattle.message.specs.Messages.{Text, quoting}
 use Rattle.requeststep.specs.Messages as refusals
-use Rattle.sitewalk.specs.declared.fault.WalkFault.{WalkFault}
-use Rattle.sitewalk.specs.declared.fault.WalkFault.TheVariants as walks
+use Rattle.auditreport.specs.WalkFault.{WalkFault}
+use Rattle.auditreport.specs.WalkFault.TheVariants as walks
 use Rattle.modulecmd.specs.Lines.{error_line}
 use Rattle.auditcommand.specs.declared.audit_fault.AuditFault.{AuditFault}
 use Rattle.auditcommand.specs.declared.audit_fault.AuditFault.TheVariants.{Refused, TooManyDirectories, NotADirectory, WriteFailed}

@@ -7,10 +7,10 @@ use Rattle.envvars.specs.Environment.{Environment}
 use Rattle.filetree.specs.Agreement.{Files, Listings, InEachPair}
 use Rattle.filetree.specs.Causes.{Applies}
 use Rattle.requeststep.specs.Answers.{cause_of}
-use Rattle.sitewalk.specs.Walks.{HasCause}
-use Rattle.sitewalk.specs.declared.fault.WalkFault.{WalkFault}
-use Rattle.siteaudit.specs.Audits.{IsAudit, CertificateStands}
-use Rattle.siteaudit.specs.declared.auditing.SiteAudit.{SiteAudit}
+use Rattle.auditreport.specs.Walks.{HasCause}
+use Rattle.auditreport.specs.WalkFault.{WalkFault}
+use Rattle.auditreport.specs.Audits.{IsAudit, CertificateStands}
+use Rattle.auditreport.specs.SiteAudit.{SiteAudit}
 use Rattle.modulecmd.specs.Command.{standard}
 use Rattle.auditcommand.specs.Arguments.{Wanted, wanted_of}
 use Rattle.auditcommand.specs.Audits.{AreDirectories, IsNoDirectory, IsAudited, judged_env, judged_site, report_text, all_certified}

@@ -10,13 +10,13 @@ ghost use Rattle.auditcommand.specs.declared.audit_fault.AuditFault.TheVariants.
 ghost use Rattle.auditcommand.specs.Faults.{line_of, message_of, of_walk};
 
 use crate::writers::write_parts;
+use auditreport::WalkFault;
 use envvars::EnvFault;
 use filetree::TreeFault;
 use itoa::Buffer;
 use message::Message;
 use modulecmd::WriteFault;
 use requeststep::Refusal;
-use siteaudit::WalkFault;
 use std::alloc::{AllocError, AllocFailed};
 use std::error::Error;
 use std::fmt;

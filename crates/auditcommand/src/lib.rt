@@ -12,6 +12,6 @@ mod writers;
 
 pub use audit_exit::AuditExit;
 pub use audit_fault::{AuditFault, write_fault};
-pub use auditreport::{Selection, SiteAudit};
+pub use auditreport::{Progress, Selection, SiteAudit};
+pub use modulecmd::{CommandFault, DiskTree, process_input, write_refusal};
 pub use running::run_audit;
-pub use siteaudit::Progress;

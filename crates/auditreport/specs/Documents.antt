@@ -11,9 +11,9 @@ use Rattle.certificate.specs.declared.uses.UsedVariable.{UsedVariable}
 use Rattle.certificate.specs.declared.uses.VariableUse.{VariableUse}
 use Rattle.certificate.specs.declared.uses.VariableUse.TheVariants.{Fixed, Pathed, Stacked}
 use Rattle.modulefile.specs.declared.delimiter.Delimiter.{Delimiter}
-use Rattle.requeststep.specs.Messages.{message_of}
-use Rattle.startcheck.specs.declared.disagreement.Disagreement.{Disagreement}
-use Rattle.startcheck.specs.declared.disagreement.Disagreement.TheVariants.{LoadedTexts, IsSet, HasNotValue, PathNotInOrder, StackNotInOrder}
+use Rattle.siteaudit.specs.Messages.{message_of}
+use Rattle.siteaudit.specs.Disagreement.{Disagreement}
+use Rattle.siteaudit.specs.Disagreement.TheVariants.{LoadedTexts, IsSet, HasNotValue, PathNotInOrder, StackNotInOrder}
 use Rattle.siteaudit.specs.declared.auditing.AuditedModule.{AuditedModule}
 use Rattle.siteaudit.specs.declared.auditing.SiteAudit.{SiteAudit}
 use Rattle.siteaudit.specs.declared.auditing.UnknownNames.{UnknownNames}

@@ -4,3 +4,9 @@ pub mod Remarks
 pub mod Reports
 pub mod Documents
 pub mod Tokens
+-- What an audit answers, so that a caller need not name the crates below.
+pub use Rattle.siteaudit.specs.Audits
+pub use Rattle.siteaudit.specs.declared.auditing.SiteAudit
+pub use Rattle.siteaudit.specs.Sites
+pub use Rattle.siteaudit.specs.Walks
+pub use Rattle.siteaudit.specs.WalkFault

@@ -5,8 +5,8 @@ use Rattle.std.specs.declared.string.String.{String}
 use Rattle.envvars.specs.Fields.{without_repeats}
 use Rattle.envvars.specs.Texts.{Text}
 use Rattle.modulefile.specs.declared.delimiter.Delimiter.{Delimiter}
-use Rattle.startcheck.specs.declared.disagreement.Disagreement.{Disagreement}
-use Rattle.startcheck.specs.declared.disagreement.Disagreement.TheVariants.{LoadedTexts, IsSet, HasNotValue, PathNotInOrder, StackNotInOrder}
+use Rattle.siteaudit.specs.Disagreement.{Disagreement}
+use Rattle.siteaudit.specs.Disagreement.TheVariants.{LoadedTexts, IsSet, HasNotValue, PathNotInOrder, StackNotInOrder}
 use Rattle.siteaudit.specs.declared.auditing.UnknownNames.{UnknownNames}
 use Rattle.auditreport.specs.Words.{spelled}
 

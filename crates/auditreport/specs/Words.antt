@@ -9,8 +9,8 @@ use Rattle.modulefile.specs.RecordViews.{record_view}
 use Rattle.modulefile.specs.Reports.{shown_words}
 use Rattle.certificate.specs.declared.uses.VariableUse.{VariableUse}
 use Rattle.certificate.specs.declared.uses.VariableUse.TheVariants.{Fixed, Pathed, Stacked}
-use Rattle.siteclash.specs.declared.answers.Clash.{Clash}
-use Rattle.requeststep.specs.Messages.{message_of}
+use Rattle.siteaudit.specs.Clash.{Clash}
+use Rattle.siteaudit.specs.Messages.{message_of}
 use Rattle.siteaudit.specs.Audits.{is_certified}
 use Rattle.siteaudit.specs.declared.auditing.AuditedModule.{AuditedModule}
 use Rattle.siteaudit.specs.declared.standing.Standing.{Standing}

@@ -11,8 +11,7 @@ use crate::tokens::{write_all_used, write_path_fields, write_text, write_text_ar
 use crate::words::{record_words, standing_word};
 use certificate::{UsedVariable, VariableUse};
 use json::Writer;
-use siteaudit::{AuditedModule, Disagreement, SiteAudit, Standing, UnknownNames};
-use siteclash::Clash;
+use siteaudit::{AuditedModule, Clash, Disagreement, SiteAudit, Standing, UnknownNames};
 use std::alloc::{AllocError, Global};
 
 /// Writes a variable and two uses of it as members.

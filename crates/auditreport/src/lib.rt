@@ -14,4 +14,4 @@ mod words;
 pub use document::json_report;
 pub use report::line_report;
 pub use selection::Selection;
-pub use siteaudit::{AuditedModule, SiteAudit, Standing};
+pub use siteaudit::{AuditedModule, Progress, SiteAudit, Standing, WalkFault, audit};

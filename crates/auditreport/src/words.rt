@@ -5,8 +5,7 @@ ghost use Rattle.auditreport.specs.Words as spec;
 use certificate::VariableUse;
 use modulefile::Record;
 use reports::show_report;
-use siteaudit::Standing;
-use siteclash::Clash;
+use siteaudit::{Clash, Standing};
 use std::alloc::{AllocError, Global};
 use std::slice;
 

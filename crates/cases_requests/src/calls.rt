@@ -2,7 +2,7 @@
 use crate::rehearsed::request_of;
 use anyhow::Result;
 use filetree::Tree;
-use modules::{Env, Limits, Outcome, Request, Shell, run, session};
+use modulecmd::{Env, Limits, Outcome, Request, Shell, run, session};
 use std::alloc::Global;
 
 /// The number by which `run` refuses a request; None where it accepts it.

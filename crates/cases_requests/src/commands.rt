@@ -11,10 +11,9 @@ use crate::writers::{Limited, kind};
 use anyhow::Result;
 use envvars::{Vars, changes};
 use filetree::{MemoryTree, Tree};
-use modulecmd::{CommandFault, Exit, modulecmd, print_changes, run_command, write_refusal};
-use modules::{
-    Change, Changed, Env, Limits, Refusal, Request, Shell, request, run, run_changes, session,
-    verdict,
+use modulecmd::{
+    Change, Changed, CommandFault, Env, Exit, Limits, Refusal, Request, Shell, modulecmd,
+    print_changes, request, run, run_changes, run_command, session, verdict, write_refusal,
 };
 use std::alloc::Global;
 use std::io;

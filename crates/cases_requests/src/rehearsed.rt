@@ -3,8 +3,7 @@ use crate::shown::variables;
 use crate::texts::{first_word, words};
 use anyhow::Result;
 use filetree::Tree;
-use modules::{Action, Env, Limits, Refusal, Request, Shell, request};
-use rehearsal::rehearse;
+use modulecmd::{Action, Env, Limits, Refusal, Request, Shell, rehearse, request};
 use std::alloc::{AllocError, Global};
 
 /// The action of `nameless KIND`, which has no names; no words of a command line ask for it.

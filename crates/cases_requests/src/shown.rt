@@ -1,8 +1,7 @@
 //! Answers of calls, as they are shown.
 use crate::texts::push_all;
 use anyhow::Result;
-use modulecmd::Exit;
-use modules::{Change, Changed, Env, Outcome, Refusal, Verdict};
+use modulecmd::{Change, Changed, Env, Exit, Outcome, Refusal, Verdict};
 use std::alloc::{AllocError, Global};
 
 /// What a writer holds.

@@ -9,4 +9,5 @@ mod pairs;
 mod uses;
 
 pub use pairs::{exclude, is_other};
+pub use requeststep::Module;
 pub use uses::{UsedVariable, VariableUse, first_unlike, go_together, used_by, uses_clash};

@@ -1,6 +1,6 @@
 //! The evaluation of default files, `.modulerc` and `.version` (modulefile(5)), as Tcl within limits.
 //! Takes memory and touches nothing else: to a default file each variable of the environment is unset.
-//! Used by requests, requeststep and lookup, which search with it.
+//! Used by lookup, which searches with it, and by requests, which hands it on to requeststep and the crates of sites.
 #![tactic(auto)]
 
 mod command_answers;

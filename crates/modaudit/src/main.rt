@@ -5,8 +5,7 @@
 
 mod progress_line;
 
-use auditcommand::{AuditExit, run_audit};
-use modulecmd::{CommandFault, DiskTree, process_input, write_refusal};
+use auditcommand::{AuditExit, CommandFault, DiskTree, process_input, run_audit, write_refusal};
 use progress_line::ProgressLine;
 use std::process::ExitCode;
 

@@ -14,8 +14,8 @@ use Rattle.tclrules.specs.Operands as operands
 use Rattle.tclrules.specs.ExpressionReading.{expr_at, whole_at, chain_at, climb_at, prefix_at, below_at}
 use Rattle.tclrules.specs.Numerals.{numeral}
 use Rattle.tclrules.specs.ListReading.{list_of, list_at, element_at, piece_of, piece_at}
-use Rattle.tclvalue.specs.Messages as value_messages
-use Rattle.tclvalue.specs.Characters.{white_space, split_space}
+use Rattle.tclrules.specs.ValueMessages as value_messages
+use Rattle.tclrules.specs.Characters.{white_space, split_space}
 use Rattle.tclrules.specs.Messages.{no_variable, no_command, outside_loop, cannot_unset, is_array, bad_option, no_body, no_loop_variable, cannot_redefine}
 use Rattle.tclrules.specs.Names.{unsupported_commands, core_commands}
 use Rattle.modulefile.specs.CommandNames as names

@@ -3,7 +3,7 @@
 use Rattle.std.specs.Prelude.{ℕ, ◌||◌, List, [], ◌∷◌, ◌++◌, codes, flat_map, bytes_eq, if◌then◌else◌, Option, Some, None, Result, Ok, Err}
 use Rattle.std.specs.List.{join_with_byte}
 use Rattle.tclrules.specs.Runs.{begins}
-use Rattle.tclvalue.specs.Indexes.{after_prefix}
+use Rattle.tclrules.specs.Indexes.{after_prefix}
 use Rattle.tclrules.specs.Names.{is_among}
 use Rattle.envvars.specs.Texts.{Text}
 use Rattle.envvars.specs.Fields.{colon}

@@ -2,7 +2,7 @@
 ghost use Rattle.std.specs.Prelude.{◌≡◌, map, string_bytes};
 ghost use Rattle.std.specs.Option.{option_map};
 ghost use Rattle.tclrules.specs.Runs.{begins};
-ghost use Rattle.tclvalue.specs.Indexes.{after_prefix};
+ghost use Rattle.tclrules.specs.Indexes.{after_prefix};
 ghost use Rattle.modulerecords.specs.Records.{Set, Push, Conflict, Prereq};
 ghost use Rattle.modulefile.specs.Calls.{no_option, without_option, var_and_value, var_and_optional, with_delimiter, by_next_word, by_same_word};
 ghost use Rattle.modulefile.specs.Calls.{by_option, delimited, path_form, some_words, getenv_form, puts_form, field_form};

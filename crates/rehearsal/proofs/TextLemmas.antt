@@ -20,10 +20,10 @@ use Rattle.requests.specs.declared.action.Request as code
 use Rattle.requests.specs.Steps.{RequestContext, Done, RequestStep, request_context_in}
 use Rattle.requests.specs.Sessions.{accepted, refused, given_up, is_given_up_by, Session, end_environment}
 use Rattle.filetree.specs.Causes.{Cause, Applies, memory, device, because}
-use Rattle.requeststep.specs.Answers.{cause_of}
-use Rattle.requeststep.specs.Messages.{memory_number}
-use Rattle.requeststep.proofs.MemoryNumberLemmas.{of_three}
-use Rattle.requeststep.specs.declared.refusal.Refusal.{Refusal}
+use Rattle.modules.specs.Answers.{cause_of}
+use Rattle.modules.specs.Messages.{memory_number}
+use Rattle.modules.proofs.MemoryNumberLemmas.{of_three}
+use Rattle.modules.specs.Refusal.{Refusal}
 use Rattle.rehearsal.specs.Rehearsals.{ArePrints, Rehearsal, one_failed, count_failed}
 use Rattle.rehearsal.specs.Parts.{PrintsFor, print_view, prints}
 

@@ -3,7 +3,7 @@ ghost use Rattle.std.specs.Prelude.{◌≡◌, map, IfOk, IfErr};
 ghost use Rattle.filetree.specs.Agreement.{Narrows, InEachPair};
 ghost use Rattle.shells.specs.declared.shell.Shell.{Shell};
 ghost use Rattle.requests.specs.RequestViews.{request_view};
-ghost use Rattle.requeststep.specs.declared.refusal.Refusal.TheVariants as refusals;
+ghost use Rattle.modules.specs.Refusal.TheVariants as refusals;
 ghost use Rattle.requests.specs.Steps.{request_context_in};
 ghost use Rattle.rehearsal.specs.Rehearsals.{Rehearsal, MakesSession, TextsReturnToStart};
 ghost use Rattle.rehearsal.specs.Parts.{PrintsFor, print_view, prints};

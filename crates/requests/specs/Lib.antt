@@ -25,3 +25,4 @@ pub use Rattle.reversal.specs.Starts
 pub use Rattle.reversal.specs.Runs
 pub use Rattle.reversal.specs.Laws as ReversalLaws
 pub use Rattle.reversal.specs.Requests as RequestMoves
+pub use Rattle.defaultfiles.specs.DefaultFileResults

@@ -10,6 +10,7 @@ mod rows;
 mod words;
 
 pub use action::{Action, Request};
+pub use defaultfiles::Evaluated;
 pub use laws::{
     command_returns, judged_session_returns, outcomes, plain_session_returns, reports,
     session_returns, sessions, some_outcome, verdicts,

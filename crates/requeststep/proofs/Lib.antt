@@ -10,3 +10,5 @@ pub mod FailureLemmas
 pub mod ListedLemmas
 pub mod TreeAnswers
 pub mod SwitchLemmas
+-- Handed on, so that a caller need not name the crates below.
+pub use Rattle.reports.proofs.ReportLemmas

@@ -22,7 +22,6 @@ use crate::progress::Progress;
 use crate::refusal::Refusal;
 use crate::scripts::script_at;
 use conditions::{is_loaded, last_meant};
-use defaultfiles::Evaluated;
 use envloaded::{Loaded, drop_from_list};
 use envvars::Vars;
 use filetree::{FindFault, Tree};
@@ -30,6 +29,7 @@ use modulefile::Mode;
 use modulename::is_module_name;
 use modulerun::{FileContext, Ran, run_file};
 use reports::{show_report, whatis_report};
+use requests::Evaluated;
 use search::{Found, locate};
 use std::alloc::{AllocError, Global};
 

@@ -1,6 +1,6 @@
 //! The step of a request: what it makes of the variables of an environment, or why it is refused (module(1)).
 //! Takes memory; changes the variables and reads the files and directories (`Tree`) that it is given.
-//! Used by modules, rehearsal, sessioncheck and modulecmd.
+//! Used by modules, which hands it on to the crates of requests, and by certificate and the crates that judge sites.
 //! Clauses: `over_tree` is the answer over a tree, `given` that of a call that reads none; `reads` and `failed` say what
 //! the tree was asked, and `base` that the environment below the variables stays.
 #![tactic(auto)]

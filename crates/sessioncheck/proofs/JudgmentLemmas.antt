@@ -11,15 +11,15 @@ use Rattle.tclrules.specs.declared.limits.Limits.{Limits}
 use Rattle.requests.specs.Reasons.{RequestReason}
 use Rattle.requests.specs.Sessions.{Response, session_moves, env_after}
 use Rattle.requests.specs.Verdicts as verdicts
-use Rattle.requeststep.specs.Answers.{StepAnswersOverTree, cause_of}
-use Rattle.requeststep.specs.Verdicts.{in_sh, verdict_view}
-use Rattle.requeststep.specs.MoveViews.{moves_of}
-use Rattle.requeststep.specs.declared.judged.Verdict.{Verdict}
-use Rattle.requeststep.specs.declared.refusal.Refusal.{Refusal}
+use Rattle.modules.specs.Answers.{StepAnswersOverTree, cause_of}
+use Rattle.modules.specs.Verdicts.{in_sh, verdict_view}
+use Rattle.modules.specs.MoveViews.{moves_of}
+use Rattle.modules.specs.Verdict.{Verdict}
+use Rattle.modules.specs.Refusal.{Refusal}
 use Rattle.modules.specs.Responses.{by_cause, count_cause, response_of, responses}
 use Rattle.modules.specs.declared.sessions.Outcome.{Outcome}
 use Rattle.modules.specs.declared.sessions.Outcome.TheVariants.{Accepted, Refused}
-use Rattle.requeststep.specs.Messages.{number_of}
+use Rattle.modules.specs.Messages.{number_of}
 use Rattle.sessioncheck.specs.Judgments.{IsJudgment, AreJudgments, count_failed_judgments, count_unjudged}
 use Rattle.sessioncheck.specs.Parts.{loaded_in}
 use Rattle.sessioncheck.specs.declared.judging.Judgment.{Judgment}

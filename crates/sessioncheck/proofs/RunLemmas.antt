@@ -8,9 +8,9 @@ use Rattle.requests.specs.Reasons.{RequestReason}
 use Rattle.requests.specs.Requests.{RequestedAction, request_of}
 use Rattle.requests.specs.Sessions.{Response, accepted, refused, given_up, IsResponse, env_after, is_given_up_by}
 use Rattle.requests.specs.Steps.{RequestContext}
-use Rattle.requeststep.specs.Answers.{cause_of}
-use Rattle.requeststep.specs.Messages.{memory_number, number_by}
-use Rattle.requeststep.specs.declared.refusal.Refusal.{Refusal}
+use Rattle.modules.specs.Answers.{cause_of}
+use Rattle.modules.specs.Messages.{memory_number, number_by}
+use Rattle.modules.specs.Refusal.{Refusal}
 use Rattle.modules.proofs.SessionLemmas.{memory_is_cause, refused_counts}
 use Rattle.modules.specs.Responses.{by_cause, count_failed, response_of}
 use Rattle.modules.specs.declared.sessions.Outcome.TheVariants.{Refused}

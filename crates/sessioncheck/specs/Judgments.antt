@@ -8,10 +8,10 @@ use Rattle.requests.specs.Moves.{loaded_names}
 use Rattle.tclrules.specs.declared.limits.Limits.{Limits}
 use Rattle.requests.specs.Sessions.{Response, session_moves}
 use Rattle.requests.specs.Verdicts.{HasVerdict}
-use Rattle.requeststep.specs.Answers.{StepAnswersOverTree, cause_of}
-use Rattle.requeststep.specs.Verdicts.{verdict_view, in_sh}
-use Rattle.requeststep.specs.declared.judged.Verdict.{Verdict}
-use Rattle.requeststep.specs.declared.refusal.Refusal.{Refusal}
+use Rattle.modules.specs.Answers.{StepAnswersOverTree, cause_of}
+use Rattle.modules.specs.Verdicts.{verdict_view, in_sh}
+use Rattle.modules.specs.Verdict.{Verdict}
+use Rattle.modules.specs.Refusal.{Refusal}
 use Rattle.modules.specs.Responses.{count_cause}
 use Rattle.sessioncheck.specs.declared.judging.Judgment.{Judgment}
 

@@ -2,10 +2,10 @@
 use Rattle.std.specs.Prelude.{ℕ, ◌+◌, List, [], ◌∷◌, ◌++◌, codes, decimal, string_bytes, Result, Ok, Err}
 use Rattle.std.specs.List.{flat_map}
 use Rattle.envvars.specs.Texts.{Text}
-use Rattle.requeststep.specs.Messages.{message_of}
-use Rattle.requeststep.specs.declared.judged.Verdict.{Verdict}
-use Rattle.requeststep.specs.declared.judged.Verdict.TheVariants.{Plain, Asked, OneWay}
-use Rattle.requeststep.specs.declared.refusal.Refusal.{Refusal}
+use Rattle.modules.specs.Messages.{message_of}
+use Rattle.modules.specs.Verdict.{Verdict}
+use Rattle.modules.specs.Verdict.TheVariants.{Plain, Asked, OneWay}
+use Rattle.modules.specs.Refusal.{Refusal}
 use Rattle.modules.specs.declared.sessions.Outcome.{Outcome}
 use Rattle.modules.specs.declared.sessions.Outcome.TheVariants.{Accepted, Refused}
 use Rattle.sessioncheck.specs.declared.checking.Findings.{Findings}

@@ -3,7 +3,7 @@ ghost use Rattle.std.specs.Prelude.{◌≡◌, ◌<◌, ◌≤◌, ◌+◌, IfOk
 ghost use Rattle.std.specs.List.{flat_map};
 ghost use Rattle.envvars.specs.Fields.{without_repeats};
 ghost use Rattle.filetree.specs.Agreement.{ReadsOn};
-ghost use Rattle.requeststep.specs.declared.refusal.Refusal.TheVariants as refusals;
+ghost use Rattle.modules.specs.Refusal.TheVariants as refusals;
 ghost use Rattle.sessioncheck.specs.Judgments.{AreJudgments, count_failed_judgments};
 ghost use Rattle.sessioncheck.specs.Parts.{loaded_in};
 ghost use Rattle.sessioncheck.specs.Checks.{IsCheck, all_accepted, was_accepted};

@@ -2,7 +2,7 @@
 ghost use Rattle.std.specs.Prelude.{◌≡◌, ◌≤◌, ◌+◌, [], ◌∷◌, map, IfOk, IfErr, string_bytes};
 ghost use Rattle.envvars.specs.Texts.{texts_in};
 ghost use Rattle.filetree.specs.Agreement.{Narrows, InEachPair, ReadsOn};
-ghost use Rattle.requeststep.specs.declared.refusal.Refusal.TheVariants as refusals;
+ghost use Rattle.modules.specs.Refusal.TheVariants as refusals;
 ghost use Rattle.requests.specs.Steps.{request_context_in};
 ghost use Rattle.modules.specs.Responses.{response_of, responses, count_failed};
 ghost use Rattle.requests.specs.Sessions.{env_after, end_environment};

@@ -4,3 +4,10 @@ pub mod Findings
 pub mod Mentions
 pub mod Folders
 pub mod Parts
+-- What an audit is made of, so that a caller need not name the crates below.
+pub use Rattle.requeststep.specs.Messages
+pub use Rattle.sitelaws.specs.Sites
+pub use Rattle.startcheck.specs.declared.disagreement.Disagreement
+pub use Rattle.siteclash.specs.declared.answers.Clash
+pub use Rattle.sitewalk.specs.Walks
+pub use Rattle.sitewalk.specs.declared.fault.WalkFault

@@ -1,6 +1,6 @@
 //! The audit of a whole site: how each of its modules stands, the certificate of those that need no judgement, remarks.
 //! Takes memory, reads the files and directories (`Tree`) that it is given, and says how far it has come.
-//! Used by auditcommand, for the program modaudit.
+//! Used by auditreport, which hands it on to auditcommand, for the program modaudit.
 #![tactic(auto)]
 
 mod auditing;

@@ -1,5 +1,5 @@
 -- The users of variables in the code, as the definitions see them (own).
-use Rattle.requeststep.specs.MoveViews.{module_view}
+use Rattle.certificate.specs.MoveViews.{module_view}
 use Rattle.certificate.specs.UseViews.{used_view}
 use Rattle.siteclash.specs.Users.{ModuleUse}
 use Rattle.siteclash.specs.declared.users.User.{User}

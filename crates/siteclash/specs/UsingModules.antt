@@ -1,5 +1,5 @@
 -- Modules with what they use in the code, as the definitions see them (own).
-use Rattle.requeststep.specs.MoveViews.{module_view}
+use Rattle.certificate.specs.MoveViews.{module_view}
 use Rattle.reversal.specs.Moves as moves
 use Rattle.siteclash.specs.declared.modules.UsingModule.{UsingModule}
 

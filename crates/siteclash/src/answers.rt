@@ -1,7 +1,7 @@
 //! A clash of each of some modules with another one of them.
 ghost use Rattle.std.specs.Prelude.{◌≡◌, List, map, IfOk};
 ghost use Rattle.reversal.specs.Moves as moves;
-ghost use Rattle.requeststep.specs.MoveViews.{module_view};
+ghost use Rattle.certificate.specs.MoveViews.{module_view};
 ghost use Rattle.certificate.specs.RecordUses.{used_by_modules};
 ghost use Rattle.certificate.specs.UseViews.{used_view};
 ghost use Rattle.siteclash.specs.ClashAnswers.{IsAnswer, AreAnswers, without_clashes};
@@ -17,8 +17,7 @@ use crate::modules::{UsingModule, using_modules};
 use crate::once::unclashed_uses;
 use crate::table::VariableTable;
 use crate::users::ClashingUsers;
-use certificate::{UsedVariable, VariableUse};
-use requeststep::Module;
+use certificate::{Module, UsedVariable, VariableUse};
 use std::alloc::{AllocError, Global};
 
 /// The clash of a module with another.

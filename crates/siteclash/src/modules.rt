@@ -1,12 +1,11 @@
 //! Modules with what they use, computed once for each.
 ghost use Rattle.std.specs.Prelude.{◌≡◌, map, IfOk};
 ghost use Rattle.modulefile.specs.RecordViews.{record_view};
-ghost use Rattle.requeststep.specs.MoveViews.{module_view};
+ghost use Rattle.certificate.specs.MoveViews.{module_view};
 ghost use Rattle.certificate.specs.RecordUses as uses;
 ghost use Rattle.certificate.specs.UseViews.{used_view};
 
-use certificate::{UsedVariable, used_by};
-use requeststep::Module;
+use certificate::{Module, UsedVariable, used_by};
 use std::alloc::{AllocError, Global};
 
 /// A module with what it uses.

@@ -5,8 +5,7 @@ ghost use Rattle.siteclash.specs.Users.{first_part, do_users_clash};
 ghost use Rattle.siteclash.specs.UserViews.{user_view};
 
 use crate::names::first_part;
-use certificate::{UsedVariable, exclude, is_other, uses_clash};
-use requeststep::Module;
+use certificate::{Module, UsedVariable, exclude, is_other, uses_clash};
 
 /// A module, and one of its uses of a variable.
 #[derive(Clone, Copy)]

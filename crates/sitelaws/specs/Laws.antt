@@ -10,7 +10,7 @@ use Rattle.modulefile.specs.Files.{Ran}
 use Rattle.requests.specs.Starts.{IsInOrder, IsStartWith}
 use Rattle.requests.specs.Runs.{live_after}
 use Rattle.requests.specs.ReversalLaws.{Holds}
-use Rattle.defaultfiles.specs.DefaultFileResults.{HasResult}
+use Rattle.requests.specs.DefaultFileResults.{HasResult}
 use Rattle.search.specs.Listed.{ListingEntry, names_of, IsListing}
 use Rattle.requests.specs.Requests.{RequestedAction, Request}
 use Rattle.requests.specs.Steps.{RequestContext, Done, RequestStep}

@@ -1,6 +1,6 @@
 -- What is among the members of a list.
 use Rattle.std.proofs.Common.{◌≡◌, ◌⊎◌, inl, inr, ℕ, ◌<◌, length, arith, suc, zero, Bool, true, false, cond, List, [], ◌∷◌, ◌++◌, map, flat_map, filter, take, slice_get, Some, None, refl, sym, ap, ◌∙◌, subst}
-use Rattle.certificate.specs.RecordUses.{IsAmong}
+use Rattle.sitelaws.specs.RecordUses.{IsAmong}
 
 pub by_cases : {A B P : Type 0} → A ⊎ B → (A → P) → (B → P) → P
 by_cases (inl a) f g = f a

@@ -11,7 +11,7 @@ use Rattle.envvars.specs.Fields.{without_repeats}
 use Rattle.envvars.proofs.TextLemmas.{same_text}
 use Rattle.envvars.proofs.FieldLemmas.{without_repeats-step, without_repeats-start}
 use Rattle.filetree.specs.Modulefiles.{colon, is_empty, directories}
-use Rattle.certificate.specs.RecordUses.{IsAmong, modulepath}
+use Rattle.sitelaws.specs.RecordUses.{IsAmong, modulepath}
 use Rattle.requests.specs.Records.{Record, Set, Unset, Push, Front, Back, Remove, Conflict, Prereq, Whatis}
 use Rattle.requests.specs.Steps as requests
 use Rattle.sitelaws.specs.Sites.{Site, IsDirectory, first, added, directories_by}

@@ -21,7 +21,7 @@ use Rattle.requests.specs.Judgments.{bad_edit}
 use Rattle.requests.specs.Reasons.{RequestReason, refused_edit}
 use Rattle.requeststep.specs.Answers.{cause_of}
 use Rattle.requeststep.specs.declared.refusal.Refusal.{Refusal}
-use Rattle.certificate.specs.RecordUses.{IsAmong}
+use Rattle.sitelaws.specs.RecordUses.{IsAmong}
 use Rattle.sitelaws.specs.Sites.{Site, SiteModule, Evaluated, EvaluatesTo, AreNamesBelow, added_directories, module_below}
 use Rattle.sitewalk.specs.Walks.{IsEvaluation, AreEvaluations}
 use Rattle.sitewalk.specs.declared.walk.Evaluation.{Evaluation}

@@ -9,8 +9,8 @@ ghost use Rattle.sitewalk.specs.Parts.{HasLoaded, AreEvaluationsBelow, GivesUp};
 use crate::files::{SiteSettings, evaluate_module};
 use crate::progress::Progress;
 use crate::walk::Evaluation;
-use defaultfiles::Evaluated;
 use filetree::Tree;
+use requests::Evaluated;
 use requeststep::Refusal;
 use search::{ListingEntry, available};
 

@@ -24,6 +24,7 @@ pub use tclforms::{
     ForLoop, Form, Loops, Simple, WhileLoop, chosen, core_form, is_unsupported, outside_loop,
     parameter_values,
 };
+pub use tclsubstitution::Stop;
 pub use tclvariables::{Procedure, Variables};
 pub use unsetting::unset;
 pub use value::Value;

@@ -8,7 +8,7 @@ use Rattle.tclrules.proofs.Leading.{stay, starve}
 use Rattle.tclvalue.specs.Faults.{ValueReason, HasReason}
 use Rattle.tcloperators.specs.declared.fault.ValueFault.{ValueFault}
 use Rattle.tcloperators.specs.declared.fault.ValueFault.TheVariants as faults
-use Rattle.tclsubstitution.specs.Stops.{stopped, stop_of}
+use Rattle.tclcommands.specs.Stops.{stopped, stop_of}
 
 -- a fault that has this reason
 pub fault_stops : {most : ℕ} {r : Job → Step} {x : Point} (e : ValueFault) (reason : ValueReason) (s : State) → HasReason reason e → Simulates most r (plans.fault reason s) x (stopped (stop_of e) s) x

@@ -16,9 +16,9 @@ use Rattle.tclrules.specs.Expressions.{fault_of, expr, normal}
 use Rattle.tclrules.specs.Variables.{State}
 use Rattle.tclrules.specs.Plans.{Completion, Normal, Raised, Returned, Broken, Continued, Bounds, Next, Step, ended, halt, given, sized}
 use Rattle.tclrules.specs.Rules.{turn}
-use Rattle.tclsubstitution.specs.Stops.{error_or_halt}
-use Rattle.tclsubstitution.specs.declared.stop.Stop.{Stop}
-use Rattle.tclsubstitution.specs.declared.stop.Stop.TheVariants as stops
+use Rattle.tclcommands.specs.Stops.{error_or_halt}
+use Rattle.tclcommands.specs.Stop.{Stop}
+use Rattle.tclcommands.specs.Stop.TheVariants as stops
 use Rattle.tclcontrol.specs.declared.result_use.ResultUse.{ResultUse}
 use Rattle.tclcontrol.specs.declared.result_use.ResultUse.TheVariants.{Needed}
 

@@ -6,8 +6,8 @@ ghost use Rattle.tclrules.specs.Plans as plans;
 ghost use Rattle.tclrules.specs.Plans.{Bounds, Job, Next, ended, raise, sized};
 ghost use Rattle.tclrules.specs.Rules as rules;
 ghost use Rattle.tclcommands.specs.FormViews.{simple_view};
-ghost use Rattle.tclsubstitution.specs.Machine.{bounds};
-ghost use Rattle.tclsubstitution.specs.Stops.{after, stopped};
+ghost use Rattle.tclcommands.specs.Machine.{bounds};
+ghost use Rattle.tclcommands.specs.Stops.{after, stopped};
 ghost use Rattle.tclcommands.specs.Continuations.{value_text};
 ghost use Rattle.tclcontrol.specs.CommandTexts.{name_of};
 ghost use Rattle.tclcontrol.specs.Completions.{EvaluatesToText, sized_next};
@@ -16,11 +16,10 @@ use crate::command_words::CommandWords;
 use crate::result_use::ResultUse;
 use std::alloc::Global;
 use tclcommands::{
-    Simple, Value, Variables, append, consult, define, exists, get, global, increase,
+    Simple, Stop, Value, Variables, append, consult, define, exists, get, global, increase,
     is_unsupported, list_append, put, set, unset,
 };
 use tclrules::{EvalFault, Host, Limits};
-use tclsubstitution::Stop;
 use tclvalue::unsupported;
 
 /// The completion of return(n), with this result.

@@ -1,6 +1,6 @@
 pub mod Running
 pub mod LiteralWords
 pub mod Conditions
--- What is proved of stops below, so that a caller need not name the crates below.
+-- Handed on, so that a caller need not name the crates below.
 pub use Rattle.tclcontrol.proofs.Stopping
 pub use Rattle.tclsubstitution.proofs.Leading

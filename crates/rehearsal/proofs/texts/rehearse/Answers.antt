@@ -6,7 +6,7 @@ use Rattle.envvars.specs.Texts.{Text}
 use Rattle.requests.specs.RequestViews.{request_view}
 use Rattle.requests.specs.Requests.{Request}
 use Rattle.requests.specs.Steps.{request_context_in}
-use Rattle.requeststep.proofs.EachLemmas.{split_at}
+use Rattle.modules.proofs.EachLemmas.{split_at}
 use Rattle.rehearsal.specs.Rehearsals.{Rehearsal}
 use Rattle.rehearsal.specs.Parts.{print_view, prints}
 use Rattle.rehearsal.proofs.TextLemmas.{rehearsed_on, prints_push, no_requests}

@@ -2,7 +2,7 @@ use Rattle.std.proofs.Common.{IfErr, map, String, string_bytes, sym, subst}
 use Rattle.std.specs.declared.alloc.Global.{Global}
 use Rattle.requests.specs.declared.action.Action.{Action}
 use Rattle.requests.specs.declared.action.Action.TheVariants as actions
-use Rattle.defaultfiles.specs.DefaultFileResults.{HasResult}
+use Rattle.requests.specs.DefaultFileResults.{HasResult}
 use Rattle.search.specs.Looked.{ListingLooksAt}
 use Rattle.requests.specs.RequestViews.{action_view}
 use Rattle.requests.specs.Looked.{RequestLooksAt}

@@ -3,7 +3,7 @@ use Rattle.envvars.specs.Texts.{Text}
 use Rattle.search.specs.Listed.{Listed}
 use Rattle.search.specs.Listings.{listing_view}
 use Rattle.search.specs.declared.listings.Listing as code
-use Rattle.defaultfiles.specs.DefaultFileResults.{HasResult}
+use Rattle.requests.specs.DefaultFileResults.{HasResult}
 use Rattle.requests.specs.Reports.{avail_text}
 use Rattle.requests.specs.Steps.{nothing_done, with_report, modulepath}
 use Rattle.filetree.specs.Agreement.{InEachPair, is_device}

@@ -1,6 +1,6 @@
 use Rattle.std.proofs.Common.{◌<◌, Ok, Err, refl, subst}
 use Rattle.std.proofs.lemmas.Result.{err_from_is_err_and}
-use Rattle.defaultfiles.specs.DefaultFileResults.{HasResult}
+use Rattle.requests.specs.DefaultFileResults.{HasResult}
 use Rattle.search.specs.Found.{Found}
 use Rattle.search.specs.Answers.{cause_of, found_view, is_failure}
 use Rattle.requeststep.proofs.StepLemmas.{search_stands}

@@ -2,7 +2,7 @@ use Rattle.std.proofs.Common.{◌≡◌, ◌+◌, ◌≤◌, List, [], ◌∷◌
 use Rattle.std.proofs.Math.ListN.{drop_of_length-le}
 use Rattle.envvars.specs.Texts.{Text, texts_in}
 use Rattle.requests.specs.Sessions.{end_environment}
-use Rattle.requeststep.proofs.EachLemmas.{split_at}
+use Rattle.modules.proofs.EachLemmas.{split_at}
 use Rattle.modules.specs.declared.sessions.Outcome.{Outcome}
 use Rattle.requests.specs.Steps.{request_context_in}
 use Rattle.modules.specs.Responses.{count_failed, response_of, responses}

@@ -1,5 +1,5 @@
 use Rattle.std.proofs.Common.{◌≡◌, map, take}
-use Rattle.requeststep.specs.MoveViews.{module_view}
+use Rattle.certificate.specs.MoveViews.{module_view}
 use Rattle.siteclash.specs.UsingModules.{module_of}
 use Rattle.siteclash.proofs.modules.using_modules.Given as goal
 

@@ -1,7 +1,7 @@
 use Rattle.std.proofs.Common.{List, map, subst}
 use Rattle.envvars.specs.Texts.{Text}
 use Rattle.filetree.specs.Modulefiles.{directories}
-use Rattle.defaultfiles.specs.DefaultFileResults.{HasResult}
+use Rattle.requests.specs.DefaultFileResults.{HasResult}
 use Rattle.search.specs.ListingEntries.{listing_entry_view}
 use Rattle.sitelaws.specs.Sites.{site_of, AreNamesBelow}
 use Rattle.sitewalk.proofs.ListingLemmas.{names_seen, last_listing}

@@ -1,6 +1,6 @@
 use Rattle.std.proofs.Common.{◌≡◌, true, false, sym, ◌∙◌, []}
 use Rattle.tclrules.proofs.Leading.{continue_with}
-use Rattle.tclsubstitution.proofs.Leading.{passed_on}
+use Rattle.tclcommands.proofs.Leading.{passed_on}
 use Rattle.tclcontrol.proofs.Stopping.{fault_stops}
 use Rattle.tclcontrol.proofs.CommandWordLemmas.{whole}
 use Rattle.tclrules.specs.Names.{is_among, unsupported_commands}
