@@ -17,6 +17,7 @@ CHECKS = {
     "the tables of ARCHITECTURE are those of tools/rooms.py": named.check_rooms,
     "the files that pages name are there": named.check_files,
     "the crates that pages name are there": named.check_crates,
+    "the graph of crates has few paths": named.check_paths,
     "the words of sources that pages name are there": named.check_words,
     "the suites that pages name are there": lambda: named.check_suites({script for script, *_ in SUITES}),
 }

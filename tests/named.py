@@ -25,6 +25,9 @@ OF_FAULTS = {"number", "message"}
 # What is public for the crates above alone, which CLAIMS omits.
 HELPERS = {"envvars": ("escapes", "fields")}
 
+# The gate goes along each path down the graph of crates several times before it proves anything.
+MOST_PATHS = 500_000
+
 # What begins like a path of the repository: a folder at its top, or one of a crate.
 FOLDERS = "bench|completion|crates|demo|docs|etc|init|libexec|man|tests|tools"
 PATH = re.compile(rf"(?:{FOLDERS})/|\w+/(?:src|specs|proofs|must-fail)/")
@@ -253,6 +256,22 @@ def check_crates():
             if crate in crates and rest:
                 known = {it.name for it in functions_of(crate)} | exported(crate) | set(sources(crate))
                 true(rest[-1].strip("(),") in known, f"{page} names a function that is there: {name}")
+
+
+def check_paths():
+    """The ways down the graph of crates.txt, from each crate along what it lists, are few enough to walk."""
+    lines = re.findall(r"^(\w+).*?:(.*)", content("crates.txt"), re.MULTILINE)
+    lists = {crate: set(listed.split()) for crate, listed in lines}
+
+    @functools.cache
+    def paths_from(crate):
+        return 1 + sum(paths_from(lower) for lower in lists[crate] & lists.keys())
+
+    paths = sum(map(paths_from, lists))
+    true(
+        paths <= MOST_PATHS,
+        f"crates.txt has at most {MOST_PATHS} paths, not {paths}: list no crate whose items a nearer one can hand on",
+    )
 
 
 def check_suites(suites):
