@@ -62,6 +62,7 @@ fn has_colon(name: &str) -> bool
 }
 
 /// The parts of a name: that of its array and its index, where it has one.
+#[inline(always)]
 fn name_and_index(name: &str) -> (&str, Option<&str>)
     ensures { (result.0.now, option_map (λ i. i.now) result.1) ≡ name_and_index name.now }
 {

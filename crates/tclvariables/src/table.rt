@@ -24,6 +24,7 @@ pub(crate) type Table = IndexMap<String, Content>;
 const FEW: usize = 4;
 
 /// The place of a variable in the order.
+#[inline(always)]
 fn place_of(table: &Table, name: &str) -> Option<usize>
     ensures place { result ≡ index_of_by (λ k. bytes_eq name.now (string_bytes k)) table.now }
     ensures within { IfSome result (λ i. i < index_map_len table.now) }
@@ -31,8 +32,17 @@ fn place_of(table: &Table, name: &str) -> Option<usize>
     if table.len() <= FEW {
         table.keys().position(|key| name == key.as_str())
     } else {
-        table.get_index_of(name)
+        hashed_place(table, name)
     }
+}
+
+/// The place of a variable in the order, by the hash of its name. It is kept out of `place_of`, which is to be short.
+#[inline(never)]
+fn hashed_place(table: &Table, name: &str) -> Option<usize>
+    ensures place { result ≡ index_of_by (λ k. bytes_eq name.now (string_bytes k)) table.now }
+    ensures within { IfSome result (λ i. i < index_map_len table.now) }
+{
+    table.get_index_of(name)
 }
 
 /// What a variable holds.
