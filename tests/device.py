@@ -80,6 +80,18 @@ def reports(folder):
         answers_or_fails(folder, ["sh", *words], env)
 
 
+@case
+def a_file_that_changes_meanwhile(folder):
+    """Its first bytes are read by themselves, and then the whole file, which isn't taken where it begins otherwise."""
+    folder.module("foo/1.0", FOO)
+    env = {**folder.environment(PATH="/bin"), b"LD_PRELOAD": refuser(folder.path, "failing_calls")}
+    accepted = folder.run("sh", "load", "foo/1.0", env=env)
+    same((accepted.stderr, accepted.returncode), (b"", 0), "a file that stays")
+    folder.refuses(["sh", "load", "foo/1.0"], "Unable to locate a modulefile for 'foo/1.0'", env={**env, b"OTHER_AT": b"1"})
+    folder.refuses(["sh", "load", "foo/1.0"], "Reading failed", env={**env, b"OTHER_AT": b"2"})
+    folder.answers(["sh", "load", "foo/1.0"], accepted.stdout, b"", 0, env={**env, b"OTHER_AT": b"3"})
+
+
 # Bytes of a file that is no module; of memory that the program may ask for, so that one that reads it whole ends soon;
 # and of memory that it may take, which is more than Python itself takes before it becomes the program.
 HUGE = 50 * 2**30

@@ -1,5 +1,6 @@
 /* For tests: a system of whose reads one fails, the FAIL_AT-th, or each from the FAIL_FROM-th on: by errno FAIL_WITH, or
- * EIO. With FAIL_SEEN only those are counted that look at, open or read what was looked at before, and was there. */
+ * EIO. With FAIL_SEEN only those are counted that look at, open or read what was looked at before, and was there. And a
+ * system whose file changes meanwhile: the OTHER_AT-th read that gives the beginning of a modulefile gives another one. */
 #define _GNU_SOURCE
 #include <dlfcn.h>
 #include <dirent.h>
@@ -63,6 +64,18 @@ static int fails(const char *path)
     return 1;
 }
 
+/* What was read begins otherwise, if it is that read. */
+static void change(char *bytes, ssize_t count)
+{
+    static const char cookie[] = "#%Module";
+    static long begun;
+    if (count < (ssize_t)strlen(cookie) || memcmp(bytes, cookie, strlen(cookie)) != 0)
+        return;
+    begun += 1;
+    if (begun == number_in("OTHER_AT"))
+        bytes[0] = ' ';
+}
+
 static mode_t mode_in(int flags, va_list rest)
 {
     return flags & O_CREAT ? va_arg(rest, mode_t) : 0;
@@ -97,7 +110,11 @@ ssize_t read(int file, void *to, size_t count)
     static ssize_t (*real)(int, void *, size_t);
     if (!real)
         real = dlsym(RTLD_NEXT, "read");
-    return fails(NULL) ? -1 : real(file, to, count);
+    if (fails(NULL))
+        return -1;
+    ssize_t given = real(file, to, count);
+    change(to, given);
+    return given;
 }
 
 ssize_t getdents64(int dir, void *to, size_t count)

@@ -234,6 +234,10 @@ ROWS = {
         {"/m/a/1": "append-path MODULEPATH /n\nunsetenv W\n", "/n/b/1": "setenv V y\n"},
         [("a/1", "one-way", "unsetenv W")],
     ),
+    "a directory that a module adds which asks": (
+        {"/m/a/1": "append-path MODULEPATH /n\ngetenv HOME\n", "/n/b/1": "setenv V y\n"},
+        [("a/1", "asks", "getenv HOME")],
+    ),
     "a directory behind a directory": (
         {"/m/a/1": "prepend-path MODULEPATH /n\n", "/n/b/1": "prepend-path MODULEPATH /o:/m\n", "/o/c/1": "getenv X\n"},
         [("a/1", "certified", ""), ("b/1", "certified", ""), ("c/1", "asks", "getenv X")],
@@ -450,6 +454,20 @@ def control_characters_in_paths_and_reasons(folder):
     same((done.stdout.decode(), done.stderr, done.returncode), (wanted, b"", 1), "what is said")
     found = json.loads(folder.run("--json", directory).stdout)["modules"][0]
     same((found["path"], found["refusal"]), (f"{directory}/a/1", "x\ny\tz\\ \r (line 2)"), "the document")
+
+
+@case
+def each_control_character(folder):
+    """All that a path can hold: 1 to 31 and 127. The space and `~` are none, and the document has them all as they are."""
+    controls = "".join(map(chr, [*range(1, 32), 127]))
+    spelled = "".join("\\t" if c == "\t" else "\\n" if c == "\n" else f"\\x{ord(c):02x}" for c in controls)
+    directory = os.path.join(os.fsdecode(folder.path), f" {controls}~")
+    write(folder, os.path.join(directory, "a", "1"), "")
+    done = folder.run(directory)
+    path = os.path.join(os.fsdecode(folder.path), f" {spelled}~")
+    wanted = f"a/1\tcertified\t\t{path}/a/1\n# 1 certified of 1\n"
+    same((done.stdout.decode(), done.stderr, done.returncode), (wanted, b"", 0), "what is said")
+    same(json.loads(folder.run("--json", directory).stdout)["modules"][0]["path"], f"{directory}/a/1", "the document")
 
 
 @case
