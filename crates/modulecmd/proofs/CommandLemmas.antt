@@ -17,9 +17,9 @@ use Rattle.requests.specs.Reasons.{RequestReason}
 use Rattle.requests.specs.Requests.{RequestedAction, Request}
 use Rattle.requests.specs.Steps.{RequestContext, Done, RequestStep, request_context_in}
 use Rattle.filetree.specs.Causes.{Cause, memory, device, because, Applies}
-use Rattle.sessioncheck.specs.Answers.{cause_of}
-use Rattle.sessioncheck.specs.Messages.{memory_number, number_by}
-use Rattle.sessioncheck.specs.Replies.{changed_env, changed_view}
+use Rattle.modules.specs.Answers.{cause_of}
+use Rattle.modules.specs.Messages.{memory_number, number_by}
+use Rattle.modules.specs.Replies.{changed_env, changed_view}
 use Rattle.modulecmd.specs.declared.command_fault.CommandFault.{CommandFault}
 use Rattle.modulecmd.specs.declared.command_fault.CommandFault.TheVariants.{Refused, Unprinted, UnknownShell, WriteFailed}
 use Rattle.modulecmd.specs.Command as command

@@ -14,9 +14,9 @@ use Rattle.requests.specs.Reasons.{RequestReason, bad_arguments}
 use Rattle.requests.specs.Requests.{RequestedAction, Request, request_of}
 use Rattle.requests.specs.Steps.{Done, RequestStep, request_context_in}
 use Rattle.filetree.specs.Causes.{Applies}
-use Rattle.sessioncheck.specs.Answers.{cause_of}
-use Rattle.sessioncheck.specs.Messages as texts
-use Rattle.sessioncheck.specs.Refusal.TheVariants as refusals
+use Rattle.modules.specs.Answers.{cause_of}
+use Rattle.modules.specs.Messages as texts
+use Rattle.modules.specs.Refusal.TheVariants as refusals
 use Rattle.filetree.specs.declared.find_fault.FindFault.TheVariants as finds
 use Rattle.processinput.specs.declared.input.InputFault.{InputFault}
 use Rattle.processinput.specs.declared.input.InputFault.TheVariants as inputs

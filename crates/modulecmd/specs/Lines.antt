@@ -1,7 +1,7 @@
 -- The texts of faults, and the line on standard error that says why a command is refused (own).
 use Rattle.std.specs.Prelude.{[], ◌∷◌, ◌++◌, codes, string_bytes}
 use Rattle.message.specs.Messages.{Text, quoting}
-use Rattle.sessioncheck.specs.Messages as texts
+use Rattle.modules.specs.Messages as texts
 use Rattle.shelltext.specs.Printing.{print_message}
 use Rattle.modulecmd.specs.declared.command_fault.CommandFault.{CommandFault}
 use Rattle.modulecmd.specs.declared.command_fault.CommandFault.TheVariants.{Refused, Unprinted, UnknownShell, WriteFailed}

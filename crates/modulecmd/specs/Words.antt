@@ -3,7 +3,7 @@ use Rattle.std.specs.Prelude.{◌++◌, string_bytes}
 use Rattle.std.specs.List.{flat_map}
 use Rattle.envvars.specs.Environment.{Environment}
 use Rattle.envvars.specs.Texts.{Text}
-use Rattle.sessioncheck.specs.Replies.{changed_view}
+use Rattle.modules.specs.Replies.{changed_view}
 use Rattle.modulecmd.specs.declared.command.Prepared.{Prepared}
 use Rattle.modulecmd.specs.Command.{CommandResult}
 

@@ -13,7 +13,7 @@ use crate::command_fault::CommandFault;
 use crate::finishing::{finish, report_fault};
 use envvars::Env;
 use filetree::Tree;
-use sessioncheck::{Changed, Limits, Refusal, Request, request, run_changes};
+use modules::{Changed, Limits, Refusal, Request, request, run_changes};
 use shells::Shell;
 use shelltext::print_changes;
 use std::alloc::Global;

@@ -4,7 +4,7 @@ ghost use Rattle.std.specs.Io.KnownBytes.{Appends};
 ghost use Rattle.modulecmd.specs.Writing.{AppendsPart};
 ghost use Rattle.message.specs.Messages.{around, text_of};
 ghost use Rattle.modulecmd.specs.Lines.{error_line, line_of, message_of};
-ghost use Rattle.sessioncheck.specs.Refusal.TheVariants as refusals;
+ghost use Rattle.modules.specs.Refusal.TheVariants as refusals;
 ghost use Rattle.modulecmd.specs.declared.command_fault.CommandFault.TheVariants.{Refused, Unprinted};
 ghost use Rattle.modulecmd.specs.Command.{number_of, of_arguments, of_input};
 
@@ -12,8 +12,8 @@ use crate::writers::{WriteFault, write_parts};
 use envvars::EnvFault;
 use itoa::Buffer;
 use message::Message;
+use modules::{FindFault, Refusal};
 use processinput::{ArgumentsFault, InputFault};
-use sessioncheck::{FindFault, Refusal};
 use shelltext::PrintFault;
 use std::alloc::AllocError;
 use std::error::Error;

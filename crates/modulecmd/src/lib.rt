@@ -24,15 +24,15 @@ pub use envvars::{Change, Env, EnvFault, changes};
 pub use filetree::{DiskTree, MemoryTree, Tree, TreeFault};
 pub use laws::{commands_return, one_command, site_commands_return};
 pub use lookup::{FindFault, Found, Listing, available, locate, version_order};
+pub use modules::{
+    Action, Changed, Done, Limits, MissingNames, Module, Move, Outcome, Refusal, Reply, Request,
+    Verdict, request, run, run_changes, session, verdict,
+};
 pub use process::process_input;
 pub use processinput::{
     ArgumentsFault, InputFault, arguments, environment_block, environment_of, read_input,
 };
 pub use rehearsal::rehearse;
-pub use sessioncheck::{
-    Action, Changed, Done, Limits, MissingNames, Module, Move, Outcome, Refusal, Reply, Request,
-    Verdict, request, run, run_changes, session, verdict,
-};
 pub use shells::Shell;
 pub use shelltext::{PrintFault, print_changes};
 pub use writers::WriteFault;

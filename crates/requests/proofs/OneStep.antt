@@ -5,7 +5,7 @@ use Rattle.envvars.specs.Texts.{Text, has}
 use Rattle.envvars.specs.Environment.{Environment}
 use Rattle.envloaded.specs.Loaded.{Entry, names_of}
 use Rattle.filetree.specs.Modulefiles.{modulefile}
-use Rattle.defaultfiles.specs.Limits.{Limits}
+use Rattle.tclrules.specs.declared.limits.Limits.{Limits}
 use Rattle.filetree.specs.Relations.{Is, Then, IsOne}
 use Rattle.filetree.proofs.OneOutcome.{one_is, one_then, one_if}
 use Rattle.modulerecords.specs.Records.{Record}

@@ -5,7 +5,7 @@ use Rattle.envvars.specs.Texts.{Text, has}
 use Rattle.envvars.specs.Environment.{Environment}
 use Rattle.envloaded.specs.Loaded.{Entry, names_of}
 use Rattle.filetree.specs.Modulefiles.{modulefile}
-use Rattle.defaultfiles.specs.Limits.{Limits}
+use Rattle.tclrules.specs.declared.limits.Limits.{Limits}
 use Rattle.filetree.specs.Relations.{Is, Then}
 use Rattle.modulerecords.specs.Records.{Record}
 use Rattle.modulerecords.specs.Effects as modes

@@ -6,7 +6,7 @@ use Rattle.envvars.specs.Texts.{Text, has}
 use Rattle.envvars.specs.Environment.{Environment, lookup}
 use Rattle.envvars.specs.Reasons as edits
 use Rattle.envloaded.specs.Loaded.{Entry, names_of, loaded_in}
-use Rattle.defaultfiles.specs.Limits.{Limits}
+use Rattle.tclrules.specs.declared.limits.Limits.{Limits}
 use Rattle.shells.specs.declared.shell.Shell.{Shell}
 use Rattle.filetree.specs.Agreement.{Files, Listings}
 use Rattle.filetree.specs.Modulefiles.{FileContent, absent, no_cookie, not_utf8, script, modulefile}

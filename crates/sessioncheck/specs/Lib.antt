@@ -7,8 +7,3 @@ pub mod Reports
 pub mod Laws
 -- for this crate's own contracts alone
 pub mod Parts
--- What a request answers, so that a caller need not name the crates below.
-pub use Rattle.modules.specs.Replies
-pub use Rattle.modules.specs.Answers
-pub use Rattle.modules.specs.Messages
-pub use Rattle.modules.specs.Refusal

@@ -14,7 +14,4 @@ mod running;
 pub use checking::{Findings, check};
 pub use judging::Judgment;
 pub use laws::lines_run;
-pub use modules::{
-    Action, Changed, Done, Env, FindFault, Limits, MissingNames, Module, Move, Outcome, Refusal,
-    Reply, Request, Shell, Tree, Verdict, request, run, run_changes, session, verdict,
-};
+pub use modules::{Env, Limits, Outcome, Refusal, Shell, Tree, Verdict};

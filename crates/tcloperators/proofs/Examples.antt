@@ -3,8 +3,8 @@ use Rattle.std.specs.Prelude.{◌≡◌, refl, codes, Ok, Err, true}
 use Rattle.std.specs.Str.{chars}
 use Rattle.std.specs.Fmt.{digits}
 use Rattle.tclnumber.specs.Numerals.{numeral}
-use Rattle.tclnumber.specs.UnaryOperator.TheVariants.{Minus, Complement}
-use Rattle.tclnumber.specs.BinaryOperator.TheVariants as binary
+use Rattle.tclexpr.specs.declared.operators.UnaryOperator.TheVariants.{Minus, Complement}
+use Rattle.tclexpr.specs.declared.operators.BinaryOperator.TheVariants as binary
 use Rattle.tcloperators.specs.Faults.{error, fraction, number_too_large}
 use Rattle.tcloperators.specs.Messages.{divide_by_zero, negative_shift, not_numeric, not_a_boolean}
 use Rattle.tcloperators.specs.Operators.{unary_value, binary_value, truth}

@@ -9,13 +9,13 @@ use Rattle.std.specs.Ordering.{nat_cmp, int_cmp, is_lt, is_gt, is_le, is_ge, is_
 use Rattle.std.specs.Cmp.Lexicographic.{slice_cmp}
 use Rattle.tclchars.specs.Runs.{Text}
 use Rattle.tclnumber.specs.Numerals.{numeral}
-use Rattle.tclnumber.specs.Symbols.{unary_symbol, binary_symbol}
+use Rattle.tclexpr.specs.Symbols.{unary_symbol, binary_symbol}
 use Rattle.tclnumber.specs.declared.number.Numeral.{Numeral}
 use Rattle.tclnumber.specs.declared.number.Numeral.TheVariants as numerals
-use Rattle.tclnumber.specs.UnaryOperator.{UnaryOperator}
-use Rattle.tclnumber.specs.UnaryOperator.TheVariants.{Minus, Plus, Complement, Not}
-use Rattle.tclnumber.specs.BinaryOperator.{BinaryOperator}
-use Rattle.tclnumber.specs.BinaryOperator.TheVariants as binary
+use Rattle.tclexpr.specs.declared.operators.UnaryOperator.{UnaryOperator}
+use Rattle.tclexpr.specs.declared.operators.UnaryOperator.TheVariants.{Minus, Plus, Complement, Not}
+use Rattle.tclexpr.specs.declared.operators.BinaryOperator.{BinaryOperator}
+use Rattle.tclexpr.specs.declared.operators.BinaryOperator.TheVariants as binary
 use Rattle.tcloperators.specs.Faults.{Answer, error, number_too_large, fraction, ◌>>=◌}
 use Rattle.tcloperators.specs.Elements.{elements_of}
 use Rattle.tcloperators.specs.Messages.{not_numeric, not_a_boolean}

@@ -4,7 +4,7 @@ ghost use Rattle.tclchars.specs.Runs.{Text};
 ghost use Rattle.tclnumber.specs.Numerals.{numeral};
 ghost use Rattle.tclnumber.specs.declared.number.Numeral.TheVariants.{Whole};
 ghost use Rattle.tcloperators.specs.declared.operators.Computed.TheVariants.{Truth};
-ghost use Rattle.tclnumber.specs.Symbols.{binary_symbol};
+ghost use Rattle.tclexpr.specs.Symbols.{binary_symbol};
 ghost use Rattle.tclchars.specs.Answers.{Gives};
 ghost use Rattle.tcloperators.specs.Faults.{reason_of, GivesText};
 ghost use Rattle.tcloperators.specs.Numbers.{within_64_bits, bitwise_not};
@@ -20,7 +20,8 @@ use crate::operands::Operands;
 use crate::truth_values::truth;
 use std::alloc::Global;
 use std::cmp::Ordering;
-use tclnumber::{BinaryOperator, Numeral, UnaryOperator, read_number};
+use tclexpr::{BinaryOperator, UnaryOperator};
+use tclnumber::{Numeral, read_number};
 
 /// The value of an operator between two operands, before its text is made.
 #[derive(Clone, Copy, Debug, PartialEq, Eq)]

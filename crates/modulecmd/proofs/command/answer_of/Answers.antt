@@ -3,7 +3,7 @@ use Rattle.std.proofs.lemmas.Result.{err_from_is_err_and}
 use Rattle.std.specs.declared.alloc.Global.{Global}
 use Rattle.envvars.specs.Changes.{new_values_in}
 use Rattle.requests.specs.RequestViews.{request_view}
-use Rattle.sessioncheck.specs.Replies.{changed_view}
+use Rattle.modules.specs.Replies.{changed_view}
 use Rattle.modulecmd.specs.Command.{CommandHasResult}
 use Rattle.modulecmd.specs.Output.{HasResultInEachPair, ResultLacksText}
 use Rattle.modulecmd.proofs.CommandLemmas.{answers, does, unprinted}
