@@ -87,9 +87,9 @@ def a_file_that_changes_meanwhile(folder):
     env = {**folder.environment(PATH="/bin"), b"LD_PRELOAD": refuser(folder.path, "failing_calls")}
     accepted = folder.run("sh", "load", "foo/1.0", env=env)
     same((accepted.stderr, accepted.returncode), (b"", 0), "a file that stays")
-    folder.refuses(["sh", "load", "foo/1.0"], "Unable to locate a modulefile for 'foo/1.0'", env={**env, b"OTHER_AT": b"1"})
-    folder.refuses(["sh", "load", "foo/1.0"], "Reading failed", env={**env, b"OTHER_AT": b"2"})
-    folder.answers(["sh", "load", "foo/1.0"], accepted.stdout, b"", 0, env={**env, b"OTHER_AT": b"3"})
+    for number, text in ((b"1", "Unable to locate a modulefile for 'foo/1.0'"), (b"2", "Reading failed")):
+        folder.refuses(["sh", "load", "foo/1.0"], text, env={**env, b"OTHER_AT": number})
+    folder.accepts(["sh", "load", "foo/1.0"], accepted.stdout, env={**env, b"OTHER_AT": b"3"})
 
 
 # Bytes of a file that is no module; of memory that the program may ask for, so that one that reads it whole ends soon;

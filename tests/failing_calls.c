@@ -1,6 +1,6 @@
 /* For tests: a system of whose reads one fails, the FAIL_AT-th, or each from the FAIL_FROM-th on: by errno FAIL_WITH, or
- * EIO. With FAIL_SEEN only those are counted that look at, open or read what was looked at before, and was there. And a
- * system whose file changes meanwhile: the OTHER_AT-th read that gives the beginning of a modulefile gives another one. */
+ * EIO. With FAIL_SEEN only those are counted that look at, open or read what was looked at before, and was there.
+ * And one whose file changes meanwhile: the OTHER_AT-th read that gives the cookie of a modulefile gives another. */
 #define _GNU_SOURCE
 #include <dlfcn.h>
 #include <dirent.h>

@@ -458,7 +458,7 @@ def control_characters_in_paths_and_reasons(folder):
 
 @case
 def each_control_character(folder):
-    """All that a path can hold: 1 to 31 and 127. The space and `~` are none, and the document has them all as they are."""
+    """All that a path can hold: 1 to 31 and 127. The space and `~` are none. The document has the path as it is."""
     controls = "".join(map(chr, [*range(1, 32), 127]))
     spelled = "".join("\\t" if c == "\t" else "\\n" if c == "\n" else f"\\x{ord(c):02x}" for c in controls)
     directory = os.path.join(os.fsdecode(folder.path), f" {controls}~")
