@@ -1,5 +1,5 @@
 -- The difference that the entries of a table make, and changes sorted by the names of their variables.
-use Rattle.std.proofs.Common.{◌≡◌, ℕ, ◌+◌, ◌<◌, Bool, true, false, cond, not, List, [], ◌∷◌, ◌++◌, length, get_or, map, filter, subst, refl, sym, ap, ◌∙◌, append_assoc, arith, Option, Some, None, String, Global, string_bytes}
+use Rattle.std.proofs.Common.{◌≡◌, ◌+◌, ◌<◌, Bool, true, false, cond, not, List, [], ◌∷◌, ◌++◌, length, map, filter, subst, refl, sym, ap, ◌∙◌, append_assoc, arith, Option, Some, None, String, Global, string_bytes}
 use Rattle.std.specs.Prelude.{bytes_eq}
 use Rattle.std.specs.List.{dedup, dedup_from, AllByRecursion, IsDistinct}
 use Rattle.std.specs.List.Sorted.{IsStrictlySortedBy, IsSorted, IsSortedBy, IsPermutation}
@@ -17,7 +17,7 @@ use Rattle.std.proofs.lemmas.Map.Made.{IsDistinct-keys_filter}
 use Rattle.std.proofs.lemmas.Map.Text.{is_eq-slice_cmp}
 use Rattle.indexmap.proofs.MapLemmas.{lookup_permutation}
 use Rattle.envvars.specs.Texts.{Text, has}
-use Rattle.envvars.specs.Environment.{Environment, lookup, with_value}
+use Rattle.envvars.specs.Environment.{Environment, lookup}
 use Rattle.envvars.specs.Changes.{NewValue, same_value, difference, new_value_at, new_value_of, AreChanges}
 use Rattle.envvars.specs.Tables.{Slot, differs_from, names_of, new_values_of, written_over}
 use Rattle.envvars.specs.declared.change.Change.{Change}
