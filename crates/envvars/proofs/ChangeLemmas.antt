@@ -168,7 +168,7 @@ new_value_at-listed new [] q = refl
 new_value_at-listed new (n ∷ ns) q =
     ap (cond (bytes_eq q n) (Some (lookup new n))) (new_value_at-listed new ns q) ∙ listed_at new n q (has q ns) (bytes_eq q n) refl
 
-same_as_itself : (o : Option Text) → same_value o o ≡ true
+pub same_as_itself : (o : Option Text) → same_value o o ≡ true
 same_as_itself None = refl
 same_as_itself (Some x) = bytes_eq-same x
 

@@ -4,6 +4,7 @@ pub mod EnvLemmas
 pub mod GivenLemmas
 pub mod TableLemmas
 pub mod ChangeLemmas
+pub mod DifferenceLemmas
 pub mod FieldLemmas
 pub mod EscapeLemmas
 pub mod EditLemmas

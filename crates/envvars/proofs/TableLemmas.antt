@@ -1,5 +1,5 @@
 -- Tables of names, and the environments that they are written over.
-use Rattle.std.proofs.Common.{◌≡◌, Bool, true, false, cond, ◌||◌, List, [], ◌∷◌, ◌++◌, refl, sym, ap, ◌∙◌, map, Option, Some, None, Result, Ok, Err, String, Global, string_bytes}
+use Rattle.std.proofs.Common.{◌≡◌, Bool, true, false, cond, ◌||◌, arith, List, [], ◌∷◌, ◌++◌, length, refl, sym, ap, ◌∙◌, map, Option, Some, None, Result, Ok, Err, String, Global, string_bytes}
 use Rattle.std.specs.Prelude.{bytes_eq, unwrap_or, if◌then◌else◌}
 use Rattle.std.specs.Option.{option_map}
 use Rattle.std.specs.Result.{IsOk, OnOk}
@@ -41,6 +41,14 @@ lookup-entries e (x ∷ xs) q =
 
 pub lookup-written_over : {S : Type 0} (e : Environment) (m : IndexMap (String Global) (Option (String Global)) S) (q : Text) → lookup (written_over e m.entries) q ≡ unwrap_or (slot m q) (lookup e q)
 lookup-written_over e m q = lookup-entries e m.entries q
+
+-- a table without entries says nothing
+no_slot : (es : List Slot) (q : Text) → length es ≡ 0 → said (maps.lookup (λ k. bytes_eq q (string_bytes k)) es) ≡ None
+no_slot [] q h = refl
+no_slot (x ∷ xs) q h = absurd (omega (arith, h))
+
+pub none_found : {S : Type 0} (m : IndexMap (String Global) (Option (String Global)) S) (q : Text) → length m.entries ≡ 0 → None ≡ slot m q
+none_found m q h = sym (no_slot m.entries q h)
 
 -- tables that say the same of each name
 pub same_over : {S : Type 0} (e : Environment) (m n : IndexMap (String Global) (Option (String Global)) S) → ((q : Text) → unwrap_or (slot n q) (lookup e q) ≡ unwrap_or (slot m q) (lookup e q)) → written_over e n.entries ≡ written_over e m.entries

@@ -1,22 +1,29 @@
 //! The difference of two environments, as a list of changes that turns the first into the second.
-ghost use Rattle.std.specs.Prelude.{◌≡◌, ◌++◌, not, false, map, filter, IfOk, IfErr};
+ghost use Rattle.std.specs.Prelude.{◌≡◌, ◌++◌, [], ◌∷◌, not, false, map, filter, bytes_eq, string_bytes, IfOk, IfErr, OnOk};
+ghost use Rattle.std.specs.Ordering.{nat_cmp};
+ghost use Rattle.std.specs.Cmp.Lexicographic.{slice_cmp};
+ghost use Rattle.std.specs.List.{IsDistinct};
+ghost use Rattle.std.specs.List.Sorted.{IsStrictlySortedBy};
+ghost use Rattle.std.specs.Option.{option_map};
 ghost use Rattle.envvars.specs.Texts.{Text, has, slice_texts};
 ghost use Rattle.envvars.specs.Environment.{lookup};
 ghost use Rattle.envvars.specs.declared.fault.EnvFault.TheVariants.{OutOfMemory};
-ghost use Rattle.envvars.specs.Changes.{AreChanges, new_value_of, new_values_in, same_value};
+ghost use Rattle.envvars.specs.Changes.{AreChanges, new_value_at, new_value_of, new_values_in, same_value};
+ghost use Rattle.envvars.specs.Tables.{differs_from, names_of, new_values_of, written_over};
 
 use crate::change::Change;
 use crate::env::Env;
 use crate::fault::EnvFault;
 use crate::fields::{copy, sorted_once};
+use crate::table::Table;
 use crate::vars::Vars;
 use std::alloc::{AllocError, Global};
 
-/// Whether the variable has different values in the two, or is set in only one of them.
-fn differs<B: Vars, V: Vars>(old: &B, new: &V, name: &str) -> bool
-    ensures { result ≡ not (same_value (lookup (B.vars old.now) name.now) (lookup (V.vars new.now) name.now)) }
+/// Whether the variable has another value in `old`, or only one of the two is a value.
+fn differs<B: Vars>(old: &B, name: &str, value: Option<&str>) -> bool
+    ensures { result ≡ not (same_value (lookup (B.vars old.now) name.now) (option_map (λ x. x.now) value.entry)) }
 {
-    old.get(name) != new.get(name)
+    old.get(name) != value
 }
 
 /// Retains the names whose values differ.
@@ -25,7 +32,7 @@ fn keep_differing<B: Vars, V: Vars>(names: &mut Vec<&str>, old: &B, new: &V)
         ≡ filter (λ n. not (same_value (lookup (B.vars old.now) n) (lookup (V.vars new.now) n)))
         (slice_texts names.old.items) }
 {
-    names.retain(|name| differs(old, new, *name));
+    names.retain(|name| differs(old, *name, new.get(*name)));
 }
 
 /// The change of one variable to its value in `new`.
@@ -63,6 +70,58 @@ pub(crate) fn changes_among<B: Vars, V: Vars>(
     keep_differing(&mut names, old, new);
     let names = sorted_once(names);
     changes_to(alloc, new, names.as_slice())
+}
+
+/// Appends the change of a variable to a value, or to none, where it has another value in `old`.
+fn push_difference<B: Vars>(
+    changes: &mut Vec<Change>,
+    old: &B,
+    name: String,
+    value: Option<String>,
+) -> Result<(), AllocError>
+    ensures { OnOk result (new_values_in changes.new ≡ new_values_in changes.old
+        ++ filter (differs_from (B.vars old.now)) ((string_bytes name, option_map string_bytes value) ∷ [])) }
+{
+    if differs(old, name.as_str(), value.as_deref()) {
+        changes.push(Change { name, value })?;
+    }
+    Ok(())
+}
+
+/// The changes to the values of a table's entries that aren't those in `old`.
+fn differences<B: Vars>(alloc: Global, old: &B, table: Table) -> Result<Vec<Change>, AllocError>
+    ensures changes { IfOk result (λ v. new_values_in v
+        ≡ filter (differs_from (B.vars old.now)) (new_values_of table.entries)) }
+    ensures distinct { OnOk result (IsDistinct bytes_eq (names_of table.entries)) }
+{
+    let mut changes = Vec::with_capacity(alloc, table.len())?;
+    for (name, value) in table {
+        push_difference(&mut changes, old, name, value)?;
+    }
+    Ok(changes)
+}
+
+/// Sorts changes of different variables by the bytes of their names.
+fn sort_by_name(changes: &mut Vec<Change>)
+    requires { IsDistinct bytes_eq (map (λ c. c.0) (new_values_in changes.old)) }
+    ensures ordered { IsStrictlySortedBy (slice_cmp nat_cmp) (map (λ c. c.0) (new_values_in changes.new)) }
+    ensures same { (q : Text) → new_value_at (new_values_in changes.new) q ≡ new_value_at (new_values_in changes.old) q }
+{
+    changes.sort_unstable_by(|left, right| left.name.cmp(&right.name));
+}
+
+/// What differs, once the entries of a table are written over `old`.
+pub(crate) fn changes_over<B: Vars>(
+    alloc: Global,
+    old: &B,
+    table: Table,
+) -> Result<Vec<Change>, AllocError>
+    ensures { IfOk result (λ v. AreChanges (B.vars old.now) (written_over (B.vars old.now) table.entries)
+        (new_values_in v)) }
+{
+    let mut changes = differences(alloc, old, table)?;
+    sort_by_name(&mut changes);
+    Ok(changes)
 }
 
 /// The names that either environment has, of which some may come twice.

@@ -20,6 +20,10 @@ pub(crate) type Table = IndexMap<String, Option<String>>;
 pub(crate) fn found<'a>(table: &'a Table, name: &str) -> Option<Option<&'a str>>
     ensures { option_map (option_map (λ t. t.now)) result ≡ slot table.entry.now name.now }
 {
+    // An environment that was given mostly stays without edits: its names need no hash then.
+    if table.is_empty() {
+        return None;
+    }
     match table.get(name) {
         None => None,
         Some(None) => Some(None),

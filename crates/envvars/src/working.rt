@@ -4,10 +4,10 @@ ghost use Rattle.envvars.specs.Changes.{AreChanges, new_values_in};
 ghost use Rattle.envvars.specs.declared.fault.EnvFault.TheVariants.{OutOfMemory};
 
 use crate::change::Change;
-use crate::difference::changes_among;
+use crate::difference::changes_over;
 use crate::env::Env;
 use crate::fault::EnvFault;
-use crate::table::{Table, found, make_changes, names_of, write_entry, write_value};
+use crate::table::{Table, found, make_changes, write_entry, write_value};
 use crate::vars::Vars;
 use indexmap::IndexMap;
 use std::alloc::Global;
@@ -75,9 +75,12 @@ impl<'a, B: Vars> Working<'a, B> {
         ensures ok { IfOk result (λ v. AreChanges self.entry.old self.entry.new (new_values_in v)) }
         ensures only { IfErr result (λ e. e ≡ OutOfMemory) }
     {
-        let alloc = self.alloc;
-        let names = names_of(alloc, &self.touched)?;
-        Ok(changes_among(alloc, self.old, &self, names)?)
+        let Working {
+            old,
+            touched,
+            alloc,
+        } = self;
+        Ok(changes_over(alloc, old, touched)?)
     }
 }
 
