@@ -1,1 +1,3 @@
 pub mod Continuations
+-- for private contracts of this crate alone
+pub mod Increments
