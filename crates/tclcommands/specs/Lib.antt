@@ -1,4 +1,6 @@
 pub mod Continuations
+-- for private contracts of this crate alone
+pub mod Increments
 -- What forms and variables stand for and how evaluations stop, so that a caller need not name the crates below.
 pub use Rattle.tclforms.specs.Views as FormViews
 pub use Rattle.tclforms.specs.declared.form.Simple

@@ -7,6 +7,7 @@ mod copies;
 mod defining;
 mod global_names;
 mod host_commands;
+mod increment;
 mod initial;
 mod lists;
 mod reading;

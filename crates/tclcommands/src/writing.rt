@@ -9,14 +9,14 @@ ghost use Rattle.tclchars.specs.Runs.{Text};
 ghost use Rattle.tclrules.specs.Variables.{with_value};
 ghost use Rattle.tclrules.specs.Forms.{Set, Append, Increase};
 ghost use Rattle.tclrules.specs.Rules.{write_at, write, assign, form, value_or, increased};
+ghost use Rattle.tclcommands.specs.Increments.{increment_text};
 ghost use Rattle.tclcommands.specs.Continuations.{named_values, increase_at, ContinuesWithVariablesWithin, ContinuesWithText, ContinuesWithNumber, ContinuesWithinLimit};
 ghost use Rattle.tclvariables.specs.Locations.{scalar_view};
 
+use crate::increment::Increment;
 use crate::value::{Value, value_or};
 use itoa::Buffer;
 use std::alloc::{AllocError, Global};
-use tclforms::increase_of;
-use tcloperators::whole_number;
 use tclrules::EvalFault;
 use tclsubstitution::Stop;
 use tclvalue::{ValueFault, count_of, sum};
@@ -187,22 +187,22 @@ fn decimal_in(text: String, number: i64) -> Result<String, AllocError>
     Ok(text)
 }
 
-/// Adds a whole number to the one that a variable holds, as `Variables::increase`; None also where the increase is no
+/// Adds a whole number to the one that a variable holds, as `Variables::increase`; None also where the increment is no
 /// whole number.
 fn increase_in_place(
     variables: &mut Variables,
     limit: usize,
     variable: Scalar<'_>,
-    increase: &str,
+    increment: Increment<'_>,
 ) -> Result<Option<i64>, AllocError>
     ensures sum { IfOk result (λ made. IfSome made (λ total.
-        (increased (value_or (codes "0") variables.old (scalar_view variable.entry)) increase.now
+        (increased (value_or (codes "0") variables.old (scalar_view variable.entry)) (increment_text increment.entry)
         ≡ Ok (signed_decimal total))
         × (length (signed_decimal total) ≤ limit)
         × (variables.new ≡ with_value variables.old (scalar_view variable.entry) (signed_decimal total)))) }
     ensures same { IfOk result (λ made. made ≡ None → variables.new ≡ variables.old) }
 {
-    match whole_number(increase) {
+    match increment.whole_number() {
         Some(amount) => variables.increase(variable, amount, limit),
         None => Ok(None),
     }
@@ -215,12 +215,12 @@ fn increase_anew(
     variables: &mut Variables,
     limit: usize,
     variable: Scalar<'_>,
-    increase: &str,
+    increment: Increment<'_>,
 ) -> Result<i64, Stop>
-    ensures { ContinuesWithNumber (λ b. increase_at b (scalar_view variable.entry) increase.now variables.old) limit
-        result variables.new }
+    ensures { ContinuesWithNumber (λ b. increase_at b (scalar_view variable.entry) (increment_text increment.entry)
+        variables.old) limit result variables.new }
 {
-    let sum = increased(alloc, value_or(variables, variable, "0"), increase)?;
+    let sum = increased(alloc, value_or(variables, variable, "0"), increment.text())?;
     let old = take_text(alloc, variables, variable);
     let value = decimal_in(old, sum)?;
     write_at(alloc, variables, limit, variable, value)?;
@@ -234,14 +234,14 @@ fn increase_at(
     variables: &mut Variables,
     limit: usize,
     variable: Scalar<'_>,
-    increase: &str,
+    increment: Increment<'_>,
 ) -> Result<i64, Stop>
-    ensures { ContinuesWithNumber (λ b. increase_at b (scalar_view variable.entry) increase.now variables.old) limit
-        result variables.new }
+    ensures { ContinuesWithNumber (λ b. increase_at b (scalar_view variable.entry) (increment_text increment.entry)
+        variables.old) limit result variables.new }
 {
-    match increase_in_place(variables, limit, variable, increase)? {
+    match increase_in_place(variables, limit, variable, increment)? {
         Some(sum) => Ok(sum),
-        None => increase_anew(alloc, variables, limit, variable, increase),
+        None => increase_anew(alloc, variables, limit, variable, increment),
     }
 }
 
@@ -256,14 +256,14 @@ pub fn increase<'a>(
     variables: &mut Variables,
     limit: usize,
     name: &'a str,
-    increases: &'a [String],
+    words: &'a [String],
 ) -> Result<Value<'a>, Stop>
     ensures { ContinuesWithinLimit (λ b. form b (Increase name.now
-        (map string_bytes increases.now)) variables.old) limit result
+        (map string_bytes words.now)) variables.old) limit result
         variables.new }
 {
     let variable = writable(variables, alloc, name)?;
-    let increase = increase_of(alloc, increases)?;
-    let sum = increase_at(alloc, variables, limit, variable, increase)?;
+    let increment = Increment::of_words(alloc, words)?;
+    let sum = increase_at(alloc, variables, limit, variable, increment)?;
     Ok(Value::Number(sum))
 }

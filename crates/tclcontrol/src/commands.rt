@@ -80,6 +80,7 @@ fn simple_value<'a, H: Host>(
 
 /// The text of a command's result, which is judged by the limit on values. The text is empty, and nothing is copied,
 /// where the result isn't needed.
+#[inline(always)]
 fn result_text(
     alloc: Global,
     variables: &Variables,

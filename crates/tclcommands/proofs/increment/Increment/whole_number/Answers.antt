@@ -1,0 +1,7 @@
+use Rattle.std.proofs.Common.{refl}
+use Rattle.tclnumber.specs.Numerals.{numeral}
+use Rattle.tclcommands.proofs.increment.Increment.whole_number.Goals as goal
+
+pub returns-in-One : goal.returns-in-One
+unfolding numeral
+returns-in-One c = rw c.in-One.is refl
