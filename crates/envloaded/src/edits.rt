@@ -51,12 +51,15 @@ fn element(alloc: Global, name: &str, words: &[String]) -> Result<String, AllocE
     join(alloc, parts.as_slice(), '&')
 }
 
+/// The room that a text of elements gets at once: the conflicts of a list of twenty modules, about.
+const USUAL_ROOM: usize = 256;
+
 /// The text that an element is appended to: an empty one, or the text so far and a colon.
 fn before_element(alloc: Global, text: Option<String>) -> Result<String, AllocError>
     ensures { IfOk result (λ t. string_bytes t ≡ before_element (option_map string_bytes text)) }
 {
     match text {
-        None => Ok(String::new(alloc)),
+        None => String::with_capacity(alloc, USUAL_ROOM),
         Some(mut text) => {
             text.push(':')?;
             Ok(text)
