@@ -1,5 +1,7 @@
 -- Where no counter is written and none was there, a path variable is one text.
-use Rattle.std.proofs.Common.{◌≡◌, Bool, true, false, cond, refl, sym, ap, ◌∙◌, Option, None, Result, Ok, Err}
+use Rattle.std.proofs.Common.{◌≡◌, Bool, true, false, cond, refl, sym, ap, ◌∙◌, Option, Some, None, is_some, Bor, Result, Ok, Err}
+use Rattle.std.proofs.lemmas.Bool.{false≢true}
+use Rattle.std.specs.Option.{option_map}
 use Rattle.std.specs.Prelude.{bytes_eq}
 use Rattle.std.specs.Result.{OnOk}
 use Rattle.envvars.specs.Texts.{Text}
@@ -28,3 +30,15 @@ pub uncounted : (r : Result (Unit {0}) EnvFault) (old new : Environment) (name :
     → OnOk r (new ≡ with_value old name t) → OnOk r (new ≡ with_value (with_value old name t) (share_name name) c)
 uncounted (Ok u) old new name t c h n k = k ∙ sym (alone old name t h) ∙ sym (ap (with_value (with_value old name t) (share_name name)) n)
 uncounted (Err e) old new name t c h n k = tt
+
+-- whether counters are written
+shown : (o : Option (Bor Text)) → is_some o ≡ is_some (option_map (λ x. x.now) o)
+shown None = refl
+shown (Some x) = refl
+
+pub counted_as : (o : Option (Bor Text)) (p : Option Text) (b : Bool) → b ≡ is_some o → option_map (λ x. x.now) o ≡ p → b ≡ is_some p
+counted_as o p b e h = e ∙ shown o ∙ ap is_some h
+
+pub not_counted : (o : Option Text) (b : Bool) → b ≡ is_some o → b ≡ false → o ≡ None
+not_counted None b e f = refl
+not_counted (Some x) b e f = absurd (false≢true (sym f ∙ e))

@@ -3,7 +3,7 @@ ghost use Rattle.std.specs.Prelude.{◌≡◌, ◌≤◌, ◌<◌, ◌++◌, ℕ
 ghost use Rattle.std.specs.List.{list_all};
 ghost use Rattle.std.specs.Option.{option_map};
 ghost use Rattle.envvars.specs.Texts.{Text, has, slice_texts};
-ghost use Rattle.envvars.specs.Environment.{with_value};
+ghost use Rattle.envvars.specs.Environment.{lookup, with_value};
 ghost use Rattle.envvars.specs.Reasons.{reason_of, Judges, Edits, counter_full};
 ghost use Rattle.envvars.specs.Names.{share_name};
 ghost use Rattle.envvars.specs.declared.fault.EnvFault.TheVariants.{OutOfMemory};
@@ -216,16 +216,11 @@ pub fn add_path<V: Vars>(
 {
     judge_path(alloc, var, delim, elements)?;
     let share = share_name(alloc, var)?;
-    let texts = added(
-        alloc,
-        var,
-        delim,
-        env.get(var),
-        env.get(share.as_str()),
-        elements,
-        end,
-    )?;
-    write_both(alloc, env, var, share.as_str(), texts)
+    let text = env.get(var);
+    let counts = env.get(share.as_str());
+    let is_counted = counts.is_some();
+    let texts = added(alloc, var, delim, text, counts, elements, end)?;
+    write_both(alloc, env, var, share.as_str(), is_counted, texts)
 }
 
 /// Takes one from the counter of an element, and removes the counter at 0. The result is whether one may be gone.
@@ -309,15 +304,17 @@ fn write_one<V: Vars>(env: &mut V, var: &str, text: Option<String>) -> Result<()
     }
 }
 
-/// Writes a path variable and its counters; neither where memory is refused.
+/// Writes a path variable and its counters, which may be written already; neither where memory is refused.
 fn write_both<V: Vars>(
     alloc: Global,
     env: &mut V,
     var: &str,
     share: &str,
+    is_counted: bool,
     texts: PathTexts,
 ) -> Result<(), EnvFault>
-    requires { share.now ≡ share_name var.now }
+    requires share { share.now ≡ share_name var.now }
+    requires counted { is_counted ≡ is_some (lookup (V.vars env.old) share.now) }
     ensures ok { OnOk result (V.vars env.new ≡ with_value (with_value (V.vars env.old) var.now
         (option_map string_bytes texts.elements)) (share_name var.now) (option_map string_bytes texts.counters)) }
     ensures err { OnErr result (V.vars env.new ≡ V.vars env.old) }
@@ -325,7 +322,7 @@ fn write_both<V: Vars>(
     ensures base { V.base env.new ≡ V.base env.old }
 {
     let PathTexts { elements, counters } = texts;
-    if counters.is_none() && env.get(share).is_none() {
+    if !is_counted && counters.is_none() {
         return write_one(env, var, elements);
     }
     let mut changes = Vec::new(alloc);
@@ -353,12 +350,9 @@ pub fn drop_path<V: Vars>(
 {
     judge_path(alloc, var, delim, elements)?;
     let share = share_name(alloc, var)?;
-    let texts = dropped(
-        alloc,
-        delim,
-        env.get(var),
-        env.get(share.as_str()),
-        elements,
-    )?;
-    write_both(alloc, env, var, share.as_str(), texts)
+    let text = env.get(var);
+    let counts = env.get(share.as_str());
+    let is_counted = counts.is_some();
+    let texts = dropped(alloc, delim, text, counts, elements)?;
+    write_both(alloc, env, var, share.as_str(), is_counted, texts)
 }

@@ -83,11 +83,20 @@ pub(crate) fn with_one_more(
 }
 
 /// The text between the delimiters at its ends; none where it hasn't both.
-fn between_delimiters(delim: char, text: &str) -> Option<&str>
+fn between_delimiters(delim: char, text: String) -> Option<String>
     requires { delim < 128 }
-    ensures { IfSome result (λ t. text.now ≡ delim ∷ (t.now ++ delim ∷ [])) }
+    ensures { IfSome result (λ inner. string_bytes text ≡ delim ∷ (string_bytes inner ++ delim ∷ [])) }
 {
-    text.strip_prefix(delim)?.strip_suffix(delim)
+    let mut inner = text;
+    let last = inner.pop()?;
+    if inner.is_empty() {
+        return None;
+    }
+    let first = inner.remove(0);
+    if first != delim || last != delim {
+        return None;
+    }
+    Some(inner)
 }
 
 /// The text without an element that it has exactly once. None where it hasn't it so, and where no other is left.
@@ -108,13 +117,10 @@ fn without_element(
         return Ok(None);
     };
     let rest = join(alloc, &[before, after], delim)?;
-    let Some(kept) = between_delimiters(delim, rest.as_str()) else {
-        return Ok(None);
-    };
     if rest.as_str().contains(wanted.as_str()) {
         return Ok(None);
     }
-    Ok(Some(String::from_str(alloc, kept)?))
+    Ok(between_delimiters(delim, rest))
 }
 
 /// The texts after the only one of an element is dropped from a text that has others, where no counter is written.

@@ -1,16 +1,18 @@
-use Rattle.std.proofs.Common.{◌≡◌, ℕ, [], ◌∷◌, ◌++◌, ap, ◌∙◌, Option, Some, None, Bor}
-use Rattle.std.specs.Option.{MatchOption, IfSome}
-use Rattle.std.proofs.lemmas.Str.Pattern.{strip_prefix_char, strip_suffix_char}
+use Rattle.std.proofs.Common.{◌≡◌, ◌<◌, ℕ, [], ◌∷◌, ◌++◌, ap, sym, ◌∙◌, take, drop, rules}
+use Rattle.std.specs.Prelude.{encode_utf8}
+use Rattle.std.proofs.lemmas.Str.{encode_ascii}
 use Rattle.envvars.specs.Texts.{Text}
 use Rattle.envpaths.proofs.one_element.between_delimiters.Goals as goal
 
-between : (N : Type 0) (o : Option (Bor Text)) (d : ℕ) (text after_first : Text) → text ≡ d ∷ after_first → MatchOption o N (λ t. after_first ≡ t.now ++ d ∷ []) → IfSome o (λ t. text ≡ d ∷ (t.now ++ d ∷ []))
-between N None d text after_first e m = tt
-between N (Some t) d text after_first e m = e ∙ ap (λ (rest : Text). d ∷ rest) m
+-- The last character of a text, and then the first of what is left, are the delimiter.
+ends_are : (d first last : ℕ) (whole front inner : Text) → d < 128 → first ≡ d → last ≡ d → whole ≡ front ++ encode_utf8 last
+    → (rest : Text) × (drop 0 front ≡ encode_utf8 first ++ rest) × (inner ≡ take 0 front ++ rest) → whole ≡ d ∷ (inner ++ d ∷ [])
+ends_are d first last whole front inner small f l w r =
+    let begins : front ≡ d ∷ inner = r.1 ∙ ap (λ (t : Text). t ++ r.0) (ap encode_utf8 f ∙ encode_ascii d small) ∙ ap (λ (t : Text). d ∷ t) (sym r.2) in
+    w ∙ ap (λ (t : Text). front ++ t) (ap encode_utf8 l ∙ encode_ascii d small) ∙ ap (λ (t : Text). t ++ d ∷ []) begins
 
 pub returns : goal.returns
 returns c =
-    let rest = c.in_ok-strip_prefix.field-0 in
-    between _ c.strip_suffix.result c.args.delim c.args.text.now rest.now
-    (strip_prefix_char c.args.delim c.args.text.now (Some rest) c.in_ok-strip_prefix.ensures.cases c.requires)
-    (strip_suffix_char c.args.delim rest.now c.strip_suffix.result c.strip_suffix.ensures.cases c.requires)
+    let first : c.remove-first.result ≡ c.args.delim = search rules in
+    let last : c.in_ok-last.last ≡ c.args.delim = search rules in
+    ends_are c.args.delim _ _ _ _ _ c.requires first last c.in_ok-last.ensures.bytes c.remove-first.ensures.bytes
