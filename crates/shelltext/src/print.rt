@@ -1,5 +1,5 @@
 //! The printer: changes of variables as a text for a shell.
-ghost use Rattle.std.specs.Prelude.{◌≡◌, ◌++◌, map, Some, IfOk, IfErr, OnOk, string_bytes};
+ghost use Rattle.std.specs.Prelude.{◌≡◌, [], ◌++◌, map, Some, IfOk, IfErr, OnOk, string_bytes};
 ghost use Rattle.envvars.specs.Changes.{new_value_of};
 ghost use Rattle.message.specs.Messages.{text_of};
 ghost use Rattle.shelltext.specs.Reading.{TextSays};
@@ -93,6 +93,29 @@ fn push_line(out: &mut String, family: Family, change: &Change) -> Result<(), Al
     }
 }
 
+/// What a line has besides the name, which may be there twice, and the value: so many bytes at most.
+const AROUND: usize = 24;
+
+/// The length of a change's line, about: characters that need a backslash take more.
+fn usual_length(change: &Change) -> usize {
+    let value = match &change.value {
+        None => 0,
+        Some(value) => value.len(),
+    };
+    value
+        .wrapping_add(change.name.len())
+        .wrapping_add(change.name.len())
+        .wrapping_add(AROUND)
+}
+
+/// An empty text with room for the lines of the changes. Were the sum wrong, the text would still grow.
+fn room_for(alloc: Global, changes: &[Change]) -> Result<String, AllocError>
+    ensures { IfOk result (λ text. string_bytes text ≡ []) }
+{
+    let length = changes.iter().fold(0usize, |sum, change| sum.wrapping_add(usual_length(change)));
+    String::with_capacity(alloc, length)
+}
+
 /// The text of the changes, a line for each, which the shell reads as exactly these changes, in this order.
 ///
 /// The errors: `OutOfMemory`, and `NotSayable` exactly where no text of the shell says all the changes: a value holds
@@ -103,7 +126,7 @@ pub fn print_changes(alloc: Global, shell: Shell, changes: &[Change]) -> Result<
     ensures fault { IfErr result (IsPrintFault shell (map new_value_of changes.now)) }
 {
     let family = shell.family();
-    let mut out = String::new(alloc);
+    let mut out = room_for(alloc, changes)?;
     for change in changes {
         if !is_sayable(family, change) {
             return Err(PrintFault::NotSayable(change.name.clone()?));
