@@ -9,7 +9,7 @@ use crate::known::{Known, USUAL};
 use crate::load::{
     load_file, load_likely_directory, load_listing, load_names, load_prefix, load_rest,
 };
-use crate::tree::{Tree, TreeFault};
+use crate::tree::{Seen, Tree, TreeFault};
 use std::alloc::AllocError;
 use std::collections::HashMap;
 use std::rt::Files;
@@ -193,13 +193,15 @@ impl<R: Files + AllocGlobal + Clone + Drop> DiskTree<R> {
         }
     }
 
-    /// Whether the file at the path, of which nothing is known, begins with these bytes. So many bytes are read.
-    fn read_prefix(&mut self, path: &str, prefix: &[u8]) -> Result<bool, TreeFault>
+    /// What is seen at the path, of which nothing is known. So many bytes of a file are read as it is to begin with.
+    fn see_unknown(&mut self, path: &str, prefix: &[u8]) -> Result<Seen, TreeFault>
         requires { get_by_text self.old.known path.now ≡ None }
         ensures narrows { Narrows (⟦<DiskTree<R> as Tree>⟧.agrees self.old)
             (⟦<DiskTree<R> as Tree>⟧.agrees self.new) }
-        ensures answer { IfOk result (λ answer. InEachPair (⟦<DiskTree<R> as Tree>⟧.agrees self.new)
-            (λ files listings. begins_with prefix.now (files path.now) ≡ answer)) }
+        ensures answer { IfOk result (λ seen. InEachPair (⟦<DiskTree<R> as Tree>⟧.agrees self.new)
+            (λ files listings. begins_with prefix.now (files path.now) ≡ seen.begins)) }
+        ensures nothing { IfOk result (λ seen. seen.may_list ≡ false
+            → InEachPair (⟦<DiskTree<R> as Tree>⟧.agrees self.new) (λ files listings. listings path.now ≡ None)) }
         ensures failed { FailsAt is_device (has_failed self.old.failed)
             (has_failed self.new.failed) result (λ at. at ≡ path.now) }
         ensures cause { FailsOnlyByDevice (vec_len self.old.failed) (vec_len self.new.failed) result }
@@ -208,8 +210,10 @@ impl<R: Files + AllocGlobal + Clone + Drop> DiskTree<R> {
             Ok(known) => {
                 self.directories_in_row = known.row_after(self.directories_in_row);
                 let answer = known.begins_with(prefix);
+                let may_list = known.is_directory();
                 self.learn(path, known)?;
-                self.answer_prefix(path, prefix, answer)
+                let begins = self.answer_prefix(path, prefix, answer)?;
+                Ok(Seen { begins, may_list })
             }
             Err(fault) => Err(self.record_failure(path, fault)),
         }
@@ -245,19 +249,25 @@ impl<R: Files + AllocGlobal + Clone + Drop> Tree for DiskTree<R> {
     }
 
     fn begins_with(&mut self, path: &str, prefix: &[u8]) -> Result<bool, TreeFault> {
-        match self.known.get(path) {
-            None => self.read_prefix(path, prefix),
-            Some(known) => {
-                let answer = known.begins_with(prefix);
-                self.answer_prefix(path, prefix, answer)
-            }
-        }
+        Ok(self.see(path, prefix)?.begins)
     }
 
     fn may_list(&self, path: &str) -> bool {
         match self.known.get(path) {
             None => true,
             Some(known) => known.is_directory(),
+        }
+    }
+
+    fn see(&mut self, path: &str, prefix: &[u8]) -> Result<Seen, TreeFault> {
+        match self.known.get(path) {
+            None => self.see_unknown(path, prefix),
+            Some(known) => {
+                let answer = known.begins_with(prefix);
+                let may_list = known.is_directory();
+                let begins = self.answer_prefix(path, prefix, answer)?;
+                Ok(Seen { begins, may_list })
+            }
         }
     }
 

@@ -19,5 +19,5 @@ pub use disk::DiskTree;
 pub use find_fault::FindFault;
 pub use laws::{contents_agree, some_pair_agrees};
 pub use memory::MemoryTree;
-pub use modulefile::{FileContent, holds_module, read_modulefile};
-pub use tree::{Tree, TreeFault};
+pub use modulefile::{FileContent, holds_module, read_modulefile, see_module};
+pub use tree::{Seen, Tree, TreeFault};

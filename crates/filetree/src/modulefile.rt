@@ -1,10 +1,10 @@
 //! What a path holds as a modulefile: the cookie `#%Module`, UTF-8, and the text (modulefile(5)).
-ghost use Rattle.std.specs.Prelude.{◌≡◌, false, IfOk, Some};
+ghost use Rattle.std.specs.Prelude.{◌≡◌, false, IfOk, None, Some};
 ghost use Rattle.filetree.specs.Agreement.{FailsAt, InEachPair, FailsOnlyByDevice, Narrows, begins_with, is_device};
 ghost use Rattle.filetree.specs.Answers.{file_content_view};
 ghost use Rattle.filetree.specs.Modulefiles.{cookie, is_module, modulefile};
 
-use crate::tree::{Tree, TreeFault};
+use crate::tree::{Seen, Tree, TreeFault};
 
 /// What a path holds as a modulefile: a file that begins with `#%Module` (modulefile(5)).
 #[derive(Debug, Drop)]
@@ -81,4 +81,20 @@ pub fn holds_module<T: Tree>(tree: &mut T, path: &str) -> Result<bool, TreeFault
     ensures failed { FailsAt is_device (T.failed tree.old) (T.failed tree.new) result (λ at. at ≡ path.now) }
 {
     tree.begins_with(path, COOKIE)
+}
+
+/// Whether the path holds a file that begins with `#%Module`, as `begins`, and whether a directory may be there. The
+/// file is not read further.
+///
+/// It fails as the tree does.
+pub fn see_module<T: Tree>(tree: &mut T, path: &str) -> Result<Seen, TreeFault>
+    ensures narrows { Narrows (T.agrees tree.old) (T.agrees tree.new) }
+    ensures answer { IfOk result (λ seen. InEachPair (T.agrees tree.new)
+        (λ files listings. is_module (modulefile (files path.now)) ≡ seen.begins)) }
+    ensures nothing { IfOk result (λ seen. seen.may_list ≡ false → InEachPair (T.agrees tree.new) (λ files listings.
+        listings path.now ≡ None)) }
+    ensures cause { FailsOnlyByDevice (T.failures tree.old) (T.failures tree.new) result }
+    ensures failed { FailsAt is_device (T.failed tree.old) (T.failed tree.new) result (λ at. at ≡ path.now) }
+{
+    tree.see(path, COOKIE)
 }

@@ -18,13 +18,17 @@ pub(crate) struct Names {
     hides: bool,
 }
 
+/// How many bytes most names have at least, with their NUL: as many names get their room at once.
+const USUAL_LENGTH: usize = 4;
+
 /// The names in a text in which a NUL ends each.
 fn parted(alloc: Global, text: &str) -> Result<Vec<&str>, AllocError>
     ensures { IfOk result (λ names. map (λ name. name.now) names.items ≡ names_of text.entry.now) }
 {
-    text.split('\0')
-        .filter(|name| !name.is_empty())
-        .collect(alloc)
+    let mut names = Vec::with_capacity(alloc, text.len() / USUAL_LENGTH + 1)?;
+    names.extend(text.split('\0'))?;
+    names.retain(|name| !name.is_empty());
+    Ok(names)
 }
 
 impl Names {

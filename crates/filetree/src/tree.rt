@@ -67,6 +67,15 @@ impl<T: Drop> From<AllocFailed<T>> for TreeFault {
     }
 }
 
+/// What is seen at a path.
+#[derive(Clone, Copy, Debug, PartialEq, Eq)]
+pub struct Seen {
+    /// Whether a file is there that begins with the bytes that were asked for.
+    pub begins: bool,
+    /// Whether a directory may be there: false only where the answers so far say that none is.
+    pub may_list: bool,
+}
+
 /// Files and directories by their paths.
 ///
 /// The meaning of a tree is a set of pairs of maps, one of files and one of directories: those that agree with all its
@@ -114,6 +123,23 @@ pub trait Tree {
     {
         let _ = path;
         true
+    }
+
+    /// What `begins_with` answers, and after that `may_list`, in one call.
+    ///
+    /// It fails as `read` does.
+    fn see(&mut self, path: &str, prefix: &[u8]) -> Result<Seen, TreeFault>
+        ensures narrows { Narrows (agrees self.old) (agrees self.new) }
+        ensures answer { IfOk result (λ seen. InEachPair (agrees self.new) (λ files listings.
+            begins_with prefix.now (files path.now) ≡ seen.begins)) }
+        ensures nothing { IfOk result (λ seen. seen.may_list ≡ false → InEachPair (agrees self.new) (λ files listings.
+            listings path.now ≡ None)) }
+        ensures cause { FailsOnlyByDevice (failures self.old) (failures self.new) result }
+        ensures failed { FailsAt is_device (failed self.old) (failed self.new) result (λ at. at ≡ path.now) }
+    {
+        let begins = self.begins_with(path, prefix)?;
+        let may_list = self.may_list(path);
+        Ok(Seen { begins, may_list })
     }
 
     /// The names in the directory at the path, in any order, or `None` where no directory is there.

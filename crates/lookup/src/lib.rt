@@ -6,7 +6,7 @@
 mod listings;
 mod located;
 
-pub use filetree::{DiskTree, FindFault, MemoryTree, Tree, TreeFault};
+pub use filetree::{DiskTree, FindFault, MemoryTree, Seen, Tree, TreeFault};
 pub use listings::{Listing, available};
 pub use located::{Found, locate};
 pub use modulename::version_order;

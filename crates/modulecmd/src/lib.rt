@@ -21,7 +21,7 @@ pub use envloaded::{Loaded, add_loaded, conflicts_of, drop_loaded, loaded, prere
 pub use envpaths::{End, add_path, drop_path};
 pub use envstacks::{pop_value, push_value};
 pub use envvars::{Change, Env, EnvFault, changes};
-pub use filetree::{DiskTree, MemoryTree, Tree, TreeFault};
+pub use filetree::{DiskTree, MemoryTree, Seen, Tree, TreeFault};
 pub use laws::{commands_return, one_command, site_commands_return};
 pub use lookup::{FindFault, Found, Listing, available, locate, version_order};
 pub use modules::{

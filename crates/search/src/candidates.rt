@@ -6,7 +6,7 @@ ghost use Rattle.search.specs.BelowFolder.{is_module_below};
 ghost use Rattle.search.specs.Versions.{is_module_in};
 
 use crate::paths::{path_of, write_path};
-use filetree::{Tree, TreeFault, holds_module};
+use filetree::{Seen, Tree, TreeFault, holds_module, see_module};
 use std::alloc::Global;
 
 /// Whether the file of this full name, below the directory, begins with `#%Module`.
@@ -29,16 +29,8 @@ pub(crate) fn is_module_below<T: Tree>(
     holds_module(tree, &path)
 }
 
-/// What a listing asks of a name below a directory.
-#[derive(Clone, Copy)]
-pub(crate) struct Seen {
-    /// Whether its file begins with `#%Module`.
-    pub(crate) is_module: bool,
-    /// Whether a directory may be at its path.
-    pub(crate) may_list: bool,
-}
-
-/// What is at the path of this full name below the directory. The path is written in place of a text.
+/// Whether the file of this full name, below the directory, begins with `#%Module`, and whether a directory may be at
+/// its path. The path is written in place of a text.
 ///
 /// It fails as the tree does, at that path, and for want of memory.
 pub(crate) fn see_below<T: Tree>(
@@ -49,7 +41,7 @@ pub(crate) fn see_below<T: Tree>(
 ) -> Result<Seen, TreeFault>
     ensures narrows { Narrows (T.agrees tree.old) (T.agrees tree.new) }
     ensures answer { IfOk result (λ seen. InEachPair (T.agrees tree.new) (λ files listings.
-        is_module_below files dir.now name.now ≡ seen.is_module)) }
+        is_module_below files dir.now name.now ≡ seen.begins)) }
     ensures nothing { IfOk result (λ seen. seen.may_list ≡ false → InEachPair (T.agrees tree.new) (λ files listings.
         listings (path_of dir.now name.now) ≡ None)) }
     ensures cause { FailsOnlyByDevice (T.failures tree.old) (T.failures tree.new) result }
@@ -57,12 +49,7 @@ pub(crate) fn see_below<T: Tree>(
         at ≡ path_of dir.now name.now) }
 {
     write_path(path, dir, name)?;
-    let is_module = holds_module(tree, path)?;
-    let may_list = tree.may_list(path);
-    Ok(Seen {
-        is_module,
-        may_list,
-    })
+    see_module(tree, path)
 }
 
 /// Whether the file of a version of a name, below the directory, begins with `#%Module`.

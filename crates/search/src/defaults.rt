@@ -14,7 +14,7 @@ use crate::default_files::{DefaultFiles, Ended};
 use crate::paths::{has, path_in_folder};
 use crate::version_named::DefaultFile;
 use crate::versions::is_version;
-use filetree::{FileContent, Tree, TreeFault, read_modulefile};
+use filetree::{FileContent, Tree, TreeFault, holds_module, read_modulefile};
 use std::alloc::{AllocError, Global};
 
 /// What default files name.
@@ -49,7 +49,7 @@ fn version_named_in(
     }
 }
 
-/// The version that a default file in the folder of a name names. The file is read, and evaluated where it has the
+/// The version that a default file in the folder of a name names. The file is read and evaluated where it has the
 /// cookie.
 fn version_named_by<T: Tree, D: DefaultFiles>(
     alloc: Global,
@@ -68,6 +68,9 @@ fn version_named_by<T: Tree, D: DefaultFiles>(
         at ≡ default_file dir.now name.now (file_name file)) }
 {
     let path = path_in_folder(alloc, dir, name, file.file_name())?;
+    if !holds_module(tree, &path)? {
+        return Ok(NamedVersion::Nothing);
+    }
     match read_modulefile(tree, &path)? {
         FileContent::Absent | FileContent::NoCookie => Ok(NamedVersion::Nothing),
         FileContent::NotUtf8 => Ok(NamedVersion::BadFile(path)),

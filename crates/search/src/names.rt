@@ -5,9 +5,9 @@ ghost use Rattle.filetree.specs.Agreement.{FailsAt, InEachPair, Narrows, FailsOn
 ghost use Rattle.search.specs.Single.{is_single};
 ghost use Rattle.search.specs.BelowFolder.{folder_path, name_below, names_in, is_module_below, LooksAmong, AreAmong, HasAllFolders};
 
-use crate::candidates::{Seen, see_below};
+use crate::candidates::see_below;
 use crate::paths::{is_single, path_of};
-use filetree::{Tree, TreeFault};
+use filetree::{Seen, Tree, TreeFault};
 use modulename::is_module_name;
 use std::alloc::{AllocError, Global};
 
@@ -56,6 +56,9 @@ pub(crate) fn names_in(
     Ok(names)
 }
 
+/// How many bytes most names have at most, with the `/` before them.
+const USUAL_NAME: usize = 64;
+
 /// The names below a directory that a listing goes on with.
 #[derive(Drop)]
 pub(crate) struct Sorted {
@@ -69,11 +72,11 @@ impl Sorted {
     /// Adds a name by what is at its path. It is copied only where that may be both a module and a directory.
     fn add(&mut self, name: String, seen: Seen) -> Result<(), AllocError>
         ensures modules { OnOk result (map string_bytes self.new.modules.items
-            ≡ map string_bytes self.old.modules.items ++ (if seen.is_module then string_bytes name ∷ [] else [])) }
+            ≡ map string_bytes self.old.modules.items ++ (if seen.begins then string_bytes name ∷ [] else [])) }
         ensures folders { OnOk result (map string_bytes self.new.folders.items
             ≡ map string_bytes self.old.folders.items ++ (if seen.may_list then string_bytes name ∷ [] else [])) }
     {
-        match (seen.is_module, seen.may_list) {
+        match (seen.begins, seen.may_list) {
             (true, true) => {
                 self.folders.push(name.clone()?)?;
                 self.modules.push(name)?;
@@ -111,7 +114,7 @@ pub(crate) fn sort_out<T: Tree>(
         modules: Vec::with_capacity(alloc, names.len())?,
         folders: Vec::new(alloc),
     };
-    let mut path = String::new(alloc);
+    let mut path = String::with_capacity(alloc, dir.len().saturating_add(USUAL_NAME))?;
     for name in names {
         let seen = see_below(tree, dir, &name, &mut path)?;
         sorted.add(name, seen)?;

@@ -1,15 +1,19 @@
-use Rattle.std.proofs.Common.{not, ap, ◌∙◌, arith, rules, tests}
+use Rattle.std.proofs.Common.{◌≡◌, ◌++◌, ◌==◌, ℕ, List, Bor, Bool, Ok, not, map, ap, ◌∙◌, filter, arith, rules, tests}
+use Rattle.std.specs.List.{slice_split}
 use Rattle.std.specs.Str.Iter.{split_text, split_has_more, split_pattern}
-use Rattle.std.proofs.lemmas.Iterator.Consumers.{map_from_collect, YieldsList-from_filter}
+use Rattle.std.proofs.lemmas.Fn.{filter_same}
+use Rattle.std.proofs.lemmas.Iterator.Adapters.{fact_from_extend}
 use Rattle.std.proofs.lemmas.Iterator.Splits.{YieldsList-from_str_split}
 use Rattle.filetree.specs.Modulefiles.{is_empty}
-use Rattle.filetree.proofs.NameLemmas.{is_empty-length}
+use Rattle.filetree.proofs.NameLemmas.{is_empty-length, map-kept}
 use Rattle.filetree.proofs.names.parted.Goals as goal
 
 pub returns : goal.returns
 returns c =
-    map_from_collect _ c.collect.ensures.ran
-    (YieldsList-from_filter _ (λ name. not (is_empty name))
-    (YieldsList-from_str_split 0 c.args.text.now (omega arith) (ap split_text c.filter.ensures.source ∙ c.split.ensures.text)
-    (ap split_has_more c.filter.ensures.source ∙ c.split.ensures.has_more) (ap split_pattern c.filter.ensures.source ∙ c.split.ensures.pattern))
-    c.filter.ensures.closure (λ x b q k. search (rules, tests, is_empty-length)))
+    let p : List ℕ → Bool = λ name. not (is_empty name) in
+    let pieces : map (λ x. x.now) c.extend.new.self.items ≡ slice_split (λ b. b == 0) c.args.text.now =
+    fact_from_extend {E = Unit {0}} (λ (x : Bor (List ℕ)). x.now) (Ok tt) c.in_ok-extend.ensures.ran
+    (λ it b. YieldsList-from_str_split 0 c.args.text.now (omega arith) (ap split_text b ∙ c.split.ensures.text) (ap split_has_more b ∙ c.split.ensures.has_more) (ap split_pattern b ∙ c.split.ensures.pattern))
+    (λ xs e h. ap (map (λ (x : Bor (List ℕ)). x.now)) (h.0 ∙ ap (λ (old : List (Bor (List ℕ))). old ++ xs) c.in_ok-names.ensures.items) ∙ e) in
+    ap (map (λ x. x.now)) (filter_same _ (λ y. p y.now) _ (λ x b g k. search (rules, tests, is_empty-length)) _ _ c.retain.ensures.filtered)
+    ∙ (map-kept p c.extend.new.self.items ∙ ap (filter p) pieces)

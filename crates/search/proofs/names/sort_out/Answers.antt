@@ -42,7 +42,7 @@ loop-name-preserved g c =
     let modules = map string_bytes c.loop-name.sorted.modules.items in
     let below = map string_bytes c.loop-name.sorted.folders.items in
     let later = map string_bytes c.add.new.self.folders.items in
-    let is_module = c.in_ok-seen.seen.is_module in
+    let is_module = c.in_ok-seen.seen.begins in
     let may_list = c.in_ok-seen.seen.may_list in
     let more = map-append string_bytes c.loop-name.yielded (name ∷ []) in record {
       reads = record { narrows = λ files folders a. c.loop-name.invariant.reads.narrows files folders (c.see_below.ensures.narrows files folders a); counts_failures = omega arith };
