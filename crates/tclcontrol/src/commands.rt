@@ -45,6 +45,7 @@ fn raised(alloc: Global, message: &str) -> Stop
 }
 
 /// Does a core command that evaluates no script, by its form. The result isn't judged by the limit on values yet.
+#[inline(always)]
 fn simple_value<'a, H: Host>(
     alloc: Global,
     variables: &mut Variables,
@@ -107,6 +108,7 @@ fn result_text(
 ///
 /// Errors: those of the command (`return`, `break`, `continue`, `error` and `exit` among them), and a halt where the
 /// result has more bytes than the limit.
+#[inline(always)]
 pub fn simple_command<H: Host>(
     alloc: Global,
     variables: &mut Variables,

@@ -61,6 +61,7 @@ impl<'t> BorrowedOperand<'t> {
 }
 
 /// What a scalar variable holds; None where it is unset, or is the array `env`.
+#[inline(always)]
 fn content_of<'v>(variables: &'v Variables, variable: Scalar<'_>) -> Option<&'v Content>
     ensures { IfSome result (λ v. (spelled : Text) (k : Next)
         → read_scalar spelled (is_global variable.entry.scope) variable.entry.name.now variables.entry.now k
@@ -73,6 +74,7 @@ fn content_of<'v>(variables: &'v Variables, variable: Scalar<'_>) -> Option<&'v 
 }
 
 /// What the scalar variable of a name holds; None where the name has an index or a colon, or can't be read.
+#[inline(always)]
 fn scalar_content<'v>(variables: &'v Variables, name: &str) -> Option<&'v Content>
     ensures { IfSome result (λ v. (k : Next) → read name.now variables.entry.now k ≡ k v.now variables.entry.now) }
 {
@@ -80,6 +82,7 @@ fn scalar_content<'v>(variables: &'v Variables, name: &str) -> Option<&'v Conten
 }
 
 /// The operand that is a number, a truth word or a scalar variable; None for all other operands.
+#[inline(always)]
 fn borrowed_operand<'t>(
     source: &'t str,
     variables: &'t Variables,
@@ -101,6 +104,7 @@ fn borrowed_operand<'t>(
 }
 
 /// The expression that is one such operand, whose text is within the limit on the bytes of a value.
+#[inline(always)]
 fn borrowed<'t>(
     context: SubstitutionContext<'t, 't>,
     expression: &'t Expr<ByteRange>,

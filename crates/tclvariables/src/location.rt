@@ -119,6 +119,7 @@ pub fn location_of<'a>(
 }
 
 /// The scalar variable of a name in which neither an index nor a colon stands, as in most names; None for any other.
+#[inline(always)]
 pub fn plain_scalar<'a>(variables: &Variables, name: &'a str) -> Option<Scalar<'a>>
     ensures { IfSome result (λ v. location_named variables.now name.now
         ≡ Ok (rules.Scalar (is_global v.scope) v.name.now)) }
@@ -151,6 +152,7 @@ pub fn location_named<'a>(
 /// The scalar variable that a name denotes, where it may be written: neither `env` nor an element of it.
 ///
 /// Errors: `LeftOut` for `env`, another array and a namespace, `OutOfMemory`.
+#[inline(always)]
 pub fn writable<'a>(
     variables: &Variables,
     alloc: Global,

@@ -46,6 +46,7 @@ fn hashed_place(table: &Table, name: &str) -> Option<usize>
 }
 
 /// What a variable holds.
+#[inline(always)]
 pub(crate) fn content_in<'a>(table: &'a Table, name: &str) -> Option<&'a Content>
     ensures { option_map (λ c. c.now) result ≡ lookup (texts_of table.now.entries) name.now }
 {
