@@ -18,7 +18,7 @@ use Rattle.certificate.proofs.UsedLemmas.{by_test, by_cases}
 
 -- tests of lists
 
-all_each : {X : Type 0} (p : X → Bool) (xs : List X) → list_all p xs ≡ true → (x : X) → IsAmong x xs → p x ≡ true
+pub all_each : {X : Type 0} (p : X → Bool) (xs : List X) → list_all p xs ≡ true → (x : X) → IsAmong x xs → p x ≡ true
 all_each p [] h x a = absurd a
 all_each p (y ∷ xs) h x (inl e) = ap p e ∙ (and_parts (p y) (list_all p xs) h).0
 all_each p (y ∷ xs) h x (inr a) = all_each p xs (and_parts (p y) (list_all p xs) h).1 x a
@@ -27,13 +27,13 @@ each_all : {X : Type 0} (p : X → Bool) (xs : List X) → ((x : X) → IsAmong 
 each_all p [] h = refl
 each_all p (y ∷ xs) h = and_from (p y) (list_all p xs) (h y (inl refl)) (each_all p xs (λ x a. h x (inr a)))
 
-any_some : {X : Type 0} (p : X → Bool) (xs : List X) → list_any p xs ≡ true → (x : X) × IsAmong x xs × (p x ≡ true)
+pub any_some : {X : Type 0} (p : X → Bool) (xs : List X) → list_any p xs ≡ true → (x : X) × IsAmong x xs × (p x ≡ true)
 any_some p [] h = absurd (false≢true h)
 any_some p (y ∷ xs) h = by_cases (or_cases (p y) (list_any p xs) h)
     (λ t. (y, inl refl, t))
     (λ t. let i = any_some p xs t in (i.0, inr i.1, i.2))
 
-some_any : {X : Type 0} (p : X → Bool) (xs : List X) (x : X) → IsAmong x xs → p x ≡ true → list_any p xs ≡ true
+pub some_any : {X : Type 0} (p : X → Bool) (xs : List X) (x : X) → IsAmong x xs → p x ≡ true → list_any p xs ≡ true
 some_any p [] x a h = absurd a
 some_any p (y ∷ xs) x (inl e) h = let t : p y ≡ true = ap p (sym e) ∙ h in rw t refl
 some_any p (y ∷ xs) x (inr a) h = or_true (p y) (list_any p xs) (some_any p xs x a h)
@@ -42,7 +42,7 @@ some_any p (y ∷ xs) x (inr a) h = or_true (p y) (list_any p xs) (some_any p xs
     or_true true d k = refl
     or_true false d k = k
 
-filtered : {X : Type 0} (p : X → Bool) (xs : List X) (x : X) → IsAmong x (filter p xs) → IsAmong x xs × (p x ≡ true)
+pub filtered : {X : Type 0} (p : X → Bool) (xs : List X) (x : X) → IsAmong x (filter p xs) → IsAmong x xs × (p x ≡ true)
 filtered p [] x a = absurd a
 filtered p (y ∷ xs) x a = by_test (p y) _
     (λ t. by_cases (subst (λ (b : Bool). IsAmong x (cond b (y ∷ filter p xs) (filter p xs))) t a)
@@ -50,7 +50,7 @@ filtered p (y ∷ xs) x a = by_test (p y) _
     (λ k. let i = filtered p xs x k in (inr i.0, i.1)))
     (λ t. let i = filtered p xs x (subst (λ (b : Bool). IsAmong x (cond b (y ∷ filter p xs) (filter p xs))) t a) in (inr i.0, i.1))
 
-in_filter : {X : Type 0} (p : X → Bool) (xs : List X) (x : X) → IsAmong x xs → p x ≡ true → IsAmong x (filter p xs)
+pub in_filter : {X : Type 0} (p : X → Bool) (xs : List X) (x : X) → IsAmong x xs → p x ≡ true → IsAmong x (filter p xs)
 in_filter p [] x a h = absurd a
 in_filter p (y ∷ xs) x (inl e) h = subst (λ (b : Bool). IsAmong x (cond b (y ∷ filter p xs) (filter p xs))) (sym (ap p (sym e) ∙ h)) (inl e)
 in_filter p (y ∷ xs) x (inr a) h = more (p y) (in_filter p xs x a h)
@@ -71,7 +71,7 @@ option_itself : (x : Option Text) → option_eq bytes_eq x x ≡ true
 option_itself None = refl
 option_itself (Some x) = bytes_eq-same x
 
-use_same : (x y : VariableUse) → same_use x y ≡ true → x ≡ y
+pub use_same : (x y : VariableUse) → same_use x y ≡ true → x ≡ y
 use_same Untouched Untouched h = refl
 use_same Untouched (Fixed a) h = absurd (false≢true h)
 use_same Untouched (Pathed a) h = absurd (false≢true h)
@@ -89,7 +89,7 @@ use_same Stacked (Fixed b) h = absurd (false≢true h)
 use_same Stacked (Pathed b) h = absurd (false≢true h)
 use_same Stacked Stacked h = refl
 
-use_itself : (x : VariableUse) → same_use x x ≡ true
+pub use_itself : (x : VariableUse) → same_use x x ≡ true
 use_itself Untouched = refl
 use_itself (Fixed a) = option_itself a
 use_itself (Pathed a) = eq-eqb a a refl

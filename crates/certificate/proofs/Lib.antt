@@ -2,7 +2,7 @@ mod UseLemmas
 pub mod UsedLemmas
 mod RecordLemmas
 mod OneUse
-mod Exact
+pub mod Exact
 mod Variables
 mod Moments
 mod Runs

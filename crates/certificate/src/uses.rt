@@ -10,7 +10,7 @@ use modulefile::{Delimiter, PathEdit, Record};
 use std::alloc::{AllocError, Global};
 
 /// How a record uses the variable that it names.
-#[derive(Debug, Drop)]
+#[derive(Drop)]
 pub enum VariableUse {
     /// It sets the variable, which is unset else; or it unsets the variable, which else has this value.
     Fixed(Option<String>),
@@ -38,7 +38,7 @@ impl VariableUse {
 }
 
 /// A variable, and a use of it.
-#[derive(Debug, Drop)]
+#[derive(Drop)]
 pub struct UsedVariable {
     /// The name of the variable.
     pub variable: String,
@@ -62,25 +62,24 @@ fn use_by(alloc: Global, recorded: &Record) -> Result<Option<UsedVariable>, Allo
 {
     match recorded {
         Record::Set { var, value: _ } => {
-            Ok(Some(use_of(alloc, var.as_str(), VariableUse::Fixed(None))?))
+            use_of(alloc, var.as_str(), VariableUse::Fixed(None)).map(Some)
         }
         Record::Unset {
             var,
             value: Some(value),
         } => {
             let value = String::from_str(alloc, value.as_str())?;
-            let used = VariableUse::Fixed(Some(value));
-            Ok(Some(use_of(alloc, var.as_str(), used)?))
+            use_of(alloc, var.as_str(), VariableUse::Fixed(Some(value))).map(Some)
         }
         Record::Push { var, value: _ } => {
-            Ok(Some(use_of(alloc, var.as_str(), VariableUse::Stacked)?))
+            use_of(alloc, var.as_str(), VariableUse::Stacked).map(Some)
         }
         Record::Path {
             edit: PathEdit::Remove,
             ..
         } => Ok(None),
         Record::Path { delim, var, .. } => {
-            Ok(Some(use_of(alloc, var.as_str(), VariableUse::Pathed(*delim))?))
+            use_of(alloc, var.as_str(), VariableUse::Pathed(*delim)).map(Some)
         }
         Record::Unset { value: None, .. }
         | Record::Conflict(_)

@@ -1,19 +1,17 @@
 -- Uses, each once: by a definition over the whole list, and as they are put one by one among those before them.
-use Rattle.std.proofs.Common.{◌≡◌, ◌⊎◌, inl, inr, ℕ, ◌+◌, ◌<◌, length, take, get_or, Bool, true, false, cond, not, ◌&&◌, ◌||◌, List, [], ◌∷◌, ◌++◌, map, filter, Option, Some, None, refl, sym, ap, ◌∙◌, append_assoc, append-nil}
+use Rattle.std.proofs.Common.{◌≡◌, ◌⊎◌, inl, inr, ℕ, ◌+◌, ◌<◌, length, take, get_or, Bool, true, false, cond, not, ◌&&◌, ◌||◌, List, [], ◌∷◌, ◌++◌, map, filter, Option, refl, sym, ap, ◌∙◌, append_assoc, append-nil}
 use Rattle.std.specs.Prelude.{bytes_eq}
 use Rattle.std.specs.List.{list_any}
-use Rattle.std.specs.Option.{option_eq}
-use Rattle.std.proofs.lemmas.Bool.{false≢true, and_parts, and_from, eqb-true, eq-eqb}
+use Rattle.std.proofs.lemmas.Bool.{false≢true, and_parts, and_from}
 use Rattle.std.proofs.lemmas.List.{take_more, map-append}
 use Rattle.std.proofs.lemmas.List.Folds.{list_any-append}
 use Rattle.std.proofs.lemmas.Grind.{flat_map-append}
 use Rattle.indexmap.specs.IndexSet.{insert_key, insert_all}
-use Rattle.envvars.specs.Texts.{Text}
 use Rattle.envvars.proofs.TextLemmas.{same_text, bytes_eq-same}
 use Rattle.reversal.specs.Moves.{Module}
-use Rattle.reversal.specs.VariableUses.{VariableUse, Untouched, Fixed, Pathed, Stacked}
 use Rattle.certificate.specs.RecordUses.{UsedVariable, used_by, used_by_modules, same_use, IsAmong}
 use Rattle.certificate.proofs.UsedLemmas.{by_test}
+use Rattle.certificate.proofs.Exact.{in_filter, use_same, use_itself}
 use Rattle.siteclash.specs.declared.answers.Clash.{Clash}
 use Rattle.siteclash.specs.ClashAnswers.{without_clash, without_clashes}
 use Rattle.certificate.specs.declared.uses.UsedVariable as code
@@ -27,40 +25,6 @@ use Rattle.siteclash.specs.UseKeys.{key_view, used_key_view}
 use Rattle.siteclash.specs.EachOnce.{same_used, each_once}
 
 -- ---- the test
-
-option_same : (x y : Option Text) → option_eq bytes_eq x y ≡ true → x ≡ y
-option_same None None h = refl
-option_same None (Some y) h = absurd (false≢true h)
-option_same (Some x) None h = absurd (false≢true h)
-option_same (Some x) (Some y) h = ap (λ (t : Text). Some t) (same_text x y h)
-
-option_itself : (x : Option Text) → option_eq bytes_eq x x ≡ true
-option_itself None = refl
-option_itself (Some x) = bytes_eq-same x
-
-use_same : (x y : VariableUse) → same_use x y ≡ true → x ≡ y
-use_same Untouched Untouched h = refl
-use_same Untouched (Fixed a) h = absurd (false≢true h)
-use_same Untouched (Pathed a) h = absurd (false≢true h)
-use_same Untouched Stacked h = absurd (false≢true h)
-use_same (Fixed a) Untouched h = absurd (false≢true h)
-use_same (Fixed a) (Fixed b) h = ap Fixed (option_same a b h)
-use_same (Fixed a) (Pathed b) h = absurd (false≢true h)
-use_same (Fixed a) Stacked h = absurd (false≢true h)
-use_same (Pathed a) Untouched h = absurd (false≢true h)
-use_same (Pathed a) (Fixed b) h = absurd (false≢true h)
-use_same (Pathed a) (Pathed b) h = ap Pathed (eqb-true a b h)
-use_same (Pathed a) Stacked h = absurd (false≢true h)
-use_same Stacked Untouched h = absurd (false≢true h)
-use_same Stacked (Fixed b) h = absurd (false≢true h)
-use_same Stacked (Pathed b) h = absurd (false≢true h)
-use_same Stacked Stacked h = refl
-
-use_itself : (x : VariableUse) → same_use x x ≡ true
-use_itself Untouched = refl
-use_itself (Fixed a) = option_itself a
-use_itself (Pathed a) = eq-eqb a a refl
-use_itself Stacked = refl
 
 used_is : (p q : UsedVariable) → same_used p q ≡ true → p ≡ q
 used_is p q h =
@@ -90,11 +54,6 @@ filter_alike f g (x ∷ xs) h = ap (λ b. cond b (x ∷ filter f xs) (filter f x
 filter_all : {X : Type 0} (xs : List X) → filter (λ x. true) xs ≡ xs
 filter_all [] = refl
 filter_all (x ∷ xs) = ap (λ ys. x ∷ ys) (filter_all xs)
-
-kept : {X : Type 0} (f : X → Bool) (x : X) (xs : List X) → IsAmong x xs → f x ≡ true → IsAmong x (filter f xs)
-kept f x [] a h = absurd a
-kept f x (y ∷ xs) (inl e) h = let t : f y ≡ true = ap f (sym e) ∙ h in rw t (inl e)
-kept f x (y ∷ xs) (inr a) h = by_test (f y) _ (λ t. rw t (inr (kept f x xs a h))) (λ e. rw e (kept f x xs a h))
 
 -- ---- one by one
 
@@ -200,7 +159,7 @@ in_once p [] a = absurd a
 in_once p (q ∷ ps) (inl e) = inl e
 in_once p (q ∷ ps) (inr a) = by_test (same_used q p) _
     (λ t. inl (sym (used_is q p t)))
-    (λ f. inr (kept (λ r. not (same_used q r)) p (each_once ps) (in_once p ps a) (ap not f)))
+    (λ f. inr (in_filter (λ r. not (same_used q r)) (each_once ps) p (in_once p ps a) (ap not f)))
 
 -- ---- one use more, as the code has it
 

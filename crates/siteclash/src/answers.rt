@@ -21,7 +21,7 @@ use certificate::{Module, UsedVariable, VariableUse};
 use std::alloc::{AllocError, Global};
 
 /// The clash of a module with another.
-#[derive(Debug, Drop)]
+#[derive(Drop)]
 pub struct Clash {
     /// The variable that both use.
     pub variable: String,
@@ -42,10 +42,10 @@ fn clash_between(alloc: Global, users: ClashingUsers<'_>) -> Result<Clash, Alloc
     let ClashingUsers { own, other } = users;
     Ok(Clash {
         variable: String::from_str(alloc, own.used.variable.as_str())?,
-        own: own.used.used.copy(alloc)?,
-        theirs: other.used.used.copy(alloc)?,
         other_name: String::from_str(alloc, other.owner.name.as_str())?,
         other_path: String::from_str(alloc, other.owner.path.as_str())?,
+        own: own.used.used.copy(alloc)?,
+        theirs: other.used.used.copy(alloc)?,
     })
 }
 
@@ -83,7 +83,7 @@ fn answers<'a>(
 }
 
 /// What is found of the clashes of some modules with one another.
-#[derive(Debug, Drop)]
+#[derive(Drop)]
 pub struct FoundClashes {
     /// For each of the modules, in their order, a clash with another one of them; `None` where it clashes with none.
     pub answers: Vec<Option<Clash>>,

@@ -1,11 +1,8 @@
 -- A module of a site stands in one way alone.
 use Rattle.std.proofs.Common.{◌≡◌, ℕ, ◌==◌, inl, inr, true, false, List, [], ◌∷◌, Option, Some, None, Result, Ok, Err, refl, ap, sym, ◌∙◌, subst}
-use Rattle.std.specs.Prelude.{bytes_eq}
-use Rattle.std.specs.Option.{option_eq}
 use Rattle.std.proofs.lemmas.Bool.{false≢true, eq-eqb}
 use Rattle.envvars.specs.Texts.{Text}
 use Rattle.envvars.specs.Fields.{colon}
-use Rattle.envvars.proofs.TextLemmas.{bytes_eq-same}
 use Rattle.filetree.specs.Modulefiles.{modulefile}
 use Rattle.filetree.specs.Relations.{IsOne}
 use Rattle.filetree.proofs.OneOutcome.{one_is, one_then}
@@ -14,12 +11,13 @@ use Rattle.requests.specs.Records.{Record}
 use Rattle.requests.specs.Moves.{Module}
 use Rattle.modulefile.specs.Files.{Ran, RunsFile}
 use Rattle.modulefile.specs.Laws as files
-use Rattle.requests.specs.VariableUses.{VariableUse, Untouched, Fixed, Pathed, Stacked}
+use Rattle.requests.specs.VariableUses.{VariableUse, Pathed}
 use Rattle.requests.specs.Refusals.{refused_as, RefusedAs}
 use Rattle.requests.specs.Reasons.{RequestReason, file_refused}
 use Rattle.requests.specs.Steps.{entries_of, script_at, context_of}
 use Rattle.requests.specs.Verdicts.{Verdict, plain, asked, one_way, verdict_of}
 use Rattle.certificate.specs.RecordUses.{used_by, IsAmong, modulepath, same_use, AreInStep}
+use Rattle.certificate.proofs.Exact.{use_itself}
 use Rattle.sitelaws.specs.Sites.{Site, SiteModule, over_site, EvaluatesTo, HasPlainRecords, with_records}
 use Rattle.sitelaws.specs.Standings.{Standing, Certified, Asks, OneWay, OutOfStep, Clashes, Refused, IsUsedTwice, ClashesWith, HasStanding, standing_word}
 use Rattle.sitelaws.specs.Laws.{OneStanding}
@@ -83,16 +81,6 @@ one_list one site m rs qs p q =
     p.records ∙ (ap records_in (one_outcome one site m (Ok p.ran) (Ok q.ran) p.evaluated q.evaluated) ∙ sym q.records)
 
 -- in step and out of step
-
-option_itself : (x : Option Text) → option_eq bytes_eq x x ≡ true
-option_itself None = refl
-option_itself (Some x) = bytes_eq-same x
-
-use_itself : (x : VariableUse) → same_use x x ≡ true
-use_itself Untouched = refl
-use_itself (Fixed a) = option_itself a
-use_itself (Pathed a) = eq-eqb a a refl
-use_itself Stacked = refl
 
 not_alike : (x y : VariableUse) → same_use x y ≡ false → x ≡ y → ⊥
 not_alike x y h e = false≢true (sym h ∙ (ap (same_use x) (sym e) ∙ use_itself x))

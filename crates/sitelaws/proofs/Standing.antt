@@ -1,5 +1,5 @@
 -- Each module of a site has a standing: the tests of the certificate find it.
-use Rattle.std.proofs.Common.{◌≡◌, ◌⊎◌, inl, inr, Bool, true, false, cond, not, ◌&&◌, ◌||◌, List, [], ◌∷◌, filter, find, Some, Result, Ok, Err, refl, ap, sym, ◌∙◌, subst}
+use Rattle.std.proofs.Common.{◌≡◌, ◌⊎◌, inl, inr, Bool, true, false, cond, not, ◌&&◌, ◌||◌, List, [], ◌∷◌, find, Some, Result, Ok, Err, refl, ap, sym, subst}
 use Rattle.std.specs.Prelude.{bytes_eq}
 use Rattle.std.specs.List.{list_all, list_any}
 use Rattle.std.proofs.lemmas.Bool.{false≢true, and_parts}
@@ -21,19 +21,13 @@ use Rattle.certificate.specs.RecordUses.{UsedVariable, used_by, IsAmong, modulep
 use Rattle.certificate.specs.Clashes.{exclude, uses_clash, do_clash}
 use Rattle.certificate.specs.Certificates.{is_other, clashes_among}
 use Rattle.certificate.specs.Laws.{CertifiedAreExact}
+use Rattle.certificate.proofs.UsedLemmas.{by_test, by_cases}
+use Rattle.certificate.proofs.Exact.{any_some, in_filter}
 use Rattle.sitelaws.specs.Sites.{Site, SiteModule, over_site, EvaluatesTo, HasPlainRecords, IsOfSite, ArePlainModules, with_records}
 use Rattle.sitelaws.specs.Standings.{Standing, Certified, Asks, OneWay, OutOfStep, Clashes, Refused, IsUsedTwice, ClashesWith, HasStanding}
 use Rattle.sitelaws.specs.Laws.{EachStands}
 
 -- tests
-
-by_test : (t : Bool) (P : Type 0) → (t ≡ true → P) → (t ≡ false → P) → P
-by_test true P f g = f refl
-by_test false P f g = g refl
-
-by_cases : {A B P : Type 0} → A ⊎ B → (A → P) → (B → P) → P
-by_cases (inl a) f g = f a
-by_cases (inr b) f g = g b
 
 first_false : (a b : Bool) → (a && b) ≡ false → (a ≡ false) ⊎ (b ≡ false)
 first_false true b h = inr h
@@ -41,16 +35,6 @@ first_false false b h = inl refl
 
 both : (a b : Bool) → a ≡ true → b ≡ true → (a && b) ≡ true
 both a b h k = rw (h, k) refl
-
-either : (a b : Bool) → (a || b) ≡ true → (a ≡ true) ⊎ (b ≡ true)
-either true b h = inl refl
-either false b h = inr h
-
-any_some : {X : Type 0} (p : X → Bool) (xs : List X) → list_any p xs ≡ true → (x : X) × IsAmong x xs × (p x ≡ true)
-any_some p [] h = absurd (false≢true h)
-any_some p (y ∷ xs) h = by_cases (either (p y) (list_any p xs) h)
-    (λ t. (y, inl refl, t))
-    (λ t. let i = any_some p xs t in (i.0, inr i.1, i.2))
 
 some_fails : {X : Type 0} (p : X → Bool) (xs : List X) → list_all p xs ≡ false → (x : X) × IsAmong x xs × (p x ≡ false)
 some_fails p [] h = absurd (false≢true (sym h))
@@ -66,15 +50,6 @@ fails_at p y xs false h more = (y, refl)
 first_that_fails : {X : Type 0} (p : X → Bool) (xs : List X) → list_all p xs ≡ false → (x : X) × (find (λ z. not (p z)) xs ≡ Some x)
 first_that_fails p [] h = absurd (false≢true (sym h))
 first_that_fails p (y ∷ xs) h = fails_at p y xs (p y) h (first_that_fails p xs)
-
-in_filter : {X : Type 0} (p : X → Bool) (xs : List X) (x : X) → IsAmong x xs → p x ≡ true → IsAmong x (filter p xs)
-in_filter p [] x a h = absurd a
-in_filter p (y ∷ xs) x (inl e) h = subst (λ (b : Bool). IsAmong x (cond b (y ∷ filter p xs) (filter p xs))) (sym (ap p (sym e) ∙ h)) (inl e)
-in_filter p (y ∷ xs) x (inr a) h = more (p y) (in_filter p xs x a h)
-  where
-    more : (b : Bool) → IsAmong x (filter p xs) → IsAmong x (cond b (y ∷ filter p xs) (filter p xs))
-    more true k = inr k
-    more false k = k
 
 -- an evaluation has an outcome
 
