@@ -10,7 +10,7 @@ use modulefile::{Delimiter, PathEdit, Record};
 use std::alloc::{AllocError, Global};
 
 /// How a record uses the variable that it names.
-#[derive(Drop)]
+#[derive(Debug, Drop)]
 pub enum VariableUse {
     /// It sets the variable, which is unset else; or it unsets the variable, which else has this value.
     Fixed(Option<String>),
@@ -38,7 +38,7 @@ impl VariableUse {
 }
 
 /// A variable, and a use of it.
-#[derive(Drop)]
+#[derive(Debug, Drop)]
 pub struct UsedVariable {
     /// The name of the variable.
     pub variable: String,

@@ -22,7 +22,7 @@ use std::alloc::Global;
 use tclrules::Limits;
 
 /// A module of a site, and how it stands.
-#[derive(Drop)]
+#[derive(Debug, Drop)]
 pub struct AuditedModule {
     /// Its full name, as `foo/1.0`.
     pub name: String,
@@ -33,7 +33,7 @@ pub struct AuditedModule {
 }
 
 /// Names in a `conflict` or a `prereq` of a module, of which none means a module of the site.
-#[derive(Drop)]
+#[derive(Debug, Drop)]
 pub struct UnknownNames {
     /// The full name of the module.
     pub name: String,
@@ -46,7 +46,7 @@ pub struct UnknownNames {
 }
 
 /// What an audit of a site finds.
-#[derive(Drop)]
+#[derive(Debug, Drop)]
 pub struct SiteAudit {
     /// Each module, in the order of the directories and of `avail`.
     pub modules: Vec<AuditedModule>,

@@ -19,7 +19,7 @@ use std::alloc::{AllocError, Global};
 use tclrules::Limits;
 
 /// A folder of a directory of MODULEPATH.
-#[derive(Drop, PartialEq, Eq, Hash)]
+#[derive(Debug, Drop, PartialEq, Eq, Hash)]
 pub(crate) struct Folder {
     /// The directory.
     dir: String,

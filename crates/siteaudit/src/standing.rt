@@ -17,7 +17,7 @@ use siteclash::Clash;
 use std::alloc::{AllocError, Global};
 
 /// How a module of a site stands.
-#[derive(Drop)]
+#[derive(Debug, Drop)]
 pub enum Standing {
     /// It is plain, in step, and without a clash: its loads and unloads need no judgement.
     Certified,

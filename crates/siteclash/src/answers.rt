@@ -21,7 +21,7 @@ use certificate::{Module, UsedVariable, VariableUse};
 use std::alloc::{AllocError, Global};
 
 /// The clash of a module with another.
-#[derive(Drop)]
+#[derive(Debug, Drop)]
 pub struct Clash {
     /// The variable that both use.
     pub variable: String,
@@ -83,7 +83,7 @@ fn answers<'a>(
 }
 
 /// What is found of the clashes of some modules with one another.
-#[derive(Drop)]
+#[derive(Debug, Drop)]
 pub struct FoundClashes {
     /// For each of the modules, in their order, a clash with another one of them; `None` where it clashes with none.
     pub answers: Vec<Option<Clash>>,

@@ -2,7 +2,7 @@
 use modulefile::Delimiter;
 
 /// Why an environment doesn't agree with a certificate.
-#[derive(Drop)]
+#[derive(Debug, Drop)]
 pub enum Disagreement {
     /// The texts of its loaded modules aren't in order.
     LoadedTexts,
