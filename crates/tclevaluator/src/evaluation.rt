@@ -76,6 +76,7 @@ impl Evaluator {
     /// Evaluates a script that a loop evaluates in each turn. The result isn't needed.
     #[cycle(evaluate)]
     #[tactic(none)]
+    #[inline(always)]
     fn repeated_script<H: Host>(
         &mut self,
         host: &mut H,
@@ -346,6 +347,7 @@ impl Evaluator {
     /// Whether an expression whose text is parsed holds as a condition.
     #[cycle(evaluate)]
     #[tactic(none)]
+    #[inline(always)]
     fn holds<H: Host>(
         &mut self,
         host: &mut H,
@@ -367,6 +369,7 @@ impl Evaluator {
     /// A turn of a loop, which is counted as its body begins; whether the loop continues.
     #[cycle(evaluate)]
     #[tactic(none)]
+    #[inline(always)]
     fn turn<H: Host>(
         &mut self,
         host: &mut H,
@@ -389,6 +392,7 @@ impl Evaluator {
     /// The condition of a loop and, where it holds, a turn; whether the loop continues.
     #[cycle(evaluate)]
     #[tactic(none)]
+    #[inline(always)]
     fn guarded_turn<H: Host>(
         &mut self,
         host: &mut H,
@@ -578,6 +582,7 @@ impl Evaluator {
 
     /// Does a core command that evaluates no script, by its form.
     #[tactic(none)]
+    #[inline(always)]
     fn simple<H: Host>(
         &mut self,
         host: &mut H,
