@@ -1,5 +1,6 @@
 pub mod Fronts
 pub mod NameLemmas
+pub mod NextLemmas
 pub mod OrderLemmas
 pub mod RunLemmas
 pub mod GreatestLemmas

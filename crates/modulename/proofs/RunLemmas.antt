@@ -12,7 +12,7 @@ use Rattle.std.proofs.lemmas.Bool.Decides.{nat_tests}
 use Rattle.modulename.specs.Versions.{is_digit, with_digit, pieces, pieces_after, run}
 use Rattle.modulename.specs.DigitRuns.{number_after, number_of, are_digits, begins_digit, begins_zero}
 
-pieces_behind_run : (n : ℕ) (ds rest : List ℕ) → are_digits ds ≡ true → begins_digit rest ≡ false
+pub pieces_behind_run : (n : ℕ) (ds rest : List ℕ) → are_digits ds ≡ true → begins_digit rest ≡ false
     → pieces_after (Some n) (ds ++ rest) ≡ run (number_after n ds) ∷ pieces rest
 pieces_behind_run n [] [] h k = refl
 pieces_behind_run n [] (b ∷ bs) h k = rw k refl
@@ -61,7 +61,7 @@ equal : (x : ℕ) → nat_cmp x x ≡ Equal
 equal x = grind (arith, nat_tests)
 
 -- two numbers with as many digits
-same_length : (m : ℕ) (a b : List ℕ) → length a ≡ length b → are_digits a ≡ true → are_digits b ≡ true
+pub same_length : (m : ℕ) (a b : List ℕ) → length a ≡ length b → are_digits a ≡ true → are_digits b ≡ true
     → slice_cmp nat_cmp a b ≡ nat_cmp (number_after m a) (number_after m b)
 same_length m [] [] e h k = sym (equal m)
 same_length m [] (y ∷ ys) e h k = absurd (omega arith)

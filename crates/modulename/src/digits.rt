@@ -8,7 +8,7 @@ ghost use Rattle.modulename.specs.DigitRuns.{number_of, are_digits, begins_digit
 use std::cmp::Ordering;
 
 /// How many digits a text begins with.
-fn digit_count(text: &[u8]) -> usize
+pub(crate) fn digit_count(text: &[u8]) -> usize
     ensures { result ≡ prefix_len is_digit text.now }
 {
     let end = text.iter().position(|b| !b.is_ascii_digit());

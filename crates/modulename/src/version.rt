@@ -1,8 +1,10 @@
 //! The order of versions, by which the greatest version of a module is its default.
-ghost use Rattle.std.specs.Prelude.{◌≡◌};
+ghost use Rattle.std.specs.Prelude.{◌≡◌, ◌≢◌, ◌≤◌, ℕ, Option, IfSome, drop, length};
+ghost use Rattle.std.specs.declared.cmp.Ordering.TheVariants.{Equal};
 ghost use Rattle.std.specs.Cmp.Lexicographic.{slice_cmp};
-ghost use Rattle.modulename.specs.Versions.{pieces, piece_order, version_order};
+ghost use Rattle.modulename.specs.Versions.{pieces, pieces_after, piece_order, version_order};
 
+use crate::digits::digit_count;
 use crate::piece::split_piece;
 use std::cmp::Ordering;
 
@@ -15,18 +17,36 @@ use std::cmp::Ordering;
 pub fn version_order(left: &str, right: &str) -> Ordering
     ensures { result ≡ version_order left.now right.now }
 {
-    let (left_rest, right_rest) = without_common_start(left.as_bytes(), right.as_bytes());
-    match order_of_pieces(left_rest, right_rest) {
-        Ordering::Equal => left.as_bytes().cmp(right.as_bytes()),
+    let (left, right) = (left.as_bytes(), right.as_bytes());
+    let common = common_start(left, right);
+    if let Some(order) = order_of_next(&left[common.bytes..], &right[common.bytes..]) {
+        return order;
+    }
+    match order_of_pieces(&left[common.pieces..], &right[common.pieces..]) {
+        Ordering::Equal => left.cmp(right),
         order => order,
     }
 }
 
-/// What follows in two versions after the bytes that both begin with, up to the last of these that is no digit. By their
-/// pieces the rests are in the order of the versions.
-fn without_common_start<'a>(left: &'a [u8], right: &'a [u8]) -> (&'a [u8], &'a [u8])
-    ensures { slice_cmp piece_order (pieces left.entry.now) (pieces right.entry.now)
-        ≡ slice_cmp piece_order (pieces result.0.now) (pieces result.1.now) }
+/// How far two versions are the same.
+#[derive(Clone, Copy)]
+struct CommonStart {
+    /// How many bytes both begin with.
+    bytes: usize,
+    /// How many of them, up to the last that is no digit.
+    pieces: usize,
+}
+
+/// How far two versions are the same. By their pieces, what follows is in the order of the versions.
+fn common_start(left: &[u8], right: &[u8]) -> CommonStart
+    ensures left { result.bytes ≤ length left.now }
+    ensures right { result.bytes ≤ length right.now }
+    ensures within { result.pieces ≤ result.bytes }
+    ensures pieces { slice_cmp piece_order (pieces left.now) (pieces right.now)
+        ≡ slice_cmp piece_order (pieces (drop result.pieces left.now)) (pieces (drop result.pieces right.now)) }
+    ensures next { (o : Option ℕ) × (slice_cmp piece_order (pieces left.now) (pieces right.now)
+        ≡ slice_cmp piece_order (pieces_after o (drop result.bytes left.now))
+        (pieces_after o (drop result.bytes right.now))) }
 {
     let mut start = 0;
     let mut same = 0;
@@ -37,7 +57,26 @@ fn without_common_start<'a>(left: &'a [u8], right: &'a [u8]) -> (&'a [u8], &'a [
             start = same;
         }
     }
-    (&left[start..], &right[start..])
+    CommonStart {
+        bytes: same,
+        pieces: start,
+    }
+}
+
+/// The order of what follows in two versions after the same bytes, where the next byte decides: it differs, and as many
+/// digits follow in both.
+fn order_of_next(left: &[u8], right: &[u8]) -> Option<Ordering>
+    ensures order { IfSome result (λ order. (o : Option ℕ)
+        → slice_cmp piece_order (pieces_after o left.now) (pieces_after o right.now) ≡ order) }
+    ensures unequal { IfSome result (λ order. order ≢ Equal) }
+{
+    let ([next, ..], [other, ..]) = (left, right) else {
+        return None;
+    };
+    if next == other || digit_count(left) != digit_count(right) {
+        return None;
+    }
+    Some(next.cmp(other))
 }
 
 /// The order of two versions by their pieces, one after another; a proper prefix comes first.

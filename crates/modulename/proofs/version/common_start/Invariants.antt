@@ -1,7 +1,7 @@
 use Rattle.std.proofs.Common.{◌≡◌, ◌≤◌, ◌-◌, ℕ, Option, length, drop}
 use Rattle.std.specs.Cmp.Lexicographic.{slice_cmp}
 use Rattle.modulename.specs.Versions.{pieces, pieces_after, piece_order}
-use Rattle.modulename.proofs.version.without_common_start.Given as goal
+use Rattle.modulename.proofs.version.common_start.Given as goal
 
 abbrev pub invariant-loop-same : goal.invariant-loop-same
 invariant-loop-same l = record {

@@ -2,7 +2,7 @@ use Rattle.std.proofs.Common.{◌≡◌, ◌+◌, ◌∷◌, true, false, Some, 
 use Rattle.std.proofs.lemmas.List.{drop_more}
 use Rattle.modulename.specs.Versions.{is_digit}
 use Rattle.modulename.proofs.StartLemmas.{run_with, behind_digit, behind_other}
-use Rattle.modulename.proofs.version.without_common_start.Goals as goal
+use Rattle.modulename.proofs.version.common_start.Goals as goal
 
 pub loop-same-preserved-then-not-is_digit : goal.loop-same-preserved-then-not-is_digit
 loop-same-preserved-then-not-is_digit c =
