@@ -76,7 +76,7 @@ pub enum Simple<'a> {
     Append(&'a str, &'a [String]),
     /// `lappend v x...`
     ListAppend(&'a str, &'a [String]),
-    /// `incr v n...`; the number of words is judged after the variable, by `increase_of`.
+    /// `incr v n...`; the number of words is judged after the variable.
     Increase(&'a str, &'a [String]),
     /// `proc n args b`
     Define(&'a str, &'a str, &'a str),

@@ -25,4 +25,3 @@ pub use loops::Loops;
 pub use messages::{cannot_unset, no_command, outside_loop};
 pub use names::{is_in, is_reserved, is_unsupported};
 pub use procedures::parameters;
-pub use words::increase_of;

@@ -2,7 +2,7 @@
 ghost use Rattle.std.specs.Prelude.{map, string_bytes};
 ghost use Rattle.tclrules.specs.Answers.{Gives};
 ghost use Rattle.tcloperators.specs.Faults.{reason_of};
-ghost use Rattle.tclrules.specs.Forms.{set_form, after_dashes, unset_form, append_form, lappend_form, incr_form, increase_of, expr_form, while_form, for_form, proc_form, return_form, exit_form, error_form, catch_form, exists_form, info_form, to_stderr, without_newline, puts_form, without_words};
+ghost use Rattle.tclrules.specs.Forms.{set_form, after_dashes, unset_form, append_form, lappend_form, incr_form, expr_form, while_form, for_form, proc_form, return_form, exit_form, error_form, catch_form, exists_form, info_form, to_stderr, without_newline, puts_form, without_words};
 ghost use Rattle.tclforms.specs.Views.{form_view, texts_of};
 ghost use Rattle.std.specs.Prelude.{◌≡◌};
 
@@ -63,7 +63,7 @@ pub(crate) fn lappend_form(alloc: Global, words: &[String]) -> Result<Form<'_>, 
     }
 }
 
-/// `incr name ?increment?`, whose number of words `increase_of` judges.
+/// `incr name ?increment?`, whose number of words is judged after the variable.
 pub(crate) fn incr_form(alloc: Global, words: &[String]) -> Result<Form<'_>, ValueFault>
     ensures { Gives reason_of form_view result (incr_form (map string_bytes words.entry.now)) }
 {
@@ -237,18 +237,5 @@ pub(crate) fn without_words<'a>(
         Ok(form)
     } else {
         Err(wrong_words(alloc, name))
-    }
-}
-
-/// The increment of `incr`, by the words after its variable: 1 where there is none.
-///
-/// Errors: `TclError` for more than one word, `OutOfMemory`.
-pub fn increase_of(alloc: Global, words: &[String]) -> Result<&str, ValueFault>
-    ensures { Gives reason_of (λ t. t.now) result (increase_of (map string_bytes words.entry.now)) }
-{
-    match words {
-        [] => Ok("1"),
-        [number] => Ok(number),
-        _ => Err(wrong_words(alloc, "incr")),
     }
 }
