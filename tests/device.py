@@ -51,6 +51,13 @@ def a_load_of_a_default(folder):
 
 
 @case
+def a_load_of_the_greatest_version(folder):
+    env = versions(folder)
+    os.remove(folder.at("ver/.version"))
+    answers_or_fails(folder, ["sh", "load", "ver"], env)
+
+
+@case
 def a_load_from_the_second_directory(folder):
     env = versions(folder)
     env[b"MODULEPATH"] = folder.path + b"/none:" + folder.path + b":" + folder.modules
@@ -71,6 +78,12 @@ def an_unload_and_a_switch(folder):
     answers_or_fails(folder, ["csh", "switch", "foo", "ver"], env)
     env = loaded(folder, "gone/1")
     answers_or_fails(folder, ["sh", "unload", "gone"], env, ERRORS)
+
+
+@case
+def an_unload_of_what_is_no_modulefile_any_more(folder):
+    folder.file("plain/1", "setenv A 1\n")
+    answers_or_fails(folder, ["sh", "unload", "plain"], loaded(folder, "plain/1"))
 
 
 @case

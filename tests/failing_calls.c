@@ -1,6 +1,7 @@
 /* For tests: a system of whose reads one fails, the FAIL_AT-th, or each from the FAIL_FROM-th on: by errno FAIL_WITH, or
  * EIO. With FAIL_SEEN only those are counted that look at, open or read what was looked at before, and was there.
- * And one whose file changes meanwhile: the OTHER_AT-th read that gives the cookie of a modulefile gives another. */
+ * And one whose file changes meanwhile: the OTHER_AT-th read that gives the cookie of a modulefile gives another. And
+ * one that lists the environment of a process otherwise: the file ENVIRON_IN is opened in place of its list. */
 #define _GNU_SOURCE
 #include <dlfcn.h>
 #include <dirent.h>
@@ -76,6 +77,12 @@ static void change(char *bytes, ssize_t count)
         bytes[0] = ' ';
 }
 
+static const char *opened_for(const char *path)
+{
+    const char *listed = getenv("ENVIRON_IN");
+    return listed && strcmp(path, "/proc/self/environ") == 0 ? listed : path;
+}
+
 static mode_t mode_in(int flags, va_list rest)
 {
     return flags & O_CREAT ? va_arg(rest, mode_t) : 0;
@@ -90,7 +97,7 @@ int open(const char *path, int flags, ...)
     va_end(rest);
     if (!real)
         real = dlsym(RTLD_NEXT, "open");
-    return fails(path) ? -1 : real(path, flags, mode);
+    return fails(path) ? -1 : real(opened_for(path), flags, mode);
 }
 
 int openat(int dir, const char *path, int flags, ...)
@@ -102,7 +109,7 @@ int openat(int dir, const char *path, int flags, ...)
     va_end(rest);
     if (!real)
         real = dlsym(RTLD_NEXT, "openat");
-    return fails(path) ? -1 : real(dir, path, flags, mode);
+    return fails(path) ? -1 : real(dir, opened_for(path), flags, mode);
 }
 
 ssize_t read(int file, void *to, size_t count)

@@ -59,6 +59,7 @@ SUITES = (
     ("shells/run.py", "modulecmd"),
     ("pages.py", "modulecmd"),
     ("allocations.py", "cases_environment"),
+    ("systems.py", "cases_environment"),
     ("tcl/compare.py", "cases_tcl"),
     ("tcl/values.py", "cases_tcl"),
     ("tcl/scripts.py", "cases_tcl"),

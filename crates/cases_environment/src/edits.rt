@@ -1,8 +1,9 @@
 //! Calls that edit an environment, each by its name and words.
 
+use crate::shown::changes_of;
 use crate::texts::{parts, slices};
 use envstate::{
-    Change, End, EnvFault, Loaded, Vars, add_loaded, add_path, drop_loaded, drop_path, pop_value,
+    End, EnvFault, Loaded, Vars, add_loaded, add_path, drop_loaded, drop_path, pop_value,
     push_value,
 };
 use std::alloc::{AllocError, Global};
@@ -59,23 +60,9 @@ fn load<V: Vars>(alloc: Global, vars: &mut V, words: &[String]) -> Result<(), En
     add_loaded(alloc, vars, &entry)
 }
 
-/// A change as `A=1`, or `A-` where it unsets the variable.
-fn change(alloc: Global, word: &str) -> Result<Change, AllocError> {
-    let (name, value) = match word.split_once('=') {
-        Some((name, value)) => (name, Some(String::from_str(alloc, value)?)),
-        None => (word.trim_end_matches('-'), None),
-    };
-    let name = String::from_str(alloc, name)?;
-    Ok(Change { name, value })
-}
-
 /// Makes the changes of the words, all or none.
 fn apply<V: Vars>(alloc: Global, vars: &mut V, words: &[String]) -> Result<(), EnvFault> {
-    let mut changes = Vec::new(alloc);
-    for word in words {
-        changes.push(change(alloc, word)?)?;
-    }
-    vars.apply(changes)
+    vars.apply(changes_of(alloc, words)?)
 }
 
 /// Makes an edit of one variable or of the loaded list.

@@ -11,14 +11,11 @@
 //! the calls have changed.
 //!
 //! `system` asks what a process is given and what a disk answers; each line is shown before its answer. `disk file
-//! PATH`, `disk folder PATH` and `disk again PATH` ask a disk, the last for a file twice, and `disk closed PATH` makes
-//! a directory without permission and asks for it. `memory put-file PATH TEXT` and `memory put-folder PATH NAME` put a
-//! file or a directory of one name into a tree in memory, which `memory file PATH` and `memory folder PATH` ask. `scripted
-//! KIND TEXT` asks a disk of a system whose answers are scripted (`system.rt`), and `begins KIND TEXT` whether its file
-//! begins with `#%`. `process own` asks for what this process is given, and `process variable TEXT` for the variable A
-//! of an environment. `process given KIND ENTRIES TEXT` asks whose environment is taken where a process holds these
-//! entries and the system's list of it is scripted, and `process cut COUNT ENTRIES` where the list is only so many
-//! bytes of them. A KIND is `whole`, `broken` (reading fails after the text), `forbidden`, `missing` or `starved`.
+//! PATH`, `disk folder PATH` and `disk again PATH` ask a disk, the last for a file twice, and `disk begins PATH` whether
+//! a file begins with `#%`. `memory put-file PATH TEXT` and `memory put-folder PATH NAME` put a file or a directory of
+//! one name into a tree in memory, which `memory file PATH` and `memory folder PATH` ask. `process own` asks for what
+//! this process is given, `process value NAME` for a variable of its environment, and `process variable TEXT` for the
+//! variable A of an environment.
 //!
 //! `shells` asks for the texts of changes. A line is the name of a shell, and then changes: `NAME=VALUE`, or `NAME`
 //! where it is unset. Each line is shown after `> `, and then the text, or after `!` the number and the text of the
@@ -35,7 +32,6 @@ mod printing;
 mod processes;
 mod queries;
 mod shown;
-mod system;
 mod system_lines;
 mod texts;
 mod trees;
@@ -43,17 +39,22 @@ mod variables;
 
 use std::io;
 
+/// Answers lines about a subject.
+fn answer_about(rt: &HostRuntime, subject: &str, lines: &[String]) -> io::Result<()> {
+    match subject {
+        "variables" => variables::answer(rt, lines),
+        "system" => system_lines::answer(rt, lines),
+        "shells" => printing::answer(rt, lines),
+        _ => println!(rt; "no such lines: {subject}"),
+    }
+}
+
 /// Answers a paragraph, and ends with an empty line.
 fn answer(rt: &HostRuntime, paragraph: &[String]) -> io::Result<()> {
     let Some((subject, lines)) = paragraph.split_first() else {
         return Ok(());
     };
-    match subject.as_str() {
-        "variables" => variables::answer(rt, lines),
-        "system" => system_lines::answer(rt, lines),
-        "shells" => printing::answer(rt, lines),
-        _ => println!(rt; "no such lines: {subject}"),
-    }?;
+    answer_about(rt, subject, lines)?;
     println!(rt;)
 }
 

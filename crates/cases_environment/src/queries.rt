@@ -41,57 +41,39 @@ fn needs<V: Vars>(alloc: Global, vars: &V, name: &str) -> Result<String, EnvFaul
     Ok(text)
 }
 
-/// A call that changes nothing.
-#[derive(Clone, Copy)]
-enum Query<'a> {
-    /// The value of a variable.
-    Get(&'a str),
-    /// The loaded modules.
-    Loaded,
-    /// The names in conflict with a module.
-    Conflicts(&'a str),
-    /// What a module needs.
-    Prereqs(&'a str),
-    /// The name of the variable with a variable's counters.
-    ShareName(&'a str),
-    /// A question about a word, with its answer.
-    Holds(bool),
+/// The name of the variable with a variable's counters.
+fn counters_name(alloc: Global, name: &str) -> Result<String, EnvFault> {
+    Ok(share_name(alloc, name)?)
 }
 
-/// The call that these words are, the first of them its name; None where they are another.
-fn query_of<'a>(query: &str, word: &'a str) -> Option<Query<'a>> {
-    match query {
-        "get" => Some(Query::Get(word)),
-        "loaded" => Some(Query::Loaded),
-        "conflicts" => Some(Query::Conflicts(word)),
-        "prereqs" => Some(Query::Prereqs(word)),
-        "share_name" => Some(Query::ShareName(word)),
-        "is_name" => Some(Query::Holds(is_variable_name(word))),
-        "is_protected" => Some(Query::Holds(is_protected(word))),
-        "is_plain" => Some(Query::Holds(is_nul_free(word))),
-        _ => None,
-    }
+/// A text as an answer.
+fn text(alloc: Global, text: &str) -> Result<String, EnvFault> {
+    Ok(String::from_str(alloc, text)?)
 }
 
-/// The call that a line's words are; None where they are another.
-fn query_named(words: &[String]) -> Option<Query<'_>> {
-    match words {
-        [query] => query_of(query.as_str(), ""),
-        [query, word] => query_of(query.as_str(), word.as_str()),
-        _ => None,
-    }
+/// Whether something holds, as a digit.
+fn digit(holds: bool) -> &'static str {
+    if holds { "1" } else { "0" }
 }
 
-/// The answer to a call.
-fn answer<V: Vars>(alloc: Global, vars: &V, query: Query<'_>) -> Result<String, EnvFault> {
-    match query {
-        Query::Get(name) => Ok(String::from_str(alloc, vars.get(name).unwrap_or("-"))?),
-        Query::Loaded => entries(alloc, vars),
-        Query::Conflicts(name) => conflicts(alloc, vars, name),
-        Query::Prereqs(name) => needs(alloc, vars, name),
-        Query::ShareName(name) => Ok(share_name(alloc, name)?),
-        Query::Holds(holds) => Ok(String::from_str(alloc, if holds { "1" } else { "0" })?),
-    }
+/// The answer to a call by its name and its word, empty where it has none; None where there is no such call.
+fn answer_named<V: Vars>(
+    alloc: Global,
+    vars: &V,
+    query: &str,
+    word: &str,
+) -> Option<Result<String, EnvFault>> {
+    Some(match query {
+        "get" => text(alloc, vars.get(word).unwrap_or("-")),
+        "loaded" => entries(alloc, vars),
+        "conflicts" => conflicts(alloc, vars, word),
+        "prereqs" => needs(alloc, vars, word),
+        "share_name" => counters_name(alloc, word),
+        "is_name" => text(alloc, digit(is_variable_name(word))),
+        "is_protected" => text(alloc, digit(is_protected(word))),
+        "is_plain" => text(alloc, digit(is_nul_free(word))),
+        _ => return None,
+    })
 }
 
 /// The answer to a call that changes nothing; None where it is another.
@@ -99,9 +81,10 @@ pub(crate) fn answer_query<V: Vars>(
     alloc: Global,
     vars: &V,
     words: &[String],
-) -> Result<Option<String>, EnvFault> {
-    match query_named(words) {
-        Some(query) => answer(alloc, vars, query).map(Some),
-        None => Ok(None),
+) -> Option<Result<String, EnvFault>> {
+    match words {
+        [query] => answer_named(alloc, vars, query, ""),
+        [query, word] => answer_named(alloc, vars, query, word),
+        _ => None,
     }
 }

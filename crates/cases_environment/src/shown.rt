@@ -1,16 +1,28 @@
-//! Environments and changes, as they are printed.
+//! Environments and changes, as they are printed, and changes as they are written in lines.
 
 use crate::texts::push_all;
 use envstate::{Change, Env, EnvFault, Vars};
 use std::alloc::{AllocError, Global};
 
+/// The value, or want of memory, where that is the one fault that can come.
+pub(crate) fn starved<T: Drop>(outcome: Result<T, EnvFault>) -> Result<T, AllocError> {
+    match outcome {
+        Ok(value) => Ok(value),
+        Err(_) => Err(AllocError),
+    }
+}
+
+/// Adds a variable, after a blank where it isn't the first.
+fn push_value(text: &mut String, name: &str, mark: &str, value: &str) -> Result<(), AllocError> {
+    let blank = if text.is_empty() { "" } else { " " };
+    push_all(text, &[blank, name, mark, value])
+}
+
 /// The variables in the order of their names, as `A=1 B=`.
 pub(crate) fn shown(alloc: Global, env: &Env) -> Result<String, EnvFault> {
     let mut text = String::new(alloc);
     for name in &env.names()? {
-        let blank = if text.is_empty() { "" } else { " " };
-        let value = env.get(name).unwrap_or("");
-        push_all(&mut text, &[blank, name, "=", value])?;
+        push_value(&mut text, name, "=", env.get(name).unwrap_or(""))?;
     }
     Ok(text)
 }
@@ -19,12 +31,29 @@ pub(crate) fn shown(alloc: Global, env: &Env) -> Result<String, EnvFault> {
 pub(crate) fn listed(alloc: Global, changes: &[Change]) -> Result<String, AllocError> {
     let mut text = String::new(alloc);
     for change in changes {
-        let blank = if text.is_empty() { "" } else { " " };
-        let (mark, value) = match &change.value {
-            Some(value) => ("=", value.as_str()),
-            None => ("-", ""),
-        };
-        push_all(&mut text, &[blank, &change.name, mark, value])?;
+        match &change.value {
+            Some(value) => push_value(&mut text, &change.name, "=", value)?,
+            None => push_value(&mut text, &change.name, "-", "")?,
+        }
     }
     Ok(text)
+}
+
+/// The change that a word asks for: `A=1`, or `A` or `A-` where it unsets the variable.
+fn change_of(alloc: Global, word: &str) -> Result<Change, AllocError> {
+    let (name, value) = match word.split_once('=') {
+        Some((name, value)) => (name, Some(String::from_str(alloc, value)?)),
+        None => (word.trim_end_matches('-'), None),
+    };
+    let name = String::from_str(alloc, name)?;
+    Ok(Change { name, value })
+}
+
+/// The changes that words ask for.
+pub(crate) fn changes_of(alloc: Global, words: &[String]) -> Result<Vec<Change>, AllocError> {
+    let mut changes = Vec::new(alloc);
+    for word in words {
+        changes.push(change_of(alloc, word)?)?;
+    }
+    Ok(changes)
 }

@@ -3,6 +3,7 @@
 use crate::texts::first_word;
 use crate::{disks, processes, trees};
 use filetree::{DiskTree, MemoryTree};
+use std::alloc::AllocError;
 use std::io;
 
 /// The answer to a line, of a disk, of a tree in memory or of a process.
@@ -11,15 +12,13 @@ fn answer_to(
     disk: &mut DiskTree<HostRuntime>,
     memory: &mut MemoryTree,
     line: &str,
-) -> io::Result<String> {
+) -> Result<String, AllocError> {
     let (what, rest) = first_word(line);
     match what {
-        "disk" => disks::answer(rt, disk, rest),
-        "scripted" => Ok(disks::scripted_answer(rt, rest)?),
-        "begins" => Ok(disks::begins_answer(rt, rest)?),
-        "memory" => Ok(trees::answer(rt.alloc(), memory, rest)?),
-        "process" => Ok(processes::answer(rt, rest)?),
-        _ => Ok(String::from_str(rt.alloc(), "bad line")?),
+        "disk" => disks::answer(rt.alloc(), disk, rest),
+        "memory" => trees::answer(rt.alloc(), memory, rest),
+        "process" => processes::answer(rt, rest),
+        _ => String::from_str(rt.alloc(), "bad line"),
     }
 }
 

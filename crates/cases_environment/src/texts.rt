@@ -57,12 +57,24 @@ pub(crate) fn push_all(text: &mut String, parts: &[&str]) -> Result<(), AllocErr
     Ok(())
 }
 
-/// The words of a line, separated by blanks; `''` is empty.
-pub(crate) fn words(alloc: Global, line: &str) -> Result<Vec<String>, AllocError> {
+/// Adds what a word means; `''` is the empty one.
+fn push_word(
+    alloc: Global,
+    words: &mut Vec<String>,
+    mark: u8,
+    word: &str,
+) -> Result<(), AllocError> {
+    let word = if word == "''" { "" } else { word };
+    Ok(words.push(meant(alloc, mark, word)?)?)
+}
+
+/// The words of a line, separated by blanks.
+pub(crate) fn words(alloc: Global, mark: u8, line: &str) -> Result<Vec<String>, AllocError> {
     let mut words = Vec::new(alloc);
     for word in line.split(' ') {
-        let word = if word == "''" { "" } else { word };
-        words.push(meant(alloc, b'^', word)?)?;
+        if !word.is_empty() {
+            push_word(alloc, &mut words, mark, word)?;
+        }
     }
     Ok(words)
 }

@@ -16,6 +16,17 @@ pub(crate) fn file_text(
     }
 }
 
+/// Whether a file begins as was asked.
+pub(crate) fn begins_text(
+    alloc: Global,
+    answer: Result<bool, TreeFault>,
+) -> Result<String, AllocError> {
+    match answer {
+        Ok(begins) => String::from_str(alloc, if begins { "yes" } else { "no" }),
+        Err(fault) => format!(in alloc; "{fault}"),
+    }
+}
+
 /// Each name in brackets, in the order of their bytes.
 fn names_text(alloc: Global, mut names: Vec<String>) -> Result<String, AllocError> {
     names.sort()?;

@@ -2,20 +2,25 @@
 
 use crate::edits::edit;
 use crate::queries::answer_query;
-use crate::shown::{listed, shown};
+use crate::shown::{listed, shown, starved};
 use crate::texts::words;
 use envstate::{Env, EnvFault, Vars, Working, changes};
-use std::alloc::{AllocError, Global};
+use std::alloc::Global;
 use std::io;
 
 /// The answer where the two environments have two.
 const TWO_ANSWERS: &str = "the two differ";
 
+/// Sets the variable of a word.
+fn set_one(env: &mut Env, word: &str) -> Result<(), EnvFault> {
+    let (name, value) = word.split_once('=').unwrap_or((word, ""));
+    env.set(name, value)
+}
+
 /// Sets the variables of the words.
 fn set_all(env: &mut Env, words: &str) -> Result<(), EnvFault> {
     for word in words.split(' ') {
-        let (name, value) = word.split_once('=').unwrap_or((word, ""));
-        env.set(name, value)?;
+        set_one(env, word)?;
     }
     Ok(())
 }
@@ -31,17 +36,26 @@ fn start(alloc: Global, calls: &[String]) -> Result<Env, EnvFault> {
     Ok(env)
 }
 
-/// The answer to a query, or `!NUMBER` for a refusal; None for an edit that was made. Memory alone is a fault.
+/// The answer to a query; None for an edit that was made.
+fn answered<V: Vars>(
+    alloc: Global,
+    vars: &mut V,
+    words: &[String],
+) -> Result<Option<String>, EnvFault> {
+    if let Some(answer) = answer_query(alloc, vars, words) {
+        return Ok(Some(answer?));
+    }
+    edit(alloc, vars, words)?;
+    Ok(None)
+}
+
+/// The same, with `!NUMBER` for a refusal. Memory alone is a fault.
 fn made<V: Vars>(
     alloc: Global,
     vars: &mut V,
     words: &[String],
 ) -> Result<Option<String>, EnvFault> {
-    let made = match answer_query(alloc, vars, words) {
-        Ok(None) => edit(alloc, vars, words).map(|()| None),
-        found => found,
-    };
-    match made {
+    match answered(alloc, vars, words) {
         Ok(answer) => Ok(answer),
         Err(EnvFault::OutOfMemory) => Err(EnvFault::OutOfMemory),
         Err(fault) => Ok(Some(format!(in alloc; "!{}", fault.number())?)),
@@ -75,19 +89,15 @@ fn changed(alloc: Global, env: &mut Env, words: &[String]) -> Result<(bool, Stri
     Ok((false, answer))
 }
 
-/// The answer of both environments to a call.
-fn answer_to(
-    alloc: Global,
-    env: &mut Env,
-    working: &mut Working<'_>,
-    call: &str,
-) -> Result<String, EnvFault> {
-    let words = words(alloc, call)?;
-    let (is_edit, answer) = changed(alloc, env, &words)?;
-    let is_same = match made(alloc, working, &words)? {
-        None => is_edit,
-        Some(other) => !is_edit && other == answer,
-    };
+/// An environment, and a working one over the same start.
+#[derive(Drop)]
+struct Both<'a> {
+    env: Env,
+    working: Working<'a>,
+}
+
+/// The answer where both environments say the same.
+fn agreed(alloc: Global, answer: String, is_same: bool) -> Result<String, EnvFault> {
     if is_same {
         Ok(answer)
     } else {
@@ -95,19 +105,34 @@ fn answer_to(
     }
 }
 
-/// What has changed, where both environments say the same.
-fn differences(
+/// Whether the working environment answers to a call as the other one did.
+fn is_same(
     alloc: Global,
-    old: &Env,
-    env: &Env,
-    working: Working<'_>,
-) -> Result<String, EnvFault> {
-    let found = listed(alloc, &changes(alloc, old, env)?)?;
-    if listed(alloc, &working.into_changes()?)? == found {
-        Ok(found)
-    } else {
-        Ok(String::from_str(alloc, TWO_ANSWERS)?)
-    }
+    working: &mut Working<'_>,
+    words: &[String],
+    is_edit: bool,
+    answer: &str,
+) -> Result<bool, EnvFault> {
+    Ok(match made(alloc, working, words)? {
+        None => is_edit,
+        Some(other) => !is_edit && other.as_str() == answer,
+    })
+}
+
+/// The answer of both environments to a call.
+fn answer_to(alloc: Global, both: &mut Both<'_>, call: &str) -> Result<String, EnvFault> {
+    let words = words(alloc, b'^', call)?;
+    let (is_edit, answer) = changed(alloc, &mut both.env, &words)?;
+    let is_same = is_same(alloc, &mut both.working, &words, is_edit, &answer)?;
+    agreed(alloc, answer, is_same)
+}
+
+/// What has changed, where both environments say the same.
+fn differences(alloc: Global, old: &Env, both: Both<'_>) -> Result<String, EnvFault> {
+    let found = listed(alloc, &changes(alloc, old, &both.env)?)?;
+    let working = listed(alloc, &both.working.into_changes()?)?;
+    let is_same = working == found;
+    agreed(alloc, found, is_same)
 }
 
 /// Prints a call and its answer.
@@ -119,24 +144,26 @@ fn print(rt: &HostRuntime, call: &str, answer: &str) -> io::Result<()> {
     }
 }
 
-/// The value, or want of memory: it is the one fault that can come.
-fn starved<T: Drop>(outcome: Result<T, EnvFault>) -> Result<T, AllocError> {
-    outcome.map_err(|_| AllocError)
+/// Answers calls, each by a line.
+fn print_answers(rt: &HostRuntime, both: &mut Both<'_>, calls: &[String]) -> io::Result<()> {
+    for call in calls {
+        print(rt, call, &starved(answer_to(rt.alloc(), both, call))?)?;
+    }
+    Ok(())
+}
+
+/// Answers calls over a start, and prints what they have changed.
+fn answer_over(rt: &HostRuntime, old: &Env, calls: &[String]) -> io::Result<()> {
+    let mut both = Both {
+        env: starved(old.copy())?,
+        working: Working::over(old),
+    };
+    print_answers(rt, &mut both, calls)?;
+    print(rt, "changes", &starved(differences(rt.alloc(), old, both))?)
 }
 
 /// Answers calls, and prints what they have changed.
 pub(crate) fn answer(rt: &HostRuntime, calls: &[String]) -> io::Result<()> {
-    let alloc = rt.alloc();
-    let old = starved(start(alloc, calls))?;
-    let mut env = starved(old.copy())?;
-    let mut working = Working::over(&old);
-    for call in calls {
-        let answer = starved(answer_to(alloc, &mut env, &mut working, call))?;
-        print(rt, call, &answer)?;
-    }
-    print(
-        rt,
-        "changes",
-        &starved(differences(alloc, &old, &env, working))?,
-    )
+    let old = starved(start(rt.alloc(), calls))?;
+    answer_over(rt, &old, calls)
 }
