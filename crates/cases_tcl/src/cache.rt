@@ -6,16 +6,12 @@ use crate::scripts::{LIMITS, recorder};
 use std::alloc::Global;
 use tclcache::Cache;
 use tcleval::evaluate_with;
+use tclrules::Recorder;
 
-/// The cache after the evaluation of a script; None where it is refused.
-fn cache_after(alloc: Global, script: &str) -> Option<Cache> {
-    let mut cache = Cache::new(alloc);
-    let mut host = recorder(alloc).ok()?;
+/// Whether a script is evaluated, and not refused.
+fn is_evaluated(alloc: Global, cache: &mut Cache, script: &str, mut host: Recorder) -> bool {
     let variables = Vec::new(alloc);
-    match evaluate_with(alloc, &mut cache, script, variables, &mut host, LIMITS) {
-        Ok(_) => Some(cache),
-        Err(_) => None,
-    }
+    evaluate_with(alloc, cache, script, variables, &mut host, LIMITS).is_ok()
 }
 
 /// The index of a text in the cache; None where it can't be parsed.
@@ -37,13 +33,35 @@ fn push_index(alloc: Global, line: &mut String, cache: &mut Cache, word: &str) -
     }
 }
 
+/// Adds the index of each text; None where one of the words isn't a text.
+fn push_indexes(alloc: Global, line: &mut String, cache: &mut Cache, words: &str) -> Option<()> {
+    for word in words.split(' ') {
+        push_index(alloc, line, cache, word)?;
+    }
+    Some(())
+}
+
+/// Adds the indexes of texts in the cache after the evaluation of a script; None where that is refused.
+fn push_cached(
+    alloc: Global,
+    line: &mut String,
+    words: &str,
+    script: &str,
+    host: Recorder,
+) -> Option<()> {
+    let mut cache = Cache::new(alloc);
+    if is_evaluated(alloc, &mut cache, script, host) {
+        push_indexes(alloc, line, &mut cache, words)
+    } else {
+        None
+    }
+}
+
 /// The answer to `cached`: the indexes of texts in the cache after an evaluation.
 pub(crate) fn answer(alloc: Global, rest: &str) -> Option<String> {
     let (words, script) = rest.split_once(": ")?;
-    let mut cache = cache_after(alloc, &text_of(alloc, script).ok()?)?;
+    let script = text_of(alloc, script).ok()?;
     let mut line = String::from_str(alloc, "cached").ok()?;
-    for word in words.split(' ') {
-        push_index(alloc, &mut line, &mut cache, word)?;
-    }
+    push_cached(alloc, &mut line, words, &script, recorder(alloc).ok()?)?;
     Some(line)
 }

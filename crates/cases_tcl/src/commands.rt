@@ -74,9 +74,9 @@ fn performed<'a>(alloc: Global, state: &mut State, form: Simple<'a>) -> Result<V
 }
 
 /// The script of a procedure; empty where there is none.
-fn body(alloc: Global, variables: &Variables, name: &str) -> Result<String, AllocError> {
+fn body(alloc: Global, variables: &Variables, name: &str) -> Result<String, Stop> {
     match variables.procedure(name) {
-        Some(procedure) => String::from_str(alloc, procedure.body.as_str()),
+        Some(procedure) => Ok(String::from_str(alloc, &procedure.body)?),
         None => Ok(String::new(alloc)),
     }
 }
@@ -165,43 +165,22 @@ fn command_text(
     Ok(value.into_text(alloc, &state.variables)?)
 }
 
-/// What a line asks for.
-#[derive(Clone, Copy)]
-enum Call<'a> {
-    Nothing,
-    Enter,
-    Leave,
-    Body(&'a str),
-    Value(&'a str),
-    Command(&'a str, &'a [String]),
-}
-
-/// What the words of a line ask for.
-fn call_of(words: &[String]) -> Call<'_> {
-    match words {
-        [] => Call::Nothing,
-        [name] if name.as_str() == "enter" => Call::Enter,
-        [name] if name.as_str() == "leave" => Call::Leave,
-        [name, of] if name.as_str() == "body" => Call::Body(of.as_str()),
-        [name, text] if name.as_str() == "value" => Call::Value(text.as_str()),
-        [name, rest @ ..] => Call::Command(name.as_str(), rest),
-    }
-}
-
 /// The result of what the words of a line ask for.
 fn result(alloc: Global, state: &mut State, words: &[String]) -> Result<String, Stop> {
-    match call_of(words) {
-        Call::Nothing => Ok(String::new(alloc)),
-        Call::Enter => enter(alloc, state),
-        Call::Leave => Ok(leave(alloc, state)),
-        Call::Body(name) => Ok(body(alloc, &state.variables, name)?),
-        Call::Value(text) => value(alloc, state, text),
-        Call::Command(name, rest) => command_text(alloc, state, name, rest, words),
+    let Some((name, rest)) = words.split_first() else {
+        return Ok(String::new(alloc));
+    };
+    match (name.as_str(), rest) {
+        ("enter", []) => enter(alloc, state),
+        ("leave", []) => Ok(leave(alloc, state)),
+        ("body", [name]) => body(alloc, &state.variables, name),
+        ("value", [text]) => value(alloc, state, text),
+        _ => command_text(alloc, state, name, rest, words),
     }
 }
 
 /// What ended an evaluation early, in words.
-fn faulted(alloc: Global, fault: EvalFault) -> Result<String, AllocError> {
+fn faulted(alloc: Global, fault: &EvalFault) -> Result<String, AllocError> {
     match fault {
         EvalFault::TclError(message, _) => format!(in alloc; "raised {message}"),
         EvalFault::LeftOut(name) => format!(in alloc; "halted: left out {name}"),
@@ -214,7 +193,7 @@ fn faulted(alloc: Global, fault: EvalFault) -> Result<String, AllocError> {
 }
 
 /// A result or a fault, as the answer of its line.
-fn shown(alloc: Global, answer: Result<String, Stop>) -> Result<String, AllocError> {
+fn shown(alloc: Global, answer: &Result<String, Stop>) -> Result<String, AllocError> {
     match answer {
         Ok(text) => format!(in alloc; "ok {text}"),
         Err(Stop::Fault(fault)) => faulted(alloc, fault),
@@ -228,5 +207,5 @@ pub(crate) fn answer(alloc: Global, state: &mut State, line: &str) -> Result<Str
         Ok(words) => result(alloc, state, &words),
         Err(fault) => Err(Stop::from(fault)),
     };
-    shown(alloc, result)
+    shown(alloc, &result)
 }

@@ -24,8 +24,10 @@ pub(crate) fn text_of(alloc: Global, word: &str) -> Option<String> {
 /// The texts of words between blanks.
 pub(crate) fn texts_of(alloc: Global, words: &str) -> Option<Vec<String>> {
     let mut texts = Vec::new(alloc);
-    for word in words.split(' ').filter(|word| !word.is_empty()) {
-        texts.push(text_of(alloc, word)?).ok()?;
+    for word in words.split(' ') {
+        if !word.is_empty() {
+            texts.push(text_of(alloc, word)?).ok()?;
+        }
     }
     Some(texts)
 }

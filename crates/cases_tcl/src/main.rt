@@ -43,15 +43,23 @@ fn answer(alloc: Global, state: &mut State, line: &str) -> Option<String> {
     }
 }
 
-/// Answers each line of standard input by a line of standard output.
-fn main(rt: HostRuntime) -> io::Result<()> {
-    let mut state = State::new(rt.alloc())?;
+/// Answers a line by a line of standard output.
+fn answer_line(rt: &HostRuntime, state: &mut State, line: &str) -> io::Result<()> {
+    match answer(rt.alloc(), state, line) {
+        Some(answer) => println!(rt; "{answer}"),
+        None => println!(rt; "no answer"),
+    }
+}
+
+/// Answers each line of standard input.
+fn answer_lines(rt: &HostRuntime, state: &mut State) -> io::Result<()> {
     for line in rt.lines(rt.alloc()) {
-        let line = line?;
-        match answer(rt.alloc(), &mut state, line.as_str()) {
-            Some(answer) => println!(rt; "{answer}")?,
-            None => println!(rt; "no answer")?,
-        }
+        answer_line(rt, state, &line?)?;
     }
     Ok(())
+}
+
+fn main(rt: HostRuntime) -> io::Result<()> {
+    let mut state = State::new(rt.alloc())?;
+    answer_lines(&rt, &mut state)
 }

@@ -81,16 +81,25 @@ fn set(alloc: Global, setting: &mut Setting, word: &str) -> Option<()> {
     Some(())
 }
 
+/// Takes up the settings of the words; None where one of them is none.
+fn set_all(alloc: Global, setting: &mut Setting, words: &str) -> Option<()> {
+    for word in words.split(' ') {
+        if !word.is_empty() {
+            set(alloc, setting, word)?;
+        }
+    }
+    Some(())
+}
+
 /// The settings of the words; None where one of them is none.
 fn setting_of(alloc: Global, words: &str) -> Option<Setting> {
+    let host = recorder(alloc).ok()?;
     let mut setting = Setting {
         limits: LIMITS,
         variables: Vec::new(alloc),
-        host: recorder(alloc).ok()?,
+        host,
     };
-    for word in words.split(' ').filter(|word| !word.is_empty()) {
-        set(alloc, &mut setting, word)?;
-    }
+    set_all(alloc, &mut setting, words)?;
     Some(setting)
 }
 
@@ -139,20 +148,33 @@ fn push_record(line: &mut String, record: &[String]) -> Result<(), AllocError> {
     Ok(())
 }
 
-/// Adds a message.
-fn push_message(line: &mut String, message: &str) -> Result<(), AllocError> {
-    line.push_str("\tmessage ")?;
-    push_text(line, message)
+/// Adds messages.
+fn push_messages(line: &mut String, messages: &[String]) -> Result<(), AllocError> {
+    for message in messages {
+        line.push_str("\tmessage ")?;
+        push_text(line, message)?;
+    }
+    Ok(())
 }
 
-/// Adds the messages and records of the host, and its mark.
-fn push_trace(line: &mut String, host: &Recorder) -> Result<(), AllocError> {
-    for message in &host.messages {
-        push_message(line, message)?;
-    }
-    for record in &host.records {
+/// Adds records.
+fn push_records(line: &mut String, records: &[Vec<String>]) -> Result<(), AllocError> {
+    for record in records {
         push_record(line, record)?;
     }
+    Ok(())
+}
+
+/// Adds the result of a script or its fault, the messages and records of its host, and the host's mark.
+fn push_shown(
+    alloc: Global,
+    line: &mut String,
+    outcome: &Result<Ending, EvalFault>,
+    host: &Recorder,
+) -> Result<(), AllocError> {
+    push_outcome(alloc, line, outcome)?;
+    push_messages(line, &host.messages)?;
+    push_records(line, &host.records)?;
     if host.asked {
         line.push_str("\tasked")?;
     }
@@ -184,17 +206,15 @@ fn push_evaluated(
         mut host,
     } = setting;
     let outcome = evaluate(alloc, script, variables, &mut host, limits);
-    push_outcome(alloc, line, &outcome)?;
-    push_trace(line, &host)
+    push_shown(alloc, line, &outcome, &host)
 }
 
 /// The answer to `script`; None where the line asks nothing, or memory ran out.
 pub(crate) fn answer(alloc: Global, rest: &str) -> Option<String> {
     let (head, written) = rest.split_once(": ")?;
     let (name, words) = head.split_once(' ').unwrap_or((head, ""));
-    let setting = setting_of(alloc, words)?;
     let script = text_of(alloc, written).ok()?;
     let mut line = format!(in alloc; "{name}: ").ok()?;
-    push_evaluated(alloc, &mut line, setting, &script).ok()?;
+    push_evaluated(alloc, &mut line, setting_of(alloc, words)?, &script).ok()?;
     Some(line)
 }

@@ -81,6 +81,14 @@ fn word_text(alloc: Global, word: &Word<&str>) -> Result<Option<String>, AllocEr
     Ok(if is_text { Some(text) } else { None })
 }
 
+/// Adds a word, which is `$` where it has a substitution.
+fn push_word(alloc: Global, line: &mut String, word: &Word<&str>) -> Option<()> {
+    match word_text(alloc, word).ok()? {
+        Some(text) if !word.expands => push_shown(alloc, line, &text),
+        _ => line.push('$').ok(),
+    }
+}
+
 /// Adds a command: its byte offset and its words.
 fn push_command(alloc: Global, line: &mut String, command: &Command<&str>) -> Option<()> {
     let offset = command.offset;
@@ -89,10 +97,7 @@ fn push_command(alloc: Global, line: &mut String, command: &Command<&str>) -> Op
         if i > 0 {
             line.push(',').ok()?;
         }
-        match word_text(alloc, word).ok()? {
-            Some(text) if !word.expands => push_shown(alloc, line, &text)?,
-            _ => line.push('$').ok()?,
-        }
+        push_word(alloc, line, word)?;
     }
     Some(())
 }

@@ -2,8 +2,8 @@
 use std::alloc::Global;
 use std::fmt::Debug;
 use tcltext::{
-    Command, Expr, Script, TextFault, Word, own_expr, own_script, parse_expr, parse_list,
-    parse_script,
+    Command, Expr, OwnedScript, Script, TextFault, Word, own_expr, own_script, parse_expr,
+    parse_list, parse_script,
 };
 
 /// Adds what a word is made of, after `*` where its list is expanded.
@@ -69,14 +69,21 @@ pub(crate) fn tree(alloc: Global, kind: &str, text: &str) -> Option<String> {
 }
 
 /// The source of each command, as a range of the script's own text.
-fn sources(alloc: Global, text: String) -> Option<String> {
-    let owned = own_script(alloc, text).ok()?;
+fn shown_sources(alloc: Global, owned: &OwnedScript) -> Option<String> {
     let mut line = String::from_str(alloc, "ok").ok()?;
     for command in &owned.script.commands {
         let source = command.source.of(owned.text.as_str());
         line.push_str(&format!(in alloc; " {source:?}").ok()?).ok()?;
     }
     Some(line)
+}
+
+/// The sources of the commands of a script, or its fault.
+fn sources(alloc: Global, text: String) -> Option<String> {
+    match own_script(alloc, text) {
+        Ok(owned) => shown_sources(alloc, &owned),
+        Err(fault) => shown_fault(alloc, fault),
+    }
 }
 
 /// The tree of a script that owns its text, or its fault.

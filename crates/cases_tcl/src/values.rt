@@ -41,12 +41,22 @@ const BINARY: [BinaryOperator; 20] = [
 
 /// The operator of one operand with this symbol.
 fn unary_named(symbol: &str) -> Option<UnaryOperator> {
-    UNARY.into_iter().find(|op| op.symbol() == symbol)
+    for operator in &UNARY {
+        if operator.symbol() == symbol {
+            return Some(*operator);
+        }
+    }
+    None
 }
 
 /// The operator of two operands with this symbol.
 fn binary_named(symbol: &str) -> Option<BinaryOperator> {
-    BINARY.into_iter().find(|op| op.symbol() == symbol)
+    for operator in &BINARY {
+        if operator.symbol() == symbol {
+            return Some(*operator);
+        }
+    }
+    None
 }
 
 /// A fault, as the answer of its line.
