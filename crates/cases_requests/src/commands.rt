@@ -1,31 +1,28 @@
 //! Lines about whole commands, requests, sessions and verdicts, over one tree and one environment.
 use crate::calls::difference;
-use crate::failing::{Failing, Poor};
+use crate::poor::Poor;
 use crate::rehearsed::{request_of, requests_for_sh, shown_rehearsal};
 use crate::shown::{
-    differences, exit_name, held, marked, shown_changed, shown_outcome, shown_refusal, variables,
-    verdict_line,
+    differences, exit_name, push_marked, shown_changed, shown_outcome, shown_refusal, text_of,
+    variables, verdict_line,
 };
 use crate::texts::{STANDARD, environment, first_word, limits_of, meant, number, words};
 use crate::writers::{Limited, kind};
 use anyhow::Result;
-use envvars::{Vars, changes};
+use envvars::changes;
 use filetree::{MemoryTree, Tree};
 use modulecmd::{
-    Change, Changed, CommandFault, Env, Exit, Limits, Refusal, Request, Shell, modulecmd,
-    print_changes, request, run, run_changes, run_command, session, verdict, write_refusal,
+    Change, Changed, Env, Exit, Limits, Outcome, Refusal, Request, Shell, modulecmd, print_changes,
+    request, run, run_changes, run_command, session, verdict,
 };
 use std::alloc::Global;
 use std::io;
-
-/// How many reads and listings a command of these examples makes at most.
-const MOST_CALLS: u64 = 100;
 
 /// What calls share: the tree, the environment, and the limits of `ask` and `verdict`.
 #[derive(Drop)]
 struct Session {
     alloc: Global,
-    tree: MemoryTree,
+    tree: Poor<MemoryTree>,
     env: Env,
     limits: Limits,
 }
@@ -33,49 +30,63 @@ struct Session {
 /// What a command wrote, and its status.
 #[derive(Drop)]
 struct Written {
-    out: String,
-    err: String,
+    out: Vec<u8>,
+    err: Vec<u8>,
     status: u8,
 }
 
 impl Written {
     /// What was written, and the status, as they are shown.
     fn shown(&self, alloc: Global) -> Result<String> {
-        let err = marked(alloc, "! ", self.err.as_str())?;
-        let out = self.out.as_str();
+        let mut text = String::from_str(alloc, text_of(&self.out))?;
+        push_marked(&mut text, "! ", text_of(&self.err))?;
         let status = self.status;
-        Ok(format!(in alloc; "{out}{err}= {status}\n")?)
+        text.push_str(&format!(in alloc; "= {status}\n")?)?;
+        Ok(text)
     }
 }
 
 /// Runs a command over a tree.
 fn command<T: Tree>(alloc: Global, args: &[String], env: &Env, tree: &mut T) -> Result<Written> {
+    let env = env.copy()?;
     let mut out = Vec::new(alloc);
     let mut err = Vec::new(alloc);
-    let status = modulecmd(alloc, args, env.copy()?, tree, &mut out, &mut err);
-    Ok(Written {
-        out: held(alloc, out.as_slice())?,
-        err: held(alloc, err.as_slice())?,
-        status,
+    let status = modulecmd(alloc, args, env, tree, &mut out, &mut err);
+    Ok(Written { out, err, status })
+}
+
+/// The outcomes of a session.
+fn outcomes_text(alloc: Global, outcomes: &[Outcome]) -> Result<String> {
+    let mut text = String::new(alloc);
+    for outcome in outcomes {
+        text.push_str(&shown_outcome(alloc, outcome)?)?;
+    }
+    Ok(text)
+}
+
+/// The difference of the environment at the end.
+fn end_text(alloc: Global, start: &Env, end: &Env) -> Result<String> {
+    let difference = changes(alloc, start, end)?;
+    let text = differences(alloc, &difference)?;
+    Ok(if text.is_empty() {
+        String::from_str(alloc, "the start\n")?
+    } else {
+        format!(in alloc; "in the end\n{text}")?
     })
 }
 
-/// Runs requests one after another, and shows the outcome of each, and the difference of the environment at the end.
+/// The outcomes of a session, and the difference of the environment at the end.
+fn session_text(alloc: Global, outcomes: &[Outcome], start: &Env, end: &Env) -> Result<String> {
+    let mut text = outcomes_text(alloc, outcomes)?;
+    text.push_str(&end_text(alloc, start, end)?)?;
+    Ok(text)
+}
+
+/// Runs requests one after another, and shows their session.
 fn shown_session<T: Tree>(alloc: Global, line: &str, env: &Env, tree: &mut T) -> Result<String> {
     let requests = requests_for_sh(alloc, line)?;
-    let (after, outcomes) = session(alloc, requests.as_slice(), env.copy()?, tree, STANDARD)?;
-    let mut text = String::new(alloc);
-    for outcome in &outcomes {
-        text.push_str(shown_outcome(alloc, outcome)?.as_str())?;
-    }
-    let difference = changes(alloc, env, &after)?;
-    if difference.is_empty() {
-        text.push_str("the start\n")?;
-    } else {
-        text.push_str("in the end\n")?;
-        text.push_str(differences(alloc, difference.as_slice())?.as_str())?;
-    }
-    Ok(text)
+    let (after, outcomes) = session(alloc, &requests, env.copy()?, tree, STANDARD)?;
+    session_text(alloc, &outcomes, env, &after)
 }
 
 /// Whether this is the text that a shell reads these changes from.
@@ -83,37 +94,13 @@ fn prints(alloc: Global, shell: Shell, changes: &[Change], out: &str) -> Result<
     Ok(print_changes(alloc, shell, changes)?.as_str() == out)
 }
 
-/// Whether this is the text that a shell reads the difference of two environments from.
-fn prints_difference(alloc: Global, shell: Shell, old: &Env, new: &Env, out: &str) -> Result<bool> {
-    let difference = changes(alloc, old, new)?;
-    prints(alloc, shell, difference.as_slice(), out)
-}
-
 /// How a command ended, and what its writers hold.
 fn shown_exit(alloc: Global, exit: Exit, out: &Limited, err: &Limited) -> Result<String> {
-    let out = held(alloc, out.held.as_slice())?;
-    let err = held(alloc, err.held.as_slice())?;
+    let out = text_of(&out.held);
+    let err = text_of(&err.held);
     let how = exit_name(exit);
     let status = exit.status();
     Ok(format!(in alloc; "{how} {status} [{out}] [{err}]\n")?)
-}
-
-/// The refusal of this kind.
-fn fault_named(alloc: Global, kind: &str, word: &str) -> Result<CommandFault> {
-    Ok(match kind {
-        "shell" => CommandFault::UnknownShell(meant(alloc, word)?),
-        "write" => CommandFault::WriteFailed,
-        _ => CommandFault::Refused(Refusal::OutOfMemory),
-    })
-}
-
-/// The line that is written of a refusal, after its number and whether all was written.
-fn shown_line(alloc: Global, fault: &CommandFault) -> Result<String> {
-    let mut err = Vec::new(alloc);
-    let is_whole = write_refusal(fault, &mut err).is_ok();
-    let number = fault.number();
-    let line = held(alloc, err.as_slice())?;
-    Ok(format!(in alloc; "{number} {is_whole} {line}")?)
 }
 
 impl Session {
@@ -121,7 +108,10 @@ impl Session {
     fn new(alloc: Global) -> Session {
         Session {
             alloc,
-            tree: MemoryTree::new(alloc),
+            tree: Poor {
+                tree: MemoryTree::new(alloc),
+                path: String::new(alloc),
+            },
             env: Env::new(alloc),
             limits: STANDARD,
         }
@@ -147,15 +137,13 @@ impl Session {
             "rehearse" => self.rehearse(rest),
             "poor" => self.poor(rest),
             "write" => self.write(rest),
-            "failing" => self.failing(rest),
-            "refused" => self.refused(rest),
             _ => Ok(String::from_str(self.alloc, "no such call\n")?),
         }
     }
 
     /// Begins a new tree.
     fn clear(&mut self) -> Result<String> {
-        self.tree = MemoryTree::new(self.alloc);
+        self.tree.tree = MemoryTree::new(self.alloc);
         Ok(String::new(self.alloc))
     }
 
@@ -166,7 +154,7 @@ impl Session {
         bytes.extend_from_slice(meant(self.alloc, text)?.as_bytes())?;
         bytes.extend_from_slice(suffix)?;
         let path = meant(self.alloc, path)?;
-        self.tree.put_file(path.as_str(), bytes.as_slice())?;
+        self.tree.tree.put_file(&path, &bytes)?;
         Ok(String::new(self.alloc))
     }
 
@@ -178,7 +166,7 @@ impl Session {
         for name in &names {
             texts.push(name.as_str())?;
         }
-        self.tree.put_directory(path, texts.as_slice())?;
+        self.tree.tree.put_directory(path, &texts)?;
         Ok(String::new(self.alloc))
     }
 
@@ -206,44 +194,46 @@ impl Session {
         let written = command(self.alloc, args.as_slice(), &self.env, &mut self.tree)?;
         let mut text = written.shown(self.alloc)?;
         if written.status == 0 {
-            text.push_str(self.follow(args.as_slice(), written.out.as_str())?)?;
+            text.push_str(self.follow(&args, text_of(&written.out))?)?;
         }
         Ok(text)
     }
 
     /// Goes on from what an accepted command makes of the variables; a line names a call that does otherwise.
     fn follow(&mut self, args: &[String], out: &str) -> Result<&'static str> {
-        let [word, words @ ..] = args else {
+        let Some((word, words)) = args.split_first() else {
             return Ok("no shell\n");
         };
-        let Some(shell) = Shell::named(word.as_str()) else {
+        let Some(shell) = Shell::named(word) else {
             return Ok("no shell\n");
         };
         let request = request(self.alloc, shell, words)?;
+        if !self.changes_print(shell, &request, out)? {
+            return Ok("run_changes says another text\n");
+        }
         self.follow_request(shell, &request, out)
     }
 
-    /// The same, by the request of the command.
+    /// Whether a shell reads what a request changes from this text.
+    fn changes_print(&mut self, shell: Shell, request: &Request, out: &str) -> Result<bool> {
+        let changed = run_changes(self.alloc, request, &self.env, &mut self.tree, STANDARD)?;
+        prints(self.alloc, shell, &changed.changes, out)
+    }
+
+    /// Goes on from the environment that a request leaves, where a shell reads its exact difference from this text.
     fn follow_request(
         &mut self,
         shell: Shell,
         request: &Request,
         out: &str,
     ) -> Result<&'static str> {
-        let reply = run(self.alloc, request, &self.env, &mut self.tree, STANDARD)?;
-        let changed = run_changes(self.alloc, request, &self.env, &mut self.tree, STANDARD)?;
-        if !prints(self.alloc, shell, changed.changes.as_slice(), out)? {
-            return Ok("run_changes says another text\n");
-        }
-        if !prints_difference(self.alloc, shell, &self.env, &reply.env, out)? {
+        let env = run(self.alloc, request, &self.env, &mut self.tree, STANDARD)?.env;
+        let difference = changes(self.alloc, &self.env, &env)?;
+        if !prints(self.alloc, shell, &difference, out)? {
             return Ok("run leaves another environment\n");
         }
-        self.env.apply(changed.changes)?;
-        Ok(if changes(self.alloc, &self.env, &reply.env)?.is_empty() {
-            ""
-        } else {
-            "run leaves another environment\n"
-        })
+        self.env = env;
+        Ok("")
     }
 
     /// What a request for sh changes.
@@ -299,11 +289,10 @@ impl Session {
     /// Runs requests where memory is refused for the file at a path.
     fn poor(&mut self, rest: &str) -> Result<String> {
         let (path, rest) = first_word(rest);
-        let mut tree = Poor {
-            tree: &mut self.tree,
-            path,
-        };
-        shown_session(self.alloc, rest, &self.env, &mut tree)
+        self.tree.path = String::from_str(self.alloc, path)?;
+        let text = shown_session(self.alloc, rest, &self.env, &mut self.tree);
+        self.tree.path = String::new(self.alloc);
+        text
     }
 
     /// Runs a command over writers that take so many bytes.
@@ -312,56 +301,16 @@ impl Session {
         let (err_room, rest) = first_word(rest);
         let (name, rest) = first_word(rest);
         let args = words(self.alloc, rest)?;
+        let env = self.env.copy()?;
         let mut out = Limited::new(self.alloc, number(out_room), kind(name));
         let mut err = Limited::new(self.alloc, number(err_room), kind(name));
-        let exit = run_command(
-            self.alloc,
-            args.as_slice(),
-            self.env.copy()?,
-            &mut self.tree,
-            &mut out,
-            &mut err,
-        );
+        let exit = run_command(self.alloc, &args, env, &mut self.tree, &mut out, &mut err);
         shown_exit(self.alloc, exit, &out, &err)
-    }
-
-    /// Runs a command while each call of its tree in turn fails, until one more than it makes would fail.
-    fn failing(&mut self, rest: &str) -> Result<String> {
-        let args = words(self.alloc, rest)?;
-        let mut text = String::new(self.alloc);
-        let mut last = String::new(self.alloc);
-        for remaining in 0..MOST_CALLS {
-            let mut tree = Failing {
-                tree: &mut self.tree,
-                remaining,
-                failed: 0,
-            };
-            let written = command(self.alloc, args.as_slice(), &self.env, &mut tree)?;
-            let failed = tree.failed;
-            let shown = written.shown(self.alloc)?;
-            if shown.as_str() != last.as_str() {
-                text.push_str(shown.as_str())?;
-            }
-            last = shown;
-            if failed == 0 {
-                return Ok(text);
-            }
-        }
-        text.push_str("too many calls\n")?;
-        Ok(text)
-    }
-
-    /// Shows the line that is written of a refusal.
-    fn refused(&mut self, rest: &str) -> Result<String> {
-        let (kind, word) = first_word(rest);
-        let fault = fault_named(self.alloc, kind, word)?;
-        shown_line(self.alloc, &fault)
     }
 }
 
-/// Answers lines of calls, which share a tree and an environment.
-pub(crate) fn answer(rt: &HostRuntime, lines: &[String]) -> io::Result<()> {
-    let mut session = Session::new(rt.alloc());
+/// Answers lines of calls.
+fn answer_lines(rt: &HostRuntime, session: &mut Session, lines: &[String]) -> io::Result<()> {
     for line in lines {
         match session.answer(line) {
             Ok(text) => print!(rt; "> {line}\n{text}")?,
@@ -369,4 +318,10 @@ pub(crate) fn answer(rt: &HostRuntime, lines: &[String]) -> io::Result<()> {
         }
     }
     Ok(())
+}
+
+/// Answers lines of calls, which share a tree and an environment.
+pub(crate) fn answer(rt: &HostRuntime, lines: &[String]) -> io::Result<()> {
+    let mut session = Session::new(rt.alloc());
+    answer_lines(rt, &mut session, lines)
 }

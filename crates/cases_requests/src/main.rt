@@ -41,15 +41,13 @@
 //! REQUEST...` rehearses requests: for each `accepted` and the text that it prints, or `none`, and then the variables
 //! at the end. `poor PATH REQUEST, REQUEST...` runs requests where memory is refused for the file at the path. `write
 //! OUT ERR KIND WORD...` runs a command whose writers take so many bytes, and shows how it ended and what they hold.
-//! `failing WORD...` runs a command while each of its reads and listings in turn fails, and shows what is new of its
-//! answers. `refused KIND WORD` shows the line that is written of a refusal.
 #![tactic(auto)]
 
 mod calls;
 mod commands;
 mod counted;
-mod failing;
 mod parts;
+mod poor;
 mod rehearsed;
 mod runs;
 mod searches;
@@ -60,18 +58,33 @@ mod writers;
 
 use std::io;
 
+/// Answers lines about a subject.
+fn answer_about(rt: &HostRuntime, subject: &str, lines: &[String]) -> io::Result<()> {
+    match subject {
+        "searches" => searches::answer(rt, lines),
+        "files" => runs::answer(rt, lines),
+        "commands" => commands::answer(rt, lines),
+        _ => println!(rt; "no such lines: {subject}"),
+    }
+}
+
 /// Answers a paragraph, and ends with an empty line.
 fn answer(rt: &HostRuntime, paragraph: &[String]) -> io::Result<()> {
     let Some((subject, lines)) = paragraph.split_first() else {
         return Ok(());
     };
-    match subject.as_str() {
-        "searches" => searches::answer(rt, lines),
-        "files" => runs::answer(rt, lines),
-        "commands" => commands::answer(rt, lines),
-        _ => println!(rt; "no such lines: {subject}"),
-    }?;
+    answer_about(rt, subject, lines)?;
     println!(rt;)
+}
+
+/// Adds a line to the paragraph, which an empty line ends.
+fn take_line(rt: &HostRuntime, paragraph: &mut Vec<String>, line: String) -> io::Result<()> {
+    if !line.is_empty() {
+        return Ok(paragraph.push(line)?);
+    }
+    answer(rt, paragraph)?;
+    paragraph.clear();
+    Ok(())
 }
 
 /// Answers each paragraph of standard input.
@@ -79,13 +92,7 @@ fn main(rt: HostRuntime) -> io::Result<()> {
     let alloc = rt.alloc();
     let mut paragraph = Vec::new(alloc);
     for line in rt.lines(alloc) {
-        let line = line?;
-        if line.is_empty() {
-            answer(&rt, &paragraph)?;
-            paragraph.clear();
-        } else {
-            paragraph.push(line)?;
-        }
+        take_line(&rt, &mut paragraph, line?)?;
     }
     answer(&rt, &paragraph)
 }

@@ -60,6 +60,13 @@ fn shown_prints(alloc: Global, prints: &[Option<String>]) -> Result<String, Allo
     Ok(text)
 }
 
+/// What is printed for each request, and the variables at the end.
+fn rehearsal_text(alloc: Global, prints: &[Option<String>], end: &Env) -> Result<String> {
+    let prints = shown_prints(alloc, prints)?;
+    let end = variables(alloc, end)?;
+    Ok(format!(in alloc; "{prints}end\n{end}")?)
+}
+
 /// Rehearses requests, and shows what is printed for each and the variables at the end.
 pub(crate) fn shown_rehearsal<T: Tree>(
     alloc: Global,
@@ -69,8 +76,6 @@ pub(crate) fn shown_rehearsal<T: Tree>(
     limits: Limits,
 ) -> Result<String> {
     let requests = requests_with_shells(alloc, line)?;
-    let (end, prints) = rehearse(alloc, requests.as_slice(), env.copy()?, tree, limits)?;
-    let prints = shown_prints(alloc, prints.as_slice())?;
-    let end = variables(alloc, &end)?;
-    Ok(format!(in alloc; "{prints}end\n{end}")?)
+    let (end, prints) = rehearse(alloc, &requests, env.copy()?, tree, limits)?;
+    rehearsal_text(alloc, &prints, &end)
 }

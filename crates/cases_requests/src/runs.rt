@@ -1,6 +1,6 @@
 //! Lines about modulefiles, each with the variables and the context that it is run over.
 use crate::texts::{STANDARD, first_word, push_all};
-use envvars::{Change, Env, Vars, changes};
+use envvars::{Change, Env, EnvFault, Vars, changes};
 use modulefile::{Mode, Record, Shell};
 use modulerun::{FileContext, Ran, run_file};
 use reports::{show_report, whatis_report};
@@ -80,6 +80,14 @@ fn ran_text(alloc: Global, ran: &Ran, report: &str) -> Result<String, AllocError
     Ok(text)
 }
 
+/// The value, or want of memory, where that is the one fault that can come.
+fn starved<T: Drop>(outcome: Result<T, EnvFault>) -> Result<T, AllocError> {
+    match outcome {
+        Ok(value) => Ok(value),
+        Err(_) => Err(AllocError),
+    }
+}
+
 /// The words of a line.
 fn names(alloc: Global, words: &str) -> Result<Vec<String>, AllocError> {
     let mut names = Vec::new(alloc);
@@ -92,14 +100,17 @@ fn names(alloc: Global, words: &str) -> Result<Vec<String>, AllocError> {
 impl FileRun {
     /// An example at its beginning.
     fn new(alloc: Global) -> Result<FileRun, AllocError> {
+        let module = String::from_str(alloc, "m/1")?;
+        let typed = module.clone()?;
+        let text = String::from_str(alloc, COOKIE)?;
         Ok(FileRun {
             alloc,
             env: Env::new(alloc),
             shell: Shell::Sh,
-            module: String::from_str(alloc, "m/1")?,
-            typed: String::from_str(alloc, "m/1")?,
+            module,
+            typed,
             loaded: Vec::new(alloc),
-            text: String::from_str(alloc, COOKIE)?,
+            text,
             records: Vec::new(alloc),
             limits: STANDARD,
         })
@@ -110,7 +121,7 @@ impl FileRun {
         match word {
             "set" => {
                 let (name, value) = first_word(rest);
-                self.env.set(name, value).map_err(|_| AllocError)?;
+                starved(self.env.set(name, value))?;
             }
             "loaded" => self.loaded = names(self.alloc, rest)?,
             "in" => return self.set_module(rest),
@@ -152,6 +163,12 @@ impl FileRun {
         }
     }
 
+    /// The answer to a run that wasn't refused.
+    fn ran_text(&self, mode: Mode, path: &str, ran: &Ran) -> Result<String, AllocError> {
+        let report = self.report(mode, path, &ran.records)?;
+        ran_text(self.alloc, ran, &report)
+    }
+
     /// Runs the file, and answers how that went.
     fn ran(&mut self, mode: Mode, in_switch: bool, path: &str) -> Result<String, AllocError> {
         let context = FileContext {
@@ -165,10 +182,9 @@ impl FileRun {
         };
         match run_file(self.alloc, &context, &self.text, &mut self.env, self.limits) {
             Ok(ran) => {
-                let report = self.report(mode, path, &ran.records)?;
-                let text = ran_text(self.alloc, &ran, &report)?;
+                let text = self.ran_text(mode, path, &ran);
                 self.records = ran.records;
-                Ok(text)
+                text
             }
             Err(fault) => {
                 let number = fault.number();
@@ -181,13 +197,27 @@ impl FileRun {
     fn run(&mut self, mode: Mode, in_switch: bool) -> Result<String, AllocError> {
         let module = self.module.as_str();
         let path = format!(in self.alloc; "/m/{module}")?;
-        let before = self.env.copy().map_err(|_| AllocError)?;
+        let before = starved(self.env.copy())?;
         let mut answer = self.ran(mode, in_switch, &path)?;
-        let changes = changes(self.alloc, &before, &self.env).map_err(|_| AllocError)?;
-        for change in &changes {
-            push_change(&mut answer, change)?;
-        }
+        self.push_changes(&mut answer, &before)?;
         Ok(answer)
+    }
+
+    /// Adds the variables that changed.
+    fn push_changes(&self, answer: &mut String, before: &Env) -> Result<(), AllocError> {
+        let changes = starved(changes(self.alloc, before, &self.env))?;
+        for change in &changes {
+            push_change(answer, change)?;
+        }
+        Ok(())
+    }
+
+    /// The records of the last run.
+    fn records_text(&self) -> Result<String, AllocError> {
+        let report = show_report(self.alloc, "", &self.records)?;
+        let mut text = String::from_str(self.alloc, "records")?;
+        push_lines(&mut text, &report)?;
+        Ok(text)
     }
 
     /// The answer to a line, where it asks for one.
@@ -196,9 +226,7 @@ impl FileRun {
             return Ok(Some(self.run(mode, in_switch)?));
         }
         if line == "records" {
-            let mut text = String::from_str(self.alloc, "records")?;
-            push_lines(&mut text, &show_report(self.alloc, "", &self.records)?)?;
-            return Ok(Some(text));
+            return Ok(Some(self.records_text()?));
         }
         let (word, rest) = first_word(line);
         match self.take(word, rest)? {
@@ -208,16 +236,28 @@ impl FileRun {
     }
 }
 
+/// Answers a line; a title begins another example.
+fn answer_line(rt: &HostRuntime, run: &mut FileRun, line: &str) -> io::Result<()> {
+    if line.starts_with('#') {
+        *run = FileRun::new(rt.alloc())?;
+        return println!(rt; "{line}");
+    }
+    match run.answer(line)? {
+        Some(answer) => println!(rt; "> {line}\n{answer}"),
+        None => Ok(()),
+    }
+}
+
+/// Answers lines over examples.
+fn answer_lines(rt: &HostRuntime, run: &mut FileRun, lines: &[String]) -> io::Result<()> {
+    for line in lines {
+        answer_line(rt, run, line)?;
+    }
+    Ok(())
+}
+
 /// Answers lines of examples.
 pub(crate) fn answer(rt: &HostRuntime, lines: &[String]) -> io::Result<()> {
     let mut run = FileRun::new(rt.alloc())?;
-    for line in lines {
-        if line.starts_with('#') {
-            run = FileRun::new(rt.alloc())?;
-            println!(rt; "{line}")?;
-        } else if let Some(answer) = run.answer(line)? {
-            println!(rt; "> {line}\n{answer}")?;
-        }
-    }
-    Ok(())
+    answer_lines(rt, &mut run, lines)
 }

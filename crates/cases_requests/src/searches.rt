@@ -1,6 +1,6 @@
 //! Lines about searches over a tree, with how often it was read and listed.
 
-use crate::counted::Counted;
+use crate::counted::{Counted, Counts};
 use crate::texts::{STANDARD, first_word, limits_of, push_all};
 use crate::{parts, trees};
 use filetree::MemoryTree;
@@ -81,6 +81,22 @@ fn found_text<T: Tree>(
     }
 }
 
+/// An answer, and after it how often the tree was asked.
+fn counted_text(
+    alloc: Global,
+    answer: &str,
+    is_whole: bool,
+    counts: &Counts,
+) -> Result<String, AllocError> {
+    let answer = answer.trim_end();
+    let (reads, whole_reads, listings) = (counts.reads, counts.whole_reads, counts.listings);
+    if is_whole {
+        format!(in alloc; "{answer} [{whole_reads} whole]")
+    } else {
+        format!(in alloc; "{answer} [{reads} read, {listings} listed]")
+    }
+}
+
 /// The answer to `locate`, `avail` or, with how many files were read whole, `whole`; None where the line is none.
 fn searched<T: Tree>(
     alloc: Global,
@@ -94,17 +110,10 @@ fn searched<T: Tree>(
         _ => (false, kind, rest),
     };
     let mut tree = Counted::over(alloc, tree);
-    let Some(answer) = found_text(alloc, &mut tree, limits, kind, rest)? else {
-        return Ok(None);
-    };
-    let answer = answer.as_str().trim_end();
-    let counts = &tree.counts;
-    let (reads, whole_reads, listings) = (counts.reads, counts.whole_reads, counts.listings);
-    Ok(Some(if is_whole {
-        format!(in alloc; "{answer} [{whole_reads} whole]")?
-    } else {
-        format!(in alloc; "{answer} [{reads} read, {listings} listed]")?
-    }))
+    match found_text(alloc, &mut tree, limits, kind, rest)? {
+        Some(answer) => counted_text(alloc, &answer, is_whole, &tree.counts).map(Some),
+        None => Ok(None),
+    }
 }
 
 /// The answer to a line; None where it asks nothing.
@@ -129,13 +138,18 @@ fn answered(
 /// Answers lines of searches.
 pub(crate) fn answer(rt: &HostRuntime, lines: &[String]) -> io::Result<()> {
     let mut tree = MemoryTree::new(rt.alloc());
+    answer_lines(rt, &mut tree, lines)
+}
+
+/// Answers lines of searches over a tree.
+fn answer_lines(rt: &HostRuntime, tree: &mut MemoryTree, lines: &[String]) -> io::Result<()> {
     let mut limits = STANDARD;
     for line in lines {
         let (kind, rest) = first_word(line);
         if kind == "limits" {
             limits = limits_of(rest).unwrap_or(STANDARD);
-        } else if !trees::put(rt.alloc(), &mut tree, kind, rest)? {
-            match answered(rt, &mut tree, limits, kind, rest)? {
+        } else if !trees::put(rt.alloc(), tree, kind, rest)? {
+            match answered(rt, tree, limits, kind, rest)? {
                 Some(answer) => println!(rt; "{answer}")?,
                 None => println!(rt; "bad line")?,
             }

@@ -4,9 +4,9 @@ use anyhow::Result;
 use modulecmd::{Change, Changed, Env, Exit, Outcome, Refusal, Verdict};
 use std::alloc::{AllocError, Global};
 
-/// What a writer holds.
-pub(crate) fn held(alloc: Global, bytes: &[u8]) -> Result<String, AllocError> {
-    String::from_str(alloc, str::from_utf8(bytes).unwrap_or("not UTF-8"))
+/// What was written.
+pub(crate) fn text_of(bytes: &[u8]) -> &str {
+    str::from_utf8(bytes).unwrap_or("not UTF-8")
 }
 
 /// The words for how a command ended.
@@ -27,14 +27,21 @@ pub(crate) fn verdict_line(verdict: Verdict) -> &'static str {
     }
 }
 
-/// Each line after a mark; a last line without its end has a backslash after it.
-pub(crate) fn marked(alloc: Global, mark: &str, text: &str) -> Result<String, AllocError> {
-    let mut out = String::new(alloc);
+/// Adds each line after a mark; a last line without its end has a backslash after it.
+pub(crate) fn push_marked(out: &mut String, mark: &str, text: &str) -> Result<(), AllocError> {
     for line in text.split_inclusive('\n') {
         let end = if line.ends_with('\n') { "" } else { "\\\n" };
-        push_all(&mut out, &[mark, line, end])?;
+        push_all(out, &[mark, line, end])?;
     }
-    Ok(out)
+    Ok(())
+}
+
+/// Adds messages.
+fn push_messages(out: &mut String, messages: &[String]) -> Result<(), AllocError> {
+    for message in messages {
+        push_marked(out, "message ", message)?;
+    }
+    Ok(())
 }
 
 /// The variables of an environment, a line each, in the order of their names.
@@ -71,10 +78,8 @@ pub(crate) fn shown_done(
     for name in loaded {
         push_all(&mut text, &["loaded ", name, "\n"])?;
     }
-    for message in messages {
-        text.push_str(marked(alloc, "message ", message.as_str())?.as_str())?;
-    }
-    text.push_str(marked(alloc, "! ", report)?.as_str())?;
+    push_messages(&mut text, messages)?;
+    push_marked(&mut text, "! ", report)?;
     Ok(text)
 }
 

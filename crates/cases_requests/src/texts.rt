@@ -22,14 +22,18 @@ pub(crate) fn limits_of(line: &str) -> Option<Limits> {
     })
 }
 
-/// The words of a line, separated by blanks, with what their escapes mean; `''` is empty. An empty line has none.
+/// Adds what a word means; `''` is the empty one.
+fn push_word(alloc: Global, words: &mut Vec<String>, word: &str) -> Result<(), AllocError> {
+    let word = if word == "''" { "" } else { word };
+    Ok(words.push(meant(alloc, word)?)?)
+}
+
+/// The words of a line, separated by blanks. An empty line has none.
 pub(crate) fn words(alloc: Global, line: &str) -> Result<Vec<String>, AllocError> {
     let mut words = Vec::new(alloc);
     for word in line.split(' ') {
-        match word {
-            "" => {}
-            "''" => words.push(String::new(alloc))?,
-            word => words.push(meant(alloc, word)?)?,
+        if !word.is_empty() {
+            push_word(alloc, &mut words, word)?;
         }
     }
     Ok(words)

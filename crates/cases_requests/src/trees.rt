@@ -12,6 +12,15 @@ pub(crate) fn file_text(alloc: Global, text: &str) -> Result<Vec<u8>, AllocError
     Ok(bytes)
 }
 
+/// The names of a text, which blanks part.
+fn names_of(alloc: Global, text: &str) -> Result<Vec<&str>, AllocError> {
+    let mut names = Vec::new(alloc);
+    for name in text.split(' ') {
+        names.push(name)?;
+    }
+    Ok(names)
+}
+
 /// Puts a file or a directory; false where the line asks for neither.
 pub(crate) fn put(
     alloc: Global,
@@ -26,11 +35,7 @@ pub(crate) fn put(
             Ok(true)
         }
         "folder" => {
-            let mut names = Vec::new(alloc);
-            for name in text.split(' ') {
-                names.push(name)?;
-            }
-            tree.put_directory(path, &names)?;
+            tree.put_directory(path, &names_of(alloc, text)?)?;
             Ok(true)
         }
         "file" => {
