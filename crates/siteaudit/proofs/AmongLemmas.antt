@@ -1,8 +1,6 @@
 -- Members of lists.
-use Rattle.std.proofs.Common.{◌≡◌, ◌⊎◌, inl, inr, ℕ, ◌+◌, ◌<◌, Bool, true, false, ◌||◌, List, [], ◌∷◌, ◌++◌, map, take, length, get_or, refl, sym, ap, ◌∙◌, subst}
+use Rattle.std.proofs.Common.{◌≡◌, ◌⊎◌, inl, inr, ℕ, ◌+◌, ◌<◌, List, [], ◌∷◌, ◌++◌, map, take, length, get_or, refl, sym, ap, ◌∙◌, subst}
 use Rattle.std.specs.Prelude.{◌↔◌}
-use Rattle.std.specs.List.{list_any}
-use Rattle.std.proofs.lemmas.Bool.{false≢true, or_cases}
 use Rattle.std.proofs.lemmas.List.{take_more}
 use Rattle.certificate.specs.RecordUses.{IsAmong}
 use Rattle.certificate.proofs.UsedLemmas.{by_cases, among_left, among_right, among_either}
@@ -18,22 +16,6 @@ pub of_map : {X Y : Type 0} (f : X → Y) (y : Y) (xs : List X) → IsAmong y (m
 of_map f y [] h = absurd h
 of_map f y (x ∷ xs) (inl e) = (x, inl refl, sym e)
 of_map f y (x ∷ xs) (inr h) = let i = of_map f y xs h in (i.0, inr i.1, i.2)
-
--- a member that passes a test
-pub any_some : {X : Type 0} (p : X → Bool) (xs : List X) → list_any p xs ≡ true → (x : X) × IsAmong x xs × (p x ≡ true)
-any_some p [] h = absurd (false≢true h)
-any_some p (y ∷ xs) h = by_cases (or_cases (p y) (list_any p xs) h)
-    (λ t. (y, inl refl, t))
-    (λ t. let i = any_some p xs t in (i.0, inr i.1, i.2))
-
-pub some_any : {X : Type 0} (p : X → Bool) (xs : List X) (x : X) → IsAmong x xs → p x ≡ true → list_any p xs ≡ true
-some_any p [] x a h = absurd a
-some_any p (y ∷ xs) x (inl e) h = let t : p y ≡ true = ap p (sym e) ∙ h in rw t refl
-some_any p (y ∷ xs) x (inr a) h = or_true (p y) (list_any p xs) (some_any p xs x a h)
-  where
-    or_true : (c d : Bool) → d ≡ true → (c || d) ≡ true
-    or_true true d k = refl
-    or_true false d k = k
 
 -- ---- one more at a time
 

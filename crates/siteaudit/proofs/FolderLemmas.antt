@@ -27,7 +27,8 @@ use Rattle.siteaudit.specs.contracts.defaults.FolderPartialEq.TheImpl as FolderP
 use Rattle.sitewalk.specs.declared.walk.Evaluation.{Evaluation}
 use Rattle.siteaudit.specs.Folders.{IsInFolder, FolderText, folder_view, HoldsModule, HoldsOneOf}
 use Rattle.certificate.proofs.UsedLemmas.{by_cases, among_left, among_right, among_either}
-use Rattle.siteaudit.proofs.AmongLemmas.{taken, among_one, among_map, any_some, one_more}
+use Rattle.certificate.proofs.Exact.{any_some}
+use Rattle.siteaudit.proofs.AmongLemmas.{taken, among_one, among_map, one_more}
 
 -- the last part of a name
 

@@ -1,8 +1,7 @@
 -- How modules stand by what each shows by itself, and by what is answered of clashes.
 use Rattle.std.proofs.Common.{◌≡◌, inl, inr, Bool, true, false, cond, not, ◌&&◌, List, [], ◌∷◌, ◌++◌, map, filter, find, Option, Some, None, Result, Ok, Err, refl, ap, sym, ◌∙◌, subst}
-use Rattle.std.specs.Prelude.{bytes_eq, filter_map, flat_map}
+use Rattle.std.specs.Prelude.{filter_map, flat_map}
 use Rattle.std.specs.List.{list_all, cons_option, AllByRecursion}
-use Rattle.std.specs.Option.{option_eq}
 use Rattle.std.proofs.lemmas.Bool.{false≢true, and_parts, and_from}
 use Rattle.envvars.specs.Texts.{Text}
 use Rattle.envvars.specs.Fields.{colon}
@@ -21,6 +20,7 @@ use Rattle.certificate.specs.RecordUses.{UsedVariable, used_by, IsAmong, modulep
 use Rattle.certificate.specs.Certificates.{is_other, IsCertified, clashes_among, certified}
 use Rattle.certificate.specs.Laws.{CertifiedAreExact}
 use Rattle.certificate.proofs.UsedLemmas.{by_test, by_cases}
+use Rattle.certificate.proofs.Exact.{all_each, filtered, in_filter}
 use Rattle.sitelaws.specs.Sites.{Site, SiteModule, file_of, with_records, EvaluatesTo, HasPlainRecords, IsOfSite, ArePlainModules, Evaluated, plain_by, plain_of}
 use Rattle.sitelaws.specs.Standings.{IsUsedTwice}
 use Rattle.siteclash.specs.ClashAnswers.{IsAnswer, AreAnswers, without_clashes}
@@ -36,37 +36,11 @@ use Rattle.siteaudit.proofs.Evaluations.{same_file}
 
 -- ---- tests
 
-all_each : {X : Type 0} (p : X → Bool) (xs : List X) → list_all p xs ≡ true → (x : X) → IsAmong x xs → p x ≡ true
-all_each p [] h x a = absurd a
-all_each p (y ∷ xs) h x (inl e) = ap p e ∙ (and_parts (p y) (list_all p xs) h).0
-all_each p (y ∷ xs) h x (inr a) = all_each p xs (and_parts (p y) (list_all p xs) h).1 x a
-
-filtered : {X : Type 0} (p : X → Bool) (xs : List X) (x : X) → IsAmong x (filter p xs) → IsAmong x xs × (p x ≡ true)
-filtered p [] x a = absurd a
-filtered p (y ∷ xs) x a = by_test (p y) _
-    (λ t. by_cases (subst (λ (b : Bool). IsAmong x (cond b (y ∷ filter p xs) (filter p xs))) t a)
-    (λ e. (inl e, ap p e ∙ t))
-    (λ k. let i = filtered p xs x k in (inr i.0, i.1)))
-    (λ t. let i = filtered p xs x (subst (λ (b : Bool). IsAmong x (cond b (y ∷ filter p xs) (filter p xs))) t a) in (inr i.0, i.1))
-
-in_filter : {X : Type 0} (p : X → Bool) (xs : List X) (x : X) → IsAmong x xs → p x ≡ true → IsAmong x (filter p xs)
-in_filter p [] x a h = absurd a
-in_filter p (y ∷ xs) x (inl e) h = subst (λ (b : Bool). IsAmong x (cond b (y ∷ filter p xs) (filter p xs))) (sym (ap p (sym e) ∙ h)) (inl e)
-in_filter p (y ∷ xs) x (inr a) h = more (p y) (in_filter p xs x a h)
-  where
-    more : (b : Bool) → IsAmong x (filter p xs) → IsAmong x (cond b (y ∷ filter p xs) (filter p xs))
-    more true k = inr k
-    more false k = k
-
 not_all : (q : Record → Bool) (rs : List Record) (r : Record) → find (λ x. not (q x)) rs ≡ Some r → list_all q rs ≡ false
 not_all q [] r e = absurd (cc)
 not_all q (x ∷ rs) r e = by_test (q x) _ (λ t. rw t (not_all q rs r (rw t at e))) (λ f. rw f refl)
 
 -- ---- in step, or not
-
-option_itself : (x : Option Text) → option_eq bytes_eq x x ≡ true
-option_itself None = refl
-option_itself (Some x) = bytes_eq-same x
 
 unlike_at : (v : Text) (x y : VariableUse) → use_alike (v, x) (v, y) ≡ true → same_use x y ≡ false → ⊥
 unlike_at v x y h d = false≢true (rw (bytes_eq-same v, d) at h)

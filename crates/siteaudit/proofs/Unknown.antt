@@ -14,13 +14,13 @@ use Rattle.requests.specs.Reasons.{RequestReason}
 use Rattle.requeststep.specs.declared.refusal.Refusal.{Refusal}
 use Rattle.certificate.specs.RecordUses.{IsAmong}
 use Rattle.certificate.proofs.UsedLemmas.{by_test, by_cases, among_left, among_right, among_either}
+use Rattle.certificate.proofs.Exact.{any_some, some_any}
 use Rattle.sitelaws.specs.Sites.{Site, SiteModule, EvaluatesTo, IsOfSite, Evaluated, AreEvaluated}
 use Rattle.sitewalk.specs.declared.walk.Evaluation.{Evaluation}
 use Rattle.sitewalk.specs.Walks.{IsOutcome, AreEvaluations}
 use Rattle.siteaudit.specs.Audits.{Mention, AreMentioned, IsUnknown}
 use Rattle.siteaudit.specs.Findings.{evaluated_file}
 use Rattle.siteaudit.specs.Mentions.{is_known, unknown_by, unknown_in, unknown_after, unknown_of}
-use Rattle.siteaudit.proofs.AmongLemmas.{any_some, some_any}
 use Rattle.siteaudit.proofs.Evaluations.{one_outcome, same_file, outcome_of, of_site, is_evaluated}
 
 -- ---- members of parts

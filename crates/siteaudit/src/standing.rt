@@ -5,14 +5,15 @@ ghost use Rattle.std.specs.Option.{option_map};
 ghost use Rattle.envvars.specs.Fields.{colon};
 ghost use Rattle.modulefile.specs.RecordViews.{record_view};
 ghost use Rattle.requests.specs.VariableUses as variable_uses;
+ghost use Rattle.certificate.specs.RecordUses as uses;
 ghost use Rattle.certificate.specs.RecordUses.{use_alike, are_in_step, modulepath};
 ghost use Rattle.certificate.specs.UseViews.{use_view, used_view};
 ghost use Rattle.siteaudit.specs.Findings.{AreUnlike, IsFinding, IsFindingOf};
 
 use certificate::{UsedVariable, VariableUse, first_unlike, used_by};
-use modulefile::{Delimiter, PathEdit, Record};
+use modulefile::{Delimiter, Record};
 use modulerun::Ran;
-use requeststep::Refusal;
+use requeststep::{Refusal, is_reversible};
 use siteclash::Clash;
 use std::alloc::{AllocError, Global};
 
@@ -54,20 +55,6 @@ pub(crate) enum Finding {
     Stands(Standing),
     /// It is plain and in step, with these records: the other modules decide.
     InStep(Vec<Record>),
-}
-
-/// Whether unloading undoes the effect of a record.
-fn is_reversible(recorded: &Record) -> bool
-    ensures { result ≡ variable_uses.is_reversible (record_view recorded.now) }
-{
-    !matches!(
-        recorded,
-        Record::Unset { value: None, .. }
-            | Record::Path {
-                edit: PathEdit::Remove,
-                ..
-            }
-    )
 }
 
 /// The place of the first record that unloading doesn't undo.
@@ -134,13 +121,22 @@ fn unlike_uses(alloc: Global, used: &[UsedVariable]) -> Result<Option<UnlikeUses
     Ok(None)
 }
 
+/// The same of what the records of a module use.
+fn unlike_in(alloc: Global, records: &[Record]) -> Result<Option<UnlikeUses>, AllocError>
+    ensures { IfOk result (λ found. MatchOption found
+        (are_in_step (uses.used_by (map record_view records.now)) ≡ true)
+        (AreUnlike (uses.used_by (map record_view records.now)))) }
+{
+    let used = used_by(alloc, records)?;
+    unlike_uses(alloc, used.as_slice())
+}
+
 /// What a plain module shows by itself.
 fn judge_plain(alloc: Global, records: Vec<Record>) -> Result<Finding, AllocError>
     requires { list_all variable_uses.is_reversible (map record_view records.items) ≡ true }
     ensures { IfOk result (IsFindingOf false (map record_view records.items)) }
 {
-    let used = used_by(alloc, records.as_slice())?;
-    match unlike_uses(alloc, used.as_slice())? {
+    match unlike_in(alloc, records.as_slice())? {
         Some(unlike) => {
             let UnlikeUses {
                 variable,

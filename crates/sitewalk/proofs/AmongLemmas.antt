@@ -1,39 +1,9 @@
 -- What is among the members of a list.
-use Rattle.std.proofs.Common.{◌≡◌, ◌⊎◌, inl, inr, ℕ, ◌<◌, length, arith, suc, zero, Bool, true, false, cond, List, [], ◌∷◌, ◌++◌, map, flat_map, filter, take, slice_get, Some, None, refl, sym, ap, ◌∙◌, subst}
-use Rattle.sitelaws.specs.RecordUses.{IsAmong}
-
-pub by_cases : {A B P : Type 0} → A ⊎ B → (A → P) → (B → P) → P
-by_cases (inl a) f g = f a
-by_cases (inr b) f g = g b
+use Rattle.std.proofs.Common.{◌≡◌, inl, inr, ℕ, ◌<◌, length, arith, suc, zero, List, [], ◌∷◌, ◌++◌, map, flat_map, take, slice_get, Some, None, refl, sym, ap, ◌∙◌, subst}
+use Rattle.certificate.specs.RecordUses.{IsAmong}
+use Rattle.certificate.proofs.UsedLemmas.{by_cases, among_left, among_right, among_either}
 
 module _ {X : Type 0} where
-  pub left_among : (x : X) (xs ys : List X) → IsAmong x xs → IsAmong x (xs ++ ys)
-  left_among x [] ys a = absurd a
-  left_among x (y ∷ xs) ys (inl e) = inl e
-  left_among x (y ∷ xs) ys (inr a) = inr (left_among x xs ys a)
-
-  pub right_among : (x : X) (xs ys : List X) → IsAmong x ys → IsAmong x (xs ++ ys)
-  right_among x [] ys a = a
-  right_among x (y ∷ xs) ys a = inr (right_among x xs ys a)
-
-  pub parted : (x : X) (xs ys : List X) → IsAmong x (xs ++ ys) → IsAmong x xs ⊎ IsAmong x ys
-  parted x [] ys a = inr a
-  parted x (y ∷ xs) ys (inl e) = inl (inl e)
-  parted x (y ∷ xs) ys (inr a) = by_cases (parted x xs ys a) (λ b. inl (inr b)) (λ b. inr b)
-
-  kept : (x y : X) (p : X → Bool) (b : Bool) (rest : List X) → p y ≡ b → IsAmong x (cond b (y ∷ rest) rest) → ((x ≡ y) × (p y ≡ true)) ⊎ IsAmong x rest
-  kept x y p true rest q (inl e) = inl (e, q)
-  kept x y p true rest q (inr a) = inr a
-  kept x y p false rest q a = inr a
-
-  -- what a filter leaves was there, and passes its test
-  pub filtered : (x : X) (p : X → Bool) (xs : List X) → IsAmong x (filter p xs) → IsAmong x xs × (p x ≡ true)
-  filtered x p [] a = absurd a
-  filtered x p (y ∷ xs) a =
-      by_cases (kept x y p (p y) (filter p xs) refl a)
-      (λ (k : (x ≡ y) × (p y ≡ true)). (inl k.0, ap p k.0 ∙ k.1))
-      (λ (b : IsAmong x (filter p xs)). let f = filtered x p xs b in (inr f.0, f.1))
-
   -- at a place
   pub at_place : (x : X) (xs : List X) (n : ℕ) → slice_get xs n ≡ Some x → IsAmong x xs
   at_place x [] n h = absurd (cc)
@@ -86,13 +56,13 @@ module _ {X Y : Type 0} (f : X → List Y) where
 
   pub in_flat_map : (y : Y) (x : X) (xs : List X) → IsAmong x xs → IsAmong y (f x) → IsAmong y (flat_map f xs)
   in_flat_map y x [] a b = absurd a
-  in_flat_map y x (z ∷ xs) (inl e) b = left_among y (f z) (flat_map f xs) (subst (λ (w : X). IsAmong y (f w)) e b)
-  in_flat_map y x (z ∷ xs) (inr a) b = right_among y (f z) (flat_map f xs) (in_flat_map y x xs a b)
+  in_flat_map y x (z ∷ xs) (inl e) b = among_left y (f z) (flat_map f xs) (subst (λ (w : X). IsAmong y (f w)) e b)
+  in_flat_map y x (z ∷ xs) (inr a) b = among_right y (f z) (flat_map f xs) (in_flat_map y x xs a b)
 
   pub of_flat_map : (y : Y) (xs : List X) → IsAmong y (flat_map f xs) → (x : X) × IsAmong x xs × IsAmong y (f x)
   of_flat_map y [] a = absurd a
   of_flat_map y (x ∷ xs) a =
-      by_cases (parted y (f x) (flat_map f xs) a)
+      by_cases (among_either y (f x) (flat_map f xs) a)
       (λ (b : IsAmong y (f x)). (x, inl refl, b))
       (λ (b : IsAmong y (flat_map f xs)). let i = of_flat_map y xs b in (i.0, inr i.1, i.2))
 

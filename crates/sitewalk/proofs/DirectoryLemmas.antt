@@ -16,7 +16,9 @@ use Rattle.requests.specs.Records.{Record, Set, Unset, Push, Front, Back, Remove
 use Rattle.requests.specs.Steps as requests
 use Rattle.sitelaws.specs.Sites.{Site, IsDirectory, first, added, directories_by}
 use Rattle.sitewalk.specs.Parts.{with_directories}
-use Rattle.sitewalk.proofs.AmongLemmas.{by_cases, left_among, right_among, filtered, of_flat_map}
+use Rattle.certificate.proofs.UsedLemmas.{by_cases, among_left, among_right}
+use Rattle.certificate.proofs.Exact.{filtered}
+use Rattle.sitewalk.proofs.AmongLemmas.{of_flat_map}
 
 -- ---- each once
 
@@ -45,7 +47,7 @@ begins dirs (x ∷ more) =
     (q.0 ++ p.0, p.1 ∙ (ap (λ (l : List Text). l ++ p.0) q.1 ∙ append_assoc dirs q.0 p.0))
 
 pub stays : (d : Text) (dirs more : List Text) → IsAmong d dirs → IsAmong d (with_directories dirs more)
-stays d dirs more a = let p = begins dirs more in subst (IsAmong d) (sym p.1) (left_among d dirs p.0 a)
+stays d dirs more a = let p = begins dirs more in subst (IsAmong d) (sym p.1) (among_left d dirs p.0 a)
 
 or_cases : (a b : Bool) → (a || b) ≡ true → (a ≡ true) ⊎ (b ≡ true)
 or_cases true b h = inl refl
@@ -57,7 +59,7 @@ among_by_test x (y ∷ xs) h = by_cases (or_cases (bytes_eq x y) (has x xs) h) (
 
 put : (dirs : List Text) (x : Text) (b : Bool) → has x dirs ≡ b → IsAmong x (cond b dirs (dirs ++ x ∷ []))
 put dirs x true h = among_by_test x dirs h
-put dirs x false h = right_among x dirs (x ∷ []) (inl refl)
+put dirs x false h = among_right x dirs (x ∷ []) (inl refl)
 
 -- and each of the others is there
 pub comes : (d : Text) (dirs more : List Text) → IsAmong d more → IsAmong d (with_directories dirs more)
@@ -148,7 +150,7 @@ left_alone d false t e = absurd (false≢true e)
 
 alone_in : (d t : Text) → IsAmong d (directories t) → IsAlone d
 alone_in d t a =
-    let f = filtered d (λ (x : Text). not (is_empty x)) (slice_split is_colon t) a in
+    let f = filtered (λ (x : Text). not (is_empty x)) (slice_split is_colon t) d a in
     ap (filter (λ (x : Text). not (is_empty x))) (part_among d (slice_split is_colon t) (are_parts t) f.0)
     ∙ left_alone d (not (is_empty d)) refl f.1
 

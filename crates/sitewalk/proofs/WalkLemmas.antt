@@ -31,7 +31,8 @@ use Rattle.sitewalk.specs.declared.walk.Evaluation.{Evaluation}
 use Rattle.sitewalk.specs.declared.walk.TheConstants.{MAX_DIRECTORIES}
 use Rattle.sitewalk.specs.Walks.{directories_by_plain, directories_of, IsWalk, IsOutcome, AreEvaluations, HasTooMany}
 use Rattle.sitewalk.specs.Parts.{with_directories, is_plain_ran, directories_after, directories_found, AreEvaluationsOf, IsEvaluationOf, GoesThrough}
-use Rattle.sitewalk.proofs.AmongLemmas.{by_cases, left_among, right_among, parted, at_place, take_next, take_all_gone, map_parts, in_map, of_map, flat_map_parts, in_flat_map, of_flat_map}
+use Rattle.certificate.proofs.UsedLemmas.{by_cases, among_left, among_right, among_either}
+use Rattle.sitewalk.proofs.AmongLemmas.{at_place, take_next, take_all_gone, map_parts, in_map, of_map, flat_map_parts, in_flat_map, of_flat_map}
 use Rattle.sitewalk.proofs.DirectoryLemmas.{with-append, once, begins, comes, came}
 
 -- ---- lists of evaluations
@@ -48,7 +49,7 @@ none_evaluated site = record { outcomes = []; modules = refl; evaluated = λ o a
 
 both_evaluated : (site : Site) (os ps : List Evaluated) → ((o : Evaluated) → IsAmong o os → EvaluatesTo site o.0 o.1) → ((o : Evaluated) → IsAmong o ps → EvaluatesTo site o.0 o.1)
     → (o : Evaluated) → IsAmong o (os ++ ps) → EvaluatesTo site o.0 o.1
-both_evaluated site os ps h k o a = by_cases (parted o os ps a) (h o) (k o)
+both_evaluated site os ps h k o a = by_cases (among_either o os ps a) (h o) (k o)
 
 -- one module more is evaluated
 pub one_evaluated : (site : Site) (ms : List SiteModule) (m : SiteModule) (xs : List Evaluation) (x : Evaluation) → AreEvaluationsOf site ms xs → IsEvaluationOf site m x
@@ -130,9 +131,9 @@ placed site dir names m below there =
 among_modules : (site : Site) (dirs : List Text) (ms : List SiteModule) (dir : Text) (m : SiteModule) → AreModulesIn site dirs ms → IsAmong dir dirs → IsIn site dir m → IsAmong m ms
 among_modules site [] ms dir m e a there = absurd a
 among_modules site (d ∷ dirs) ms dir m (names, rest, below, more, e) (inl q) there =
-    subst (IsAmong m) (sym e) (left_among m (map (module_below d) names) rest (placed site d names m below (subst (λ (t : Text). IsIn site t m) q there)))
+    subst (IsAmong m) (sym e) (among_left m (map (module_below d) names) rest (placed site d names m below (subst (λ (t : Text). IsIn site t m) q there)))
 among_modules site (d ∷ dirs) ms dir m (names, rest, below, more, e) (inr a) there =
-    subst (IsAmong m) (sym e) (right_among m (map (module_below d) names) rest (among_modules site dirs rest dir m more a there))
+    subst (IsAmong m) (sym e) (among_right m (map (module_below d) names) rest (among_modules site dirs rest dir m more a there))
 
 -- a module of the names below a directory is in it
 in_directory : (site : Site) (dir : Text) (names : List Text) (m : SiteModule) → AreNamesBelow site dir names → IsAmong m (map (module_below dir) names) → IsIn site dir m
@@ -256,11 +257,11 @@ module _ (site : Site) (place : ℕ) (dirs : List Text) (evaluations : List Eval
       let into : (d : Text) → IsAmong d (begin ++ more) → IsAmong d dirs = λ d a. subst (IsAmong d) (sym w.order) (comes d [] (begin ++ more) a) in
       let modules : AreModulesIn site dirs (map (λ (o : Evaluated). o.0) w.outcomes) = subst (λ (ds : List Text). AreModulesIn site ds (map (λ (o : Evaluated). o.0) w.outcomes)) (take_all_gone place dirs gone) w.modules in
       record {
-        begins = λ d a. into d (left_among d begin more a);
+        begins = λ d a. into d (among_left d begin more a);
         adds = λ from d m rs there in_it plain a.
             let i = of_map (λ (o : Evaluated). o.0) m w.outcomes (among_modules site dirs (map (λ (o : Evaluated). o.0) w.outcomes) from m modules there in_it) in
             let plain_here : HasPlainRecords site i.0.0 rs = subst (λ (k : SiteModule). HasPlainRecords site k rs) i.2 plain in
-            into d (right_among d begin more (in_flat_map directories_of d i.0 w.outcomes i.1 (adds_its one site d i.0.0 i.0.1 rs (w.evaluated i.0 i.1) plain_here a)));
+            into d (among_right d begin more (in_flat_map directories_of d i.0 w.outcomes i.1 (adds_its one site d i.0.0 i.0.1 rs (w.evaluated i.0 i.1) plain_here a)));
       }
 
   -- at its end

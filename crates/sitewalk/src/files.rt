@@ -2,13 +2,9 @@
 ghost use Rattle.std.specs.Prelude.{◌≡◌, ◌<◌, IfOk, IfErr, map, string_bytes};
 ghost use Rattle.envvars.specs.Texts.{texts_in};
 ghost use Rattle.filetree.specs.Agreement.{InEachPair, ReadsOn};
-ghost use Rattle.filetree.specs.Modulefiles.{modulefile};
-ghost use Rattle.filetree.specs.Relations.{Is};
 ghost use Rattle.modulefile.specs.Files.{RunsFile};
 ghost use Rattle.requests.specs.Reasons.{file_refused};
 ghost use Rattle.requests.specs.Refusals.{RefusedAs};
-ghost use Rattle.requests.specs.Steps.{script_at};
-ghost use Rattle.requeststep.specs.Answers.{StepAnswersOverTree};
 ghost use Rattle.sitelaws.specs.Sites.{EvaluatesTo, site_of, module_below};
 ghost use Rattle.sitewalk.specs.Parts.{HasLoaded, HasListCause, site_context, ComesTo, ComesToOverTree, GivesUp, IsEvaluationOf};
 
@@ -16,10 +12,10 @@ use crate::given_up::unless_given_up;
 use crate::walk::Evaluation;
 use envloaded::loaded;
 use envvars::{Env, Working};
-use filetree::{FileContent, FindFault, Tree, read_modulefile};
+use filetree::Tree;
 use modulefile::Mode;
 use modulerun::{FileContext, Ran, run_file};
-use requeststep::Refusal;
+use requeststep::{Refusal, script_at};
 use search::path_of;
 use shells::Shell;
 use std::alloc::Global;
@@ -48,23 +44,6 @@ pub(crate) fn loaded_names(alloc: Global, env: &Env) -> Result<Vec<String>, Refu
         names.push(String::from_str(alloc, entry.name.as_str())?)?;
     }
     Ok(names)
-}
-
-/// The script in the file at a path: 54 where no file is there, 55 where it has no cookie, 46 where it isn't UTF-8.
-fn script_at<T: Tree>(alloc: Global, tree: &mut T, path: &str) -> Result<String, Refusal>
-    ensures reads { ReadsOn T.agrees T.failures tree.old tree.new }
-    ensures over_tree { StepAnswersOverTree (T.agrees tree.new) (T.failures tree.old < T.failures tree.new)
-        (λ text. string_bytes text)
-        result (λ files listings. Is (script_at path.now (modulefile (files path.now)))) }
-{
-    match read_modulefile(tree, path)? {
-        FileContent::Script(text) => Ok(text),
-        FileContent::Absent => Err(Refusal::FileGone(String::from_str(alloc, path)?)),
-        FileContent::NoCookie => Err(Refusal::NotAModulefile(String::from_str(alloc, path)?)),
-        FileContent::NotUtf8 => Err(Refusal::Find(FindFault::NotUtf8(String::from_str(
-            alloc, path,
-        )?))),
-    }
 }
 
 /// What the evaluation of a script leaves, for loading, in sh, over the environment at hand, which doesn't change.
