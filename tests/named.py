@@ -25,7 +25,7 @@ OF_FAULTS = {"number", "message"}
 # What is public for the crates above alone, which CLAIMS omits.
 HELPERS = {"envvars": ("escapes", "fields")}
 
-# The gate goes along each path down the graph of crates several times before it proves anything.
+# Around the proof of each library the gate reads the files of all crates below it, along each path of their graph anew.
 MOST_PATHS = 600_000
 
 # What begins like a path of the repository: a folder at its top, or one of a crate.
