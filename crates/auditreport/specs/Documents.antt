@@ -7,9 +7,9 @@ use Rattle.json.specs.Json.{Json, number, string, array, object, Members, no_mem
 use Rattle.json.specs.Print.{print}
 use Rattle.json.specs.Tree.{json_tokens}
 use Rattle.json.specs.Value.{items_of}
-use Rattle.certificate.specs.declared.uses.UsedVariable.{UsedVariable}
-use Rattle.certificate.specs.declared.uses.VariableUse.{VariableUse}
-use Rattle.certificate.specs.declared.uses.VariableUse.TheVariants.{Fixed, Pathed, Stacked}
+use Rattle.siteaudit.specs.UsedVariable.{UsedVariable}
+use Rattle.siteaudit.specs.VariableUse.{VariableUse}
+use Rattle.siteaudit.specs.VariableUse.TheVariants.{Fixed, Pathed, Stacked}
 use Rattle.modulefile.specs.declared.delimiter.Delimiter.{Delimiter}
 use Rattle.siteaudit.specs.Messages.{message_of}
 use Rattle.siteaudit.specs.Disagreement.{Disagreement}

@@ -7,8 +7,8 @@ use Rattle.tcllist.specs.Lists.{list_text}
 use Rattle.modulefile.specs.declared.records.Record.{Record}
 use Rattle.modulefile.specs.RecordViews.{record_view}
 use Rattle.modulefile.specs.Reports.{shown_words}
-use Rattle.certificate.specs.declared.uses.VariableUse.{VariableUse}
-use Rattle.certificate.specs.declared.uses.VariableUse.TheVariants.{Fixed, Pathed, Stacked}
+use Rattle.siteaudit.specs.VariableUse.{VariableUse}
+use Rattle.siteaudit.specs.VariableUse.TheVariants.{Fixed, Pathed, Stacked}
 use Rattle.siteaudit.specs.Clash.{Clash}
 use Rattle.siteaudit.specs.Messages.{message_of}
 use Rattle.siteaudit.specs.Audits.{is_certified}

@@ -9,9 +9,10 @@ use crate::remarks::command_of;
 use crate::selection::{Selection, certified_count};
 use crate::tokens::{write_all_used, write_path_fields, write_text, write_text_array, write_use};
 use crate::words::{record_words, standing_word};
-use certificate::{UsedVariable, VariableUse};
 use json::Writer;
-use siteaudit::{AuditedModule, Clash, Disagreement, SiteAudit, Standing, UnknownNames};
+use siteaudit::{
+    AuditedModule, Clash, Disagreement, SiteAudit, Standing, UnknownNames, UsedVariable, VariableUse,
+};
 use std::alloc::{AllocError, Global};
 
 /// Writes a variable and two uses of it as members.

@@ -5,9 +5,9 @@ ghost use Rattle.json.specs.Tree.{json_tokens};
 ghost use Rattle.auditreport.specs.Documents as spec;
 ghost use Rattle.auditreport.specs.Tokens.{AddsTokens, field_tokens, fields_tokens};
 
-use certificate::{UsedVariable, VariableUse};
 use json::Writer;
 use modulefile::Delimiter;
+use siteaudit::{UsedVariable, VariableUse};
 use std::alloc::{AllocError, Global};
 
 /// Writes a member that is a text.

@@ -2,10 +2,9 @@
 ghost use Rattle.std.specs.Prelude.{◌≡◌, IfOk, string_bytes};
 ghost use Rattle.auditreport.specs.Words as spec;
 
-use certificate::VariableUse;
 use modulefile::Record;
-use reports::show_report;
-use siteaudit::{Clash, Standing};
+use requests::show_report;
+use siteaudit::{Clash, Standing, VariableUse};
 use std::alloc::{AllocError, Global};
 use std::slice;
 

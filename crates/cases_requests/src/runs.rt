@@ -3,7 +3,7 @@ use crate::texts::{STANDARD, first_word, push_all};
 use envvars::{Change, Env, EnvFault, Vars, changes};
 use modulefile::{Mode, Record, Shell};
 use modulerun::{FileContext, Ran, run_file};
-use reports::{show_report, whatis_report};
+use requests::{show_report, whatis_report};
 use std::alloc::{AllocError, Global};
 use std::io;
 use tclrules::Limits;

@@ -32,7 +32,7 @@ pub use process::process_input;
 pub use processinput::{
     ArgumentsFault, InputFault, arguments, environment_block, environment_of, read_input,
 };
-pub use rehearsal::rehearse;
+pub use sessioncheck::rehearse;
 pub use shells::Shell;
 pub use shelltext::{PrintFault, print_changes};
 pub use writers::WriteFault;

@@ -1,6 +1,6 @@
 //! Requests run over an environment, one alone or one after another: `run`, `run_changes`, `session` (module(1)).
 //! Takes memory; changes the `Env` and reads the files and directories (`Tree`) that it is given.
-//! Used by sessioncheck, rehearsal and modulecmd.
+//! Used by sessioncheck and modulecmd.
 #![tactic(auto)]
 
 mod reply;

@@ -12,3 +12,6 @@ mod Origins
 pub mod PlainMoves
 mod Judging
 mod JudgedMoves
+pub mod ListLemmas
+pub mod ReportLemmas
+pub mod Selected

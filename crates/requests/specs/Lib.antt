@@ -14,6 +14,8 @@ pub mod PlainRuns
 pub mod JudgedRuns
 pub mod Laws
 pub mod Rows
+-- for this crate's own contracts alone
+pub mod AvailRest
 -- What the definitions above cite, so that a caller need not name the crates below.
 pub use Rattle.modulerecords.specs.Effects
 pub use Rattle.modulerecords.specs.Judgments

@@ -1,20 +1,33 @@
-//! What a request is and what it makes of an environment (module(1)): definitions, laws, and the parsing of words.
-//! Takes memory for the words of a request and touches nothing else.
-//! Used by reports, requeststep, modules, sessioncheck, rehearsal and modulecmd.
+//! Requests (module(1)): what one is and makes of an environment, with laws; its words, conditions and reports.
+//! Takes memory for the words of a request and the text of a report, and touches nothing else.
+//! Used by requeststep, modules, sessioncheck, modulecmd and the crates of sites; auditreport takes the report of `show`.
 #![tactic(auto)]
 
 mod action;
+mod avail;
+mod conditions;
 mod laws;
+mod lines;
+mod list;
 mod request_fault;
 mod rows;
+mod show;
+mod whatis;
 mod words;
 
 pub use action::{Action, Request};
+pub use avail::avail_report;
+pub use conditions::{
+    first_lost, is_loaded, last_meant, missing_group, own_conflict, recorded_conflict,
+};
 pub use defaultfiles::Evaluated;
 pub use laws::{
     command_returns, judged_session_returns, outcomes, plain_session_returns, reports,
     session_returns, sessions, some_outcome, verdicts,
 };
+pub use list::list_report;
 pub use request_fault::RequestFault;
 pub use rows::{condition_rows, report_rows, request_rows};
+pub use show::show_report;
+pub use whatis::whatis_report;
 pub use words::request;

@@ -11,4 +11,4 @@ pub mod ListedLemmas
 pub mod TreeAnswers
 pub mod SwitchLemmas
 -- Handed on, so that a caller need not name the crates below.
-pub use Rattle.reports.proofs.ReportLemmas
+pub use Rattle.requests.proofs.ReportLemmas

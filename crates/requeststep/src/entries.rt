@@ -18,11 +18,11 @@ ghost use Rattle.requeststep.specs.Parts.{AreEntriesOf, entries_view, objection,
 use crate::done::Module;
 use crate::missing::MissingNames;
 use crate::refusal::Refusal;
-use conditions::{missing_group, own_conflict, recorded_conflict};
 use envloaded::{Loaded, add_to_list, loaded};
 use envvars::Vars;
 use envvars::fields::{copies, deduplicated, owned, slices};
 use modulefile::Record;
+use requests::{missing_group, own_conflict, recorded_conflict};
 use std::alloc::{AllocError, Global};
 
 /// The loaded modules, in load order; 35 where the loaded lists don't fit together.

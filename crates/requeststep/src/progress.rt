@@ -12,8 +12,8 @@ ghost use Rattle.requeststep.specs.Parts.{IsListedIn, entries_view};
 
 use crate::done::{Done, Move};
 use crate::refusal::Refusal;
-use conditions::first_lost;
 use envloaded::{Loaded, copy_list};
+use requests::first_lost;
 use std::alloc::{AllocError, Global};
 use std::snapshot::Snapshot;
 

@@ -1,5 +1,5 @@
-//! The check of an input's lines: what their requests would do, and the verdict on each module that they load.
-//! Takes memory; reads the files and directories (`Tree`) that it is given.
+//! What lists of requests would do: the check of an input's lines, with verdicts, and rehearsals with what is printed.
+//! Takes memory; reads the files and directories (`Tree`) that it is given, and a rehearsal changes the `Env`.
 //! Used by modulecmd.
 #![tactic(auto)]
 
@@ -8,10 +8,12 @@ mod judging;
 mod laws;
 mod lines;
 mod loading;
+mod rehearsal;
 mod report;
 mod running;
 
 pub use checking::{Findings, check};
 pub use judging::Judgment;
-pub use laws::lines_run;
+pub use laws::{lines_run, texts_make_session, texts_return_to_start};
 pub use modules::{Env, Limits, Outcome, Refusal, Shell, Tree, Verdict};
+pub use rehearsal::rehearse;

@@ -4,12 +4,12 @@ use Rattle.std.specs.Prelude.{filter_map, flat_map}
 use Rattle.envvars.specs.Texts.{Text, texts_in}
 use Rattle.modulefile.specs.Laws as files
 use Rattle.requests.specs.Moves.{Module}
-use Rattle.certificate.specs.RecordUses.{UsedVariable, IsAmong, used_by_modules, is_in_step}
-use Rattle.certificate.specs.Certificates.{certified, certificate}
-use Rattle.certificate.specs.Laws.{CertifiedAreExact}
-use Rattle.certificate.specs.UseViews.{used_view}
-use Rattle.sitelaws.specs.Sites.{Site, file_of, AreModulesIn, Evaluated, plain_of, AreEvaluated}
-use Rattle.sitelaws.specs.Laws.{ModulesFound, PlainModulesFound, AuditsHold}
+use Rattle.siteclash.specs.RecordUses.{UsedVariable, IsAmong, used_by_modules, is_in_step}
+use Rattle.siteclash.specs.Certificates.{certified, certificate}
+use Rattle.siteclash.specs.Laws.{CertifiedAreExact}
+use Rattle.siteclash.specs.UseViews.{used_view}
+use Rattle.sitewalk.specs.Sites.{Site, file_of, AreModulesIn, Evaluated, plain_of, AreEvaluated}
+use Rattle.sitewalk.specs.Laws.{ModulesFound, PlainModulesFound, AuditsHold}
 use Rattle.siteclash.specs.ClashAnswers.{AreAnswers, without_clashes}
 use Rattle.siteclash.specs.EachOnce.{each_once}
 use Rattle.siteclash.proofs.OnceLemmas.{in_once}

@@ -9,8 +9,8 @@ use Rattle.modulefile.specs.Laws as files
 use Rattle.requests.specs.Refusals.{refused_as, RefusedAs}
 use Rattle.requests.specs.Reasons.{file_refused}
 use Rattle.requests.specs.Steps.{entries_of, script_at, context_of}
-use Rattle.certificate.specs.RecordUses.{IsAmong}
-use Rattle.sitelaws.specs.Sites.{Site, SiteModule, over_site, EvaluatesTo, IsOfSite, Evaluated, AreEvaluated}
+use Rattle.siteclash.specs.RecordUses.{IsAmong}
+use Rattle.sitewalk.specs.Sites.{Site, SiteModule, over_site, EvaluatesTo, IsOfSite, Evaluated, AreEvaluated}
 use Rattle.sitewalk.specs.declared.walk.Evaluation.{Evaluation}
 use Rattle.sitewalk.specs.Walks.{IsEvaluation, AreEvaluations}
 use Rattle.siteaudit.specs.Findings.{evaluated_file}

@@ -21,13 +21,13 @@ use Rattle.envvars.proofs.TextLemmas.{same_text}
 use Rattle.std.specs.Prelude.{◌↔◌}
 use Rattle.std.proofs.lemmas.List.{map-append}
 use Rattle.indexmap.specs.IndexSet.{insert_key}
-use Rattle.certificate.specs.RecordUses.{IsAmong}
+use Rattle.siteclash.specs.RecordUses.{IsAmong}
 use Rattle.siteaudit.specs.declared.defaults.Folder.{Folder}
 use Rattle.siteaudit.specs.contracts.defaults.FolderPartialEq.TheImpl as FolderPartialEq
 use Rattle.sitewalk.specs.declared.walk.Evaluation.{Evaluation}
 use Rattle.siteaudit.specs.Folders.{IsInFolder, FolderText, folder_view, HoldsModule, HoldsOneOf}
-use Rattle.certificate.proofs.UsedLemmas.{by_cases, among_left, among_right, among_either}
-use Rattle.certificate.proofs.Exact.{any_some}
+use Rattle.siteclash.proofs.UsedLemmas.{by_cases, among_left, among_right, among_either}
+use Rattle.siteclash.proofs.Exact.{any_some}
 use Rattle.siteaudit.proofs.AmongLemmas.{taken, among_one, among_map, one_more}
 
 -- the last part of a name

@@ -16,13 +16,13 @@ use Rattle.requests.specs.VariableUses.{VariableUse, Pathed, is_reversible}
 use Rattle.requests.specs.Reasons.{RequestReason}
 use Rattle.requests.specs.Verdicts.{plain, asked, one_way}
 use Rattle.requeststep.specs.declared.refusal.Refusal.{Refusal}
-use Rattle.certificate.specs.RecordUses.{UsedVariable, used_by, IsAmong, modulepath, same_use, use_alike, are_in_step, is_in_step, IsInStep}
-use Rattle.certificate.specs.Certificates.{is_other, IsCertified, clashes_among, certified}
-use Rattle.certificate.specs.Laws.{CertifiedAreExact}
-use Rattle.certificate.proofs.UsedLemmas.{by_test, by_cases}
-use Rattle.certificate.proofs.Exact.{all_each, filtered, in_filter}
-use Rattle.sitelaws.specs.Sites.{Site, SiteModule, file_of, with_records, EvaluatesTo, HasPlainRecords, IsOfSite, ArePlainModules, Evaluated, plain_by, plain_of}
-use Rattle.sitelaws.specs.Standings.{IsUsedTwice}
+use Rattle.siteclash.specs.RecordUses.{UsedVariable, used_by, IsAmong, modulepath, same_use, use_alike, are_in_step, is_in_step, IsInStep}
+use Rattle.siteclash.specs.Certificates.{is_other, IsCertified, clashes_among, certified}
+use Rattle.siteclash.specs.Laws.{CertifiedAreExact}
+use Rattle.siteclash.proofs.UsedLemmas.{by_test, by_cases}
+use Rattle.siteclash.proofs.Exact.{all_each, filtered, in_filter}
+use Rattle.sitewalk.specs.Sites.{Site, SiteModule, file_of, with_records, EvaluatesTo, HasPlainRecords, IsOfSite, ArePlainModules, Evaluated, plain_by, plain_of}
+use Rattle.sitewalk.specs.Standings.{IsUsedTwice}
 use Rattle.siteclash.specs.ClashAnswers.{IsAnswer, AreAnswers, without_clashes}
 use Rattle.siteclash.specs.declared.answers.Clash.{Clash}
 use Rattle.sitewalk.specs.Walks.{IsOutcome, AreEvaluations}

@@ -8,10 +8,10 @@ use Rattle.std.proofs.lemmas.List.{map-append}
 use Rattle.envvars.specs.Fields.{colon}
 use Rattle.envvars.proofs.TextLemmas.{same_text}
 use Rattle.requests.specs.VariableUses.{VariableUse, Pathed}
-use Rattle.certificate.specs.declared.uses.UsedVariable as code
-use Rattle.certificate.specs.RecordUses.{UsedVariable, IsAmong, modulepath, same_use, use_alike}
-use Rattle.certificate.specs.UseViews.{use_view, used_view}
-use Rattle.certificate.proofs.UsedLemmas.{by_test}
+use Rattle.siteclash.specs.UsedVariable as code
+use Rattle.siteclash.specs.RecordUses.{UsedVariable, IsAmong, modulepath, same_use, use_alike}
+use Rattle.siteclash.specs.UseViews.{use_view, used_view}
+use Rattle.siteclash.proofs.UsedLemmas.{by_test}
 use Rattle.siteaudit.specs.declared.standing.UnlikeUses.{UnlikeUses}
 use Rattle.siteaudit.specs.Findings.{AreUnlike}
 use Rattle.siteaudit.proofs.AmongLemmas.{taken}

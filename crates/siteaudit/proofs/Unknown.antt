@@ -12,10 +12,10 @@ use Rattle.modulerun.specs.Running.{ran_view}
 use Rattle.requests.specs.Records.{Record, Set, Unset, Push, Front, Back, Remove, Conflict, Prereq, Whatis, conflict_names, prereq_groups}
 use Rattle.requests.specs.Reasons.{RequestReason}
 use Rattle.requeststep.specs.declared.refusal.Refusal.{Refusal}
-use Rattle.certificate.specs.RecordUses.{IsAmong}
-use Rattle.certificate.proofs.UsedLemmas.{by_test, by_cases, among_left, among_right, among_either}
-use Rattle.certificate.proofs.Exact.{any_some, some_any}
-use Rattle.sitelaws.specs.Sites.{Site, SiteModule, EvaluatesTo, IsOfSite, Evaluated, AreEvaluated}
+use Rattle.siteclash.specs.RecordUses.{IsAmong}
+use Rattle.siteclash.proofs.UsedLemmas.{by_test, by_cases, among_left, among_right, among_either}
+use Rattle.siteclash.proofs.Exact.{any_some, some_any}
+use Rattle.sitewalk.specs.Sites.{Site, SiteModule, EvaluatesTo, IsOfSite, Evaluated, AreEvaluated}
 use Rattle.sitewalk.specs.declared.walk.Evaluation.{Evaluation}
 use Rattle.sitewalk.specs.Walks.{IsOutcome, AreEvaluations}
 use Rattle.siteaudit.specs.Audits.{Mention, AreMentioned, IsUnknown}

@@ -15,15 +15,15 @@ use Rattle.requests.specs.Records.{Record, conflict_names, prereq_groups}
 use Rattle.requests.specs.Moves.{Module}
 use Rattle.requests.specs.Reasons.{RequestReason}
 use Rattle.requeststep.specs.Answers.{cause_of}
-use Rattle.certificate.specs.RecordUses.{IsAmong}
-use Rattle.certificate.specs.Certificates.{certificate, AgreesWith}
-use Rattle.certificate.specs.UseViews.{use_view, used_view}
+use Rattle.siteclash.specs.RecordUses.{IsAmong}
+use Rattle.siteclash.specs.Certificates.{certificate, AgreesWith}
+use Rattle.siteclash.specs.UseViews.{use_view, used_view}
 use Rattle.startcheck.specs.Disagreements.{Disagreement, IsDisagreement}
 use Rattle.startcheck.specs.DisagreementViews.{disagreement_view}
-use Rattle.sitelaws.specs.Sites.{Site, SiteModule, file_of, EvaluatesTo, IsDirectory, IsOfSite, ArePlainModules, AreDirectories, AreModulesIn}
-use Rattle.sitelaws.specs.Standings as standings
-use Rattle.sitelaws.specs.Standings.{HasStanding}
-use Rattle.sitelaws.specs.Laws.{CertificateHolds}
+use Rattle.sitewalk.specs.Sites.{Site, SiteModule, file_of, EvaluatesTo, IsDirectory, IsOfSite, ArePlainModules, AreDirectories, AreModulesIn}
+use Rattle.sitewalk.specs.Standings as standings
+use Rattle.sitewalk.specs.Standings.{HasStanding}
+use Rattle.sitewalk.specs.Laws.{CertificateHolds}
 use Rattle.siteclash.specs.EachOnce.{each_once}
 use Rattle.siteaudit.specs.declared.standing.Standing.{Standing}
 use Rattle.siteaudit.specs.declared.standing.Standing.TheVariants.{Certified, Asks, OneWay, OutOfStep, Clashes, Refused}

@@ -10,10 +10,10 @@ use Rattle.requests.specs.Moves.{Module}
 use Rattle.requests.specs.VariableUses.{Pathed, is_reversible}
 use Rattle.requeststep.specs.MoveViews.{module_view}
 use Rattle.requeststep.specs.declared.refusal.Refusal.{Refusal}
-use Rattle.certificate.specs.RecordUses.{UsedVariable, used_by, used_by_modules, IsAmong, modulepath, same_use, are_in_step}
-use Rattle.certificate.specs.UseViews.{use_view}
-use Rattle.sitelaws.specs.Sites.{SiteModule, with_records}
-use Rattle.sitelaws.specs.Standings.{IsFirstOneWay, IsUsedTwice}
+use Rattle.siteclash.specs.RecordUses.{UsedVariable, used_by, used_by_modules, IsAmong, modulepath, same_use, are_in_step}
+use Rattle.siteclash.specs.UseViews.{use_view}
+use Rattle.sitewalk.specs.Sites.{SiteModule, with_records}
+use Rattle.sitewalk.specs.Standings.{IsFirstOneWay, IsUsedTwice}
 use Rattle.siteclash.specs.declared.answers.Clash.{Clash}
 use Rattle.siteclash.specs.ClashAnswers.{AreAnswers, without_clashes}
 use Rattle.siteclash.specs.EachOnce.{each_once}

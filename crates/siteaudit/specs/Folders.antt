@@ -8,7 +8,7 @@ use Rattle.defaultfiles.specs.DefaultFileResults.{HasResult}
 use Rattle.search.specs.Single.{is_single}
 use Rattle.search.specs.Reasons.{bad_default}
 use Rattle.search.specs.Found.{Found}
-use Rattle.certificate.specs.RecordUses.{IsAmong}
+use Rattle.siteclash.specs.RecordUses.{IsAmong}
 use Rattle.sitewalk.specs.declared.walk.Evaluation.{Evaluation}
 use Rattle.siteaudit.specs.declared.defaults.Folder.{Folder}
 

@@ -9,7 +9,7 @@ use Rattle.modulefile.specs.RecordViews.{record_view}
 use Rattle.modulerun.specs.declared.run.Ran.{Ran}
 use Rattle.requests.specs.Records.{Record, Set, Unset, Push, Front, Back, Remove, Conflict, Prereq, Whatis}
 use Rattle.requeststep.specs.declared.refusal.Refusal.{Refusal}
-use Rattle.sitelaws.specs.Sites.{SiteModule}
+use Rattle.sitewalk.specs.Sites.{SiteModule}
 use Rattle.sitewalk.specs.declared.walk.Evaluation.{Evaluation}
 use Rattle.siteaudit.specs.Audits.{Mention}
 use Rattle.siteaudit.specs.Findings.{evaluated_file}

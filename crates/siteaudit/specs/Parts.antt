@@ -1,12 +1,12 @@
 -- The parts of an audit, by the evaluations of a walk: for this crate's own contracts alone.
 use Rattle.std.specs.Prelude.{◌≡◌, ◌↔◌, List, [], map, flat_map}
 use Rattle.envvars.specs.Texts.{texts_in}
-use Rattle.certificate.specs.RecordUses.{IsAmong}
-use Rattle.certificate.specs.Certificates.{AgreesWith}
-use Rattle.certificate.specs.UseViews.{used_view}
+use Rattle.siteclash.specs.RecordUses.{IsAmong}
+use Rattle.siteclash.specs.Certificates.{AgreesWith}
+use Rattle.siteclash.specs.UseViews.{used_view}
 use Rattle.startcheck.specs.Disagreements.{Disagreement, IsDisagreement}
 use Rattle.startcheck.specs.DisagreementViews.{disagreement_view}
-use Rattle.sitelaws.specs.Sites.{Site}
+use Rattle.sitewalk.specs.Sites.{Site}
 use Rattle.sitewalk.specs.Walks.{IsWalkAnswer}
 use Rattle.sitewalk.specs.declared.walk.Evaluation.{Evaluation}
 use Rattle.sitewalk.specs.declared.walk.Walk.{Walk}

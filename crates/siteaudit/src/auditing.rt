@@ -3,7 +3,7 @@ ghost use Rattle.std.specs.Prelude.{◌<◌, IfOk, IfErr};
 ghost use Rattle.filetree.specs.Agreement.{InEachPair, ReadsOn};
 ghost use Rattle.filetree.specs.Causes.{Applies};
 ghost use Rattle.requeststep.specs.Answers.{cause_of};
-ghost use Rattle.sitelaws.specs.Sites.{site_of};
+ghost use Rattle.sitewalk.specs.Sites.{site_of};
 ghost use Rattle.sitewalk.specs.Walks.{HasCause};
 ghost use Rattle.siteaudit.specs.Audits.{IsAudit, CertificateStands};
 ghost use Rattle.siteaudit.specs.Parts.{AreParts, PartsAreAudits};
@@ -12,10 +12,10 @@ use crate::defaults::bad_default_files;
 use crate::judgement::{Standings, judge_modules};
 use crate::names::unknown_names;
 use crate::standing::Standing;
-use certificate::UsedVariable;
 use envvars::Env;
 use filetree::Tree;
 use requeststep::Refusal;
+use siteclash::UsedVariable;
 use sitewalk::{Evaluation, Progress, Walk, WalkFault, walk_site};
 use startcheck::{Disagreement, disagreements};
 use std::alloc::Global;
@@ -65,9 +65,9 @@ fn parts_are_audits()
     ensures { PartsAreAudits }
 {
     modulefile::files();
-    certificate::laws::certified();
-    sitelaws::laws::walks();
-    sitelaws::laws::sessions_return();
+    siteclash::certified();
+    sitewalk::walks();
+    sitewalk::sessions_return();
 }
 
 /// The parts of an audit, by the evaluations of a walk.

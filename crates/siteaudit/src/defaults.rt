@@ -5,7 +5,7 @@ ghost use Rattle.envvars.specs.Texts.{texts_in};
 ghost use Rattle.filetree.specs.Agreement.{InEachPair, ReadsOn};
 ghost use Rattle.filetree.specs.Causes.{Applies};
 ghost use Rattle.requeststep.specs.Answers.{cause_of};
-ghost use Rattle.certificate.specs.RecordUses.{IsAmong};
+ghost use Rattle.siteclash.specs.RecordUses.{IsAmong};
 ghost use Rattle.siteaudit.specs.Folders.{FolderText, folder_view, HoldsModule, HoldsOneOf, IsBadAnswer, AreBadIn, AreBadAmong};
 
 use crate::folders::{directory_of, folder_of};

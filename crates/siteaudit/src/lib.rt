@@ -11,8 +11,7 @@ mod names;
 mod standing;
 
 pub use auditing::{AuditedModule, SiteAudit, UnknownNames, audit};
-pub use certificate::{UsedVariable, VariableUse};
-pub use siteclash::Clash;
+pub use siteclash::{Clash, UsedVariable, VariableUse};
 pub use sitewalk::{MAX_DIRECTORIES, Progress, Silent, WalkFault};
 pub use standing::Standing;
 pub use startcheck::Disagreement;

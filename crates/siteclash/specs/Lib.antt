@@ -10,3 +10,10 @@ pub mod UsingModules
 pub mod ClashingUsers
 pub mod UseKeys
 pub mod Once
+-- Handed on, so that a caller need not name the crates below.
+pub use Rattle.certificate.specs.Certificates
+pub use Rattle.certificate.specs.Laws
+pub use Rattle.certificate.specs.RecordUses
+pub use Rattle.certificate.specs.UseViews
+pub use Rattle.certificate.specs.declared.uses.UsedVariable
+pub use Rattle.certificate.specs.declared.uses.VariableUse

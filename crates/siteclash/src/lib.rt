@@ -16,3 +16,5 @@ mod variables;
 mod ways;
 
 pub use answers::{Clash, FoundClashes, clashes};
+pub use certificate::laws::certified;
+pub use certificate::{UsedVariable, VariableUse, first_unlike, used_by};

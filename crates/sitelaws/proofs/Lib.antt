@@ -8,3 +8,6 @@ mod Unloaded
 mod Returned
 mod Walked
 mod PlainOnes
+-- Handed on, so that a caller need not name the crates below.
+pub use Rattle.certificate.proofs.Exact
+pub use Rattle.certificate.proofs.UsedLemmas

@@ -1,7 +1,7 @@
 -- What is among the members of a list.
 use Rattle.std.proofs.Common.{◌≡◌, inl, inr, ℕ, ◌<◌, length, arith, suc, zero, List, [], ◌∷◌, ◌++◌, map, flat_map, take, slice_get, Some, None, refl, sym, ap, ◌∙◌, subst}
-use Rattle.certificate.specs.RecordUses.{IsAmong}
-use Rattle.certificate.proofs.UsedLemmas.{by_cases, among_left, among_right, among_either}
+use Rattle.sitelaws.specs.RecordUses.{IsAmong}
+use Rattle.sitelaws.proofs.UsedLemmas.{by_cases, among_left, among_right, among_either}
 
 module _ {X : Type 0} where
   -- at a place

@@ -16,8 +16,8 @@ use Rattle.requests.specs.Records.{Record, Set, Unset, Push, Front, Back, Remove
 use Rattle.requests.specs.Steps as requests
 use Rattle.sitelaws.specs.Sites.{Site, IsDirectory, first, added, directories_by}
 use Rattle.sitewalk.specs.Parts.{with_directories}
-use Rattle.certificate.proofs.UsedLemmas.{by_cases, among_left, among_right}
-use Rattle.certificate.proofs.Exact.{filtered}
+use Rattle.sitelaws.proofs.UsedLemmas.{by_cases, among_left, among_right}
+use Rattle.sitelaws.proofs.Exact.{filtered}
 use Rattle.sitewalk.proofs.AmongLemmas.{of_flat_map}
 
 -- ---- each once

@@ -31,7 +31,7 @@ use Rattle.sitewalk.specs.declared.walk.Evaluation.{Evaluation}
 use Rattle.sitewalk.specs.declared.walk.TheConstants.{MAX_DIRECTORIES}
 use Rattle.sitewalk.specs.Walks.{directories_by_plain, directories_of, IsWalk, IsOutcome, AreEvaluations, HasTooMany}
 use Rattle.sitewalk.specs.Parts.{with_directories, is_plain_ran, directories_after, directories_found, AreEvaluationsOf, IsEvaluationOf, GoesThrough}
-use Rattle.certificate.proofs.UsedLemmas.{by_cases, among_left, among_right, among_either}
+use Rattle.sitelaws.proofs.UsedLemmas.{by_cases, among_left, among_right, among_either}
 use Rattle.sitewalk.proofs.AmongLemmas.{at_place, take_next, take_all_gone, map_parts, in_map, of_map, flat_map_parts, in_flat_map, of_flat_map}
 use Rattle.sitewalk.proofs.DirectoryLemmas.{with-append, once, begins, comes, came}
 

@@ -17,3 +17,4 @@ mod walk;
 pub use fault::WalkFault;
 pub use progress::{Progress, Silent};
 pub use walk::{Evaluation, MAX_DIRECTORIES, Walk, walk_site};
+pub use sitelaws::laws::{sessions_return, walks};

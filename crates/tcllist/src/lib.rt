@@ -12,3 +12,4 @@ pub use laws::{
 };
 pub use read::parse_list;
 pub use write::write_list;
+pub use tclchars::TextFault;

@@ -2,4 +2,3 @@ pub mod NumberLemmas
 pub mod Examples
 pub mod WholeNumbers
 pub mod Fractions
-pub mod Longest

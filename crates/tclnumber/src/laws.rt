@@ -1,10 +1,9 @@
 //! Laws of numbers: functions that do nothing, whose contracts are theorems about the definitions.
-ghost use Rattle.std.specs.Prelude.{◌≡◌, ◌≢◌, ◌↔◌, ◌++◌, ℕ, Bool, Some, None};
+ghost use Rattle.std.specs.Prelude.{◌≡◌, ◌≢◌, ◌↔◌, ℕ, Bool};
 ghost use Rattle.tclchars.specs.Runs.{Text};
 ghost use Rattle.tclnumber.specs.declared.number.Numeral.TheVariants as numerals;
-ghost use Rattle.tclexpr.specs.Operands.{after_number};
 ghost use Rattle.tclnumber.specs.Numerals.{whole_of, numeral};
-ghost use Rattle.tclnumber.specs.Numbers.{IsWhole, IsFractional, IsNumber, IsNumberIn};
+ghost use Rattle.tclnumber.specs.Numbers.{IsWhole, IsFractional};
 
 /// A text that is a whole number has the class of one, with its value where that has 64 bits; and a text with that
 /// class is one.
@@ -17,10 +16,4 @@ pub fn numeral_of_whole()
 /// A text has the class of a fraction exactly where it is a number with one.
 pub fn numeral_of_fraction()
     ensures { (t : Text) → (numeral t ≡ numerals.Fraction) ↔ IsFractional t }
-{}
-
-/// A number in an expression is the longest prefix that is a number; and where none is read, no prefix is one.
-pub fn number_in_expression()
-    ensures found { (bs rest : Text) → after_number bs ≡ Some rest → IsNumberIn bs rest }
-    ensures none { (bs number rest : Text) → after_number bs ≡ None → bs ≡ number ++ rest → IsNumber number → ⊥ }
 {}

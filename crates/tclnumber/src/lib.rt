@@ -6,5 +6,5 @@
 mod laws;
 mod number;
 
-pub use laws::{number_in_expression, numeral_of_fraction, numeral_of_whole};
+pub use laws::{numeral_of_fraction, numeral_of_whole};
 pub use number::{Numeral, read_number};

@@ -7,7 +7,7 @@ use Rattle.std.specs.Fmt.{signed_decimal}
 use Rattle.std.specs.declared.cmp.Ordering.{Ordering}
 use Rattle.std.specs.Ordering.{nat_cmp, int_cmp, is_lt, is_gt, is_le, is_ge, is_eq, is_ne}
 use Rattle.std.specs.Cmp.Lexicographic.{slice_cmp}
-use Rattle.tclchars.specs.Runs.{Text}
+use Rattle.tcllist.specs.Runs.{Text}
 use Rattle.tclnumber.specs.Numerals.{numeral}
 use Rattle.tclexpr.specs.Symbols.{unary_symbol, binary_symbol}
 use Rattle.tclnumber.specs.declared.number.Numeral.{Numeral}

@@ -1,6 +1,6 @@
 //! Arithmetic of two whole numbers of 64 bits (expr(n), OPERATORS).
 ghost use Rattle.std.specs.Prelude.{◌≡◌, ◌^◌, ◌*ℤ◌, pos, true, false, IfErr};
-ghost use Rattle.tclchars.specs.Answers.{Gives};
+ghost use Rattle.tcllist.specs.Answers.{Gives};
 ghost use Rattle.tcloperators.specs.Faults.{reason_of};
 ghost use Rattle.tcloperators.specs.Numbers as numbers;
 ghost use Rattle.tcloperators.specs.declared.fault.ValueFault.TheVariants.{NumberTooLarge};

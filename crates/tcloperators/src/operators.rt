@@ -1,11 +1,11 @@
 //! The operators of expressions on the texts of their operands (expr(n), OPERATORS).
 ghost use Rattle.std.specs.Prelude.{◌≡◌, neg_ℤ, Ok, IfSome};
-ghost use Rattle.tclchars.specs.Runs.{Text};
+ghost use Rattle.tcllist.specs.Runs.{Text};
 ghost use Rattle.tclnumber.specs.Numerals.{numeral};
 ghost use Rattle.tclnumber.specs.declared.number.Numeral.TheVariants.{Whole};
 ghost use Rattle.tcloperators.specs.declared.operators.Computed.TheVariants.{Truth};
 ghost use Rattle.tclexpr.specs.Symbols.{binary_symbol};
-ghost use Rattle.tclchars.specs.Answers.{Gives};
+ghost use Rattle.tcllist.specs.Answers.{Gives};
 ghost use Rattle.tcloperators.specs.Faults.{reason_of, GivesText};
 ghost use Rattle.tcloperators.specs.Numbers.{within_64_bits, bitwise_not};
 ghost use Rattle.tcloperators.specs.Operators.{unary_value, binary_value, truth_text, text_order, order_of, decimal_text};

@@ -1,6 +1,6 @@
 //! Truth values: what a condition takes for true and false (expr(n), OPERANDS).
 ghost use Rattle.std.specs.Prelude.{◌≡◌};
-ghost use Rattle.tclchars.specs.Answers.{Gives};
+ghost use Rattle.tcllist.specs.Answers.{Gives};
 ghost use Rattle.tcloperators.specs.Faults.{reason_of};
 ghost use Rattle.tcloperators.specs.Operators.{has_abbreviation, is_true_word, is_false_word, word_truth, truth};
 

@@ -6,8 +6,8 @@ use Rattle.std.specs.Fmt.{digits}
 use lib.Utf8.{encode}
 use Rattle.tclchars.specs.declared.fault.TextFault.TheVariants as text
 use Rattle.tclchars.specs.Braces.{braced_at}
-use Rattle.tclscript.specs.ScanState.{scan}
-use Rattle.tclscript.specs.Reading.{whole_script, script_with, command_at, word_at, unexpanded_word_at, braced_word_at, quoted_word_at, quotes_at, parts_with, part_at, dollar_at, backslash_at, bracket_at, after_expansion, inner_at}
+use Rattle.tclexpr.specs.ScanState.{scan}
+use Rattle.tclexpr.specs.ScriptReading.{whole_script, script_with, command_at, word_at, unexpanded_word_at, braced_word_at, quoted_word_at, quotes_at, parts_with, part_at, dollar_at, backslash_at, bracket_at, after_expansion, inner_at}
 use Rattle.tclexpr.specs.Marks.{mark_at, after_white}
 use Rattle.tclexpr.specs.Operands.{operand_at, after_number, after_digits, quoted_at}
 use Rattle.tclexpr.specs.Reading.{expr_at, whole_at, chain_at, climb_at, prefix_at, below_at}

@@ -4,9 +4,9 @@ use Rattle.std.specs.Prelude.{if◌then◌else◌, codes, bytes_eq, nat_eq, nat_
 use Rattle.tclchars.specs.Runs.{Text}
 use Rattle.tclchars.specs.BracedText.{braced_text}
 use Rattle.tclchars.specs.declared.fault.TextFault.{TextFault}
-use Rattle.tclscript.specs.Tree as tree
-use Rattle.tclscript.specs.Tree.{Commands, no_commands, command, Parts, no_parts, part, Part}
-use Rattle.tclscript.specs.Text.{script_of}
+use Rattle.tclexpr.specs.ScriptTree as tree
+use Rattle.tclexpr.specs.ScriptTree.{Commands, no_commands, command, Parts, no_parts, part, Part}
+use Rattle.tclexpr.specs.ScriptText.{script_of}
 use Rattle.tclvalue.specs.Numerals.{numeral}
 use Rattle.tclexpr.specs.Tree.{Expr, operand, unary, binary, conjunction, disjunction, choice}
 use Rattle.tclexpr.specs.Operands as operands

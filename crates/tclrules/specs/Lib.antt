@@ -24,8 +24,8 @@ pub use Rattle.tclchars.specs.Bytes
 pub use Rattle.tclchars.specs.Runs
 pub use Rattle.tclchars.specs.Braces
 pub use Rattle.tclchars.specs.Faults as TextFaults
-pub use Rattle.tclscript.specs.Reading as ScriptReading
-pub use Rattle.tclscript.specs.ScanState
+pub use Rattle.tclexpr.specs.ScriptReading
+pub use Rattle.tclexpr.specs.ScanState
 pub use Rattle.tclexpr.specs.Marks
 pub use Rattle.tclexpr.specs.Operands
 pub use Rattle.tclexpr.specs.Tree as ExpressionTree

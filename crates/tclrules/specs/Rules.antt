@@ -5,8 +5,8 @@ use Rattle.std.specs.Option.{unwrap_or}
 use Rattle.std.specs.List.{list_all}
 use Rattle.tclchars.specs.Runs.{Text}
 use Rattle.tclchars.specs.declared.fault.TextFault.{TextFault}
-use Rattle.tclscript.specs.Tree.{Commands, no_commands, command}
-use Rattle.tclscript.specs.Text.{script_of}
+use Rattle.tclexpr.specs.ScriptTree.{Commands, no_commands, command}
+use Rattle.tclexpr.specs.ScriptText.{script_of}
 use Rattle.tclvalue.specs.Lists.{list_text}
 use Rattle.tclvalue.specs.Faults.{Answer, ◌>>=◌, error}
 use Rattle.tclvalue.specs.Messages.{wrong_words, not_a_list}

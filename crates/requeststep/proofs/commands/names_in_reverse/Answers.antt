@@ -1,7 +1,7 @@
 use Rattle.std.proofs.Common.{List, map, reverse, string_bytes, String, ap, ◌∙◌}
 use Rattle.std.specs.declared.alloc.Global.{Global}
 use Rattle.envvars.specs.Texts.{Text}
-use Rattle.conditions.proofs.ListLemmas.{names_reverse}
+use Rattle.requests.proofs.ListLemmas.{names_reverse}
 use Rattle.requeststep.proofs.commands.names_in_reverse.Goals as goal
 
 pub returns : goal.returns

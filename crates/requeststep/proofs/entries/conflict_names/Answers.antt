@@ -1,7 +1,7 @@
 use Rattle.envvars.specs.Texts.{slice_texts}
 use Rattle.requests.specs.Records.{conflict_names}
 use Rattle.modulefile.specs.RecordViews.{record_view}
-use Rattle.reports.proofs.ReportLemmas.{turn}
+use Rattle.requests.proofs.ReportLemmas.{turn}
 use Rattle.requeststep.proofs.RecordLemmas.{conflicts-append}
 use Rattle.requeststep.proofs.entries.conflict_names.Goals as goal
 

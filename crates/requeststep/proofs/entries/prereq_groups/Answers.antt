@@ -2,7 +2,7 @@ use Rattle.std.proofs.Common.{map}
 use Rattle.envvars.specs.Texts.{texts_in}
 use Rattle.requests.specs.Records.{prereq_groups}
 use Rattle.modulefile.specs.RecordViews.{record_view}
-use Rattle.reports.proofs.ReportLemmas.{turn}
+use Rattle.requests.proofs.ReportLemmas.{turn}
 use Rattle.requeststep.proofs.RecordLemmas.{prereqs-append}
 use Rattle.requeststep.proofs.entries.prereq_groups.Goals as goal
 

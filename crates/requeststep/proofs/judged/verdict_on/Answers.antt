@@ -3,7 +3,7 @@ use Rattle.std.specs.List.{list_all}
 use Rattle.modulefile.specs.RecordViews.{record_view}
 use Rattle.modulerun.specs.Running.{ran_view}
 use Rattle.requests.specs.VariableUses.{is_reversible}
-use Rattle.conditions.proofs.ListLemmas.{all_seen}
+use Rattle.requests.proofs.ListLemmas.{all_seen}
 use Rattle.requeststep.proofs.VerdictLemmas.{plain_by, one_way_by}
 use Rattle.requeststep.proofs.judged.verdict_on.Goals as goal
 

@@ -1,4 +1,4 @@
-use Rattle.sitelaws.specs.Sites.{site_of}
+use Rattle.sitewalk.specs.Sites.{site_of}
 use Rattle.siteaudit.proofs.auditing.audit.Goals as goal
 
 pub returns-clause-exact : goal.returns-clause-exact

@@ -1,7 +1,7 @@
 use Rattle.std.proofs.Common.{map}
 use Rattle.std.specs.Prelude.{◌↔◌}
 use Rattle.std.proofs.lemmas.Result.{IfOk-weaker}
-use Rattle.certificate.specs.RecordUses.{IsAmong}
+use Rattle.siteclash.specs.RecordUses.{IsAmong}
 use Rattle.siteaudit.specs.Folders.{FolderText, folder_view, HoldsOneOf}
 use Rattle.siteaudit.proofs.defaults.bad_default_files.Goals as goal
 

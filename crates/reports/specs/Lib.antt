@@ -1,2 +1,0 @@
--- for this crate's own contracts alone
-pub mod AvailRest

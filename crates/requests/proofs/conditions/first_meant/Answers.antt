@@ -1,0 +1,14 @@
+use Rattle.std.proofs.Common.{rules, tests, string_bytes}
+use Rattle.std.proofs.lemmas.Iterator.Search.{find_from_yields_List}
+use Rattle.std.proofs.lemmas.Iterator.{YieldsList-from_slice}
+use Rattle.modulename.specs.ModuleName.{means}
+use Rattle.envloaded.specs.Loaded.{Entry}
+use Rattle.envloaded.specs.LoadedEntries.{entry_view}
+use Rattle.envloaded.specs.declared.entry.Loaded.{Loaded}
+use Rattle.requests.proofs.ListLemmas.{find_seen}
+use Rattle.requests.proofs.conditions.first_meant.Goals as goal
+
+pub returns : goal.returns
+returns c =
+    find_seen (λ (x : Entry). means c.args.name.now x.name) entry_view c.args.entries.now c.find.result
+    (find_from_yields_List (λ (x : Loaded). means c.args.name.now (string_bytes x.name)) _ _ c.find.result c.find.ensures.ran (YieldsList-from_slice c.args.entries.now cc) (λ x b q k. search (rules, tests)))

@@ -1,0 +1,11 @@
+//! The law of numbers in expressions: a function that does nothing, whose contract is a theorem about the definitions.
+ghost use Rattle.std.specs.Prelude.{◌≡◌, ◌++◌, Some, None};
+ghost use Rattle.tclchars.specs.Runs.{Text};
+ghost use Rattle.tclexpr.specs.Operands.{after_number};
+ghost use Rattle.tclnumber.specs.Numbers.{IsNumber, IsNumberIn};
+
+/// A number in an expression is the longest prefix that is a number; and where none is read, no prefix is one.
+pub fn number_in_expression()
+    ensures found { (bs rest : Text) → after_number bs ≡ Some rest → IsNumberIn bs rest }
+    ensures none { (bs number rest : Text) → after_number bs ≡ None → bs ≡ number ++ rest → IsNumber number → ⊥ }
+{}
