@@ -26,7 +26,7 @@ OF_FAULTS = {"number", "message"}
 HELPERS = {"envvars": ("escapes", "fields")}
 
 # Around the proof of each library the gate reads the files of all crates below it, along each path of their graph anew.
-MOST_PATHS = 600_000
+MOST_PATHS = 200_000
 
 # What begins like a path of the repository: a folder at its top, or one of a crate.
 FOLDERS = "bench|completion|crates|demo|docs|etc|init|libexec|man|tests|tools"

@@ -11,7 +11,8 @@ use crate::tokens::{write_all_used, write_path_fields, write_text, write_text_ar
 use crate::words::{record_words, standing_word};
 use json::Writer;
 use siteaudit::{
-    AuditedModule, Clash, Disagreement, SiteAudit, Standing, UnknownNames, UsedVariable, VariableUse,
+    AuditedModule, Clash, Disagreement, SiteAudit, Standing, UnknownNames, UsedVariable,
+    VariableUse,
 };
 use std::alloc::{AllocError, Global};
 

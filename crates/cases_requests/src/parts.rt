@@ -3,9 +3,9 @@
 use crate::texts::push_all;
 use crate::trees::file_text;
 use defaultfiles::Evaluated;
-use filetree::{FileContent, MemoryTree, read_modulefile};
+use filetree::MemoryTree;
 use lookup::{Limits, version_order};
-use search::{DefaultFiles, Ended, directories, locate, path_of};
+use search::{DefaultFiles, Ended, FileContent, directories, locate, path_of, read_modulefile};
 use std::alloc::{AllocError, Global};
 use std::cmp::Ordering;
 

@@ -1,22 +1,12 @@
--- How the types of the code show the definitions: what a path holds, and the numbers and messages of faults.
+-- How the types of the code show the definitions: the numbers and messages of faults.
 use Rattle.std.specs.Prelude.{ℕ, codes, string_bytes}
 use Rattle.modulename.specs.ModuleName.{Text}
 use Rattle.message.specs.Messages.{quoting}
 use Rattle.filetree.specs.Agreement.{tree_number, tree_message}
-use Rattle.filetree.specs.Modulefiles.{FileContent, absent, no_cookie, not_utf8, script}
-use Rattle.filetree.specs.declared.modulefile.FileContent as content
-use Rattle.filetree.specs.declared.modulefile.FileContent.TheVariants.{Absent, NoCookie, NotUtf8, Script}
 use Rattle.filetree.specs.declared.find_fault.FindFault.{FindFault}
 use Rattle.filetree.specs.declared.find_fault.FindFault.TheVariants as fault
 use Rattle.filetree.specs.declared.tree.TreeFault.{TreeFault}
 use Rattle.filetree.specs.declared.tree.TreeFault.TheVariants as tree_fault
-
--- what a path holds
-abbrev pub file_content_view : content.FileContent → FileContent
-file_content_view Absent = absent
-file_content_view NoCookie = no_cookie
-file_content_view NotUtf8 = not_utf8
-file_content_view (Script text) = script (string_bytes text)
 
 -- the number of each fault of a search
 abbrev pub find_number : FindFault → ℕ

@@ -1,4 +1,4 @@
-//! Files and directories by their paths, in memory or on a disk; what a path holds as a modulefile (modulefile(5)).
+//! Files and directories by their paths, in memory or on a disk.
 //! `MemoryTree` takes memory; `DiskTree` reads files and directories by the runtime that it is given, and writes none.
 //! Used by search, requests and all crates above them.
 #![tactic(auto)]
@@ -10,7 +10,6 @@ mod laws;
 mod load;
 mod look;
 mod memory;
-mod modulefile;
 mod names;
 mod prefix;
 mod tree;
@@ -19,5 +18,4 @@ pub use disk::DiskTree;
 pub use find_fault::FindFault;
 pub use laws::{contents_agree, some_pair_agrees};
 pub use memory::MemoryTree;
-pub use modulefile::{FileContent, holds_module, read_modulefile, see_module};
 pub use tree::{Seen, Tree, TreeFault};

@@ -8,6 +8,7 @@ pub mod Looked
 -- How the types of the code show them.
 pub mod Ended
 pub mod Answers
+pub mod FileContents
 pub mod ListingEntries
 pub mod Listings
 -- For this crate's own contracts alone.

@@ -5,8 +5,9 @@ ghost use Rattle.filetree.specs.Modulefiles.{path_of};
 ghost use Rattle.search.specs.BelowFolder.{is_module_below};
 ghost use Rattle.search.specs.Versions.{is_module_in};
 
+use crate::modulefile::{holds_module, see_module};
 use crate::paths::{path_of, write_path};
-use filetree::{Seen, Tree, TreeFault, holds_module, see_module};
+use filetree::{Seen, Tree, TreeFault};
 use std::alloc::Global;
 
 /// Whether the file of this full name, below the directory, begins with `#%Module`.

@@ -11,10 +11,11 @@ ghost use Rattle.search.specs.Ended.{ended_view};
 
 use crate::candidates::is_module_in;
 use crate::default_files::{DefaultFiles, Ended};
+use crate::modulefile::{FileContent, holds_module, read_modulefile};
 use crate::paths::{has, path_in_folder};
 use crate::version_named::DefaultFile;
 use crate::versions::is_version;
-use filetree::{FileContent, Tree, TreeFault, holds_module, read_modulefile};
+use filetree::{Tree, TreeFault};
 use std::alloc::{AllocError, Global};
 
 /// What default files name.

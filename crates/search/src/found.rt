@@ -6,16 +6,17 @@ ghost use Rattle.filetree.specs.Agreement.{FailsAt, FailsWhere, InEachPair, Read
 ghost use Rattle.filetree.specs.Modulefiles.{path_of, directories};
 ghost use Rattle.filetree.specs.Relations.{Is};
 ghost use Rattle.search.specs.Found as meaning;
-ghost use Rattle.filetree.specs.Answers.{file_content_view};
+ghost use Rattle.search.specs.FileContents.{file_content_view};
 ghost use Rattle.search.specs.Looked.{LooksInFolder, LooksBelow, LooksAlong, LooksAt};
 ghost use Rattle.search.specs.Answers.{FindAnswersOverTree, found_view, is_failure};
 ghost use Rattle.search.specs.Steps.{caused, because_of, module_in, module_at, DefaultIn, FoundBelow};
 
 use crate::default_files::DefaultFiles;
 use crate::defaults::{NamedVersion, named_default};
+use crate::modulefile::{FileContent, read_modulefile};
 use crate::paths::path_of;
 use crate::versions::{greatest_candidate, has_version};
-use filetree::{FileContent, FindFault, Tree, read_modulefile};
+use filetree::{FindFault, Tree};
 use modulename::is_module_name;
 use std::alloc::{AllocError, Global};
 

@@ -1,6 +1,6 @@
-//! Which modulefile a name means along MODULEPATH, all modules along it, and default files (modulefile(5)).
+//! Which modulefile a name means along MODULEPATH, what a path holds as one, all modules, default files (modulefile(5)).
 //! Takes memory, reads through the `Tree`, and has default files evaluated by the `DefaultFiles`, that it is given.
-//! Used by lookup, requeststep and reports; defaultfiles implements its trait, and requests cites its definitions.
+//! Used by lookup and requeststep; defaultfiles implements its trait, and requests cites its definitions.
 #![tactic(auto)]
 
 mod candidates;
@@ -11,6 +11,7 @@ mod found;
 mod laws;
 mod listing_entries;
 mod listings;
+mod modulefile;
 mod names;
 mod paths;
 mod version_named;
@@ -22,4 +23,5 @@ pub use found::{Found, directories, locate};
 pub use laws::{one_found, one_listed, rows_of_defaults};
 pub use listing_entries::ListingEntry;
 pub use listings::{Listing, available};
+pub use modulefile::{FileContent, read_modulefile};
 pub use paths::{is_single, path_of};

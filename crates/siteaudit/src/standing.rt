@@ -14,6 +14,7 @@ use modulefile::{Delimiter, Record};
 use modulerun::Ran;
 use requeststep::{Refusal, is_reversible};
 use siteclash::{Clash, UsedVariable, VariableUse, first_unlike, used_by};
+use sitewalk::records_unless_asked;
 use std::alloc::{AllocError, Global};
 
 /// How a module of a site stands.
@@ -169,10 +170,10 @@ fn judge_records(alloc: Global, records: Vec<Record>) -> Result<Finding, AllocEr
 fn judge_ran(alloc: Global, ran: Ran) -> Result<Finding, AllocError>
     ensures { IfOk result (IsFindingOf ran.asked (map record_view ran.records.items)) }
 {
-    if ran.asked {
-        return Ok(Finding::Stands(Standing::Asks(ran.question)));
+    match records_unless_asked(ran) {
+        Ok(records) => judge_records(alloc, records),
+        Err(question) => Ok(Finding::Stands(Standing::Asks(question))),
     }
-    judge_records(alloc, ran.records)
 }
 
 /// What a module shows by itself, by the outcome of its evaluation.

@@ -15,6 +15,7 @@ mod progress;
 mod walk;
 
 pub use fault::WalkFault;
+pub use plain::records_unless_asked;
 pub use progress::{Progress, Silent};
-pub use walk::{Evaluation, MAX_DIRECTORIES, Walk, walk_site};
 pub use sitelaws::laws::{sessions_return, walks};
+pub use walk::{Evaluation, MAX_DIRECTORIES, Walk, walk_site};

@@ -11,5 +11,5 @@ pub use laws::{
     list_of_grammar, list_round_trip, no_list_prefix, one_list, one_list_fault, prefix_before_fault,
 };
 pub use read::parse_list;
-pub use write::write_list;
 pub use tclchars::TextFault;
+pub use write::write_list;

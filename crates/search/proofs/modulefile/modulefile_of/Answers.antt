@@ -4,7 +4,7 @@ use Rattle.std.specs.Str.{IsUtf8}
 use Rattle.std.proofs.lemmas.Str.{IsUtf8-string_bytes}
 use Rattle.filetree.specs.Modulefiles.{cookie, script}
 use Rattle.filetree.proofs.ModulefileLemmas.{modulefile-script, modulefile-not_utf8}
-use Rattle.filetree.proofs.modulefile.modulefile_of.Goals as goal
+use Rattle.search.proofs.modulefile.modulefile_of.Goals as goal
 
 pub returns-in-Ok : goal.returns-in-Ok
 returns-in-Ok c =

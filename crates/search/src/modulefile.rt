@@ -1,10 +1,10 @@
 //! What a path holds as a modulefile: the cookie `#%Module`, UTF-8, and the text (modulefile(5)).
 ghost use Rattle.std.specs.Prelude.{◌≡◌, false, IfOk, None, Some};
 ghost use Rattle.filetree.specs.Agreement.{FailsAt, InEachPair, FailsOnlyByDevice, Narrows, begins_with, is_device};
-ghost use Rattle.filetree.specs.Answers.{file_content_view};
 ghost use Rattle.filetree.specs.Modulefiles.{cookie, is_module, modulefile};
+ghost use Rattle.search.specs.FileContents.{file_content_view};
 
-use crate::tree::{Seen, Tree, TreeFault};
+use filetree::{Seen, Tree, TreeFault};
 
 /// What a path holds as a modulefile: a file that begins with `#%Module` (modulefile(5)).
 #[derive(Debug, Drop)]
@@ -73,7 +73,7 @@ pub fn read_modulefile<T: Tree>(tree: &mut T, path: &str) -> Result<FileContent,
 /// Whether the path holds a file that begins with `#%Module`, UTF-8 or not. The file is not read further.
 ///
 /// It fails as the tree does.
-pub fn holds_module<T: Tree>(tree: &mut T, path: &str) -> Result<bool, TreeFault>
+pub(crate) fn holds_module<T: Tree>(tree: &mut T, path: &str) -> Result<bool, TreeFault>
     ensures narrows { Narrows (T.agrees tree.old) (T.agrees tree.new) }
     ensures answer { IfOk result (λ r. InEachPair (T.agrees tree.new)
         (λ files listings. is_module (modulefile (files path.now)) ≡ r)) }
@@ -87,7 +87,7 @@ pub fn holds_module<T: Tree>(tree: &mut T, path: &str) -> Result<bool, TreeFault
 /// file is not read further.
 ///
 /// It fails as the tree does.
-pub fn see_module<T: Tree>(tree: &mut T, path: &str) -> Result<Seen, TreeFault>
+pub(crate) fn see_module<T: Tree>(tree: &mut T, path: &str) -> Result<Seen, TreeFault>
     ensures narrows { Narrows (T.agrees tree.old) (T.agrees tree.new) }
     ensures answer { IfOk result (λ seen. InEachPair (T.agrees tree.new)
         (λ files listings. is_module (modulefile (files path.now)) ≡ seen.begins)) }
