@@ -50,32 +50,52 @@ impl Names {
         let mut names = parted(alloc, text)?;
         names.retain(|name| *name != "." && *name != "..");
         names.sort_by(|left, right| version_order(left, right))?;
-        let mut sorted = String::with_capacity(alloc, text.len())?;
-        let mut hides = false;
-        for name in &names {
-            hides = hides || name.starts_with('.');
-            sorted.push_str(name)?;
-            sorted.push('\0')?;
+        Names::joined(String::with_capacity(alloc, text.len())?, &names)
+    }
+
+    /// These names, with their text in this room.
+    fn joined(room: String, names: &[&str]) -> Result<Names, AllocError> {
+        let mut joined = Names {
+            text: room,
+            hides: false,
+        };
+        for name in names {
+            joined.push(name)?;
         }
-        Ok(Names {
-            text: sorted,
-            hides,
-        })
+        Ok(joined)
+    }
+
+    /// Adds a name at the end.
+    #[inline]
+    fn push(&mut self, name: &str) -> Result<(), AllocError> {
+        self.hides = self.hides || name.starts_with('.');
+        self.text.push_str(name)?;
+        self.text.push('\0')
+    }
+
+    /// The names of bytes in which a NUL ends each, as the system gives them.
+    fn of_bytes(alloc: Global, bytes: &[u8]) -> io::Result<Names> {
+        match str::from_utf8(bytes) {
+            Ok(text) => Ok(Names::of_text(alloc, text)?),
+            Err(_) => Err(io::Error::from(io::ErrorKind::InvalidFilename)),
+        }
     }
 }
 
 /// How many bytes of a directory's names are read at once. A name has some hundred at most.
 const NAMES_AT_ONCE: usize = 2000;
 
-/// The names in a directory, each ended by a NUL, as one text. `fs::read_dir` would make a path of each.
-fn text_of_names<R: Files + AllocGlobal>(rt: &R, dir: &str) -> io::Result<Vec<u8>> {
-    // The slash makes the system follow a symbolic link to a directory.
-    let mut path = String::with_capacity(rt.alloc(), dir.len().saturating_add(1))?;
+/// The path of a directory with a slash, which makes the system follow a symbolic link to it.
+fn with_slash(alloc: Global, dir: &str) -> Result<String, AllocError> {
+    let mut path = String::with_capacity(alloc, dir.len().saturating_add(1))?;
     path.push_str(dir)?;
     path.push('/')?;
-    let mut names = rt.open_dir(&path)?;
+    Ok(path)
+}
+
+/// Adds the names that are left to read to a text, each ended by a NUL.
+fn read_names<D: Read>(names: &mut D, text: &mut Vec<u8>) -> io::Result<()> {
     let mut room = [0; NAMES_AT_ONCE];
-    let mut text = Vec::new(rt.alloc());
     for _ in 0..u64::MAX {
         let count = names.read(&mut room)?;
         if count == 0 {
@@ -83,14 +103,20 @@ fn text_of_names<R: Files + AllocGlobal>(rt: &R, dir: &str) -> io::Result<Vec<u8
         }
         text.extend_from_slice(&room[..count])?;
     }
+    Ok(())
+}
+
+/// The names in a directory, each ended by a NUL, as one text. `fs::read_dir` would make a path of each.
+fn text_of_names<R: Files + AllocGlobal>(rt: &R, dir: &str) -> io::Result<Vec<u8>> {
+    let path = with_slash(rt.alloc(), dir)?;
+    let mut names = rt.open_dir(&path)?;
+    let mut text = Vec::new(rt.alloc());
+    read_names(&mut names, &mut text)?;
     Ok(text)
 }
 
 /// The names in a directory.
 pub(crate) fn list<R: Files + AllocGlobal>(rt: &R, dir: &str) -> io::Result<Names> {
     let bytes = text_of_names(rt, dir)?;
-    let Ok(text) = str::from_utf8(&bytes) else {
-        return Err(io::Error::from(io::ErrorKind::InvalidFilename));
-    };
-    Ok(Names::of_text(rt.alloc(), text)?)
+    Names::of_bytes(rt.alloc(), &bytes)
 }
