@@ -10,8 +10,6 @@ use Rattle.std.specs.Cmp.{IsTotalOrder}
 use Rattle.std.specs.Cmp.Lexicographic.{slice_cmp, nat_list_cmp_total}
 use Rattle.std.specs.FinMap as finite
 use Rattle.std.specs.Result.{IfOk}
-use Rattle.std.proofs.lemmas.List.{map-append}
-use Rattle.std.proofs.lemmas.List.Folds.{list_any-append}
 use Rattle.std.specs.FinMap.{put}
 use Rattle.std.proofs.lemmas.Bool.{false≢true}
 use Rattle.std.proofs.lemmas.Cmp.{on_total}
@@ -21,7 +19,7 @@ use Rattle.std.proofs.lemmas.List.Kept.{IsStrictlySortedBy-dedup}
 use Rattle.std.proofs.lemmas.Map.Views.{any-filter_same}
 use Rattle.std.proofs.lemmas.List.Sorted.{list_any-IsPermutation}
 use Rattle.envvars.specs.Texts.{slice_texts, Text, has}
-use Rattle.envvars.proofs.TextLemmas.{has-slice_texts, or_left, or_right, same_text, has-push, bytes_eq-same, bytes_eq-symmetric}
+use Rattle.envvars.proofs.TextLemmas.{has-slice_texts, same_text, has-push, bytes_eq-same, bytes_eq-symmetric}
 use Rattle.envvars.specs.Environment.{Environment, lookup, with_value}
 use Rattle.envvars.specs.declared.change.Change.{Change}
 use Rattle.envvars.specs.Changes.{NewValue, same_value, new_value_at, new_values_in, AreChanges, applied}
@@ -196,13 +194,6 @@ pub all_changes : {E : Type 0} (r : Result (Vec Change Global) E) (old new : Env
 all_changes (Ok v) old new all names slice s k o h e =
     subst (AreChanges old new) (sym (e ∙ ap (λ (l : List (Bor Text)). map (change_to new) (slice_texts l)) s)) (AreChanges-among old new all (slice_texts names) k o h)
 all_changes (Err x) old new all names slice s k o h e = e
-
--- the names of two environments
-pub both_given : (d e : Environment) (xs ys : List (Bor Text)) (n : Text) → ((q : Text) → has q (slice_texts xs) ≡ false → lookup d q ≡ None) → ((q : Text) → has q (slice_texts ys) ≡ false → lookup e q ≡ None)
-    → has n (slice_texts (xs ++ ys)) ≡ false → lookup d n ≡ lookup e n
-both_given d e xs ys n f g h =
-    let apart : (has n (slice_texts xs) || has n (slice_texts ys)) ≡ false = sym (ap (has n) (map-append (λ (x : Bor Text). x.now) xs ys) ∙ list_any-append (bytes_eq n) (slice_texts xs) (slice_texts ys)) ∙ h in
-    f n (or_left (has n (slice_texts xs)) (has n (slice_texts ys)) apart) ∙ sym (g n (or_right (has n (slice_texts xs)) (has n (slice_texts ys)) apart))
 
 -- the names of an environment
 

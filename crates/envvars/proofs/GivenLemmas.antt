@@ -1,5 +1,5 @@
 -- The chains in which the entry of a name is found, and the environment that entries are written over.
-use Rattle.std.proofs.Common.{◌≡◌, ℕ, zero, suc, ◌+◌, ◌<◌, ◌≤◌, ◌≢◌, Bool, true, false, cond, ◌||◌, inl, inr, ◌⊎◌, List, [], ◌∷◌, ◌++◌, length, map, replicate, get_or, take, set, slice_get, Bor, Option, Some, None, IfSome, refl, sym, ap, ◌∙◌, subst, arith, length-append, length-set, take-suc}
+use Rattle.std.proofs.Common.{◌≡◌, ℕ, zero, suc, ◌+◌, ◌<◌, ◌≤◌, ◌≢◌, Bool, true, false, cond, ◌||◌, inl, inr, ◌⊎◌, List, [], ◌∷◌, ◌++◌, length, map, replicate, get_or, take, set, slice_get, Bor, Option, Some, None, IfSome, refl, sym, ap, ◌∙◌, append_assoc, subst, arith, length-append, length-set, take-suc}
 use Rattle.std.specs.Prelude.{bytes_eq}
 use Rattle.std.proofs.lemmas.Bool.{cases_Bool, false≢true}
 use Rattle.std.proofs.lemmas.Bool.Decides.{leb_tells}
@@ -321,11 +321,12 @@ given_over-absent block es q n =
     same_environment _ _ (λ p. sym (lookup-with_value all q None p ∙ stays all q p (bytes_eq p q) refl (sym (not_given block es q n))))
 
 -- the names of one more entry
-pub names_step : (block : Text) (es : List Entry) (i : ℕ) (d : Entry) (old new : List (Bor Text)) (x : Bor Text) → i < length es → slice_texts old ≡ map (name_in block) (take i es) → new ≡ old ++ x ∷ [] → x.now ≡ name_in block (get_or es i d)
-    → slice_texts new ≡ map (name_in block) (take (i + 1) es)
-names_step block es i d old new x l h grown is =
-    ap slice_texts grown ∙ map-append (λ (y : Bor Text). y.now) old (x ∷ []) ∙ (rw (h, is) refl) ∙ sym (map-append (name_in block) (take i es) (get_or es i d ∷ []))
-    ∙ ap (map (name_in block)) (sym (take_more es i d l))
+pub names_step : (block : Text) (es : List Entry) (i : ℕ) (d : Entry) (before : List Text) (old new : List (Bor Text)) (x : Bor Text) → i < length es → slice_texts old ≡ before ++ map (name_in block) (take i es) → new ≡ old ++ x ∷ [] → x.now ≡ name_in block (get_or es i d)
+    → slice_texts new ≡ before ++ map (name_in block) (take (i + 1) es)
+names_step block es i d before old new x l h grown is =
+    ap slice_texts grown ∙ map-append (λ (y : Bor Text). y.now) old (x ∷ []) ∙ (rw (h, is) refl)
+    ∙ append_assoc before (map (name_in block) (take i es)) (name_in block (get_or es i d) ∷ [])
+    ∙ ap (λ (ns : List Text). before ++ ns) (sym (map-append (name_in block) (take i es) (get_or es i d ∷ [])) ∙ ap (map (name_in block)) (sym (take_more es i d l)))
   where
     take_more : (xs : List Entry) (n : ℕ) (z : Entry) → n < length xs → take (n + 1) xs ≡ take n xs ++ get_or xs n z ∷ []
     take_more xs n z m = let next : n + 1 ≡ suc n = omega arith in ap (λ (k : ℕ). take k xs) next ∙ take-suc xs n z m

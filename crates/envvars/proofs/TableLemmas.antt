@@ -110,12 +110,13 @@ not_found (x ∷ xs) q h = passed (bytes_eq q (string_bytes x.0)) (has q (names_
 pub not_written : (e : Environment) (es : List Slot) (q : Text) → has q (names_of es) ≡ false → lookup (written_over e es) q ≡ lookup e q
 not_written e es q h = lookup-entries e es q ∙ ap (λ (o : Option (Option (String Global))). unwrap_or (said o) (lookup e q)) (not_found es q h)
 
--- names that neither the entries have nor a list that has all that is set under them
-pub all_named : (e d : Environment) (es : List Slot) (xs ys : List Text) → written_over e es ≡ d → xs ≡ names_of es → ((n : Text) → has n ys ≡ false → lookup e n ≡ None)
-    → (n : Text) → has n (xs ++ ys) ≡ false → lookup d n ≡ None
-all_named e d es xs ys w names under n h =
-    let none = sym (list_any-append (bytes_eq n) xs ys) ∙ h in
-    ap (λ (x : Environment). lookup x n) (sym w) ∙ not_written e es n (ap (has n) (sym names) ∙ or_left (has n xs) (has n ys) none) ∙ under n (or_right (has n xs) (has n ys) none)
+-- names that a list has none of, once those of the entries and all that is set under them were appended to it
+pub all_appended : (e d : Environment) (es : List Slot) (before between after under : List Text) → written_over e es ≡ d → between ≡ before ++ names_of es → after ≡ between ++ under → ((n : Text) → has n under ≡ false → lookup e n ≡ None)
+    → (n : Text) → has n after ≡ false → (has n before ≡ false) × (lookup d n ≡ None)
+all_appended e d es before between after under w first second none n h =
+    let later : (has n between || has n under) ≡ false = sym (ap (has n) second ∙ list_any-append (bytes_eq n) between under) ∙ h in
+    let earlier : (has n before || has n (names_of es)) ≡ false = sym (ap (has n) first ∙ list_any-append (bytes_eq n) before (names_of es)) ∙ or_left (has n between) (has n under) later in
+    (or_left (has n before) (has n (names_of es)) earlier, ap (λ (x : Environment). lookup x n) (sym w) ∙ not_written e es n (or_right (has n before) (has n (names_of es)) earlier) ∙ none n (or_right (has n between) (has n under) later))
 
 -- names that were not touched have the values under them
 pub all_touched : {S : Type 0} (e d : Environment) (m : IndexMap (String Global) (Option (String Global)) S) (names : List Text) → written_over e m.entries ≡ d → names ≡ names_of m.entries

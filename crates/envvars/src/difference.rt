@@ -72,18 +72,33 @@ pub(crate) fn changes_among<B: Vars, V: Vars>(
     changes_to(alloc, new, names.as_slice())
 }
 
-/// Appends the change of a variable to a value, or to none, where it has another value in `old`.
+/// Appends a change that gives its variable another value than it has in `old`.
 fn push_difference<B: Vars>(
     changes: &mut Vec<Change>,
     old: &B,
-    name: String,
-    value: Option<String>,
+    change: Change,
 ) -> Result<(), AllocError>
     ensures { OnOk result (new_values_in changes.new ≡ new_values_in changes.old
-        ++ filter (differs_from (B.vars old.now)) ((string_bytes name, option_map string_bytes value) ∷ [])) }
+        ++ filter (differs_from (B.vars old.now)) (new_value_of change ∷ [])) }
 {
+    let Change { name, value } = &change;
     if differs(old, name.as_str(), value.as_deref()) {
-        changes.push(Change { name, value })?;
+        changes.push(change)?;
+    }
+    Ok(())
+}
+
+/// Appends the changes to the values of a table's entries that aren't those in `old`.
+fn push_differences<B: Vars>(
+    changes: &mut Vec<Change>,
+    old: &B,
+    table: Table,
+) -> Result<(), AllocError>
+    ensures { OnOk result (new_values_in changes.new ≡ new_values_in changes.old
+        ++ filter (differs_from (B.vars old.now)) (new_values_of table.entries)) }
+{
+    for (name, value) in table {
+        push_difference(changes, old, Change { name, value })?;
     }
     Ok(())
 }
@@ -95,9 +110,7 @@ fn differences<B: Vars>(alloc: Global, old: &B, table: Table) -> Result<Vec<Chan
     ensures distinct { OnOk result (IsDistinct bytes_eq (names_of table.entries)) }
 {
     let mut changes = Vec::with_capacity(alloc, table.len())?;
-    for (name, value) in table {
-        push_difference(&mut changes, old, name, value)?;
-    }
+    push_differences(&mut changes, old, table)?;
     Ok(changes)
 }
 
@@ -129,9 +142,9 @@ fn names_of_both<'a>(alloc: Global, old: &'a Env, new: &'a Env) -> Result<Vec<&'
     ensures { IfOk result (λ v. (n : Text) → has n (slice_texts v.items) ≡ false
         → lookup old.entry.now n ≡ lookup new.entry.now n) }
 {
-    let mut names = old.names_in_table(alloc)?;
-    let more = new.names_in_table(alloc)?;
-    names.extend_from_slice(more.as_slice())?;
+    let mut names = Vec::new(alloc);
+    old.push_names(&mut names)?;
+    new.push_names(&mut names)?;
     Ok(names)
 }
 

@@ -12,7 +12,7 @@ use crate::change::Change;
 use crate::fault::EnvFault;
 use crate::fields::{owned, sorted_once};
 use crate::given::Given;
-use crate::table::{Table, found, make_changes, names_of, write_entry, write_value};
+use crate::table::{Table, found, make_changes, push_names_of, write_entry, write_value};
 use crate::vars::Vars;
 use indexmap::IndexMap;
 use std::alloc::{AllocError, Global};
@@ -142,21 +142,22 @@ impl Env {
         ensures ok { IfOk result (λ names. map string_bytes names.items ≡ finite.keys self.now) }
         ensures only { IfErr result (λ e. e ≡ OutOfMemory) }
     {
-        let mut names = self.names_in_table(self.alloc)?;
+        let mut names = Vec::new(self.alloc);
+        self.push_names(&mut names)?;
         keep_set(&mut names, self);
         let names = sorted_once(names);
         Ok(owned(self.alloc, names.as_slice())?)
     }
 
-    /// The names that were given or written: every variable that is set, and perhaps some that are unset; some may come
-    /// twice.
-    pub(crate) fn names_in_table(&self, alloc: Global) -> Result<Vec<&str>, AllocError>
-        ensures { IfOk result (λ v. (n : Text) → has n (slice_texts v.items) ≡ false → lookup self.now n ≡ None) }
+    /// Appends the names that were given or written: every variable that is set, and perhaps some that are unset; some
+    /// may come twice.
+    pub(crate) fn push_names<'a>(&'a self, names: &mut Vec<&'a str>) -> Result<(), AllocError>
+        ensures { OnOk result ((n : Text) → has n (slice_texts names.new.items) ≡ false
+            → (has n (slice_texts names.old.items) ≡ false) × (lookup self.entry.now n ≡ None)) }
     {
-        let mut names = names_of(alloc, &self.written)?;
-        let given = self.given.names(alloc)?;
-        names.extend_from_slice(given.as_slice())?;
-        Ok(names)
+        push_names_of(names, &self.written)?;
+        self.given.push_names(names)?;
+        Ok(())
     }
 }
 

@@ -1,6 +1,6 @@
 //! The variables that a process is given, each in its entry of the block that holds them all (environ(7)). Of thousands
 //! a request looks at ten, so that none is copied, and a value is read where somebody asks for it.
-ghost use Rattle.std.specs.Prelude.{◌≡◌, ◌<◌, ◌≤◌, ◌-◌, ◌&&◌, [], nat_lt, take, drop, length, IfOk, OnOk};
+ghost use Rattle.std.specs.Prelude.{◌≡◌, ◌<◌, ◌≤◌, ◌-◌, ◌++◌, ◌&&◌, [], nat_lt, take, drop, length, IfOk, OnOk};
 ghost use Rattle.std.specs.Option.{option_map};
 ghost use Rattle.std.specs.Str.{is_utf8};
 ghost use Rattle.std.specs.FinMap as finite;
@@ -246,17 +246,17 @@ impl Given {
         })
     }
 
-    /// The names of the entries: every variable that is set, and perhaps some that are unset.
-    pub(crate) fn names(&self, alloc: Global) -> Result<Vec<&str>, AllocError>
+    /// Appends the names of the entries: every variable that is set, and perhaps some that are unset.
+    pub(crate) fn push_names<'a>(&'a self, names: &mut Vec<&'a str>) -> Result<(), AllocError>
         requires { IsChained self.now }
-        ensures { IfOk result (λ v. slice_texts v.items ≡ names_of self.now) }
+        ensures { OnOk result (slice_texts names.new.items
+            ≡ slice_texts names.old.items ++ names_of self.entry.now) }
     {
-        let mut names = Vec::new(alloc);
         for entry in &self.entries {
             if let Some(name) = text_of(name_in(self.block.as_slice(), *entry)) {
                 names.push(name)?;
             }
         }
-        Ok(names)
+        Ok(())
     }
 }

@@ -1,6 +1,6 @@
 //! A table of names, each with the value that it was given, or with none where it was unset: the variables of an
 //! environment, and the edits of a working one.
-ghost use Rattle.std.specs.Prelude.{◌≡◌, ◌+◌, ◌<◌, ◌≤◌, ◌++◌, map, Some, OnOk, OnErr, IfOk, string_bytes, bytes_eq, vec_len, if◌then◌else◌};
+ghost use Rattle.std.specs.Prelude.{◌≡◌, ◌+◌, ◌<◌, ◌≤◌, ◌++◌, map, Some, OnOk, OnErr, string_bytes, bytes_eq, vec_len, if◌then◌else◌};
 ghost use Rattle.std.specs.Option.{option_map};
 ghost use Rattle.indexmap.specs.IndexMap.{spare};
 ghost use Rattle.envvars.specs.Texts.{Text, slice_texts};
@@ -31,15 +31,19 @@ pub(crate) fn found<'a>(table: &'a Table, name: &str) -> Option<Option<&'a str>>
     }
 }
 
-/// The names in the table.
-pub(crate) fn names_of(alloc: Global, table: &Table) -> Result<Vec<&str>, AllocError>
-    ensures { IfOk result (λ v. slice_texts v.items ≡ names_of table.now.entries) }
+/// Appends the names in the table.
+pub(crate) fn push_names_of<'a>(
+    names: &mut Vec<&'a str>,
+    table: &'a Table,
+) -> Result<(), AllocError>
+    ensures { OnOk result (slice_texts names.new.items
+        ≡ slice_texts names.old.items ++ names_of table.entry.now.entries) }
 {
-    let mut names = Vec::with_capacity(alloc, table.len())?;
+    names.reserve(table.len())?;
     for (name, _) in table {
         names.push(name.as_str())?;
     }
-    Ok(names)
+    Ok(())
 }
 
 /// Enters a name with a value or with none, in place of its older entry. The name is copied where it has none.
