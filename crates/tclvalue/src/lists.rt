@@ -15,11 +15,7 @@ use tcloperators::{ValueFault, write_list};
 fn slices(alloc: Global, texts: &[String]) -> Result<Vec<&str>, AllocError>
     ensures { IfOk result (λ v. map (λ s. s.now) v.items ≡ map string_bytes texts.entry.now) }
 {
-    let mut slices = Vec::new(alloc);
-    for text in texts {
-        slices.push(text.as_str())?;
-    }
-    Ok(slices)
+    texts.iter().map(|text| text.as_str()).collect(alloc)
 }
 
 /// The text of the list with these elements, as list(n) writes it.
