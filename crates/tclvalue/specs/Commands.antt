@@ -153,14 +153,21 @@ abbrev pub llength_command : ValueFunction
 llength_command (l ∷ []) = elements_of l >>= (λ es. Ok (decimal (length es)))
 llength_command words = wrong_number (codes "llength")
 
+-- the element at the index that a word spells
+abbrev pub element_text : Text → List Text → Answer Text
+element_text i es = index_of i >>= (λ i. Ok (element_at i es))
+
 abbrev pub lindex_command : ValueFunction
 lindex_command (l ∷ []) = Ok l
-lindex_command (l ∷ i ∷ []) = elements_of l >>= (λ es. index_of i >>= (λ i. Ok (element_at i es)))
+lindex_command (l ∷ i ∷ []) = elements_of l >>= (λ es. element_text i es)
 lindex_command words = wrong_number (codes "lindex")
 
+-- the list of the elements from one index to another, which two words spell
+abbrev pub range_text : Text → Text → List Text → Answer Text
+range_text i j es = index_of i >>= (λ i. index_of j >>= (λ j. Ok (list_text (elements_between i j es))))
+
 abbrev pub lrange_command : ValueFunction
-lrange_command (l ∷ i ∷ j ∷ []) =
-    elements_of l >>= (λ es. index_of i >>= (λ i. index_of j >>= (λ j. Ok (list_text (elements_between i j es)))))
+lrange_command (l ∷ i ∷ j ∷ []) = elements_of l >>= (λ es. range_text i j es)
 lrange_command words = wrong_number (codes "lrange")
 
 abbrev pub split_command : ValueFunction

@@ -1,7 +1,7 @@
 //! The commands on lists (list(n), llength(n), lindex(n), lrange(n), split(n), join(n), concat(n)).
-ghost use Rattle.std.specs.Prelude.{◌≡◌, map, string_bytes};
-ghost use Rattle.tclvalue.specs.Commands.{llength_command, lindex_command, lrange_command, split_command, join_command};
-ghost use Rattle.tclvalue.specs.Commands.{element_at, elements_between};
+ghost use Rattle.std.specs.Prelude.{◌≡◌, ◌∷◌, [], Ok, decimal, length, map, string_bytes};
+ghost use Rattle.tclvalue.specs.Commands.{list_command, llength_command, lindex_command, lrange_command, split_command, join_command};
+ghost use Rattle.tclvalue.specs.Commands.{element_at, element_text, elements_between, range_text};
 ghost use Rattle.tclvalue.specs.Growing.{GivesWithin};
 ghost use Rattle.tclvalue.specs.Views.{command_view, index_view};
 
@@ -25,7 +25,7 @@ pub(crate) fn value_of(
     ensures { GivesWithin limit result (command_view command (map string_bytes words.now)) }
 {
     match command {
-        ValueCommand::List => limited(list_text(alloc, words)?, limit),
+        ValueCommand::List => limited_list(alloc, words, limit),
         ValueCommand::Llength => llength_value(alloc, words, limit),
         ValueCommand::Lindex => lindex_value(alloc, words, limit),
         ValueCommand::Lrange => lrange_value(alloc, words, limit),
@@ -39,12 +39,26 @@ pub(crate) fn value_of(
     }
 }
 
+/// The text of the list with these elements, within the limit.
+fn limited_list(alloc: Global, elements: &[String], limit: usize) -> Result<String, ValueFault>
+    ensures { GivesWithin limit result (list_command (map string_bytes elements.now)) }
+{
+    limited(list_text(alloc, elements)?, limit)
+}
+
+/// How many elements there are, as a text.
+fn count_text(alloc: Global, elements: &[String], limit: usize) -> Result<String, ValueFault>
+    ensures { GivesWithin limit result (Ok (decimal (length (map string_bytes elements.now)))) }
+{
+    limited(elements.len().to_string(alloc)?, limit)
+}
+
 /// `llength list`
 fn llength_value(alloc: Global, words: &[String], limit: usize) -> Result<String, ValueFault>
     ensures { GivesWithin limit result (llength_command (map string_bytes words.now)) }
 {
     match words {
-        [list] => limited(elements(alloc, list)?.len().to_string(alloc)?, limit),
+        [list] => count_text(alloc, &elements(alloc, list)?, limit),
         _ => Err(wrong_words(alloc, "llength")),
     }
 }
@@ -55,16 +69,22 @@ fn lindex_value(alloc: Global, words: &[String], limit: usize) -> Result<String,
 {
     match words {
         [list] => limited(list.clone()?, limit),
-        [list, index] => {
-            let elements = elements(alloc, list)?;
-            let index = index_of(alloc, index)?;
-            limited(
-                String::from_str(alloc, element_at(&elements, index))?,
-                limit,
-            )
-        }
+        [list, index] => element_text(alloc, &elements(alloc, list)?, index, limit),
         _ => Err(wrong_words(alloc, "lindex")),
     }
+}
+
+/// The element at the index that a word spells, or the empty text outside of the list.
+fn element_text(
+    alloc: Global,
+    elements: &[String],
+    index: &str,
+    limit: usize,
+) -> Result<String, ValueFault>
+    ensures { GivesWithin limit result (element_text index.now (map string_bytes elements.now)) }
+{
+    let index = index_of(alloc, index)?;
+    limited(String::from_str(alloc, element_at(elements, index))?, limit)
 }
 
 /// The element at an index, or the empty text outside of the list.
@@ -83,15 +103,24 @@ fn lrange_value(alloc: Global, words: &[String], limit: usize) -> Result<String,
     ensures { GivesWithin limit result (lrange_command (map string_bytes words.now)) }
 {
     match words {
-        [list, first, last] => {
-            let elements = elements(alloc, list)?;
-            let first = index_of(alloc, first)?;
-            let last = index_of(alloc, last)?;
-            let range = elements_between(&elements, first, last);
-            limited(list_text(alloc, range)?, limit)
-        }
+        [list, first, last] => range_text(alloc, &elements(alloc, list)?, first, last, limit),
         _ => Err(wrong_words(alloc, "lrange")),
     }
+}
+
+/// The list of the elements from one index to another, which two words spell.
+fn range_text(
+    alloc: Global,
+    elements: &[String],
+    first: &str,
+    last: &str,
+    limit: usize,
+) -> Result<String, ValueFault>
+    ensures { GivesWithin limit result (range_text first.now last.now (map string_bytes elements.now)) }
+{
+    let first = index_of(alloc, first)?;
+    let last = index_of(alloc, last)?;
+    limited_list(alloc, elements_between(elements, first, last), limit)
 }
 
 /// The elements from one index to another, both included, as far as there are such elements.
@@ -108,8 +137,8 @@ fn split_value(alloc: Global, words: &[String], limit: usize) -> Result<String, 
     ensures { GivesWithin limit result (split_command (map string_bytes words.now)) }
 {
     match words {
-        [text] => limited(list_text(alloc, &parts_at_space(alloc, text)?)?, limit),
-        [text, set] => limited(list_text(alloc, &parts(alloc, set, text)?)?, limit),
+        [text] => limited_list(alloc, &parts_at_space(alloc, text)?, limit),
+        [text, set] => limited_list(alloc, &parts(alloc, set, text)?, limit),
         _ => Err(wrong_words(alloc, "split")),
     }
 }
@@ -119,8 +148,20 @@ fn join_value(alloc: Global, words: &[String], limit: usize) -> Result<String, V
     ensures { GivesWithin limit result (join_command (map string_bytes words.now)) }
 {
     match words {
-        [list] => joined(alloc, " ", &elements(alloc, list)?, limit),
-        [list, separator] => joined(alloc, separator, &elements(alloc, list)?, limit),
+        [list] => joined_elements(alloc, " ", list, limit),
+        [list, separator] => joined_elements(alloc, separator, list, limit),
         _ => Err(wrong_words(alloc, "join")),
     }
+}
+
+/// The elements of a list with a separator between them.
+fn joined_elements(
+    alloc: Global,
+    separator: &str,
+    list: &str,
+    limit: usize,
+) -> Result<String, ValueFault>
+    ensures { GivesWithin limit result (join_command (list.now ∷ separator.now ∷ [])) }
+{
+    joined(alloc, separator, &elements(alloc, list)?, limit)
 }
