@@ -21,6 +21,21 @@ fn again_text(disk: &mut DiskTree<HostRuntime>, path: &str) -> &'static str {
     }
 }
 
+/// The answer to `file`, `folder`, `begins` or `again` about a path.
+fn answer_at(
+    alloc: Global,
+    disk: &mut DiskTree<HostRuntime>,
+    kind: &str,
+    path: &str,
+) -> Result<String, AllocError> {
+    match kind {
+        "file" => file_text(alloc, disk.read(path)),
+        "folder" => folder_text(alloc, disk.entries(path)),
+        "begins" => begins_text(alloc, disk.begins_with(path, b"#%")),
+        _ => String::from_str(alloc, again_text(disk, path)),
+    }
+}
+
 /// The answer to `file`, `folder`, `begins` or `again`.
 pub(crate) fn answer(
     alloc: Global,
@@ -28,11 +43,5 @@ pub(crate) fn answer(
     line: &str,
 ) -> Result<String, AllocError> {
     let (kind, path) = first_word(line);
-    let path = meant(alloc, b'\\', path)?;
-    match kind {
-        "file" => file_text(alloc, disk.read(&path)),
-        "folder" => folder_text(alloc, disk.entries(&path)),
-        "begins" => begins_text(alloc, disk.begins_with(&path, b"#%")),
-        _ => String::from_str(alloc, again_text(disk, &path)),
-    }
+    answer_at(alloc, disk, kind, &meant(alloc, b'\\', path)?)
 }

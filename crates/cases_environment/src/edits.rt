@@ -8,6 +8,30 @@ use envstate::{
 };
 use std::alloc::{AllocError, Global};
 
+/// The end of a path variable at which an edit adds; None where it removes.
+fn end_of(edit: &str) -> Option<End> {
+    match edit {
+        "prepend" => Some(End::Front),
+        "append" => Some(End::Back),
+        _ => None,
+    }
+}
+
+/// Adds elements to a path variable, or removes them.
+fn edit_elements<V: Vars>(
+    alloc: Global,
+    vars: &mut V,
+    edit: &str,
+    delimiter: char,
+    name: &str,
+    elements: &[&str],
+) -> Result<(), EnvFault> {
+    match end_of(edit) {
+        Some(end) => add_path(alloc, vars, name, delimiter, elements, end),
+        None => drop_path(alloc, vars, name, delimiter, elements),
+    }
+}
+
 /// An edit of a path variable by elements.
 fn edit_path<V: Vars>(
     alloc: Global,
@@ -16,22 +40,25 @@ fn edit_path<V: Vars>(
     delimiter: char,
     words: &[String],
 ) -> Result<(), EnvFault> {
-    let Some((name, elements)) = words.split_first() else {
-        return Ok(());
-    };
-    let elements = slices(alloc, elements)?;
-    match edit {
-        "prepend" => add_path(alloc, vars, name, delimiter, &elements, End::Front),
-        "append" => add_path(alloc, vars, name, delimiter, &elements, End::Back),
-        _ => drop_path(alloc, vars, name, delimiter, &elements),
+    match words.split_first() {
+        Some((name, elements)) => {
+            let elements = slices(alloc, elements)?;
+            edit_elements(alloc, vars, edit, delimiter, name, &elements)
+        }
+        None => Ok(()),
     }
+}
+
+/// The first character of a word, and a blank of an empty one.
+fn first_character(word: &str) -> char {
+    word.chars().next().unwrap_or(' ')
 }
 
 /// The delimiter of `--delim C` before the name of a variable, and the words after it.
 fn delimited(words: &[String]) -> (char, &[String]) {
     match words {
         [option, delimiter, words @ ..] if option.as_str() == "--delim" => {
-            (delimiter.chars().next().unwrap_or(' '), words)
+            (first_character(delimiter), words)
         }
         words => (':', words),
     }
@@ -65,6 +92,35 @@ fn apply<V: Vars>(alloc: Global, vars: &mut V, words: &[String]) -> Result<(), E
     vars.apply(changes_of(alloc, words)?)
 }
 
+/// Unsets a variable, or drops a module from the loaded list.
+fn edit_named<V: Vars>(
+    alloc: Global,
+    vars: &mut V,
+    edit: &str,
+    name: &str,
+) -> Result<(), EnvFault> {
+    match edit {
+        "unset" => vars.unset(name),
+        "unload" => drop_loaded(alloc, vars, name),
+        _ => Ok(()),
+    }
+}
+
+/// Sets a variable to a value, or pops the value that an owner pushed.
+fn edit_by<V: Vars>(
+    alloc: Global,
+    vars: &mut V,
+    edit: &str,
+    name: &str,
+    word: &str,
+) -> Result<(), EnvFault> {
+    match edit {
+        "set" => vars.set(name, word),
+        "pop" => pop_value(alloc, vars, name, word),
+        _ => Ok(()),
+    }
+}
+
 /// Makes an edit of one variable or of the loaded list.
 fn edit_one<V: Vars>(
     alloc: Global,
@@ -72,12 +128,10 @@ fn edit_one<V: Vars>(
     edit: &str,
     words: &[String],
 ) -> Result<(), EnvFault> {
-    match (edit, words) {
-        ("set", [name, value]) => vars.set(name, value),
-        ("unset", [name]) => vars.unset(name),
-        ("push", [name, owner, value]) => push_value(alloc, vars, name, owner, value),
-        ("pop", [name, owner]) => pop_value(alloc, vars, name, owner),
-        ("unload", [name]) => drop_loaded(alloc, vars, name),
+    match words {
+        [name] => edit_named(alloc, vars, edit, name),
+        [name, word] => edit_by(alloc, vars, edit, name, word),
+        [name, owner, value] if edit == "push" => push_value(alloc, vars, name, owner, value),
         _ => Ok(()),
     }
 }

@@ -15,12 +15,20 @@ fn value_text(alloc: Global, entries: &[u8], name: &str) -> Result<String, Alloc
     }
 }
 
+/// Whether this is the PATH that this process has.
+fn is_own_path(rt: &HostRuntime, given: &str) -> bool {
+    match env::var(rt, "PATH") {
+        Ok(path) => path.as_str() == given,
+        Err(_) => false,
+    }
+}
+
 /// Whether this process is given the PATH that it has.
 fn has_own_path(rt: &HostRuntime) -> Result<bool, AllocError> {
     let given = starved(environment_of(rt.alloc(), &environment_block(rt)?))?;
-    Ok(match (given.get("PATH"), env::var(rt, "PATH")) {
-        (Some(taken), Ok(path)) => taken == path.as_str(),
-        _ => false,
+    Ok(match given.get("PATH") {
+        Some(path) => is_own_path(rt, path),
+        None => false,
     })
 }
 

@@ -33,12 +33,22 @@ fn answer_line(
     println!(rt; "{line}: {answer}")
 }
 
+/// Answers lines about a disk, a tree in memory and a process.
+fn answer_lines(
+    rt: &HostRuntime,
+    disk: &mut DiskTree<HostRuntime>,
+    memory: &mut MemoryTree,
+    lines: &[String],
+) -> io::Result<()> {
+    for line in lines {
+        answer_line(rt, disk, memory, line)?;
+    }
+    Ok(())
+}
+
 /// Answers lines, each shown before its answer.
 pub(crate) fn answer(rt: &HostRuntime, lines: &[String]) -> io::Result<()> {
     let mut disk = DiskTree::new(rt.clone()?);
     let mut memory = MemoryTree::new(rt.alloc());
-    for line in lines {
-        answer_line(rt, &mut disk, &mut memory, line)?;
-    }
-    Ok(())
+    answer_lines(rt, &mut disk, &mut memory, lines)
 }

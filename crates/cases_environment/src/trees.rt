@@ -27,14 +27,19 @@ pub(crate) fn begins_text(
     }
 }
 
-/// Each name in brackets, in the order of their bytes.
-fn names_text(alloc: Global, mut names: Vec<String>) -> Result<String, AllocError> {
-    names.sort()?;
+/// Each name in brackets.
+fn bracketed(alloc: Global, names: &[String]) -> Result<String, AllocError> {
     let mut text = String::new(alloc);
-    for name in &names {
+    for name in names {
         push_all(&mut text, &["[", name, "]"])?;
     }
     Ok(text)
+}
+
+/// Each name in brackets, in the order of their bytes.
+fn names_text(alloc: Global, mut names: Vec<String>) -> Result<String, AllocError> {
+    names.sort()?;
+    bracketed(alloc, &names)
 }
 
 /// What was listed.

@@ -36,17 +36,35 @@ fn start(alloc: Global, calls: &[String]) -> Result<Env, EnvFault> {
     Ok(env)
 }
 
+/// No answer, where an edit was made.
+fn edited<V: Vars>(
+    alloc: Global,
+    vars: &mut V,
+    words: &[String],
+) -> Result<Option<String>, EnvFault> {
+    edit(alloc, vars, words)?;
+    Ok(None)
+}
+
 /// The answer to a query; None for an edit that was made.
 fn answered<V: Vars>(
     alloc: Global,
     vars: &mut V,
     words: &[String],
 ) -> Result<Option<String>, EnvFault> {
-    if let Some(answer) = answer_query(alloc, vars, words) {
-        return Ok(Some(answer?));
+    match answer_query(alloc, vars, words) {
+        Some(answer) => answer.map(Some),
+        None => edited(alloc, vars, words),
     }
-    edit(alloc, vars, words)?;
-    Ok(None)
+}
+
+/// The number of a refusal after `!`. Memory alone is a fault.
+fn refusal(alloc: Global, fault: EnvFault) -> Result<Option<String>, EnvFault> {
+    if let EnvFault::OutOfMemory = fault {
+        return Err(fault);
+    }
+    let number = fault.number();
+    Ok(Some(format!(in alloc; "!{number}")?))
 }
 
 /// The same, with `!NUMBER` for a refusal. Memory alone is a fault.
@@ -57,8 +75,7 @@ fn made<V: Vars>(
 ) -> Result<Option<String>, EnvFault> {
     match answered(alloc, vars, words) {
         Ok(answer) => Ok(answer),
-        Err(EnvFault::OutOfMemory) => Err(EnvFault::OutOfMemory),
-        Err(fault) => Ok(Some(format!(in alloc; "!{}", fault.number())?)),
+        Err(fault) => refusal(alloc, fault),
     }
 }
 
@@ -76,17 +93,35 @@ fn unless_lost(
     }
 }
 
-/// Whether the call was an edit that was made, and its answer: of an edit the variables after it. Any other answer
+/// Whether a call was an edit that was made, and its answer: of an edit the variables after it. Any other answer
 /// changes none.
+fn judged(
+    alloc: Global,
+    before: &str,
+    made: Result<Option<String>, EnvFault>,
+    after: String,
+) -> Result<(bool, String), EnvFault> {
+    match made {
+        Ok(None) => Ok((true, after)),
+        made => Ok((false, unless_lost(alloc, after.as_str() != before, made)?)),
+    }
+}
+
+/// Makes a call over these variables; whether it was an edit that was made, and its answer.
+fn called(
+    alloc: Global,
+    env: &mut Env,
+    words: &[String],
+    before: String,
+) -> Result<(bool, String), EnvFault> {
+    let made = made(alloc, env, words);
+    judged(alloc, &before, made, shown(alloc, env)?)
+}
+
+/// Makes a call that may change the variables; whether it was an edit that was made, and its answer.
 fn changed(alloc: Global, env: &mut Env, words: &[String]) -> Result<(bool, String), EnvFault> {
     let before = shown(alloc, env)?;
-    let made = made(alloc, env, words);
-    let after = shown(alloc, env)?;
-    if let Ok(None) = made {
-        return Ok((true, after));
-    }
-    let answer = unless_lost(alloc, after != before, made)?;
-    Ok((false, answer))
+    called(alloc, env, words, before)
 }
 
 /// An environment, and a working one over the same start.
@@ -127,12 +162,26 @@ fn answer_to(alloc: Global, both: &mut Both<'_>, call: &str) -> Result<String, E
     agreed(alloc, answer, is_same)
 }
 
+/// What an environment says to have changed.
+fn changes_between(alloc: Global, old: &Env, env: &Env) -> Result<String, EnvFault> {
+    Ok(listed(alloc, &changes(alloc, old, env)?)?)
+}
+
+/// What a working environment says to have changed.
+fn changes_in(alloc: Global, working: Working<'_>) -> Result<String, EnvFault> {
+    Ok(listed(alloc, &working.into_changes()?)?)
+}
+
+/// What has changed, where a working environment says the same.
+fn agreed_changes(alloc: Global, found: String, working: Working<'_>) -> Result<String, EnvFault> {
+    let is_same = changes_in(alloc, working)? == found;
+    agreed(alloc, found, is_same)
+}
+
 /// What has changed, where both environments say the same.
 fn differences(alloc: Global, old: &Env, both: Both<'_>) -> Result<String, EnvFault> {
-    let found = listed(alloc, &changes(alloc, old, &both.env)?)?;
-    let working = listed(alloc, &both.working.into_changes()?)?;
-    let is_same = working == found;
-    agreed(alloc, found, is_same)
+    let Both { env, working } = both;
+    agreed_changes(alloc, changes_between(alloc, old, &env)?, working)
 }
 
 /// Prints a call and its answer.
