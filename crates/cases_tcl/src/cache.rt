@@ -2,6 +2,7 @@
 //! `s=TEXT`, an expression as `e=TEXT`. The answer is `cached` and the index of each text in its list, `-` for a text
 //! that isn't cached.
 use crate::escapes::text_of;
+use crate::lines::Line;
 use crate::scripts::{LIMITS, recorder};
 use std::alloc::Global;
 use tclcache::Cache;
@@ -24,17 +25,17 @@ fn index(cache: &mut Cache, kind: &str, text: &str) -> Option<Option<usize>> {
 }
 
 /// Adds the index of the text of a word, or `-`.
-fn push_index(alloc: Global, line: &mut String, cache: &mut Cache, word: &str) -> Option<()> {
+fn push_index(alloc: Global, line: &mut Line, cache: &mut Cache, word: &str) -> Option<()> {
     let (kind, written) = word.split_once('=')?;
-    let text = text_of(alloc, written).ok()?;
-    match index(cache, kind, &text)? {
-        Some(index) => line.push_str(&format!(in alloc; " {index}").ok()?).ok(),
-        None => line.push_str(" -").ok(),
+    match index(cache, kind, &text_of(alloc, written)?)? {
+        Some(index) => line.push_made(format!(in alloc; " {index}")),
+        None => line.push_str(" -"),
     }
+    Some(())
 }
 
 /// Adds the index of each text; None where one of the words isn't a text.
-fn push_indexes(alloc: Global, line: &mut String, cache: &mut Cache, words: &str) -> Option<()> {
+fn push_indexes(alloc: Global, line: &mut Line, cache: &mut Cache, words: &str) -> Option<()> {
     for word in words.split(' ') {
         push_index(alloc, line, cache, word)?;
     }
@@ -44,7 +45,7 @@ fn push_indexes(alloc: Global, line: &mut String, cache: &mut Cache, words: &str
 /// Adds the indexes of texts in the cache after the evaluation of a script; None where that is refused.
 fn push_cached(
     alloc: Global,
-    line: &mut String,
+    line: &mut Line,
     words: &str,
     script: &str,
     host: Recorder,
@@ -57,11 +58,17 @@ fn push_cached(
     }
 }
 
+/// The indexes of texts in the cache after the evaluation of a script; None where that is refused.
+fn cached(alloc: Global, words: &str, script: &str, host: Recorder) -> Option<String> {
+    let mut line = Line::new(alloc);
+    line.push_str("cached");
+    push_cached(alloc, &mut line, words, script, host)?;
+    line.finish()
+}
+
 /// The answer to `cached`: the indexes of texts in the cache after an evaluation.
 pub(crate) fn answer(alloc: Global, rest: &str) -> Option<String> {
     let (words, script) = rest.split_once(": ")?;
-    let script = text_of(alloc, script).ok()?;
-    let mut line = String::from_str(alloc, "cached").ok()?;
-    push_cached(alloc, &mut line, words, &script, recorder(alloc).ok()?)?;
-    Some(line)
+    let script = text_of(alloc, script)?;
+    cached(alloc, words, &script, recorder(alloc).ok()?)
 }

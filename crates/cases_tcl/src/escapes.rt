@@ -1,6 +1,7 @@
 //! Texts that stand in a line as they are, but for a backslash, which is doubled, and `\n`, `\t`, `\r`, `\|` for a
 //! newline, a tab, a carriage return and a bar. `\s` is a blank; any other character after a backslash is itself. The
 //! empty text is `-`.
+use crate::lines::Line;
 use std::alloc::{AllocError, Global};
 
 /// The character that this one means after a backslash.
@@ -14,28 +15,32 @@ fn meant(escape: char) -> char {
     }
 }
 
-/// The text that is written so.
-pub(crate) fn text_of(alloc: Global, written: &str) -> Result<String, AllocError> {
-    let mut text = String::new(alloc);
-    if written == "-" {
-        return Ok(text);
-    }
+/// Adds what is written so.
+fn push_meant(text: &mut Line, written: &str) {
     let mut escaped = false;
     for character in written.chars() {
         if escaped {
-            text.push(meant(character))?;
+            text.push(meant(character));
             escaped = false;
         } else if character == '\\' {
             escaped = true;
         } else {
-            text.push(character)?;
+            text.push(character);
         }
     }
-    Ok(text)
+}
+
+/// The text that is written so; None where memory ran out.
+pub(crate) fn text_of(alloc: Global, written: &str) -> Option<String> {
+    let mut text = Line::new(alloc);
+    if written != "-" {
+        push_meant(&mut text, written);
+    }
+    text.finish()
 }
 
 /// Adds a character as it is written in a line.
-fn push_character(line: &mut String, character: char) -> Result<(), AllocError> {
+fn push_character(line: &mut Line, character: char) {
     match character {
         '\\' => line.push_str("\\\\"),
         '\n' => line.push_str("\\n"),
@@ -46,15 +51,26 @@ fn push_character(line: &mut String, character: char) -> Result<(), AllocError> 
     }
 }
 
-/// Adds a text as it is written in a line.
-pub(crate) fn push_text(line: &mut String, text: &str) -> Result<(), AllocError> {
-    match text {
-        "" => return line.push('-'),
-        "-" => return line.push_str("\\-"),
-        _ => {}
-    }
+/// Adds the characters of a text as they are written in a line.
+fn push_characters(line: &mut Line, text: &str) {
     for character in text.chars() {
-        push_character(line, character)?;
+        push_character(line, character);
     }
-    Ok(())
+}
+
+/// Adds a text as it is written in a line.
+pub(crate) fn push_text(line: &mut Line, text: &str) {
+    match text {
+        "" => line.push('-'),
+        "-" => line.push_str("\\-"),
+        _ => push_characters(line, text),
+    }
+}
+
+/// Adds a text that was made for this line, as it is written in one.
+pub(crate) fn push_made_text(line: &mut Line, made: Result<String, AllocError>) {
+    match made {
+        Ok(text) => push_text(line, &text),
+        Err(fault) => line.note(Err(fault)),
+    }
 }

@@ -20,6 +20,7 @@ mod cache;
 mod commands;
 mod digits;
 mod escapes;
+mod lines;
 mod scripts;
 mod texts;
 mod trees;

@@ -7,7 +7,8 @@
 //! counted, or `err NUMBER LINE MESSAGE` with the line of an error, and 0 for that of another fault; `var NAME=VALUE`
 //! for each global variable where the script ended; `message TEXT` for each message; `record WORDS` for each record, with
 //! bars between its words; and `asked`, where a question was asked.
-use crate::escapes::{push_text, text_of};
+use crate::escapes::{push_made_text, push_text, text_of};
+use crate::lines::Line;
 use std::alloc::{AllocError, Global};
 use tcleval::evaluate;
 use tclrules::{Ending, EvalFault, Limits, Recorder};
@@ -44,8 +45,8 @@ pub(crate) fn recorder(alloc: Global) -> Result<Recorder, AllocError> {
 }
 
 /// A name and a value, as they are meant.
-fn pair(alloc: Global, name: &str, value: &str) -> Result<(String, String), AllocError> {
-    Ok((text_of(alloc, name)?, text_of(alloc, value)?))
+fn pair(alloc: Global, name: &str, value: &str) -> Option<(String, String)> {
+    Some((text_of(alloc, name)?, text_of(alloc, value)?))
 }
 
 /// Adds a name and a value, as they are meant; None where memory ran out.
@@ -55,8 +56,7 @@ fn push_pair(
     name: &str,
     value: &str,
 ) -> Option<()> {
-    let pair = pair(alloc, name, value).ok()?;
-    pairs.push(pair).ok()
+    pairs.push(pair(alloc, name, value)?).ok()
 }
 
 /// Sets a variable of the environment or of the script; None where the key names neither.
@@ -68,17 +68,30 @@ fn set_variable(alloc: Global, setting: &mut Setting, key: &str, value: &str) ->
     }
 }
 
+/// Sets a limit; None where the value is no number for it.
+fn set_limit(limits: &mut Limits, key: &str, value: &str) -> Option<()> {
+    match key {
+        "commands" => limits.commands = value.parse::<u64>().ok()?,
+        "depth" => limits.depth = value.parse::<u32>().ok()?,
+        _ => limits.value_bytes = value.parse::<usize>().ok()?,
+    }
+    Some(())
+}
+
+/// Sets what `mode` answers.
+fn set_mode(alloc: Global, host: &mut Recorder, value: &str) -> Option<()> {
+    host.mode = text_of(alloc, value)?;
+    Some(())
+}
+
 /// Takes up one setting; None where it is none.
 fn set(alloc: Global, setting: &mut Setting, word: &str) -> Option<()> {
     let (key, value) = word.split_once('=')?;
     match key {
-        "commands" => setting.limits.commands = value.parse::<u64>().ok()?,
-        "depth" => setting.limits.depth = value.parse::<u32>().ok()?,
-        "bytes" => setting.limits.value_bytes = value.parse::<usize>().ok()?,
-        "mode" => setting.host.mode = text_of(alloc, value).ok()?,
-        _ => set_variable(alloc, setting, key, value)?,
+        "commands" | "depth" | "bytes" => set_limit(&mut setting.limits, key, value),
+        "mode" => set_mode(alloc, &mut setting.host, value),
+        _ => set_variable(alloc, setting, key, value),
     }
-    Some(())
 }
 
 /// Takes up the settings of the words; None where one of them is none.
@@ -104,117 +117,116 @@ fn setting_of(alloc: Global, words: &str) -> Option<Setting> {
 }
 
 /// Adds the count, the result and the global variables of a script that ended.
-fn push_ending(alloc: Global, line: &mut String, ending: &Ending) -> Result<(), AllocError> {
+fn push_ending(alloc: Global, line: &mut Line, ending: &Ending) {
     let count = ending.used_commands;
-    line.push_str(&format!(in alloc; "ok {count} ")?)?;
-    push_text(line, &ending.result)?;
+    line.push_made(format!(in alloc; "ok {count} "));
+    push_text(line, &ending.result);
     for (name, value) in &ending.globals {
-        push_variable(line, name, value)?;
+        push_variable(line, name, value);
     }
-    Ok(())
 }
 
 /// Adds a global variable.
-fn push_variable(line: &mut String, name: &str, value: &str) -> Result<(), AllocError> {
-    line.push_str("\tvar ")?;
-    push_text(line, name)?;
-    line.push('=')?;
-    push_text(line, value)
+fn push_variable(line: &mut Line, name: &str, value: &str) {
+    line.push_str("\tvar ");
+    push_text(line, name);
+    line.push('=');
+    push_text(line, value);
 }
 
 /// Adds a fault: its number, its line and its message.
-fn push_fault(alloc: Global, line: &mut String, fault: &EvalFault) -> Result<(), AllocError> {
+fn push_fault(alloc: Global, line: &mut Line, fault: &EvalFault) {
     let number = fault.number();
-    let line_number = match fault {
-        EvalFault::TclError(_, line_number) => *line_number,
-        _ => 0,
-    };
-    line.push_str(&format!(in alloc; "err {number} {line_number} ")?)?;
     match fault {
-        EvalFault::TclError(message, _) => push_text(line, message),
-        _ => push_text(line, &fault.to_string(alloc)?),
+        EvalFault::TclError(message, line_number) => {
+            line.push_made(format!(in alloc; "err {number} {line_number} "));
+            push_text(line, message);
+        }
+        _ => {
+            line.push_made(format!(in alloc; "err {number} 0 "));
+            push_made_text(line, fault.to_string(alloc));
+        }
     }
 }
 
 /// Adds the words of a record.
-fn push_record(line: &mut String, record: &[String]) -> Result<(), AllocError> {
-    line.push_str("\trecord ")?;
+fn push_record(line: &mut Line, record: &[String]) {
+    line.push_str("\trecord ");
     for (index, word) in record.iter().enumerate() {
         if index > 0 {
-            line.push('|')?;
+            line.push('|');
         }
-        push_text(line, word)?;
+        push_text(line, word);
     }
-    Ok(())
 }
 
 /// Adds messages.
-fn push_messages(line: &mut String, messages: &[String]) -> Result<(), AllocError> {
+fn push_messages(line: &mut Line, messages: &[String]) {
     for message in messages {
-        line.push_str("\tmessage ")?;
-        push_text(line, message)?;
+        line.push_str("\tmessage ");
+        push_text(line, message);
     }
-    Ok(())
 }
 
 /// Adds records.
-fn push_records(line: &mut String, records: &[Vec<String>]) -> Result<(), AllocError> {
+fn push_records(line: &mut Line, records: &[Vec<String>]) {
     for record in records {
-        push_record(line, record)?;
+        push_record(line, record);
     }
-    Ok(())
 }
 
 /// Adds the result of a script or its fault, the messages and records of its host, and the host's mark.
 fn push_shown(
     alloc: Global,
-    line: &mut String,
+    line: &mut Line,
     outcome: &Result<Ending, EvalFault>,
     host: &Recorder,
-) -> Result<(), AllocError> {
-    push_outcome(alloc, line, outcome)?;
-    push_messages(line, &host.messages)?;
-    push_records(line, &host.records)?;
+) {
+    push_outcome(alloc, line, outcome);
+    push_messages(line, &host.messages);
+    push_records(line, &host.records);
     if host.asked {
-        line.push_str("\tasked")?;
+        line.push_str("\tasked");
     }
-    Ok(())
 }
 
 /// Adds the result of a script, or its fault.
-fn push_outcome(
-    alloc: Global,
-    line: &mut String,
-    outcome: &Result<Ending, EvalFault>,
-) -> Result<(), AllocError> {
+fn push_outcome(alloc: Global, line: &mut Line, outcome: &Result<Ending, EvalFault>) {
     match outcome {
         Ok(ending) => push_ending(alloc, line, ending),
         Err(fault) => push_fault(alloc, line, fault),
     }
 }
 
-/// Evaluates a script, and adds its outcome and what its host has recorded.
-fn push_evaluated(
+/// The outcome of a script of this name, and what its host has recorded; None where memory ran out.
+fn shown(
     alloc: Global,
-    line: &mut String,
-    setting: Setting,
-    script: &str,
-) -> Result<(), AllocError> {
+    name: &str,
+    outcome: &Result<Ending, EvalFault>,
+    host: &Recorder,
+) -> Option<String> {
+    let mut line = Line::new(alloc);
+    line.push_str(name);
+    line.push_str(": ");
+    push_shown(alloc, &mut line, outcome, host);
+    line.finish()
+}
+
+/// Evaluates a script of this name, and shows its outcome and what its host has recorded; None where memory ran out.
+fn evaluated(alloc: Global, name: &str, setting: Setting, script: &str) -> Option<String> {
     let Setting {
         limits,
         variables,
         mut host,
     } = setting;
     let outcome = evaluate(alloc, script, variables, &mut host, limits);
-    push_shown(alloc, line, &outcome, &host)
+    shown(alloc, name, &outcome, &host)
 }
 
 /// The answer to `script`; None where the line asks nothing, or memory ran out.
 pub(crate) fn answer(alloc: Global, rest: &str) -> Option<String> {
     let (head, written) = rest.split_once(": ")?;
     let (name, words) = head.split_once(' ').unwrap_or((head, ""));
-    let script = text_of(alloc, written).ok()?;
-    let mut line = format!(in alloc; "{name}: ").ok()?;
-    push_evaluated(alloc, &mut line, setting_of(alloc, words)?, &script).ok()?;
-    Some(line)
+    let script = text_of(alloc, written)?;
+    evaluated(alloc, name, setting_of(alloc, words)?, &script)
 }

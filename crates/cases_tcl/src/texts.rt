@@ -11,6 +11,7 @@
 //! a word with a substitution is `$`. An expression is written with parentheses around each operator and its operands,
 //! and `?` for a substitution.
 use crate::digits::{push_shown, shown, text_of, texts_of};
+use crate::lines::Line;
 use crate::trees::{fault, owned, tree};
 use std::alloc::{AllocError, Global};
 use tcltext::{
@@ -42,86 +43,101 @@ fn shown_fault(alloc: Global, fault: TextFault) -> Option<String> {
 
 /// The elements of a list.
 fn shown_list(alloc: Global, elements: &[String]) -> Option<String> {
-    let mut line = String::from_str(alloc, "ok ").ok()?;
+    let mut line = Line::new(alloc);
+    line.push_str("ok ");
     for (i, element) in elements.iter().enumerate() {
         if i > 0 {
-            line.push(',').ok()?;
+            line.push(',');
         }
-        push_shown(alloc, &mut line, element)?;
+        push_shown(alloc, &mut line, element);
     }
-    Some(line)
+    line.finish()
+}
+
+/// Adds the text of a part, and says whether it is no substitution.
+fn push_part(text: &mut Line, part: &Part<&str>) -> bool {
+    match part {
+        Part::Literal(literal) => text.push_str(literal),
+        Part::Backslash(character) => text.push(*character),
+        Part::Variable(_) | Part::Indexed(_, _) | Part::Bracket(_) => return false,
+    }
+    true
 }
 
 /// Adds the text of parts, and says whether they have no substitution.
-fn push_parts(text: &mut String, parts: &[Part<&str>]) -> Result<bool, AllocError> {
+fn push_parts(text: &mut Line, parts: &[Part<&str>]) -> bool {
     for part in parts {
-        match part {
-            Part::Literal(literal) => text.push_str(literal)?,
-            Part::Backslash(character) => text.push(*character)?,
-            Part::Variable(_) | Part::Indexed(_, _) | Part::Bracket(_) => return Ok(false),
+        if !push_part(text, part) {
+            return false;
         }
     }
-    Ok(true)
+    true
 }
 
-/// The text of a word, where it has no substitution.
-fn word_text(alloc: Global, word: &Word<&str>) -> Result<Option<String>, AllocError> {
-    let mut text = String::new(alloc);
-    let is_text = match &word.content {
-        WordContent::Bare(literal) => {
-            text.push_str(literal)?;
-            true
-        }
+/// Adds the text of what a word is made of, and says whether it has no substitution.
+fn push_content(text: &mut Line, content: &WordContent<&str>) -> bool {
+    match content {
+        WordContent::Bare(literal) => text.push_str(literal),
         WordContent::Braced(inside) => {
-            push_braced_text(&mut text, inside)?;
-            true
+            let pushed = push_braced_text(&mut text.text, inside);
+            text.note(pushed);
         }
-        WordContent::Parts(parts) => push_parts(&mut text, parts)?,
-    };
-    Ok(if is_text { Some(text) } else { None })
+        WordContent::Parts(parts) => return push_parts(text, parts),
+    }
+    true
+}
+
+/// Adds what was written of another line.
+fn push_line(alloc: Global, line: &mut Line, other: Line) {
+    match other.finish() {
+        Some(text) => push_shown(alloc, line, &text),
+        None => line.note(Err(AllocError)),
+    }
 }
 
 /// Adds a word, which is `$` where it has a substitution.
-fn push_word(alloc: Global, line: &mut String, word: &Word<&str>) -> Option<()> {
-    match word_text(alloc, word).ok()? {
-        Some(text) if !word.expands => push_shown(alloc, line, &text),
-        _ => line.push('$').ok(),
+fn push_word(alloc: Global, line: &mut Line, word: &Word<&str>) {
+    let mut text = Line::new(alloc);
+    if push_content(&mut text, &word.content) && !word.expands {
+        push_line(alloc, line, text);
+    } else {
+        line.push('$');
     }
 }
 
 /// Adds a command: its byte offset and its words.
-fn push_command(alloc: Global, line: &mut String, command: &Command<&str>) -> Option<()> {
+fn push_command(alloc: Global, line: &mut Line, command: &Command<&str>) {
     let offset = command.offset;
-    line.push_str(&format!(in alloc; "{offset}:").ok()?).ok()?;
+    line.push_made(format!(in alloc; "{offset}:"));
     for (i, word) in command.words.iter().enumerate() {
         if i > 0 {
-            line.push(',').ok()?;
+            line.push(',');
         }
-        push_word(alloc, line, word)?;
+        push_word(alloc, line, word);
     }
-    Some(())
 }
 
 /// The commands of a script.
 fn shown_script(alloc: Global, script: &Script<&str>) -> Option<String> {
-    let mut line = String::from_str(alloc, "ok ").ok()?;
+    let mut line = Line::new(alloc);
+    line.push_str("ok ");
     for (i, command) in script.commands.iter().enumerate() {
         if i > 0 {
-            line.push(';').ok()?;
+            line.push(';');
         }
-        push_command(alloc, &mut line, command)?;
+        push_command(alloc, &mut line, command);
     }
-    Some(line)
+    line.finish()
 }
 
 /// The text of an operand; `?` where it is a substitution.
-fn push_operand(text: &mut String, operand: &Operand<&str>) -> Result<(), AllocError> {
+fn push_operand(text: &mut Line, operand: &Operand<&str>) {
     match operand {
         Operand::Number(spelled) | Operand::Word(spelled) => text.push_str(spelled),
         Operand::Braced(inside) => {
-            text.push('{')?;
-            text.push_str(inside)?;
-            text.push('}')
+            text.push('{');
+            text.push_str(inside);
+            text.push('}');
         }
         Operand::Variable(_) | Operand::Indexed(_, _) | Operand::Bracket(_) | Operand::Quoted(_) =>
             text.push('?'),
@@ -129,10 +145,10 @@ fn push_operand(text: &mut String, operand: &Operand<&str>) -> Result<(), AllocE
 }
 
 /// Adds the sign of an operator, between blanks.
-fn push_sign(text: &mut String, sign: &str) -> Result<(), AllocError> {
-    text.push(' ')?;
-    text.push_str(sign)?;
-    text.push(' ')
+fn push_sign(text: &mut Line, sign: &str) {
+    text.push(' ');
+    text.push_str(sign);
+    text.push(' ');
 }
 
 /// The sign of an operator between two operands.
@@ -145,47 +161,56 @@ fn sign(expression: &Expr<&str>) -> &'static str {
 }
 
 /// The text of an expression, with parentheses around each operator and its operands.
-fn push_expression(text: &mut String, expression: &Expr<&str>) -> Result<(), AllocError> {
+fn push_expression(text: &mut Line, expression: &Expr<&str>) {
     match expression {
         Expr::Operand(operand) => return push_operand(text, operand),
         Expr::Unary(operator, operand) => {
-            text.push('(')?;
-            text.push_str(operator.symbol())?;
-            push_expression(text, operand)?;
+            text.push('(');
+            text.push_str(operator.symbol());
+            push_expression(text, operand);
         }
         Expr::Binary(_, left, right) | Expr::And(left, right) | Expr::Or(left, right) => {
-            text.push('(')?;
-            push_expression(text, left)?;
-            push_sign(text, sign(expression))?;
-            push_expression(text, right)?;
+            text.push('(');
+            push_expression(text, left);
+            push_sign(text, sign(expression));
+            push_expression(text, right);
         }
         Expr::Choice(condition, yes, no) => {
-            text.push('(')?;
-            push_expression(text, condition)?;
-            push_sign(text, "?")?;
-            push_expression(text, yes)?;
-            push_sign(text, ":")?;
-            push_expression(text, no)?;
+            text.push('(');
+            push_expression(text, condition);
+            push_sign(text, "?");
+            push_expression(text, yes);
+            push_sign(text, ":");
+            push_expression(text, no);
         }
     }
-    text.push(')')
+    text.push(')');
 }
 
 /// An expression with all its parentheses.
 fn shown_expression(alloc: Global, expression: &Expr<&str>) -> Option<String> {
-    let mut text = String::new(alloc);
-    push_expression(&mut text, expression).ok()?;
-    shown(alloc, "ok", &text)
+    let mut text = Line::new(alloc);
+    push_expression(&mut text, expression);
+    shown(alloc, "ok", &text.finish()?)
+}
+
+/// The texts as slices.
+fn slices(alloc: Global, texts: &[String]) -> Option<Vec<&str>> {
+    let mut slices = Vec::new(alloc);
+    for text in texts {
+        slices.push(text.as_str()).ok()?;
+    }
+    Some(slices)
+}
+
+/// The list of texts.
+fn list_of(alloc: Global, texts: &[String]) -> Option<String> {
+    write_list(alloc, &slices(alloc, texts)?).ok()
 }
 
 /// The list of the texts of a call.
 fn written(alloc: Global, words: &str) -> Option<String> {
-    let texts = texts_of(alloc, words)?;
-    let mut elements = Vec::new(alloc);
-    for text in &texts {
-        elements.push(text.as_str()).ok()?;
-    }
-    shown(alloc, "ok", &write_list(alloc, elements.as_slice()).ok()?)
+    shown(alloc, "ok", &list_of(alloc, &texts_of(alloc, words)?)?)
 }
 
 /// The class of a number, and a whole number itself.
@@ -202,12 +227,11 @@ fn shown_number(alloc: Global, number: Numeral) -> Option<String> {
 fn shown_range(alloc: Global, words: &str) -> Option<String> {
     let (start, rest) = words.split_once(' ')?;
     let (end, digits) = rest.split_once(' ')?;
-    let text = text_of(alloc, digits)?;
     let range = ByteRange {
         start: start.parse().ok()?,
         end: end.parse().ok()?,
     };
-    shown(alloc, "ok", range.of(text.as_str()))
+    shown(alloc, "ok", range.of(&text_of(alloc, digits)?))
 }
 
 /// The answer to a call about trees.

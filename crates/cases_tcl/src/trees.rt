@@ -1,4 +1,5 @@
 //! Trees of scripts and expressions as Rust prints them, and the sources of commands.
+use crate::lines::Line;
 use std::alloc::Global;
 use std::fmt::Debug;
 use tcltext::{
@@ -7,30 +8,29 @@ use tcltext::{
 };
 
 /// Adds what a word is made of, after `*` where its list is expanded.
-fn push_word<P: Debug>(alloc: Global, line: &mut String, word: &Word<P>) -> Option<()> {
+fn push_word<P: Debug>(alloc: Global, line: &mut Line, word: &Word<P>) {
     let mark = if word.expands { "*" } else { "" };
     let content = &word.content;
-    line.push_str(&format!(in alloc; " {mark}{content:?}").ok()?)
-        .ok()
+    line.push_made(format!(in alloc; " {mark}{content:?}"));
 }
 
 /// Adds the words of a command, after its byte offset.
-fn push_words<P: Debug>(alloc: Global, line: &mut String, command: &Command<P>) -> Option<()> {
+fn push_words<P: Debug>(alloc: Global, line: &mut Line, command: &Command<P>) {
     let offset = command.offset;
-    line.push_str(&format!(in alloc; " {offset}:").ok()?).ok()?;
+    line.push_made(format!(in alloc; " {offset}:"));
     for word in &command.words {
-        push_word(alloc, line, word)?;
+        push_word(alloc, line, word);
     }
-    Some(())
 }
 
 /// The words of each command, after the command's byte offset, with `*` before one whose list is expanded.
 fn shown_words<P: Debug>(alloc: Global, script: &Script<P>) -> Option<String> {
-    let mut line = String::from_str(alloc, "ok").ok()?;
+    let mut line = Line::new(alloc);
+    line.push_str("ok");
     for command in &script.commands {
-        push_words(alloc, &mut line, command)?;
+        push_words(alloc, &mut line, command);
     }
-    Some(line)
+    line.finish()
 }
 
 /// The fault as Rust prints it, and its text.
@@ -70,12 +70,13 @@ pub(crate) fn tree(alloc: Global, kind: &str, text: &str) -> Option<String> {
 
 /// The source of each command, as a range of the script's own text.
 fn shown_sources(alloc: Global, owned: &OwnedScript) -> Option<String> {
-    let mut line = String::from_str(alloc, "ok").ok()?;
+    let mut line = Line::new(alloc);
+    line.push_str("ok");
     for command in &owned.script.commands {
         let source = command.source.of(owned.text.as_str());
-        line.push_str(&format!(in alloc; " {source:?}").ok()?).ok()?;
+        line.push_made(format!(in alloc; " {source:?}"));
     }
-    Some(line)
+    line.finish()
 }
 
 /// The sources of the commands of a script, or its fault.
