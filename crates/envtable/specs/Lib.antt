@@ -1,0 +1,11 @@
+pub mod Texts
+pub mod Fields
+pub mod Escapes
+pub mod EscapeReading
+pub mod Environment
+pub mod EnvironmentBlock
+pub mod Changes
+pub mod Tables
+pub mod Given
+pub mod Reasons
+pub mod Names
