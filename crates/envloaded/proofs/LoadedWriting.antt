@@ -18,7 +18,7 @@ use Rattle.envloaded.proofs.ElementLemmas.{elements_more, element_written}
 use Rattle.envvars.specs.Reasons.{inconsistent}
 use Rattle.envloaded.specs.declared.entry.Loaded.{Loaded}
 use Rattle.envvars.proofs.TextLemmas.{bytes_eq-symmetric, or_left, or_right}
-use Rattle.envvars.specs.declared.fault.EnvFault.{EnvFault}
+use Rattle.envvars.specs.EnvFault.{EnvFault}
 use Rattle.std.specs.Result.{OnOk}
 
 -- Edits of the loaded list, and the texts that it is written as.

@@ -11,7 +11,7 @@ ghost use Rattle.envloaded.specs.Loaded.{names_text, files_text, conflict_elemen
 ghost use Rattle.envloaded.specs.LoadedEntries.{entry_view};
 ghost use Rattle.envvars.specs.Texts.{texts_in};
 ghost use Rattle.envvars.specs.Reasons.{Edits};
-ghost use Rattle.envvars.specs.declared.fault.EnvFault.TheVariants.{OutOfMemory};
+ghost use Rattle.envvars.specs.EnvFault.TheVariants.{OutOfMemory};
 
 use crate::entry::Loaded;
 use crate::list::{CONFLICTS, FILES, NAMES, PREREQS, copy_of, loaded};

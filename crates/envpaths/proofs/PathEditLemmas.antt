@@ -11,8 +11,8 @@ use Rattle.envpaths.specs.PathTexts.{state_of, elements_text}
 use Rattle.envpaths.specs.PathVariables.{path_in, with_path, path_reason, counters_fit, written_path, added_path, dropped_path}
 use Rattle.envpaths.specs.PathEdits.{AreTexts, IsFull}
 use Rattle.envvars.specs.Reasons.{EnvReason, reason_of, counter_full, unless, Edits}
-use Rattle.envvars.specs.declared.fault.EnvFault.{EnvFault}
-use Rattle.envvars.specs.declared.fault.EnvFault.TheVariants.{OutOfMemory}
+use Rattle.envvars.specs.EnvFault.{EnvFault}
+use Rattle.envvars.specs.EnvFault.TheVariants.{OutOfMemory}
 use Rattle.envpaths.specs.declared.texts.PathTexts.{PathTexts}
 use Rattle.envpaths.specs.declared.edits.End.{End}
 

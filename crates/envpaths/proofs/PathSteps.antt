@@ -21,7 +21,7 @@ use Rattle.std.specs.Result.{IfOk}
 use Rattle.envpaths.specs.PathVariables.{counters_fit}
 use Rattle.envpaths.specs.PathEdits.{IsFull}
 use Rattle.envvars.specs.Reasons.{EnvReason, reason_of, counter_full}
-use Rattle.envvars.specs.declared.fault.EnvFault.{EnvFault}
+use Rattle.envvars.specs.EnvFault.{EnvFault}
 use Rattle.envpaths.specs.Tables.{CounterTable, counter_in, count_in, one_for_each, overwritten_by, state_from_table, HasCountersOf, HaveSameElements, raised, lowered, with_new_element, kept}
 use Rattle.envpaths.specs.declared.edits.End.{End}
 use Rattle.envpaths.specs.declared.edits.End.TheVariants.{Front, Back}

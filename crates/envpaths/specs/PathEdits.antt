@@ -3,7 +3,7 @@ use Rattle.std.specs.Prelude.{◌≡◌, ℕ, true, false, string_bytes, Result,
 use Rattle.std.specs.Option.{option_map}
 use Rattle.envvars.specs.Texts.{Text}
 use Rattle.envvars.specs.Reasons.{reason_of, counter_full}
-use Rattle.envvars.specs.declared.fault.EnvFault.{EnvFault}
+use Rattle.envvars.specs.EnvFault.{EnvFault}
 use Rattle.envpaths.specs.Paths.{PathState}
 use Rattle.envpaths.specs.PathTexts.{elements_text, pairs_text}
 use Rattle.envpaths.specs.PathVariables.{counters_fit}

@@ -6,7 +6,7 @@ ghost use Rattle.envvars.specs.Texts.{Text, has, slice_texts};
 ghost use Rattle.envvars.specs.Environment.{lookup, with_value};
 ghost use Rattle.envvars.specs.Reasons.{reason_of, Judges, Edits, counter_full};
 ghost use Rattle.envvars.specs.Names.{share_name};
-ghost use Rattle.envvars.specs.declared.fault.EnvFault.TheVariants.{OutOfMemory};
+ghost use Rattle.envvars.specs.EnvFault.TheVariants.{OutOfMemory};
 ghost use Rattle.envpaths.specs.Paths.{largest_counter, add_all, add_front, add_back, drop_all};
 ghost use Rattle.envpaths.specs.PathTexts.{is_delimiter, state_of};
 ghost use Rattle.envpaths.specs.Tables.{counter_in, count_in, state_from_table, HasCountersOf, HaveSameElements, raised, lowered, with_new_element, kept};

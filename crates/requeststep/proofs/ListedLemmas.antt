@@ -4,7 +4,7 @@ use Rattle.envvars.specs.Texts.{Text}
 use Rattle.envvars.specs.Fields.{without_repeats}
 use Rattle.envvars.specs.Environment.{Environment}
 use Rattle.envvars.specs.Reasons.{EnvReason, Edits}
-use Rattle.envvars.specs.declared.fault.EnvFault.{EnvFault}
+use Rattle.envvars.specs.EnvFault.{EnvFault}
 use Rattle.envloaded.specs.Loaded.{Entry, loaded_in, with_conflicts_once, without_entry, added_to, added_loaded, dropped_from, dropped_loaded}
 use Rattle.envloaded.proofs.LoadedEdits.{loaded_after_add}
 use Rattle.envstate.proofs.StateLemmas.{dropped_list}

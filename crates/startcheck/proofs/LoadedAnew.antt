@@ -5,8 +5,8 @@ use Rattle.envvars.specs.Texts.{Text, has}
 use Rattle.envvars.specs.Environment.{Environment, lookup, with_value}
 use Rattle.envvars.specs.Changes.{same_value}
 use Rattle.envvars.specs.Reasons.{EnvReason, inconsistent, reason_of}
-use Rattle.envvars.specs.declared.fault.EnvFault.{EnvFault}
-use Rattle.envvars.specs.declared.fault.EnvFault.TheVariants.{OutOfMemory}
+use Rattle.envvars.specs.EnvFault.{EnvFault}
+use Rattle.envvars.specs.EnvFault.TheVariants.{OutOfMemory}
 use Rattle.envloaded.specs.LoadedTexts.{names_variable, files_variable, conflicts_variable, prereqs_variable}
 use Rattle.envloaded.specs.Loaded.{Entry, names_of, names_text, files_text, conflicts_text, prereqs_text, loaded_in, with_loaded, is_entry, can_be_added, with_conflicts_once, added_to, added_loaded, without_entry, dropped_from, dropped_loaded, AreLoadedInOrder}
 use Rattle.envvars.proofs.TextLemmas.{same_text, bytes_eq-same}

@@ -7,8 +7,8 @@ use Rattle.envvars.specs.Names.{stack_name}
 use Rattle.envvars.specs.Environment.{Environment, lookup}
 use Rattle.envvars.specs.Changes.{same_value}
 use Rattle.envvars.specs.Reasons.{EnvReason, reason_of, bad_stack}
-use Rattle.envvars.specs.declared.fault.EnvFault.{EnvFault}
-use Rattle.envvars.specs.declared.fault.EnvFault.TheVariants.{OutOfMemory, BadVariable, Protected, CounterFull, Inconsistent, BadStack, BadValue}
+use Rattle.envvars.specs.EnvFault.{EnvFault}
+use Rattle.envvars.specs.EnvFault.TheVariants.{OutOfMemory, BadVariable, Protected, CounterFull, Inconsistent, BadStack, BadValue}
 use Rattle.envvars.proofs.TextLemmas.{bytes_eq-same}
 use Rattle.envstacks.specs.Stacks.{StackState, holds, push, pop}
 use Rattle.envstacks.specs.StackTexts.{items_in}

@@ -6,8 +6,8 @@ use Rattle.envvars.specs.Texts.{Text}
 use Rattle.envvars.specs.Environment.{Environment, lookup, with_value}
 use Rattle.envvars.specs.Changes.{same_value}
 use Rattle.envvars.specs.Reasons.{EnvReason, reason_of}
-use Rattle.envvars.specs.declared.fault.EnvFault.{EnvFault}
-use Rattle.envvars.specs.declared.fault.EnvFault.TheVariants.{OutOfMemory, BadVariable, Protected, CounterFull, Inconsistent, BadStack, BadValue}
+use Rattle.envvars.specs.EnvFault.{EnvFault}
+use Rattle.envvars.specs.EnvFault.TheVariants.{OutOfMemory, BadVariable, Protected, CounterFull, Inconsistent, BadStack, BadValue}
 use Rattle.envvars.proofs.TextLemmas.{same_text, bytes_eq-same}
 use Rattle.envvars.proofs.EnvLemmas.{lookup-with_value, lookup-set}
 use Rattle.envvars.proofs.EditLemmas.{both_true, and_both}

@@ -1,7 +1,7 @@
 //! Where an environment doesn't agree with a certificate.
 ghost use Rattle.std.specs.Prelude.{◌≡◌, ◌↔◌, [], Some, map, IfOk, IfErr, OnOk, IsTrue};
 ghost use Rattle.std.specs.Option.{option_map};
-ghost use Rattle.envvars.specs.declared.fault.EnvFault.TheVariants.{OutOfMemory};
+ghost use Rattle.envvars.specs.EnvFault.TheVariants.{OutOfMemory};
 ghost use Rattle.envloaded.specs.Loaded.{loaded_in};
 ghost use Rattle.envloaded.specs.LoadedEntries.{entry_view};
 ghost use Rattle.certificate.specs.RecordUses.{IsAmong};

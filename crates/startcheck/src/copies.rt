@@ -4,7 +4,7 @@ ghost use Rattle.std.specs.Option.{option_map};
 ghost use Rattle.std.specs.FinMap as finite;
 ghost use Rattle.envvars.specs.Environment.{lookup, with_value};
 ghost use Rattle.envvars.specs.Changes.{same_value};
-ghost use Rattle.envvars.specs.declared.fault.EnvFault.TheVariants.{OutOfMemory};
+ghost use Rattle.envvars.specs.EnvFault.TheVariants.{OutOfMemory};
 
 use envvars::{Env, EnvFault};
 use std::alloc::Global;

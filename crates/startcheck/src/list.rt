@@ -6,7 +6,7 @@ ghost use Rattle.modulename.specs.ModuleName.{is_module_name};
 ghost use Rattle.envvars.specs.Texts.{has};
 ghost use Rattle.envvars.specs.Environment.{lookup};
 ghost use Rattle.envvars.specs.Changes.{same_value};
-ghost use Rattle.envvars.specs.declared.fault.EnvFault.TheVariants.{OutOfMemory};
+ghost use Rattle.envvars.specs.EnvFault.TheVariants.{OutOfMemory};
 ghost use Rattle.envloaded.specs.LoadedTexts.{names_variable, files_variable, conflicts_variable, prereqs_variable};
 ghost use Rattle.envloaded.specs.Loaded.{AreLoadedInOrder, loaded_in, names_of};
 ghost use Rattle.envloaded.specs.LoadedEntries.{entry_view};

@@ -1,7 +1,7 @@
 //! Whether a path variable is in order.
 ghost use Rattle.std.specs.Prelude.{◌≡◌, ◌↔◌, IfOk, IfErr, IsTrue};
 ghost use Rattle.envpaths.specs.PathOrder.{IsPathInOrder};
-ghost use Rattle.envvars.specs.declared.fault.EnvFault.TheVariants.{OutOfMemory};
+ghost use Rattle.envvars.specs.EnvFault.TheVariants.{OutOfMemory};
 
 use crate::copies::{COPY, copy_of, is_kept};
 use envpaths::drop_path;

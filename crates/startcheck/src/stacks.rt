@@ -5,7 +5,7 @@ ghost use Rattle.modulename.specs.ModuleName.{is_module_name};
 ghost use Rattle.envvars.specs.Texts.{has};
 ghost use Rattle.envvars.specs.Names.{stack_name};
 ghost use Rattle.envvars.specs.Escapes.{unescaped_fields};
-ghost use Rattle.envvars.specs.declared.fault.EnvFault.TheVariants.{OutOfMemory};
+ghost use Rattle.envvars.specs.EnvFault.TheVariants.{OutOfMemory};
 ghost use Rattle.envstacks.specs.StackVariables.{IsStackInOrder};
 ghost use Rattle.envloaded.specs.Loaded.{names_of};
 ghost use Rattle.envloaded.specs.LoadedEntries.{entry_view};
