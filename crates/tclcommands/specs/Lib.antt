@@ -7,4 +7,4 @@ pub use Rattle.tclforms.specs.declared.form.Simple
 pub use Rattle.tclvariables.specs.Views as VariableViews
 pub use Rattle.tclsubstitution.specs.Machine
 pub use Rattle.tclsubstitution.specs.Stops
-pub use Rattle.tclsubstitution.specs.declared.stop.Stop
+pub use Rattle.tclsubstitution.specs.Stop

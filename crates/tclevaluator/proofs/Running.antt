@@ -33,8 +33,8 @@ use Rattle.tclsubstitution.proofs.Leading.{sized_on, sized_stops}
 use Rattle.tclsubstitution.specs.Stops.{after, error_or_halt, stopped, stop_of, text_stop}
 use Rattle.tclrules.specs.declared.outcome.EvalFault.{EvalFault}
 use Rattle.tclrules.specs.declared.outcome.EvalFault.TheVariants as evals
-use Rattle.tclsubstitution.specs.declared.stop.Stop.{Stop}
-use Rattle.tclsubstitution.specs.declared.stop.Stop.TheVariants as stops
+use Rattle.tclsubstitution.specs.Stop.{Stop}
+use Rattle.tclsubstitution.specs.Stop.TheVariants as stops
 use Rattle.tclcontrol.specs.declared.result_use.ResultUse.{ResultUse}
 use Rattle.tclcontrol.specs.declared.result_use.ResultUse.TheVariants.{Needed, Dropped}
 use Rattle.tclcontrol.specs.Completions.{EvaluatesToText, finish, sized_next, completed}

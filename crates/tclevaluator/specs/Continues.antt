@@ -8,7 +8,7 @@ use Rattle.tclrules.specs.Plans.{Next, Step}
 use Rattle.tclrules.specs.Rules.{rule}
 use Rattle.tclrules.specs.Simulates.{Point, Simulates, point}
 use Rattle.tclsubstitution.specs.Stops.{after}
-use Rattle.tclsubstitution.specs.declared.stop.Stop.{Stop}
+use Rattle.tclsubstitution.specs.Stop.{Stop}
 use Rattle.tclevaluator.specs.declared.bounds.Bounds.{Bounds}
 use Rattle.tclevaluator.specs.declared.evaluator.Evaluator.{Evaluator}
 

@@ -1,6 +1,6 @@
 //! How far an evaluation may go on inside of a script.
 ghost use Rattle.std.specs.Prelude.{◌≡◌, ◌<◌, ◌-◌, MatchResult};
-ghost use Rattle.tclsubstitution.specs.declared.stop.Stop.TheVariants.{Fault};
+ghost use Rattle.tclsubstitution.specs.Stop.TheVariants.{Fault};
 ghost use Rattle.tclrules.specs.declared.outcome.EvalFault.TheVariants.{TooDeep};
 
 use tclrules::{EvalFault, Limits};

@@ -10,7 +10,7 @@ ghost use Rattle.tclsubstitution.specs.Machine.{bounds};
 ghost use Rattle.tclcontrol.specs.declared.result_use.ResultUse.{ResultUse};
 ghost use Rattle.tclcontrol.specs.Completions.{EvaluatesToText, condition_plan};
 ghost use Rattle.tcloperators.specs.declared.operators.Computed.TheVariants.{Truth};
-ghost use Rattle.tclsubstitution.specs.declared.stop.Stop.TheVariants.{Fault};
+ghost use Rattle.tclsubstitution.specs.Stop.TheVariants.{Fault};
 ghost use Rattle.tclrules.specs.declared.outcome.EvalFault.TheVariants.{TooManyCommands};
 
 use std::alloc::Global;

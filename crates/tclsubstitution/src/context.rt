@@ -1,8 +1,7 @@
 //! What each step of a substitution reads and doesn't change.
 
 use std::alloc::Global;
-use tclrules::Limits;
-use tclvariables::Variables;
+use tclreading::{Limits, Variables};
 
 /// The variables, the limits, and the source text of which the pieces of the tree are byte ranges.
 #[derive(Clone, Copy)]

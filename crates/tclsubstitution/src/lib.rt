@@ -6,13 +6,10 @@
 mod borrowed_operands;
 mod context;
 mod frame;
-mod reading;
-mod stop;
 mod substitution;
 
 pub use borrowed_operands::compute_borrowed;
 pub use context::SubstitutionContext;
 pub use frame::{Control, Step, WaitingFrame};
-pub use reading::{read, read_element};
-pub use stop::Stop;
 pub use substitution::{advance, braced};
+pub use tclreading::{Stop, read, read_element};

@@ -1,6 +1,6 @@
 use Rattle.std.proofs.Common.{rules}
-use Rattle.tclsubstitution.proofs.Leading.{reason_stops}
-use Rattle.tclsubstitution.proofs.reading.read_location.Goals as goal
+use Rattle.tclreading.proofs.Leading.{reason_stops}
+use Rattle.tclreading.proofs.reading.read_location.Goals as goal
 
 pub read_env-requires-text-name : goal.read_env-requires-text-name
 read_env-requires-text-name g c =

@@ -9,8 +9,8 @@ use Rattle.tclrules.specs.Plans.{Step, Returned, Broken, Continued, ended, halt,
 use Rattle.tclrules.specs.Faults.{fault_of_text, fault_of_value}
 use Rattle.tclrules.specs.declared.outcome.EvalFault.{EvalFault}
 use Rattle.tclrules.specs.declared.outcome.EvalFault.TheVariants as faults
-use Rattle.tclsubstitution.specs.declared.stop.Stop.{Stop}
-use Rattle.tclsubstitution.specs.declared.stop.Stop.TheVariants as stops
+use Rattle.tclreading.specs.declared.stop.Stop.{Stop}
+use Rattle.tclreading.specs.declared.stop.Stop.TheVariants as stops
 
 -- what `error` makes of the message of an error, and what `halt` makes of the halt of the rules that any other fault
 -- stands for

@@ -14,9 +14,9 @@ use Rattle.tclrules.specs.Simulates.{Point, Simulates}
 use Rattle.tclrules.specs.declared.outcome.EvalFault.{EvalFault}
 use Rattle.tclrules.specs.declared.outcome.EvalFault.TheVariants as evals
 use Rattle.tclrules.proofs.Leading.{stay, continue_with, starve, run_on, run_halts}
-use Rattle.tclsubstitution.specs.Stops.{error_or_halt, stopped, after, stop_of}
-use Rattle.tclsubstitution.specs.declared.stop.Stop.{Stop}
-use Rattle.tclsubstitution.specs.declared.stop.Stop.TheVariants as stops
+use Rattle.tclreading.specs.Stops.{error_or_halt, stopped, after, stop_of}
+use Rattle.tclreading.specs.declared.stop.Stop.{Stop}
+use Rattle.tclreading.specs.declared.stop.Stop.TheVariants as stops
 
 -- where memory ran out
 pub starved_end : {A : Type 0} {most : ℕ} {r : Job → Step} {p : Step} {x : Point} (k : A → State → Step) (s : State) (res : Result A Stop) → IsErrAnd res (λ f. f ≡ stops.Fault evals.OutOfMemory) → Simulates most r p x (after res k s) x

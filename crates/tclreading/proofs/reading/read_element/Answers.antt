@@ -1,7 +1,7 @@
 use Rattle.std.proofs.lemmas.Result.{err_from_is_err_and}
 use Rattle.tclrules.proofs.Leading.{continue_with, starve}
-use Rattle.tclsubstitution.proofs.Leading.{given_stops, given_on}
-use Rattle.tclsubstitution.proofs.reading.read_element.Goals as goal
+use Rattle.tclreading.proofs.Leading.{given_stops, given_on}
+use Rattle.tclreading.proofs.reading.read_element.Goals as goal
 
 pub returns-in_err-location : goal.returns-in_err-location
 returns-in_err-location g c =

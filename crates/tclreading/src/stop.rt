@@ -1,7 +1,7 @@
 //! Why a script ends before its last command: the completion codes of Tcl but `ok`, and halts, which no script catches.
 ghost use Rattle.std.specs.Prelude.{◌≡◌};
-ghost use Rattle.tclsubstitution.specs.Stops.{stop_of, text_stop};
-ghost use Rattle.tclsubstitution.specs.declared.stop.Stop.TheVariants.{Fault};
+ghost use Rattle.tclreading.specs.Stops.{stop_of, text_stop};
+ghost use Rattle.tclreading.specs.declared.stop.Stop.TheVariants.{Fault};
 ghost use Rattle.tclrules.specs.declared.outcome.EvalFault.TheVariants.{OutOfMemory};
 
 use std::alloc::{AllocError, AllocFailed};

@@ -1,8 +1,8 @@
 use Rattle.std.proofs.Common.{string_bytes, option_map, ap, ◌∙◌}
 use Rattle.std.proofs.lemmas.Result.{err_from_is_err_and}
 use Rattle.tclrules.proofs.Leading.{continue_with, read_on, want}
-use Rattle.tclsubstitution.proofs.Leading.{reason_stops}
-use Rattle.tclsubstitution.proofs.reading.read_env.Goals as goal
+use Rattle.tclreading.proofs.Leading.{reason_stops}
+use Rattle.tclreading.proofs.reading.read_env.Goals as goal
 
 pub returns-in_err-value : goal.returns-in_err-value
 returns-in_err-value g c =

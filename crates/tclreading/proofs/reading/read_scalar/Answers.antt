@@ -2,9 +2,9 @@ use Rattle.std.proofs.Common.{sym, ◌∙◌, rules}
 use Rattle.std.proofs.lemmas.Result.{err_from_is_err_and}
 use Rattle.tclrules.proofs.Leading.{stay, starve}
 use Rattle.tclvariables.specs.Locations.{scalar_view}
-use Rattle.tclsubstitution.proofs.AtHand.{array_raises, scalar_found}
-use Rattle.tclsubstitution.proofs.Leading.{reason_stops}
-use Rattle.tclsubstitution.proofs.reading.read_scalar.Goals as goal
+use Rattle.tclreading.proofs.Scalars.{array_raises, scalar_found}
+use Rattle.tclreading.proofs.Leading.{reason_stops}
+use Rattle.tclreading.proofs.reading.read_scalar.Goals as goal
 
 pub from_str-requires-text-s : goal.from_str-requires-text-s
 from_str-requires-text-s c = search rules

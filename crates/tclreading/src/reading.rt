@@ -8,7 +8,7 @@ ghost use Rattle.tclrules.specs.Words.{found, read, read_element, read_location,
 ghost use Rattle.tcloperators.specs.Faults.{HasReason, error};
 ghost use Rattle.tcloperators.specs.Messages.{in_quotes};
 ghost use Rattle.tclrules.specs.Messages.{is_array, no_variable};
-ghost use Rattle.tclsubstitution.specs.Stops.{after};
+ghost use Rattle.tclreading.specs.Stops.{after};
 ghost use Rattle.tclvariables.specs.Locations.{is_global, location_view};
 
 use crate::stop::Stop;
