@@ -2,7 +2,8 @@
 use Rattle.std.proofs.Common.{◌≡◌, ℕ, zero, suc, ◌+◌, ◌*◌, ◌/◌, ◌%◌, ◌<◌, ◌≤◌, min, false, ℤ, pos, negsuc, neg_ℤ, ◌+ℤ◌, ◌-ℤ◌, ◌*ℤ◌, ◌≤ℤ◌, ◌<ℤ◌, refl, sym, subst, arith, zero-mul}
 use Rattle.std.specs.Int.{div_ceil}
 use Rattle.std.proofs.lemmas.Int.{ints}
-use Rattle.tcloperators.specs.Numbers.{quotient, remainder, IsRemainder, is_zero}
+use Rattle.tclnumber.specs.Division.{quotient}
+use Rattle.tcloperators.specs.Numbers.{remainder, IsRemainder, is_zero}
 
 pub whole_is : (a b : ℤ) → quotient a b *ℤ b +ℤ remainder a b ≡ a
 whole_is a b = again a (quotient a b *ℤ b)
@@ -18,7 +19,7 @@ raised_high : (q m d a : ℕ) → d * q + m ≡ a → m < d → (q + min 1 m) * 
 raised_high q zero d a e h = rw (let f : min 1 0 ≡ 0 = omega arith in f) (omega arith)
 raised_high q (suc m) d a e h = rw (let f : min 1 (suc m) ≡ 1 = omega arith in f) (omega arith)
 
-parts : (a d : ℕ) → 0 < d → d * (a / d) + a % d ≡ a
+pub parts : (a d : ℕ) → 0 < d → d * (a / d) + a % d ≡ a
 parts a d h = omega arith
 
 below : (a d : ℕ) → 0 < d → a % d < d
@@ -36,11 +37,11 @@ low_rest_below a p d h k = (omega (arith, ints), omega (arith, ints))
 high_rest_below : (a p b : ℕ) → p ≤ suc a → suc a < p + suc b → (negsuc b <ℤ (negsuc a -ℤ neg_ℤ (pos p))) × ((negsuc a -ℤ neg_ℤ (pos p)) ≤ℤ pos 0)
 high_rest_below a p b h k = (omega (arith, ints), omega (arith, ints))
 
-both_below : (c b : ℕ) → neg_ℤ (pos c) *ℤ negsuc b ≡ pos (c * suc b)
+pub both_below : (c b : ℕ) → neg_ℤ (pos c) *ℤ negsuc b ≡ pos (c * suc b)
 both_below zero b = rw zero-mul refl
 both_below (suc c) b = refl
 
-one_below : (c d : ℕ) → neg_ℤ (pos c) *ℤ pos d ≡ neg_ℤ (pos (c * d))
+pub one_below : (c d : ℕ) → neg_ℤ (pos c) *ℤ pos d ≡ neg_ℤ (pos (c * d))
 one_below zero d = rw zero-mul refl
 one_below (suc c) d = refl
 

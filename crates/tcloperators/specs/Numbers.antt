@@ -1,30 +1,14 @@
 -- Arithmetic of expr(n), OPERATORS, over whole numbers without bound; a result outside 64 bits is a reason.
-use Rattle.std.specs.Prelude.{◌≡◌, ℕ, zero, suc, ◌/◌, ◌^◌, ◌<◌, Bool, true, false, not, ◌&&◌, ◌||◌, nat_lt, if◌then◌else◌, Ok, Err}
+use Rattle.std.specs.Prelude.{◌≡◌, ℕ, zero, suc, ◌^◌, ◌<◌, Bool, true, false, not, ◌&&◌, ◌||◌, if◌then◌else◌, Ok, Err}
 use Rattle.std.specs.Prelude.{ℤ, pos, negsuc, neg_ℤ, ◌-ℤ◌, ◌*ℤ◌, ◌+ℤ◌, ◌≤ℤ◌, ◌<ℤ◌}
-use Rattle.std.specs.Int.{w64, div_ceil, int_bit_and, int_bit_or, int_bit_xor}
+use Rattle.std.specs.Int.{w64, int_bit_and, int_bit_or, int_bit_xor}
+use Rattle.tclnumber.specs.Division.{fits, quotient}
 use Rattle.tcloperators.specs.Faults.{Answer, error, number_too_large}
 use Rattle.tcloperators.specs.Messages.{divide_by_zero, negative_shift}
-
--- a number of 64 bits with a sign
-abbrev pub fits : ℤ → Bool
-fits (pos n) = nat_lt n (2 ^ 63)
-fits (negsuc n) = nat_lt n (2 ^ 63)
 
 -- the number, or the reason that it lies outside 64 bits
 abbrev pub within_64_bits : ℤ → Answer ℤ
 within_64_bits z = if fits z then Ok z else Err number_too_large
-
--- the number with this sign (true: negative) and absolute value
-abbrev pub signed : Bool → ℕ → ℤ
-signed false n = pos n
-signed true n = neg_ℤ (pos n)
-
--- a quotient, rounded down; b is not 0
-abbrev pub quotient : ℤ → ℤ → ℤ
-quotient (pos a) (pos b) = signed false (a / b)
-quotient (pos a) (negsuc b) = signed true (div_ceil a (suc b))
-quotient (negsuc a) (pos b) = signed true (div_ceil (suc a) b)
-quotient (negsuc a) (negsuc b) = signed false (suc a / suc b)
 
 -- the rest of the quotient; its sign is that of b
 abbrev pub remainder : ℤ → ℤ → ℤ

@@ -1,6 +1,7 @@
 //! Theorems of integer arithmetic: quotient and remainder, and the operators of bits (expr(n), OPERATORS).
 ghost use Rattle.std.specs.Prelude.{◌≡◌, ◌&&◌, ◌||◌, ℕ, ℤ, ◌+ℤ◌, ◌*ℤ◌, false, not};
-ghost use Rattle.tcloperators.specs.Numbers.{quotient, remainder, IsRemainder, is_zero};
+ghost use Rattle.tclnumber.specs.Division.{quotient};
+ghost use Rattle.tcloperators.specs.Numbers.{remainder, IsRemainder, is_zero};
 ghost use Rattle.tcloperators.specs.Numbers.{bitwise_and, bitwise_or, bitwise_xor, bitwise_not};
 ghost use Rattle.tcloperators.specs.Numbers.{has_bit, exactly_one, MakesEachBit, IsDeterminedByBits};
 

@@ -1,6 +1,7 @@
 //! Arithmetic of two whole numbers of 64 bits (expr(n), OPERATORS).
-ghost use Rattle.std.specs.Prelude.{◌≡◌, ◌^◌, ◌*ℤ◌, pos, true, false, IfErr};
+ghost use Rattle.std.specs.Prelude.{◌≡◌, ◌^◌, ◌*ℤ◌, pos, IfErr};
 ghost use Rattle.tcllist.specs.Answers.{Gives};
+ghost use Rattle.tclnumber.specs.Division.{quotient};
 ghost use Rattle.tcloperators.specs.Faults.{reason_of};
 ghost use Rattle.tcloperators.specs.Numbers as numbers;
 ghost use Rattle.tcloperators.specs.declared.fault.ValueFault.TheVariants.{NumberTooLarge};
@@ -8,6 +9,7 @@ ghost use Rattle.tcloperators.specs.declared.fault.ValueFault.TheVariants.{Numbe
 use crate::fault::ValueFault;
 use crate::messages::{divide_by_zero, negative_shift};
 use std::alloc::Global;
+use tclnumber::quotient;
 
 /// The two whole numbers that an operator computes with.
 #[derive(Clone, Copy)]
@@ -49,13 +51,7 @@ impl Operands {
         if self.right == 0 {
             return Err(divide_by_zero(alloc));
         }
-        let dividend = self.left.unsigned_abs();
-        let divisor = self.right.unsigned_abs();
-        if (self.left < 0) == (self.right < 0) {
-            positive(dividend / divisor)
-        } else {
-            negative(dividend.div_ceil(divisor))
-        }
+        quotient(self.left, self.right).ok_or(ValueFault::NumberTooLarge)
     }
 
     /// `left % right`, with the sign of the divisor; the error for a divisor 0 is one of Tcl.
@@ -148,25 +144,7 @@ fn doubled(number: i64, times: u64) -> Result<i64, ValueFault>
 
 /// A number halved so many times, rounded down each time.
 fn halved(number: i64, times: u64) -> i64
-    ensures { result ≡ numbers.quotient number (pos (2 ^ times)) }
+    ensures { result ≡ quotient number (pos (2 ^ times)) }
 {
     number >> times.min(63)
-}
-
-/// The whole number of this size from 0 on, or `NumberTooLarge` outside 64 bits.
-fn positive(size: u64) -> Result<i64, ValueFault>
-    ensures { Gives reason_of (λ z. z) result (numbers.within_64_bits (numbers.signed false size)) }
-{
-    0_i64
-        .checked_add_unsigned(size)
-        .ok_or(ValueFault::NumberTooLarge)
-}
-
-/// The whole number of this size from 0 down, or `NumberTooLarge` outside 64 bits.
-fn negative(size: u64) -> Result<i64, ValueFault>
-    ensures { Gives reason_of (λ z. z) result (numbers.within_64_bits (numbers.signed true size)) }
-{
-    0_i64
-        .checked_sub_unsigned(size)
-        .ok_or(ValueFault::NumberTooLarge)
 }
