@@ -1,4 +1,5 @@
 pub mod Examples
 pub mod NumberLemmas
 pub mod DivisionLemmas
+pub mod RestLemmas
 pub mod BitLemmas

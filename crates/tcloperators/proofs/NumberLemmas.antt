@@ -12,7 +12,7 @@ use Rattle.tcloperators.specs.Faults.{reason_of, number_too_large}
 use Rattle.tcloperators.specs.Numbers.{within_64_bits}
 use Rattle.tcloperators.specs.declared.fault.ValueFault.TheVariants.{NumberTooLarge}
 
-fitting : (z : ℤ) → FitsSigned w64 z → within_64_bits z ≡ Ok z
+pub fitting : (z : ℤ) → FitsSigned w64 z → within_64_bits z ≡ Ok z
 fitting (pos n) f = rw (lt-ltb n (2 ^ 63) f.sfits) refl
 fitting (negsuc n) f = rw (lt-ltb n (2 ^ 63) f.sfits) refl
 
