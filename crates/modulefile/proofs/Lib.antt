@@ -7,4 +7,3 @@ mod Showing
 mod PlayedFiles
 mod PlainFiles
 mod ComputedFiles
-mod RefusedEdits

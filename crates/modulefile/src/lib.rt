@@ -1,12 +1,11 @@
 //! What the commands of modulefiles mean in every mode (modulefile(5)), and what a whole file makes of an environment.
-//! Takes memory, and edits the variables that it is given.
-//! Used by modulerun, defaultfiles, reports, requests and requeststep.
+//! Takes memory and touches nothing else.
+//! Used by modulerun, defaultfiles, requests, requeststep and the crates of sites.
 #![tactic(auto)]
 
 mod call;
 mod call_fault;
 mod delimiter;
-mod effects;
 mod laws;
 mod names;
 mod record_fault;
@@ -16,7 +15,6 @@ mod rows;
 pub use call::{Call, InfoField, PathEdit, call_of};
 pub use call_fault::CallFault;
 pub use delimiter::Delimiter;
-pub use effects::effect;
 pub use laws::{files, plain, played, words};
 pub use names::{command_names, is_unsupported_command};
 pub use record_fault::RecordFault;

@@ -1,3 +1,4 @@
+mod RefusedEdits
 pub mod JournalLemmas
 pub mod ListLemmas
 pub mod ReplyLemmas

@@ -11,8 +11,9 @@ ghost use Rattle.modulefile.specs.RecordViews.{mode_view, record_view, IsEdited}
 ghost use Rattle.modulerun.specs.Journals.{environment_so_far, journal_state, words_in, AddsCommand};
 
 use crate::accepted::AcceptedCommand;
+use crate::effects::effect;
 use envvars::{Change, EnvFault, Vars, Working};
-use modulefile::{Mode, Record, RecordFault, effect};
+use modulefile::{Mode, Record, RecordFault};
 use std::alloc::{AllocError, Global};
 use std::marker::Model;
 use std::snapshot::Snapshot;

@@ -3,7 +3,7 @@ use Rattle.std.proofs.lemmas.Iterator.{YieldsList-from_slice}
 use Rattle.std.proofs.lemmas.Iterator.Search.{all_from_yields_List}
 use Rattle.std.proofs.lemmas.List.Folds.{list_all-map}
 use Rattle.envpaths.specs.PathVariables.{is_element}
-use Rattle.modulefile.proofs.effects.are_elements.Goals as goal
+use Rattle.modulerun.proofs.effects.are_elements.Goals as goal
 use borrow.Author.Tests.{tests}
 
 pub returns : goal.returns

@@ -1,5 +1,5 @@
 use Rattle.std.proofs.Common.{sym}
-use Rattle.modulefile.proofs.effects.unload.Goals as goal
+use Rattle.modulerun.proofs.effects.unload.Goals as goal
 
 pub returns-in-Push-clause-edits : goal.returns-in-Push-clause-edits
 returns-in-Push-clause-edits g c = rw c.in-Push.is (rw (sym c.deref-in-Push.ensures) c.pop_value.ensures.edits)

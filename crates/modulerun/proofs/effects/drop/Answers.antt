@@ -4,7 +4,7 @@ use Rattle.std.proofs.Common.{subst}
 use Rattle.envvars.specs.Texts.{Text, slice_texts}
 use Rattle.envvars.specs.Reasons.{Edits}
 use Rattle.envpaths.specs.PathVariables.{dropped_path}
-use Rattle.modulefile.proofs.effects.drop.Goals as goal
+use Rattle.modulerun.proofs.effects.drop.Goals as goal
 
 pub returns-clause-edits : goal.returns-clause-edits
 returns-clause-edits g c =

@@ -2,7 +2,7 @@ use Rattle.std.proofs.Common.{◌∙◌, ap, List, subst}
 use Rattle.envvars.specs.Texts.{Text, slice_texts}
 use Rattle.envvars.specs.Reasons.{Edits}
 use Rattle.envpaths.specs.PathVariables.{added_path}
-use Rattle.modulefile.proofs.effects.add.Goals as goal
+use Rattle.modulerun.proofs.effects.add.Goals as goal
 
 pub returns-clause-edits : goal.returns-clause-edits
 returns-clause-edits g c =

@@ -1,6 +1,6 @@
 use Rattle.std.proofs.Common.{◌≡◌, drop, map, string_bytes}
 use Rattle.modulerecords.specs.Judgments.{names_reason}
-use Rattle.modulefile.proofs.effects.judge_names.Given as goal
+use Rattle.modulerun.proofs.effects.judge_names.Given as goal
 
 -- what is left decides
 abbrev pub invariant-loop-name : goal.invariant-loop-name

@@ -8,14 +8,11 @@ ghost use Rattle.modulerecords.specs.Judgments.{bad_edit, value_reason, values_o
 ghost use Rattle.modulerecords.specs.Effects.{loaded_by, unloaded_by, edited, effect};
 ghost use Rattle.modulefile.specs.RecordViews.{record_view, mode_view, IsJudged, IsEdited};
 
-use crate::call::PathEdit;
-use crate::delimiter::Delimiter;
-use crate::record_fault::RecordFault;
-use crate::records::{Mode, Record};
 use envpaths::{End, add_path, drop_path, is_element};
 use envstacks::{pop_value, push_value};
 use envvars::fields::slices;
 use envvars::{EnvFault, Vars, is_nul_free, judge_name};
+use modulefile::{Delimiter, Mode, PathEdit, Record, RecordFault};
 use modulename::is_module_name;
 use std::alloc::Global;
 
@@ -209,7 +206,7 @@ fn edit<V: Vars>(
 /// It is refused, in this order, by `BadVariable` (32), `Protected` (33) and `BadValue` (37), or by `BadModuleName`
 /// (44) of the first name that is ill spelled, in every mode, and then by `CounterFull` (34) or `BadStack` (36); or by
 /// `OutOfMemory`. The environment is then as it was.
-pub fn effect<V: Vars>(
+pub(crate) fn effect<V: Vars>(
     alloc: Global,
     mode: Mode,
     owner: &str,

@@ -3,8 +3,8 @@ use Rattle.envvars.specs.Reasons.{reason_of}
 use Rattle.modulerecords.specs.Judgments.{record_reason}
 use Rattle.modulerecords.specs.Effects.{edited}
 use Rattle.modulefile.specs.RecordViews.{record_view, mode_view}
-use Rattle.modulefile.proofs.RefusedEdits.{refused_edit}
-use Rattle.modulefile.proofs.effects.effect.Goals as goal
+use Rattle.modulerun.proofs.RefusedEdits.{refused_edit}
+use Rattle.modulerun.proofs.effects.effect.Goals as goal
 
 pub returns-in_err-edit-clause-edits : goal.returns-in_err-edit-clause-edits
 returns-in_err-edit-clause-edits g c =

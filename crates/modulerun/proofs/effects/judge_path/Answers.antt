@@ -1,8 +1,8 @@
 use Rattle.std.proofs.lemmas.Result.{err_from_is_err_and}
 use Rattle.envvars.specs.Names.{name_reason}
 use Rattle.envvars.specs.Reasons.{reason_of}
-use Rattle.modulefile.proofs.RefusedEdits.{name_refused}
-use Rattle.modulefile.proofs.effects.judge_path.Goals as goal
+use Rattle.modulerun.proofs.RefusedEdits.{name_refused}
+use Rattle.modulerun.proofs.effects.judge_path.Goals as goal
 
 pub returns-in_err-judge_name : goal.returns-in_err-judge_name
 returns-in_err-judge_name c =
