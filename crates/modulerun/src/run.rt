@@ -1,5 +1,5 @@
 //! The run of a modulefile over an environment.
-ghost use Rattle.std.specs.Prelude.{◌≡◌, Some, IfOk, IfSome};
+ghost use Rattle.std.specs.Prelude.{◌≡◌, true, false, Some, IfOk, IfErr, IfSome};
 ghost use Rattle.tclrules.specs.Promise.{texts_of};
 ghost use Rattle.modulefile.specs.Files.{globals_of, refused_by};
 ghost use Rattle.modulerun.specs.Hosting.{refusal_view};
@@ -23,8 +23,20 @@ pub struct Ran {
     pub messages: Vec<String>,
     pub asked: bool,
     /// The words of the first question, as `getenv HOME` or `$env(HOME)`. Where it asked nothing there are none, and
-    /// where memory was short there can be none; no clause speaks of them.
+    /// where memory was short there can be none; no clause says which they are.
     pub question: Option<String>,
+}
+
+/// The records of a module whose evaluation asked nothing. Else they may differ elsewhere: these are the words of its
+/// first question, where there was memory for them.
+pub fn records_unless_asked(ran: Ran) -> Result<Vec<Record>, Option<String>>
+    ensures asked { IfErr result (λ question. (ran.asked ≡ true) × (question ≡ ran.question)) }
+    ensures unasked { IfOk result (λ records. (ran.asked ≡ false) × (records ≡ ran.records)) }
+{
+    if ran.asked {
+        return Err(ran.question);
+    }
+    Ok(ran.records)
 }
 
 /// What an accepted file leaves, and the changes that its environment doesn't have yet.

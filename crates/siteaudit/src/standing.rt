@@ -11,10 +11,9 @@ ghost use Rattle.siteclash.specs.UseViews.{use_view, used_view};
 ghost use Rattle.siteaudit.specs.Findings.{AreUnlike, IsFinding, IsFindingOf};
 
 use modulefile::{Delimiter, Record};
-use modulerun::Ran;
+use modulerun::{Ran, records_unless_asked};
 use requeststep::{Refusal, is_reversible};
 use siteclash::{Clash, UsedVariable, VariableUse, first_unlike, used_by};
-use sitewalk::records_unless_asked;
 use std::alloc::{AllocError, Global};
 
 /// How a module of a site stands.

@@ -15,7 +15,6 @@ mod progress;
 mod walk;
 
 pub use fault::WalkFault;
-pub use plain::records_unless_asked;
 pub use progress::{Progress, Silent};
 pub use sitelaws::laws::{sessions_return, walks};
 pub use walk::{Evaluation, MAX_DIRECTORIES, Walk, walk_site};
