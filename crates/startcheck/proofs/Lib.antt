@@ -1,5 +1,4 @@
-mod Values
-mod PathAnew
+mod NotRefused
 mod LoadedAnew
 mod UnusedNames
 mod StackAnew

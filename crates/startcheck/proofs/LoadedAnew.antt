@@ -12,10 +12,11 @@ use Rattle.envloaded.specs.Loaded.{Entry, names_of, names_text, files_text, conf
 use Rattle.envvars.proofs.TextLemmas.{same_text, bytes_eq-same}
 use Rattle.envvars.proofs.EditLemmas.{both_true, and_both}
 use Rattle.envvars.proofs.EnvLemmas.{lookup-with_value, same_environment}
+use Rattle.envpaths.proofs.CopyLemmas.{same_values, value_same}
 use Rattle.envloaded.proofs.LoadedReadable.{loaded_readable}
 use Rattle.envloaded.proofs.LoadedEdits.{list_push, loaded_after_add}
 use Rattle.envloaded.proofs.LoadedAgain.{loaded_again}
-use Rattle.startcheck.proofs.Values.{same_values, value_same, memory_alone}
+use Rattle.startcheck.proofs.NotRefused.{memory_alone}
 
 at_names : (e : Environment) (xs : List Entry) → lookup (with_loaded e xs) names_variable ≡ names_text xs
 at_names e xs = simp lookup-with_value

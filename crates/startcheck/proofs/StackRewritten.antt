@@ -10,13 +10,14 @@ use Rattle.envvars.specs.Reasons.{EnvReason, reason_of, bad_stack}
 use Rattle.envvars.specs.EnvFault.{EnvFault}
 use Rattle.envvars.specs.EnvFault.TheVariants.{OutOfMemory, BadVariable, Protected, CounterFull, Inconsistent, BadStack, BadValue}
 use Rattle.envvars.proofs.TextLemmas.{bytes_eq-same}
+use Rattle.envpaths.proofs.CopyLemmas.{both_same, copied, at_copy, at_beside}
 use Rattle.envstacks.specs.Stacks.{StackState, holds, push, pop}
 use Rattle.envstacks.specs.StackTexts.{items_in}
 use Rattle.envstacks.specs.StackVariables.{stack_from, stack_in, pushed_on, pushed_value, popped_from, popped_value, with_stack}
 use Rattle.envstacks.specs.StackOrder.{HoldsStack}
 use Rattle.envstacks.proofs.StackAfter.{was_stack, stack_after_push, no_stack_pushed, written_after_pop}
 use Rattle.startcheck.specs.Rewriting.{IsPushed, IsStackRewritten}
-use Rattle.startcheck.proofs.Values.{memory_alone, both_same, copied, at_copy, at_beside}
+use Rattle.startcheck.proofs.NotRefused.{memory_alone}
 
 -- the copy has the stack of the variable
 pub stack_copied : (e copy : Environment) (v stack : Text) → stack ≡ stack_name v → copy ≡ copied (lookup e v) (codes "__MODULES_PUSHENV_V") (lookup e stack)

@@ -13,10 +13,10 @@ ghost use Rattle.startcheck.specs.DisagreementViews.{disagreement_view};
 
 use crate::disagreement::Disagreement;
 use crate::list::{are_loaded_in_order, loaded_entries};
-use crate::paths::is_path_in_order;
 use crate::stacks::is_stack_in_order;
 use certificate::{UsedVariable, VariableUse};
 use envloaded::Loaded;
+use envpaths::is_path_in_order;
 use envvars::{Env, EnvFault};
 use std::alloc::{AllocError, Global};
 
@@ -37,7 +37,7 @@ fn agrees_with_use(
     match &wanted.used {
         VariableUse::Fixed(None) => Ok(env.get(variable).is_none()),
         VariableUse::Fixed(Some(value)) => Ok(env.get(variable) == Some(value.as_str())),
-        VariableUse::Pathed(delim) => is_path_in_order(alloc, env, variable, *delim),
+        VariableUse::Pathed(delim) => is_path_in_order(alloc, env, variable, delim.character),
         VariableUse::Stacked => match owners {
             Some(owners) => is_stack_in_order(alloc, env, variable, owners.as_slice()),
             None => Ok(true),

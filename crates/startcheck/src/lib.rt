@@ -4,10 +4,8 @@
 #![tactic(auto)]
 
 mod agreement;
-mod copies;
 mod disagreement;
 mod list;
-mod paths;
 mod stacks;
 
 pub use agreement::disagreements;

@@ -11,9 +11,9 @@ ghost use Rattle.envloaded.specs.Loaded.{names_of};
 ghost use Rattle.envloaded.specs.LoadedEntries.{entry_view};
 ghost use Rattle.startcheck.specs.Rewriting.{IsPushed, IsStackRewritten, is_of_loaded};
 
-use crate::copies::{COPY, copy_of, is_kept};
 use crate::list::unused_name;
 use envloaded::Loaded;
+use envpaths::copies::{COPY, copy_of, is_kept};
 use envstacks::{pop_value, push_value};
 use envvars::escapes::unescaped_fields;
 use envvars::{Env, EnvFault, stack_name};

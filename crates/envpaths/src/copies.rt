@@ -10,7 +10,7 @@ use envvars::{Env, EnvFault};
 use std::alloc::Global;
 
 /// The name of a copy, whatever the variable itself is called.
-pub(crate) const COPY: &str = "V";
+pub const COPY: &str = "V";
 
 /// Gives a variable this value, or unsets it.
 fn put(copy: &mut Env, name: &str, value: Option<&str>) -> Result<(), EnvFault>
@@ -27,7 +27,7 @@ fn put(copy: &mut Env, name: &str, value: Option<&str>) -> Result<(), EnvFault>
 }
 
 /// An environment of two variables: a copy of one of this environment, and of a second one under another name.
-pub(crate) fn copy_of(
+pub fn copy_of(
     alloc: Global,
     env: &Env,
     variable: &str,
@@ -52,13 +52,7 @@ fn is_same(env: &Env, variable: &str, copy: &Env, name: &str) -> bool
 }
 
 /// Whether a copy and what is beside it have the values of the variable and of what is beside that.
-pub(crate) fn is_kept(
-    env: &Env,
-    variable: &str,
-    beside: &str,
-    copy: &Env,
-    copy_beside: &str,
-) -> bool
+pub fn is_kept(env: &Env, variable: &str, beside: &str, copy: &Env, copy_beside: &str) -> bool
     ensures { result ≡ (same_value (lookup copy.now (codes "V")) (lookup env.now variable.now)
         && same_value (lookup copy.now copy_beside.now) (lookup env.now beside.now)) }
 {

@@ -9,7 +9,7 @@ use Rattle.envpaths.specs.PathTexts.{elements_text, pairs_text, state_of}
 use Rattle.envpaths.specs.PathVariables.{path_in, dropped_path}
 use Rattle.envpaths.specs.PathOrder.{IsPathInOrder}
 use Rattle.envpaths.proofs.PathOrderLemmas.{LeavesPath-dropped}
-use Rattle.startcheck.proofs.Values.{both_same, copied, at_copy, at_beside}
+use Rattle.envpaths.proofs.CopyLemmas.{both_same, copied, at_copy, at_beside}
 
 -- the copy has the state of the variable
 state_copied : (e : Environment) (v : Text) (d : ℕ) → path_in (copied (lookup e v) (codes "__MODULES_SHARE_V") (lookup e (share_name v))) (codes "V") d ≡ path_in e v d

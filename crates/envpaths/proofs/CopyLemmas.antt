@@ -1,13 +1,10 @@
 -- Values of variables that are compared, and copies of variables.
-use Rattle.std.proofs.Common.{◌≡◌, Bool, true, false, cond, ◌&&◌, refl, sym, ap, ◌∙◌, subst, codes, Option, Some, None, Result, Ok, Err, IsTrue}
-use Rattle.std.specs.Prelude.{bytes_eq, IfSome}
+use Rattle.std.proofs.Common.{◌≡◌, Bool, true, false, cond, ◌&&◌, refl, sym, ap, ◌∙◌, subst, codes, Option, Some, None, IsTrue}
+use Rattle.std.specs.Prelude.{bytes_eq}
 use Rattle.std.specs.FinMap as finite
 use Rattle.envvars.specs.Texts.{Text}
 use Rattle.envvars.specs.Environment.{Environment, lookup, with_value}
 use Rattle.envvars.specs.Changes.{same_value}
-use Rattle.envvars.specs.Reasons.{EnvReason, reason_of}
-use Rattle.envvars.specs.EnvFault.{EnvFault}
-use Rattle.envvars.specs.EnvFault.TheVariants.{OutOfMemory, BadVariable, Protected, CounterFull, Inconsistent, BadStack, BadValue}
 use Rattle.envvars.proofs.TextLemmas.{same_text, bytes_eq-same}
 use Rattle.envvars.proofs.EnvLemmas.{lookup-with_value, lookup-set}
 use Rattle.envvars.proofs.EditLemmas.{both_true, and_both}
@@ -43,17 +40,3 @@ at_copy o p beside h =
 
 pub at_beside : (o p : Option Text) (beside : Text) → lookup (copied o beside p) beside ≡ p
 at_beside o p beside = lookup-set (with_value finite.empty (codes "V") o) beside p
-
--- an edit that isn't refused fails for want of memory alone
-
-not_refused : (outcome : Result Environment EnvReason) (new : Environment) (r : EnvReason) → outcome ≡ Ok new → outcome ≡ Err r → ⊥
-not_refused outcome new r h k = let g : (let o : Result Environment EnvReason = Ok new in o) ≡ Err r = sym h ∙ k in cc
-
-pub memory_alone : (fault : EnvFault) (outcome : Result Environment EnvReason) (new : Environment) → outcome ≡ Ok new → IfSome (reason_of fault) (λ r. outcome ≡ Err r) → fault ≡ OutOfMemory
-memory_alone OutOfMemory outcome new h k = refl
-memory_alone (BadVariable x) outcome new h k = absurd (not_refused outcome new _ h k)
-memory_alone (Protected x) outcome new h k = absurd (not_refused outcome new _ h k)
-memory_alone (CounterFull x) outcome new h k = absurd (not_refused outcome new _ h k)
-memory_alone Inconsistent outcome new h k = absurd (not_refused outcome new _ h k)
-memory_alone (BadStack x) outcome new h k = absurd (not_refused outcome new _ h k)
-memory_alone (BadValue x) outcome new h k = absurd (not_refused outcome new _ h k)
