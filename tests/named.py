@@ -23,7 +23,7 @@ CLAUSE = re.compile(r"\bensures(?: (\w+))? \{(.*?)(?=\bensures\b|\brequires\b|\Z
 OF_FAULTS = {"number", "message"}
 
 # What is public for the crates above alone, which CLAIMS omits.
-HELPERS = {"envtable": ("escapes", "fields", "table"), "envpaths": ("copies",)}
+HELPERS = {"envtable": ("escapes", "fields", "table"), "envpaths": ("copies",), "sitelaws": ("directories",)}
 
 # Around the proof of each library the gate reads the files of all crates below it, along each path of their graph anew.
 MOST_PATHS = 200_000

@@ -27,13 +27,15 @@ use Rattle.requeststep.specs.declared.refusal.Refusal.{Refusal}
 use Rattle.sitelaws.specs.RecordUses.{IsAmong}
 use Rattle.sitelaws.specs.Sites.{Site, SiteModule, Evaluated, EvaluatesTo, HasPlainRecords, IsIn, IsDirectory, first, added, IsClosed, AreNamesBelow, AreModulesIn, module_below, first_directories, added_directories, over_site, plain_by}
 use Rattle.sitelaws.specs.Laws.{DirectoriesFound}
+use Rattle.sitelaws.specs.DirectorySets.{with_directories}
 use Rattle.sitewalk.specs.declared.walk.Evaluation.{Evaluation}
 use Rattle.sitewalk.specs.declared.walk.TheConstants.{MAX_DIRECTORIES}
 use Rattle.sitewalk.specs.Walks.{directories_by_plain, directories_of, IsWalk, IsOutcome, AreEvaluations, HasTooMany}
-use Rattle.sitewalk.specs.Parts.{with_directories, is_plain_ran, directories_after, directories_found, AreEvaluationsOf, IsEvaluationOf, GoesThrough}
+use Rattle.sitewalk.specs.Parts.{is_plain_ran, directories_after, directories_found, AreEvaluationsOf, IsEvaluationOf, GoesThrough}
 use Rattle.sitelaws.proofs.UsedLemmas.{by_cases, among_left, among_right, among_either}
+use Rattle.sitelaws.proofs.DirectorySetLemmas.{with-append}
 use Rattle.sitewalk.proofs.AmongLemmas.{at_place, take_next, take_all_gone, map_parts, in_map, of_map, flat_map_parts, in_flat_map, of_flat_map}
-use Rattle.sitewalk.proofs.DirectoryLemmas.{with-append, once, begins, comes, came}
+use Rattle.sitewalk.proofs.DirectoryLemmas.{once, begins, comes, came}
 
 -- ---- lists of evaluations
 

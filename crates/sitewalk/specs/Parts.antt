@@ -1,8 +1,7 @@
 -- The parts of a walk over a site, for the contracts of this crate's private functions (own).
-use Rattle.std.specs.Prelude.{◌≡◌, Bool, true, false, not, ◌&&◌, List, [], ◌∷◌, ◌++◌, map, flat_map, bytes_eq, if◌then◌else◌, Some, None, Result, Ok, Err}
+use Rattle.std.specs.Prelude.{◌≡◌, Bool, true, false, not, ◌&&◌, List, [], ◌++◌, map, flat_map, if◌then◌else◌, Some, None, Result, Ok, Err}
 use Rattle.std.specs.List.{list_all}
 use Rattle.std.specs.Option.{option_map}
-use Rattle.indexmap.specs.IndexSet.{insert_key}
 use Rattle.envvars.specs.Texts.{Text}
 use Rattle.envvars.specs.Environment.{Environment}
 use Rattle.envvars.specs.Reasons as edits
@@ -22,6 +21,7 @@ use Rattle.requests.specs.Reasons.{RequestReason, refused_edit}
 use Rattle.requeststep.specs.Answers.{cause_of}
 use Rattle.requeststep.specs.declared.refusal.Refusal.{Refusal}
 use Rattle.sitelaws.specs.RecordUses.{IsAmong}
+use Rattle.sitelaws.specs.DirectorySets.{with_directories}
 use Rattle.sitelaws.specs.Sites.{Site, SiteModule, Evaluated, EvaluatesTo, AreNamesBelow, added_directories, module_below}
 use Rattle.sitewalk.specs.Walks.{IsEvaluation, AreEvaluations}
 use Rattle.sitewalk.specs.declared.walk.Evaluation.{Evaluation}
@@ -95,11 +95,6 @@ AreEvaluationsBelow site dir evaluations =
     (names : List Text) × AreNamesBelow site dir names × AreEvaluationsOf site (map (module_below dir) names) evaluations
 
 -- ---- directories
-
--- the directories with these after them, each once, in the order of first occurrences
-abbrev pub with_directories : List Text → List Text → List Text
-with_directories dirs [] = dirs
-with_directories dirs (dir ∷ more) = with_directories (insert_key bytes_eq dirs dir) more
 
 -- the evaluation is that of a plain module
 abbrev pub is_plain_ran : Ran → Bool

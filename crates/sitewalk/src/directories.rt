@@ -1,47 +1,17 @@
-//! The directories of a site that a walk has found, each once, in the order in which they were found.
-ghost use Rattle.std.specs.Prelude.{◌≡◌, [], ◌∷◌, map, flat_map, slice_get, Ok, IfOk, OnOk, string_bytes};
-ghost use Rattle.std.specs.Option.{option_map};
-ghost use Rattle.envvars.specs.Texts.{texts_in};
+//! The directories that evaluated modules add to those of a site.
+ghost use Rattle.std.specs.Prelude.{◌≡◌, map, flat_map, Ok, OnOk, string_bytes};
 ghost use Rattle.filetree.specs.Modulefiles.{directories};
 ghost use Rattle.modulefile.specs.RecordViews.{record_view};
 ghost use Rattle.sitelaws.specs.Sites.{directories_in, directories_by, added_directories};
-ghost use Rattle.sitewalk.specs.Parts.{with_directories, directories_after, directories_found};
+ghost use Rattle.sitelaws.specs.DirectorySets.{with_directories};
+ghost use Rattle.sitewalk.specs.Parts.{directories_after, directories_found};
 
 use crate::plain::is_plain;
 use crate::walk::Evaluation;
-use indexmap::IndexSet;
 use modulefile::{PathEdit, Record};
 use modulerun::Ran;
-use search::directories;
+use sitelaws::directories::{Directories, push_directories};
 use std::alloc::{AllocError, Global};
-
-/// The directories that are found, each once.
-pub(crate) type Directories = IndexSet<String>;
-
-/// Adds a directory, unless it is there.
-fn push_directory(alloc: Global, dirs: &mut Directories, dir: &str) -> Result<(), AllocError>
-    ensures { OnOk result (map string_bytes dirs.new.keys
-        ≡ with_directories (map string_bytes dirs.old.keys) (dir.now ∷ [])) }
-{
-    let _is_new = dirs.insert(String::from_str(alloc, dir)?)?;
-    Ok(())
-}
-
-/// Adds the directories in a text that is parted as MODULEPATH is.
-pub(crate) fn push_directories(
-    alloc: Global,
-    dirs: &mut Directories,
-    modulepath: &str,
-) -> Result<(), AllocError>
-    ensures { OnOk result (map string_bytes dirs.new.keys
-        ≡ with_directories (map string_bytes dirs.old.keys) (directories modulepath.now)) }
-{
-    let parts = directories(alloc, modulepath)?;
-    for dir in &parts {
-        push_directory(alloc, dirs, *dir)?;
-    }
-    Ok(())
-}
 
 /// Adds the directories in each of these texts.
 fn push_each(alloc: Global, dirs: &mut Directories, elements: &[String]) -> Result<(), AllocError>
@@ -138,26 +108,4 @@ pub(crate) fn push_found(
         push_evaluated(alloc, dirs, evaluation)?;
     }
     Ok(())
-}
-
-/// A copy of the directory at a place in their order, if there are so many.
-pub(crate) fn directory_at(
-    alloc: Global,
-    dirs: &Directories,
-    place: usize,
-) -> Result<Option<String>, AllocError>
-    ensures { IfOk result (λ dir.
-        option_map string_bytes dir ≡ slice_get (map string_bytes dirs.now.keys) place) }
-{
-    match dirs.get_index(place) {
-        Some(dir) => Ok(Some(String::from_str(alloc, dir.as_str())?)),
-        None => Ok(None),
-    }
-}
-
-/// The directories, in their order.
-pub(crate) fn in_order(alloc: Global, dirs: Directories) -> Result<Vec<String>, AllocError>
-    ensures { IfOk result (λ v. texts_in v ≡ map string_bytes dirs.keys) }
-{
-    dirs.into_iter().collect(alloc)
 }

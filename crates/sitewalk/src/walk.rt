@@ -8,7 +8,7 @@ ghost use Rattle.sitewalk.specs.Walks.{IsWalkAnswer, HasCause};
 ghost use Rattle.sitewalk.specs.Parts.{HasLoaded, GivesUp, GoesThrough};
 
 use crate::below::evaluate_below;
-use crate::directories::{Directories, directory_at, in_order, push_directories, push_found};
+use crate::directories::push_found;
 use crate::fault::WalkFault;
 use crate::files::{SiteSettings, loaded_names};
 use crate::progress::Progress;
@@ -17,6 +17,7 @@ use filetree::Tree;
 use indexmap::IndexSet;
 use modulerun::Ran;
 use requeststep::Refusal;
+use sitelaws::directories::{Directories, directory_at, in_order, push_directories};
 use std::alloc::Global;
 use tclrules::Limits;
 

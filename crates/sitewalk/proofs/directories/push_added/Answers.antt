@@ -3,8 +3,8 @@ use Rattle.envvars.specs.Texts.{Text}
 use Rattle.modulefile.specs.RecordViews.{record_view}
 use Rattle.modulefile.specs.declared.records.Record.{Record}
 use Rattle.sitelaws.specs.Sites.{directories_by, added_directories}
+use Rattle.sitelaws.proofs.DirectorySetLemmas.{dirs_turn}
 use Rattle.sitewalk.proofs.AmongLemmas.{flat_seen}
-use Rattle.sitewalk.proofs.DirectoryLemmas.{dirs_turn}
 use Rattle.sitewalk.proofs.directories.push_added.Goals as goal
 
 pub loop-recorded-preserved : goal.loop-recorded-preserved

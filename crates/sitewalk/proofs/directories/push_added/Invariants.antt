@@ -1,7 +1,7 @@
 use Rattle.std.proofs.Common.{◌≡◌, map, take, string_bytes}
 use Rattle.modulefile.specs.RecordViews.{record_view}
 use Rattle.sitelaws.specs.Sites.{added_directories}
-use Rattle.sitewalk.specs.Parts.{with_directories}
+use Rattle.sitelaws.specs.DirectorySets.{with_directories}
 use Rattle.sitewalk.proofs.directories.push_added.Given as goal
 
 abbrev pub invariant-loop-recorded : goal.invariant-loop-recorded

@@ -1,8 +1,8 @@
 use Rattle.std.proofs.Common.{String, Global, List, map, flat_map, string_bytes, append-nil}
 use Rattle.envvars.specs.Texts.{Text}
 use Rattle.filetree.specs.Modulefiles.{directories}
+use Rattle.sitelaws.proofs.DirectorySetLemmas.{dirs_turn}
 use Rattle.sitewalk.proofs.AmongLemmas.{flat_seen}
-use Rattle.sitewalk.proofs.DirectoryLemmas.{dirs_turn}
 use Rattle.sitewalk.proofs.directories.push_each.Goals as goal
 
 pub loop-element-preserved : goal.loop-element-preserved

@@ -1,6 +1,6 @@
 use Rattle.std.proofs.Common.{◌≡◌, map, flat_map, take, string_bytes}
 use Rattle.filetree.specs.Modulefiles.{directories}
-use Rattle.sitewalk.specs.Parts.{with_directories}
+use Rattle.sitelaws.specs.DirectorySets.{with_directories}
 use Rattle.sitewalk.proofs.directories.push_each.Given as goal
 
 abbrev pub invariant-loop-element : goal.invariant-loop-element

@@ -2,8 +2,8 @@ use Rattle.std.proofs.Common.{List, map, string_bytes, append-nil}
 use Rattle.envvars.specs.Texts.{Text}
 use Rattle.sitewalk.specs.Parts.{directories_after, directories_found}
 use Rattle.sitewalk.specs.declared.walk.Evaluation.{Evaluation}
+use Rattle.sitelaws.proofs.DirectorySetLemmas.{dirs_turn}
 use Rattle.sitewalk.proofs.AmongLemmas.{flat_map_parts}
-use Rattle.sitewalk.proofs.DirectoryLemmas.{dirs_turn}
 use Rattle.sitewalk.proofs.directories.push_found.Goals as goal
 
 pub loop-evaluation-preserved : goal.loop-evaluation-preserved

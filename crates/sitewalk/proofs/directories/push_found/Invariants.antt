@@ -1,5 +1,6 @@
 use Rattle.std.proofs.Common.{◌≡◌, map, take, string_bytes}
-use Rattle.sitewalk.specs.Parts.{with_directories, directories_found}
+use Rattle.sitelaws.specs.DirectorySets.{with_directories}
+use Rattle.sitewalk.specs.Parts.{directories_found}
 use Rattle.sitewalk.proofs.directories.push_found.Given as goal
 
 abbrev pub invariant-loop-evaluation : goal.invariant-loop-evaluation

@@ -1,11 +1,11 @@
 use Rattle.std.proofs.Common.{◌≡◌, ◌<◌, List, [], Some, None, map, length, slice_get, option_map, add-one, string_bytes, String, Global, sym, ap, ◌∙◌, subst, arith}
 use Rattle.envvars.specs.Texts.{Text}
 use Rattle.filetree.specs.Modulefiles.{directories}
+use Rattle.sitelaws.specs.DirectorySets.{with_directories}
 use Rattle.sitelaws.specs.Sites.{site_of}
 use Rattle.sitewalk.specs.declared.walk.Evaluation.{Evaluation}
 use Rattle.sitewalk.specs.declared.walk.TheConstants.{MAX_DIRECTORIES}
 use Rattle.sitewalk.specs.Walks.{IsWalk}
-use Rattle.sitewalk.specs.Parts.{with_directories}
 use Rattle.sitewalk.proofs.AmongLemmas.{place_below, length_mapped}
 use Rattle.sitewalk.proofs.DirectoryLemmas.{is_alone}
 use Rattle.sitewalk.proofs.WalkLemmas.{IsWalkTo, walk_begins, walks_on, walk_goes_on, walk_ends, walk_exceeds}
