@@ -2,10 +2,10 @@
 use Rattle.std.proofs.Common.{◌≡◌, ℕ, Bool, false, List, Bor, Option, Some, None, option_map, refl}
 use Rattle.std.specs.Prelude.{IfSome}
 use Rattle.tclchars.specs.Runs.{Text}
-use Rattle.tclreading.specs.Plans.{Job, Step, Next}
-use Rattle.tclreading.specs.Simulates.{Point, Simulates}
-use Rattle.tclreading.specs.Variables.{State, value_at}
-use Rattle.tclreading.specs.Words.{read_scalar}
+use Rattle.tclrules.specs.Plans.{Job, Step, Next}
+use Rattle.tclrules.specs.Simulates.{Point, Simulates}
+use Rattle.tclrules.specs.Variables.{State, value_at}
+use Rattle.tclrules.specs.Words.{read_scalar}
 use Rattle.tclreading.specs.Locations.{is_env}
 use Rattle.tclreading.proofs.Scalars.{scalar_found}
 

@@ -6,14 +6,14 @@ use Rattle.tclscript.specs.Pieces.{between}
 use Rattle.tclscript.specs.View.{parts_view, script_view}
 use Rattle.tclscript.specs.declared.piece.ByteRange.{ByteRange}
 use Rattle.tclexpr.specs.View.{expr_view}
-use Rattle.tclreading.specs.Operators.{truth, truth_text, unary_value, binary_value}
-use Rattle.tclreading.specs.Derivation.{Runs}
-use Rattle.tclreading.specs.Variables.{State}
-use Rattle.tclreading.specs.Plans as plans
-use Rattle.tclreading.specs.Plans.{Bounds, Job, Next, Bracket, on_normal, given, sized}
-use Rattle.tclreading.specs.Simulates.{Point, Simulates}
-use Rattle.tclreading.specs.Words.{parts, read_element}
-use Rattle.tclreading.specs.Expressions.{expr}
+use Rattle.tclrules.specs.Operators.{truth, truth_text, unary_value, binary_value}
+use Rattle.tclrules.specs.Derivation.{Runs}
+use Rattle.tclrules.specs.Variables.{State}
+use Rattle.tclrules.specs.Plans as plans
+use Rattle.tclrules.specs.Plans.{Bounds, Job, Next, Bracket, on_normal, given, sized}
+use Rattle.tclrules.specs.Simulates.{Point, Simulates}
+use Rattle.tclrules.specs.Words.{parts, read_element}
+use Rattle.tclrules.specs.Expressions.{expr}
 use Rattle.tclreading.specs.Stops.{after}
 use Rattle.tclsubstitution.specs.Weights.{parts_weight, expr_weight}
 use Rattle.tclreading.specs.declared.stop.Stop.{Stop}

@@ -1,7 +1,8 @@
 //! What each step of a substitution reads and doesn't change.
 
 use std::alloc::Global;
-use tclreading::{Limits, Variables};
+use tclreading::Variables;
+use tclrules::Limits;
 
 /// The variables, the limits, and the source text of which the pieces of the tree are byte ranges.
 #[derive(Clone, Copy)]

@@ -4,16 +4,16 @@ ghost use Rattle.std.specs.Prelude.{◌≡◌, ◌++◌, ◌+◌, ℕ, [], ◌�
 ghost use Rattle.tclchars.specs.BracedText.{braced_text};
 ghost use Rattle.tclscript.specs.View.{part_view, parts_view};
 ghost use Rattle.tclexpr.specs.View.{expr_view, operand_view};
-ghost use Rattle.tclreading.specs.Operators.{truth_text};
-ghost use Rattle.tclreading.specs.Simulates.{point};
-ghost use Rattle.tclreading.specs.Plans.{sized};
-ghost use Rattle.tclreading.specs.Words.{parts, one};
-ghost use Rattle.tclreading.specs.Expressions.{expr, operand_value};
+ghost use Rattle.tclrules.specs.Operators.{truth_text};
+ghost use Rattle.tclrules.specs.Simulates.{point};
+ghost use Rattle.tclrules.specs.Plans.{sized};
+ghost use Rattle.tclrules.specs.Words.{parts, one};
+ghost use Rattle.tclrules.specs.Expressions.{expr, operand_value};
 ghost use Rattle.tclsubstitution.specs.Weights.{parts_weight, part_weight, expr_weight, operand_weight};
 ghost use Rattle.tclsubstitution.specs.Machine.{range_text, continuation, stack_continuation, control_plan, frame_weight, frames_weight, control_weight, StepsTo};
 ghost use Rattle.tclsubstitution.specs.declared.frame.WaitingFrame.TheVariants.{And, Or, Choice};
 ghost use Rattle.tclreading.specs.declared.stop.Stop.TheVariants.{Fault};
-ghost use Rattle.tclreading.specs.EvalFault.TheVariants.{OutOfMemory};
+ghost use Rattle.tclrules.specs.declared.outcome.EvalFault.TheVariants.{OutOfMemory};
 
 use crate::borrowed_operands::compute_borrowed;
 use crate::context::SubstitutionContext;
@@ -21,7 +21,8 @@ use crate::frame::{Control, Step, WaitingFrame};
 use std::alloc::Global;
 use tclchars::push_braced_text;
 use tclexpr::{Expr, Operand};
-use tclreading::{EvalFault, Host, Stop, binary, read, read_element, truth, unary};
+use tclreading::{Stop, read, read_element};
+use tclrules::{EvalFault, Host, binary, truth, unary};
 use tclscript::{ByteRange, Part};
 
 /// The text of a piece of the source.

@@ -1,6 +1,6 @@
 use Rattle.std.proofs.Common.{reverse, Ok, arith}
 use Rattle.std.proofs.lemmas.Result.{err_from_is_err_and}
-use Rattle.tclreading.proofs.RulesLeading.{stay, continue_with}
+use Rattle.tclrules.proofs.Leading.{stay, continue_with}
 use Rattle.tclsubstitution.proofs.Trees.{less_more}
 use Rattle.tclsubstitution.proofs.substitution.advance.Goals as goal
 

@@ -1,7 +1,7 @@
 use Rattle.std.proofs.Common.{ℕ, ◌≤◌, ◌+◌, reverse}
-use Rattle.tclreading.specs.Plans as plans
-use Rattle.tclreading.specs.Plans.{Job, Next}
-use Rattle.tclreading.specs.Simulates.{Simulates, point}
+use Rattle.tclrules.specs.Plans as plans
+use Rattle.tclrules.specs.Plans.{Job, Next}
+use Rattle.tclrules.specs.Simulates.{Simulates, point}
 use Rattle.tclsubstitution.specs.Machine.{bounds, control_plan, stack_continuation, control_weight, frames_weight}
 use Rattle.tclsubstitution.proofs.substitution.advance.Given as goal
 

@@ -1,7 +1,7 @@
 use Rattle.std.proofs.Common.{◌≡◌, string_bytes, Ok, true, false, ap, ◌∙◌, arith}
 use Rattle.std.proofs.lemmas.Result.{err_from_is_err_and}
-use Rattle.tclreading.specs.Operators.{truth}
-use Rattle.tclreading.proofs.RulesLeading.{stay}
+use Rattle.tclrules.specs.Operators.{truth}
+use Rattle.tclrules.proofs.Leading.{stay}
 use Rattle.tclreading.proofs.Leading.{given_stops}
 use Rattle.tclsubstitution.proofs.substitution.choice.Goals as goal
 

@@ -1,7 +1,7 @@
 use Rattle.std.proofs.Common.{ap, ◌∙◌, reverse, arith}
 use Rattle.std.proofs.lemmas.Result.{err_from_is_err_and}
 use Rattle.tclexpr.specs.View.{expr_view}
-use Rattle.tclreading.proofs.RulesLeading.{stay, continue_with, starve}
+use Rattle.tclrules.proofs.Leading.{stay, continue_with, starve}
 use Rattle.tclsubstitution.specs.Machine.{range_text, bounds, stack_continuation}
 use Rattle.tclreading.proofs.Leading.{given_on, given_stops}
 use Rattle.tclsubstitution.proofs.Trees.{view-Operand, view-Unary, view-Binary, view-And, view-Or, view-Choice, on_top, less_more}

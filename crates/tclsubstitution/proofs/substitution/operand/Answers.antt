@@ -1,7 +1,7 @@
 use Rattle.std.proofs.Common.{ap, arith, rules}
 use Rattle.std.proofs.lemmas.Result.{err_from_is_err_and}
 use Rattle.tclexpr.specs.View.{operand_view}
-use Rattle.tclreading.proofs.RulesLeading.{stay, starve}
+use Rattle.tclrules.proofs.Leading.{stay, starve}
 use Rattle.tclsubstitution.specs.Machine.{range_text}
 use Rattle.tclsubstitution.proofs.Trees.{on_top}
 use Rattle.tclsubstitution.proofs.substitution.operand.Goals as goal

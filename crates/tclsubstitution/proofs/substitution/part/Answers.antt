@@ -1,7 +1,7 @@
 use Rattle.std.proofs.Common.{ap, ◌∙◌, arith, rules}
 use Rattle.std.proofs.lemmas.Result.{err_from_is_err_and}
 use Rattle.tclscript.specs.View.{part_view}
-use Rattle.tclreading.proofs.RulesLeading.{stay, continue_with, starve}
+use Rattle.tclrules.proofs.Leading.{stay, continue_with, starve}
 use Rattle.tclsubstitution.specs.Machine.{range_text}
 use Rattle.tclsubstitution.proofs.Trees.{view-Literal, view-Backslash, view-Variable, view-Indexed, view-Bracket, on_top, less_more}
 use Rattle.tclsubstitution.proofs.substitution.part.Goals as goal

@@ -1,5 +1,5 @@
 use Rattle.std.proofs.Common.{◌≡◌, [], arith}
-use Rattle.tclreading.proofs.RulesLeading.{stay}
+use Rattle.tclrules.proofs.Leading.{stay}
 use Rattle.tclsubstitution.proofs.Trees.{on_top, less_more, empty_of}
 use Rattle.tclsubstitution.proofs.substitution.step.Goals as goal
 
