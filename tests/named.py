@@ -34,6 +34,10 @@ PATH = re.compile(rf"(?:{FOLDERS})/|\w+/(?:src|specs|proofs|must-fail)/")
 FILE = re.compile(r"[\w.-][\w./-]*\.(?:antt|c|edit|fish|md|py|rt|sh)")
 WORD = re.compile(r"[A-Za-z]+(?:_\w+|[a-z][A-Z]\w*)")
 CRATE = re.compile(r"tcl(?!sh$)[a-z]+|env(?!iron)[a-z]+|cases_\w+")
+
+# What stands before `::` like a crate: also the standard library, and a variable of Tcl with its namespace.
+LIKE_A_CRATE = re.compile(r"[a-z]\w*")
+NO_CRATES = {"std", "a"}
 LINK = re.compile(r"\]\(([^)#]+)\)")
 BLOCK = re.compile(r"^ *```.*?^ *```$", re.DOTALL | re.MULTILINE)
 
@@ -251,7 +255,7 @@ def check_crates():
     for page, text in pages().items():
         for name in names_in(text):
             crate, *rest = name.split("::")
-            if CRATE.fullmatch(crate):
+            if CRATE.fullmatch(crate) or (rest and LIKE_A_CRATE.fullmatch(crate) and crate not in NO_CRATES):
                 true(crate in crates, f"{page} names a crate that is there: {crate}")
             if crate in crates and rest:
                 known = {it.name for it in functions_of(crate)} | exported(crate) | set(sources(crate))
