@@ -10,7 +10,7 @@ import tempfile
 import threading
 
 TICKS = os.sysconf("SC_CLK_TCK")
-INTERVAL = 0.2
+INTERVAL = 1.0
 PARTS = ("proof", "tests", "edits")
 
 
