@@ -25,7 +25,8 @@ OF_FAULTS = {"number", "message"}
 # What is public for the crates above alone, which CLAIMS omits.
 HELPERS = {"envtable": ("escapes", "fields", "table"), "envpaths": ("copies",), "sitelaws": ("directories",)}
 
-# Around the proof of each library the gate reads the files of all crates below it, along each path of their graph anew.
+# Around the proof of each library the gate of some kits reads the files of all crates below it, along each path of their
+# graph anew.
 MOST_PATHS = 200_000
 
 # What begins like a path of the repository: a folder at its top, or one of a crate.

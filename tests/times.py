@@ -1,7 +1,7 @@
 """The processor time of a run of the gate, by crate and by part.
 
-The gate prints no times, so its processes are looked at while they run. What a process uses in its last moment is not
-seen; it counts in the whole, which the system tells exactly.
+The gate prints no times, so its processes are looked at while they run, once a second. What a process uses after the
+last look isn't seen, nor a process that is shorter; it counts in the whole, which the system tells exactly.
 """
 
 import os
