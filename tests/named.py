@@ -39,6 +39,9 @@ CRATE = re.compile(r"tcl(?!sh$)[a-z]+|env(?!iron)[a-z]+|cases_\w+")
 # What stands before `::` like a crate: also the standard library, and a variable of Tcl with its namespace.
 LIKE_A_CRATE = re.compile(r"[a-z]\w*")
 NO_CRATES = {"std", "a"}
+
+# The homes of a file, in parentheses behind it.
+HOMES = re.compile(r"\(in ((?:`\w+`(?:, | and )?)+)")
 LINK = re.compile(r"\]\(([^)#]+)\)")
 BLOCK = re.compile(r"^ *```.*?^ *```$", re.DOTALL | re.MULTILINE)
 
@@ -261,6 +264,8 @@ def check_crates():
             if crate in crates and rest:
                 known = {it.name for it in functions_of(crate)} | exported(crate) | set(sources(crate))
                 true(rest[-1].strip("(),") in known, f"{page} names a function that is there: {name}")
+        for crate in SPAN.findall(" ".join(HOMES.findall(text))):
+            true(crate in crates, f"{page} names a crate that is there: {crate}")
 
 
 def check_paths():
