@@ -22,9 +22,9 @@
 //! its messages, what `display` and `whatis` report, and the variables that changed. `records` shows the records of the
 //! run before it. A newline in a message or a value is shown as `␤`.
 //!
-//! `commands` are calls of `modulecmd`, `modules` and `rehearsal`, each shown after `> `. They share files and directories
-//! in memory and an environment. In a text `\n`, `\t`, `\s`, `\z` and `\\` stand for a newline, a tab, a space, NUL and
-//! a backslash; words are separated by blanks, and the word `''` is empty.
+//! `commands` are calls of `modulecmd`, `modules` and `sessioncheck`, each shown after `> `. They share files and
+//! directories in memory and an environment. In a text `\n`, `\t`, `\s`, `\z` and `\\` stand for a newline, a tab, a
+//! space, NUL and a backslash; words are separated by blanks, and the word `''` is empty.
 //!
 //! `new` begins a new tree. `module PATH TEXT` puts a modulefile there, whose first line is the cookie; `file PATH
 //! TEXT` and `bytes PATH TEXT` a file of this text, or of it and after it a byte that is no UTF-8; `dir PATH NAME...` a

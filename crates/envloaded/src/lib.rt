@@ -1,6 +1,6 @@
 //! The list of loaded modules, in load order, as four variables of an environment hold it (LOADEDMODULES ...).
 //! Takes memory; touches these four variables.
-//! Used by envstate, modulerecords, reversal, certificate, requests, requeststep and modulecmd.
+//! Used by envstate, modulerecords, reversal, requests, requeststep, the crates of sites and modulecmd.
 #![tactic(auto)]
 
 mod edits;

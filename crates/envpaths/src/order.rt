@@ -14,7 +14,7 @@ const COUNTERS: &str = "__MODULES_SHARE_V";
 /// Whether a path variable is in order with this delimiter: where nothing is dropped from a copy of it, so that its two
 /// texts are written anew, neither changes.
 ///
-/// The only error is want of memory.
+/// The delimiter is a character from the space to the tilde. The only error is want of memory.
 pub fn is_path_in_order(
     alloc: Global,
     env: &Env,

@@ -1,6 +1,6 @@
 //! Stacks of values (modulefile(5), pushenv): a variable's values, each with the module that pushed it.
 //! Takes memory; touches the variable that a call names and the variable of its stack.
-//! Used by envstate, modulerecords, modulefile, reversal, certificate and modulecmd.
+//! Used by envstate, modulerecords, modulerun, reversal, certificate, startcheck and modulecmd.
 #![tactic(auto)]
 
 mod edits;

@@ -1,6 +1,6 @@
 //! A cache of parsed texts: scripts and expressions with their trees, so that nothing is parsed twice.
 //! Takes memory and touches nothing else.
-//! Used by tclevaluator and tcleval.
+//! Used by tclevaluator, which hands it on to tcleval.
 #![tactic(auto)]
 
 mod cache;

@@ -2,7 +2,7 @@
 ghost use Rattle.std.specs.Prelude.{◌≡◌, ◌≢◌, pos, true, false};
 ghost use Rattle.tclnumber.specs.Division.{quotient, signed, in_64_bits};
 
-/// `left / right`, rounded down; None where it lies outside 64 bits.
+/// `left / right`, rounded down; None where it lies outside 64 bits. The divisor isn't 0.
 pub fn quotient(left: i64, right: i64) -> Option<i64>
     requires { right ≢ pos 0 }
     ensures { result ≡ in_64_bits (quotient left right) }

@@ -1,6 +1,6 @@
 //! Numbers as texts: which texts Tcl reads as a number, and which whole number that is; and quotients (expr(n)).
 //! Touches nothing and takes no memory.
-//! Used by tcloperators, tclvalue, tclrules and tclevaluator.
+//! Used by tcloperators, which hands it on to tclvalue, and by tclvariables, tclcommands and tclevaluator.
 #![tactic(auto)]
 
 mod division;

@@ -1,6 +1,6 @@
 //! The operators of expressions (expr(n)) on values, truth values, and the fault of a value.
 //! Takes memory and touches nothing else. Hands on the numbers and lists that values are read as.
-//! Used by tclvalue, which hands it on, and by the crates that evaluate: tclforms, tclreading, tclcommands.
+//! Used by tclvalue, which hands it on, and by the crates that evaluate, from tclforms and tclreading to tclevaluator.
 #![tactic(auto)]
 
 mod fault;
