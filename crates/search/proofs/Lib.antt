@@ -1,14 +1,10 @@
 pub mod OneFound
 pub mod OneListing
-pub mod VersionNamedLemmas
 pub mod NamedLemmas
-pub mod VersionLemmas
 pub mod StepLemmas
 pub mod FailureLemmas
 pub mod LookLemmas
-pub mod PartLemmas
 pub mod DefaultLemmas
-pub mod UnderLemmas
 pub mod RowLemmas
 pub mod FileLemmas
 pub mod WalkLemmas

@@ -6,8 +6,10 @@ use Rattle.filetree.specs.Modulefiles.{FileContent, absent, no_cookie, not_utf8,
 use Rattle.filetree.specs.Relations.{IsOne}
 use Rattle.filetree.proofs.OneOutcome.{one_is, one_then, one_if, one_where}
 use Rattle.search.specs.Reasons.{bad_name, bad_default, not_found}
-use Rattle.search.specs.DefaultFiles.{DefaultFileResult, VersionIn, version_named, NamesIn, Names}
-use Rattle.search.specs.Found.{IsCandidate, NamedDefault, Greatest, NamedOrGreatest, Default, read, FoundAlong, Found}
+use Rattle.candidates.specs.DefaultVersions.{DefaultFileResult, VersionIn}
+use Rattle.search.specs.DefaultFiles.{version_named, NamesIn, Names}
+use Rattle.candidates.specs.Candidates.{IsCandidate}
+use Rattle.search.specs.Found.{NamedDefault, Greatest, NamedOrGreatest, Default, read, FoundAlong, Found}
 use Rattle.modulename.proofs.OrderLemmas.{one_greatest}
 
 one_names_in : (results : Text → Text → Option DefaultFileResult → Type 0) → ((path text : Text) (o p : Option DefaultFileResult) → results path text o → results path text p → o ≡ p)

@@ -2,27 +2,19 @@
 use Rattle.std.proofs.Common.{◌≡◌, ◌⊎◌, true, List, [], ◌∷◌, ◌++◌, Option, refl, sym, ap, ◌∙◌, ⊎_elim}
 use Rattle.std.specs.Prelude.{bytes_eq}
 use Rattle.std.specs.List.{AllByRecursion}
-use Rattle.std.proofs.lemmas.Bool.{or_cases, or_left, or_right}
+use Rattle.std.proofs.lemmas.Bool.{or_left, or_right}
 use Rattle.modulename.specs.ModuleName.{Text}
 use Rattle.filetree.specs.Agreement.{Files, Listings}
-use Rattle.search.specs.DefaultFiles.{DefaultFileResult}
+use Rattle.candidates.specs.DefaultVersions.{DefaultFileResult}
 use Rattle.search.specs.Listed.{ListingEntry, names_of}
-use Rattle.search.proofs.VersionLemmas.{has, in_filter, filter_has, itself}
-use Rattle.search.specs.BelowFolder.{is_module_below, IsMarkRight, AreEntriesOfFiles, AreListingEntries}
+use Rattle.candidates.proofs.VersionLemmas.{has, in_filter, filter_has, itself}
+use Rattle.candidates.specs.BelowFolder.{is_module_below}
+use Rattle.candidates.proofs.NameLemmas.{has_left, has_right}
+use Rattle.search.specs.Walks.{IsMarkRight, AreEntriesOfFiles, AreListingEntries}
 
 names_of-append : (listing_entries more : List ListingEntry) → names_of (listing_entries ++ more) ≡ names_of listing_entries ++ names_of more
 names_of-append [] more = refl
 names_of-append (r ∷ listing_entries) more = ap (λ x. r.0 ∷ x) (names_of-append listing_entries more)
-
--- what some texts have, more texts have
-pub has_left : (v : Text) (xs ys : List Text) → has v xs ≡ true → has v (xs ++ ys) ≡ true
-has_left v [] ys h = absurd (cc)
-has_left v (x ∷ xs) ys h =
-    ⊎_elim (λ q. or_left (bytes_eq v x) (has v (xs ++ ys)) q) (λ q. or_right (bytes_eq v x) (has v (xs ++ ys)) (has_left v xs ys q)) (or_cases (bytes_eq v x) (has v xs) h)
-
-has_right : (v : Text) (xs ys : List Text) → has v ys ≡ true → has v (xs ++ ys) ≡ true
-has_right v [] ys h = h
-has_right v (x ∷ xs) ys h = or_right (bytes_eq v x) (has v (xs ++ ys)) (has_right v xs ys h)
 
 all_append : (P : ListingEntry → Type 0) (listing_entries more : List ListingEntry) → AllByRecursion P listing_entries → AllByRecursion P more → AllByRecursion P (listing_entries ++ more)
 all_append P [] more a b = b

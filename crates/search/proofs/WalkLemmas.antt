@@ -1,27 +1,17 @@
 -- A walk through the folders in a folder.
-use Rattle.std.proofs.Common.{◌≡◌, ◌⊎◌, ◌≢◌, ◌≤◌, ◌<◌, ◌+◌, ◌-◌, ℕ, true, false, List, [], ◌∷◌, ◌++◌, length, get_or, map, take, drop, Option, Some, sym, ap, ◌∙◌, subst, inl, inr, ⊎_elim, length-append, arith}
-use Rattle.std.specs.Prelude.{bytes_eq}
-use Rattle.std.proofs.lemmas.Bool.{or_cases, or_left, or_right}
+use Rattle.std.proofs.Common.{◌≡◌, ◌≢◌, ◌≤◌, ◌<◌, ◌+◌, ◌-◌, ℕ, true, false, List, [], ◌∷◌, ◌++◌, length, get_or, map, take, drop, Option, Some, sym, ap, ◌∙◌, subst, inl, inr, ⊎_elim, length-append, arith}
 use Rattle.std.proofs.lemmas.List.{drop_more, map-append, take-append-drop, take_more}
 use Rattle.modulename.specs.ModuleName.{Text, parts}
 use Rattle.filetree.specs.Agreement.{Files, Listings}
-use Rattle.search.specs.DefaultFiles.{DefaultFileResult}
+use Rattle.candidates.specs.DefaultVersions.{DefaultFileResult}
 use Rattle.search.specs.Listed.{ListingEntry}
-use Rattle.search.proofs.VersionLemmas.{has, same, itself}
-use Rattle.search.specs.BelowFolder.{parts_of, names_in, is_module_below, IsUnder, IsInside, AreEntriesOfFiles, AreListingEntries}
-use Rattle.search.proofs.PartLemmas.{parts_of-below}
-use Rattle.search.proofs.UnderLemmas.{name_from}
-use Rattle.search.proofs.RowLemmas.{has_left, rows_same, rows_append, rows_of_files}
-
-pub has_middle : (v : Text) (xs ys : List Text) → has v (xs ++ v ∷ ys) ≡ true
-has_middle v [] ys = or_left (bytes_eq v v) (has v ys) (itself v)
-has_middle v (x ∷ xs) ys = or_right (bytes_eq v x) (has v (xs ++ v ∷ ys)) (has_middle v xs ys)
-
-pub has_last : (v n : Text) (xs : List Text) → has v (xs ++ n ∷ []) ≡ true → (has v xs ≡ true) ⊎ (v ≡ n)
-has_last v n [] h = ⊎_elim (λ q. inr (same v n q)) (λ q. absurd (cc)) (or_cases (bytes_eq v n) false h)
-has_last v n (x ∷ xs) h =
-    ⊎_elim (λ q. inl (or_left (bytes_eq v x) (has v xs) q)) (λ q. ⊎_elim (λ r. inl (or_right (bytes_eq v x) (has v xs) r)) (λ r. inr r) (has_last v n xs q))
-    (or_cases (bytes_eq v x) (has v (xs ++ n ∷ [])) h)
+use Rattle.candidates.proofs.VersionLemmas.{has}
+use Rattle.candidates.specs.BelowFolder.{parts_of, names_in, is_module_below, IsUnder, IsInside}
+use Rattle.search.specs.Walks.{AreEntriesOfFiles, AreListingEntries}
+use Rattle.candidates.proofs.PartLemmas.{parts_of-below}
+use Rattle.candidates.proofs.UnderLemmas.{name_from}
+use Rattle.candidates.proofs.NameLemmas.{has_left, has_middle, has_last}
+use Rattle.search.proofs.RowLemmas.{rows_same, rows_append, rows_of_files}
 
 -- an element that is read from a list: those before it, and those after it
 module _ {X : Type 0} (view : X → Text) (x : X) (xs : List X) (i : ℕ) (within : i < length xs) (is : x ≡ get_or xs i x) where

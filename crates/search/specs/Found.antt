@@ -1,36 +1,15 @@
 -- Which modulefile a name means (module(1), modulefile(5)): the search along MODULEPATH, with the candidates of a
 -- folder and its default. `results` has the results of the evaluation of default files.
-use Rattle.std.specs.Prelude.{◌≡◌, true, List, [], ◌∷◌, bytes_eq, codes, Option, Some, None, Result, Ok, Err}
-use Rattle.std.specs.List.{list_any}
+use Rattle.std.specs.Prelude.{◌≡◌, List, [], ◌∷◌, codes, Option, Some, None, Result, Ok, Err}
 use Rattle.modulename.specs.ModuleName.{Text, is_module_name}
 use Rattle.filetree.specs.Agreement.{Files, Listings}
-use Rattle.filetree.specs.Modulefiles.{FileContent, absent, no_cookie, not_utf8, script, modulefile, is_module, directories, path_of}
+use Rattle.filetree.specs.Modulefiles.{FileContent, absent, no_cookie, not_utf8, script, modulefile, directories, path_of}
 use Rattle.filetree.specs.Relations.{Is, If, Where, ◌>>◌}
 use Rattle.modulename.specs.Versions.{IsGreatest}
-use Rattle.search.specs.Single.{is_single}
 use Rattle.search.specs.Reasons.{FindReason, bad_name, not_found, not_utf8_at}
-use Rattle.search.specs.DefaultFiles.{DefaultFileResult, Names, by_command, by_variable}
-
--- a file with the cookie is at the path
-abbrev pub IsModuleAt : Files → Text → Type 0
-IsModuleAt files path = is_module (modulefile (files path)) ≡ true
-
--- the folder at the path has an entry of this name
-abbrev pub HasEntry : Listings → Text → Text → Type 0
-HasEntry listings path name =
-    (entries : List Text) × (listings path ≡ Some entries) × (list_any (bytes_eq name) entries ≡ true)
-
--- A candidate of a name below a directory: a version that is an entry of the name's folder, has one part, and with
--- which the full name is well spelled and is that of a file with the cookie.
-pub record IsCandidate (files : Files) (listings : Listings) (dir name v : Text) : Type 0 where
-  pub entry : HasEntry listings (path_of dir name) v
-  pub single : is_single v ≡ true
-  pub spelled : is_module_name (path_of name v) ≡ true
-  pub file : IsModuleAt files (path_of dir (path_of name v))
-
--- the folder of a name has a candidate
-abbrev pub HasCandidates : Files → Listings → Text → Text → Type 0
-HasCandidates files listings dir name = (v : Text) × IsCandidate files listings dir name v
+use Rattle.candidates.specs.DefaultVersions.{DefaultFileResult, by_command, by_variable}
+use Rattle.search.specs.DefaultFiles.{Names}
+pub use Rattle.candidates.specs.Candidates.{IsModuleAt, HasEntry, IsCandidate, HasCandidates}
 
 -- some version is named, and it is a candidate
 abbrev pub IsSomeCandidate : (Text → Type 0) → Option Text → Type 0

@@ -3,24 +3,13 @@
 use Rattle.std.specs.Prelude.{◌≡◌, ◌↔◌, Bool, true, ◌&&◌, List, [], ◌∷◌, ◌++◌, map, bytes_eq, Option, Some, Ok}
 use Rattle.std.specs.List.{list_any}
 use Rattle.std.specs.List.Sorted.{IsStrictlySortedBy}
-use Rattle.modulename.specs.ModuleName.{Text, parts, is_module_name}
+use Rattle.modulename.specs.ModuleName.{Text, parts}
 use Rattle.filetree.specs.Agreement.{Files, Listings}
 use Rattle.filetree.specs.Modulefiles.{directories, path_of}
 use Rattle.modulename.specs.Versions.{version_order}
-use Rattle.search.specs.DefaultFiles.{DefaultFileResult}
-use Rattle.search.specs.Found.{IsModuleAt, HasEntry, NamedDefault}
-
--- each part is an entry of the folder that is reached by the parts before it
-abbrev pub ReachesThrough : Listings → Text → List Text → Type 0
-ReachesThrough listings path [] = Unit {0}
-ReachesThrough listings path (part ∷ rest) = HasEntry listings path part × ReachesThrough listings
-    (path_of path part) rest
-
--- a module below the directory: a well-spelled name of one to four parts, of a file with the cookie
-pub record IsBelow (files : Files) (listings : Listings) (dir name : Text) : Type 0 where
-  pub spelled : is_module_name name ≡ true
-  pub reaches : ReachesThrough listings dir (parts name)
-  pub file : IsModuleAt files (path_of dir name)
+use Rattle.candidates.specs.DefaultVersions.{DefaultFileResult}
+use Rattle.search.specs.Found.{NamedDefault}
+pub use Rattle.candidates.specs.BelowFolder.{ReachesThrough, IsBelow}
 
 -- A default file of the module's folder names it. Where a default file has a fault, no module of the folder is named.
 pub record IsNamed (results : Text → Text → Option DefaultFileResult → Type 0) (files : Files) (listings : Listings)

@@ -2,27 +2,18 @@
 -- they ask the tree for (module(1), modulefile(5)). A failure of the device at another path can't end them.
 use Rattle.std.specs.Prelude.{◌≡◌, ◌⊎◌, true, List, [], ◌∷◌, bytes_eq, codes, Option, Some, None, Ok, Err}
 use Rattle.std.specs.List.{list_any}
-use Rattle.std.specs.Ordering.{is_le}
 use Rattle.modulename.specs.ModuleName.{Text, parts, is_module_name}
-use Rattle.modulename.specs.Versions.{version_order}
 use Rattle.filetree.specs.Agreement.{Files, Listings}
 use Rattle.filetree.specs.Modulefiles.{directories, path_of}
-use Rattle.search.specs.Single.{is_single}
+use Rattle.candidates.specs.Single.{is_single}
 use Rattle.search.specs.Reasons.{FindReason}
-use Rattle.search.specs.DefaultFiles.{DefaultFileResult, VersionIn, Names, by_command, by_variable}
-use Rattle.search.specs.Found.{IsModuleAt, HasEntry, IsCandidate, HasCandidates, IsSomeCandidate}
+use Rattle.candidates.specs.DefaultVersions.{DefaultFileResult, VersionIn, by_command, by_variable}
+use Rattle.search.specs.DefaultFiles.{Names}
+use Rattle.candidates.specs.Candidates.{IsModuleAt, IsCandidate, HasCandidates}
+use Rattle.search.specs.Found.{IsSomeCandidate}
 use Rattle.search.specs.Found.{NamedDefault, default_file}
-use Rattle.search.specs.Listed.{ReachesThrough, IsBelow}
-
--- an entry of the folder of a name that can be a version: it has one part, and with it the full name is well spelled
-pub record IsVersionIn (listings : Listings) (dir name v : Text) : Type 0 where
-  pub entry : HasEntry listings (path_of dir name) v
-  pub single : is_single v ≡ true
-  pub spelled : is_module_name (path_of name v) ≡ true
-
--- the path of the file of a version
-abbrev pub LooksAtVersion : Listings → Text → Text → Text → Text → Type 0
-LooksAtVersion listings dir name v at = IsVersionIn listings dir name v × (at ≡ path_of dir (path_of name v))
+use Rattle.candidates.specs.BelowFolder.{ReachesThrough, IsBelow}
+pub use Rattle.candidates.specs.Candidates.{IsVersionIn, LooksAtVersion, LooksForGreatest}
 
 -- the path of a default file, and that of the file of the version that it names
 abbrev pub LooksAtDefaultFile : (Text → Text → Option DefaultFileResult → Type 0) → Files → Listings → Text → Text
@@ -48,12 +39,6 @@ LooksForNamed results files listings dir name at =
     LooksAtDefaultFile results files listings dir name (by_command name) (codes ".modulerc") at
     ⊎ (ModulercNamesNoCandidate results files listings dir name
     × LooksAtDefaultFile results files listings dir name by_variable (codes ".version") at)
-
--- the paths that are looked at for the greatest candidate: those of the versions that no candidate comes after
-abbrev pub LooksForGreatest : Files → Listings → Text → Text → Text → Type 0
-LooksForGreatest files listings dir name at =
-    (v : Text) × LooksAtVersion listings dir name v at
-    × ((w : Text) → IsCandidate files listings dir name w → is_le (version_order w v) ≡ true)
 
 -- the default files of a folder name no candidate, or have a fault
 abbrev pub NamesNoCandidate : (Text → Text → Option DefaultFileResult → Type 0) → Files → Listings → Text → Text

@@ -1,26 +1,18 @@
 -- The versions that default files name, with one definition for the two files as the code has it. For this crate's own
 -- contracts alone.
-use Rattle.std.specs.Prelude.{◌≡◌, Option, Some, None, Result, Ok, Err, string_bytes, codes}
+use Rattle.std.specs.Prelude.{◌≡◌, Option, Some, None, Result, Ok, Err, string_bytes}
 use Rattle.modulename.specs.ModuleName.{Text}
 use Rattle.filetree.specs.Agreement.{Files, Listings}
 use Rattle.filetree.specs.Relations.{Is, Where, ◌>>◌}
 use Rattle.search.specs.Reasons.{FindReason, bad_default}
-use Rattle.search.specs.DefaultFiles.{DefaultFileResult, VersionIn, Names, by_command, by_variable}
-use Rattle.search.specs.Found.{IsCandidate, IsSomeCandidate, default_file}
-use Rattle.search.specs.declared.version_named.DefaultFile.{DefaultFile}
-use Rattle.search.specs.declared.version_named.DefaultFile.TheVariants.{Modulerc, Version}
+use Rattle.candidates.specs.DefaultVersions.{DefaultFileResult}
+use Rattle.candidates.specs.DefaultFileKinds.{file_name, says}
+use Rattle.search.specs.DefaultFiles.{Names}
+use Rattle.candidates.specs.Candidates.{IsCandidate}
+use Rattle.search.specs.Found.{IsSomeCandidate, default_file}
+use Rattle.candidates.specs.declared.version_named.DefaultFile.{DefaultFile}
 use Rattle.search.specs.declared.defaults.NamedVersion.{NamedVersion}
 use Rattle.search.specs.declared.defaults.NamedVersion.TheVariants as versions
-
--- the name of a default file in its folder
-abbrev pub file_name : DefaultFile → Text
-file_name Modulerc = codes ".modulerc"
-file_name Version = codes ".version"
-
--- how the result of its evaluation names a version
-abbrev pub says : DefaultFile → Text → VersionIn
-says Modulerc name = by_command name
-says Version name = by_variable
 
 -- the version that default files name: one, none, or the reason that is the fault of a default file
 abbrev pub named_version_view : NamedVersion → Result (Option Text) FindReason

@@ -1,10 +1,11 @@
 //! What a path holds as a modulefile: the cookie `#%Module`, UTF-8, and the text (modulefile(5)).
 ghost use Rattle.std.specs.Prelude.{◌≡◌, false, IfOk, None, Some};
 ghost use Rattle.filetree.specs.Agreement.{FailsAt, InEachPair, FailsOnlyByDevice, Narrows, begins_with, is_device};
-ghost use Rattle.filetree.specs.Modulefiles.{cookie, is_module, modulefile};
+ghost use Rattle.filetree.specs.Modulefiles.{cookie, modulefile};
 ghost use Rattle.search.specs.FileContents.{file_content_view};
 
-use filetree::{Seen, Tree, TreeFault};
+use candidates::module_files::COOKIE;
+use filetree::{Tree, TreeFault};
 
 /// What a path holds as a modulefile: a file that begins with `#%Module` (modulefile(5)).
 #[derive(Debug, Drop)]
@@ -18,9 +19,6 @@ pub enum FileContent {
     /// The text of the whole file.
     Script(String),
 }
-
-/// The bytes that every modulefile begins with.
-const COOKIE: &[u8] = b"#%Module";
 
 /// What the bytes of a whole file are as a modulefile.
 fn modulefile_of(bytes: Vec<u8>) -> FileContent
@@ -68,33 +66,4 @@ pub fn read_modulefile<T: Tree>(tree: &mut T, path: &str) -> Result<FileContent,
         None => Ok(FileContent::Absent),
         Some(bytes) => Ok(modulefile_of(bytes)),
     }
-}
-
-/// Whether the path holds a file that begins with `#%Module`, UTF-8 or not. The file is not read further.
-///
-/// It fails as the tree does.
-pub(crate) fn holds_module<T: Tree>(tree: &mut T, path: &str) -> Result<bool, TreeFault>
-    ensures narrows { Narrows (T.agrees tree.old) (T.agrees tree.new) }
-    ensures answer { IfOk result (λ r. InEachPair (T.agrees tree.new)
-        (λ files listings. is_module (modulefile (files path.now)) ≡ r)) }
-    ensures cause { FailsOnlyByDevice (T.failures tree.old) (T.failures tree.new) result }
-    ensures failed { FailsAt is_device (T.failed tree.old) (T.failed tree.new) result (λ at. at ≡ path.now) }
-{
-    tree.begins_with(path, COOKIE)
-}
-
-/// Whether the path holds a file that begins with `#%Module`, as `begins`, and whether a directory may be there. The
-/// file is not read further.
-///
-/// It fails as the tree does.
-pub(crate) fn see_module<T: Tree>(tree: &mut T, path: &str) -> Result<Seen, TreeFault>
-    ensures narrows { Narrows (T.agrees tree.old) (T.agrees tree.new) }
-    ensures answer { IfOk result (λ seen. InEachPair (T.agrees tree.new)
-        (λ files listings. is_module (modulefile (files path.now)) ≡ seen.begins)) }
-    ensures nothing { IfOk result (λ seen. seen.may_list ≡ false → InEachPair (T.agrees tree.new) (λ files listings.
-        listings path.now ≡ None)) }
-    ensures cause { FailsOnlyByDevice (T.failures tree.old) (T.failures tree.new) result }
-    ensures failed { FailsAt is_device (T.failed tree.old) (T.failed tree.new) result (λ at. at ≡ path.now) }
-{
-    tree.see(path, COOKIE)
 }
