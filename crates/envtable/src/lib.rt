@@ -1,6 +1,6 @@
 //! Environment variables: a map from names to texts, with its edits; their names, fields and faults, and laws.
 //! Takes memory; touches only the variables that a call names, and none of them where the call is refused.
-//! Used by envvars, which hands it on to every crate that reads or edits variables.
+//! Used by envvars, which hands it on to every crate that reads or edits variables, by pathstate and by loadedlist.
 #![tactic(auto)]
 
 mod change;

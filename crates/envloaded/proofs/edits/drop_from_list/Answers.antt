@@ -2,10 +2,10 @@ use Rattle.std.proofs.Common.{ap, ◌∙◌, map, Ok, sym, not, string_bytes, ru
 use Rattle.std.specs.Prelude.{bytes_eq}
 use Rattle.std.specs.List.{list_any}
 use Rattle.std.proofs.lemmas.Fn.{filter_same}
-use Rattle.envloaded.specs.LoadedEntries.{entry_view}
-use Rattle.envloaded.specs.Loaded.{with_loaded}
-use Rattle.envvars.proofs.EditLemmas.{written_edits}
-use Rattle.envloaded.proofs.LoadedWriting.{dropped_is, not_dropped_is, same_without, loaded_is, without_is, on_any}
+use Rattle.loadedlist.specs.LoadedEntries.{entry_view}
+use Rattle.loadedlist.specs.Loaded.{with_loaded}
+use Rattle.loadedlist.proofs.EditLemmas.{written_edits}
+use Rattle.loadedlist.proofs.LoadedWriting.{dropped_is, not_dropped_is, same_without, loaded_is, without_is, on_any}
 use Rattle.envloaded.proofs.edits.drop_from_list.Goals as goal
 
 pub returns-then-not-is_loaded-clause-edits : goal.returns-then-not-is_loaded-clause-edits
