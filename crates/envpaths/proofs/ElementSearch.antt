@@ -13,7 +13,7 @@ use Rattle.std.proofs.lemmas.List.Splits.{length-slice_split, join_with_byte-sli
 use Rattle.envvars.specs.Texts.{Text, has}
 use Rattle.envvars.specs.Fields.{without}
 use Rattle.envvars.proofs.TextLemmas.{same_text, bytes_eq-same, bytes_eq-symmetric, or_left, or_right}
-use Rattle.envpaths.specs.PathTexts.{split_elements, HasNoDelimiter}
+use Rattle.pathstate.specs.PathTexts.{split_elements, HasNoDelimiter}
 use Rattle.envpaths.proofs.RoundTrip.{eqb-same, split_front}
 
 -- splitting at a delimiter inside

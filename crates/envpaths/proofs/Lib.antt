@@ -1,15 +1,10 @@
-pub mod PathLemmas
-pub mod PairLemmas
-pub mod CounterLemmas
-pub mod WritingLemmas
 pub mod RoundTrip
-pub mod Readable
 pub mod Examples
-pub mod PathSteps
 pub mod PathEditLemmas
 pub mod PathOrderLemmas
 pub mod UncountedLemmas
 pub mod ElementSearch
 pub mod OneElement
-pub mod CopyLemmas
-pub mod PathAnew
+-- Handed on, so that a caller need not name the crate below.
+pub use Rattle.pathstate.proofs.PathLemmas
+pub use Rattle.pathstate.proofs.Readable

@@ -1,11 +1,6 @@
-//! The counters of a path variable's elements, and how one is read from a text.
+//! How the counter of an element is read from a text.
 ghost use Rattle.std.specs.Prelude.{◌≡◌, ◌&&◌, nat_le, slice_index};
-ghost use Rattle.envpaths.specs.Counters.{counter_of};
-
-use indexmap::IndexMap;
-
-/// How often each element was added, from 1 to 4294967295.
-pub(crate) type Counters<'a> = IndexMap<&'a str, u32>;
+ghost use Rattle.pathstate.specs.Counters.{counter_of};
 
 /// Whether the text begins with a digit from 1 to 9, as a counter without leading zeros does.
 fn begins_as_counter(text: &str) -> bool

@@ -1,5 +1,5 @@
 -- A stack that is written is read as it was.
-use Rattle.std.proofs.Common.{◌≡◌, ℕ, Bool, true, false, cond, not, ◌&&◌, List, [], ◌∷◌, ◌++◌, refl, sym, ap, ◌∙◌, subst, arith, length, nat_eq, Option, Some, None, map}
+use Rattle.std.proofs.Common.{◌≡◌, ℕ, Bool, true, false, cond, not, ◌&&◌, List, [], ◌∷◌, ◌++◌, refl, sym, ap, ◌∙◌, subst, arith, append-nil, length, nat_eq, Option, Some, None, map}
 use Rattle.std.specs.Prelude.{bytes_eq, if◌then◌else◌}
 use Rattle.std.specs.List.{onto_first, list_all, list_any}
 use Rattle.std.specs.Option.{option_map, option_and_then}
@@ -40,12 +40,8 @@ elements_more [] t = colon_element t
 elements_more (c ∷ x) t =
     ap unescaped_fields (cond-append (is_special c) c (escaped x) (58 ∷ t)) ∙ escaped_step c (is_special c) (escaped x ++ 58 ∷ t) refl ∙ ap (onto_first c) (elements_more x t)
 
-append-nothing : (x : Text) → x ++ [] ≡ x
-append-nothing [] = refl
-append-nothing (c ∷ x) = ap (λ (t : Text). c ∷ t) (append-nothing x)
-
 elements_all : (x : Text) (xs : List Text) → unescaped_fields (joined (map escaped (x ∷ xs))) ≡ x ∷ xs
-elements_all x [] = ap unescaped_fields (sym (append-nothing (escaped x))) ∙ elements_last x
+elements_all x [] = ap unescaped_fields (sym (append-nil (escaped x))) ∙ elements_last x
 elements_all x (y ∷ xs) = elements_more x (joined (map escaped (y ∷ xs))) ∙ ap (λ (l : List Text). x ∷ l) (elements_all y xs)
 
 map-twice : (items : List OwnedValue) → map (λ item. escaped (element_text item)) items ≡ map escaped (map element_text items)

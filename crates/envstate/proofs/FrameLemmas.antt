@@ -13,13 +13,14 @@ use Rattle.envpaths.specs.PathTexts.{state_of, elements_text, pairs_text}
 use Rattle.envpaths.specs.PathVariables.{path_in, value_reason, added_path, dropped_path, with_path, written_path}
 use Rattle.envpaths.specs.PathOrder.{IsPathInOrder}
 use Rattle.envpaths.specs.Paths.{add_all, drop_all}
-use Rattle.envpaths.specs.declared.edits.End.{End}
+use Rattle.envpaths.specs.End.{End}
 use Rattle.envpaths.proofs.PathOrderLemmas.{LeavesPath-added, LeavesPath-dropped}
 use Rattle.envstacks.specs.StackTexts.{items_in}
 use Rattle.envstacks.specs.StackVariables.{stack_in, stack_from, pushed_on, popped_from, pushed_value, popped_value, IsStackInOrder}
 use Rattle.envstacks.proofs.StackAfter.{others_after_push, others_after_pop}
 use Rattle.envloaded.specs.LoadedTexts.{names_variable, files_variable, conflicts_variable, prereqs_variable}
 use Rattle.envloaded.specs.Loaded.{Entry, names_of, entries_in, names_text, files_text, conflicts_text, prereqs_text, loaded_in, with_loaded, AreLoadedInOrder, can_be_added, with_conflicts_once, without_entry, added_to, dropped_from, added_loaded, dropped_loaded}
+use Rattle.envloaded.proofs.LoadedAgain.{at_names, at_files, at_conflicts, at_prereqs}
 use Rattle.envloaded.proofs.LoadedEdits.{others_stay}
 use Rattle.envstate.specs.Roles.{VariableRole, role_of, is_editable}
 use Rattle.envstate.specs.Roles.VariableRole.{Variable, Counters, Stack, LoadedNames, LoadedFiles, LoadedConflicts, LoadedPrereqs, Other}
@@ -209,22 +210,6 @@ rest_stays old new name other h e = foreign old new name other Other h e (λ k. 
 
 -- the four texts
 
-written_names : (e : Environment) (xs : List Entry) → lookup (with_loaded e xs) names_variable ≡ names_text xs
-written_names e xs =
-    lookup-with_value _ prereqs_variable (prereqs_text xs) names_variable ∙ lookup-with_value _ conflicts_variable (conflicts_text xs) names_variable
-    ∙ lookup-with_value _ files_variable (files_text xs) names_variable ∙ lookup-with_value e names_variable (names_text xs) names_variable
-
-written_files : (e : Environment) (xs : List Entry) → lookup (with_loaded e xs) files_variable ≡ files_text xs
-written_files e xs =
-    lookup-with_value _ prereqs_variable (prereqs_text xs) files_variable ∙ lookup-with_value _ conflicts_variable (conflicts_text xs) files_variable
-    ∙ lookup-with_value _ files_variable (files_text xs) files_variable
-
-written_conflicts : (e : Environment) (xs : List Entry) → lookup (with_loaded e xs) conflicts_variable ≡ conflicts_text xs
-written_conflicts e xs = lookup-with_value _ prereqs_variable (prereqs_text xs) conflicts_variable ∙ lookup-with_value _ conflicts_variable (conflicts_text xs) conflicts_variable
-
-written_prereqs : (e : Environment) (xs : List Entry) → lookup (with_loaded e xs) prereqs_variable ≡ prereqs_text xs
-written_prereqs e xs = lookup-with_value _ prereqs_variable (prereqs_text xs) prereqs_variable
-
 pub record AreTexts (e : Environment) (xs : List Entry) : Type 0 where
   pub names : lookup e names_variable ≡ names_text xs
   pub files : lookup e files_variable ≡ files_text xs
@@ -233,10 +218,10 @@ pub record AreTexts (e : Environment) (xs : List Entry) : Type 0 where
 
 pub texts_of : (e : Environment) (xs : List Entry) → with_loaded e xs ≡ e → AreTexts e xs
 texts_of e xs h = record {
-  names = ap (λ (d : Environment). lookup d names_variable) (sym h) ∙ written_names e xs;
-  files = ap (λ (d : Environment). lookup d files_variable) (sym h) ∙ written_files e xs;
-  conflicts = ap (λ (d : Environment). lookup d conflicts_variable) (sym h) ∙ written_conflicts e xs;
-  prereqs = ap (λ (d : Environment). lookup d prereqs_variable) (sym h) ∙ written_prereqs e xs;
+  names = ap (λ (d : Environment). lookup d names_variable) (sym h) ∙ at_names e xs;
+  files = ap (λ (d : Environment). lookup d files_variable) (sym h) ∙ at_files e xs;
+  conflicts = ap (λ (d : Environment). lookup d conflicts_variable) (sym h) ∙ at_conflicts e xs;
+  prereqs = ap (λ (d : Environment). lookup d prereqs_variable) (sym h) ∙ at_prereqs e xs;
 }
 
 -- a value that the variable has already

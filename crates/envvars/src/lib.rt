@@ -1,6 +1,6 @@
 //! Working copies of an environment, which stays unchanged below their edits, and the exact difference of two maps.
 //! Takes memory, and touches the working copy alone. Hands on what envtable has of variables, names and fields.
-//! Used by every crate that reads or edits variables, from envpaths, envstacks and envloaded up to modulecmd.
+//! Used by every crate that reads or edits variables, from envpaths and envstacks up to modulecmd.
 #![tactic(auto)]
 
 mod difference;

@@ -4,7 +4,7 @@ use Rattle.envvars.specs.Texts.{Text}
 use Rattle.envvars.specs.Environment.{Environment, with_value}
 use Rattle.envvars.specs.Reasons.{EnvReason}
 use Rattle.envpaths.specs.PathVariables.{added_path, dropped_path}
-use Rattle.envpaths.specs.declared.edits.End.TheVariants as ends
+use Rattle.envpaths.specs.End.TheVariants as ends
 use Rattle.envstacks.specs.StackVariables.{pushed_value, popped_value}
 use Rattle.modulerecords.specs.Records.{Record, Set, Unset, Push, Front, Back, Remove, Conflict, Prereq, Whatis}
 use Rattle.modulerecords.specs.Judgments.{RecordReason, bad_edit, record_reason}

@@ -7,7 +7,7 @@ use Rattle.envvars.specs.Texts.{Text}
 use Rattle.envvars.specs.Names.{name_reason}
 use Rattle.envvars.specs.Environment.{Environment, lookup, with_value}
 use Rattle.envvars.specs.Reasons.{EnvReason}
-use Rattle.envpaths.specs.declared.edits.End.TheVariants as ends
+use Rattle.envpaths.specs.End.TheVariants as ends
 use Rattle.envloaded.specs.Loaded.{loaded_in}
 use Rattle.envstate.specs.Roles.{role_of, is_editable}
 use Rattle.envstate.specs.Roles.VariableRole.{Other}

@@ -16,8 +16,8 @@ use Rattle.envvars.proofs.TableLemmas.{nothing_set}
 use Rattle.envpaths.specs.Paths.{PathState, add_all, drop_all}
 use Rattle.envpaths.specs.PathTexts.{state_of, elements_text, pairs_text}
 use Rattle.envpaths.specs.PathVariables.{path_in, path_reason, counters_fit, with_path, written_path, added_path, dropped_path}
-use Rattle.envpaths.specs.declared.edits.End.{End}
-use Rattle.envpaths.specs.declared.edits.End.TheVariants as ends
+use Rattle.envpaths.specs.End.{End}
+use Rattle.envpaths.specs.End.TheVariants as ends
 use Rattle.envstacks.specs.Stacks.{StackState, holds, push, pop}
 use Rattle.envstacks.specs.StackTexts.{items_in, stack_text}
 use Rattle.envstacks.specs.StackVariables.{stack_from, stack_in, with_stack, push_reason, pop_reason, pushed_on, pushed_value, popped_from, popped_value}

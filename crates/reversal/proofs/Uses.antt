@@ -6,8 +6,8 @@ use Rattle.envvars.specs.Texts.{Text}
 use Rattle.envvars.specs.Environment.{Environment, with_value}
 use Rattle.envvars.proofs.TextLemmas.{same_text}
 use Rattle.envpaths.specs.PathVariables.{added_path, dropped_path}
-use Rattle.envpaths.specs.declared.edits.End.{End}
-use Rattle.envpaths.specs.declared.edits.End.TheVariants as ends
+use Rattle.envpaths.specs.End.{End}
+use Rattle.envpaths.specs.End.TheVariants as ends
 use Rattle.envstacks.specs.StackVariables.{pushed_value, popped_value}
 use Rattle.modulerecords.specs.Records.{Record, Set, Unset, Push, Front, Back, Remove, Conflict, Prereq, Whatis, variable_of}
 use Rattle.modulerecords.specs.Effects.{loaded_by, unloaded_by}

@@ -12,23 +12,11 @@ use Rattle.envloaded.specs.Loaded.{Entry, names_of, names_text, files_text, conf
 use Rattle.envvars.proofs.TextLemmas.{same_text, bytes_eq-same}
 use Rattle.envvars.proofs.EditLemmas.{both_true, and_both}
 use Rattle.envvars.proofs.EnvLemmas.{lookup-with_value, same_environment}
-use Rattle.envpaths.proofs.CopyLemmas.{same_values, value_same}
+use Rattle.pathorder.proofs.CopyLemmas.{same_values, value_same}
 use Rattle.envloaded.proofs.LoadedReadable.{loaded_readable}
 use Rattle.envloaded.proofs.LoadedEdits.{list_push, loaded_after_add}
-use Rattle.envloaded.proofs.LoadedAgain.{loaded_again}
+use Rattle.envloaded.proofs.LoadedAgain.{at_names, at_files, at_conflicts, at_prereqs, loaded_again}
 use Rattle.startcheck.proofs.NotRefused.{memory_alone}
-
-at_names : (e : Environment) (xs : List Entry) → lookup (with_loaded e xs) names_variable ≡ names_text xs
-at_names e xs = simp lookup-with_value
-
-at_files : (e : Environment) (xs : List Entry) → lookup (with_loaded e xs) files_variable ≡ files_text xs
-at_files e xs = simp lookup-with_value
-
-at_conflicts : (e : Environment) (xs : List Entry) → lookup (with_loaded e xs) conflicts_variable ≡ conflicts_text xs
-at_conflicts e xs = simp lookup-with_value
-
-at_prereqs : (e : Environment) (xs : List Entry) → lookup (with_loaded e xs) prereqs_variable ≡ prereqs_text xs
-at_prereqs e xs = simp lookup-with_value
 
 chosen_itself : (e : Environment) (name q : Text) (b : Bool) → bytes_eq q name ≡ b → cond b (lookup e name) (lookup e q) ≡ lookup e q
 chosen_itself e name q true h = ap (lookup e) (sym (same_text q name h))

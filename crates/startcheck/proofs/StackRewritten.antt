@@ -10,7 +10,7 @@ use Rattle.envvars.specs.Reasons.{EnvReason, reason_of, bad_stack}
 use Rattle.envvars.specs.EnvFault.{EnvFault}
 use Rattle.envvars.specs.EnvFault.TheVariants.{OutOfMemory, BadVariable, Protected, CounterFull, Inconsistent, BadStack, BadValue}
 use Rattle.envvars.proofs.TextLemmas.{bytes_eq-same}
-use Rattle.envpaths.proofs.CopyLemmas.{both_same, copied, at_copy, at_beside}
+use Rattle.pathorder.proofs.CopyLemmas.{both_same, copied, at_copy, at_beside}
 use Rattle.envstacks.specs.Stacks.{StackState, holds, push, pop}
 use Rattle.envstacks.specs.StackTexts.{items_in}
 use Rattle.envstacks.specs.StackVariables.{stack_from, stack_in, pushed_on, pushed_value, popped_from, popped_value, with_stack}

@@ -15,7 +15,7 @@ use Rattle.envvars.proofs.TextLemmas.{same_text}
 use Rattle.envvars.proofs.EditLemmas.{both_true, and_both}
 use Rattle.envloaded.specs.Loaded.{names_of}
 use Rattle.envloaded.specs.LoadedEntries.{entry_view}
-use Rattle.envloaded.specs.declared.entry.Loaded.{Loaded}
+use Rattle.envloaded.specs.LoadedEntry.{Loaded}
 
 abbrev pub fits : ℕ → Loaded → Bool
 fits n x = nat_le (length (string_bytes x.name)) n

@@ -2,7 +2,7 @@
 use Rattle.std.specs.Prelude.{◌≡◌, ◌⊎◌, ℕ, List, [], ◌∷◌, ◌++◌, Option, Some, None}
 use Rattle.envvars.specs.Texts.{Text}
 use Rattle.envvars.specs.Environment.{Environment, lookup}
-use Rattle.envpaths.specs.PathOrder.{IsPathInOrder}
+use Rattle.pathorder.specs.PathOrder.{IsPathInOrder}
 use Rattle.envloaded.specs.Loaded.{AreLoadedInOrder}
 use Rattle.reversal.specs.VariableUses.{Fixed, Pathed, Stacked}
 use Rattle.certificate.specs.RecordUses.{UsedVariable, IsAmong}

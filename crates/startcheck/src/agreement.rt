@@ -16,8 +16,8 @@ use crate::list::{are_loaded_in_order, loaded_entries};
 use crate::stacks::is_stack_in_order;
 use certificate::{UsedVariable, VariableUse};
 use envloaded::Loaded;
-use envpaths::is_path_in_order;
 use envvars::{Env, EnvFault};
+use pathorder::is_path_in_order;
 use std::alloc::{AllocError, Global};
 
 /// Whether an environment with these modules loaded agrees with a use of a variable. Where the texts of the loaded modules

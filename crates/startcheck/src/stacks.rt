@@ -13,10 +13,10 @@ ghost use Rattle.startcheck.specs.Rewriting.{IsPushed, IsStackRewritten, is_of_l
 
 use crate::list::unused_name;
 use envloaded::Loaded;
-use envpaths::copies::{COPY, copy_of, is_kept};
 use envstacks::{pop_value, push_value};
 use envvars::escapes::unescaped_fields;
 use envvars::{Env, EnvFault, stack_name};
+use pathorder::copies::{COPY, copy_of, is_kept};
 use std::alloc::{AllocError, Global};
 
 /// The variable of the stack of a copy.

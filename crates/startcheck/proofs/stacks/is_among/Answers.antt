@@ -1,7 +1,7 @@
 use Rattle.std.proofs.Common.{rules, tests, string_bytes, bytes_eq, ◌∙◌}
 use Rattle.std.proofs.lemmas.Iterator.Search.{any_from_yields_List}
 use Rattle.std.proofs.lemmas.Iterator.{YieldsList-from_slice}
-use Rattle.envloaded.specs.declared.entry.Loaded.{Loaded}
+use Rattle.envloaded.specs.LoadedEntry.{Loaded}
 use Rattle.startcheck.proofs.UnusedNames.{named_among}
 use Rattle.startcheck.proofs.stacks.is_among.Goals as goal
 

@@ -1,0 +1,2 @@
+-- Handed on, so that a caller need not name the crate below.
+pub use Rattle.envpaths.specs.PathOrder

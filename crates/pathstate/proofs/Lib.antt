@@ -1,0 +1,6 @@
+pub mod PathLemmas
+pub mod PairLemmas
+pub mod CounterLemmas
+pub mod WritingLemmas
+pub mod Readable
+pub mod PathSteps
