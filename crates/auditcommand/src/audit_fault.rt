@@ -4,7 +4,7 @@ ghost use Rattle.std.specs.Io.KnownBytes.{Appends};
 ghost use Rattle.message.specs.Messages.{around, text_of};
 ghost use Rattle.modulecmd.specs.Lines.{error_line};
 ghost use Rattle.modulecmd.specs.Writing.{AppendsPart};
-ghost use Rattle.requeststep.specs.declared.refusal.Refusal.TheVariants as refusals;
+ghost use Rattle.requeststep.specs.Refusal.TheVariants as refusals;
 ghost use Rattle.requeststep.specs.Answers.{refused_read};
 ghost use Rattle.auditcommand.specs.declared.audit_fault.AuditFault.TheVariants.{Refused};
 ghost use Rattle.auditcommand.specs.Faults.{line_of, message_of, of_walk};

@@ -14,9 +14,9 @@ use Rattle.filetree.specs.Agreement.{Files, Listings, InEachPair}
 use Rattle.filetree.specs.Causes.{Cause, Applies, memory, device, because}
 use Rattle.requeststep.specs.Answers.{cause_of}
 use Rattle.requeststep.specs.Messages.{memory_number, number_by, number_of}
-use Rattle.requeststep.specs.declared.refusal.Refusal.{Refusal}
+use Rattle.requeststep.specs.Refusal.{Refusal}
 use Rattle.requeststep.specs.Views.{done_view}
-use Rattle.requeststep.specs.declared.done.Done.{Done}
+use Rattle.requeststep.specs.Done.{Done}
 use Rattle.requeststep.proofs.MemoryNumberLemmas.{of_three}
 use Rattle.modules.specs.declared.sessions.Outcome.{Outcome}
 use Rattle.modules.specs.declared.sessions.Outcome.TheVariants.{Accepted, Refused}

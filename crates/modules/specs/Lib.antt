@@ -6,5 +6,5 @@ pub use Rattle.requeststep.specs.Answers
 pub use Rattle.requeststep.specs.Messages
 pub use Rattle.requeststep.specs.MoveViews
 pub use Rattle.requeststep.specs.Verdicts
-pub use Rattle.requeststep.specs.declared.refusal.Refusal
-pub use Rattle.requeststep.specs.declared.judged.Verdict
+pub use Rattle.requeststep.specs.Refusal
+pub use Rattle.requeststep.specs.Verdict

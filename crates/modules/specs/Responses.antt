@@ -16,7 +16,7 @@ use Rattle.requeststep.specs.Answers.{cause_of, is_failure}
 use Rattle.requeststep.specs.Messages.{number_of}
 use Rattle.requeststep.specs.MoveViews.{moves_of}
 use Rattle.requeststep.specs.Views.{done_view}
-use Rattle.requeststep.specs.declared.done.Done.{Done}
+use Rattle.requeststep.specs.Done.{Done}
 use Rattle.modules.specs.declared.sessions.Outcome.{Outcome}
 use Rattle.modules.specs.declared.sessions.Outcome.TheVariants.{Accepted, Refused}
 

@@ -8,7 +8,7 @@ ghost use Rattle.requests.specs.Steps.{RequestStep, request_context_in};
 ghost use Rattle.requests.specs.Looked.{RequestLooksAt};
 ghost use Rattle.requeststep.specs.Answers.{StepAnswersOverTree, is_failure};
 ghost use Rattle.requeststep.specs.Views.{done_view};
-ghost use Rattle.requeststep.specs.declared.refusal.Refusal.TheVariants as refusals;
+ghost use Rattle.requeststep.specs.Refusal.TheVariants as refusals;
 ghost use Rattle.modules.specs.Responses.{response_of, responses, has_failed, count_failed, Returns};
 
 use crate::running::run_changes;

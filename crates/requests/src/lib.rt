@@ -1,6 +1,6 @@
 //! Requests (module(1)): what one is and makes of an environment, with laws; its words, conditions and reports.
 //! Takes memory for the words of a request and the text of a report, and touches nothing else.
-//! Used by requeststep, modules, sessioncheck, modulecmd and the crates of sites; auditreport takes the report of `show`.
+//! Used by modulestep and the crates above it, as sessioncheck, modulecmd and those of sites.
 #![tactic(auto)]
 
 mod action;

@@ -16,20 +16,20 @@ ghost use Rattle.requests.specs.RequestViews.{action_view};
 ghost use Rattle.requests.specs.Steps as steps;
 ghost use Rattle.requests.specs.Steps.{nothing_done, Each, EndsRequest, NeedsNames, ChangesLoaded, ShowsNames, ListsLoaded, ListsAll, RequestStep, request_context_in};
 ghost use Rattle.requests.specs.Looked.{PurgeLooksAt, SwitchLooksAt, RequestLooksAt};
-ghost use Rattle.requeststep.specs.Views.{request_context_of, done_view};
-ghost use Rattle.requeststep.specs.Answers.{GivesOrRefuses, StepAnswersOverTree, is_failure};
-ghost use Rattle.requeststep.specs.Messages.{MemoryNumberAmong, memory_numbers};
+ghost use Rattle.modulestep.specs.Views.{request_context_of, done_view};
+ghost use Rattle.modulestep.specs.Answers.{GivesOrRefuses, StepAnswersOverTree, is_failure};
+ghost use Rattle.modulestep.specs.Messages.{MemoryNumberAmong, memory_numbers};
+ghost use Rattle.modulestep.specs.Parts.{AreEntriesOf, IsListedIn, TreeAnswer, report_mode, report_text};
 ghost use Rattle.requeststep.specs.declared.commands.NameAction.TheVariants.{ReportOn};
-ghost use Rattle.requeststep.specs.Parts.{AreEntriesOf, IsListedIn, TreeAnswer, NameActionStep, NameActionLooksAt, EachActionLooksAt, report_mode, report_text};
+ghost use Rattle.requeststep.specs.Parts.{NameActionStep, NameActionLooksAt, EachActionLooksAt};
 
-use crate::done::{Done, EvaluationSettings};
-use crate::entries::{entries_of, modulepath, names_of};
-use crate::files::{NameRequest, ReportKind, load_name, report_name, unload_name};
-use crate::progress::Progress;
-use crate::refusal::Refusal;
 use envloaded::Loaded;
 use envvars::Vars;
 use filetree::Tree;
+use modulestep::{
+    Done, EvaluationSettings, NameRequest, Progress, Refusal, ReportKind, entries_of, load_name,
+    modulepath, names_of, report_name, unload_name,
+};
 use requests::{Action, Evaluated, Request, avail_report, list_report};
 use search::available;
 use std::alloc::{AllocError, Global};

@@ -15,7 +15,7 @@ use Rattle.modulerun.specs.Running.{ran_view}
 use Rattle.requests.specs.Reasons.{RequestReason, file_refused}
 use Rattle.requests.specs.Refusals.{RefusedAs}
 use Rattle.requests.specs.Steps.{consistent, script_at}
-use Rattle.requeststep.specs.declared.refusal.Refusal.{Refusal}
+use Rattle.requeststep.specs.Refusal.{Refusal}
 use Rattle.requeststep.specs.Answers.{cause_of}
 use Rattle.requeststep.proofs.StepLemmas.{stands_as}
 use Rattle.sitelaws.specs.Sites.{SiteModule, EvaluatesTo, site_of}

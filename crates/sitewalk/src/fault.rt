@@ -1,7 +1,7 @@
 //! Why a site can't be walked over.
 ghost use Rattle.std.specs.Prelude.{◌≡◌};
 ghost use Rattle.sitewalk.specs.declared.fault.WalkFault.TheVariants as faults;
-ghost use Rattle.requeststep.specs.declared.refusal.Refusal.TheVariants as refusals;
+ghost use Rattle.requeststep.specs.Refusal.TheVariants as refusals;
 
 use requeststep::Refusal;
 use std::alloc::AllocError;

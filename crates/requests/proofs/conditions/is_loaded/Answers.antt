@@ -3,7 +3,7 @@ use Rattle.std.proofs.lemmas.Iterator.Search.{any_from_yields_List}
 use Rattle.std.proofs.lemmas.Iterator.{YieldsList-from_slice}
 use Rattle.envloaded.specs.Loaded.{Entry}
 use Rattle.envloaded.specs.LoadedEntries.{entry_view}
-use Rattle.envloaded.specs.declared.entry.Loaded.{Loaded}
+use Rattle.envloaded.specs.LoadedEntry.{Loaded}
 use Rattle.requests.proofs.ListLemmas.{any_seen}
 use Rattle.requests.proofs.conditions.is_loaded.Goals as goal
 

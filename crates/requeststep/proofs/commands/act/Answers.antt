@@ -8,12 +8,12 @@ use Rattle.requests.specs.RequestViews.{action_view}
 use Rattle.requests.specs.Looked.{RequestLooksAt}
 use Rattle.requests.specs.Steps as steps
 use Rattle.requests.specs.Steps.{ListsLoaded, ListsAll, RequestStep, modulepath}
-use Rattle.requeststep.specs.declared.done.Done.{Done}
-use Rattle.requeststep.specs.Parts.{TreeAnswer}
-use Rattle.requeststep.specs.Messages.{MemoryNumberAmong, memory_numbers}
-use Rattle.requeststep.specs.Views.{request_context_of, done_view}
-use Rattle.requeststep.proofs.MemoryNumberLemmas.{wants_any}
-use Rattle.requeststep.proofs.TreeAnswers.{answers_of, given_now}
+use Rattle.modulestep.specs.declared.done.Done.{Done}
+use Rattle.modulestep.specs.Parts.{TreeAnswer}
+use Rattle.modulestep.specs.Messages.{MemoryNumberAmong, memory_numbers}
+use Rattle.modulestep.specs.Views.{request_context_of, done_view}
+use Rattle.modulestep.proofs.MemoryNumberLemmas.{wants_any}
+use Rattle.modulestep.proofs.TreeAnswers.{answers_of, given_now}
 use Rattle.requeststep.proofs.commands.act.Goals as goal
 
 pub returns-in-Load-clause-done : goal.returns-in-Load-clause-done

@@ -4,10 +4,10 @@ use Rattle.std.proofs.Math.ListN.{drop_of_length-le}
 use Rattle.std.specs.declared.alloc.Global.{Global}
 use Rattle.envvars.specs.Texts.{Text}
 use Rattle.requests.specs.Steps.{Each}
-use Rattle.requeststep.specs.Views.{request_context_of, done_view}
+use Rattle.modulestep.specs.Views.{request_context_of, done_view}
 use Rattle.requeststep.specs.Parts.{NameActionStep, NameActionLooksAt}
 use Rattle.requeststep.proofs.EachLemmas.{each_refused, each_on, looks_first, looks_on}
-use Rattle.requeststep.proofs.TreeAnswers.{leads_on, leads_refused, leads_last}
+use Rattle.modulestep.proofs.TreeAnswers.{leads_on, leads_refused, leads_last}
 use Rattle.requeststep.proofs.commands.act_on_each.Goals as goal
 
 pub act_on_name-requires : goal.act_on_name-requires

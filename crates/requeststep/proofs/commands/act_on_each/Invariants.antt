@@ -1,8 +1,9 @@
 use Rattle.std.proofs.Common.{◌≡◌, drop, map, string_bytes}
 use Rattle.requests.specs.Steps.{Each}
-use Rattle.requeststep.specs.Views.{request_context_of, done_view}
-use Rattle.requeststep.specs.Parts.{IsListedIn, NameActionStep, EachActionLooksAt}
-use Rattle.requeststep.proofs.TreeAnswers.{Leads}
+use Rattle.modulestep.specs.Views.{request_context_of, done_view}
+use Rattle.modulestep.specs.Parts.{IsListedIn}
+use Rattle.requeststep.specs.Parts.{NameActionStep, EachActionLooksAt}
+use Rattle.modulestep.proofs.TreeAnswers.{Leads}
 use Rattle.requeststep.proofs.commands.act_on_each.Given as goal
 
 abbrev pub invariant-loop-name : goal.invariant-loop-name

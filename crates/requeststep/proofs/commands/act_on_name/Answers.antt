@@ -1,8 +1,8 @@
 use Rattle.requeststep.specs.declared.commands.NameAction.{NameAction}
 use Rattle.requeststep.specs.declared.commands.NameAction.TheVariants.{Load, Unload, ReportOn}
-use Rattle.requeststep.specs.Views.{request_context_of, done_view}
+use Rattle.modulestep.specs.Views.{request_context_of, done_view}
 use Rattle.requeststep.specs.Parts.{NameActionStep, NameActionLooksAt}
-use Rattle.requeststep.proofs.TreeAnswers.{answers_of}
+use Rattle.modulestep.proofs.TreeAnswers.{answers_of}
 use Rattle.requeststep.proofs.commands.act_on_name.Goals as goal
 
 pub returns-in-Load-clause-done : goal.returns-in-Load-clause-done

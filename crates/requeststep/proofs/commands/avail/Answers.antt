@@ -10,8 +10,8 @@ use Rattle.filetree.specs.Agreement.{InEachPair, is_device}
 use Rattle.std.proofs.lemmas.Result.{err_from_is_err_and}
 use Rattle.search.specs.Looked.{ListingLooksAt}
 use Rattle.search.proofs.FailureLemmas.{fails_then}
-use Rattle.requeststep.specs.Answers.{is_failure, refused_read}
-use Rattle.requeststep.proofs.FailureLemmas.{read_failure}
+use Rattle.modulestep.specs.Answers.{is_failure, refused_read}
+use Rattle.modulestep.proofs.FailureLemmas.{read_failure}
 use Rattle.requeststep.proofs.commands.avail.Goals as goal
 
 pub returns-clause-over_tree : goal.returns-clause-over_tree

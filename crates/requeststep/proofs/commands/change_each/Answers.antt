@@ -4,11 +4,11 @@ use Rattle.std.specs.declared.alloc.Global.{Global}
 use Rattle.envloaded.specs.LoadedEntries.{entry_view}
 use Rattle.filetree.specs.Relations.{Then}
 use Rattle.requests.specs.Steps.{nothing_done, Each, EndsRequest}
-use Rattle.requeststep.specs.declared.done.Done.{Done}
-use Rattle.requeststep.specs.Views.{request_context_of, done_view}
+use Rattle.modulestep.specs.declared.done.Done.{Done}
+use Rattle.modulestep.specs.Views.{request_context_of, done_view}
 use Rattle.requeststep.specs.Parts.{NameActionStep, EachActionLooksAt}
-use Rattle.requeststep.proofs.ListedLemmas.{listing}
-use Rattle.requeststep.proofs.TreeAnswers.{starved_now, refused, then_given}
+use Rattle.modulestep.proofs.ListedLemmas.{listing}
+use Rattle.modulestep.proofs.TreeAnswers.{starved_now, refused, then_given}
 use Rattle.requeststep.proofs.commands.change_each.Goals as goal
 
 pub act_on_each-requires : goal.act_on_each-requires

@@ -2,15 +2,15 @@ use Rattle.std.proofs.Common.{◌≡◌, List, map, string_bytes, String, Ok, Er
 use Rattle.std.proofs.lemmas.Result.{err_from_is_err_and}
 use Rattle.std.specs.declared.alloc.Global.{Global}
 use Rattle.envloaded.specs.LoadedEntries.{entry_view}
-use Rattle.envloaded.specs.declared.entry.Loaded.{Loaded}
+use Rattle.envloaded.specs.LoadedEntry.{Loaded}
 use Rattle.filetree.specs.Relations.{Then}
 use Rattle.requests.specs.Steps.{nothing_done, entries_of, Each, EndsRequest, NeedsNames, ChangesLoaded}
-use Rattle.requeststep.specs.declared.done.Done.{Done}
-use Rattle.requeststep.specs.Views.{request_context_of, done_view}
+use Rattle.modulestep.specs.declared.done.Done.{Done}
+use Rattle.modulestep.specs.Views.{request_context_of, done_view}
 use Rattle.requeststep.specs.Parts.{NameActionStep, EachActionLooksAt}
 use Rattle.requeststep.proofs.EachLemmas.{named_none, named_some}
-use Rattle.requeststep.proofs.ListedLemmas.{listing}
-use Rattle.requeststep.proofs.TreeAnswers.{same_tree, refused_now, widened}
+use Rattle.modulestep.proofs.ListedLemmas.{listing}
+use Rattle.modulestep.proofs.TreeAnswers.{same_tree, refused_now, widened}
 use Rattle.requeststep.proofs.commands.change_names.Goals as goal
 
 pub change_each-requires : goal.change_each-requires

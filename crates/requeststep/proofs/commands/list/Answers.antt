@@ -2,7 +2,7 @@ use Rattle.std.proofs.Common.{List, [], map, Ok, ap, ◌∙◌}
 use Rattle.envvars.specs.Texts.{Text}
 use Rattle.envloaded.specs.Loaded.{names_of}
 use Rattle.envloaded.specs.LoadedEntries.{entry_view}
-use Rattle.envloaded.specs.declared.entry.Loaded.{Loaded}
+use Rattle.envloaded.specs.LoadedEntry.{Loaded}
 use Rattle.requests.specs.Reports.{loaded_text}
 use Rattle.requests.specs.Steps.{nothing_done, with_report}
 use Rattle.requeststep.proofs.commands.list.Goals as goal

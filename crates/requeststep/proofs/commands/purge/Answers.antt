@@ -4,17 +4,17 @@ use Rattle.std.specs.declared.alloc.Global.{Global}
 use Rattle.envvars.specs.Texts.{Text}
 use Rattle.envloaded.specs.Loaded.{names_of}
 use Rattle.envloaded.specs.LoadedEntries.{entry_view}
-use Rattle.envloaded.specs.declared.entry.Loaded.{Loaded}
+use Rattle.envloaded.specs.LoadedEntry.{Loaded}
 use Rattle.filetree.specs.Relations.{Then}
 use Rattle.requests.specs.Requests as actions
 use Rattle.requests.specs.Steps.{nothing_done, entries_of, Each, EndsRequest, RequestStep, UnloadsName}
 use Rattle.requests.specs.Looked.{UnloadLooksAt, EachLooksAt, PurgeLooksAt}
-use Rattle.requeststep.specs.declared.done.Done.{Done}
+use Rattle.modulestep.specs.declared.done.Done.{Done}
 use Rattle.requeststep.specs.declared.commands.NameAction.TheVariants.{Unload}
-use Rattle.requeststep.specs.Views.{request_context_of, done_view}
+use Rattle.modulestep.specs.Views.{request_context_of, done_view}
 use Rattle.requeststep.specs.Parts.{NameActionStep, EachActionLooksAt}
-use Rattle.requeststep.proofs.ListedLemmas.{listing}
-use Rattle.requeststep.proofs.TreeAnswers.{starved_now, refused_now, widened}
+use Rattle.modulestep.proofs.ListedLemmas.{listing}
+use Rattle.modulestep.proofs.TreeAnswers.{starved_now, refused_now, widened}
 use Rattle.requeststep.proofs.commands.purge.Goals as goal
 
 pub change_each-requires : goal.change_each-requires

@@ -3,11 +3,12 @@ use Rattle.std.proofs.lemmas.Result.{err_from_is_err_and}
 use Rattle.std.specs.declared.alloc.Global.{Global}
 use Rattle.requests.specs.Steps.{entries_of, Each, NeedsNames, ShowsName, ShowsNames, nothing_done}
 use Rattle.requeststep.specs.declared.commands.NameAction.TheVariants.{ReportOn}
-use Rattle.requeststep.specs.declared.done.Done.{Done}
-use Rattle.requeststep.specs.Views.{request_context_of, done_view}
-use Rattle.requeststep.specs.Parts.{report_mode, report_text, EachActionLooksAt}
+use Rattle.modulestep.specs.declared.done.Done.{Done}
+use Rattle.modulestep.specs.Views.{request_context_of, done_view}
+use Rattle.modulestep.specs.Parts.{report_mode, report_text}
+use Rattle.requeststep.specs.Parts.{EachActionLooksAt}
 use Rattle.requeststep.proofs.EachLemmas.{named_none, named_some, shows_some}
-use Rattle.requeststep.proofs.TreeAnswers.{same_tree, refused_now, refused, then_answers}
+use Rattle.modulestep.proofs.TreeAnswers.{same_tree, refused_now, refused, then_answers}
 use Rattle.requeststep.proofs.commands.report_names.Goals as goal
 
 pub act_on_each-requires : goal.act_on_each-requires

@@ -2,15 +2,15 @@ use Rattle.std.proofs.Common.{◌≡◌, List, map, Some, Ok, Err, refl, ap, ◌
 use Rattle.std.proofs.lemmas.Result.{err_from_is_err_and}
 use Rattle.std.specs.Option.{option_map}
 use Rattle.envloaded.specs.LoadedEntries.{entry_view}
-use Rattle.envloaded.specs.declared.entry.Loaded.{Loaded}
+use Rattle.envloaded.specs.LoadedEntry.{Loaded}
 use Rattle.requests.specs.Requests as actions
 use Rattle.requests.specs.Looked.{SwitchLooksAt}
 use Rattle.requests.specs.Steps.{nothing_done, entries_of, EndsRequest, RequestStep, Switches, old_name}
-use Rattle.requeststep.specs.declared.done.Done.{Done}
-use Rattle.requeststep.specs.Views.{request_context_of, done_view}
-use Rattle.requeststep.proofs.ListedLemmas.{listing}
+use Rattle.modulestep.specs.declared.done.Done.{Done}
+use Rattle.modulestep.specs.Views.{request_context_of, done_view}
+use Rattle.modulestep.proofs.ListedLemmas.{listing}
 use Rattle.requeststep.proofs.SwitchLemmas.{switches_old, switch_looks_old}
-use Rattle.requeststep.proofs.TreeAnswers.{starved_now, refused_now, refused, then_given}
+use Rattle.modulestep.proofs.TreeAnswers.{starved_now, refused_now, refused, then_given}
 use Rattle.requeststep.proofs.commands.switch.Goals as goal
 
 pub switch_names-requires : goal.switch_names-requires

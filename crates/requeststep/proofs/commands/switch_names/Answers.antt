@@ -2,8 +2,8 @@ use Rattle.std.proofs.Common.{true, Some, Ok, Err, refl, inl, inr}
 use Rattle.std.proofs.lemmas.Result.{err_from_is_err_and}
 use Rattle.requests.specs.Steps.{LoadsName, UnloadsName, Switches}
 use Rattle.requests.specs.Looked.{LoadLooksAt, UnloadLooksAt, SwitchLooksAt}
-use Rattle.requeststep.specs.Views.{request_context_of, done_view}
-use Rattle.requeststep.proofs.TreeAnswers.{refused, then_another}
+use Rattle.modulestep.specs.Views.{request_context_of, done_view}
+use Rattle.modulestep.proofs.TreeAnswers.{refused, then_another}
 use Rattle.requeststep.proofs.commands.switch_names.Goals as goal
 
 pub unload_name-requires : goal.unload_name-requires

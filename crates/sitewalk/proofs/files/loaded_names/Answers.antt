@@ -2,7 +2,7 @@ use Rattle.std.proofs.Common.{List, Some, map, option_map, sym, ap, ◌∙◌, t
 use Rattle.envvars.specs.Texts.{Text}
 use Rattle.envloaded.specs.Loaded.{names_of}
 use Rattle.envloaded.specs.LoadedEntries.{entry_view}
-use Rattle.envloaded.specs.declared.entry.Loaded.{Loaded}
+use Rattle.envloaded.specs.LoadedEntry.{Loaded}
 use Rattle.sitewalk.proofs.files.loaded_names.Goals as goal
 
 pub returns-clause-names : goal.returns-clause-names
