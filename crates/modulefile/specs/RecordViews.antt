@@ -1,8 +1,7 @@
--- What the records of the code stand for in the definitions, and what its answers to their edits mean (own).
-use Rattle.std.specs.Prelude.{◌≡◌, string_bytes, Option, Some, None, IfSome, Result, Ok, Err}
+-- What the records of the code and their faults stand for in the definitions (own).
+use Rattle.std.specs.Prelude.{string_bytes, Option, Some}
 use Rattle.std.specs.Option.{option_map}
 use Rattle.envvars.specs.Texts.{texts_in}
-use Rattle.envvars.specs.Environment.{Environment}
 use Rattle.envvars.specs.Reasons.{reason_of}
 use Rattle.modulerecords.specs.Records as records
 use Rattle.modulerecords.specs.Judgments.{RecordReason, bad_edit, bad_module_name}
@@ -37,18 +36,3 @@ record_view (code.Whatis text) = records.Whatis (string_bytes text)
 abbrev pub fault_reason : RecordFault → Option RecordReason
 fault_reason (faults.Env fault) = option_map bad_edit (reason_of fault)
 fault_reason (faults.BadModuleName name) = Some (bad_module_name (string_bytes name))
-
--- the fault is this, or want of memory
-abbrev pub HasFault : RecordReason → RecordFault → Type 0
-HasFault reason fault = IfSome (fault_reason fault) (λ r. r ≡ reason)
-
--- A judgment is good where there is no reason against it, and else has that reason, or memory ran out.
-abbrev pub IsJudged : Result (Unit {0}) RecordFault → Option RecordReason → Type 0
-IsJudged (Ok u) refusal = refusal ≡ None
-IsJudged (Err fault) refusal = IfSome (fault_reason fault) (λ r. refusal ≡ Some r)
-
--- An edit has this outcome, or memory ran out. A refused edit leaves the environment as it was.
-abbrev pub IsEdited : Result (Unit {0}) RecordFault → Environment → Environment → Result Environment RecordReason
-    → Type 0
-IsEdited (Ok u) old new outcome = outcome ≡ Ok new
-IsEdited (Err fault) old new outcome = (new ≡ old) × IfSome (fault_reason fault) (λ r. outcome ≡ Err r)

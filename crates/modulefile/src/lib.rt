@@ -1,6 +1,6 @@
 //! What the commands of modulefiles mean in every mode (modulefile(5)), and what a whole file makes of an environment.
 //! Takes memory and touches nothing else.
-//! Used by modulerun, defaultfiles, requests, requeststep and the crates of sites.
+//! Used by modulerun, defaultfiles, requests, modulestep and the crates of sites.
 #![tactic(auto)]
 
 mod call;

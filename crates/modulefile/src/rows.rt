@@ -1,5 +1,5 @@
-//! Worked modulefiles with their outcomes in every environment, computed from the definitions. More are rows of
-//! `cases_requests`.
+//! Worked modulefiles with their outcomes in every environment, computed from the definitions. More stand in
+//! `tests/modulefiles.txt`.
 ghost use Rattle.std.specs.Prelude.{◌≡◌, [], ◌∷◌, codes, Some, None};
 ghost use Rattle.tclrules.specs.Derivation.{LeftOut};
 ghost use Rattle.modulerecords.specs.Records.{Set, Unset, Front, Back, Conflict, Prereq, Whatis};

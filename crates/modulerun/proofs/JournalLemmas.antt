@@ -14,7 +14,8 @@ use Rattle.modulefile.specs.declared.records.Record.{Record}
 use Rattle.modulefile.specs.declared.record_fault.RecordFault.{RecordFault}
 use Rattle.modulefile.specs.Results.{◌>>=◌}
 use Rattle.modulefile.specs.Calls.{adds_record, call_of}
-use Rattle.modulefile.specs.RecordViews.{mode_view, record_view, fault_reason, IsEdited}
+use Rattle.modulefile.specs.RecordViews.{mode_view, record_view, fault_reason}
+use Rattle.modulerun.specs.RecordAnswers.{IsEdited}
 use Rattle.modulefile.specs.Answers.{record_of, records_in, record_outcome, or_before}
 use Rattle.modulerun.specs.declared.accepted.AcceptedCommand.{AcceptedCommand}
 use Rattle.modulerun.specs.Journals.{environment_so_far, words_in, words_of, records_of, IsJournal, AddsCommand}

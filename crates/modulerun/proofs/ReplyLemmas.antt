@@ -22,7 +22,8 @@ use Rattle.modulefile.specs.declared.record_fault.RecordFault.{RecordFault}
 use Rattle.modulefile.specs.Calls as calls
 use Rattle.modulefile.specs.Calls.{CallReason, bad_record, bad_arguments, unknown, adds_record, call_of}
 use Rattle.modulefile.specs.CallViews.{reason_of, call_view, HasReason}
-use Rattle.modulefile.specs.RecordViews.{record_view, fault_reason, HasFault}
+use Rattle.modulefile.specs.RecordViews.{record_view, fault_reason}
+use Rattle.modulerun.specs.RecordAnswers.{HasFault}
 use Rattle.modulefile.specs.Answers as answers
 use Rattle.modulefile.specs.Answers.{command_answer, question_answer, record_answer, not_done, variable_answer, record_name, record_number, refusal_of}
 use Rattle.modulerun.specs.declared.command_refusal.CommandRefusal.{CommandRefusal}

@@ -1,4 +1,5 @@
 pub mod Running
+pub mod RecordAnswers
 pub mod Journals
 pub mod Hosting
 pub mod Messages

@@ -6,7 +6,8 @@ ghost use Rattle.envvars.specs.Reasons.{Edits};
 ghost use Rattle.envpaths.specs.PathVariables.{is_element, path_reason, added_path, dropped_path};
 ghost use Rattle.modulerecords.specs.Judgments.{bad_edit, value_reason, values_of, names_reason, record_reason};
 ghost use Rattle.modulerecords.specs.Effects.{loaded_by, unloaded_by, edited, effect};
-ghost use Rattle.modulefile.specs.RecordViews.{record_view, mode_view, IsJudged, IsEdited};
+ghost use Rattle.modulefile.specs.RecordViews.{record_view, mode_view};
+ghost use Rattle.modulerun.specs.RecordAnswers.{IsJudged, IsEdited};
 
 use envpaths::{End, add_path, drop_path, is_element};
 use envstacks::{pop_value, push_value};

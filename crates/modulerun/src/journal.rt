@@ -7,7 +7,8 @@ ghost use Rattle.envvars.specs.EnvFault.TheVariants.{OutOfMemory};
 ghost use Rattle.modulerecords.specs.Effects.{effect, effects};
 ghost use Rattle.modulefile.specs.Calls.{adds_record, call_of};
 ghost use Rattle.modulefile.specs.Answers.{records_in};
-ghost use Rattle.modulefile.specs.RecordViews.{mode_view, record_view, IsEdited};
+ghost use Rattle.modulefile.specs.RecordViews.{mode_view, record_view};
+ghost use Rattle.modulerun.specs.RecordAnswers.{IsEdited};
 ghost use Rattle.modulerun.specs.Journals.{environment_so_far, journal_state, words_in, AddsCommand};
 
 use crate::accepted::AcceptedCommand;
