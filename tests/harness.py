@@ -34,6 +34,25 @@ def case(function):
     return function
 
 
+def examples(name):
+    """The examples of a file of this folder: each a title after `# `, and its lines. Empty lines part them."""
+    with open(os.path.join(HERE, name), encoding="utf-8") as file:
+        for example in file.read().rstrip("\n").split("\n\n"):
+            title, *lines = example.split("\n")
+            true(title.startswith("# "), f"{title!r} in {name} is a title")
+            yield title.removeprefix("# "), lines
+
+
+def add_case(title, function, *given):
+    """Adds a function of a folder and of what is given to the cases."""
+
+    def follow(folder):
+        function(folder, *given)
+
+    follow.__name__ = title
+    case(follow)
+
+
 class Failed(Exception):
     """What a case found, where it is not what it wants."""
 

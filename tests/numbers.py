@@ -51,7 +51,7 @@ REQUESTS = (
 
 def answers(there, words, asked):
     """What the request answers and what the variables are then, None where the program had no memory to say so."""
-    text = f"commands\n{there}ask {words}\nvars\n"
+    text = f"requests\n{there}ask {words}\nvars\n"
     done = subprocess.run(
         [PROGRAM], input=text.encode(), env=asked, capture_output=True, timeout=SECONDS, check=False
     )

@@ -277,7 +277,10 @@ def printed(family, text):
             value = re.sub(r"\\(.)", r"\1", value, flags=re.DOTALL)
         elif value is not None:
             value = value.replace("'\\''", "'").replace("'\\!'", "!")
-        changes[found[1] or found[3]] = value
+        name = found[1] or found[3]
+        if name in changes:
+            raise Wrong(f"{name} is printed twice")
+        changes[name] = value
         at = found.end()
     return changes
 

@@ -39,6 +39,8 @@ PROGRAMS = {
 SUITES = (
     ("program.py", "modulecmd"),
     ("rows.py", "modulecmd"),
+    ("modulefiles.py", "modulecmd"),
+    ("commands.py", "modulecmd"),
     ("sites.py", "modulecmd"),
     ("documents.py", ""),
     ("sentence.py", "modulecmd", "300", "0", "sh"),

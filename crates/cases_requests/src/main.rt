@@ -1,4 +1,4 @@
-//! Worked examples of requests: answers what lines ask about searches, modulefiles and whole commands.
+//! Worked examples of requests: answers what lines ask about searches, requests, sessions and verdicts.
 //! Touches standard input and output, and reads files and directories of the disk; else it works over trees in memory.
 //! Nothing stands above it; the files `stdin` and `stdout` of this crate are these lines and their answers.
 //!
@@ -13,43 +13,30 @@
 //! lines call a part of the search: `text MODULEPATH NAME`, `read PATH`, `evaluate PATH TEXT`, `directories
 //! MODULEPATH`, `path DIR NAME` and `order LEFT RIGHT`.
 //!
-//! `files`: `# TITLE` begins an example: no variable is set, no module is loaded, and the file has its cookie alone.
-//! `set NAME VALUE` sets a variable, `loaded NAME...` sets the loaded modules, `in SHELL MODULE TYPED` the shell,
-//! module and typed name for which the file is run, and `commands COUNT` how many commands it may run. `text LINE` adds
-//! a line to the file, and `clear` takes them all out. `load`, `unload`, `display`, `whatis`, `switch load` and `switch
-//! unload` run the file in this mode over the variables; the next line goes on from those that result. The answer is
-//! `ok`, with `asked` where the file asked about its surroundings, or the number and the text of the refusal. Then come
-//! its messages, what `display` and `whatis` report, and the variables that changed. `records` shows the records of the
-//! run before it. A newline in a message or a value is shown as `␤`.
-//!
-//! `commands` are calls of `modulecmd`, `modules` and `sessioncheck`, each shown after `> `. They share files and
+//! `requests` are calls of `modulecmd`, `modules` and `sessioncheck`, each shown after `> `. They share files and
 //! directories in memory and an environment. In a text `\n`, `\t`, `\s`, `\z` and `\\` stand for a newline, a tab, a
 //! space, NUL and a backslash; words are separated by blanks, and the word `''` is empty.
 //!
 //! `new` begins a new tree. `module PATH TEXT` puts a modulefile there, whose first line is the cookie; `file PATH
 //! TEXT` and `bytes PATH TEXT` a file of this text, or of it and after it a byte that is no UTF-8; `dir PATH NAME...` a
-//! directory with these names. `from NAME=VALUE...` are the variables from there on.
+//! directory with these names. `from NAME=VALUE...` are the variables from there on, and `vars` shows them.
 //!
-//! `run WORD...` runs a command with these arguments, and shows what it wrote to standard output, each line of standard
-//! error after `! `, and its status. `go WORD...` does the same, and then the variables are what the command makes of
-//! them, where `run`, `run_changes`, the printed text and the exact difference agree. `vars` shows them. `ask WORD...`
-//! runs a request under the limits of `limits COMMANDS DEPTH BYTES` and shows its changes, loaded names, messages and
-//! report, or the number and the text of its refusal; a line more stands where `run` or a session of this request
-//! answers another number. There `nameless KIND` is a request without names, as no words make one. `verdict NAME`
-//! judges a module under these limits. `session REQUEST, REQUEST...` runs requests one after another, and shows the
-//! outcome of each and how the variables at the end differ from those at the start. `rehearse SHELL REQUEST, SHELL
+//! `ask WORD...` runs a request under the limits of `limits COMMANDS DEPTH BYTES` and shows its changes, loaded names,
+//! messages and report, or the number and the text of its refusal; a line more stands where `run` or a session of this
+//! request answers another number. There `nameless KIND` is a request without names, as no words make one. `verdict
+//! NAME` judges a module under these limits. `session REQUEST, REQUEST...` runs requests one after another, and shows
+//! the outcome of each and how the variables at the end differ from those at the start. `rehearse SHELL REQUEST, SHELL
 //! REQUEST...` rehearses requests: for each `accepted` and the text that it prints, or `none`, and then the variables
 //! at the end. `poor PATH REQUEST, REQUEST...` runs requests where memory is refused for the file at the path. `write
 //! OUT ERR KIND WORD...` runs a command whose writers take so many bytes, and shows how it ended and what they hold.
 #![tactic(auto)]
 
 mod calls;
-mod commands;
 mod counted;
 mod parts;
 mod poor;
 mod rehearsed;
-mod runs;
+mod requests;
 mod searches;
 mod shown;
 mod texts;
@@ -62,8 +49,7 @@ use std::io;
 fn answer_about(rt: &HostRuntime, subject: &str, lines: &[String]) -> io::Result<()> {
     match subject {
         "searches" => searches::answer(rt, lines),
-        "files" => runs::answer(rt, lines),
-        "commands" => commands::answer(rt, lines),
+        "requests" => requests::answer(rt, lines),
         _ => println!(rt; "no such lines: {subject}"),
     }
 }

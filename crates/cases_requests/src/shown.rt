@@ -28,7 +28,7 @@ pub(crate) fn verdict_line(verdict: Verdict) -> &'static str {
 }
 
 /// Adds each line after a mark; a last line without its end has a backslash after it.
-pub(crate) fn push_marked(out: &mut String, mark: &str, text: &str) -> Result<(), AllocError> {
+fn push_marked(out: &mut String, mark: &str, text: &str) -> Result<(), AllocError> {
     for line in text.split_inclusive('\n') {
         let end = if line.ends_with('\n') { "" } else { "\\\n" };
         push_all(out, &[mark, line, end])?;

@@ -1,10 +1,10 @@
-//! Lines about whole commands, requests, sessions and verdicts, over one tree and one environment.
+//! Lines about requests, sessions, verdicts and writers, over one tree and one environment.
 use crate::calls::difference;
 use crate::poor::Poor;
 use crate::rehearsed::{request_of, requests_for_sh, shown_rehearsal};
 use crate::shown::{
-    differences, exit_name, push_marked, shown_changed, shown_outcome, shown_refusal, text_of,
-    variables, verdict_line,
+    differences, exit_name, shown_changed, shown_outcome, shown_refusal, text_of, variables,
+    verdict_line,
 };
 use crate::texts::{STANDARD, environment, first_word, limits_of, meant, number, words};
 use crate::writers::{Limited, kind};
@@ -12,8 +12,7 @@ use anyhow::Result;
 use envvars::changes;
 use filetree::{MemoryTree, Tree};
 use modulecmd::{
-    Change, Changed, Env, Exit, Limits, Outcome, Refusal, Request, Shell, modulecmd, print_changes,
-    request, run, run_changes, run_command, session, verdict,
+    Changed, Env, Exit, Limits, Outcome, Refusal, Shell, run_changes, run_command, session, verdict,
 };
 use std::alloc::Global;
 use std::io;
@@ -25,34 +24,6 @@ struct Session {
     tree: Poor<MemoryTree>,
     env: Env,
     limits: Limits,
-}
-
-/// What a command wrote, and its status.
-#[derive(Drop)]
-struct Written {
-    out: Vec<u8>,
-    err: Vec<u8>,
-    status: u8,
-}
-
-impl Written {
-    /// What was written, and the status, as they are shown.
-    fn shown(&self, alloc: Global) -> Result<String> {
-        let mut text = String::from_str(alloc, text_of(&self.out))?;
-        push_marked(&mut text, "! ", text_of(&self.err))?;
-        let status = self.status;
-        text.push_str(&format!(in alloc; "= {status}\n")?)?;
-        Ok(text)
-    }
-}
-
-/// Runs a command over a tree.
-fn command<T: Tree>(alloc: Global, args: &[String], env: &Env, tree: &mut T) -> Result<Written> {
-    let env = env.copy()?;
-    let mut out = Vec::new(alloc);
-    let mut err = Vec::new(alloc);
-    let status = modulecmd(alloc, args, env, tree, &mut out, &mut err);
-    Ok(Written { out, err, status })
 }
 
 /// The outcomes of a session.
@@ -87,11 +58,6 @@ fn shown_session<T: Tree>(alloc: Global, line: &str, env: &Env, tree: &mut T) ->
     let requests = requests_for_sh(alloc, line)?;
     let (after, outcomes) = session(alloc, &requests, env.copy()?, tree, STANDARD)?;
     session_text(alloc, &outcomes, env, &after)
-}
-
-/// Whether this is the text that a shell reads these changes from.
-fn prints(alloc: Global, shell: Shell, changes: &[Change], out: &str) -> Result<bool> {
-    Ok(print_changes(alloc, shell, changes)?.as_str() == out)
 }
 
 /// How a command ended, and what its writers hold.
@@ -129,8 +95,6 @@ impl Session {
             "from" => self.begin(rest),
             "limits" => self.limit(rest),
             "vars" => variables(self.alloc, &self.env),
-            "run" => self.run(rest),
-            "go" => self.go(rest),
             "ask" => self.ask(rest),
             "verdict" => self.judge(rest),
             "session" => shown_session(self.alloc, rest, &self.env, &mut self.tree),
@@ -180,60 +144,6 @@ impl Session {
     fn limit(&mut self, rest: &str) -> Result<String> {
         self.limits = limits_of(rest).unwrap_or(STANDARD);
         Ok(String::new(self.alloc))
-    }
-
-    /// Runs a command, and shows what it wrote.
-    fn run(&mut self, rest: &str) -> Result<String> {
-        let args = words(self.alloc, rest)?;
-        command(self.alloc, args.as_slice(), &self.env, &mut self.tree)?.shown(self.alloc)
-    }
-
-    /// Runs a command, shows what it wrote, and goes on from what it makes of the variables.
-    fn go(&mut self, rest: &str) -> Result<String> {
-        let args = words(self.alloc, rest)?;
-        let written = command(self.alloc, args.as_slice(), &self.env, &mut self.tree)?;
-        let mut text = written.shown(self.alloc)?;
-        if written.status == 0 {
-            text.push_str(self.follow(&args, text_of(&written.out))?)?;
-        }
-        Ok(text)
-    }
-
-    /// Goes on from what an accepted command makes of the variables; a line names a call that does otherwise.
-    fn follow(&mut self, args: &[String], out: &str) -> Result<&'static str> {
-        let Some((word, words)) = args.split_first() else {
-            return Ok("no shell\n");
-        };
-        let Some(shell) = Shell::named(word) else {
-            return Ok("no shell\n");
-        };
-        let request = request(self.alloc, shell, words)?;
-        if !self.changes_print(shell, &request, out)? {
-            return Ok("run_changes says another text\n");
-        }
-        self.follow_request(shell, &request, out)
-    }
-
-    /// Whether a shell reads what a request changes from this text.
-    fn changes_print(&mut self, shell: Shell, request: &Request, out: &str) -> Result<bool> {
-        let changed = run_changes(self.alloc, request, &self.env, &mut self.tree, STANDARD)?;
-        prints(self.alloc, shell, &changed.changes, out)
-    }
-
-    /// Goes on from the environment that a request leaves, where a shell reads its exact difference from this text.
-    fn follow_request(
-        &mut self,
-        shell: Shell,
-        request: &Request,
-        out: &str,
-    ) -> Result<&'static str> {
-        let env = run(self.alloc, request, &self.env, &mut self.tree, STANDARD)?.env;
-        let difference = changes(self.alloc, &self.env, &env)?;
-        if !prints(self.alloc, shell, &difference, out)? {
-            return Ok("run leaves another environment\n");
-        }
-        self.env = env;
-        Ok("")
     }
 
     /// What a request for sh changes.

@@ -1,0 +1,207 @@
+"""Modulefiles one by one: what the program says and changes where each is loaded, unloaded, switched, shown, described.
+
+    python3 -B tests/modulefiles.py PROGRAM
+
+The examples stand in modulefiles.txt, each after a title, `# TITLE`; what they expect is typed by hand from the rules
+of the program. At first no variable is set, no module is loaded, and the file has its cookie alone. `set NAME VALUE`
+sets a variable, `loaded NAME...` the loaded modules, `in SHELL MODULE TYPED` the shell, the module and the name that is
+typed for it; `text LINE` adds a line to its file, and `clear` takes them all out.
+
+`> load`, `> unload`, `> display` and `> whatis` are commands on the module, and `> switch load` and `> switch unload`
+switches from an empty module to it and back. An unload finds the module loaded, and a load doesn't; each goes on from
+the variables that the one before it made. Below stands `ok`, `says` before each message, what is shown, and each
+variable that changes, but for the two lists of loaded modules; or the number of a refusal and its text. A newline is
+`␤` in a message and in a value. `ok, asked` is a file of the verdict `Asked`, `ok` one of another, and `ok, no load` one
+whose load is refused, by modcheck, which stands beside the program.
+"""
+
+import os
+import re
+import subprocess
+import sys
+
+from harness import HERE, SECONDS, add_case, examples, run_all, same, true
+from plain import FAMILIES, printed
+from worked import real, write
+
+OTHER = "other/1"
+REFUSAL = re.compile(r"(\d+) (.*)")
+CHANGE = re.compile(r"(\w+)(?:=(.*)| is unset)")
+
+# The rows of the table in REFUSALS.md, and what stands in their texts for a name or a number.
+ROW = re.compile(r"^\| `\w+`[^|]*\| ([0-9, ]+) \| `([^`]*)` \|", re.MULTILINE)
+MARK = re.compile(r"\b(N|X|MESSAGE|LINE)\b")
+
+
+def refusals():
+    """The numbers of refusals, each with the texts that it may have."""
+    with open(os.path.join(os.path.dirname(HERE), "docs", "REFUSALS.md"), encoding="utf-8") as file:
+        rows = ROW.findall(file.read())
+    texts = [(numbers, re.compile(MARK.sub(".*", re.escape(text)))) for numbers, text in rows]
+    return [(int(number), text) for numbers, text in texts for number in numbers.split(",")]
+
+
+REFUSALS = refusals()
+
+
+def is_refusal(number, text):
+    """Whether REFUSALS.md has such a text for the number."""
+    return any(one == number and form.fullmatch(text) for one, form in REFUSALS)
+
+
+# The answers to an accepted command, each with the verdicts that the file may have; it has none where its load is
+# refused.
+VERDICTS = {"ok": ("Plain", "OneWay"), "ok, asked": ("Asked",), "ok, no load": (None,)}
+
+
+class Answer:
+    """What is expected of a command: the lines below it."""
+
+    def __init__(self, command, lines):
+        refused = REFUSAL.fullmatch(lines[0])
+        self.refused = refused and refused[2]
+        self.verdicts = VERDICTS.get(lines[0])
+        true(refused or self.verdicts, f"{lines[0]!r} is an answer")
+        true(not refused or not lines[1:], f"nothing stands below {lines[0]!r}")
+        true(not refused or is_refusal(int(refused[1]), refused[2]), f"REFUSALS.md has {lines[0]!r}")
+        below = [line[2:] for line in lines[1:]]
+        said = [line.removeprefix("says ").replace("␤", "\n") for line in below if line.startswith("says ")]
+        rest = [line for line in below if not line.startswith("says ")]
+        shown = rest if command in ("display", "whatis") else []
+        self.said = [*said, *(f"{line}\n" for line in shown)]
+        self.changes = dict(changed(line) for line in rest[len(shown) :])
+
+
+def changed(line):
+    """A variable, and its new value or None."""
+    found = CHANGE.fullmatch(line)
+    true(found, f"{line!r} is a change")
+    return found[1], found[2] and found[2].replace("␤", "\n")
+
+
+class Example:
+    """A module, and the variables and the loaded modules that the next command finds."""
+
+    def __init__(self, folder):
+        self.folder = folder
+        self.shell, self.module, self.typed = "sh", "m/1", "m/1"
+        self.text = ""
+        self.loaded = []
+        self.variables = {}
+        write(folder, f"/m/{OTHER}", "")
+
+    def take(self, line):
+        """Takes up what a line sets."""
+        word, _, rest = line.partition(" ")
+        if word == "set":
+            name, _, value = rest.partition(" ")
+            self.variables[name] = value
+        elif word == "loaded":
+            self.loaded = rest.split()
+        elif word == "in":
+            self.shell, self.module, self.typed = rest.split()
+        elif word == "text":
+            self.text += f"{rest}\n"
+        else:
+            same(line, "clear", "a line of an example")
+            self.text = ""
+
+    def real(self, text):
+        return real(self.folder, text)
+
+    def lists(self, names):
+        """The two lists of loaded modules, which are unset where there are none."""
+        paths = ":".join(f"/m/{name}" for name in names)
+        values = {"LOADEDMODULES": ":".join(names), "_LMFILES_": paths}
+        return {name: value or None for name, value in values.items()}
+
+    def env(self, names):
+        """MODULEPATH and the variables, where modules of these names are loaded."""
+        given = {"MODULEPATH": "/m", **self.variables, **self.lists(names)}
+        return {name.encode(): self.real(value) for name, value in given.items() if value is not None}
+
+    def words(self, command):
+        """The words of a command, and the loaded modules before and after it."""
+        others = [name for name in self.loaded if name != self.module]
+        there = self.loaded if self.module in self.loaded else [*others, self.module]
+        if command == "load":
+            return ["load", self.typed], others, [*others, self.module]
+        if command == "unload":
+            return ["unload", self.typed], there, others
+        if command == "switch load":
+            return ["switch", OTHER, self.typed], [*others, OTHER], [*others, self.module]
+        if command == "switch unload":
+            return ["switch", self.typed, OTHER], there, [*others, OTHER]
+        return [command, self.typed], self.loaded, self.loaded
+
+    def answers(self, command, lines):
+        """The program answers a command so, and the next one goes on from there."""
+        answer = Answer(command, lines)
+        write(self.folder, f"/m/{self.module}", self.text)
+        words, before, after = self.words(command)
+        done = self.folder.run(self.shell, *words, env=self.env(before))
+        if answer.refused is None:
+            self.accepts(command, done, answer, before, after)
+        else:
+            wanted = (self.real(f"ERROR: {answer.refused}\n"), b"", 1)
+            same((done.stderr, done.stdout, done.returncode), wanted, f"standard error, output and status of {command}")
+
+    def accepts(self, command, done, answer, before, after):
+        """An accepted command wrote what it says, shows and changes, and modcheck gives a verdict that it says."""
+        same(done.stderr, b"".join(map(self.real, answer.said)), f"standard error of {command}")
+        same(done.returncode, 0, f"status of {command}")
+        changes = printed(FAMILIES[self.shell], done.stdout.decode())
+        old, new = self.lists(before), self.lists(after)
+        wanted = {**answer.changes, **{name: new[name] for name in new if new[name] != old[name]}}
+        wanted = {name: value and self.real(value).decode() for name, value in wanted.items()}
+        same(changes, wanted, f"the changes of {command}")
+        same(list(changes), sorted(changes), f"the order of the changes of {command}")
+        verdict = self.verdict()
+        true(verdict in answer.verdicts, f"the verdict is {verdict} on the file of {command}")
+        self.loaded = [name for name in after if name != OTHER]
+        self.variables.update(answer.changes)
+
+    def verdict(self):
+        """The verdict of modcheck on the file; None where its load is refused."""
+        checker = os.path.join(os.path.dirname(os.path.abspath(sys.argv[1])), "modcheck")
+        _, before, _ = self.words("load")
+        done = subprocess.run(
+            [checker, self.shell],
+            input=f"load {self.typed}\n".encode(),
+            env=self.env(before),
+            capture_output=True,
+            timeout=SECONDS,
+            check=False,
+        )
+        *_, last = done.stderr.decode().splitlines()
+        refused = last.startswith("1 refused: ")
+        same(done.returncode, int(refused), f"status of modcheck, which says {last!r}")
+        return None if refused else last.removeprefix(f"{self.module}: ")
+
+
+def follow(folder, lines):
+    """The program answers each command of an example as its lines say."""
+    example, rest = Example(folder), list(lines)
+    while rest:
+        line = rest.pop(0)
+        if not line.startswith("> "):
+            example.take(line)
+            continue
+        answer = [rest.pop(0)]
+        while rest and rest[0].startswith("  "):
+            answer.append(rest.pop(0))
+        example.answers(line.removeprefix("> "), answer)
+
+
+def main():
+    if len(sys.argv) != 2:
+        sys.exit(f"{sys.argv[0]} PROGRAM")
+    for title, lines in examples("modulefiles.txt"):
+        add_case(title, follow, lines)
+    passed, failed = run_all(sys.argv[1])
+    print(f"{passed} passed, {failed} failed")
+    return 1 if failed else 0
+
+
+if __name__ == "__main__":
+    sys.exit(main())
