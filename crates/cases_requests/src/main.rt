@@ -36,7 +36,7 @@ mod counted;
 mod parts;
 mod poor;
 mod rehearsed;
-mod requests;
+mod request_lines;
 mod searches;
 mod shown;
 mod texts;
@@ -49,7 +49,7 @@ use std::io;
 fn answer_about(rt: &HostRuntime, subject: &str, lines: &[String]) -> io::Result<()> {
     match subject {
         "searches" => searches::answer(rt, lines),
-        "requests" => requests::answer(rt, lines),
+        "requests" => request_lines::answer(rt, lines),
         _ => println!(rt; "no such lines: {subject}"),
     }
 }
