@@ -1,5 +1,5 @@
 -- A state is read as it was written.
-use Rattle.std.proofs.Common.{◌≡◌, ℕ, ◌<◌, ◌≤◌, Bool, true, false, cond, not, ◌||◌, ◌&&◌, List, [], ◌∷◌, ◌++◌, map, refl, sym, ap, ◌∙◌, arith, append-nil, ltb, leb, eqb, Option, Some, None}
+use Rattle.std.proofs.Common.{◌≡◌, ℕ, ◌<◌, ◌≤◌, Bool, true, false, cond, not, ◌||◌, ◌&&◌, List, [], ◌∷◌, ◌++◌, map, refl, sym, ap, ◌∙◌, arith, ltb, leb, eqb, Option, Some, None}
 use Rattle.std.specs.Prelude.{filter, flat_map, bytes_eq, unwrap_or, is_some, decimal, if◌then◌else◌}
 use Rattle.std.specs.Option.{option_or}
 use Rattle.std.specs.List.{list_any, onto_first, join_with_byte, AllByRecursion}
@@ -7,9 +7,9 @@ use Rattle.std.proofs.Math.ListN.{length}
 use Rattle.std.proofs.lemmas.Bool.Decides.{nat_tests}
 use Rattle.std.proofs.lemmas.Map.Views.{any-filter_same}
 use Rattle.envvars.specs.Texts.{Text, has}
-use Rattle.envvars.specs.Fields.{joined, text_of_elements, without_repeats}
-use Rattle.envvars.specs.Escapes.{is_special, escaped, unescaped_fields}
-use Rattle.envvars.proofs.EscapeLemmas.{plain_element, special_element, colon_element}
+use Rattle.envvars.specs.Fields.{text_of_elements, without_repeats}
+use Rattle.envvars.specs.Escapes.{escaped}
+use Rattle.envvars.proofs.EscapeLemmas.{fields-escaped}
 use Rattle.pathstate.specs.Paths.{PathState, largest_counter}
 use Rattle.pathstate.specs.Counters.{counter_of}
 use Rattle.pathstate.specs.PathTexts.{split_elements, paired, counter_in_pairs, pairs_of, elements_of, state_of, elements_text, is_lone_empty, written, counter_fields, pairs_text, HasNoDelimiter, IsWritable}
@@ -47,29 +47,6 @@ elements-text d ([] ∷ []) pairs h l = rw (l refl) refl
 elements-text d ([] ∷ y ∷ ys) pairs h l = split_elements-joined d [] (y ∷ ys) h
 elements-text d ((b ∷ bs) ∷ []) pairs h l = split_elements-joined d (b ∷ bs) [] h
 elements-text d ((b ∷ bs) ∷ y ∷ ys) pairs h l = split_elements-joined d (b ∷ bs) (y ∷ ys) h
-
--- escaped fields are read as they were
-
-escaped_step : (c : ℕ) (b : Bool) (t : Text) → is_special c ≡ b → unescaped_fields (cond b (92 ∷ c ∷ t) (c ∷ t)) ≡ onto_first c (unescaped_fields t)
-escaped_step c true t h = special_element c t h
-escaped_step c false t h = plain_element c t h
-
-cond-append : (b : Bool) (c : ℕ) (x t : Text) → cond b (92 ∷ c ∷ x) (c ∷ x) ++ t ≡ cond b (92 ∷ c ∷ (x ++ t)) (c ∷ (x ++ t))
-cond-append true c x t = refl
-cond-append false c x t = refl
-
-fields_last : (x : Text) → unescaped_fields (escaped x ++ []) ≡ x ∷ []
-fields_last [] = refl
-fields_last (c ∷ x) = ap unescaped_fields (cond-append (is_special c) c (escaped x) []) ∙ escaped_step c (is_special c) (escaped x ++ []) refl ∙ ap (onto_first c) (fields_last x)
-
-fields_more : (x t : Text) → unescaped_fields (escaped x ++ 58 ∷ t) ≡ x ∷ unescaped_fields t
-fields_more [] t = colon_element t
-fields_more (c ∷ x) t =
-    ap unescaped_fields (cond-append (is_special c) c (escaped x) (58 ∷ t)) ∙ escaped_step c (is_special c) (escaped x ++ 58 ∷ t) refl ∙ ap (onto_first c) (fields_more x t)
-
-fields-escaped : (x : Text) (xs : List Text) → unescaped_fields (joined (map escaped (x ∷ xs))) ≡ x ∷ xs
-fields-escaped x [] = ap unescaped_fields (sym (append-nil (escaped x))) ∙ fields_last x
-fields-escaped x (y ∷ ys) = fields_more x (joined (map escaped (y ∷ ys))) ∙ ap (λ (l : List Text). x ∷ l) (fields-escaped y ys)
 
 -- pairs
 

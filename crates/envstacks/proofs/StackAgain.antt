@@ -1,7 +1,7 @@
 -- A stack that is written is read as it was.
-use Rattle.std.proofs.Common.{◌≡◌, ℕ, Bool, true, false, cond, not, ◌&&◌, List, [], ◌∷◌, ◌++◌, refl, sym, ap, ◌∙◌, subst, arith, append-nil, length, nat_eq, Option, Some, None, map}
+use Rattle.std.proofs.Common.{◌≡◌, ℕ, Bool, true, false, cond, not, ◌&&◌, List, [], ◌∷◌, ◌++◌, refl, sym, ap, ◌∙◌, subst, arith, length, nat_eq, Option, Some, None, map}
 use Rattle.std.specs.Prelude.{bytes_eq, if◌then◌else◌}
-use Rattle.std.specs.List.{onto_first, list_all, list_any}
+use Rattle.std.specs.List.{list_all, list_any}
 use Rattle.std.specs.Option.{option_map, option_and_then}
 use Rattle.std.proofs.lemmas.Bool.{false≢true}
 use Rattle.envvars.specs.Texts.{Text}
@@ -9,40 +9,17 @@ use Rattle.envvars.specs.Names.{stack_name}
 use Rattle.envvars.specs.Environment.{Environment, lookup, with_value}
 use Rattle.envvars.specs.Fields.{joined}
 use Rattle.envstacks.specs.Stacks.{OwnedValue, StackState}
-use Rattle.envvars.specs.Escapes.{is_special, escaped, unescaped_fields}
+use Rattle.envvars.specs.Escapes.{escaped, unescaped_fields}
 use Rattle.envstacks.specs.StackTexts.{with_first_byte, split_at_ampersand, owner_of, owner_text, item_of, items_of_elements, is_stack, if_stack, items_in, element_text, stack_text, is_writable_owner, is_writable_stack}
 use Rattle.envstacks.specs.StackVariables.{stack_in, with_stack}
 use Rattle.envvars.proofs.TextLemmas.{same_text, bytes_eq-same}
 use Rattle.envvars.proofs.EnvLemmas.{lookup-with_value}
-use Rattle.envvars.proofs.EscapeLemmas.{plain_element, special_element, colon_element}
+use Rattle.envvars.proofs.EscapeLemmas.{fields-escaped}
 
 both_true : (a b : Bool) → (a && b) ≡ true → (a ≡ true) × (b ≡ true)
 both_true true true h = (refl, refl)
 both_true true false h = absurd (false≢true h)
 both_true false b h = absurd (false≢true h)
-
--- one more character of an element
-escaped_step : (c : ℕ) (b : Bool) (t : Text) → is_special c ≡ b → unescaped_fields (cond b (92 ∷ c ∷ t) (c ∷ t)) ≡ onto_first c (unescaped_fields t)
-escaped_step c true t h = special_element c t h
-escaped_step c false t h = plain_element c t h
-
-cond-append : (b : Bool) (c : ℕ) (x t : Text) → cond b (92 ∷ c ∷ x) (c ∷ x) ++ t ≡ cond b (92 ∷ c ∷ (x ++ t)) (c ∷ (x ++ t))
-cond-append true c x t = refl
-cond-append false c x t = refl
-
--- what follows an element: nothing, or a colon and the rest
-elements_last : (x : Text) → unescaped_fields (escaped x ++ []) ≡ x ∷ []
-elements_last [] = refl
-elements_last (c ∷ x) = ap unescaped_fields (cond-append (is_special c) c (escaped x) []) ∙ escaped_step c (is_special c) (escaped x ++ []) refl ∙ ap (onto_first c) (elements_last x)
-
-elements_more : (x t : Text) → unescaped_fields (escaped x ++ 58 ∷ t) ≡ x ∷ unescaped_fields t
-elements_more [] t = colon_element t
-elements_more (c ∷ x) t =
-    ap unescaped_fields (cond-append (is_special c) c (escaped x) (58 ∷ t)) ∙ escaped_step c (is_special c) (escaped x ++ 58 ∷ t) refl ∙ ap (onto_first c) (elements_more x t)
-
-elements_all : (x : Text) (xs : List Text) → unescaped_fields (joined (map escaped (x ∷ xs))) ≡ x ∷ xs
-elements_all x [] = ap unescaped_fields (sym (append-nil (escaped x))) ∙ elements_last x
-elements_all x (y ∷ xs) = elements_more x (joined (map escaped (y ∷ xs))) ∙ ap (λ (l : List Text). x ∷ l) (elements_all y xs)
 
 map-twice : (items : List OwnedValue) → map (λ item. escaped (element_text item)) items ≡ map escaped (map element_text items)
 map-twice [] = refl
@@ -79,7 +56,7 @@ pub stack_again : (items : List OwnedValue) → is_writable_stack items ≡ true
 stack_again [] h = refl
 stack_again (i ∷ is) h =
     let k = both_true (is_stack (i ∷ is)) (list_all (λ item. is_writable_owner item.0) (i ∷ is)) h in
-    let e : unescaped_fields (joined (map (λ item. escaped (element_text item)) (i ∷ is))) ≡ map element_text (i ∷ is) = ap (λ (l : List Text). unescaped_fields (joined l)) (map-twice (i ∷ is)) ∙ elements_all (element_text i) (map element_text is) in
+    let e : unescaped_fields (joined (map (λ item. escaped (element_text item)) (i ∷ is))) ≡ map element_text (i ∷ is) = ap (λ (l : List Text). unescaped_fields (joined l)) (map-twice (i ∷ is)) ∙ fields-escaped (element_text i) (map element_text is) in
     rw (e, items_again (i ∷ is) k.1) (stack_only (i ∷ is) k.0)
 
 -- the stack's variable is another

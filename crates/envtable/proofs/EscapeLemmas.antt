@@ -12,6 +12,7 @@ use Rattle.std.specs.Result.{OnOk, is_ok}
 use Rattle.std.specs.Char.{len_utf8}
 use Rattle.envtable.specs.Texts.{Text}
 use Rattle.envtable.specs.Escapes.{is_special, escaped, unescaped_fields}
+use Rattle.envtable.specs.Fields.{joined}
 use Rattle.envtable.specs.EscapeReading.{onto_first_field, with_pending_escape}
 
 -- bytes that need no escape
@@ -32,17 +33,17 @@ plain_char c h k l =
 pub special_small : (c : ℕ) → is_special c ≡ true → c < 128
 special_small c h = grind (arith, nat_tests)
 
-pub plain_element : (c : ℕ) (t : Text) → is_special c ≡ false → unescaped_fields (c ∷ t) ≡ onto_first c (unescaped_fields t)
+plain_element : (c : ℕ) (t : Text) → is_special c ≡ false → unescaped_fields (c ∷ t) ≡ onto_first c (unescaped_fields t)
 plain_element c [] h = rw (or_right (nat_eq c 92) (nat_eq c 58) h) refl
 plain_element c (k ∷ t) h = rw (or_right (nat_eq c 92) (nat_eq c 58) h, or_left (nat_eq c 92) (nat_eq c 58) h) refl
 
-pub special_element : (c : ℕ) (t : Text) → is_special c ≡ true → unescaped_fields (92 ∷ c ∷ t) ≡ onto_first c (unescaped_fields t)
+special_element : (c : ℕ) (t : Text) → is_special c ≡ true → unescaped_fields (92 ∷ c ∷ t) ≡ onto_first c (unescaped_fields t)
 special_element c t h = rw h refl
 
 other_element : (c : ℕ) (t : Text) → is_special c ≡ false → unescaped_fields (92 ∷ c ∷ t) ≡ onto_first 92 (unescaped_fields (c ∷ t))
 other_element c t h = rw h refl
 
-pub colon_element : (t : Text) → unescaped_fields (58 ∷ t) ≡ [] ∷ unescaped_fields t
+colon_element : (t : Text) → unescaped_fields (58 ∷ t) ≡ [] ∷ unescaped_fields t
 colon_element [] = refl
 colon_element (k ∷ t) = refl
 
@@ -104,6 +105,28 @@ pub read_colon : (ts : List Text) (x rest : Text) → (ts ++ x ∷ []) ++ onto_f
 read_colon ts x rest =
     append_assoc ts (x ∷ []) (onto_first_field [] (unescaped_fields rest)) ∙ ap (λ (l : List Text). ts ++ (x ∷ l)) (onto_first_field-none rest)
     ∙ sym (ap (λ (l : List Text). ts ++ onto_first_field x l) (colon_element rest) ∙ ap (λ (t : Text). ts ++ (t ∷ unescaped_fields rest)) (append-nil x))
+
+-- what is joined from escaped texts is read as they were
+escaped_step : (c : ℕ) (b : Bool) (t : Text) → is_special c ≡ b → unescaped_fields (cond b (92 ∷ c ∷ t) (c ∷ t)) ≡ onto_first c (unescaped_fields t)
+escaped_step c true t h = special_element c t h
+escaped_step c false t h = plain_element c t h
+
+cond-append : (b : Bool) (c : ℕ) (x t : Text) → cond b (92 ∷ c ∷ x) (c ∷ x) ++ t ≡ cond b (92 ∷ c ∷ (x ++ t)) (c ∷ (x ++ t))
+cond-append true c x t = refl
+cond-append false c x t = refl
+
+fields_last : (x : Text) → unescaped_fields (escaped x ++ []) ≡ x ∷ []
+fields_last [] = refl
+fields_last (c ∷ x) = ap unescaped_fields (cond-append (is_special c) c (escaped x) []) ∙ escaped_step c (is_special c) (escaped x ++ []) refl ∙ ap (onto_first c) (fields_last x)
+
+fields_more : (x t : Text) → unescaped_fields (escaped x ++ 58 ∷ t) ≡ x ∷ unescaped_fields t
+fields_more [] t = colon_element t
+fields_more (c ∷ x) t =
+    ap unescaped_fields (cond-append (is_special c) c (escaped x) (58 ∷ t)) ∙ escaped_step c (is_special c) (escaped x ++ 58 ∷ t) refl ∙ ap (onto_first c) (fields_more x t)
+
+pub fields-escaped : (x : Text) (xs : List Text) → unescaped_fields (joined (map escaped (x ∷ xs))) ≡ x ∷ xs
+fields-escaped x [] = ap unescaped_fields (sym (append-nil (escaped x))) ∙ fields_last x
+fields-escaped x (y ∷ ys) = fields_more x (joined (map escaped (y ∷ ys))) ∙ ap (λ (l : List Text). x ∷ l) (fields-escaped y ys)
 
 -- escapes
 pub escaped-append : (xs ys : Text) → escaped (xs ++ ys) ≡ escaped xs ++ escaped ys
