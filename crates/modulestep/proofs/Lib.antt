@@ -1,5 +1,4 @@
 pub mod MoveLemmas
-pub mod RecordLemmas
 pub mod StepLemmas
 pub mod NameLemmas
 pub mod VerdictLemmas

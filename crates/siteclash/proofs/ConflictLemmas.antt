@@ -1,13 +1,14 @@
 -- Names in a set, and one more.
-use Rattle.std.proofs.Common.{◌≡◌, ℕ, ◌+◌, ◌<◌, length, take, get_or, map, append_assoc, string_bytes, Global, Bor, Bool, true, false, ◌||◌, List, [], ◌∷◌, ◌++◌, refl, sym, ap, ◌∙◌}
+use Rattle.std.proofs.Common.{◌≡◌, ℕ, ◌+◌, ◌<◌, length, take, get_or, map, string_bytes, Global, Bor, Bool, true, false, ◌||◌, List, [], ◌∷◌, ◌++◌, refl, sym, ap, ◌∙◌}
 use Rattle.std.specs.Prelude.{bytes_eq, if◌then◌else◌}
 use Rattle.std.specs.List.{list_any}
 use Rattle.std.proofs.lemmas.List.Folds.{list_any-append}
 use Rattle.std.proofs.lemmas.List.{take_more, map-append}
 use Rattle.std.specs.declared.string.String.{String}
 use Rattle.envvars.specs.Texts.{Text, has}
-use Rattle.reversal.specs.Records.{Record, Set, Unset, Push, Front, Back, Remove, Conflict, Prereq, Whatis, conflict_names}
+use Rattle.reversal.specs.Records.{Record, conflict_names}
 use Rattle.envvars.proofs.TextLemmas.{same_text}
+use Rattle.reversal.proofs.RecordLemmas.{conflicts-append}
 
 -- whether a key is this name
 abbrev pub any_key : Text → List (Bor Text) → Bool
@@ -57,18 +58,6 @@ names_turn name old new key before xs i s l is text put h =
     ∙ ap (λ b. before || b) (ap (λ (t : Text). has name (map string_bytes (take i xs)) || bytes_eq name t) text ∙ sym (more_texts name xs i s l is)))))
 
 -- the names of conflicts, record by record
-conflicts-append : (xs ys : List Record) → conflict_names (xs ++ ys) ≡ conflict_names xs ++ conflict_names ys
-conflicts-append [] ys = refl
-conflicts-append (Set var value ∷ xs) ys = conflicts-append xs ys
-conflicts-append (Unset var value ∷ xs) ys = conflicts-append xs ys
-conflicts-append (Push var value ∷ xs) ys = conflicts-append xs ys
-conflicts-append (Front delim var zs ∷ xs) ys = conflicts-append xs ys
-conflicts-append (Back delim var zs ∷ xs) ys = conflicts-append xs ys
-conflicts-append (Remove delim var zs ∷ xs) ys = conflicts-append xs ys
-conflicts-append (Conflict names ∷ xs) ys = ap (λ (l : List Text). names ++ l) (conflicts-append xs ys) ∙ sym (append_assoc names (conflict_names xs) (conflict_names ys))
-conflicts-append (Prereq names ∷ xs) ys = conflicts-append xs ys
-conflicts-append (Whatis text ∷ xs) ys = conflicts-append xs ys
-
 pub conflicts_turn : {X : Type 0} (view : X → Record) (name : Text) (old new : Bool) (xs : List X) (i : ℕ) (x : X) → i < length xs → x ≡ get_or xs i x
     → new ≡ (old || has name (conflict_names (view x ∷ []))) → old ≡ has name (conflict_names (map view (take i xs)))
     → new ≡ has name (conflict_names (map view (take (i + 1) xs)))

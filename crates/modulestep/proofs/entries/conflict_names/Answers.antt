@@ -2,7 +2,7 @@ use Rattle.envvars.specs.Texts.{slice_texts}
 use Rattle.requests.specs.Records.{conflict_names}
 use Rattle.modulefile.specs.RecordViews.{record_view}
 use Rattle.requests.proofs.ReportLemmas.{turn}
-use Rattle.modulestep.proofs.RecordLemmas.{conflicts-append}
+use Rattle.reversal.proofs.RecordLemmas.{conflicts-append}
 use Rattle.modulestep.proofs.entries.conflict_names.Goals as goal
 
 pub loop-record-preserved : goal.loop-record-preserved

@@ -3,7 +3,7 @@ use Rattle.envvars.specs.Texts.{texts_in}
 use Rattle.requests.specs.Records.{prereq_groups}
 use Rattle.modulefile.specs.RecordViews.{record_view}
 use Rattle.requests.proofs.ReportLemmas.{turn}
-use Rattle.modulestep.proofs.RecordLemmas.{prereqs-append}
+use Rattle.reversal.proofs.RecordLemmas.{prereqs-append}
 use Rattle.modulestep.proofs.entries.prereq_groups.Goals as goal
 
 pub loop-record-preserved : goal.loop-record-preserved
