@@ -6,7 +6,7 @@ ghost use Rattle.loadedlist.specs.Reasons.{Edits};
 ghost use Rattle.loadedlist.specs.EnvFault.TheVariants.{OutOfMemory};
 
 use loadedlist::{
-    EnvFault, Loaded, Vars, can_be_added, copy_of, is_loaded, loaded, loaded_changes,
+    EnvFault, Loaded, Vars, can_be_added, copy_entry, is_loaded, loaded, loaded_changes,
     with_conflicts_once,
 };
 use std::alloc::Global;
@@ -81,7 +81,7 @@ pub fn add_loaded<V: Vars>(alloc: Global, env: &mut V, entry: &Loaded) -> Result
     ensures base { V.base env.new ≡ V.base env.old }
 {
     let mut list = loaded(alloc, env)?;
-    add_to_list(alloc, env, &mut list, copy_of(alloc, entry)?)
+    add_to_list(alloc, env, &mut list, copy_entry(alloc, entry)?)
 }
 
 /// Drops a module from the loaded ones, and writes the four variables. Where it isn't loaded, nothing changes.

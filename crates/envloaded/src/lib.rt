@@ -6,4 +6,4 @@
 mod edits;
 
 pub use edits::{add_loaded, add_to_list, drop_from_list, drop_loaded};
-pub use loadedlist::{Loaded, conflicts_of, copy_list, laws, loaded, prereqs_of};
+pub use loadedlist::{Loaded, conflicts_of, copy_list, is_loaded, laws, loaded, prereqs_of};

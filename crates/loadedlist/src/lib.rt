@@ -10,5 +10,5 @@ mod writing;
 
 pub use entry::Loaded;
 pub use envtable::{EnvFault, Vars};
-pub use list::{conflicts_of, copy_list, copy_of, loaded, prereqs_of};
+pub use list::{conflicts_of, copy_entry, copy_list, loaded, prereqs_of};
 pub use writing::{can_be_added, is_loaded, loaded_changes, with_conflicts_once};

@@ -262,7 +262,7 @@ pub fn loaded<V: Vars>(alloc: Global, env: &V) -> Result<Vec<Loaded>, EnvFault>
 
 /// A copy of the entry.
 #[tactic(auto, using(crate::proofs::Copies::names_copied, crate::proofs::Copies::groups_copied))]
-pub fn copy_of(alloc: Global, entry: &Loaded) -> Result<Loaded, AllocError>
+pub fn copy_entry(alloc: Global, entry: &Loaded) -> Result<Loaded, AllocError>
     ensures { IfOk result (λ x. entry_view x ≡ entry_view entry.now) }
 {
     Ok(Loaded {
@@ -279,7 +279,7 @@ pub fn copy_list(alloc: Global, list: &[Loaded]) -> Result<Vec<Loaded>, AllocErr
 {
     let mut copies = Vec::new(alloc);
     for entry in list {
-        copies.push(copy_of(alloc, entry)?)?;
+        copies.push(copy_entry(alloc, entry)?)?;
     }
     Ok(copies)
 }

@@ -1,15 +1,15 @@
 //! The four texts that the list of loaded modules is written as, and which entries can be written.
-ghost use Rattle.std.specs.Prelude.{◌≡◌, ◌&&◌, ◌++◌, [], ◌∷◌, map, flat_map, bytes_eq, string_bytes, OnOk, IfOk};
-ghost use Rattle.std.specs.List.{list_any, list_all};
+ghost use Rattle.std.specs.Prelude.{◌≡◌, ◌&&◌, ◌++◌, [], ◌∷◌, map, flat_map, string_bytes, OnOk, IfOk};
+ghost use Rattle.std.specs.List.{list_all};
 ghost use Rattle.std.specs.Option.{option_map};
 ghost use Rattle.modulename.specs.ModuleName.{is_module_name};
 ghost use Rattle.envtable.specs.Changes.{new_value_of};
 ghost use Rattle.envtable.specs.Fields.{ampersand, without_repeats};
 ghost use Rattle.loadedlist.specs.LoadedTexts.{element_of, group_text};
 ghost use Rattle.loadedlist.specs.ElementTexts.{before_element, with_elements};
-ghost use Rattle.loadedlist.specs.Loaded.{names_text, files_text, conflict_elements, conflicts_text, prereq_elements, prereqs_text, loaded_changes, is_path, is_group, is_entry, can_be_added, with_conflicts_once};
+ghost use Rattle.loadedlist.specs.Loaded.{names_of, names_text, files_text, conflict_elements, conflicts_text, prereq_elements, prereqs_text, loaded_changes, is_path, is_group, is_entry, can_be_added, with_conflicts_once};
 ghost use Rattle.loadedlist.specs.LoadedEntries.{entry_view};
-ghost use Rattle.envtable.specs.Texts.{texts_in};
+ghost use Rattle.envtable.specs.Texts.{has, texts_in};
 
 use crate::entry::Loaded;
 use crate::list::{CONFLICTS, FILES, NAMES, PREREQS};
@@ -211,9 +211,9 @@ fn is_entry(entry: &Loaded) -> bool
     can_write_name(entry) && can_write_requirements(entry)
 }
 
-/// Whether the list has the module.
+/// Whether a module of this full name is in the list.
 pub fn is_loaded(list: &[Loaded], name: &str) -> bool
-    ensures { result ≡ list_any (λ entry. bytes_eq (string_bytes entry.name) name.now) list.now }
+    ensures { result ≡ has name.now (names_of (map entry_view list.now)) }
 {
     list.iter().any(|entry| entry.name.as_str() == name)
 }

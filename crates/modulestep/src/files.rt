@@ -21,13 +21,13 @@ use crate::entries::{join_loaded, modulepath, names_of};
 use crate::progress::Progress;
 use crate::refusal::Refusal;
 use crate::scripts::script_at;
-use envloaded::{Loaded, drop_from_list};
+use envloaded::{Loaded, drop_from_list, is_loaded};
 use envvars::Vars;
 use filetree::{FindFault, Tree};
 use modulefile::Mode;
 use modulename::is_module_name;
 use modulerun::{FileContext, Ran, run_file};
-use requests::{Evaluated, is_loaded, last_meant, show_report, whatis_report};
+use requests::{Evaluated, last_meant, show_report, whatis_report};
 use search::{Found, locate};
 use std::alloc::{AllocError, Global};
 

@@ -3,21 +3,13 @@ ghost use Rattle.std.specs.Prelude.{◌≡◌, ◌&&◌, not, map, find, string_
 ghost use Rattle.std.specs.List.{list_any};
 ghost use Rattle.std.specs.Option.{option_map};
 ghost use Rattle.modulename.specs.ModuleName.{means};
-ghost use Rattle.envvars.specs.Texts.{has, slice_texts, texts_in};
-ghost use Rattle.envloaded.specs.Loaded.{names_of};
+ghost use Rattle.envvars.specs.Texts.{slice_texts, texts_in};
 ghost use Rattle.envloaded.specs.LoadedEntries.{entry_view};
 ghost use Rattle.requests.specs.Conditions.{is_met, recorded_conflict, own_conflict, missing_group, has_lost};
 ghost use Rattle.requests.specs.Steps.{last_meant};
 
-use envloaded::Loaded;
+use envloaded::{Loaded, is_loaded};
 use modulename::means;
-
-/// Whether a module of this full name is loaded.
-pub fn is_loaded(entries: &[Loaded], name: &str) -> bool
-    ensures { result ≡ has name.now (names_of (map entry_view entries.now)) }
-{
-    entries.iter().any(|entry| name == entry.name.as_str())
-}
 
 /// The last loaded module that the name means.
 pub fn last_meant<'a>(entries: &'a [Loaded], name: &str) -> Option<&'a Loaded>

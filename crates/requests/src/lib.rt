@@ -17,9 +17,7 @@ mod words;
 
 pub use action::{Action, Request};
 pub use avail::avail_report;
-pub use conditions::{
-    first_lost, is_loaded, last_meant, missing_group, own_conflict, recorded_conflict,
-};
+pub use conditions::{first_lost, last_meant, missing_group, own_conflict, recorded_conflict};
 pub use defaultfiles::Evaluated;
 pub use laws::{
     command_returns, judged_session_returns, outcomes, plain_session_returns, reports,

@@ -1,10 +1,11 @@
-use Rattle.std.proofs.Common.{string_bytes, ap, ◌∙◌, not}
-use Rattle.std.specs.Prelude.{bytes_eq}
-use Rattle.std.specs.List.{list_any}
-use Rattle.loadedlist.proofs.LoadedWriting.{and_then, loaded_is}
+use Rattle.std.proofs.Common.{map, ap, ◌∙◌, not}
+use Rattle.envtable.specs.Texts.{has}
+use Rattle.loadedlist.specs.Loaded.{names_of}
+use Rattle.loadedlist.specs.LoadedEntries.{entry_view}
+use Rattle.loadedlist.proofs.LoadedWriting.{and_then}
 use Rattle.loadedlist.proofs.writing.can_be_added.Goals as goal
 
 pub returns-then-is_entry : goal.returns-then-is_entry
 returns-then-is_entry c =
     and_then c.is_entry.result _ _ _ c.is_entry.ensures c.if-is_entry.true
-    (ap not (c.is_loaded.ensures ∙ ap (λ n. list_any (λ entry. bytes_eq (string_bytes entry.name) n) c.args.list.now) c.as_str.ensures.value ∙ loaded_is c.args.list.now (string_bytes c.args.entry.now.name)))
+    (ap not (c.is_loaded.ensures ∙ ap (λ n. has n (names_of (map entry_view c.args.list.now))) c.as_str.ensures.value))
