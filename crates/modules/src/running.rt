@@ -6,7 +6,8 @@ ghost use Rattle.requests.specs.RequestViews.{action_view};
 ghost use Rattle.requests.specs.Steps.{RequestStep, request_context_in};
 ghost use Rattle.requests.specs.Looked.{RequestLooksAt};
 ghost use Rattle.requeststep.specs.Answers.{StepAnswersOverTree, is_failure};
-ghost use Rattle.requeststep.specs.Messages.{MemoryNumberAmong, memory_numbers};
+ghost use Rattle.requeststep.specs.MemoryNumbers.{memory_numbers};
+ghost use Rattle.requeststep.specs.Messages.{MemoryNumberAmong};
 ghost use Rattle.modules.specs.Replies.{changed_env, changed_view, reply_view};
 
 use crate::reply::{Changed, Reply};

@@ -1,3 +1,4 @@
+pub mod MemoryNumbers
 -- for this crate's own contracts alone
 pub mod Parts
 -- How the values and answers of one module show what the definitions say, so that a caller need not name the crate below.

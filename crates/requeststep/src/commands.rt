@@ -18,9 +18,10 @@ ghost use Rattle.requests.specs.Steps.{nothing_done, Each, EndsRequest, NeedsNam
 ghost use Rattle.requests.specs.Looked.{PurgeLooksAt, SwitchLooksAt, RequestLooksAt};
 ghost use Rattle.modulestep.specs.Views.{request_context_of, done_view};
 ghost use Rattle.modulestep.specs.Answers.{GivesOrRefuses, StepAnswersOverTree, is_failure};
-ghost use Rattle.modulestep.specs.Messages.{MemoryNumberAmong, memory_numbers};
+ghost use Rattle.modulestep.specs.Messages.{MemoryNumberAmong};
 ghost use Rattle.modulestep.specs.Parts.{AreEntriesOf, IsListedIn, TreeAnswer, report_mode, report_text};
 ghost use Rattle.requeststep.specs.declared.commands.NameAction.TheVariants.{ReportOn};
+ghost use Rattle.requeststep.specs.MemoryNumbers.{memory_numbers};
 ghost use Rattle.requeststep.specs.Parts.{NameActionStep, NameActionLooksAt, EachActionLooksAt};
 
 use envloaded::Loaded;

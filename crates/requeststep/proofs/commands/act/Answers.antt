@@ -10,7 +10,8 @@ use Rattle.requests.specs.Steps as steps
 use Rattle.requests.specs.Steps.{ListsLoaded, ListsAll, RequestStep, modulepath}
 use Rattle.modulestep.specs.declared.done.Done.{Done}
 use Rattle.modulestep.specs.Parts.{TreeAnswer}
-use Rattle.modulestep.specs.Messages.{MemoryNumberAmong, memory_numbers}
+use Rattle.modulestep.specs.Messages.{MemoryNumberAmong}
+use Rattle.requeststep.specs.MemoryNumbers.{memory_numbers}
 use Rattle.modulestep.specs.Views.{request_context_of, done_view}
 use Rattle.modulestep.proofs.MemoryNumberLemmas.{wants_any}
 use Rattle.modulestep.proofs.TreeAnswers.{answers_of, given_now}
