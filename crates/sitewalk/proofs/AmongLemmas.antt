@@ -1,5 +1,6 @@
 -- What is among the members of a list.
 use Rattle.std.proofs.Common.{◌≡◌, inl, inr, ℕ, ◌<◌, length, arith, suc, zero, List, [], ◌∷◌, ◌++◌, map, flat_map, take, slice_get, Some, None, refl, sym, ap, ◌∙◌, subst}
+use Rattle.std.proofs.lemmas.List.{map-append}
 use Rattle.sitelaws.specs.RecordUses.{IsAmong}
 use Rattle.sitelaws.proofs.UsedLemmas.{by_cases, among_left, among_right, among_either}
 
@@ -27,14 +28,6 @@ module _ {X : Type 0} where
   take_all_gone (suc n) (y ∷ xs) h = ap (λ (l : List X). y ∷ l) (take_all_gone n xs h)
 
 module _ {X Y : Type 0} (f : X → Y) where
-  pub map_parts : (xs ys : List X) → map f (xs ++ ys) ≡ map f xs ++ map f ys
-  map_parts [] ys = refl
-  map_parts (x ∷ xs) ys = ap (λ (l : List Y). f x ∷ l) (map_parts xs ys)
-
-  pub length_mapped : (xs : List X) → length (map f xs) ≡ length xs
-  length_mapped [] = refl
-  length_mapped (x ∷ xs) = ap (λ (n : ℕ). suc n) (length_mapped xs)
-
   pub in_map : (x : X) (xs : List X) → IsAmong x xs → IsAmong (f x) (map f xs)
   in_map x [] a = absurd a
   in_map x (y ∷ xs) (inl e) = inl (ap f e)
@@ -67,4 +60,4 @@ module _ {X Y : Type 0} (f : X → List Y) where
       (λ (b : IsAmong y (flat_map f xs)). let i = of_flat_map y xs b in (i.0, inr i.1, i.2))
 
 pub flat_seen : {X Y Z : Type 0} (f : Y → List Z) (view : X → Y) (xs ys : List X) → flat_map f (map view (xs ++ ys)) ≡ flat_map f (map view xs) ++ flat_map f (map view ys)
-flat_seen f view xs ys = ap (flat_map f) (map_parts view xs ys) ∙ flat_map_parts f (map view xs) (map view ys)
+flat_seen f view xs ys = ap (flat_map f) (map-append view xs ys) ∙ flat_map_parts f (map view xs) (map view ys)

@@ -1,7 +1,7 @@
 -- A walk over a site, directory by directory.
 use Rattle.std.proofs.Common.{◌≡◌, inl, inr, ℕ, ◌+◌, ◌<◌, suc, Bool, true, false, cond, not, ◌&&◌, List, [], ◌∷◌, ◌++◌, map, flat_map, take, slice_get, length, get_or, Some, None, Result, Ok, Err, refl, sym, ap, ◌∙◌, subst, append-nil, append_assoc}
 use Rattle.std.specs.List.{list_all}
-use Rattle.std.proofs.lemmas.List.{take_more}
+use Rattle.std.proofs.lemmas.List.{map-append, take_more}
 use Rattle.envvars.specs.Texts.{Text}
 use Rattle.envvars.specs.Fields.{without_repeats, are_distinct}
 use Rattle.envloaded.proofs.LoadedReadable.{distinct_firsts}
@@ -34,7 +34,7 @@ use Rattle.sitewalk.specs.Walks.{directories_by_plain, directories_of, IsWalk, I
 use Rattle.sitewalk.specs.Parts.{is_plain_ran, directories_after, directories_found, AreEvaluationsOf, IsEvaluationOf, GoesThrough}
 use Rattle.sitelaws.proofs.UsedLemmas.{by_cases, among_left, among_right, among_either}
 use Rattle.sitelaws.proofs.DirectorySetLemmas.{with-append}
-use Rattle.sitewalk.proofs.AmongLemmas.{at_place, take_next, take_all_gone, map_parts, in_map, of_map, flat_map_parts, in_flat_map, of_flat_map}
+use Rattle.sitewalk.proofs.AmongLemmas.{at_place, take_next, take_all_gone, in_map, of_map, flat_map_parts, in_flat_map, of_flat_map}
 use Rattle.sitewalk.proofs.DirectoryLemmas.{once, begins, comes, came}
 
 -- ---- lists of evaluations
@@ -60,7 +60,7 @@ one_evaluated site ms m xs x all (outcome, h, k) =
     let o : Evaluated = (m, outcome) in
     record {
       outcomes = all.outcomes ++ o ∷ [];
-      modules = map_parts (λ (p : Evaluated). p.0) all.outcomes (o ∷ []) ∙ ap (λ (l : List SiteModule). l ++ m ∷ []) all.modules;
+      modules = map-append (λ (p : Evaluated). p.0) all.outcomes (o ∷ []) ∙ ap (λ (l : List SiteModule). l ++ m ∷ []) all.modules;
       evaluated = both_evaluated site all.outcomes (o ∷ []) all.evaluated (λ p a. only p o h a);
       evaluations = evaluations_parts xs (x ∷ []) all.outcomes (o ∷ []) all.evaluations (k, tt);
     }
@@ -78,7 +78,7 @@ next_evaluated site dir entries i entry name old new x l e named pushed before n
     let seen : (ks : List ListingEntry) → map (module_below dir) (map name_of ks) ≡ map view ks = twice in
     let more : take (i + 1) entries ≡ take i entries ++ entry ∷ [] = take_more entries i entry l ∙ ap (λ (k : ListingEntry). take i entries ++ k ∷ []) (sym e) in
     let modules : map (module_below dir) (map name_of (take (i + 1) entries)) ≡ map (module_below dir) (map name_of (take i entries)) ++ module_below dir name ∷ [] =
-    seen (take (i + 1) entries) ∙ (ap (map view) more ∙ (map_parts view (take i entries) (entry ∷ [])
+    seen (take (i + 1) entries) ∙ (ap (map view) more ∙ (map-append view (take i entries) (entry ∷ [])
     ∙ ap (λ (ms : List SiteModule). ms ++ view entry ∷ []) (sym (seen (take i entries))) ∙ ap (λ (n : Text). map (module_below dir) (map name_of (take i entries)) ++ module_below dir n ∷ []) (sym named))) in
     subst (λ (ms : List SiteModule). AreEvaluationsOf site ms new) (sym modules)
     (subst (λ (xs : List Evaluation). AreEvaluationsOf site (map (module_below dir) (map name_of (take i entries)) ++ module_below dir name ∷ []) xs) (sym pushed)
@@ -222,7 +222,7 @@ module _ (site : Site) (place : ℕ) (dirs last : List Text) (evaluations now : 
       let b = begins dirs more in
       let taken : take (suc place) last ≡ take place dirs ++ dir ∷ [] = ap (take (suc place)) (found ∙ b.1) ∙ take_next place dirs b.0 dir at in
       let modules : map (λ (o : Evaluated). o.0) (w.outcomes ++ through.evaluated.2.outcomes) ≡ map (λ (o : Evaluated). o.0) w.outcomes ++ map (module_below dir) through.evaluated.0
-      = map_parts (λ (o : Evaluated). o.0) w.outcomes through.evaluated.2.outcomes ∙ ap (λ (l : List SiteModule). map (λ (o : Evaluated). o.0) w.outcomes ++ l) through.evaluated.2.modules in
+      = map-append (λ (o : Evaluated). o.0) w.outcomes through.evaluated.2.outcomes ∙ ap (λ (l : List SiteModule). map (λ (o : Evaluated). o.0) w.outcomes ++ l) through.evaluated.2.modules in
       subst (λ (ds : List Text). AreModulesIn site ds (map (λ (o : Evaluated). o.0) (w.outcomes ++ through.evaluated.2.outcomes))) (sym taken)
       (subst (AreModulesIn site (take place dirs ++ dir ∷ [])) (sym modules)
       (modules_next site (take place dirs) (map (λ (o : Evaluated). o.0) w.outcomes) dir through.evaluated.0 w.modules through.evaluated.1))

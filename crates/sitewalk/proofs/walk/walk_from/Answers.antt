@@ -6,7 +6,8 @@ use Rattle.sitelaws.specs.Sites.{site_of}
 use Rattle.sitewalk.specs.declared.walk.Evaluation.{Evaluation}
 use Rattle.sitewalk.specs.declared.walk.TheConstants.{MAX_DIRECTORIES}
 use Rattle.sitewalk.specs.Walks.{IsWalk}
-use Rattle.sitewalk.proofs.AmongLemmas.{place_below, length_mapped}
+use Rattle.std.proofs.lemmas.List.{length-map}
+use Rattle.sitewalk.proofs.AmongLemmas.{place_below}
 use Rattle.sitewalk.proofs.DirectoryLemmas.{is_alone}
 use Rattle.sitewalk.proofs.WalkLemmas.{IsWalkTo, walk_begins, walks_on, walk_goes_on, walk_ends, walk_exceeds}
 use Rattle.sitewalk.proofs.walk.walk_from.Goals as goal
@@ -30,7 +31,7 @@ returns-then-len-gt-MAX_DIRECTORIES-clause-cause g c = λ files listings k.
     let a = c.args.settings in
     let keys = c.loop-evaluations.dirs.keys in
     let dirs = map string_bytes keys in
-    let same : length dirs ≡ length keys = length_mapped string_bytes keys in
+    let same : length dirs ≡ length keys = length-map keys string_bytes in
     let many : MAX_DIRECTORIES < length dirs = omega (arith, c.len.ensures.len) in
     walk_exceeds (site_of a.limits a.env.now files listings) c.loop-evaluations.place dirs c.loop-evaluations.evaluations.items (c.loop-evaluations.invariant.walked files listings k) many
 
@@ -38,7 +39,7 @@ pub overflow_add-place : goal.overflow_add-place
 overflow_add-place g c =
     let keys = c.loop-evaluations.dirs.keys in
     let dirs = map string_bytes keys in
-    let same : length dirs ≡ length keys = length_mapped string_bytes keys in
+    let same : length dirs ≡ length keys = length-map keys string_bytes in
     let at : slice_get dirs c.loop-evaluations.place ≡ Some (string_bytes c.in-Some.dir) = sym c.in_ok-dir.ensures ∙ ap (option_map string_bytes) c.in-Some.is in
     let below : c.loop-evaluations.place < length dirs = place_below (string_bytes c.in-Some.dir) dirs c.loop-evaluations.place at in
     omega (arith, c.len.ensures.len)
@@ -47,7 +48,7 @@ pub loop-evaluations-smaller : goal.loop-evaluations-smaller
 loop-evaluations-smaller g c =
     let keys = c.loop-evaluations.dirs.keys in
     let dirs = map string_bytes keys in
-    let same : length dirs ≡ length keys = length_mapped string_bytes keys in
+    let same : length dirs ≡ length keys = length-map keys string_bytes in
     let at : slice_get dirs c.loop-evaluations.place ≡ Some (string_bytes c.in-Some.dir) = sym c.in_ok-dir.ensures ∙ ap (option_map string_bytes) c.in-Some.is in
     let below : c.loop-evaluations.place < length dirs = place_below (string_bytes c.in-Some.dir) dirs c.loop-evaluations.place at in
     omega (arith, c.len.ensures.len)
