@@ -8,7 +8,7 @@ use Rattle.envloaded.specs.Loaded.{loaded_in}
 use Rattle.envvars.specs.Reasons as edits
 use Rattle.requests.specs.Judgments.{bad_edit}
 use Rattle.requests.specs.Reasons.{RequestReason, refused_edit}
-use Rattle.requeststep.specs.Answers.{cause_of}
+use Rattle.modulestep.specs.Answers.{cause_of}
 use Rattle.tclrules.specs.declared.limits.Limits.{Limits}
 use Rattle.auditreport.specs.Walks.{HasCause}
 use Rattle.auditreport.specs.WalkFault.{WalkFault}

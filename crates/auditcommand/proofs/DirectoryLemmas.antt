@@ -4,7 +4,7 @@ use Rattle.std.proofs.lemmas.List.{take_more, map-append}
 use Rattle.std.specs.Prelude.{Contains}
 use Rattle.std.specs.declared.alloc.Global.{Global}
 use Rattle.requests.specs.Reasons.{RequestReason}
-use Rattle.requeststep.specs.Answers.{cause_of}
+use Rattle.modulestep.specs.Answers.{cause_of}
 use Rattle.envvars.specs.Texts.{Text}
 use Rattle.filetree.specs.Agreement.{Files, Listings, InEachPair, Narrows, ReadsOn}
 use Rattle.filetree.specs.Causes.{Cause, Applies, memory, device, because}

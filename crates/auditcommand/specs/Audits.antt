@@ -8,9 +8,9 @@ use Rattle.envvars.specs.Texts.{Text}
 use Rattle.envvars.specs.Environment.{Environment, with_value}
 use Rattle.filetree.specs.Agreement.{Files, Listings, InEachPair}
 use Rattle.filetree.specs.Causes.{Applies}
-use Rattle.requeststep.specs.Answers.{cause_of}
-use Rattle.requeststep.specs.Refusal.{Refusal}
-use Rattle.requeststep.specs.Refusal.TheVariants.{BadArguments}
+use Rattle.modulestep.specs.Answers.{cause_of}
+use Rattle.modulestep.specs.declared.refusal.Refusal.{Refusal}
+use Rattle.modulestep.specs.declared.refusal.Refusal.TheVariants.{BadArguments}
 use Rattle.auditreport.specs.Sites.{Site, site_of}
 use Rattle.auditreport.specs.Walks.{HasCause}
 use Rattle.auditreport.specs.WalkFault.{WalkFault}

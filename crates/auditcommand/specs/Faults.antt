@@ -1,7 +1,7 @@
 -- Why there is no audit: the texts of the faults, and the line on standard error (own).
 use Rattle.std.specs.Prelude.{codes, string_bytes}
 use Rattle.message.specs.Messages.{Text, quoting}
-use Rattle.requeststep.specs.Messages as refusals
+use Rattle.modulestep.specs.Messages as refusals
 use Rattle.auditreport.specs.WalkFault.{WalkFault}
 use Rattle.auditreport.specs.WalkFault.TheVariants as walks
 use Rattle.modulecmd.specs.Lines.{error_line}

@@ -6,7 +6,7 @@ use Rattle.envvars.specs.Texts.{Text}
 use Rattle.envvars.specs.Environment.{Environment}
 use Rattle.filetree.specs.Agreement.{Files, Listings, InEachPair}
 use Rattle.filetree.specs.Causes.{Applies}
-use Rattle.requeststep.specs.Answers.{cause_of}
+use Rattle.modulestep.specs.Answers.{cause_of}
 use Rattle.auditreport.specs.Walks.{HasCause}
 use Rattle.auditreport.specs.WalkFault.{WalkFault}
 use Rattle.auditreport.specs.Audits.{IsAudit, CertificateStands}

@@ -16,7 +16,7 @@ use crate::writers::write_bytes;
 use auditreport::{AuditedModule, Progress, SiteAudit, Standing, audit, json_report, line_report};
 use envvars::Env;
 use filetree::Tree;
-use requeststep::Refusal;
+use modulestep::Refusal;
 use std::alloc::{AllocError, Global};
 use std::io::Write;
 use tclrules::Limits;

@@ -5,4 +5,4 @@ pub mod Laws
 pub mod Examples
 pub mod UseViews
 -- What modules stand for, so that a caller need not name the crates below.
-pub use Rattle.requeststep.specs.MoveViews
+pub use Rattle.modulestep.specs.MoveViews

@@ -8,6 +8,6 @@ pub mod laws;
 mod pairs;
 mod uses;
 
+pub use modulestep::Module;
 pub use pairs::{exclude, is_other};
-pub use requeststep::Module;
 pub use uses::{UsedVariable, VariableUse, first_unlike, go_together, used_by, uses_clash};

@@ -4,13 +4,13 @@ ghost use Rattle.std.specs.List.{list_any};
 ghost use Rattle.reversal.specs.ModuleName.{means};
 ghost use Rattle.reversal.specs.Records.{conflict_names};
 ghost use Rattle.modulefile.specs.RecordViews.{record_view};
-ghost use Rattle.requeststep.specs.MoveViews.{module_view};
+ghost use Rattle.modulestep.specs.MoveViews.{module_view};
 ghost use Rattle.certificate.specs.Clashes as clashes;
 ghost use Rattle.certificate.specs.Certificates as certificates;
 
 use modulefile::Record;
 use modulename::means;
-use requeststep::Module;
+use modulestep::Module;
 
 /// Whether one of the names means the module of this full name.
 fn is_meant(names: &[String], full_name: &str) -> bool

@@ -6,3 +6,6 @@ pub mod MemoryNumberLemmas
 pub mod FailureLemmas
 pub mod ListedLemmas
 pub mod TreeAnswers
+-- Handed on, so that a caller need not name the crate below.
+pub use Rattle.requests.proofs.ListLemmas
+pub use Rattle.requests.proofs.ReportLemmas

@@ -1,8 +1,5 @@
-pub mod ListLemmas
 pub mod EachLemmas
 pub mod SwitchLemmas
 pub mod RequestNumbers
 -- Handed on, so that a caller need not name the crates below.
-pub use Rattle.modulestep.proofs.StepLemmas
 pub use Rattle.modulestep.proofs.MemoryNumberLemmas
-pub use Rattle.requests.proofs.ReportLemmas

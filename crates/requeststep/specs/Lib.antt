@@ -5,7 +5,6 @@ pub mod Parts
 pub use Rattle.modulestep.specs.MoveViews
 pub use Rattle.modulestep.specs.Views
 pub use Rattle.modulestep.specs.Answers
-pub use Rattle.modulestep.specs.Spaced
 pub use Rattle.modulestep.specs.Messages
 pub use Rattle.modulestep.specs.Verdicts
 pub use Rattle.modulestep.specs.declared.done.Done

@@ -15,7 +15,7 @@ use Rattle.requests.specs.Moves.{Module}
 use Rattle.requests.specs.VariableUses.{VariableUse, Pathed, is_reversible}
 use Rattle.requests.specs.Reasons.{RequestReason}
 use Rattle.requests.specs.Verdicts.{plain, asked, one_way}
-use Rattle.requeststep.specs.Refusal.{Refusal}
+use Rattle.modulestep.specs.declared.refusal.Refusal.{Refusal}
 use Rattle.siteclash.specs.RecordUses.{UsedVariable, used_by, IsAmong, modulepath, same_use, use_alike, are_in_step, is_in_step, IsInStep}
 use Rattle.siteclash.specs.Certificates.{is_other, IsCertified, clashes_among, certified}
 use Rattle.siteclash.specs.Laws.{CertifiedAreExact}

@@ -11,7 +11,7 @@ use Rattle.modulerun.specs.declared.run.Ran as code
 use Rattle.modulerun.specs.Running.{ran_view}
 use Rattle.requests.specs.Records.{Record, Set, Unset, Push, Front, Back, Remove, Conflict, Prereq, Whatis, conflict_names, prereq_groups}
 use Rattle.requests.specs.Reasons.{RequestReason}
-use Rattle.requeststep.specs.Refusal.{Refusal}
+use Rattle.modulestep.specs.declared.refusal.Refusal.{Refusal}
 use Rattle.siteclash.specs.RecordUses.{IsAmong}
 use Rattle.siteclash.proofs.UsedLemmas.{by_test, by_cases, among_left, among_right, among_either}
 use Rattle.siteclash.proofs.Exact.{any_some, some_any}

@@ -14,7 +14,7 @@ use Rattle.modulefile.specs.RecordViews.{record_view}
 use Rattle.requests.specs.Records.{Record, conflict_names, prereq_groups}
 use Rattle.requests.specs.Moves.{Module}
 use Rattle.requests.specs.Reasons.{RequestReason}
-use Rattle.requeststep.specs.Answers.{cause_of}
+use Rattle.modulestep.specs.Answers.{cause_of}
 use Rattle.siteclash.specs.RecordUses.{IsAmong}
 use Rattle.siteclash.specs.Certificates.{certificate, AgreesWith}
 use Rattle.siteclash.specs.UseViews.{use_view, used_view}

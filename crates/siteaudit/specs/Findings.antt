@@ -8,8 +8,8 @@ use Rattle.modulerun.specs.declared.run.Ran.{Ran}
 use Rattle.requests.specs.Records.{Record}
 use Rattle.requests.specs.Moves.{Module}
 use Rattle.requests.specs.VariableUses.{Pathed, is_reversible}
-use Rattle.requeststep.specs.MoveViews.{module_view}
-use Rattle.requeststep.specs.Refusal.{Refusal}
+use Rattle.modulestep.specs.MoveViews.{module_view}
+use Rattle.modulestep.specs.declared.refusal.Refusal.{Refusal}
 use Rattle.siteclash.specs.RecordUses.{UsedVariable, used_by, used_by_modules, IsAmong, modulepath, same_use, are_in_step}
 use Rattle.siteclash.specs.UseViews.{use_view}
 use Rattle.sitewalk.specs.Sites.{SiteModule, with_records}

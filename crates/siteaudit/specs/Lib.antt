@@ -5,7 +5,7 @@ pub mod Mentions
 pub mod Folders
 pub mod Parts
 -- What an audit is made of, so that a caller need not name the crates below.
-pub use Rattle.requeststep.specs.Messages
+pub use Rattle.modulestep.specs.Messages
 pub use Rattle.sitewalk.specs.Sites
 pub use Rattle.startcheck.specs.declared.disagreement.Disagreement
 pub use Rattle.siteclash.specs.declared.answers.Clash

@@ -8,7 +8,7 @@ use Rattle.envvars.specs.Texts.{Text, has}
 use Rattle.modulefile.specs.RecordViews.{record_view}
 use Rattle.modulerun.specs.declared.run.Ran.{Ran}
 use Rattle.requests.specs.Records.{Record, Set, Unset, Push, Front, Back, Remove, Conflict, Prereq, Whatis}
-use Rattle.requeststep.specs.Refusal.{Refusal}
+use Rattle.modulestep.specs.declared.refusal.Refusal.{Refusal}
 use Rattle.sitewalk.specs.Sites.{SiteModule}
 use Rattle.sitewalk.specs.declared.walk.Evaluation.{Evaluation}
 use Rattle.siteaudit.specs.Audits.{Mention}

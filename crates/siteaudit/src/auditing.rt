@@ -2,7 +2,7 @@
 ghost use Rattle.std.specs.Prelude.{◌<◌, IfOk, IfErr};
 ghost use Rattle.filetree.specs.Agreement.{InEachPair, ReadsOn};
 ghost use Rattle.filetree.specs.Causes.{Applies};
-ghost use Rattle.requeststep.specs.Answers.{cause_of};
+ghost use Rattle.modulestep.specs.Answers.{cause_of};
 ghost use Rattle.sitewalk.specs.Sites.{site_of};
 ghost use Rattle.sitewalk.specs.Walks.{HasCause};
 ghost use Rattle.siteaudit.specs.Audits.{IsAudit, CertificateStands};
@@ -14,7 +14,7 @@ use crate::names::unknown_names;
 use crate::standing::Standing;
 use envvars::Env;
 use filetree::Tree;
-use requeststep::Refusal;
+use modulestep::Refusal;
 use siteclash::UsedVariable;
 use sitewalk::{Evaluation, Progress, Walk, WalkFault, walk_site};
 use startcheck::{Disagreement, disagreements};

@@ -4,7 +4,7 @@ ghost use Rattle.std.specs.Option.{option_map};
 ghost use Rattle.envvars.specs.Texts.{texts_in};
 ghost use Rattle.filetree.specs.Agreement.{InEachPair, ReadsOn};
 ghost use Rattle.filetree.specs.Causes.{Applies};
-ghost use Rattle.requeststep.specs.Answers.{cause_of};
+ghost use Rattle.modulestep.specs.Answers.{cause_of};
 ghost use Rattle.siteclash.specs.RecordUses.{IsAmong};
 ghost use Rattle.siteaudit.specs.Folders.{FolderText, folder_view, HoldsModule, HoldsOneOf, IsBadAnswer, AreBadIn, AreBadAmong};
 
@@ -12,7 +12,7 @@ use crate::folders::{directory_of, folder_of};
 use defaultfiles::Evaluated;
 use filetree::{FindFault, Tree};
 use indexmap::IndexSet;
-use requeststep::Refusal;
+use modulestep::Refusal;
 use search::{locate, one_found};
 use sitewalk::Evaluation;
 use std::alloc::{AllocError, Global};

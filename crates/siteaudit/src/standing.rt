@@ -12,7 +12,7 @@ ghost use Rattle.siteaudit.specs.Findings.{AreUnlike, IsFinding, IsFindingOf};
 
 use modulefile::{Delimiter, Record};
 use modulerun::{Ran, records_unless_asked};
-use requeststep::{Refusal, is_reversible};
+use modulestep::{Refusal, is_reversible};
 use siteclash::{Clash, UsedVariable, VariableUse, first_unlike, used_by};
 use std::alloc::{AllocError, Global};
 

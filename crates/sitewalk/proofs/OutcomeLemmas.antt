@@ -15,9 +15,9 @@ use Rattle.modulerun.specs.Running.{ran_view}
 use Rattle.requests.specs.Reasons.{RequestReason, file_refused}
 use Rattle.requests.specs.Refusals.{RefusedAs}
 use Rattle.requests.specs.Steps.{consistent, script_at}
-use Rattle.requeststep.specs.Refusal.{Refusal}
-use Rattle.requeststep.specs.Answers.{cause_of}
-use Rattle.requeststep.proofs.StepLemmas.{stands_as}
+use Rattle.modulestep.specs.declared.refusal.Refusal.{Refusal}
+use Rattle.modulestep.specs.Answers.{cause_of}
+use Rattle.modulestep.proofs.StepLemmas.{stands_as}
 use Rattle.sitelaws.specs.Sites.{SiteModule, EvaluatesTo, site_of}
 use Rattle.sitewalk.specs.Walks.{IsOutcome}
 use Rattle.sitewalk.specs.Parts.{HasLoaded, site_context, ComesTo, ComesToOverTree, is_given_up, GivesUp}

@@ -23,7 +23,7 @@ use Rattle.requests.specs.Refusals.{refused_as, RefusedAs}
 use Rattle.requests.specs.Steps.{entries_of, script_at, context_of}
 use Rattle.requests.specs.VariableUses.{is_reversible}
 use Rattle.requests.specs.Verdicts.{Verdict, plain, asked, one_way, verdict_of}
-use Rattle.requeststep.specs.Refusal.{Refusal}
+use Rattle.modulestep.specs.declared.refusal.Refusal.{Refusal}
 use Rattle.sitelaws.specs.RecordUses.{IsAmong}
 use Rattle.sitelaws.specs.Sites.{Site, SiteModule, Evaluated, EvaluatesTo, HasPlainRecords, IsIn, IsDirectory, first, added, IsClosed, AreNamesBelow, AreModulesIn, module_below, first_directories, added_directories, over_site, plain_by}
 use Rattle.sitelaws.specs.Laws.{DirectoriesFound}

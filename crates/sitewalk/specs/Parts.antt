@@ -18,8 +18,8 @@ use Rattle.requests.specs.Effects as modes
 use Rattle.requests.specs.VariableUses.{is_reversible}
 use Rattle.requests.specs.Judgments.{bad_edit}
 use Rattle.requests.specs.Reasons.{RequestReason, refused_edit}
-use Rattle.requeststep.specs.Answers.{cause_of}
-use Rattle.requeststep.specs.Refusal.{Refusal}
+use Rattle.modulestep.specs.Answers.{cause_of}
+use Rattle.modulestep.specs.declared.refusal.Refusal.{Refusal}
 use Rattle.sitelaws.specs.RecordUses.{IsAmong}
 use Rattle.sitelaws.specs.DirectorySets.{with_directories}
 use Rattle.sitelaws.specs.Sites.{Site, SiteModule, Evaluated, EvaluatesTo, AreNamesBelow, added_directories, module_below}

@@ -14,8 +14,8 @@ use Rattle.modulerun.specs.Running.{ran_view}
 use Rattle.requests.specs.Judgments.{bad_edit}
 use Rattle.requests.specs.Moves.{Module}
 use Rattle.requests.specs.Reasons.{RequestReason, refused_edit}
-use Rattle.requeststep.specs.Answers.{cause_of}
-use Rattle.requeststep.specs.Refusal.{Refusal}
+use Rattle.modulestep.specs.Answers.{cause_of}
+use Rattle.modulestep.specs.declared.refusal.Refusal.{Refusal}
 use Rattle.sitelaws.specs.RecordUses.{IsAmong}
 use Rattle.sitelaws.specs.Sites.{Site, Evaluated, EvaluatesTo, first_directories, added_directories, plain_of, site_of, IsDirectory, AreDirectories, AreModulesIn}
 use Rattle.sitewalk.specs.declared.walk.TheConstants.{MAX_DIRECTORIES}

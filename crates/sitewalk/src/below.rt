@@ -10,8 +10,8 @@ use crate::files::{SiteSettings, evaluate_module};
 use crate::progress::Progress;
 use crate::walk::Evaluation;
 use filetree::Tree;
+use modulestep::Refusal;
 use requests::Evaluated;
-use requeststep::Refusal;
 use search::{ListingEntry, available};
 
 /// The modules below a directory, in the order of `avail`.

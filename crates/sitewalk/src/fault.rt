@@ -1,9 +1,9 @@
 //! Why a site can't be walked over.
 ghost use Rattle.std.specs.Prelude.{◌≡◌};
 ghost use Rattle.sitewalk.specs.declared.fault.WalkFault.TheVariants as faults;
-ghost use Rattle.requeststep.specs.Refusal.TheVariants as refusals;
+ghost use Rattle.modulestep.specs.declared.refusal.Refusal.TheVariants as refusals;
 
-use requeststep::Refusal;
+use modulestep::Refusal;
 use std::alloc::AllocError;
 
 /// Why a site can't be walked over.

@@ -15,7 +15,7 @@ use envvars::{Env, Working};
 use filetree::Tree;
 use modulefile::Mode;
 use modulerun::{FileContext, Ran, run_file};
-use requeststep::{Refusal, script_at};
+use modulestep::{Refusal, script_at};
 use search::path_of;
 use shells::Shell;
 use std::alloc::Global;

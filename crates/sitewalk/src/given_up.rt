@@ -2,13 +2,13 @@
 ghost use Rattle.std.specs.Prelude.{◌≡◌, None, Err, IfOk, IfErr, is_none, true, false};
 ghost use Rattle.search.specs.Answers as finds;
 ghost use Rattle.modulerun.specs.Running.{eval_reason, file_reason_of};
-ghost use Rattle.requeststep.specs.Answers.{by_search, cause_of};
+ghost use Rattle.modulestep.specs.Answers.{by_search, cause_of};
 ghost use Rattle.sitewalk.specs.Parts.{is_given_up};
 
 use envvars::EnvFault;
 use filetree::FindFault;
 use modulerun::{Ran, RunFault};
-use requeststep::Refusal;
+use modulestep::Refusal;
 use tclrules::EvalFault;
 
 /// Whether the evaluation of a text was given up: memory ran out.

@@ -3,7 +3,7 @@ ghost use Rattle.std.specs.Prelude.{◌≡◌};
 ghost use Rattle.sitewalk.specs.Parts.{is_plain_ran};
 
 use modulerun::Ran;
-use requeststep::are_reversible;
+use modulestep::are_reversible;
 
 /// Whether a file whose evaluation left this is that of a plain module.
 pub(crate) fn is_plain(ran: &Ran) -> bool

@@ -16,7 +16,7 @@ use envvars::{Env, Vars};
 use filetree::Tree;
 use indexmap::IndexSet;
 use modulerun::Ran;
-use requeststep::Refusal;
+use modulestep::Refusal;
 use sitelaws::directories::{Directories, directory_at, in_order, push_directories};
 use std::alloc::Global;
 use tclrules::Limits;

@@ -1,7 +1,7 @@
 use Rattle.std.proofs.Common.{◌<◌, Option, map, option_map, string_bytes, String, sym, ap, ◌∙◌}
 use Rattle.std.proofs.lemmas.Result.{err_from_is_err_and}
 use Rattle.std.specs.declared.alloc.Global.{Global}
-use Rattle.requeststep.specs.Refusal.TheVariants.{OutOfMemory}
+use Rattle.modulestep.specs.declared.refusal.Refusal.TheVariants.{OutOfMemory}
 use Rattle.auditcommand.specs.ArgumentViews.{wanted_view}
 use Rattle.auditcommand.specs.Audits.{IsAuditFault, unknown_option, given_up}
 use Rattle.auditcommand.specs.Steps.{IsWantedFault}

@@ -5,7 +5,7 @@ use Rattle.reversal.specs.ModuleName.{means}
 use Rattle.envvars.specs.Texts.{Text}
 use Rattle.std.specs.declared.string.String.{String}
 use Rattle.std.specs.declared.alloc.Global.{Global}
-use Rattle.requeststep.proofs.ListLemmas.{any_seen}
+use Rattle.modulestep.proofs.ListLemmas.{any_seen}
 use Rattle.certificate.proofs.pairs.is_meant.Goals as goal
 
 pub returns : goal.returns

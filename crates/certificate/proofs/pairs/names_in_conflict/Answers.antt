@@ -4,7 +4,7 @@ use Rattle.reversal.specs.ModuleName.{means}
 use Rattle.envvars.specs.Texts.{Text}
 use Rattle.reversal.specs.Records as records
 use Rattle.modulefile.specs.RecordViews.{record_view}
-use Rattle.requeststep.proofs.ListLemmas.{any_seen}
+use Rattle.modulestep.proofs.ListLemmas.{any_seen}
 use Rattle.certificate.proofs.UseLemmas.{any_conflict}
 use Rattle.certificate.proofs.pairs.names_in_conflict.Goals as goal
 

@@ -4,7 +4,7 @@ use Rattle.std.proofs.lemmas.Iterator.{YieldsList-from_slice}
 use Rattle.certificate.specs.RecordUses as uses
 use Rattle.certificate.specs.declared.uses.UsedVariable.{UsedVariable}
 use Rattle.certificate.specs.UseViews.{used_view}
-use Rattle.requeststep.proofs.ListLemmas.{find_seen}
+use Rattle.modulestep.proofs.ListLemmas.{find_seen}
 use Rattle.certificate.proofs.uses.first_unlike.Goals as goal
 
 pub returns : goal.returns

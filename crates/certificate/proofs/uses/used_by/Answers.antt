@@ -2,7 +2,7 @@ use Rattle.std.proofs.Common.{map}
 use Rattle.modulefile.specs.RecordViews.{record_view}
 use Rattle.certificate.specs.RecordUses as uses
 use Rattle.certificate.specs.UseViews.{used_view}
-use Rattle.requeststep.proofs.ReportLemmas.{turn}
+use Rattle.modulestep.proofs.ReportLemmas.{turn}
 use Rattle.certificate.proofs.UseLemmas.{used-append}
 use Rattle.certificate.proofs.uses.used_by.Goals as goal
 

@@ -4,7 +4,7 @@ use Rattle.std.proofs.lemmas.Iterator.{YieldsList-from_slice}
 use Rattle.std.specs.declared.string.String.{String}
 use Rattle.std.specs.declared.alloc.Global.{Global}
 use Rattle.siteaudit.specs.Mentions.{known_in}
-use Rattle.requeststep.proofs.ListLemmas.{any_seen}
+use Rattle.requests.proofs.ListLemmas.{any_seen}
 use Rattle.siteaudit.proofs.names.has_meaning.Goals as goal
 
 pub returns : goal.returns

@@ -3,7 +3,7 @@ use Rattle.std.specs.Prelude.{position}
 use Rattle.modulefile.specs.RecordViews.{record_view}
 use Rattle.modulefile.specs.declared.records.Record.{Record}
 use Rattle.requests.specs.VariableUses.{is_reversible}
-use Rattle.requeststep.proofs.ListLemmas.{all_seen}
+use Rattle.requests.proofs.ListLemmas.{all_seen}
 use Rattle.siteaudit.proofs.StandingLemmas.{none_fails, first_found, found_seen}
 use Rattle.siteaudit.proofs.standing.judge_records.Goals as goal
 

@@ -1,7 +1,7 @@
 use Rattle.std.proofs.Common.{◌<◌, Result, sym, ◌∙◌, subst}
 use Rattle.envvars.specs.Texts.{Text}
 use Rattle.modulerun.specs.declared.run.Ran.{Ran}
-use Rattle.requeststep.specs.Refusal.{Refusal}
+use Rattle.modulestep.specs.declared.refusal.Refusal.{Refusal}
 use Rattle.sitelaws.specs.Sites.{EvaluatesTo, site_of, module_below}
 use Rattle.sitewalk.specs.Parts.{ComesToOverTree}
 use Rattle.sitewalk.proofs.OutcomeLemmas.{has_outcome}

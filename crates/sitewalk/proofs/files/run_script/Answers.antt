@@ -3,7 +3,7 @@ use Rattle.std.proofs.lemmas.Result.{err_from_is_err_and}
 use Rattle.envvars.specs.Environment.{Environment}
 use Rattle.modulefile.specs.Files.{RunsFile}
 use Rattle.modulerun.specs.Running.{ran_view, file_reason_of}
-use Rattle.requeststep.proofs.StepLemmas.{run_refused}
+use Rattle.modulestep.proofs.StepLemmas.{run_refused}
 use Rattle.sitewalk.specs.Parts.{site_context}
 use Rattle.sitewalk.proofs.files.run_script.Goals as goal
 

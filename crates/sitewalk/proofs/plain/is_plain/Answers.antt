@@ -2,7 +2,7 @@ use Rattle.std.proofs.Common.{ap, ◌∙◌}
 use Rattle.std.specs.List.{list_all}
 use Rattle.modulefile.specs.RecordViews.{record_view}
 use Rattle.requests.specs.VariableUses.{is_reversible}
-use Rattle.requeststep.proofs.ListLemmas.{all_seen}
+use Rattle.requests.proofs.ListLemmas.{all_seen}
 use Rattle.sitewalk.proofs.WalkLemmas.{asks_nothing}
 use Rattle.sitewalk.proofs.plain.is_plain.Goals as goal
 
