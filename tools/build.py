@@ -9,6 +9,7 @@ build/bin; with `--check` nothing is left there. Without a name: the programs of
 `--check`. With `--only` the crates below are proved, and of the crate itself one function with what it calls.
 
 What was proved lies in crates/*/out/build and is taken again where neither the crate nor anything below it changed.
+`--check` also says which crates the gate would refuse for their text alone, before any proof.
 JOBS=N says how many processors may be used. `rt ci` decides on a change: it proves everything from nothing.
 """
 
@@ -201,6 +202,21 @@ def works_for(names):
     return [*works.values()]
 
 
+def refused(crates):
+    """The crates whose text the gate refuses as it stands, and why; the kit itself says more of a name that is taken."""
+    found = []
+    for crate in crates:
+        try:
+            rtlib.stop_on_text(crate, "verdict")
+        except SystemExit:
+            found.append((crate.name, "its text"))
+            continue
+        with open(os.devnull, "w", encoding="utf-8") as unread:
+            if rtlib.fmt(crate.folder, "--check", unread):
+                found.append((crate.name, "its layout: run `rt fmt` in its folder"))
+    return found
+
+
 class Schedule:
     """Does works side by side, and says a line of each that ends."""
 
@@ -274,11 +290,14 @@ def main(words):
     # (the first call sets a signal's handler, which only the main thread may)
     rtlib.guarded()
     held = rtlib.lock([it.crate for it in works])
+    unfit = refused(it.crate for it in works) if is_check else []
+    for name, why in unfit:
+        print(f"`rt ci` refuses {name} for {why}", flush=True)
     schedule = Schedule(works[:-1] if function else works)
     is_well = schedule.run() and (not function or works[-1].check(function))
     for it in held:
         os.close(it)
-    if not is_well:
+    if not is_well or unfit:
         return 1
     if function:
         return 0
