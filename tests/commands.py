@@ -17,7 +17,7 @@ import os
 import re
 import sys
 
-from harness import add_case, examples, run_all, same
+from harness import add_case, encoded, evaluated, examples, run_all, same
 from plain import FAMILIES, printed
 from worked import real
 
@@ -80,12 +80,14 @@ class Session:
         same(done.stdout.decode(), self.real(out), f"standard output of {rest}")
         same(done.returncode, status, f"status of {rest}")
         if how == "go" and status == 0:
-            self.goes_on(printed(FAMILIES[words(rest)[0]], done.stdout.decode()))
+            self.goes_on(FAMILIES[words(rest)[0]], done.stdout.decode())
 
-    def goes_on(self, changes):
-        """The variables are what these changes make of them."""
-        made = {**self.env, **changes}
-        self.env = {name: value for name, value in made.items() if value is not None}
+    def goes_on(self, family, text):
+        """The variables are what a shell of this family makes of them by the text: sh itself, else as its lines say."""
+        made = {**self.env, **printed(family, text)}
+        self.env, before = {name: value for name, value in made.items() if value is not None}, encoded(self.env)
+        if family == "sh":
+            same(evaluated(text, before), encoded(self.env), "the variables in sh")
 
 
 def is_file(line):

@@ -15,6 +15,10 @@ sys.path.append(os.path.join(os.path.dirname(HERE), "tools"))
 from link import DYNAMIC  # noqa: E402
 
 NOBODY = 65534
+SH = shutil.which("dash") or "/bin/sh"
+ENV = shutil.which("env")
+# What sh sets by itself.
+OWN = (b"PWD", b"OLDPWD", b"_")
 SECONDS = 60
 
 # How many runs after the last refusal of memory have to be as with ample memory.
@@ -51,6 +55,20 @@ def add_case(title, function, *given):
 
     follow.__name__ = title
     case(follow)
+
+
+def evaluated(text, env):
+    """The variables after sh, which had these, evaluated a text."""
+    done = subprocess.run(
+        [SH, "-c", f'eval "$1"; exec {ENV} -0', "sh", text],
+        env=env,
+        capture_output=True,
+        timeout=SECONDS,
+        check=True,
+    )
+    same(done.stderr, b"", "standard error of sh")
+    pairs = [entry.split(b"=", 1) for entry in done.stdout.split(b"\0") if entry]
+    return {name: value for name, value in pairs if name not in OWN}
 
 
 class Failed(Exception):

@@ -1,4 +1,5 @@
-"""The worked rows of the program: what each command prints over real folders, and where a session leaves the variables.
+"""Worked rows of the program beside those of commands.txt: what each command prints over real folders, also where files
+change between commands and streams fail, and where a session leaves the variables.
 
     python3 -B tests/rows.py PROGRAM
 
@@ -7,32 +8,11 @@ stand for the folders that a row makes. What a command prints is evaluated by sh
 """
 
 import os
-import re
-import shutil
-import subprocess
 import sys
 
-from harness import SECONDS, Failed, case, run_all, same, true
+from harness import case, evaluated, run_all, same, true
+from plain import printed
 from worked import FILES, real, write
-
-SH = shutil.which("dash") or "/bin/sh"
-ENV = shutil.which("env")
-LINE = re.compile(rb"([A-Za-z_][A-Za-z0-9_]*)='((?:[^']|'\\'')*)'; export \1;\n|unset ([A-Za-z_][A-Za-z0-9_]*);\n")
-OWN = (b"PWD", b"OLDPWD", b"_")
-
-
-def printed(text):
-    """The changes that lines for sh say."""
-    changes, at = {}, 0
-    while at < len(text):
-        found = LINE.match(text, at)
-        true(found, f"no line for sh at {text[at:]!r}")
-        name = found[1] or found[3]
-        true(name not in changes, f"{name} is printed twice")
-        changes[name] = None if found[1] is None else found[2].replace(b"'\\''", b"'")
-        at = found.end()
-    return changes
-
 
 class Session:
     """Commands one after another, from MODULEPATH and the variables that are given."""
@@ -62,9 +42,9 @@ class Session:
         done = self.run(line)
         same(done.stderr, real(self.folder, said), f"standard error of {line}")
         same(done.returncode, 0, f"status of {line}")
-        changes = printed(done.stdout)
-        wanted = {name.encode(): None if v is None else real(self.folder, v) for name, v in values.items()}
-        for name in (b"LOADEDMODULES", b"_LMFILES_"):
+        changes = printed("sh", done.stdout.decode())
+        wanted = {name: None if v is None else real(self.folder, v).decode() for name, v in values.items()}
+        for name in ("LOADEDMODULES", "_LMFILES_"):
             if name in changes and name not in wanted:
                 wanted[name] = changes[name]
         same(changes, wanted, f"the changes of {line}")
@@ -76,16 +56,7 @@ class Session:
         self.goes_on(self.prints(line, out, said))
 
     def goes_on(self, text):
-        done = subprocess.run(
-            [SH, "-c", f'eval "$1"; exec {ENV} -0', "sh", text],
-            env=self.env,
-            capture_output=True,
-            timeout=SECONDS,
-            check=True,
-        )
-        same(done.stderr, b"", "standard error of sh")
-        pairs = [entry.split(b"=", 1) for entry in done.stdout.split(b"\0") if entry]
-        self.env = {name: value for name, value in pairs if name not in OWN}
+        self.env = evaluated(text, self.env)
 
     def refuses(self, line, text, shell="sh"):
         """The command changes nothing, and says this after `ERROR: `."""
@@ -99,230 +70,6 @@ class Session:
         for name, value in values.items():
             wanted = None if value is None else real(self.folder, value)
             same(self.env.get(name.encode()), wanted, f"the value of {name}")
-
-
-# Loads and unloads.
-
-
-@case
-def a_load_its_unload_and_a_second_load(folder):
-    s = Session(folder, PATH="/usr/bin:/bin")
-    loads = (
-        "FOO='on'; export FOO;\n"
-        "LOADEDMODULES='foo/1.0'; export LOADEDMODULES;\n"
-        "PATH='/opt/foo/bin:/usr/bin:/bin'; export PATH;\n"
-        "_LMFILES_='/m/foo/1.0'; export _LMFILES_;\n"
-    )
-    s.prints("load foo", loads)
-    s.makes_exactly("load foo/1.0", loads)
-    s.makes_exactly("load foo/1.0", "")
-    s.makes_exactly("load foo", "")
-    unloads = "unset FOO;\nunset LOADEDMODULES;\nPATH='/usr/bin:/bin'; export PATH;\nunset _LMFILES_;\n"
-    s.prints("unload foo/1.0", unloads)
-    s.makes_exactly("unload foo", unloads)
-    s.refuses("load nope", "Unable to locate a modulefile for 'nope'")
-
-
-@case
-def an_element_that_was_there_is_counted(folder):
-    s = Session(folder, PATH="/opt/x/bin:/bin")
-    s.makes_exactly(
-        "load x",
-        "LOADEDMODULES='x/1'; export LOADEDMODULES;\n"
-        "_LMFILES_='/m/x/1'; export _LMFILES_;\n"
-        "__MODULES_SHARE_PATH='/opt/x/bin:2'; export __MODULES_SHARE_PATH;\n",
-    )
-    s.prints("switch x x", "")
-    s.makes_exactly("unload x", "unset LOADEDMODULES;\nunset _LMFILES_;\nunset __MODULES_SHARE_PATH;\n")
-
-
-@case
-def two_modules_that_add_one_element(folder):
-    s = Session(folder)
-    s.makes("load y", P="/s")
-    s.makes("load z", __MODULES_SHARE_P="/s:2")
-    s.makes("unload y", __MODULES_SHARE_P=None, LOADEDMODULES="z/1")
-    s.makes("unload z", P=None)
-
-
-@case
-def two_elements_in_one_value(folder):
-    s = Session(folder)
-    s.makes("load ab", P="/a:/b")
-    s.makes("unload ab", P=None)
-
-
-@case
-def one_empty_element(folder):
-    s = Session(folder)
-    out = s.run("load man").stdout
-    for line in (b"MANPATH=''; export MANPATH;", b"__MODULES_SHARE_MANPATH=':1'; export __MODULES_SHARE_MANPATH;"):
-        true(line in out.splitlines(), f"{line!r} is printed")
-    s.makes("load man", MANPATH="", __MODULES_SHARE_MANPATH=":1")
-    s.makes("unload man", MANPATH=None, __MODULES_SHARE_MANPATH=None)
-
-
-@case
-def repeated_and_empty_elements_stay(folder):
-    s = Session(folder, P="/a:/a::/b")
-    s.makes("load c", P="/c:/a:/a::/b")
-    s.makes("unload c", P="/a:/a::/b")
-
-
-@case
-def an_empty_text_is_not_in_order(folder):
-    s = Session(folder, P="")
-    s.makes("load c", P="/c")
-    s.makes("unload c", P=None)
-
-
-@case
-def a_stack_of_two_modules(folder):
-    s = Session(folder, CC="cc")
-    s.makes("load a", CC="gcc", __MODULES_PUSHENV_CC="a/1&gcc:&cc")
-    s.makes("load b", CC="clang", __MODULES_PUSHENV_CC="b/1&clang:a/1&gcc:&cc")
-    s.makes("unload a", __MODULES_PUSHENV_CC="b/1&clang:&cc")
-    s.makes("unload b", CC="cc", __MODULES_PUSHENV_CC=None)
-
-
-@case
-def a_stack_over_an_odd_value(folder):
-    s = Session(folder, CC="a:b\\c'd")
-    out = s.run("load q").stdout
-    pushes = (
-        b"CC='x'; export CC;",
-        b"__MODULES_PUSHENV_CC='q/1&x:&a\\:b\\\\c'\\''d'; export __MODULES_PUSHENV_CC;",
-    )
-    for line in pushes:
-        true(line in out.splitlines(), f"{line!r} is printed")
-    s.makes("load q", CC="x", __MODULES_PUSHENV_CC="q/1&x:&a\\:b\\\\c'd")
-    same(s.run("unload q").stdout.splitlines()[0], b"CC='a:b\\c'\\''d'; export CC;", "the first line of unload q")
-    lines = s.run("unload q", shell="fish").stdout.splitlines()
-    true(b"set -xg CC 'a:b\\\\c\\'d';" in lines, f"the line of CC for fish, in {lines!r}")
-
-
-@case
-def a_conflict_between_two_names_of_one_command(folder):
-    s = Session(folder)
-    s.refuses("load k n", "Conflict with 'k/1'")
-
-
-@case
-def a_module_that_needs_another(folder):
-    s = Session(folder)
-    s.refuses("load mpi", "Missing one of 'gcc'")
-    s.makes_exactly(
-        "load gcc mpi",
-        "GCC='9'; export GCC;\n"
-        "LOADEDMODULES='gcc/9:mpi/1'; export LOADEDMODULES;\n"
-        "MPI='1'; export MPI;\n"
-        "_LMFILES_='/m/gcc/9:/m/mpi/1'; export _LMFILES_;\n"
-        "__MODULES_LMPREREQ='mpi/1&gcc'; export __MODULES_LMPREREQ;\n",
-    )
-    s.refuses("unload gcc", "Still needed by 'mpi/1'")
-    unsets = "unset GCC;\nunset LOADEDMODULES;\nunset MPI;\nunset _LMFILES_;\nunset __MODULES_LMPREREQ;\n"
-    s.prints("purge", unsets)
-    s.makes_exactly("unload gcc mpi", unsets)
-
-
-@case
-def versions_and_a_default_file(folder):
-    s = Session(folder, modulepath="/n")
-    s.prints(
-        "load ver",
-        "LOADEDMODULES='ver/1.10-rc'; export LOADEDMODULES;\nV='1.10-rc'; export V;\n"
-        "_LMFILES_='/n/ver/1.10-rc'; export _LMFILES_;\n",
-    )
-    write(folder, "/n/ver/.version", 'set ModulesVersion "1.9"\n')
-    s.prints("avail", "", said="/n:\nver/1.9(default)\nver/1.10\nver/1.10-rc\n")
-    s.makes("load ver", V="1.9", LOADEDMODULES="ver/1.9", _LMFILES_="/n/ver/1.9")
-
-
-@case
-def a_module_that_asks_for_the_mode(folder):
-    s = Session(folder)
-    s.makes("load w", X="1")
-    s.makes_exactly("unload w", "unset LOADEDMODULES;\nunset _LMFILES_;\n")
-    s.holds(X="1")
-
-
-@case
-def a_loop_without_end(folder):
-    Session(folder).refuses("load loop", "Too many commands")
-
-
-@case
-def a_brace_that_nothing_closes(folder):
-    Session(folder).refuses("load t", "Missing close-brace at byte 18")
-
-
-@case
-def a_value_of_two_lines(folder):
-    s = Session(folder)
-    s.refuses("load nl", "Value of 'MSG' can't be said in this shell", shell="csh")
-    lists = ("LOADEDMODULES='nl/1'; export LOADEDMODULES;\n", "_LMFILES_='/m/nl/1'; export _LMFILES_;\n")
-    s.prints("load nl", lists[0] + "MSG='a\nb'; export MSG;\n" + lists[1])
-    s.prints(
-        "load nl",
-        "set -xg LOADEDMODULES 'nl/1';\nset -xg MSG 'a\nb';\nset -xg _LMFILES_ '/m/nl/1';\n",
-        shell="fish",
-    )
-
-
-@case
-def a_quote_and_a_mark_in_three_families(folder):
-    s = Session(folder)
-    for shells, line in (
-        (("sh", "bash", "ksh", "zsh"), b"Q='it'\\''s!'; export Q;"),
-        (("csh", "tcsh"), b"setenv Q 'it'\\''s'\\!'';"),
-        (("fish",), b"set -xg Q 'it\\'s!';"),
-    ):
-        for shell in shells:
-            done = s.run("load sq", shell=shell)
-            same((done.returncode, done.stderr), (0, b""), f"the end of load sq in {shell}")
-            same(done.stdout.splitlines()[1], line, f"the second line of load sq in {shell}")
-
-
-@case
-def odd_values_in_csh_and_fish(folder):
-    files = {"/m/odd/1": "setenv N a!b\\\\\n", "/m/none/1": "setenv N {}\n"}
-    s = Session(folder, files=files)
-    for shell, module, line in (
-        ("csh", "odd", b"setenv N 'a'\\!'b\\';"),
-        ("fish", "odd", b"set -xg N 'a!b\\\\';"),
-        ("csh", "none", b"setenv N '';"),
-        ("fish", "none", b"set -xg N '';"),
-    ):
-        true(line in s.run(f"load {module}", shell=shell).stdout.splitlines(), f"{line!r} of load {module} in {shell}")
-
-
-@case
-def list_of_the_loaded_modules(folder):
-    s = Session(folder, PATH="/usr/bin:/bin")
-    s.prints("list", "", said="No Modulefiles Currently Loaded.\n")
-    s.makes("load foo", FOO="on", PATH="/opt/foo/bin:/usr/bin:/bin")
-    s.prints("list", "", said="Currently Loaded Modulefiles:\nfoo/1.0\n")
-
-
-@case
-def a_module_that_adds_a_directory(folder):
-    s = Session(folder)
-    s.makes("load mp", MODULEPATH="/n:/m")
-    s.makes("load ver", V="1.10-rc", _LMFILES_="/m/mp/1:/n/ver/1.10-rc")
-    s.makes("unload mp", MODULEPATH="/m", LOADEDMODULES="ver/1.10-rc")
-    s.makes("unload ver", V=None, LOADEDMODULES=None, _LMFILES_=None)
-
-
-@case
-def lists_of_two_lengths(folder):
-    Session(folder, LOADEDMODULES="a/1").refuses("load k", "Loaded modules are inconsistent")
-
-
-@case
-def show_of_a_module(folder):
-    s = Session(folder)
-    s.prints("show foo", "", said="/m/foo/1.0:\nsetenv FOO on\nprepend-path PATH /opt/foo/bin\n")
-    s.prints("display foo", "", said="/m/foo/1.0:\nsetenv FOO on\nprepend-path PATH /opt/foo/bin\n")
 
 
 # Counters and stacks.
@@ -371,36 +118,7 @@ def an_unset_is_not_undone(folder):
     s.holds(LANG=None)
 
 
-# Conflicts, needs, several names.
-
-
-@case
-def a_recorded_conflict(folder):
-    s = Session(folder)
-    s.makes("load n", __MODULES_LMCONFLICT="n/1&k")
-    s.refuses("load k", "Conflict with 'n/1'")
-
-
-@case
-def two_groups_of_needs(folder):
-    s = Session(folder, files={"/m/p/1": "prereq gcc icc\nprereq k\n"})
-    s.refuses("load p", "Missing one of 'gcc icc'")
-    s.makes("load gcc k p", GCC="9", K="1", LOADEDMODULES="gcc/9:k/1:p/1", __MODULES_LMPREREQ="p/1&gcc|icc&k")
-
-
-@case
-def a_switch_to_another_version(folder):
-    s = Session(folder, modulepath="/m:/o", files={"/o/gcc/10": "setenv GCC 10\n"})
-    start = dict(s.env)
-    s.makes("load gcc mpi", GCC="9", MPI="1", LOADEDMODULES="gcc/9:mpi/1", __MODULES_LMPREREQ="mpi/1&gcc")
-    s.makes_exactly(
-        "switch gcc/10",
-        "GCC='10'; export GCC;\n"
-        "LOADEDMODULES='mpi/1:gcc/10'; export LOADEDMODULES;\n"
-        "_LMFILES_='/m/mpi/1:/o/gcc/10'; export _LMFILES_;\n",
-    )
-    s.makes("purge", GCC=None, MPI=None, LOADEDMODULES=None, _LMFILES_=None, __MODULES_LMPREREQ=None)
-    same(s.env, start, "the environment after all")
+# A session.
 
 
 @case
@@ -417,14 +135,23 @@ def a_session_with_a_refused_request(folder):
     same(s.env, start, "the environment after all")
 
 
-# Reports and what modulefiles ask.
+# Odd values.
 
 
 @case
-def show_and_whatis_of_several_commands(folder):
-    s = Session(folder, files={"/m/d/1": "module-whatis A {B c}\nappend-path P /a /b:/c\nprereq gcc icc\n"})
-    s.prints("show d", "", said="/m/d/1:\nmodule-whatis {A B c}\nappend-path P /a:/b:/c\nprereq gcc icc\n")
-    s.prints("whatis d", "", said="d/1: A B c\n")
+def odd_values_in_csh_and_fish(folder):
+    files = {"/m/odd/1": "setenv N a!b\\\\\n", "/m/none/1": "setenv N {}\n"}
+    s = Session(folder, files=files)
+    for shell, module, line in (
+        ("csh", "odd", b"setenv N 'a'\\!'b\\';"),
+        ("fish", "odd", b"set -xg N 'a!b\\\\';"),
+        ("csh", "none", b"setenv N '';"),
+        ("fish", "none", b"set -xg N '';"),
+    ):
+        true(line in s.run(f"load {module}", shell=shell).stdout.splitlines(), f"{line!r} of load {module} in {shell}")
+
+
+# Reports and what modulefiles ask.
 
 
 @case
@@ -468,19 +195,6 @@ def a_module_that_asks_for_the_shell(folder):
 
 
 # Delimiters.
-
-
-@case
-def elements_parted_by_another_delimiter(folder):
-    files = {"/m/dl/1": "prepend-path -d {;} Q {a:b;c}\n", "/m/dm/1": "append-path --delim {;} Q a:b\n"}
-    s = Session(folder, files=files)
-    s.prints("show dl", "", said="/m/dl/1:\nprepend-path --delim {;} Q {a:b;c}\n")
-    s.makes("load dl", Q="a:b;c")
-    line = b"__MODULES_SHARE_Q='a\\:b:2'; export __MODULES_SHARE_Q;"
-    true(line in s.run("load dm").stdout.splitlines(), f"{line!r} is printed")
-    s.makes("load dm", __MODULES_SHARE_Q="a\\:b:2")
-    s.makes("unload dl", Q="a:b", __MODULES_SHARE_Q=None)
-    s.makes("unload dm", Q=None)
 
 
 @case
@@ -628,12 +342,6 @@ def texts_that_are_no_stack(folder):
         Session(folder, CC="cc", __MODULES_PUSHENV_CC=text).refuses("load a", "Bad stack of 'CC'")
     s = Session(folder, CC="x", __MODULES_PUSHENV_CC="b/1&\\q:&x\\")
     s.makes("load a", CC="gcc", __MODULES_PUSHENV_CC="a/1&gcc:b/1&\\\\q:&x\\\\")
-
-
-@case
-def lists_that_are_inconsistent(folder):
-    for names, paths in (("a/1::b/1", "/1:/2:/3"), ("a/1:a/1", "/1:/2")):
-        Session(folder, LOADEDMODULES=names, _LMFILES_=paths).refuses("list", "Loaded modules are inconsistent")
 
 
 def main():

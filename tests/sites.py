@@ -14,12 +14,9 @@ import shutil
 import subprocess
 import sys
 
-from harness import HERE, SECONDS, case, run_all, same
+from harness import HERE, SECONDS, case, evaluated, run_all, same
 
 TOP = os.path.dirname(HERE)
-SH = shutil.which("dash") or "/bin/sh"
-ENV = shutil.which("env")
-OWN = (b"PWD", b"OLDPWD", b"_")
 
 GCC = {
     "CC": "gcc",
@@ -43,24 +40,11 @@ class Site:
         self.env = folder.environment(PATH="/usr/bin:/bin", **variables)
         self.start = dict(self.env)
 
-    def evaluated(self, text):
-        """The environment after sh has evaluated a text."""
-        done = subprocess.run(
-            [SH, "-c", f'eval "$1"; exec {ENV} -0', "sh", text],
-            env=self.env,
-            capture_output=True,
-            timeout=SECONDS,
-            check=True,
-        )
-        same(done.stderr, b"", "standard error of sh")
-        pairs = [entry.split(b"=", 1) for entry in done.stdout.split(b"\0") if entry]
-        return {name: value for name, value in pairs if name not in OWN}
-
     def accepts(self, words, said):
         done = self.folder.run("sh", *words.split(), env=self.env)
         same(done.stderr.decode(), said, f"standard error of {words}")
         same(done.returncode, 0, f"status of {words}")
-        return self.evaluated(done.stdout)
+        return evaluated(done.stdout, self.env)
 
     def loads(self, name, said="", **values):
         """A load sets these variables, None for an unset, and enters the module last in the loaded lists."""
