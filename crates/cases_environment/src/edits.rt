@@ -1,7 +1,7 @@
 //! Calls that edit an environment, each by its name and words.
 
 use crate::shown::changes_of;
-use crate::texts::{parts, slices};
+use crate::texts::parts;
 use envstate::{
     End, EnvFault, Loaded, Vars, add_loaded, add_path, drop_loaded, drop_path, pop_value,
     push_value,
@@ -42,7 +42,10 @@ fn edit_path<V: Vars>(
 ) -> Result<(), EnvFault> {
     match words.split_first() {
         Some((name, elements)) => {
-            let elements = slices(alloc, elements)?;
+            let elements: Vec<&str> = elements
+                .iter()
+                .map(|element| element.as_str())
+                .collect(alloc)?;
             edit_elements(alloc, vars, edit, delimiter, name, &elements)
         }
         None => Ok(()),

@@ -79,15 +79,6 @@ pub(crate) fn words(alloc: Global, mark: u8, line: &str) -> Result<Vec<String>, 
     Ok(words)
 }
 
-/// The texts as slices.
-pub(crate) fn slices(alloc: Global, texts: &[String]) -> Result<Vec<&str>, AllocError> {
-    let mut slices = Vec::new(alloc);
-    for text in texts {
-        slices.push(text.as_str())?;
-    }
-    Ok(slices)
-}
-
 /// The texts of a list, which this character parts: `-` has none.
 pub(crate) fn parts(alloc: Global, list: &str, mark: char) -> Result<Vec<String>, AllocError> {
     let mut parts = Vec::new(alloc);

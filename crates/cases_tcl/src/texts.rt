@@ -16,8 +16,9 @@ use crate::trees::{fault, owned, tree};
 use std::alloc::{AllocError, Global};
 use tcltext::{
     ByteRange, Command, Expr, Numeral, Operand, Part, Script, TextFault, Word, WordContent,
-    glob_match, parse_expr, parse_list, parse_script, push_braced_text, read_number, write_list,
+    glob_match, parse_expr, parse_list, parse_script, push_braced_text, read_number,
 };
+use tclvalue::list_text;
 
 /// The byte offset of a fault, where it has one.
 fn offset_of(fault: &TextFault) -> Option<usize> {
@@ -194,23 +195,13 @@ fn shown_expression(alloc: Global, expression: &Expr<&str>) -> Option<String> {
     shown(alloc, "ok", &text.finish()?)
 }
 
-/// The texts as slices.
-fn slices(alloc: Global, texts: &[String]) -> Option<Vec<&str>> {
-    let mut slices = Vec::new(alloc);
-    for text in texts {
-        slices.push(text.as_str()).ok()?;
-    }
-    Some(slices)
-}
-
-/// The list of texts.
-fn list_of(alloc: Global, texts: &[String]) -> Option<String> {
-    write_list(alloc, &slices(alloc, texts)?).ok()
-}
-
 /// The list of the texts of a call.
 fn written(alloc: Global, words: &str) -> Option<String> {
-    shown(alloc, "ok", &list_of(alloc, &texts_of(alloc, words)?)?)
+    shown(
+        alloc,
+        "ok",
+        &list_text(alloc, &texts_of(alloc, words)?).ok()?,
+    )
 }
 
 /// The class of a number, and a whole number itself.
