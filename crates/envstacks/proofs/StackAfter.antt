@@ -14,30 +14,10 @@ use Rattle.envstacks.specs.StackTexts.{items_in, has_no_item, bottoms_last, owne
 use Rattle.envstacks.specs.StackVariables.{stack_from, stack_in, with_stack, push_reason, pop_reason, pushed_on, popped_from, pushed_value, popped_value}
 use Rattle.envstacks.specs.StackOrder.{HoldsStack}
 use Rattle.envvars.proofs.EnvLemmas.{lookup-with_value}
+use Rattle.envvars.proofs.FieldLemmas.{distinct-filter}
 use Rattle.envvars.proofs.EditLemmas.{looked, no_reason, no_value_reason, same_ok, both_true, and_both, not_is}
-use Rattle.envstacks.proofs.StackLemmas.{or_left, or_right}
 use Rattle.modulename.proofs.NameLemmas.{name_lacks, lacks}
 use Rattle.envstacks.proofs.StackAgain.{found_at, value_at, stack_found, stack_readable}
-
--- a list of texts, filtered
-
-has_less : (x : Text) (q : Text → Bool) (xs : List Text) → has x xs ≡ false → has x (filter q xs) ≡ false
-has_less x q [] h = refl
-has_less x q (y ∷ ys) h = at (q y) (or_left (bytes_eq x y) (has x ys) h) (has_less x q ys (or_right (bytes_eq x y) (has x ys) h))
-  where
-    at : (b : Bool) → bytes_eq x y ≡ false → has x (filter q ys) ≡ false → has x (cond b (y ∷ filter q ys) (filter q ys)) ≡ false
-    at true e r = rw e r
-    at false e r = r
-
-distinct_less : (q : Text → Bool) (xs : List Text) → are_distinct xs ≡ true → are_distinct (filter q xs) ≡ true
-distinct_less q [] h = refl
-distinct_less q (x ∷ xs) h =
-    let k = both_true (not (has x xs)) (are_distinct xs) h in
-    at (q x) (has_less x q xs (not_is (has x xs) k.0)) (distinct_less q xs k.1)
-  where
-    at : (b : Bool) → has x (filter q xs) ≡ false → are_distinct (filter q xs) ≡ true → are_distinct (cond b (x ∷ filter q xs) (filter q xs)) ≡ true
-    at true f r = and_both (not (has x (filter q xs))) (are_distinct (filter q xs)) (rw f refl) r
-    at false f r = r
 
 -- the owners but for one
 abbrev others : Text → List Text → List Text
@@ -108,7 +88,7 @@ parts_less : (m : Text) (items : List OwnedValue) → Parts items → Parts (wit
 parts_less m items p =
     record {
       bottoms = bottoms_less m items p.bottoms;
-      distinct = ap are_distinct (owners-without m items) ∙ distinct_less (λ n. not (bytes_eq m n)) (owners_of items) p.distinct;
+      distinct = ap are_distinct (owners-without m items) ∙ distinct-filter (λ n. not (bytes_eq m n)) (owners_of items) p.distinct;
       owners = all_less (λ item. is_writable_owner item.0) (λ item. not (is_owner m item.0)) items p.owners;
     }
 

@@ -8,6 +8,7 @@ use Rattle.std.specs.List.{join_with_byte}
 use Rattle.envtable.specs.Texts.{Text, has, slice_texts}
 use Rattle.envtable.specs.Fields.{without, are_distinct, without_repeats}
 use Rattle.envtable.proofs.TextLemmas.{has-without, bytes_eq-symmetric, or_left, or_right, has-push, filter-without}
+use Rattle.envtable.proofs.EditLemmas.{both_true, and_both, not_is}
 use Rattle.std.proofs.Common.{◌≡◌, ℕ, ◌-◌, ◌<◌, ◌≤◌, Bool, true, false, cond, not, ◌||◌, List, [], ◌∷◌, ◌++◌, refl, sym, ap, ◌∙◌, arith, Bor, take, get_or, append_assoc, take_all}
 use Rattle.std.specs.Prelude.{filter, bytes_eq, if◌then◌else◌}
 use Rattle.std.specs.List.{list_any}
@@ -78,6 +79,25 @@ suc_eq_at m n false h = grind (arith, nat_tests)
 count_at : (b t : Bool) (x : Text) (fs ws : List Text) (n : ℕ) → (b ≡ true → length ws < n) → (b ≡ false → ws ≡ fs) → nat_eq (length fs) n ≡ t → nat_eq (suc (length ws)) (suc n) ≡ (not b && t)
 count_at true t x fs ws n f g h = let l : length ws < n = f refl in grind (arith, nat_tests)
 count_at false t x fs ws n f g h = rw (g refl) (suc_eq_at (length fs) n t h)
+
+-- none stands twice among fewer
+has-filter : (q : Text → Bool) (x : Text) (xs : List Text) → has x xs ≡ false → has x (filter q xs) ≡ false
+has-filter q x [] h = refl
+has-filter q x (y ∷ ys) h = at (q y) (or_left (bytes_eq x y) (has x ys) h) (has-filter q x ys (or_right (bytes_eq x y) (has x ys) h))
+  where
+    at : (b : Bool) → bytes_eq x y ≡ false → has x (filter q ys) ≡ false → has x (cond b (y ∷ filter q ys) (filter q ys)) ≡ false
+    at true e r = rw e r
+    at false e r = r
+
+pub distinct-filter : (q : Text → Bool) (xs : List Text) → are_distinct xs ≡ true → are_distinct (filter q xs) ≡ true
+distinct-filter q [] h = refl
+distinct-filter q (x ∷ xs) h =
+    let k = both_true (not (has x xs)) (are_distinct xs) h in
+    at (q x) (has-filter q x xs (not_is (has x xs) k.0)) (distinct-filter q xs k.1)
+  where
+    at : (b : Bool) → has x (filter q xs) ≡ false → are_distinct (filter q xs) ≡ true → are_distinct (cond b (x ∷ filter q xs) (filter q xs)) ≡ true
+    at true f r = and_both (not (has x (filter q xs))) (are_distinct (filter q xs)) (rw f refl) r
+    at false f r = r
 
 -- as many are left as there were, where none stands twice
 pub distinct-count : (xs : List Text) → nat_eq (length (without_repeats xs)) (length xs) ≡ are_distinct xs

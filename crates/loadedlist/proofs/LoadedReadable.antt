@@ -9,8 +9,9 @@ use Rattle.envtable.specs.Fields.{without, are_distinct, without_repeats, elemen
 use Rattle.envtable.specs.Environment.{Environment, lookup}
 use Rattle.loadedlist.specs.LoadedTexts.{names_variable, files_variable, conflicts_variable, prereqs_variable, is_empty, are_consistent, words_in, names_among, conflicts_among, names_of_group, has_names, prereqs_among}
 use Rattle.loadedlist.specs.Loaded.{Entry, names_of, entries_from, first_in, loaded_in, is_path, is_group, is_entry, IsLoadedList}
-use Rattle.envtable.proofs.TextLemmas.{has-without, bytes_eq-same, or_left, or_right}
-use Rattle.envtable.proofs.EditLemmas.{both_true, and_both, not_is}
+use Rattle.envtable.proofs.TextLemmas.{has-without, bytes_eq-same}
+use Rattle.envtable.proofs.FieldLemmas.{distinct-filter}
+use Rattle.envtable.proofs.EditLemmas.{both_true, and_both}
 use Rattle.modulename.proofs.NameLemmas.{lacks}
 use Rattle.loadedlist.proofs.LoadedAgain.{all_lack, lacks_any}
 
@@ -63,31 +64,13 @@ groups_pass (w ∷ ws) = at (has_names (names_of_group w)) refl (groups_pass ws)
     at true e r = and_both (is_group (names_of_group w)) (list_all is_group (prereqs_among ws)) (and_both (has_names (names_of_group w)) (list_all is_module_name (names_of_group w)) e (names_pass (slice_split (λ b. nat_eq b 124) w))) r
     at false e r = r
 
--- none stands twice among fewer, and among the firsts
-has_at : (b t : Bool) (x y : Text) (fs : List Text) → bytes_eq x y ≡ t → t ≡ false → has x fs ≡ false → has x (cond b (y ∷ fs) fs) ≡ false
-has_at true t x y fs e f r = rw (e ∙ f) r
-has_at false t x y fs e f r = r
-
-has_fewer : (q : Text → Bool) (x : Text) (xs : List Text) → has x xs ≡ false → has x (filter q xs) ≡ false
-has_fewer q x [] h = refl
-has_fewer q x (y ∷ ys) h = has_at (q y) (bytes_eq x y) x y (filter q ys) refl (or_left (bytes_eq x y) (has x ys) h) (has_fewer q x ys (or_right (bytes_eq x y) (has x ys) h))
-
-distinct_fewer : (q : Text → Bool) (xs : List Text) → are_distinct xs ≡ true → are_distinct (filter q xs) ≡ true
-distinct_fewer q [] h = refl
-distinct_fewer q (x ∷ xs) h =
-    let k = both_true (not (has x xs)) (are_distinct xs) h in
-    at (q x) (has_fewer q x xs (not_is (has x xs) k.0)) (distinct_fewer q xs k.1)
-  where
-    at : (b : Bool) → has x (filter q xs) ≡ false → are_distinct (filter q xs) ≡ true → are_distinct (cond b (x ∷ filter q xs) (filter q xs)) ≡ true
-    at true f r = and_both (not (has x (filter q xs))) (are_distinct (filter q xs)) (rw f refl) r
-    at false f r = r
-
+-- none stands twice among the firsts
 pub distinct_firsts : (xs : List Text) → are_distinct (without_repeats xs) ≡ true
 distinct_firsts [] = refl
 distinct_firsts (x ∷ xs) =
     and_both (not (has x (without x (without_repeats xs)))) (are_distinct (without x (without_repeats xs)))
     (let f : has x (without x (without_repeats xs)) ≡ false = has-without (without_repeats xs) x x ∙ (rw (bytes_eq-same x) refl) in rw f refl)
-    (distinct_fewer (λ y. not (bytes_eq y x)) (without_repeats xs) (distinct_firsts xs))
+    (distinct-filter (λ y. not (bytes_eq y x)) (without_repeats xs) (distinct_firsts xs))
 
 -- the entries that are read
 path_good : (p : Text) → not (is_empty p) ≡ true → lacks 58 p ≡ true → is_path p ≡ true
