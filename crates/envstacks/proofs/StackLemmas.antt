@@ -1,8 +1,9 @@
 -- What pushes and pops leave.
-use Rattle.std.proofs.Common.{◌≡◌, Bool, true, false, cond, not, ◌||◌, List, [], ◌∷◌, ◌++◌, refl, sym, ap, ◌∙◌, Option, Some, None, inl, inr, ◌⊎◌}
+use Rattle.std.proofs.Common.{◌≡◌, Bool, true, false, cond, not, List, [], ◌∷◌, ◌++◌, refl, sym, ap, ◌∙◌, Option, Some, None, inl, inr, ◌⊎◌}
 use Rattle.std.specs.Prelude.{bytes_eq, if◌then◌else◌}
 use Rattle.std.specs.List.{list_any}
 use Rattle.std.proofs.lemmas.List.Elements.{filter-append}
+use Rattle.envvars.proofs.TextLemmas.{or_left, or_right}
 use Rattle.envvars.specs.Texts.{Text}
 use Rattle.envstacks.specs.Stacks.{OwnedValue, StackState, is_owner, has_owner, holds, without_owner, visible, items_or_bottom, push, without_lone_bottom, on_top, pop}
 use Rattle.envstacks.specs.StackRuns.{StackEdit, after, AreByOtherOwners, IsOwnedStart, other_pushes, live_from, items_of, start_with_pushes}
@@ -13,15 +14,6 @@ holds_base : (m : Text) (items : List OwnedValue) (value : Option Text) → hold
 holds_base m [] None h = refl
 holds_base m [] (Some v) h = refl
 holds_base m (i ∷ is) value h = h
-
-pub or_left : (a b : Bool) → (a || b) ≡ false → a ≡ false
-or_left true b e = e
-or_left false b e = refl
-
-pub or_right : (a b : Bool) → (a || b) ≡ false → b ≡ false
-or_right true true e = e
-or_right true false e = refl
-or_right false b e = e
 
 pub without_stranger : (m : Text) (items : List OwnedValue) → holds m items ≡ false → without_owner m items ≡ items
 without_stranger m [] h = refl

@@ -1,5 +1,5 @@
 -- The texts of a path variable.
-use Rattle.std.proofs.Common.{◌≡◌, ℕ, ◌<◌, ◌≤◌, Bool, true, false, cond, ◌||◌, ◌&&◌, ◌≢◌, eqb, suc, List, [], ◌∷◌, refl, sym, ap, arith, Option, Some, None, get_or}
+use Rattle.std.proofs.Common.{◌≡◌, ℕ, ◌<◌, ◌≤◌, Bool, true, false, cond, ◌&&◌, ◌≢◌, eqb, suc, List, [], ◌∷◌, refl, sym, ap, arith, Option, Some, None, get_or}
 use Rattle.std.specs.Option.{option_or}
 use Rattle.std.specs.List.{onto_first}
 use Rattle.std.specs.Bool.{MatchBool}
@@ -15,15 +15,6 @@ use Rattle.envtable.specs.Texts.{Text}
 pub or_assoc : {A : Type 0} (a b c : Option A) → option_or (option_or a b) c ≡ option_or a (option_or b c)
 or_assoc (Some x) b c = refl
 or_assoc None b c = refl
-
-pub or_left : (a b : Bool) → (a || b) ≡ false → a ≡ false
-or_left true b e = e
-or_left false b e = refl
-
-pub or_right : (a b : Bool) → (a || b) ≡ false → b ≡ false
-or_right true true e = e
-or_right true false e = refl
-or_right false b e = e
 
 -- a text without a backslash has the same fields, escapes or not
 

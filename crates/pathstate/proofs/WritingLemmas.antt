@@ -18,7 +18,7 @@ use Rattle.envtable.specs.Fields.{joined, text_of_elements, without, without_rep
 use Rattle.envtable.specs.Escapes.{escaped}
 use Rattle.pathstate.specs.PathTexts.{is_lone_empty, counter_fields, pairs_text}
 use Rattle.pathstate.specs.Tables.{CounterTable, counter_in, count_in, state_from_table, pair_fields, with_separator, unless_empty}
-use Rattle.pathstate.proofs.PairLemmas.{or_left, or_right}
+use Rattle.envtable.proofs.TextLemmas.{or_left, or_right}
 
 -- a field behind others
 
