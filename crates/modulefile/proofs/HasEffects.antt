@@ -23,7 +23,7 @@ pub by_record_ok : (r : Result Environment RecordReason) (e : Environment) → r
 by_record_ok (Ok d) e h = cc
 by_record_ok (Err x) e h = absurd (cc)
 
-records_more : (rs : List oracle.CommandWords) (words : List Text) (ys : List Record) (r : Record) → records_in rs ≡ Ok ys → (call_of words >>= record_of) ≡ Ok r → records_in (rs ++ words ∷ []) ≡ Ok (ys ++ r ∷ [])
+pub records_more : (rs : List oracle.CommandWords) (words : List Text) (ys : List Record) (r : Record) → records_in rs ≡ Ok ys → (call_of words >>= record_of) ≡ Ok r → records_in (rs ++ words ∷ []) ≡ Ok (ys ++ r ∷ [])
 records_more [] words ys r h k =
     let e : ys ≡ [] = cc in
     bind_ok (call_of words >>= record_of) (λ x. records_in [] >>= (λ xs. Ok (x ∷ xs))) r (ys ++ r ∷ []) k (ap (λ zs. Ok (zs ++ r ∷ [])) (sym e))
@@ -34,7 +34,7 @@ records_more (v ∷ rs) words ys r h k =
     bind_ok (call_of v >>= record_of) (λ x. records_in (rs ++ words ∷ []) >>= (λ xs. Ok (x ∷ xs))) b.0 (ys ++ r ∷ []) b.1
     (bind_ok (records_in (rs ++ words ∷ [])) (λ xs. Ok (b.0 ∷ xs)) (d.0 ++ r ∷ []) (ys ++ r ∷ []) (records_more rs words d.0 r d.1 k) (ap (λ zs. Ok (zs ++ r ∷ [])) e))
 
-effects_more : (mode : Mode) (owner : Text) (ys : List Record) (r : Record) (e d t : Environment) → effects mode owner ys e ≡ Ok d → effect mode owner r d ≡ Ok t → effects mode owner (ys ++ r ∷ []) e ≡ Ok t
+pub effects_more : (mode : Mode) (owner : Text) (ys : List Record) (r : Record) (e d t : Environment) → effects mode owner ys e ≡ Ok d → effect mode owner r d ≡ Ok t → effects mode owner (ys ++ r ∷ []) e ≡ Ok t
 effects_more mode owner ys r e d t h k = effects_go_on mode owner ys (r ∷ []) e d t h (whole (effect mode owner r d) (effects mode owner []) t t k refl)
 
 abbrev HasEffects : FileContext → List oracle.CommandWords → Type 0

@@ -1,7 +1,7 @@
-mod Bound
+pub mod Bound
 mod FileEnds
 mod OneFile
-mod HasEffects
+pub mod HasEffects
 mod WholeFiles
 mod Showing
 mod PlayedFiles

@@ -8,38 +8,17 @@ use Rattle.envvars.proofs.ChangeLemmas.{applied-changes}
 use Rattle.modulerecords.specs.Records as records
 use Rattle.modulerecords.specs.Effects as effects
 use Rattle.modulerecords.specs.Effects.{effect, effects}
-use Rattle.modulerecords.proofs.Effected.{whole, effects_go_on}
+use Rattle.modulefile.proofs.Bound.{bind_ok}
+use Rattle.modulefile.proofs.HasEffects.{records_more, effects_more}
 use Rattle.modulefile.specs.declared.records.Mode.{Mode}
 use Rattle.modulefile.specs.declared.records.Record.{Record}
 use Rattle.modulefile.specs.declared.record_fault.RecordFault.{RecordFault}
-use Rattle.modulefile.specs.Results.{◌>>=◌}
 use Rattle.modulefile.specs.Calls.{adds_record, call_of}
 use Rattle.modulefile.specs.RecordViews.{mode_view, record_view, fault_reason}
 use Rattle.modulerun.specs.RecordAnswers.{IsEdited}
 use Rattle.modulefile.specs.Answers.{record_of, records_in, record_outcome, or_before}
 use Rattle.modulerun.specs.declared.accepted.AcceptedCommand.{AcceptedCommand}
 use Rattle.modulerun.specs.Journals.{environment_so_far, words_in, words_of, records_of, IsJournal, AddsCommand}
-
-bind_ok : {A B R : Type 0} (r : Result A R) (f : A → Result B R) (a : A) (b : B) → r ≡ Ok a → f a ≡ Ok b → (r >>= f) ≡ Ok b
-bind_ok r f a b e h = subst (λ x. (x >>= f) ≡ Ok b) (sym e) h
-
-bound : {A B R : Type 0} (r : Result A R) (f : A → Result B R) (b : B) → (r >>= f) ≡ Ok b → (a : A) × (r ≡ Ok a) × (f a ≡ Ok b)
-bound (Ok a) f b h = (a, refl, h)
-bound (Err e) f b h = absurd (cc)
-
-records_more : (ws : List (List Text)) (words : List Text) (ys : List records.Record) (r : records.Record) → records_in ws ≡ Ok ys → (call_of words >>= record_of) ≡ Ok r → records_in (ws ++ words ∷ []) ≡ Ok (ys ++ r ∷ [])
-records_more [] words ys r h k =
-    let e : ys ≡ [] = cc in
-    bind_ok (call_of words >>= record_of) (λ x. records_in [] >>= (λ xs. Ok (x ∷ xs))) r (ys ++ r ∷ []) k (ap (λ zs. Ok (zs ++ r ∷ [])) (sym e))
-records_more (v ∷ ws) words ys r h k =
-    let b = bound (call_of v >>= record_of) (λ x. records_in ws >>= (λ xs. Ok (x ∷ xs))) ys h in
-    let d = bound (records_in ws) (λ xs. Ok (b.0 ∷ xs)) ys b.2 in
-    let e : b.0 ∷ d.0 ≡ ys = cc in
-    bind_ok (call_of v >>= record_of) (λ x. records_in (ws ++ words ∷ []) >>= (λ xs. Ok (x ∷ xs))) b.0 (ys ++ r ∷ []) b.1
-    (bind_ok (records_in (ws ++ words ∷ [])) (λ xs. Ok (b.0 ∷ xs)) (d.0 ++ r ∷ []) (ys ++ r ∷ []) (records_more ws words d.0 r d.1 k) (ap (λ zs. Ok (zs ++ r ∷ [])) e))
-
-effects_more : (mode : effects.Mode) (module_name : Text) (ys : List records.Record) (r : records.Record) (e d t : Environment) → effects mode module_name ys e ≡ Ok d → effect mode module_name r d ≡ Ok t → effects mode module_name (ys ++ r ∷ []) e ≡ Ok t
-effects_more mode module_name ys r e d t h k = effects_go_on mode module_name ys (r ∷ []) e d t h (whole (effect mode module_name r d) (effects mode module_name []) t t k refl)
 
 -- what the file finds is the environment that is recorded
 pub environment_recorded : (mode : Mode) (module_name : Text) (before now : Environment) (entries : List AcceptedCommand) → IsJournal (mode_view mode) module_name before now entries → environment_so_far (record { mode = mode; module_name = module_name; before = before; words = words_of entries }) ≡ now
