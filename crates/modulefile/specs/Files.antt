@@ -13,7 +13,6 @@ use Rattle.tclrules.specs.Meaning.{Setting, EvaluatesTo, line_at, play_file}
 use Rattle.tclrules.specs.declared.limits.Limits.{Limits}
 use Rattle.modulerecords.specs.Records.{Record}
 use Rattle.modulerecords.specs.Effects.{effects}
-use Rattle.modulerecords.specs.Moves.{Module}
 use Rattle.modulefile.specs.Results.{◌>>=◌}
 use Rattle.modulefile.specs.Calls.{CallReason}
 use Rattle.modulefile.specs.Answers.{FileContext, records_in, record_outcome, oracle_of}
@@ -78,10 +77,6 @@ abbrev pub RunsFile : Limits → FileContext → Text → Result Ran FileReason 
 RunsFile limits c text o =
     (out : EvaluationOutcome Completion) × (w : World) × EvaluatesTo (setting_of limits c text) out w
     × FinishesFile c text out w.trace o
-
--- the module that a file makes
-abbrev pub module_of : FileContext → Ran → Module
-module_of c ran = record { name = c.name; path = c.path; records = ran.records }
 
 -- the numbers by which files are refused
 abbrev pub halt_number : Halt → ℕ

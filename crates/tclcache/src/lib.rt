@@ -1,10 +1,10 @@
-//! A cache of parsed texts: scripts and expressions with their trees, so that nothing is parsed twice.
+//! `Kept`, the parsed texts: scripts and expressions with their trees, so that nothing is parsed twice.
 //! Takes memory and touches nothing else.
 //! Used by tclevaluator, which hands it on to tcleval.
 #![tactic(auto)]
 
-mod cache;
+mod kept;
 mod parsed;
 mod texts;
 
-pub use cache::Cache;
+pub use kept::Kept;

@@ -8,7 +8,7 @@ ghost use Rattle.tclrules.specs.Rules.{rule, file_ended};
 ghost use Rattle.tclrules.specs.Meaning.{line_at};
 ghost use Rattle.tclrules.specs.Promise.{Evaluates, texts_of};
 ghost use Rattle.tclevaluator.specs.Machine.{range_text};
-ghost use Rattle.tclevaluator.specs.Cache.{BeginWith};
+ghost use Rattle.tclevaluator.specs.Kept.{BeginWith};
 ghost use Rattle.tclevaluator.specs.Continues.{Continues, bounds_of};
 ghost use Rattle.tclevaluator.specs.OnlyGrows.{OnlyGrows};
 ghost use Rattle.tclevaluator.specs.Completions.{finish, completed};
@@ -17,7 +17,7 @@ ghost use Rattle.tcleval.specs.Files.{after_file, ReportsFailure, AnswersFile};
 use std::alloc::Global;
 use std::mem;
 use tclevaluator::{
-    Bounds, Cache, Evaluator, ResultUse, Sourced, Stop, Variables, initial_variables,
+    Bounds, Evaluator, Kept, ResultUse, Sourced, Stop, Variables, initial_variables,
 };
 use tclrules::{Ending, EvalFault, Host, Limits};
 use tclscript::{ByteRange, Script};
@@ -166,7 +166,7 @@ fn file_answer(
 #[tactic(none)]
 pub fn evaluate_with<H: Host>(
     alloc: Global,
-    cache: &mut Cache,
+    cache: &mut Kept,
     script: &str,
     globals: Vec<(String, String)>,
     host: &mut H,
@@ -180,7 +180,7 @@ pub fn evaluate_with<H: Host>(
     let variables = initial_variables(alloc, host.reserved(), globals)?;
     let mut evaluator = Evaluator {
         alloc,
-        cache: mem::replace(cache, Cache::new(alloc)),
+        cache: mem::replace(cache, Kept::new(alloc)),
         variables,
         used: 0,
     };
@@ -220,6 +220,6 @@ pub fn evaluate<H: Host>(
         result (H.trace host.new) }
     ensures same { H.oracle host.new ≡ H.oracle host.old }
 {
-    let mut cache = Cache::new(alloc);
+    let mut cache = Kept::new(alloc);
     evaluate_with(alloc, &mut cache, script, globals, host, limits)
 }

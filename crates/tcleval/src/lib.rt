@@ -6,5 +6,5 @@
 mod file;
 
 pub use file::{evaluate, evaluate_with};
-pub use tclevaluator::Cache;
+pub use tclevaluator::Kept;
 pub use tclrules::{Ending, EvalFault, Host, HostAnswer, Limits};

@@ -39,7 +39,7 @@ use Rattle.tclcontrol.specs.declared.result_use.ResultUse.{ResultUse}
 use Rattle.tclcontrol.specs.declared.result_use.ResultUse.TheVariants.{Needed, Dropped}
 use Rattle.tclcontrol.specs.Completions.{EvaluatesToText, finish, sized_next, completed}
 use Rattle.tclcache.specs.Trees.{BeginsWith}
-use Rattle.tclcache.specs.Cache.{Cache, BeginWith}
+use Rattle.tclcache.specs.Kept.{Kept, BeginWith}
 use Rattle.tclevaluator.specs.OnlyGrows.{OnlyGrows}
 use Rattle.tclevaluator.specs.declared.evaluator.Evaluator.{Evaluator}
 
@@ -175,7 +175,7 @@ begins_refl {A} {xs} = ([], sym (append-nil xs))
 begins_on : {A : Type 0} (xs ys zs : List A) → BeginsWith xs ys → BeginsWith ys zs → BeginsWith xs zs
 begins_on xs ys zs a b = (a.0 ++ b.0, b.1 ∙ ap (λ l. l ++ b.0) a.1 ∙ append_assoc xs a.0 b.0)
 
-begin_with_on : (a b c : Cache) → BeginWith a b → BeginWith b c → BeginWith a c
+begin_with_on : (a b c : Kept) → BeginWith a b → BeginWith b c → BeginWith a c
 begin_with_on a b c h k = (begins_on a.scripts b.scripts c.scripts h.0 k.0, begins_on a.expressions b.expressions c.expressions h.1 k.1)
 
 pub later_still : {a b : Evaluator} → b.used ≡ a.used → b.cache ≡ a.cache → OnlyGrows a b

@@ -5,4 +5,4 @@ pub mod LoopBodies
 pub use Rattle.tclcontrol.specs.Completions
 pub use Rattle.tclsubstitution.specs.Machine
 pub use Rattle.tclsubstitution.specs.Stops
-pub use Rattle.tclcache.specs.Cache
+pub use Rattle.tclcache.specs.Kept

@@ -14,7 +14,7 @@ ghost use Rattle.tclsubstitution.specs.Stop.TheVariants.{Fault};
 ghost use Rattle.tclrules.specs.declared.outcome.EvalFault.TheVariants.{TooManyCommands};
 
 use std::alloc::Global;
-use tclcache::Cache;
+use tclcache::Kept;
 use tclcontrol::Variables;
 use tclexpr::OwnedExpr;
 use tcloperators::Computed;
@@ -27,7 +27,7 @@ pub struct Evaluator {
     /// The allocator.
     pub alloc: Global,
     /// The trees of texts that were parsed before.
-    pub cache: Cache,
+    pub cache: Kept,
     /// The variables and procedures, and the byte offset of the file's current command.
     pub variables: Variables,
     /// How many commands and turns of loops were counted.

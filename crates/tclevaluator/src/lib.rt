@@ -16,6 +16,6 @@ mod words;
 pub use bounds::Bounds;
 pub use evaluator::Evaluator;
 pub use sourced::Sourced;
-pub use tclcache::Cache;
+pub use tclcache::Kept;
 pub use tclcontrol::{ResultUse, Variables, initial_variables};
 pub use tclsubstitution::Stop;

@@ -11,12 +11,12 @@ ghost use Rattle.tclchars.specs.Runs.{begins, take_while};
 ghost use Rattle.tclexpr.specs.UnsupportedSyntax.{begins_power, is_letter, is_operator_word, names_function, unsupported_at};
 ghost use Rattle.tclchars.specs.Classes.{is_name, begins_in};
 ghost use Rattle.tclrules.specs.Expressions.{fault_of, parsed, normal};
-ghost use Rattle.tclcache.specs.Cache.{BeginWith};
+ghost use Rattle.tclcache.specs.Kept.{BeginWith};
 ghost use Rattle.tclcontrol.specs.Completions.{IsExpressionFault, value_fault};
 
 use std::alloc::{AllocError, Global};
 use std::rc::Rc;
-use tclcache::Cache;
+use tclcache::Kept;
 use tclchars::{Class, TextFault, split_run};
 use tclexpr::OwnedExpr;
 use tclnumber::{Numeral, read_number};
@@ -130,7 +130,7 @@ fn expression_fault(alloc: Global, text: &str, fault: TextFault) -> ValueFault
 /// fault of the text; `OutOfMemory`.
 pub(crate) fn expression_tree(
     alloc: Global,
-    cache: &mut Cache,
+    cache: &mut Kept,
     text: &str,
 ) -> Result<Rc<OwnedExpr>, ValueFault>
     ensures tree { Gives reason_of (λ o. expressions.owned_view o.value) result (parsed text.now (expr_of text.now)) }

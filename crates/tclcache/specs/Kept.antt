@@ -14,15 +14,15 @@ use Rattle.tclexpr.specs.declared.owned.OwnedExpr.{OwnedExpr}
 use Rattle.tclcache.specs.Trees.{Trees, AreLimited, BeginsWith, IsTreeOfText, map_trees}
 
 -- the scripts and expressions that were parsed, with the trees of the program
-pub record Cache : Type 0 where
+pub record Kept : Type 0 where
   pub scripts : Trees OwnedScript
   pub expressions : Trees OwnedExpr
 
 -- the scripts, and the expressions, with what their trees stand for in the grammar
-abbrev pub scripts_of : Cache → Trees Commands
+abbrev pub scripts_of : Kept → Trees Commands
 scripts_of k = map_trees script.owned_view k.scripts
 
-abbrev pub expressions_of : Cache → Trees (Expr Operand)
+abbrev pub expressions_of : Kept → Trees (Expr Operand)
 expressions_of k = map_trees expression.owned_view k.expressions
 
 -- the tree was parsed from this text, and stands for the tree that the grammar has for it
@@ -33,12 +33,12 @@ abbrev pub IsCachedExpression : Text × OwnedExpr → Type 0
 IsCachedExpression = IsTreeOfText (λ tree. string_bytes tree.text) expression.owned_view expr_of
 
 -- the cache is right: distinct texts within the limits, each with its own tree
-pub record IsValidCache (k : Cache) : Type 0 where
+pub record IsValidKept (k : Kept) : Type 0 where
   pub scripts_limited : AreLimited k.scripts
   pub expressions_limited : AreLimited k.expressions
   pub scripts_own : All IsCachedScript k.scripts
   pub expressions_own : All IsCachedExpression k.expressions
 
 -- the second cache has all of the first, in the same order, and perhaps more after it
-abbrev pub BeginWith : Cache → Cache → Type 0
+abbrev pub BeginWith : Kept → Kept → Type 0
 BeginWith old new = BeginsWith old.scripts new.scripts × BeginsWith old.expressions new.expressions

@@ -6,7 +6,7 @@ ghost use Rattle.tclscript.specs.Owned as script;
 ghost use Rattle.tclexpr.specs.Text.{expr_of};
 ghost use Rattle.tclexpr.specs.Owned as expression;
 ghost use Rattle.tclcache.specs.Trees.{AnswersIndex, CachesTree};
-ghost use Rattle.tclcache.specs.Cache.{IsValidCache, BeginWith, scripts_of, expressions_of};
+ghost use Rattle.tclcache.specs.Kept.{IsValidKept, BeginWith, scripts_of, expressions_of};
 
 use crate::texts::Texts;
 use std::alloc::Global;
@@ -19,18 +19,18 @@ use tclscript::OwnedScript;
 /// Texts that were evaluated as scripts, and texts that were evaluated as expressions, each with its tree: of each kind
 /// at most 1,024 texts, of at most 8,388,608 bytes together. Nothing is ever dropped.
 #[derive(Drop)]
-pub struct Cache {
+pub struct Kept {
     scripts: Texts<OwnedScript>,
     expressions: Texts<OwnedExpr>,
 }
 
-impl Model for Cache {
-    ghost use Rattle.tclcache.specs.Cache as trees;
+impl Model for Kept {
+    ghost use Rattle.tclcache.specs.Kept as trees;
     ghost use Rattle.std.specs.Coded.{codes};
     ghost use Rattle.tclscript.specs.contracts.owned.OwnedScript as owned_script;
     ghost use Rattle.tclexpr.specs.contracts.owned.OwnedExpr as owned_expr;
 
-    ghost Value = { trees.Cache };
+    ghost Value = { trees.Kept };
 
     ghost coded = { Prim.hlevel (codes, owned_script.the_row.coded, owned_expr.the_row.coded) };
 
@@ -41,14 +41,14 @@ impl Model for Cache {
     ghost invariant = { IsSound };
 }
 
-impl Cache {
+impl Kept {
     /// The empty cache.
-    pub fn new(alloc: Global) -> Cache
+    pub fn new(alloc: Global) -> Kept
         ensures scripts { result.scripts ≡ [] }
         ensures expressions { result.expressions ≡ [] }
-        ensures valid { IsValidCache result }
+        ensures valid { IsValidKept result }
     {
-        Cache {
+        Kept {
             scripts: Texts::new(alloc),
             expressions: Texts::new(alloc),
         }
@@ -63,7 +63,7 @@ impl Cache {
         ensures others { self.new.expressions ≡ self.old.expressions }
         ensures begins { BeginWith self.old self.new }
         ensures err { OnErr result (self.new ≡ self.old) }
-        ensures valid { IsValidCache self.new }
+        ensures valid { IsValidKept self.new }
     {
         self.scripts.cached_index(text)
     }
@@ -79,7 +79,7 @@ impl Cache {
         ensures others { self.new.expressions ≡ self.old.expressions }
         ensures begins { BeginWith self.old self.new }
         ensures err { OnErr result (self.new ≡ self.old) }
-        ensures valid { IsValidCache self.new }
+        ensures valid { IsValidKept self.new }
     {
         self.scripts.tree(text)
     }
@@ -93,7 +93,7 @@ impl Cache {
         ensures others { self.new.scripts ≡ self.old.scripts }
         ensures begins { BeginWith self.old self.new }
         ensures err { OnErr result (self.new ≡ self.old) }
-        ensures valid { IsValidCache self.new }
+        ensures valid { IsValidKept self.new }
     {
         self.expressions.cached_index(text)
     }
@@ -110,7 +110,7 @@ impl Cache {
         ensures others { self.new.scripts ≡ self.old.scripts }
         ensures begins { BeginWith self.old self.new }
         ensures err { OnErr result (self.new ≡ self.old) }
-        ensures valid { IsValidCache self.new }
+        ensures valid { IsValidKept self.new }
     {
         self.expressions.tree(text)
     }
