@@ -84,12 +84,22 @@ abbrev pub FailsAt : {T E : Type 0} → (E → Bool) → (List ℕ → Bool) →
 FailsAt is_failure before now (Ok x) Where = now ≡ before
 FailsAt is_failure before now (Err e) Where = FailsIf (is_failure e) before now Where
 
+-- By the paths with failures before and after several calls: each new one has the property.
+abbrev pub FailsOnlyWhere : (List ℕ → Bool) → (List ℕ → Bool) → (List ℕ → Type 0) → Type 0
+FailsOnlyWhere before now Where = (path : List ℕ) → now path ≡ true → (before path ≡ true) ⊎ Where path
+
 -- Such a call failed at a path that it looks at, by each pair of maps that agrees with the tree after it.
 abbrev pub FailsWhere : {T X E : Type 0} → (E → Bool) → (T → Files → Listings → Type 0) → (T → List ℕ → Bool) → T → T
     → Result X E → (Files → Listings → List ℕ → Type 0) → Type 0
 FailsWhere is_failure agrees failed old new result LooksAt =
     FailsAt is_failure (failed old) (failed new) result (λ at.
     InEachPair (agrees new) (λ files listings. LooksAt files listings at))
+
+-- Several calls failed only at paths that they look at, by each pair of maps that agrees with the tree after them.
+abbrev pub FailsOnlyAt : {T : Type 0} → (T → Files → Listings → Type 0) → (T → List ℕ → Bool) → T → T
+    → (Files → Listings → List ℕ → Type 0) → Type 0
+FailsOnlyAt agrees failed old new LooksAt =
+    FailsOnlyWhere (failed old) (failed new) (λ at. InEachPair (agrees new) (λ files listings. LooksAt files listings at))
 
 -- the number of each fault
 abbrev pub tree_number : TreeFault → ℕ

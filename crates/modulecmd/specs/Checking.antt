@@ -9,10 +9,12 @@ use Rattle.filetree.specs.Agreement.{Files, Listings}
 use Rattle.processinput.specs.declared.input.InputFault.{InputFault}
 use Rattle.processinput.specs.Inputs.{ReadsAll, FailsAfterReading, input_limit}
 use Rattle.requests.specs.Reasons.{bad_arguments}
+use Rattle.requests.specs.Steps.{request_context_in}
 use Rattle.shells.specs.declared.shell.Shell.{Shell}
 use Rattle.shells.specs.Shells.{shell_named}
 use Rattle.shelltext.specs.Reading.{SaysDifference}
-use Rattle.sessioncheck.specs.Checks.{IsCheck, all_accepted}
+use Rattle.sessioncheck.specs.Checks.{CheckLooksAt, IsCheck, all_accepted}
+use Rattle.sessioncheck.specs.Lines.{lines_in}
 use Rattle.sessioncheck.specs.Reports.{report_of}
 use Rattle.sessioncheck.specs.declared.checking.Findings.{Findings}
 use Rattle.modulecmd.specs.declared.checking.CheckExit.{CheckExit}
@@ -45,6 +47,12 @@ pub record ChecksInput (agrees : Files → Listings → Type 0) (before now : �
   pub within : length text ≤ input_limit
   pub readable : is_utf8 text ≡ true
   pub check : IsCheck agrees before now standard shell e text found
+
+-- The check of all that the input gives looks at this path.
+abbrev pub CheckOfInputLooksAt : List Text → Option Text → Option Text → Environment → Files → Listings → Text → Type 0
+CheckOfInputLooksAt arguments input input' e files listings at =
+    (shell : Shell) × (text : Text) × (shell_of arguments ≡ Ok shell) × ReadsAll input input' text
+    × CheckLooksAt (request_context_in standard shell files listings) e (lines_in text) at
 
 -- how the writing ended
 abbrev pub writing_of : CheckExit → Exit

@@ -9,6 +9,7 @@ use Rattle.shells.specs.Shells.{shell_named}
 use Rattle.shelltext.specs.declared.print.PrintFault.TheVariants as prints
 use Rattle.shelltext.specs.Printing.{print_fault_number}
 use Rattle.tclrules.specs.declared.limits.Limits.{Limits}
+use Rattle.requests.specs.Looked.{RequestLooksAt}
 use Rattle.requests.specs.Reasons as requests
 use Rattle.requests.specs.Reasons.{RequestReason, bad_arguments}
 use Rattle.requests.specs.Requests.{RequestedAction, Request, request_of}
@@ -68,6 +69,12 @@ RequestHasEffect r e files listings o =
 -- The effect of a command with these arguments, or its reason, in this environment and over these files and directories.
 abbrev pub CommandHasResult : List Text → Environment → Files → Listings → Result CommandResult CommandReason → Type 0
 CommandHasResult arguments e files listings = Is (command_of arguments) >> (λ r. RequestHasEffect r e files listings)
+
+-- The request of these arguments looks at this path.
+abbrev pub CommandLooksAt : List Text → Environment → Files → Listings → Text → Type 0
+CommandLooksAt arguments e files listings at =
+    (r : Request) × (command_of arguments ≡ Ok r)
+    × RequestLooksAt (request_context_in standard r.0 files listings) e r.1 at
 
 -- The cause of a refusal: memory is wanting, a device has failed, the changes have no text, or the command has a
 -- reason.

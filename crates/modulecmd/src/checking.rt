@@ -1,8 +1,8 @@
 //! Runs a check (modcheck(1)): the lines of an input, what their requests would change, and the verdicts on modules.
 ghost use Rattle.std.specs.Prelude.{◌≡◌, map, Ok, Err, IfOk, IfErr, string_bytes};
-ghost use Rattle.filetree.specs.Agreement.{ReadsOn};
+ghost use Rattle.filetree.specs.Agreement.{FailsOnlyAt, ReadsOn};
 ghost use Rattle.modulecmd.specs.Checking as spec;
-ghost use Rattle.modulecmd.specs.Checking.{EndsCheck, IsCheckFault, check_status};
+ghost use Rattle.modulecmd.specs.Checking.{CheckOfInputLooksAt, EndsCheck, IsCheckFault, check_status};
 ghost use Rattle.modulecmd.specs.CheckWords.{IsPreparedCheck, exit_of};
 ghost use Rattle.modulecmd.specs.Command.{IsCausedBy};
 ghost use Rattle.modulecmd.specs.declared.checking.CheckExit.{CheckExit};
@@ -85,6 +85,8 @@ fn answer_of<T: Tree, R: Read>(
         env.now (map string_bytes args.now) (R.remaining input.old) (R.remaining input.new)) }
     ensures refused { IfErr result (IsCheckFault (T.agrees tree.new) (T.failures tree.old) (T.failures tree.new)
         env.now (map string_bytes args.now) (R.remaining input.old) (R.remaining input.new)) }
+    ensures failed { FailsOnlyAt T.agrees T.failed tree.old tree.new
+        (CheckOfInputLooksAt (map string_bytes args.now) (R.remaining input.old) (R.remaining input.new) env.now) }
 {
     let shell = shell_of(args)?;
     let lines = read_input(alloc, input)?;
@@ -119,7 +121,9 @@ fn exit_of(exit: Exit, is_accepted: bool) -> CheckExit
 /// first environment. Then the text goes to standard output that says, as the shell reads it, what changed from the
 /// first environment to the last (62).
 ///
-/// Where there is a fault before all that is made, nothing is written but the line that says why, to standard error.
+/// The device failed only at paths that the check looks at: those of its lines, and of the searches for the modules that
+/// it judges. Where there is a fault before all that is made, nothing is written but the line that says why, to
+/// standard error.
 pub fn run_check<T: Tree, R: Read, W: Write, E: Write>(
     alloc: Global,
     args: &[String],
@@ -133,6 +137,8 @@ pub fn run_check<T: Tree, R: Read, W: Write, E: Write>(
     ensures ended { EndsCheck result (T.agrees tree.new) (T.failures tree.old) (T.failures tree.new) env
         (map string_bytes args.now) (R.remaining input.old) (R.remaining input.new)
         (W.contents out.old) (W.contents out.new) (E.contents err.old) (E.contents err.new) }
+    ensures failed { FailsOnlyAt T.agrees T.failed tree.old tree.new
+        (CheckOfInputLooksAt (map string_bytes args.now) (R.remaining input.old) (R.remaining input.new) env) }
 {
     match answer_of(alloc, args, input, &env, tree) {
         Ok(answer) => {
@@ -158,6 +164,8 @@ pub fn modcheck<T: Tree, R: Read, W: Write, E: Write>(
         × EndsCheck exit (T.agrees tree.new) (T.failures tree.old) (T.failures tree.new) env
         (map string_bytes args.now) (R.remaining input.old) (R.remaining input.new)
         (W.contents out.old) (W.contents out.new) (E.contents err.old) (E.contents err.new) }
+    ensures failed { FailsOnlyAt T.agrees T.failed tree.old tree.new
+        (CheckOfInputLooksAt (map string_bytes args.now) (R.remaining input.old) (R.remaining input.new) env) }
 {
     run_check(alloc, args, input, env, tree, out, err).status()
 }

@@ -1,10 +1,10 @@
 //! Runs one command: the words of a command line in, the text for the shell and the messages out.
 ghost use Rattle.std.specs.Prelude.{◌≡◌, ◌<◌, map, Ok, Err, IfOk, IfErr, string_bytes};
-ghost use Rattle.filetree.specs.Agreement.{ReadsOn};
+ghost use Rattle.filetree.specs.Agreement.{FailsOnlyAt, ReadsOn};
 ghost use Rattle.requests.specs.RequestViews.{request_view};
 ghost use Rattle.modulecmd.specs.declared.command_exit.Exit.{Exit};
 ghost use Rattle.modulecmd.specs.Command as spec;
-ghost use Rattle.modulecmd.specs.Command.{CommandHasResult, IsCausedBy};
+ghost use Rattle.modulecmd.specs.Command.{CommandHasResult, CommandLooksAt, IsCausedBy};
 ghost use Rattle.modulecmd.specs.Output.{EndsCommand, IsPrepared, IsCaused, status_of};
 ghost use Rattle.modulecmd.specs.Words.{effect_in};
 
@@ -66,6 +66,8 @@ fn answer_of<T: Tree>(
         (string_bytes a.text)) }
     ensures refused { IfErr result (IsCaused (T.agrees tree.new) (T.failures tree.old < T.failures tree.new)
         env.now (CommandHasResult (map string_bytes args.now) env.now)) }
+    ensures failed { FailsOnlyAt T.agrees T.failed tree.old tree.new
+        (CommandLooksAt (map string_bytes args.now) env.now) }
 {
     requests::command_returns();
     shelltext::laws::one_effect();
@@ -92,8 +94,8 @@ fn answer_of<T: Tree>(
 /// records of its load; and with no module live it is the start.
 ///
 /// A refused command writes nothing but the line that says why, to standard error. It is refused as the arguments or
-/// the step are, or for want of memory, by 43 where the device failed in this call, or by 62 where the changes have no
-/// text in the shell. Where a write to standard error fails (64), the first part of the messages and the report is
+/// the step are, or for want of memory, by 43 where the device failed in this call, at a path that the request looks
+/// at, or by 62 where the changes have no text in the shell. Where a write to standard error fails (64), the first part of the messages and the report is
 /// there, not all, and nothing has gone to standard output; where one to standard output fails, the first part of the
 /// text is there, not all. Then the line that says so follows on standard error.
 pub fn run_command<T: Tree, W: Write, E: Write>(
@@ -108,6 +110,8 @@ pub fn run_command<T: Tree, W: Write, E: Write>(
     ensures ended { EndsCommand result (T.agrees tree.new) (T.failures tree.old < T.failures tree.new)
         env (CommandHasResult (map string_bytes args.now) env)
         (W.contents out.old) (W.contents out.new) (E.contents err.old) (E.contents err.new) }
+    ensures failed { FailsOnlyAt T.agrees T.failed tree.old tree.new
+        (CommandLooksAt (map string_bytes args.now) env) }
 {
     match answer_of(alloc, args, &env, tree) {
         Ok(answer) => finish(
@@ -135,6 +139,8 @@ pub fn modulecmd<T: Tree, W: Write, E: Write>(
         × EndsCommand exit (T.agrees tree.new) (T.failures tree.old < T.failures tree.new)
         env (CommandHasResult (map string_bytes args.now) env)
         (W.contents out.old) (W.contents out.new) (E.contents err.old) (E.contents err.new) }
+    ensures failed { FailsOnlyAt T.agrees T.failed tree.old tree.new
+        (CommandLooksAt (map string_bytes args.now) env) }
 {
     run_command(alloc, args, env, tree, out, err).status()
 }

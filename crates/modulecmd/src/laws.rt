@@ -14,7 +14,7 @@ pub fn one_command()
 /// From a start in order, a shell that ran the text of each accepted command, whatever commands they were and whatever
 /// stood between that was refused, holds an environment that is in order and is the start with the live modules layered
 /// on it; with no module live it is the start. The commands are of new modules that are reversible and apart, over one
-/// tree.
+/// tree: files stay, and where MODULEPATH has relative directories, the working directory stays too.
 pub fn commands_return()
     ensures { ShellsReturn }
 {

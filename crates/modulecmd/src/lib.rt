@@ -25,8 +25,9 @@ pub use filetree::{DiskTree, MemoryTree, Seen, Tree, TreeFault};
 pub use laws::{commands_return, one_command, site_commands_return};
 pub use lookup::{FindFault, Found, Listing, available, locate, version_order};
 pub use modules::{
-    Action, Changed, Done, Limits, MissingNames, Module, Move, Outcome, Refusal, Reply, Request,
-    Verdict, request, run, run_changes, session, verdict,
+    Action, Changed, Done, EvalFault, Limits, MissingNames, Module, Move, Outcome, RecordFault,
+    Refusal, Reply, Request, RunFault, TextFault, Verdict, request, run, run_changes, session,
+    verdict,
 };
 pub use process::process_input;
 pub use processinput::{

@@ -1,7 +1,9 @@
 -- Sessions grow by one request at their end.
-use Rattle.std.proofs.Common.{◌≡◌, ℕ, true, ◌+◌, ◌≤◌, ◌<◌, List, [], ◌∷◌, ◌++◌, map, refl, sym, subst, ap, ◌∙◌, Ok, Err, append_assoc, append-nil, arith}
+use Rattle.std.proofs.Common.{◌≡◌, ℕ, true, ◌+◌, ◌≤◌, ◌<◌, List, [], ◌∷◌, ◌++◌, map, inl, inr, refl, sym, subst, ap, ◌∙◌, Ok, Err, append_assoc, append-nil, arith}
 use Rattle.envvars.specs.Environment.{Environment}
+use Rattle.envvars.specs.Texts.{Text}
 use Rattle.requests.specs.Laws.{SessionsReturn, StepsAreTheirMoves}
+use Rattle.requests.specs.Looked.{OneLooksAt}
 use Rattle.requests.specs.Reasons.{RequestReason}
 use Rattle.requests.specs.RequestViews.{request_view}
 use Rattle.requests.specs.Requests.{RequestedAction, Request}
@@ -142,3 +144,16 @@ session_done s start e rest all sofar none run =
     let Whole : List Response → Type 0 = λ x. Session s start all x in
     let Rest : List code.Request → Type 0 = λ rs. Session s e (map request_view rs) [] in
     subst Whole (append-nil sofar) (run [] (subst Rest (sym none) tt))
+
+-- ---- where several look, one after another
+
+-- the first of them
+pub looks_here : {R : Type 0} (Looks : Environment → R → Text → Type 0) (Has : Environment → R → Response → Type 0) (e : Environment) (whole : List R) (r : R) (rs : List R) (at : Text)
+    → whole ≡ r ∷ rs → Looks e r at → OneLooksAt Looks Has e whole at
+looks_here Looks Has e whole r rs at same h = subst (λ (all : List _). OneLooksAt Looks Has e all at) (sym same) (inl h)
+
+-- those after it, in the environment after its response
+pub looks_on : {R : Type 0} (Looks : Environment → R → Text → Type 0) (Has : Environment → R → Response → Type 0) (e new : Environment) (whole : List R) (r : R) (rs : List R) (o : Response) (at : Text)
+    → whole ≡ r ∷ rs → Has e r o → new ≡ env_after e o → OneLooksAt Looks Has new rs at → OneLooksAt Looks Has e whole at
+looks_on Looks Has e new whole r rs o at same has end h =
+    subst (λ (all : List _). OneLooksAt Looks Has e all at) (sym same) (inr (o, has, subst (λ (x : Environment). OneLooksAt Looks Has x rs at) end h))

@@ -10,6 +10,8 @@ mod sessions;
 
 pub use envvars::{Change, Env, EnvFault};
 pub use filetree::{FindFault, Tree, TreeFault};
+pub use modulefile::RecordFault;
+pub use modulerun::RunFault;
 pub use reply::{Changed, Reply};
 pub use request_words::request;
 pub use requests::{Action, Request};
@@ -17,4 +19,5 @@ pub use requeststep::{Done, MissingNames, Module, Move, Refusal, Verdict, verdic
 pub use running::{run, run_changes};
 pub use sessions::{Outcome, respond, session};
 pub use shells::Shell;
-pub use tclrules::Limits;
+pub use tclchars::TextFault;
+pub use tclrules::{EvalFault, Limits};

@@ -1,11 +1,11 @@
 //! Runs requests one after another, each with its outcome; a refused one changes nothing.
 ghost use Rattle.std.specs.Prelude.{◌≡◌, ◌<◌, ◌≤◌, ◌+◌, [], ◌∷◌, map, IfOk, IfErr, OnErr};
-ghost use Rattle.filetree.specs.Agreement.{FailsAt, FailsIf, InEachPair, Narrows, ReadsOn};
+ghost use Rattle.filetree.specs.Agreement.{FailsAt, FailsIf, FailsOnlyAt, InEachPair, Narrows, ReadsOn};
 ghost use Rattle.shells.specs.declared.shell.Shell.{Shell};
 ghost use Rattle.requests.specs.RequestViews.{action_view, request_view};
 ghost use Rattle.requests.specs.Sessions.{Session, IsResponse, env_after, end_environment};
 ghost use Rattle.requests.specs.Steps.{RequestStep, request_context_in};
-ghost use Rattle.requests.specs.Looked.{RequestLooksAt};
+ghost use Rattle.requests.specs.Looked.{RequestLooksAt, SessionLooksAt};
 ghost use Rattle.requeststep.specs.Answers.{StepAnswersOverTree, is_failure};
 ghost use Rattle.requeststep.specs.Views.{done_view};
 ghost use Rattle.requeststep.specs.Refusal.TheVariants as refusals;
@@ -92,12 +92,12 @@ pub fn respond<T: Tree>(
 /// results, with one outcome for each request. A refused request changes nothing, and the next is run.
 ///
 /// For every pair of maps that agrees with the tree, the outcomes are those of a session. No more of them are refused
-/// by 43 than the device failed.
+/// by 43 than the device failed, and it failed only at paths that a request of the session looks at.
 ///
 /// The session returns to its start where the environment is in order, no module is unloaded that was loaded in it, the
 /// modules that are loaded are reversible and apart, and each unload has the records of the load that it undoes. Then
 /// each environment of the session is in order and is the first one with the live modules layered on it, and with none
-/// live it is the first one again.
+/// live it is the first one again. The tree is one: relative paths mean the same throughout.
 ///
 /// Errors: want of memory for the list of outcomes (31).
 pub fn session<T: Tree>(
@@ -117,6 +117,8 @@ pub fn session<T: Tree>(
     ensures returns { IfOk result (λ p. InEachPair (T.agrees tree.new) (λ files listings.
         Returns env (responses env p.1.items))) }
     ensures only { IfErr result (λ refusal. refusal ≡ refusals.OutOfMemory) }
+    ensures failed { FailsOnlyAt T.agrees T.failed tree.old tree.new (λ files listings at. (shell : Shell)
+        → SessionLooksAt (request_context_in limits shell files listings) env (map request_view requests.now) at) }
 {
     requests::session_returns();
     let mut after = env;

@@ -1,11 +1,12 @@
 //! The verdict on the module that a name means: whether its file is plain.
-ghost use Rattle.std.specs.Prelude.{◌<◌, map, IfOk};
+ghost use Rattle.std.specs.Prelude.{◌<◌, [], ◌∷◌, map, IfOk, IfErr};
 ghost use Rattle.envloaded.specs.LoadedEntries.{entry_view};
 ghost use Rattle.filetree.specs.Agreement.{FailsAt, InEachPair, ReadsOn};
 ghost use Rattle.search.specs.Answers.{found_view};
 ghost use Rattle.requests.specs.Looked.{SearchLooksAt};
 ghost use Rattle.requests.specs.Verdicts.{HasVerdict};
 ghost use Rattle.modulestep.specs.Answers.{GivesOrRefuses, StepAnswersOverTree, is_failure};
+ghost use Rattle.modulestep.specs.Messages.{MemoryNumberAmong};
 ghost use Rattle.modulestep.specs.Parts.{TreeAnswer, JudgesFound};
 ghost use Rattle.modulestep.specs.Verdicts.{verdict_view, in_sh, PlainVerdictHolds};
 
@@ -90,6 +91,7 @@ pub fn verdict<T: Tree>(
     ensures failed { FailsAt is_failure (T.failed tree.old) (T.failed tree.new) result (λ at.
         InEachPair (T.agrees tree.new) (λ files listings.
         SearchLooksAt (in_sh limits files listings) env.now name.now at)) }
+    ensures out_of_memory { IfErr result (MemoryNumberAmong (11 ∷ 31 ∷ 41 ∷ [])) }
 {
     requests::verdicts();
     give_verdict(alloc, name, &mut Working::over(env), tree, limits)

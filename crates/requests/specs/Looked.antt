@@ -9,7 +9,8 @@ use Rattle.defaultfiles.specs.DefaultFileResults.{HasResult}
 use Rattle.modulerecords.specs.Effects as modes
 use Rattle.search.specs.Looked as search
 use Rattle.requests.specs.Reasons.{RequestReason}
-use Rattle.requests.specs.Requests.{RequestedAction, load, unload, switch, purge, list, avail, show, whatis}
+use Rattle.requests.specs.Requests.{Request, RequestedAction, load, unload, switch, purge, list, avail, show, whatis}
+use Rattle.requests.specs.Sessions.{Response, IsResponse, env_after, in_shell}
 use Rattle.requests.specs.Steps.{RequestContext, Done, nothing_done, entries_of, modulepath, last_meant, old_name}
 use Rattle.requests.specs.Steps.{LoadsName, UnloadsName, ShowsName, shown_text, described_text}
 
@@ -74,3 +75,21 @@ RequestLooksAt s e (show names) at =
     EachLooksAt (ShowsName s modes.display shown_text) (ShowLooksAt s) names (nothing_done e) at
 RequestLooksAt s e (whatis names) at =
     EachLooksAt (ShowsName s modes.whatis described_text) (ShowLooksAt s) names (nothing_done e) at
+
+-- One of several looks at this path, in the environment after the responses to those before it.
+abbrev pub OneLooksAt : {R : Type 0} → (Environment → R → Text → Type 0) → (Environment → R → Response → Type 0)
+    → Environment → List R → Text → Type 0
+OneLooksAt Looks Has e [] at = ⊥
+OneLooksAt Looks Has e (r ∷ rs) at =
+    Looks e r at ⊎ ((o : Response) × Has e r o × OneLooksAt Looks Has (env_after e o) rs at)
+
+-- a request in its own shell: where it looks, and a response that it has
+abbrev pub OwnLooksAt : RequestContext → Environment → Request → Text → Type 0
+OwnLooksAt s e r at = RequestLooksAt (in_shell s r.0) e r.1 at
+
+abbrev pub IsOwnResponse : RequestContext → Environment → Request → Response → Type 0
+IsOwnResponse s e r o = IsResponse (in_shell s r.0) e r.1 o
+
+-- A request of a session looks at this path.
+abbrev pub SessionLooksAt : RequestContext → Environment → List Request → Text → Type 0
+SessionLooksAt s e rs at = OneLooksAt (OwnLooksAt s) (IsOwnResponse s) e rs at

@@ -1,20 +1,22 @@
 -- A check, of the session of its lines and the verdicts on what that loaded.
-use Rattle.std.proofs.Common.{◌≡◌, ℕ, ◌+◌, ◌<◌, ◌≤◌, List, arith, sym, subst, ap, ◌∙◌}
+use Rattle.std.proofs.Common.{◌≡◌, ℕ, ◌+◌, ◌<◌, ◌≤◌, List, arith, inl, inr, sym, subst, ap, ◌∙◌}
 use Rattle.std.specs.List.{flat_map}
 use Rattle.envvars.specs.Texts.{Text}
 use Rattle.envvars.specs.Environment.{Environment}
 use Rattle.envvars.specs.Fields.{without_repeats}
 use Rattle.filetree.specs.Agreement.{Files, Listings, InEachPair, Narrows}
 use Rattle.shells.specs.declared.shell.Shell.{Shell}
+use Rattle.shells.specs.declared.shell.Shell.TheVariants.{Sh}
 use Rattle.tclrules.specs.declared.limits.Limits.{Limits}
-use Rattle.requests.specs.Sessions.{end_environment}
-use Rattle.requests.specs.Steps.{request_context_in}
+use Rattle.requests.specs.Sessions.{end_environment, in_shell}
+use Rattle.requests.specs.Steps.{RequestContext, request_context_in}
 use Rattle.modules.specs.Responses.{count_failed, responses}
-use Rattle.sessioncheck.specs.Checks.{IsCheck}
-use Rattle.sessioncheck.specs.Judgments.{AreJudgments, count_failed_judgments}
+use Rattle.modules.specs.declared.sessions.Outcome.{Outcome}
+use Rattle.sessioncheck.specs.Checks.{CheckLooksAt, IsCheck}
+use Rattle.sessioncheck.specs.Judgments.{AreJudgments, NamesLookAt, count_failed_judgments}
 use Rattle.sessioncheck.specs.Lines.{lines_in}
 use Rattle.sessioncheck.specs.Parts.{loaded_in}
-use Rattle.sessioncheck.specs.Sessions.{LineSession}
+use Rattle.sessioncheck.specs.Sessions.{LineSession, LinesLookAt}
 use Rattle.sessioncheck.specs.declared.checking.Findings.{Findings}
 use Rattle.sessioncheck.proofs.JudgmentLemmas.{counts, judgments_narrowed, names_of_responses}
 
@@ -44,3 +46,19 @@ checked agrees agrees' before mid now limits shell e from text lines names f nar
       (λ h. failed_before before mid now (count_failed f.outcomes.items) ran_count h) judged);
   failures = counts before mid now (count_failed f.outcomes.items) (count_failed_judgments f.judgments.items) ran_count judged_count;
 }
+
+-- ---- where a check looks
+
+pub looks_by_lines : (s : RequestContext) (from e : Environment) (lines lines' : List (List Text)) (at : Text) → from ≡ e → lines ≡ lines' → LinesLookAt s from lines at → CheckLooksAt s e lines' at
+looks_by_lines s from e lines lines' at same made h =
+    let P : List (List Text) → Type 0 = λ xs. LinesLookAt s from xs at in
+    let Q : Environment → Type 0 = λ x. LinesLookAt s x lines' at in
+    inl (subst Q same (subst P made h))
+
+pub looks_by_names : (s : RequestContext) (from e : Environment) (lines lines' : List (List Text)) (names : List Text) (outcomes : List Outcome) (at : Text) → from ≡ e → lines ≡ lines'
+    → LineSession s from lines (responses from outcomes) → names ≡ without_repeats (flat_map loaded_in outcomes) → NamesLookAt (in_shell s Sh) e names at → CheckLooksAt s e lines' at
+looks_by_names s from e lines lines' names outcomes at same made ran named h =
+    let P : List (List Text) → Type 0 = λ xs. LineSession s from xs (responses from outcomes) in
+    let Q : Environment → Type 0 = λ x. LineSession s x lines' (responses x outcomes) in
+    let N : List Text → Type 0 = λ ns. NamesLookAt (in_shell s Sh) e ns at in
+    inr (responses e outcomes, (subst Q same (subst P made ran), subst N (named ∙ ap without_repeats (sym (names_of_responses e outcomes))) h))

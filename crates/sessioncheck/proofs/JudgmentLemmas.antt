@@ -1,7 +1,7 @@
 -- Verdicts one after another, and the names that are judged.
 use Rattle.std.proofs.Common.{◌≡◌, ℕ, ◌+◌, ◌<◌, ◌≤◌, List, [], ◌∷◌, ◌++◌, length, take, get_or, Bor, string_bytes, Result, Ok, Err, refl, sym, subst, ap, ◌∙◌, arith}
-use Rattle.std.proofs.lemmas.List.{map-append, take_more}
-use Rattle.std.specs.List.{flat_map}
+use Rattle.std.proofs.lemmas.List.{get_or-map, length-map, map-append, take_more}
+use Rattle.std.specs.List.{Any, flat_map}
 use Rattle.envvars.specs.Texts.{Text, slice_texts, texts_in}
 use Rattle.envvars.specs.Environment.{Environment}
 use Rattle.filetree.specs.Agreement.{Files, Listings, InEachPair, Narrows}
@@ -110,6 +110,13 @@ pub named_so_far : (names : List (Bor Text)) (i : ℕ) (d : Bor Text) (name : Te
 named_so_far names i d name below same =
     ap slice_texts (take_more names i d below)
     ∙ (map-append (λ (x : Bor Text). x.now) (take i names) (get_or names i d ∷ []) ∙ ap (λ (t : Text). slice_texts (take i names) ++ t ∷ []) (sym same))
+
+-- what holds of the name of a turn holds of one of them
+pub named_at : (names : List (Bor Text)) (i : ℕ) (d : Bor Text) (P : Text → Type 0) → i < length names → P (get_or names i d).now → Any P (slice_texts names)
+named_at names i d P below p =
+    let text : Bor Text → Text = λ x. x.now in
+    let In : ℕ → Type 0 = λ n. i < n in
+    (i, (get_or names i d).now, subst In (sym (length-map names text)) below, sym (get_or-map text names i d (get_or names i d).now below), p)
 
 -- a judgment of a name that was copied
 pub judged_name : (agrees : Files → Listings → Type 0) (failed failed' : Type 0) (limits : Limits) (e : Environment) (name : Text) (j : Judgment)

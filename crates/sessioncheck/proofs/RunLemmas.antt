@@ -2,19 +2,23 @@
 use Rattle.std.proofs.Common.{◌≡◌, ℕ, ◌<◌, ◌≤◌, ◌+◌, true, List, [], ◌∷◌, ◌++◌, map, refl, sym, subst, ap, ◌∙◌, Ok, Err, append_assoc, append-nil, arith}
 use Rattle.envvars.specs.Texts.{Text}
 use Rattle.envvars.specs.Environment.{Environment}
+use Rattle.filetree.specs.Agreement.{Files, Listings}
 use Rattle.filetree.specs.Causes.{Cause, Applies, memory, device, because}
 use Rattle.filetree.specs.Relations.{Is}
+use Rattle.requests.specs.Looked.{RequestLooksAt}
 use Rattle.requests.specs.Reasons.{RequestReason}
 use Rattle.requests.specs.Requests.{RequestedAction, request_of}
 use Rattle.requests.specs.Sessions.{Response, accepted, refused, given_up, IsResponse, env_after, is_given_up_by}
-use Rattle.requests.specs.Steps.{RequestContext}
+use Rattle.requests.specs.Steps.{RequestContext, request_context_in}
+use Rattle.shells.specs.declared.shell.Shell.{Shell}
+use Rattle.tclrules.specs.declared.limits.Limits.{Limits}
 use Rattle.modules.specs.Answers.{cause_of}
 use Rattle.modules.specs.Messages.{memory_number, number_by}
 use Rattle.modules.specs.Refusal.{Refusal}
 use Rattle.modules.proofs.SessionLemmas.{memory_is_cause, refused_counts}
 use Rattle.modules.specs.Responses.{by_cause, count_failed, response_of}
 use Rattle.modules.specs.declared.sessions.Outcome.TheVariants.{Refused}
-use Rattle.sessioncheck.specs.Sessions.{IsLineResponse, LineSession}
+use Rattle.sessioncheck.specs.Sessions.{IsLineResponse, LineLooksAt, LineSession}
 
 -- the response of a line's request is the line's
 pub line_responds : (s : RequestContext) (e : Environment) (words : List Text) (asked : RequestedAction) (o : Response) → request_of words ≡ Ok asked
@@ -22,6 +26,13 @@ pub line_responds : (s : RequestContext) (e : Environment) (words : List Text) (
 line_responds s e words asked (accepted d) made h = (Ok asked, sym made, h)
 line_responds s e words asked (refused reason) made h = (Ok asked, sym made, h)
 line_responds s e words asked (given_up number) made h = h
+
+-- where the request of a line looks, the line does
+pub looks_by_request : (limits : Limits) (shell own : Shell) (files : Files) (listings : Listings) (e : Environment) (words : List Text) (asked : RequestedAction) (at : Text) → own ≡ shell → Ok asked ≡ request_of words
+    → RequestLooksAt (request_context_in limits own files listings) e asked at → LineLooksAt (request_context_in limits shell files listings) e words at
+looks_by_request limits shell own files listings e words asked at same made h =
+    let Looks : Shell → Type 0 = λ x. RequestLooksAt (request_context_in limits x files listings) e asked at in
+    (asked, sym made, subst Looks same h)
 
 -- a line that makes no request
 by_cause_responds : (s : RequestContext) (e : Environment) (words : List Text) (out_of_memory : ℕ) (c : Cause RequestReason) → is_given_up_by out_of_memory ≡ true

@@ -1,19 +1,20 @@
 -- What the check of an input's lines answers (own).
-use Rattle.std.specs.Prelude.{◌≡◌, ℕ, ◌+◌, ◌<◌, ◌≤◌, Bool, true, false, List}
+use Rattle.std.specs.Prelude.{◌≡◌, ◌⊎◌, ℕ, ◌+◌, ◌<◌, ◌≤◌, Bool, true, false, List}
 use Rattle.std.specs.List.{list_all}
 use Rattle.envvars.specs.Texts.{Text}
 use Rattle.envvars.specs.Environment.{Environment}
 use Rattle.filetree.specs.Agreement.{Files, Listings, InEachPair}
 use Rattle.shells.specs.declared.shell.Shell.{Shell}
+use Rattle.shells.specs.declared.shell.Shell.TheVariants.{Sh}
 use Rattle.tclrules.specs.declared.limits.Limits.{Limits}
-use Rattle.requests.specs.Sessions.{Response, end_environment}
-use Rattle.requests.specs.Steps.{request_context_in}
+use Rattle.requests.specs.Sessions.{Response, end_environment, in_shell}
+use Rattle.requests.specs.Steps.{RequestContext, request_context_in}
 use Rattle.modules.specs.Responses.{count_failed, responses}
 use Rattle.modules.specs.declared.sessions.Outcome.{Outcome}
 use Rattle.modules.specs.declared.sessions.Outcome.TheVariants.{Accepted, Refused}
 use Rattle.sessioncheck.specs.Lines.{lines_in}
-use Rattle.sessioncheck.specs.Sessions.{LineSession}
-use Rattle.sessioncheck.specs.Judgments.{names_loaded, AreJudgments, count_failed_judgments}
+use Rattle.sessioncheck.specs.Sessions.{LineSession, LinesLookAt}
+use Rattle.sessioncheck.specs.Judgments.{names_loaded, AreJudgments, NamesLookAt, count_failed_judgments}
 use Rattle.sessioncheck.specs.declared.checking.Findings.{Findings}
 
 -- the response to each line, one after another
@@ -34,6 +35,12 @@ pub record IsCheck (agrees : Files → Listings → Type 0) (before now : ℕ) (
   pub end : InEachPair agrees (λ files listings. check.env ≡ end_environment e (responses_in e check))
   pub judged : AreJudgments agrees (before < now) limits e (names_loaded (responses_in e check)) check.judgments.items
   pub failures : before + failed_in check ≤ now
+
+-- A line of the check looks at this path, or the verdict on a module that its lines loaded does.
+abbrev pub CheckLooksAt : RequestContext → Environment → List (List Text) → Text → Type 0
+CheckLooksAt s e lines at =
+    LinesLookAt s e lines at
+    ⊎ ((os : List Response) × LineSession s e lines os × NamesLookAt (in_shell s Sh) e (names_loaded os) at)
 
 -- the line was accepted
 abbrev pub was_accepted : Outcome → Bool

@@ -1,12 +1,15 @@
 -- The verdicts on the modules that a session loaded, in its first environment (own).
 use Rattle.std.specs.Prelude.{◌≡◌, ℕ, ◌+◌, List, [], ◌∷◌, Result, Ok, Err, string_bytes}
+use Rattle.std.specs.List.{Any}
 use Rattle.envvars.specs.Texts.{Text}
 use Rattle.envvars.specs.Environment.{Environment}
 use Rattle.envvars.specs.Fields.{without_repeats}
 use Rattle.filetree.specs.Agreement.{Files, Listings}
+use Rattle.requests.specs.Looked.{SearchLooksAt}
 use Rattle.requests.specs.Moves.{loaded_names}
 use Rattle.tclrules.specs.declared.limits.Limits.{Limits}
 use Rattle.requests.specs.Sessions.{Response, session_moves}
+use Rattle.requests.specs.Steps.{RequestContext}
 use Rattle.requests.specs.Verdicts.{HasVerdict}
 use Rattle.modules.specs.Answers.{StepAnswersOverTree, cause_of}
 use Rattle.modules.specs.Verdicts.{verdict_view, in_sh}
@@ -44,3 +47,7 @@ count_unjudged (Err refusal) = count_cause (cause_of refusal)
 abbrev pub count_failed_judgments : List Judgment → ℕ
 count_failed_judgments [] = 0
 count_failed_judgments (j ∷ js) = count_unjudged j.verdict + count_failed_judgments js
+
+-- The search for one of these names looks at this path.
+abbrev pub NamesLookAt : RequestContext → Environment → List Text → Text → Type 0
+NamesLookAt s e names at = Any (λ name. SearchLooksAt s e name at) names

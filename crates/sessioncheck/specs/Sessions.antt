@@ -4,6 +4,7 @@ use Rattle.envvars.specs.Texts.{Text}
 use Rattle.envvars.specs.Environment.{Environment}
 use Rattle.shells.specs.declared.shell.Shell.{Shell}
 use Rattle.filetree.specs.Relations.{Is, ◌>>◌}
+use Rattle.requests.specs.Looked.{OneLooksAt, RequestLooksAt}
 use Rattle.requests.specs.Reasons.{RequestReason}
 use Rattle.requests.specs.Requests.{RequestedAction, Request, request_of}
 use Rattle.requests.specs.Sessions.{Response, accepted, refused, given_up, is_given_up_by, env_after}
@@ -25,6 +26,15 @@ LineSession s e [] [] = Unit {0}
 LineSession s e [] (o ∷ os) = ⊥
 LineSession s e (words ∷ lines) [] = ⊥
 LineSession s e (words ∷ lines) (o ∷ os) = IsLineResponse s e words o × LineSession s (env_after e o) lines os
+
+-- The request that the words of a line make looks at this path.
+abbrev pub LineLooksAt : RequestContext → Environment → List Text → Text → Type 0
+LineLooksAt s e words at =
+    (action : RequestedAction) × (request_of words ≡ Ok action) × RequestLooksAt s e action at
+
+-- A line of the session looks at this path.
+abbrev pub LinesLookAt : RequestContext → Environment → List (List Text) → Text → Type 0
+LinesLookAt s e lines at = OneLooksAt (LineLooksAt s) (IsLineResponse s) e lines at
 
 -- these requests after that of a line, if it makes one
 abbrev pub with_request : Shell → Result RequestedAction RequestReason → List Request → List Request

@@ -2,11 +2,14 @@
 ghost use Rattle.std.specs.Prelude.{◌≡◌, ◌<◌, ◌≤◌, ◌+◌, IfOk, IfErr};
 ghost use Rattle.std.specs.List.{flat_map};
 ghost use Rattle.envvars.specs.Fields.{without_repeats};
-ghost use Rattle.filetree.specs.Agreement.{ReadsOn};
+ghost use Rattle.filetree.specs.Agreement.{FailsOnlyAt, ReadsOn};
 ghost use Rattle.modules.specs.Refusal.TheVariants as refusals;
-ghost use Rattle.sessioncheck.specs.Judgments.{AreJudgments, count_failed_judgments};
+ghost use Rattle.modules.specs.Verdicts.{in_sh};
+ghost use Rattle.requests.specs.Steps.{request_context_in};
+ghost use Rattle.sessioncheck.specs.Lines.{lines_in};
+ghost use Rattle.sessioncheck.specs.Judgments.{AreJudgments, NamesLookAt, count_failed_judgments};
 ghost use Rattle.sessioncheck.specs.Parts.{loaded_in};
-ghost use Rattle.sessioncheck.specs.Checks.{IsCheck, all_accepted, was_accepted};
+ghost use Rattle.sessioncheck.specs.Checks.{CheckLooksAt, IsCheck, all_accepted, was_accepted};
 
 use crate::judging::{Judgment, give_verdicts};
 use crate::lines::lines_in;
@@ -60,6 +63,8 @@ fn judge_loaded<T: Tree>(
         (without_repeats (flat_map loaded_in outcomes.now)) judgments.items) }
     ensures failures { IfOk result (λ judgments.
         T.failures tree.old + count_failed_judgments judgments.items ≤ T.failures tree.new) }
+    ensures failed { FailsOnlyAt T.agrees T.failed tree.old tree.new (λ files listings at. NamesLookAt (in_sh limits files listings) env.now
+        (without_repeats (flat_map loaded_in outcomes.now)) at) }
 {
     let names = names_loaded(alloc, outcomes)?;
     give_verdicts(alloc, names.as_slice(), env, tree, limits)
@@ -70,7 +75,8 @@ fn judge_loaded<T: Tree>(
 ///
 /// The words of a line, between spaces and tabs, make its request, for this shell. A line without words is passed over;
 /// one that makes no request is refused (56, 57), and so is a request that its step refuses. A refused line changes
-/// nothing, and the next line is run. No more lines and verdicts are refused by 43 than the device failed.
+/// nothing, and the next line is run. No more lines and verdicts are refused by 43 than the device failed, and it
+/// failed only at paths that a line or the search for a module to be judged looks at.
 ///
 /// Errors: want of memory (31), apart from that of a single request or verdict, which is the outcome of its line or
 /// module.
@@ -86,6 +92,8 @@ pub fn check<T: Tree>(
     ensures checked { IfOk result (IsCheck (T.agrees tree.new) (T.failures tree.old) (T.failures tree.new)
         limits shell env.now text.now) }
     ensures only { IfErr result (λ refusal. refusal ≡ refusals.OutOfMemory) }
+    ensures failed { FailsOnlyAt T.agrees T.failed tree.old tree.new (λ files listings at.
+        CheckLooksAt (request_context_in limits shell files listings) env.now (lines_in text.now) at) }
 {
     let lines = lines_in(alloc, text)?;
     let Ok(mut after) = env.copy() else {

@@ -1,8 +1,9 @@
 //! The verdicts on modules by their names, or why there is none.
 ghost use Rattle.std.specs.Prelude.{◌<◌, ◌≤◌, ◌+◌, IfOk};
 ghost use Rattle.envvars.specs.Texts.{slice_texts};
-ghost use Rattle.filetree.specs.Agreement.{ReadsOn};
-ghost use Rattle.sessioncheck.specs.Judgments.{AreJudgments, count_failed_judgments};
+ghost use Rattle.filetree.specs.Agreement.{FailsOnlyAt, ReadsOn};
+ghost use Rattle.modules.specs.Verdicts.{in_sh};
+ghost use Rattle.sessioncheck.specs.Judgments.{AreJudgments, NamesLookAt, count_failed_judgments};
 
 use envvars::Env;
 use filetree::Tree;
@@ -34,6 +35,8 @@ pub(crate) fn give_verdicts<T: Tree>(
         judgments.items) }
     ensures failures { IfOk result (λ judgments.
         T.failures tree.old + count_failed_judgments judgments.items ≤ T.failures tree.new) }
+    ensures failed { FailsOnlyAt T.agrees T.failed tree.old tree.new (λ files listings at.
+        NamesLookAt (in_sh limits files listings) env.now (slice_texts names.now) at) }
 {
     let mut judgments = Vec::new(alloc);
     for name in names {

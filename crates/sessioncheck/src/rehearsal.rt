@@ -1,7 +1,8 @@
 //! Rehearses requests: runs them one after another, and collects the text that each prints.
 ghost use Rattle.std.specs.Prelude.{◌≡◌, map, IfOk, IfErr};
-ghost use Rattle.filetree.specs.Agreement.{Narrows, InEachPair};
+ghost use Rattle.filetree.specs.Agreement.{FailsOnlyAt, InEachPair, Narrows};
 ghost use Rattle.shells.specs.declared.shell.Shell.{Shell};
+ghost use Rattle.requests.specs.Looked.{OwnLooksAt, SessionLooksAt};
 ghost use Rattle.requests.specs.RequestViews.{request_view};
 ghost use Rattle.modules.specs.Refusal.TheVariants as refusals;
 ghost use Rattle.requests.specs.Steps.{request_context_in};
@@ -29,6 +30,8 @@ fn print_request<T: Tree>(
     ensures prints_for { PrintsFor (T.agrees tree.new) limits (request_view request.now) env.old env.new
         (print_view result)
         (T.failures tree.old) (T.failures tree.new) }
+    ensures failed { FailsOnlyAt T.agrees T.failed tree.old tree.new (λ files listings at. (shell : Shell)
+        → OwnLooksAt (request_context_in limits shell files listings) env.old (request_view request.now) at) }
 {
     let Ok(changed) = run_changes(alloc, request, env, tree, limits) else {
         return None;
@@ -47,7 +50,8 @@ fn print_request<T: Tree>(
 /// has no text and changes nothing; so has one whose changes have no text in its shell (62).
 ///
 /// For every pair of maps that agrees with the tree it is a rehearsal. No more requests are without a text because the
-/// device failed than it failed. So shells that ran the texts so far hold the environment that the session has there.
+/// device failed than it failed, and it failed only at paths that a request looks at. So shells that ran the texts so
+/// far hold the environment that the session has there.
 ///
 /// They hold the first environment again at the end where it is in order, no module is unloaded that was loaded in it,
 /// the modules that are loaded are reversible and apart, each unload has the records of the load that it undoes, and
@@ -72,6 +76,8 @@ pub fn rehearse<T: Tree>(
         → TextsReturnToStart (request_context_in limits shell files listings) env (map request_view requests.now)
         (prints p.1.items) p.0)) }
     ensures only { IfErr result (λ refusal. refusal ≡ refusals.OutOfMemory) }
+    ensures failed { FailsOnlyAt T.agrees T.failed tree.old tree.new (λ files listings at. (shell : Shell)
+        → SessionLooksAt (request_context_in limits shell files listings) env (map request_view requests.now) at) }
 {
     texts_make_session();
     texts_return_to_start();

@@ -1,12 +1,12 @@
 //! Runs lines one after another, each by the request that its words make.
 ghost use Rattle.std.specs.Prelude.{◌≡◌, ◌≤◌, ◌+◌, [], ◌∷◌, map, IfOk, IfErr, string_bytes};
 ghost use Rattle.envvars.specs.Texts.{texts_in};
-ghost use Rattle.filetree.specs.Agreement.{Narrows, InEachPair, ReadsOn};
+ghost use Rattle.filetree.specs.Agreement.{FailsOnlyAt, Narrows, InEachPair, ReadsOn};
 ghost use Rattle.modules.specs.Refusal.TheVariants as refusals;
 ghost use Rattle.requests.specs.Steps.{request_context_in};
 ghost use Rattle.modules.specs.Responses.{response_of, responses, count_failed};
 ghost use Rattle.requests.specs.Sessions.{env_after, end_environment};
-ghost use Rattle.sessioncheck.specs.Sessions.{IsLineResponse, LineSession};
+ghost use Rattle.sessioncheck.specs.Sessions.{IsLineResponse, LineLooksAt, LineSession, LinesLookAt};
 
 use envvars::Env;
 use filetree::Tree;
@@ -31,6 +31,8 @@ fn respond_to<T: Tree>(
         (response_of env.old result)) }
     ensures end { InEachPair (T.agrees tree.new) (λ files listings.
         env.new ≡ env_after env.old (response_of env.old result)) }
+    ensures failed { FailsOnlyAt T.agrees T.failed tree.old tree.new (λ files listings at.
+        LineLooksAt (request_context_in limits shell files listings) env.old (map string_bytes words.now) at) }
 {
     match request(alloc, shell, words) {
         Ok(request) => respond(alloc, &request, env, tree, limits),
@@ -56,6 +58,8 @@ pub(crate) fn run_lines<T: Tree>(
     ensures end { IfOk result (λ outcomes. InEachPair (T.agrees tree.new) (λ files listings.
         env.new ≡ end_environment env.old (responses env.old outcomes.items))) }
     ensures only { IfErr result (λ refusal. refusal ≡ refusals.OutOfMemory) }
+    ensures failed { FailsOnlyAt T.agrees T.failed tree.old tree.new (λ files listings at.
+        LinesLookAt (request_context_in limits shell files listings) env.old (map texts_in lines.now) at) }
 {
     let mut outcomes = Vec::new(alloc);
     for words in lines {

@@ -2,6 +2,7 @@ use Rattle.std.proofs.Common.{◌<◌, map, string_bytes, String, Ok, Err, refl}
 use Rattle.std.proofs.lemmas.Result.{err_from_is_err_and}
 use Rattle.std.specs.declared.alloc.Global.{Global}
 use Rattle.envvars.specs.Changes.{new_values_in}
+use Rattle.filetree.proofs.FailedPaths.{only_if, only_none, only_wider_in_each}
 use Rattle.requests.specs.RequestViews.{request_view}
 use Rattle.modules.specs.Replies.{changed_view}
 use Rattle.modulecmd.specs.Command.{CommandHasResult}
@@ -33,3 +34,13 @@ returns-in_err-text-clause-refused g c =
       (new_values_in changed.changes, c.in_ok-changed.ensures.exact, unsayable),
     ))
     (rw c.as_slice.ensures.value at c.in_err-text.ensures.fault))
+
+pub returns-in_err-changed-clause-failed : goal.returns-in_err-changed-clause-failed
+returns-in_err-changed-clause-failed g c =
+    only_wider_in_each _ _ _ _ _ (λ files listings agreed at h. (request_view c.in_ok-request.request, c.in_ok-request.ensures.made, h)) (only_if _ _ _ _ c.in_err-changed.ensures.failed)
+
+pub returns-in_err-text-clause-failed : goal.returns-in_err-text-clause-failed
+returns-in_err-text-clause-failed g c = only_none _ _ _ c.in_ok-changed.ensures.failed
+
+pub returns-clause-failed : goal.returns-clause-failed
+returns-clause-failed g c = only_none _ _ _ c.in_ok-changed.ensures.failed

@@ -1,14 +1,18 @@
 use Rattle.std.proofs.Common.{◌≡◌, ◌+◌, ◌≤◌, List, [], ◌∷◌, ◌++◌, map, drop, sym, subst}
 use Rattle.std.proofs.Math.ListN.{drop_of_length-le}
+use Rattle.envvars.specs.Environment.{Environment}
+use Rattle.envvars.specs.Texts.{Text}
+use Rattle.filetree.proofs.FailedPaths.{only_if, only_then_in_each, only_wider_in_each}
 use Rattle.shells.specs.declared.shell.Shell.TheVariants.{Sh}
 use Rattle.requests.specs.RequestViews.{request_view}
 use Rattle.requests.specs.Requests.{Request}
+use Rattle.requests.specs.Looked.{IsOwnResponse, OwnLooksAt}
 use Rattle.requests.specs.Sessions.{Session, end_environment}
 use Rattle.requeststep.proofs.EachLemmas.{split_at}
 use Rattle.modules.specs.declared.sessions.Outcome.{Outcome}
 use Rattle.requests.specs.Steps.{request_context_in}
 use Rattle.modules.specs.Responses.{count_failed, response_of, responses}
-use Rattle.modules.proofs.SessionLemmas.{failures_push, session_done, session_grows, session_returning, session_taken}
+use Rattle.modules.proofs.SessionLemmas.{failures_push, looks_here, looks_on, session_done, session_grows, session_returning, session_taken}
 use Rattle.modules.proofs.sessions.session.Goals as goal
 
 pub loop-request-preserved : goal.loop-request-preserved
@@ -23,6 +27,7 @@ loop-request-preserved g c =
     let items : c.push.new.self.items ≡ sofar ++ outcome ∷ [] = c.in_ok-push.ensures.items in
     let Counted : List Outcome → Type 0 = λ xs. g.T.Tree.failures c.args.tree.now + count_failed xs ≤ g.T.Tree.failures c.respond-outcome.new.tree in
     let End : List Outcome → Type 0 = λ xs. new ≡ end_environment start (responses start xs) in
+    let split = split_at request_view requests i c.request-item.result c.loop-request-test.true c.request-item.is in
     record {
       narrows = λ files listings agreed. c.loop-request.invariant.narrows files listings (c.respond-outcome.ensures.narrows files listings agreed);
       failures = subst Counted (sym items) (failures_push _ _ _ sofar outcome c.loop-request.invariant.failures c.respond-outcome.ensures.failures);
@@ -40,6 +45,19 @@ loop-request-preserved g c =
           (λ h. c.loop-request.invariant.ran files listings was shell (response_of before_it outcome ∷ os) (subst From (sym (split_at request_view requests i c.request-item.result c.loop-request-test.true c.request-item.is)) h))
           (c.respond-outcome.ensures.answer files listings agreed) (c.respond-outcome.ensures.end files listings agreed)
           (session_grows start before_it new sofar outcome (c.loop-request.invariant.end files listings was) (c.respond-outcome.ensures.end files listings agreed)).1 more);
+      looks = λ files listings agreed shell at more.
+          let context = request_context_in c.args.limits shell files listings in
+          c.loop-request.invariant.looks files listings (c.respond-outcome.ensures.narrows files listings agreed) shell at
+          (looks_on (OwnLooksAt context) (IsOwnResponse context) before_it new (map request_view (drop i requests)) (request_view c.request-item.result) (map request_view (drop (i + 1) requests)) (response_of before_it outcome) at split
+          (c.respond-outcome.ensures.answer files listings agreed) (c.respond-outcome.ensures.end files listings agreed) more);
+      failed =
+          only_then_in_each _ _ _ _ _ _ c.respond-outcome.ensures.narrows c.loop-request.invariant.failed
+          (only_wider_in_each _ _ _ _ _
+          (λ files listings agreed at h shell.
+          let context = request_context_in c.args.limits shell files listings in
+          c.loop-request.invariant.looks files listings (c.respond-outcome.ensures.narrows files listings agreed) shell at
+          (looks_here (OwnLooksAt context) (IsOwnResponse context) before_it (map request_view (drop i requests)) (request_view c.request-item.result) (map request_view (drop (i + 1) requests)) at split h))
+          (only_if _ _ _ _ c.respond-outcome.ensures.failed));
     }
 
 pub returns-clause-ran : goal.returns-clause-ran

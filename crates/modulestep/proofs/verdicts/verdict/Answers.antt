@@ -1,4 +1,5 @@
 use Rattle.std.proofs.Common.{◌<◌}
+use Rattle.modulestep.proofs.MemoryNumberLemmas.{wants_any}
 use Rattle.modulestep.proofs.VerdictLemmas.{plain_over_tree}
 use Rattle.modulestep.proofs.verdicts.verdict.Goals as goal
 
@@ -19,3 +20,6 @@ pub returns-clause-failed : goal.returns-clause-failed
 returns-clause-failed g c =
     let judged = rw c.over.ensures.new at c.give_verdict.ensures in
     judged.failed_at
+
+pub returns-clause-out_of_memory : goal.returns-clause-out_of_memory
+returns-clause-out_of_memory g c = wants_any c.give_verdict.result

@@ -2,8 +2,11 @@ use Rattle.std.proofs.Common.{map, ap, ◌∙◌}
 use Rattle.std.specs.List.{flat_map}
 use Rattle.envvars.specs.Fields.{without_repeats}
 use Rattle.envvars.specs.Texts.{texts_in}
+use Rattle.filetree.proofs.FailedPaths.{only_then_in_each, only_wider_in_each}
+use Rattle.requests.specs.Steps.{request_context_in}
+use Rattle.sessioncheck.specs.Lines.{lines_in}
 use Rattle.sessioncheck.specs.Parts.{loaded_in}
-use Rattle.sessioncheck.proofs.CheckLemmas.{checked}
+use Rattle.sessioncheck.proofs.CheckLemmas.{checked, looks_by_lines, looks_by_names}
 use Rattle.sessioncheck.proofs.checking.check.Goals as goal
 
 pub returns-clause-checked : goal.returns-clause-checked
@@ -17,3 +20,20 @@ returns-clause-checked g c =
     c.judge_loaded.ensures.reads.narrows c.in_ok-outcomes.ensures.failures c.in_ok-judgments.ensures.failures c.in-Ok.ensures.ok
     (ap (map texts_in) c.as_slice.ensures.value ∙ c.in_ok-lines.ensures) c.in_ok-outcomes.ensures.ran c.in_ok-outcomes.ensures.end
     (ap (λ xs. without_repeats (flat_map loaded_in xs)) c.as_slice-2.ensures.value) c.in_ok-judgments.ensures.judged
+
+pub returns-clause-failed : goal.returns-clause-failed
+returns-clause-failed g c =
+    let e = c.args.env.now in
+    let made = ap (map texts_in) c.as_slice.ensures.value ∙ c.in_ok-lines.ensures in
+    only_then_in_each _ _ _ _ _ _ c.judge_loaded.ensures.reads.narrows
+    (only_wider_in_each _ _ _ _ _
+    (λ files listings agreed at h.
+    looks_by_lines (request_context_in c.args.limits c.args.shell files listings) c.in-Ok.after e (map texts_in c.as_slice.result.now) (lines_in c.args.text.now) at c.in-Ok.ensures.ok made h)
+    c.run_lines.ensures.failed)
+    (only_wider_in_each _ _ _ _ _
+    (λ files listings agreed at h.
+    looks_by_names (request_context_in c.args.limits c.args.shell files listings) c.in-Ok.after e (map texts_in c.as_slice.result.now) (lines_in c.args.text.now)
+    (without_repeats (flat_map loaded_in c.as_slice-2.result.now)) c.in_ok-outcomes.outcomes.items at c.in-Ok.ensures.ok made
+    (c.in_ok-outcomes.ensures.ran files listings (c.judge_loaded.ensures.reads.narrows files listings agreed))
+    (ap (λ xs. without_repeats (flat_map loaded_in xs)) c.as_slice-2.ensures.value) h)
+    c.judge_loaded.ensures.failed)

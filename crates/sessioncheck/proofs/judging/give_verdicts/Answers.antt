@@ -1,9 +1,12 @@
 use Rattle.std.proofs.Common.{◌≡◌, ◌+◌, ◌<◌, ◌≤◌, List, [], ◌∷◌, ◌++◌, take, string_bytes, arith, sym, subst}
 use Rattle.std.proofs.lemmas.List.{take_all}
 use Rattle.envvars.specs.Texts.{Text, slice_texts}
+use Rattle.filetree.proofs.FailedPaths.{only_at, only_then_in_each, only_wider_in_each}
+use Rattle.requests.specs.Looked.{SearchLooksAt}
+use Rattle.modules.specs.Verdicts.{in_sh}
 use Rattle.sessioncheck.specs.Judgments.{AreJudgments, count_failed_judgments}
 use Rattle.sessioncheck.specs.declared.judging.Judgment.{Judgment}
-use Rattle.sessioncheck.proofs.JudgmentLemmas.{below_more, failures_more, judged_name, judgments_narrowed, judgments_push, more_below, named_so_far, verdict_counts}
+use Rattle.sessioncheck.proofs.JudgmentLemmas.{below_more, failures_more, judged_name, judgments_narrowed, judgments_push, more_below, named_at, named_so_far, verdict_counts}
 use Rattle.sessioncheck.proofs.judging.give_verdicts.Goals as goal
 
 pub loop-name-preserved : goal.loop-name-preserved
@@ -35,6 +38,13 @@ loop-name-preserved g c =
           (λ h. more_below first was is h c.verdict-answer.ensures.reads.counts_failures) c.loop-name.invariant.judged)
           (judged_name agrees (was < is) (first < is) c.args.limits c.args.env.now _ judgment c.in_ok-full_name.ensures.ok
           (λ h. below_more first was is c.loop-name.invariant.reads.counts_failures h) c.verdict-answer.ensures.judged)));
+      failed =
+          only_then_in_each _ _ _ _ _ _ c.verdict-answer.ensures.reads.narrows c.loop-name.invariant.failed
+          (only_wider_in_each _ _ _ _ _
+          (λ files listings agreed at h.
+          let Looks : Text → Type 0 = λ n. SearchLooksAt (in_sh c.args.limits files listings) c.args.env.now n at in
+          named_at names i _ Looks c.loop-name-test.true h)
+          (only_at _ _ _ c.verdict-answer.result _ c.verdict-answer.ensures.failed));
     }
 
 pub returns-clause-judged : goal.returns-clause-judged

@@ -1,6 +1,7 @@
 use Rattle.std.proofs.Common.{None, string_bytes, sym, subst}
 use Rattle.envvars.specs.Environment.{Environment}
 use Rattle.envvars.specs.Changes.{new_values_in}
+use Rattle.filetree.proofs.FailedPaths.{only_if, only_none, only_wider_in_each}
 use Rattle.requests.specs.RequestViews.{request_view}
 use Rattle.modules.specs.Replies.{changed_view}
 use Rattle.sessioncheck.specs.RehearsalParts.{PrintsFor}
@@ -37,3 +38,16 @@ returns-clause-prints_for g c =
     let after = g.T.Tree.failures c.run_changes.new.tree in
     subst (λ (x : Environment). PrintsFor agrees c.args.limits r c.args.env.now x None before after) (sym c.in-Err.ensures.err)
     (wanting_came agrees c.args.limits r c.args.env.now before after c.run_changes.ensures.reads.counts_failures)
+
+pub returns-in_default-clause-failed : goal.returns-in_default-clause-failed
+returns-in_default-clause-failed g c =
+    only_wider_in_each _ _ _ _ _ (λ files listings agreed at h shell. h) (only_if _ _ _ _ c.in_default.ensures.failed)
+
+pub returns-in_default-print_changes-clause-failed : goal.returns-in_default-print_changes-clause-failed
+returns-in_default-print_changes-clause-failed g c = only_none _ _ _ c.in-Ok.ensures.failed
+
+pub returns-in-Ok-apply-clause-failed : goal.returns-in-Ok-apply-clause-failed
+returns-in-Ok-apply-clause-failed g c = only_none _ _ _ c.in-Ok.ensures.failed
+
+pub returns-clause-failed : goal.returns-clause-failed
+returns-clause-failed g c = only_none _ _ _ c.in-Ok.ensures.failed

@@ -3,10 +3,13 @@ use Rattle.std.proofs.Math.ListN.{drop_of_length-le}
 use Rattle.std.specs.declared.alloc.Global.{Global}
 use Rattle.std.specs.declared.string.String.{String}
 use Rattle.envvars.specs.Texts.{Text}
+use Rattle.filetree.proofs.FailedPaths.{only_then_in_each, only_wider_in_each}
+use Rattle.requests.specs.Looked.{IsOwnResponse, OwnLooksAt}
 use Rattle.requests.specs.RequestViews.{request_view}
 use Rattle.requests.specs.Requests.{Request}
 use Rattle.requests.specs.Steps.{request_context_in}
 use Rattle.modules.proofs.EachLemmas.{split_at}
+use Rattle.modules.proofs.SessionLemmas.{looks_here, looks_on}
 use Rattle.sessioncheck.specs.Rehearsals.{Rehearsal}
 use Rattle.sessioncheck.specs.RehearsalParts.{print_view, prints}
 use Rattle.sessioncheck.proofs.TextLemmas.{rehearsed_on, prints_push, no_requests}
@@ -25,6 +28,7 @@ loop-request-preserved g c =
     let was = g.T.Tree.failures c.loop-request.tree in
     let is = g.T.Tree.failures c.print_request-text.new.tree in
     let items : c.push.new.self.items ≡ sofar ++ text ∷ [] = c.in_ok-push.ensures.items in
+    let split = split_at request_view requests i c.request-item.result c.loop-request-test.true c.request-item.is in
     record {
       narrows = λ files listings agreed. c.loop-request.invariant.narrows files listings (c.print_request-text.ensures.narrows files listings agreed);
       rehearsed = λ files listings agreed shell ps end n h.
@@ -39,6 +43,20 @@ loop-request-preserved g c =
           (subst Rest (sym (split_at request_view requests i c.request-item.result c.loop-request-test.true c.request-item.is))
           (rehearsed_on (g.T.Tree.agrees c.print_request-text.new.tree) c.args.limits files listings shell agreed (request_view c.request-item.result) before_it new p
           (map request_view (drop (i + 1) requests)) ps end was is n c.print_request-text.ensures.prints_for h)));
+      looks = λ files listings agreed shell at more.
+          let context = request_context_in c.args.limits shell files listings in
+          let printed = c.print_request-text.ensures.prints_for in
+          c.loop-request.invariant.looks files listings (c.print_request-text.ensures.narrows files listings agreed) shell at
+          (looks_on (OwnLooksAt context) (IsOwnResponse context) before_it new (map request_view (drop i requests)) (request_view c.request-item.result) (map request_view (drop (i + 1) requests)) printed.response at split
+          (printed.answers files listings agreed) printed.end more);
+      failed =
+          only_then_in_each _ _ _ _ _ _ c.print_request-text.ensures.narrows c.loop-request.invariant.failed
+          (only_wider_in_each _ _ _ _ _
+          (λ files listings agreed at h shell.
+          let context = request_context_in c.args.limits shell files listings in
+          c.loop-request.invariant.looks files listings (c.print_request-text.ensures.narrows files listings agreed) shell at
+          (looks_here (OwnLooksAt context) (IsOwnResponse context) before_it (map request_view (drop i requests)) (request_view c.request-item.result) (map request_view (drop (i + 1) requests)) at split (h shell)))
+          c.print_request-text.ensures.failed);
     }
 
 pub returns-clause-rehearsed : goal.returns-clause-rehearsed

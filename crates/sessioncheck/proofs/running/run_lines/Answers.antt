@@ -2,12 +2,13 @@ use Rattle.std.proofs.Common.{◌≡◌, ◌+◌, ◌≤◌, List, [], ◌∷◌
 use Rattle.std.proofs.Math.ListN.{drop_of_length-le}
 use Rattle.envvars.specs.Texts.{Text, texts_in}
 use Rattle.requests.specs.Sessions.{end_environment}
+use Rattle.filetree.proofs.FailedPaths.{only_then_in_each, only_wider_in_each}
 use Rattle.modules.proofs.EachLemmas.{split_at}
 use Rattle.modules.specs.declared.sessions.Outcome.{Outcome}
 use Rattle.requests.specs.Steps.{request_context_in}
 use Rattle.modules.specs.Responses.{count_failed, response_of, responses}
-use Rattle.modules.proofs.SessionLemmas.{failures_push, session_grows}
-use Rattle.sessioncheck.specs.Sessions.{LineSession}
+use Rattle.modules.proofs.SessionLemmas.{failures_push, looks_here, looks_on, session_grows}
+use Rattle.sessioncheck.specs.Sessions.{IsLineResponse, LineLooksAt, LineSession}
 use Rattle.sessioncheck.proofs.RunLemmas.{lines_done, lines_taken}
 use Rattle.sessioncheck.proofs.running.run_lines.Goals as goal
 
@@ -23,6 +24,7 @@ loop-words-preserved g c =
     let items : c.push.new.self.items ≡ sofar ++ outcome ∷ [] = c.in_ok-push.ensures.items in
     let Counted : List Outcome → Type 0 = λ xs. g.T.Tree.failures c.args.tree.now + count_failed xs ≤ g.T.Tree.failures c.respond_to-outcome.new.tree in
     let End : List Outcome → Type 0 = λ xs. new ≡ end_environment start (responses start xs) in
+    let split = split_at texts_in lines i c.words-item.result c.loop-words-test.true c.words-item.is in
     record {
       narrows = λ files listings agreed. c.loop-words.invariant.narrows files listings (c.respond_to-outcome.ensures.narrows files listings agreed);
       failures = subst Counted (sym items) (failures_push _ _ _ sofar outcome c.loop-words.invariant.failures c.respond_to-outcome.ensures.failures);
@@ -40,6 +42,19 @@ loop-words-preserved g c =
           (λ h. c.loop-words.invariant.ran files listings was (response_of before_it outcome ∷ os) (subst From (sym (split_at texts_in lines i c.words-item.result c.loop-words-test.true c.words-item.is)) h))
           (rw c.as_slice.ensures.value at c.respond_to-outcome.ensures.answer files listings agreed) (c.respond_to-outcome.ensures.end files listings agreed)
           (session_grows start before_it new sofar outcome (c.loop-words.invariant.end files listings was) (c.respond_to-outcome.ensures.end files listings agreed)).1 more);
+      looks = λ files listings agreed at more.
+          let context = request_context_in c.args.limits c.args.shell files listings in
+          c.loop-words.invariant.looks files listings (c.respond_to-outcome.ensures.narrows files listings agreed) at
+          (looks_on (LineLooksAt context) (IsLineResponse context) before_it new (map texts_in (drop i lines)) (texts_in c.words-item.result) (map texts_in (drop (i + 1) lines)) (response_of before_it outcome) at split
+          (rw c.as_slice.ensures.value at c.respond_to-outcome.ensures.answer files listings agreed) (c.respond_to-outcome.ensures.end files listings agreed) more);
+      failed =
+          only_then_in_each _ _ _ _ _ _ c.respond_to-outcome.ensures.narrows c.loop-words.invariant.failed
+          (only_wider_in_each _ _ _ _ _
+          (λ files listings agreed at h.
+          let context = request_context_in c.args.limits c.args.shell files listings in
+          c.loop-words.invariant.looks files listings (c.respond_to-outcome.ensures.narrows files listings agreed) at
+          (looks_here (LineLooksAt context) (IsLineResponse context) before_it (map texts_in (drop i lines)) (texts_in c.words-item.result) (map texts_in (drop (i + 1) lines)) at split h))
+          (rw c.as_slice.ensures.value at c.respond_to-outcome.ensures.failed));
     }
 
 pub returns-clause-ran : goal.returns-clause-ran

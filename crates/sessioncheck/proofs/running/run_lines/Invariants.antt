@@ -1,10 +1,10 @@
 use Rattle.std.proofs.Common.{◌≡◌, ◌≤◌, ◌+◌, ◌++◌, List, drop, map}
-use Rattle.envvars.specs.Texts.{texts_in}
-use Rattle.filetree.specs.Agreement.{InEachPair, Narrows}
+use Rattle.envvars.specs.Texts.{Text, texts_in}
+use Rattle.filetree.specs.Agreement.{FailsOnlyAt, InEachPair, Narrows}
 use Rattle.requests.specs.Sessions.{Response, end_environment}
 use Rattle.requests.specs.Steps.{request_context_in}
 use Rattle.modules.specs.Responses.{responses, count_failed}
-use Rattle.sessioncheck.specs.Sessions.{LineSession}
+use Rattle.sessioncheck.specs.Sessions.{LineSession, LinesLookAt}
 use Rattle.sessioncheck.proofs.running.run_lines.Given as goal
 
 abbrev pub invariant-loop-words : goal.invariant-loop-words
@@ -15,4 +15,9 @@ invariant-loop-words g l = record {
   ran : InEachPair (g.T.Tree.agrees l.tree) (λ files listings. (os : List Response)
       → LineSession (request_context_in l.limits l.shell files listings) l.env (map texts_in (drop l.words-index l.lines)) os
       → LineSession (request_context_in l.limits l.shell files listings) l.initial.env (map texts_in l.lines) (responses l.initial.env l.outcomes.items ++ os));
+  looks : InEachPair (g.T.Tree.agrees l.tree) (λ files listings. (at : Text)
+      → LinesLookAt (request_context_in l.limits l.shell files listings) l.env (map texts_in (drop l.words-index l.lines)) at
+      → LinesLookAt (request_context_in l.limits l.shell files listings) l.initial.env (map texts_in l.lines) at);
+  failed : FailsOnlyAt g.T.Tree.agrees g.T.Tree.failed l.initial.tree l.tree (λ files listings at.
+      LinesLookAt (request_context_in l.limits l.shell files listings) l.initial.env (map texts_in l.lines) at);
 }
