@@ -2,7 +2,9 @@
 # Installs, by apt-get, what the static link (`build`), the example (`demo`), the tests (`test`) or the measurements
 # (`bench`) need, where it is missing, and says so. Without a word: what all of them need.
 set -eu
-cd "$(dirname "$0")/.."
+# With it `cd` goes to folders elsewhere that are called as those here.
+unset CDPATH
+cd -- "$(dirname -- "$0")/.."
 
 # Notes a package where none of its commands or files is there.
 need() {
