@@ -46,6 +46,9 @@ need_for() {
                 unpacked=environment-modules
             fi
             need fish fish
+            # Other awks than the machine's, and one more shell.
+            need gawk gawk
+            need busybox busybox
             need mandoc mandoc
             need valgrind valgrind
             need shellcheck shellcheck
@@ -98,11 +101,16 @@ if ! command -v apt-get > /dev/null 2>&1 || test "$(id -u)" != 0; then
     exit 0
 fi
 echo "missing, and installed now by apt-get:$missing $unpacked"
+awk=$(readlink -f "$(command -v awk)") || true
 apt-get update > /dev/null 2>&1 || true
 for package in $missing; do
     apt-get install -y --no-install-recommends "$package" > /dev/null 2>&1 \
         || echo "apt-get has no $package" >&2
 done
+# gawk makes itself the machine's awk.
+case $missing in
+    *gawk*) test -z "$awk" || update-alternatives --set awk "$awk" > /dev/null 2>&1 || echo "gawk is awk now" >&2 ;;
+esac
 if test -n "$unpacked"; then
     mkdir -p build/bench/packages
     (cd build/bench/packages && apt-get download "$unpacked" > /dev/null 2>&1 && dpkg -x "$unpacked"_*.deb "../$unpacked") \
