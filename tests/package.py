@@ -46,7 +46,7 @@ PROGRAMS = ("modulecmd", "modcheck", "modaudit")
 NEEDED = ("VERSION", "init/sh", "init/zsh", "libexec/ml.csh", "libexec/report", "man/module.1", "etc/modulespath", "bin/modaudit")
 
 # The utilities that install.sh and the init files take.
-FEW = "cat chmod cmp cp dirname mkdir mv rm rmdir sed sh".split()
+FEW = "cat chmod cmp dirname mkdir mv rm rmdir sed sh".split()
 
 # What shells read at a login: Debian's, without what the owner of this machine added.
 PROFILE = """PATH=/usr/bin:/bin
