@@ -2,6 +2,8 @@
 # Shows loads, a switch, a check, unloads and an audit over the modulefiles beside this file, in this shell, with the
 # product that is installed below the directory that is named.
 set -eu
+# With it `cd` goes to folders elsewhere, and prints where.
+unset CDPATH
 
 PRODUCT=$(cd "$1" && pwd)
 MODULEPATH=$(cd "$(dirname "$0")" && pwd)/modulefiles

@@ -4,7 +4,8 @@
 # Where the variable `wanted` is "write" it prints the collection of the environment: its directories, which are joined
 # by colons in COLLECTION_PATH, and LOADEDMODULES. Where it is "read" it reads one from standard input, and prints its
 # modules on one line, on the next one `+` where it names directories, else `-`, and behind that mark the directories,
-# joined by colons, and a point. What is no such line ends it with status 1 and what is wrong on standard error.
+# joined by colons, and a point. Where a line is no such line, or none says anything, it prints what is wrong instead, and
+# ends with status 1.
 
 BEGIN {
     if (wanted == "write") {
@@ -14,21 +15,20 @@ BEGIN {
 }
 
 {
-    if (!failed && !read_line($0))
-        failed = said(NR)
+    if (wrong == "" && !read_line($0))
+        wrong = "line " NR ": " fault
 }
 
 END {
     if (wanted == "write")
         exit
-    if (failed)
+    if (wrong == "" && modules == "" && !used)
+        wrong = "no line names a module or a directory"
+    if (wrong != "") {
+        print wrong
         exit 1
+    }
     printf "%s\n%s%s.", modules, used ? "+" : "-", path
-}
-
-function said(line) {
-    print "line " line ": " fault > "/dev/stderr"
-    return 1
 }
 
 function write() {

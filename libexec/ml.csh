@@ -1,7 +1,7 @@
 # What the alias `ml` does in csh and tcsh: without words the loaded modules; else `-NAME...` are unloaded, and then
 # `NAME...` loaded, by a command each. The name of the shell and then the words are as in module.csh.
 
-if ( ! $?_module_words ) set _module_words = ( $argv:q )
+if ( $?tcsh ) set _module_words = ( $argv:q )
 if ( $#_module_words == 1 ) set _module_words = ( $_module_words:q list )
 
 switch ( "x$_module_words[2]" )
@@ -34,6 +34,7 @@ case xunuse:
 case xuse:
 case x--version:
 case xwhatis:
+    if ( $?tcsh ) set argv = ( $_module_words:q )
     source "@prefix@/libexec/module.csh"
     set _module_status = $status
     breaksw
@@ -41,23 +42,28 @@ default:
     set _module_shell = $_module_words[1]
     set _module_load = ( )
     set _module_unload = ( )
-    set _module_cut = "awk 'BEGIN { print substr(ARGV[1], 2) }' "'$_module_word:q'
+    # A shell finds no program by its path of the user's, and the line that it prints is never missing.
+    set _module_cut = '/bin/sh -c '"'"'printf %s "${0#-}"; echo'"'"' $_module_word:q'
     shift _module_words
+    set _module_status = 0
     foreach _module_word ( $_module_words:q )
         if ( "$_module_word" =~ -* ) then
             set _module_unload = ( $_module_unload:q "`$_module_cut`" )
+            set _module_status = $status
+            if ( $_module_status != 0 ) break
         else
             set _module_load = ( $_module_load:q $_module_word:q )
         endif
     end
-    set _module_status = 0
-    if ( $#_module_unload ) then
+    if ( $_module_status == 0 && $#_module_unload ) then
         set _module_words = ( $_module_shell unload $_module_unload:q )
+        if ( $?tcsh ) set argv = ( $_module_words:q )
         source "@prefix@/libexec/module.csh"
         set _module_status = $status
     endif
     if ( $_module_status == 0 && $#_module_load ) then
         set _module_words = ( $_module_shell load $_module_load:q )
+        if ( $?tcsh ) set argv = ( $_module_words:q )
         source "@prefix@/libexec/module.csh"
         set _module_status = $status
     endif

@@ -1,7 +1,8 @@
-# What the alias `module` does in csh and tcsh. The name of the shell and then the words are this file's arguments, or
-# stand in _module_words.
+# What the alias `module` does in csh and tcsh. The name of the shell and then the words are this file's arguments; BSD csh
+# has none for a file, and there they stand in _module_words.
 
-if ( ! $?_module_words ) set _module_words = ( $argv:q )
+# (A command that was broken off has left its own words there.)
+if ( $?tcsh ) set _module_words = ( $argv:q )
 
 # With it no quoted text is read as it is written.
 if ( $?backslash_quote ) then

@@ -5,7 +5,7 @@
 #   ./install.sh --uninstall [PREFIX]
 #
 # It needs a POSIX shell and the utilities of POSIX. A site's own etc/modulespath stays. DESTDIR, where it is set, is put
-# in front of the prefix.
+# in front of the prefix. An install that fails leaves what stood there as it was.
 set -eu
 
 action=install
@@ -24,11 +24,12 @@ if test $# -gt 1; then
     exit 2
 fi
 prefix=${1-/opt/modulecmd}
-cd "$(dirname "$0")"
+here=$(dirname -- "$0")
 if test "$action" = uninstall; then
-    exec sh tools/product.sh uninstall "${DESTDIR-}" "$prefix"
+    exec sh "$here/tools/product.sh" uninstall "${DESTDIR-}" "$prefix"
 fi
-sh tools/product.sh install "${DESTDIR-}" "$prefix" bin/modulecmd bin/modcheck bin/modaudit
+bin=$here/bin
+sh "$here/tools/product.sh" install "${DESTDIR-}" "$prefix" "$bin/modulecmd" "$bin/modcheck" "$bin/modaudit"
 cat << END
 What start-up files take it up (as root; where a folder isn't there, that shell isn't either):
   ln -s '$prefix/init/profile.sh' /etc/profile.d/modulecmd.sh      # sh, bash, ksh

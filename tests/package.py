@@ -11,7 +11,9 @@ import contextlib
 import glob
 import os
 import re
+import resource
 import shutil
+import signal
 import stat
 import subprocess
 import sys
@@ -39,8 +41,12 @@ FOLDERS = """usr/bin usr/lib usr/lib64 dev tmp root opt modules/foo etc/zsh etc/
 OF_OTHERS = ("etc/profile.d", "etc/csh/cshrc.d", "usr/share/fish/vendor_conf.d", "usr/share/doc", "usr/share/man/man1")
 LIBRARY = re.compile(r"(/\S+) \(0x")
 
+# The programs of the product, and files without which an install fails: of each kind one, the first and the last.
+PROGRAMS = ("modulecmd", "modcheck", "modaudit")
+NEEDED = ("VERSION", "init/sh", "init/zsh", "libexec/ml.csh", "libexec/report", "man/module.1", "etc/modulespath", "bin/modaudit")
+
 # The utilities that install.sh and the init files take.
-FEW = "cat chmod cmp cp dirname mkdir mv rm rmdir sed sh".split()
+FEW = "cat chmod cmp dirname mkdir mv rm rmdir sed sh".split()
 
 # What shells read at a login: Debian's, without what the owner of this machine added.
 PROFILE = """PATH=/usr/bin:/bin
@@ -113,8 +119,31 @@ def run(words, root=None, **how):
     how = {"capture_output": True, "text": True, "timeout": SECONDS, "check": False, **how}
     if "input" not in how:
         how["stdin"] = subprocess.DEVNULL
-    done = subprocess.run(words, preexec_fn=enter if root else None, **how)
+    if root:
+        how["preexec_fn"] = enter
+    done = subprocess.run(words, **how)
     return done.stdout, done.stderr, done.returncode
+
+
+def install(archive, prefix, **how):
+    """Installs an archive below a prefix, and gives what is said and the status."""
+    return run(["sh", os.path.join(archive, "install.sh"), prefix], **how)
+
+
+def looks(top):
+    """Every path below a folder, with its mode, and what a file holds."""
+    found = {}
+    for at, folders, files in os.walk(top):
+        for path in [at, *[os.path.join(at, name) for name in folders + files]]:
+            mode = stat.S_IMODE(os.lstat(path).st_mode)
+            found[os.path.relpath(path, top)] = (mode, read(path) if os.path.isfile(path) else None)
+    return found
+
+
+def same_looks(found, wanted, what):
+    """Names the paths that differ."""
+    differing = sorted(path for path in {*found, *wanted} if found.get(path) != wanted.get(path))
+    same(differing, [], what)
 
 
 def goes_well(words, **how):
@@ -292,6 +321,106 @@ def an_archive_is_installed_by_a_shell_and_few_utilities(folder):
         goes_well([*install, "--uninstall", prefix], env=env)
     left = [os.path.join(at, name) for at, _, names in os.walk(prefix) for name in names]
     same(left, [own], "what uninstalling leaves")
+
+
+@case
+def an_install_under_a_closed_umask_is_open_to_all(folder):
+    prefix = os.path.join(folder.path.decode(), "new", "prefix")
+    with unpacked(PACKAGES.version) as archive:
+        for mask in (0o077, 0o027, 0o002):
+            same(install(archive, prefix, umask=mask)[1:], ("", 0), f"an install under {mask:o}")
+            closed = {path: f"{mode:o}" for path, (mode, _) in looks(prefix).items() if mode not in (0o755, 0o644)}
+            same((closed, f"{stat.S_IMODE(os.stat(os.path.dirname(prefix)).st_mode):o}"), ({}, "755"), "the modes")
+            shutil.rmtree(os.path.dirname(prefix))
+
+
+@case
+def an_exported_cdpath_leads_no_install_astray(folder):
+    """Elsewhere there are folders that are called as those of the archive, and hold nothing."""
+    place = folder.path.decode()
+    prefix, elsewhere, stage = (os.path.join(place, name) for name in ("prefix", "elsewhere", "stage"))
+    with unpacked(PACKAGES.version) as archive:
+        os.makedirs(os.path.join(elsewhere, "tools"))
+        os.mkdir(os.path.join(elsewhere, os.path.basename(archive)))
+        env = {**os.environ, "CDPATH": elsewhere}
+        goes_well(["sh", os.path.join(archive, "install.sh"), prefix])
+        before, empty = looks(prefix), looks(elsewhere)
+        programs = [os.path.join(archive, "bin", name) for name in PROGRAMS]
+        for script, at, words in (
+            ("tools/product.sh", archive, ["install", "", prefix, *programs]),
+            (f"{os.path.basename(archive)}/install.sh", os.path.dirname(archive), [prefix]),
+            ("tools/product.sh", archive, ["install", stage, prefix, *programs]),
+        ):
+            same(run(["sh", script, *words], env=env, cwd=at)[1:], ("", 0), f"{script} with a CDPATH")
+            same_looks(looks(prefix), before, f"what {script} changes with a CDPATH")
+        same_looks(looks(stage + prefix), before, "what is laid out for a package with a CDPATH")
+    same_looks(looks(elsewhere), empty, "what is made elsewhere")
+
+
+@case
+def an_install_that_fails_changes_nothing(folder):
+    prefix = os.path.join(folder.path.decode(), "prefix")
+    fresh = os.path.join(folder.path.decode(), "fresh", "prefix")
+    with unpacked(PACKAGES.version) as archive:
+        same(install(archive, prefix)[1:], ("", 0), "the first install")
+        write(os.path.join(prefix, "etc", "modulespath"), "/site\n")
+    before = looks(prefix)
+    for name in NEEDED:
+        for reason in ("there is none", "a folder is in its place"):
+            with unpacked(PACKAGES.later) as archive:
+                os.remove(os.path.join(archive, name))
+                if reason != "there is none":
+                    os.mkdir(os.path.join(archive, name))
+                for at in (prefix, fresh):
+                    out, err, status = install(archive, at)
+                    true(status == 1 and not out and os.path.basename(name) in err, f"{name}, {reason}: {(out, err, status)}")
+                same_looks(looks(prefix), before, f"what an install changes without {name}")
+                true(not os.path.exists(os.path.dirname(fresh)), f"nothing is made without {name}")
+
+
+@case
+def an_install_that_finds_no_room_changes_nothing(folder):
+    """No file takes more bytes than these: a text is too long, and then a program. A folder stands in a file's place."""
+    prefix = os.path.join(folder.path.decode(), "prefix")
+    with unpacked(PACKAGES.version) as archive:
+        same(install(archive, prefix)[1:], ("", 0), "the first install")
+    before = looks(prefix)
+    with unpacked(PACKAGES.later) as archive:
+        for most in (1000, 100_000):
+
+            def limit(most=most):
+                signal.signal(signal.SIGXFSZ, signal.SIG_IGN)
+                resource.setrlimit(resource.RLIMIT_FSIZE, (most, most))
+
+            out, err, status = install(archive, prefix, preexec_fn=limit)
+            true(status == 1 and not out and "Nothing is installed" in err, f"with {most} bytes: {(out, err, status)}")
+            same_looks(looks(prefix), before, f"what an install with {most} bytes changes")
+        os.remove(os.path.join(prefix, "init/fish"))
+        os.mkdir(os.path.join(prefix, "init/fish"))
+        before = looks(prefix)
+        out, err, status = install(archive, prefix)
+        true(status == 1 and not out and "init/fish" in err, f"over a folder: {(out, err, status)}")
+        same_looks(looks(prefix), before, "what an install over a folder changes")
+
+
+@case
+def relative_paths_begin_where_the_caller_stands(folder):
+    place = folder.path.decode()
+    with unpacked(PACKAGES.version) as archive:
+        near, name = os.path.split(archive)
+        before = looks(archive)
+        same(install(name, "/p", cwd=near, env={**os.environ, "DESTDIR": "one"})[1:], ("", 0), "install.sh")
+        words = ["install", "./two", "/p", *(f"{name}/bin/{program}" for program in PROGRAMS)]
+        same(run(["sh", f"{name}/tools/product.sh", *words], cwd=near)[1:], ("", 0), "product.sh")
+        same(sorted(os.listdir(near)), sorted([name, "one", "two"]), "what is made")
+        same(sorted(os.listdir(f"{near}/one/p/bin")), sorted(PROGRAMS), "the programs")
+        same_looks(looks(f"{near}/two"), looks(f"{near}/one"), "what both lay out")
+        same_looks(looks(archive), before, "the archive")
+        words = ["sh", os.path.join(archive, "install.sh"), "--uninstall", "/p"]
+        same(run(words, cwd=near, env={**os.environ, "DESTDIR": "one"}), ("", "", 0), "install.sh --uninstall")
+        same(run(["sh", f"{name}/tools/product.sh", "uninstall", "two", "/p"], cwd=near), ("", "", 0), "uninstall")
+        same([os.listdir(f"{near}/{stage}") for stage in ("one", "two")], [[], []], "what is left")
+    same(os.path.exists(f"{place}/p"), False, "nothing is made elsewhere")
 
 
 @case

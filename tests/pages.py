@@ -31,13 +31,41 @@ ROWS, COLUMNS = 40, 80
 MARK = b"\x02"
 
 # What stands in for Environment Modules: it makes what the program does, but another CC of gcc.
-OTHER = """
-catch {exec PROGRAM {*}$argv 2> /dev/null} text
-puts $text
-if {"gcc" in $argv} {puts "CC=other; export CC;"}
+OTHER = """#!/bin/sh
+PROGRAM "$@" 2> /dev/null || echo "no $3" >&2
+case " $* " in
+    *" gcc "*) echo "CC=other; export CC;" ;;
+esac
 """
 
-COMPARED = "".join(f"# {names}\n1c1\n< CC=other\n---\n> CC=gcc\n" for names in ("gcc", "gcc openmpi hdf5"))
+# What the modulefiles of the sites leave out: names of one, three and four parts, and one that asks who the user is.
+MORE = {
+    "bare": "", "lang/c/1": "setenv C 1\n", "lang/c/2": "setenv C 2\n", "lang/c/new/1": "setenv C new\n",
+    "who/1": "setenv WHO $env(USER)\n",
+}  # fmt: skip
+
+# The lines of the page, in their order: the names, and those without version.
+LISTED = """bare clang/17 gcc/13.2.0 greeting/1 hdf5/1.14 lang/c/1 lang/c/2 lang/c/new/1 openmpi/4.1.6 plugins/2.3 profile/1
+    python/3.11.6 solver/2024 toolbox/5.0 who/1 workdir/1
+    clang gcc greeting hdf5 lang/c lang/c/new openmpi plugins profile python solver toolbox who workdir""".split()
+
+# What neither loads, and why not.
+LEFT = {
+    "hdf5": "Missing one of 'openmpi'",
+    "openmpi": "Missing one of 'gcc clang'",
+    "plugins": "Stopped by the modulefile",
+}
+
+
+def compared():
+    """What the comparison prints, of names, and then of what is loaded together."""
+    for names in [*LISTED, "gcc openmpi hdf5"]:
+        name = names.split("/")[0]
+        if names.startswith("gcc") and "/" not in names:
+            yield f"# {names}\n1c1\n< CC=other\n---\n> CC=gcc\n"
+        elif name in LEFT:
+            yield f"# {names}\nno {names}\nERROR: {LEFT[name]}\n"
+
 
 # What the check of the page says of the folder sites, by name and then of what is loaded together.
 CHECKED = """
@@ -47,6 +75,7 @@ openmpi/4.1.6 refused: Missing one of 'gcc clang'
 plugins/2.3 refused: Stopped by the modulefile
 profile/1: Asked
 python/3.11.6: OneWay
+who/1: Asked
 workdir/1: Asked
 """
 
@@ -159,11 +188,14 @@ def the_commands_of_the_page_for_sites(folder):
     home = os.fsdecode(folder.path) + "/home"
     install(os.path.join(home, "modulecmd"))
     shutil.copytree(os.path.join(HERE, "sites"), os.fsdecode(folder.modules), dirs_exist_ok=True)
+    for name, text in MORE.items():
+        folder.module(name, text)
     _, lists, compare, compares, checks = blocks(content("docs", "SITES.md"), "sh")
     for name, text in (("compare", compare), ("other", OTHER.replace("PROGRAM", f"{home}/modulecmd/bin/modulecmd"))):
         with open(os.path.join(home, name), "w") as file:
             file.write(text)
-    env = folder.environment(HOME=home, PATH=os.environ["PATH"], MODULES_CMD=f"{home}/other")
+    os.chmod(os.path.join(home, "other"), 0o755)
+    env = folder.environment(HOME=home, USER="you", PATH=os.environ["PATH"], MODULES_CMD=f"{home}/other")
 
     def prints(commands):
         run = ["sh", "-c", commands]
@@ -172,8 +204,10 @@ def the_commands_of_the_page_for_sites(folder):
         return done.stdout.decode()
 
     same(prints(lists), "", "what the lists print")
+    with open(os.path.join(home, "lines")) as file:
+        same(file.read().split("\n"), [*LISTED, "gcc openmpi hdf5", ""], "the lists")
     first = compares.split("\n")[0]
-    same(prints(f"bin=~/modulecmd/bin\n{first}"), COMPARED, "what the comparison prints")
+    same(prints(f"bin=~/modulecmd/bin\n{first}"), "".join(compared()), "what the comparison prints")
     found = prints(f"bin=~/modulecmd/bin\n{checks}").splitlines()
     wanted = CHECKED.strip().split("\n")
     same(found[: len(wanted)], wanted, "what the check prints of the modules")

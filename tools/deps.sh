@@ -2,7 +2,9 @@
 # Installs, by apt-get, what the static link (`build`), the example (`demo`), the tests (`test`) or the measurements
 # (`bench`) need, where it is missing, and says so. Without a word: what all of them need.
 set -eu
-cd "$(dirname "$0")/.."
+# With it `cd` goes to folders elsewhere that are called as those here.
+unset CDPATH
+cd -- "$(dirname -- "$0")/.."
 
 # Notes a package where none of its commands or files is there.
 need() {
@@ -44,6 +46,9 @@ need_for() {
                 unpacked=environment-modules
             fi
             need fish fish
+            # Other awks than the machine's, and one more shell.
+            need gawk gawk
+            need busybox busybox
             need mandoc mandoc
             need valgrind valgrind
             need shellcheck shellcheck
@@ -96,11 +101,16 @@ if ! command -v apt-get > /dev/null 2>&1 || test "$(id -u)" != 0; then
     exit 0
 fi
 echo "missing, and installed now by apt-get:$missing $unpacked"
+awk=$(readlink -f "$(command -v awk)") || true
 apt-get update > /dev/null 2>&1 || true
 for package in $missing; do
     apt-get install -y --no-install-recommends "$package" > /dev/null 2>&1 \
         || echo "apt-get has no $package" >&2
 done
+# gawk makes itself the machine's awk.
+case $missing in
+    *gawk*) test -z "$awk" || update-alternatives --set awk "$awk" > /dev/null 2>&1 || echo "gawk is awk now" >&2 ;;
+esac
 if test -n "$unpacked"; then
     mkdir -p build/bench/packages
     (cd build/bench/packages && apt-get download "$unpacked" > /dev/null 2>&1 && dpkg -x "$unpacked"_*.deb "../$unpacked") \

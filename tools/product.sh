@@ -5,27 +5,40 @@
 #   tools/product.sh uninstall DESTDIR PREFIX
 #
 # PREFIX is where it will stand, and is written into the files that name one another; DESTDIR (empty, or a directory) is
-# put in front of it for whoever makes a package.
+# put in front of it for whoever makes a package. A relative DESTDIR or PROGRAM begins where the caller stands. An install
+# that fails leaves what stood there as it was.
 set -eu
+umask 022
+# With it `cd` goes to folders elsewhere that are called as those here.
+unset CDPATH
 
-cd "$(dirname "$0")/.."
+refuse() {
+    printf '%s\n' "$*" >&2
+    exit 1
+}
+
+if test $# -lt 3; then
+    sed -n '2,5s/^# \{0,1\}//p' "$0" >&2
+    exit 2
+fi
 action=$1
 prefix=${3%/}
-top=$2$prefix
-
 case $prefix in
     /*) ;;
-    *)
-        echo "PREFIX has to be an absolute path, and isn't '/': $3" >&2
-        exit 1
-        ;;
+    *) refuse "PREFIX has to be an absolute path, and isn't '/': $3" ;;
 esac
 case $prefix in
     *[]\'\"\`\\\$\!\|\&*?\[{}]* | *[[:cntrl:]]*)
-        echo "PREFIX holds a character that shells give a meaning also in quotes: $3" >&2
-        exit 1
+        refuse "PREFIX holds a character that shells give a meaning also in quotes: $3"
         ;;
 esac
+start=$PWD
+case $2 in
+    '' | /*) top=$2$prefix ;;
+    *) top=$start/$2$prefix ;;
+esac
+shift 3
+cd -- "$(dirname -- "$0")/.."
 
 # The files that are put in place with the prefix, and those that can be run.
 files='init/sh init/bash init/ksh init/zsh init/csh init/tcsh init/fish init/profile.sh
@@ -37,54 +50,97 @@ runs='libexec/usage libexec/modulespath libexec/names libexec/report libexec/cha
 programs='bin/modulecmd bin/modcheck bin/modaudit'
 folders='bin init libexec completion etc share/man/man1 share/man/man5 share/man share'
 
-# What a file holds.
-text() {
+# The folders that an install has made, inner ones first, and the files that it has begun, a line each.
+new_folders=
+new_files=
+
+# Takes away what an install that fails has made.
+take_back() {
+    printf '%s' "$new_files" | while IFS= read -r file; do
+        rm -f -- "$file.new"
+    done
+    printf '%s' "$new_folders" | while IFS= read -r folder; do
+        rmdir -- "$folder"
+    done
+}
+
+make_folder() {
+    if test ! -d "$1"; then
+        make_folder "$(dirname -- "$1")"
+        mkdir -- "$1"
+        new_folders="$1
+$new_folders"
+    fi
+}
+
+# Makes a file beside its place, of what a command prints: make_file MODE FILE COMMAND...
+make_file() {
+    mode=$1 place=$2
+    shift 2
+    test ! -d "$place" || refuse "Nothing is installed: a folder is in the place of $place"
+    new_files="$new_files$place
+"
+    { "$@" > "$place.new" && chmod "$mode" "$place.new"; } || refuse "Nothing is installed: $place can't be made"
+}
+
+# Prints the text of a file, with what stands in the place of each mark.
+fill() {
+    name=${1##*/} zsh='/# zsh: /d'
     case $1 in
-        init/ksh) cat init/sh ;;
-        init/bash | init/zsh) cat init/sh "$1" ;;
-        init/tcsh) cat init/csh init/tcsh ;;
-        share/man/*) cat "man/${1##*/}" ;;
-        etc/modulespath.example) cat etc/modulespath ;;
-        *) cat "$1" ;;
+        init/ksh) set -- init/sh ;;
+        init/bash) set -- init/sh init/bash ;;
+        init/zsh)
+            zsh='s/# zsh: //'
+            set -- init/sh init/zsh
+            ;;
+        init/tcsh) set -- init/csh init/tcsh ;;
+        share/man/*) set -- "man/$name" ;;
+        etc/modulespath.example) set -- etc/modulespath ;;
+    esac
+    sed -e "$zsh" -e "s|@prefix@|$prefix|g" -e "s|@shell@|$name|g" -e "s|@version@|$version|g" -- "$@"
+}
+
+make_files() {
+    version=$(cat VERSION)
+    for folder in $folders; do
+        make_folder "$top/$folder"
+    done
+    for file in $files; do
+        make_file 644 "$top/$file" fill "$file"
+    done
+    for file in $runs; do
+        make_file 755 "$top/$file" fill "$file"
+    done
+    # The site's own file stays.
+    if test ! -e "$top/etc/modulespath" && test ! -L "$top/etc/modulespath"; then
+        make_file 644 "$top/etc/modulespath" fill etc/modulespath
+    fi
+}
+
+make_program() {
+    case $1 in
+        /*) make_file 755 "$top/bin/${1##*/}" cat "$1" ;;
+        *) make_file 755 "$top/bin/${1##*/}" cat "$start/$1" ;;
     esac
 }
 
-# What stands in the place of each mark.
-filled() {
-    case $1 in
-        init/zsh) zsh='s/# zsh: //' ;;
-        *) zsh='/# zsh: /d' ;;
-    esac
-    text "$1" | sed -e "$zsh" -e "s|@prefix@|$prefix|g" -e "s|@shell@|${1##*/}|g" -e "s|@version@|$(cat VERSION)|g"
-}
-
-# Gives a new file its mode, and the place of the old one.
-place() {
-    chmod "$1" "$2.new"
-    mv -f "$2.new" "$2"
+# Each file is put in place whole: shells of users may read the one that was there.
+place_files() {
+    printf '%s' "$new_files" | while IFS= read -r file; do
+        mv -f -- "$file.new" "$file"
+    done
 }
 
 case $action in
     install)
-        for folder in $folders; do
-            mkdir -p "$top/$folder"
-        done
-        # Each file is put in place whole: shells of users may read the one that was there.
-        for file in $files; do
-            filled "$file" > "$top/$file.new"
-            place 644 "$top/$file"
-        done
-        for file in $runs; do
-            filled "$file" > "$top/$file.new"
-            place 755 "$top/$file"
-        done
-        shift 3
+        trap take_back EXIT
+        trap 'exit 1' HUP INT TERM
+        make_files
         for program in "$@"; do
-            cp "$program" "$top/bin/${program##*/}.new"
-            place 755 "$top/bin/${program##*/}"
+            make_program "$program"
         done
-        # The site's own file stays.
-        test -e "$top/etc/modulespath" || cp "$top/etc/modulespath.example" "$top/etc/modulespath"
+        place_files
+        trap - EXIT
         echo "installed below $top"
         ;;
     uninstall)
@@ -99,4 +155,5 @@ case $action in
         done
         rmdir "$top" 2> /dev/null || true
         ;;
+    *) refuse "product.sh neither installs nor uninstalls by '$action'" ;;
 esac

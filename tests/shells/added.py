@@ -4,6 +4,7 @@ import glob
 import os
 import re
 import resource
+import shutil
 import signal
 import subprocess
 
@@ -266,7 +267,7 @@ def add(shell, prefixes):
         del here.env[b"MODULEPATH"]
         lines = [*step("module use"), *step("module unuse /a"), *step("module save"), *step("module restore")]
         said = (
-            "ERROR: Nothing to save: no module is loaded, and there is no MODULEPATH\n"
+            "ERROR: Nothing to save: no module is loaded, and MODULEPATH names no directory\n"
             "ERROR: There is no collection 'default'\n"
         )
         kept = here.keeps(["show", *lines, *step(f"module use {here.top}")], said)
@@ -287,9 +288,10 @@ class Changes:
         os.chmod(self.home, 0o777)
         self.env = folder.environment(PATH=os.environ["PATH"], HOME=self.home)
 
-    def run(self, *words, program="changes", env=(), **more):
+    def run(self, *words, program="changes", env=(), under=(), **more):
+        """Runs a program, behind the words of a command that runs others."""
         given = {**self.env, **encoded(dict(env))}
-        command = [os.path.join(self.prefix, "libexec", program), *words]
+        command = [*under, os.path.join(self.prefix, "libexec", program), *words]
         more = {"stdin": subprocess.DEVNULL, "capture_output": True, "timeout": SECONDS, "check": False, **more}
         done = subprocess.run(command, env=given, **more)
         return done.stdout, done.stderr, done.returncode
@@ -307,6 +309,26 @@ class Changes:
         with open(path, "wb") as file:
             file.write(data if isinstance(data, bytes) else data.encode())
         return path
+
+
+# What the system's awk and sh can be.
+OTHERS = {"awk": ("mawk", "gawk", "busybox"), "sh": ("dash", "bash", "ksh93", "mksh", "zsh", "busybox")}
+
+
+def instead(name, other):
+    """How a command begins that finds another program at a name, by a mount that no other process sees."""
+    found = [shutil.which(program, path="/usr/bin:/bin") for program in (other, name)]
+    lines = 'mount --bind "$1" "$2" && shift 2 && exec "$@"'
+    return ["unshare", "-m", "sh", "-c", lines, "sh", *[os.path.realpath(path) for path in found]]
+
+
+def systems():
+    """Systems with other programs than this one: what each has, and how a command begins that runs there."""
+    if subprocess.run(["unshare", "-m", "mount", "--bind", "/", "/"], capture_output=True, check=False).returncode:
+        print("not run: over other awks and shells of the system, since this user can't mount")
+        return []
+    there = [(name, other) for name, others in OTHERS.items() for other in others if shutil.which(other)]
+    return [(f"where {name} is {other}", instead(name, other)) for name, other in there]
 
 
 # What the programs of libexec are made of.
@@ -335,6 +357,8 @@ NO_COLLECTIONS = (
     ('module use "/a\n', "line 1: a quote that isn't closed"),
     ('module use "/a"b\n', "line 1: a quote that isn't closed at the end of a word"),
     ("module use /a\\x41\n", "line 1: a backslash before what it gives no meaning"),
+    ("", "no line names a module or a directory"),
+    ("# empty\n\n \t\nmodule load --notuasked\n", "no line names a module or a directory"),
     ("module load a\0b\n", "it has a byte that is no text"),
     ("#" * 65537, "it has more than 65536 bytes"),
 )
@@ -342,6 +366,7 @@ NO_COLLECTIONS = (
 
 def add_changes(prefixes):
     """Adds the cases that need no shell."""
+    everywhere = [("here", []), *systems()]
 
     @case
     def no_collection_is_refused_and_never_evaluated(folder):
@@ -400,14 +425,60 @@ def add_changes(prefixes):
             resource.setrlimit(resource.RLIMIT_FSIZE, (10, 10))
 
         path = here.file("c", "module load old\n")
-        here.refuses(["save", "c"], f"Writing failed: '{top}/c'", preexec_fn=small)
-        same(content(path), b"module load old\n", "the file")
-        same(os.listdir(top), ["c"], "the files")
+        for where, under in everywhere:
+            found = here.run("sh", "save", "c", under=under, preexec_fn=small)
+            same(found, (b"", f"ERROR: Writing failed: '{top}/c'\n".encode(), 1), f"a save {where}")
+            same(content(path), b"module load old\n", f"the file {where}")
+            same(os.listdir(top), ["c"], f"the files {where}")
+        # Nothing is read of what was written.
+        for under in [instead("cat", "true")] * (len(everywhere) > 1):
+            here.refuses(["save", "c"], f"Writing failed: '{top}/c'", under=under)
+            same((content(path), os.listdir(top)), (b"module load old\n", ["c"]), "the file, and the files")
         os.chmod(top, 0o555)
         user = {"user": NOBODY, "group": NOBODY, "extra_groups": []} if os.geteuid() == 0 else {}
         here.refuses(["save", "c"], f"Writing failed: '{top}/c'", **user)
         here.refuses(["saverm", "c"], f"Writing failed: '{top}/c'", **user)
         same(content(path), b"module load old\n", "the file")
+
+    @case
+    def a_collection_is_the_same_by_every_awk_and_sh(folder):
+        here = Changes(folder, prefixes)
+        folder.module("foo/1", "setenv FOO 1\n")
+        start = folder.modules.decode()
+        lists = {"LOADEDMODULES": "foo/1", "_LMFILES_": f"{start}/foo/1"}
+        path = f"{start}:/a b:/it's $x"
+        saved = f"module use --append {start}\nmodule use --append {{/a b}}\nmodule use --append {{/it's $x}}\n"
+        for where, under in everywhere:
+            here.answers(["save", "c"], env={"MODULEPATH": path + ":", "FOO": "1", **lists}, under=under)
+            file = os.path.join(here.home, ".config/modulecmd/c")
+            same(content(file).decode(), saved + "module load foo/1\n", f"what is saved {where}")
+            out = text("sh", {"MODULEPATH": path}) + text("sh", {"FOO": "1", **lists})
+            same(here.run("sh", "restore", "c", under=under), (out, b"", 0), f"what is restored {where}")
+            os.remove(file)
+
+    @case
+    def a_collection_is_restored_whatever_tools_say(folder):
+        here = Changes(folder, prefixes)
+        folder.module("foo/1", "setenv FOO 1\n")
+        here.file("c", "module load foo\n")
+        lists = {"LOADEDMODULES": "foo/1", "_LMFILES_": f"{folder.modules.decode()}/foo/1"}
+        for under, name, value in (
+            (["bash", "--posix"], "LC_ALL", "zz_ZZ.UTF-8"),
+            (["bash", "--posix"], "SHELLOPTS", "xtrace"),
+            (["dash"], "LD_PRELOAD", "/no/such.so"),
+        ):
+            out, said, status = here.run("sh", "restore", "c", env={name: value}, under=under)
+            same((out, status), (text("sh", {"FOO": "1", **lists}), 0), f"a restore with {name}={value}: {said!r}")
+            true(said, f"something is said with {name}={value}")
+
+    @case
+    def nothing_is_no_collection(folder):
+        here = Changes(folder, prefixes)
+        nothing = "Nothing to save: no module is loaded, and MODULEPATH names no directory"
+        for path in (None, "", ":", "::"):
+            here.env.pop(b"MODULEPATH", None)
+            here.refuses(["save"], nothing, env={} if path is None else {"MODULEPATH": path})
+        same(os.listdir(here.home), [], "what is made")
 
     @case
     def a_home_that_cannot_be_written_is_said(folder):

@@ -129,6 +129,28 @@ def install_keeps_the_site_s_own_file(folder):
     same(below(place), ["etc/modulespath"], "what uninstall leaves")
 
 
+def elsewhere(folder):
+    """The environment with an exported CDPATH, which names folders that are called as those of the repository."""
+    place = os.path.join(folder.path.decode(), "elsewhere")
+    for name in ("tools", "demo", ".ci"):
+        os.makedirs(os.path.join(place, name))
+    return {**os.environ, "CDPATH": place}
+
+
+@case
+def an_exported_cdpath_leads_no_script_astray(folder):
+    env = elsewhere(folder)
+    tools = os.path.join(folder.path.decode(), "tools")
+    os.mkdir(tools)
+    with open(os.path.join(tools, "make"), "w") as file:
+        file.write('#!/bin/sh\necho "$PWD $*"\n')
+    os.chmod(os.path.join(tools, "make"), 0o755)
+    env["PATH"] = f"{tools}:{env['PATH']}"
+    for words, wanted in (([".ci/run"], f"{TOP} test\n"), (["tools/deps.sh", "build"], "")):
+        done = subprocess.run(["sh", *words], cwd=TOP, env=env, capture_output=True, check=False)
+        same((done.stdout.decode(), done.stderr, done.returncode), (wanted, b"", 0), f"what {words} writes")
+
+
 @case
 def install_refuses_a_prefix_that_shells_would_misread(folder):
     marks = ("'", '"', "`", "$$", "!", "\\", "|", "&", "*", "?", "[", "]", "{", "}")
@@ -310,9 +332,8 @@ def add_demo(prefixes):
         if shell.init == "sh" and shell.is_there():
 
             def demonstrates(folder, shell=shell):
-                done = subprocess.run(
-                    [*shell.command, "demo/demo.sh", prefixes.program], cwd=TOP, capture_output=True, check=False
-                )
+                command = [*shell.command, "demo/demo.sh", prefixes.program]
+                done = subprocess.run(command, cwd=TOP, env=elsewhere(folder), capture_output=True, check=False)
                 same((done.stderr, done.returncode), (b"", 0), "standard error and status")
                 shown = [part.split(b"\n\n")[0].split(b"\n") for part in done.stdout.split(b"--- ")[1:]]
                 titles = [b"before", b"after module load hello greet", b"after module switch hello/2.0"]

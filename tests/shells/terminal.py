@@ -207,6 +207,44 @@ def add(shell, prefixes):
         at.until(lambda: content(os.path.join(place, "piped")) == wanted, "what help pipes")
         at.close()
 
+    @named("does what is typed behind a command that was broken off")
+    def broken_off(folder):
+        here, at, _ = start(folder)
+        for slow, line, words in (
+            ("module load slow", "module unload gcc", ["unload", "gcc"]),
+            ("ml slow", "ml -gcc", ["unload", "gcc"]),
+            ("ml -slow foo", "module purge", ["purge"]),
+            ("module load slow", "ml gcc", ["load", "gcc"]),
+        ):
+            here.stand_in.hang()
+            given = len(here.stand_in.words())
+            at.send(slow + "\n")
+            at.until(lambda given=given: len(here.stand_in.words()) > given, f"the command of `{slow}`")
+            at.settle(0.1)
+            at.send("\x03")
+            at.settle()
+            here.stand_in.answer()
+            at.send(line + "\n")
+            at.until(lambda given=given: len(here.stand_in.words()) > given + 1, f"the command of `{line}`")
+            same(here.stand_in.words()[-1], [shell.init, *words], f"the words of `{line}`")
+            at.settle(0.1)
+        at.close()
+
+    if shell.title == "tcsh":
+
+        @named("does what is typed behind a text that it can't evaluate")
+        def misfit(folder):
+            here, at, _ = start(folder)
+            here.stand_in.answer(b"setenv LS_COLORS 'zz=1';\n")
+            at.send("module load colours\n")
+            at.until(lambda: b"Unknown colorls variable" in at.seen, "what the shell says")
+            at.settle(0.1)
+            here.stand_in.answer()
+            at.send("module unload foo\n")
+            at.until(lambda: len(here.stand_in.words()) > 1, "the command")
+            same(here.stand_in.words()[1], ["tcsh", "unload", "foo"], "the words")
+            at.close()
+
     if shell.title not in COMPLETES:
         return
 
@@ -407,6 +445,24 @@ def add_added(shell, prefixes):
             at.send("q")
         at.settle(0.2)
         at.close()
+
+    if shell.title == "tcsh":
+
+        @named("does what is typed behind a pager that was suspended")
+        def suspends(folder):
+            pager = os.path.join(folder.path, b"pager").decode()
+            with open(pager, "w") as file:
+                file.write(f"#!/bin/sh\n/usr/bin/touch '{pager}.runs'\nexec /bin/sleep 60\n")
+            os.chmod(pager, 0o755)
+            at, place = start(folder, PAGER=pager)
+            shows(at, "/bin/stty rows 5 columns 34", b"\n")
+            at.send("module avail\n")
+            at.until(lambda: os.path.exists(f"{pager}.runs"), "the pager")
+            shows(at, "\x1a", b"Suspended")
+            at.send(f"module load mpi; module list > '{place}/loaded'\n")
+            wanted = b"Currently Loaded Modulefiles:\nmpi/1\n"
+            at.until(lambda: content(f"{place}/loaded") == wanted, "what is loaded")
+            at.close()
 
     @named("says which names are like one that isn't found")
     def suggests(folder):

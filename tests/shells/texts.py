@@ -61,6 +61,13 @@ class StandIn:
         self.write(f"{self.answered}.err", err)
         self.write(f"{self.answered}.status", f"{status}\n".encode())
 
+    def hang(self):
+        """One more command, which ends when it is broken off: its text is that of a pipe that nobody writes to."""
+        self.answer()
+        pipe = os.path.join(self.path, f"{self.answered}.out")
+        os.remove(pipe)
+        os.mkfifo(pipe)
+
     def words(self):
         """The words of each command so far."""
         with open(os.path.join(self.path, "number"), "rb") as file:

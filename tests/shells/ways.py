@@ -216,6 +216,16 @@ def add(shell, prefixes):
             "the words",
         )
 
+    @named("ml unloads and loads where PATH leads nowhere")
+    def short_without_path(folder):
+        here = session(folder)
+        for status in (0, 0, 3):
+            here.stand_in.answer(status=status)
+        lost = {"sh": "PATH=/nowhere", "csh": "setenv PATH /nowhere", "fish": "set -gx PATH /nowhere"}[shell.family]
+        here.keeps([lost, "ml bar -'a  b' foo -c", again("ml -foo bar"), "show"])
+        given = [words[1:] for words in here.stand_in.words()]
+        same(given, [["unload", "a  b", "c"], ["load", "bar", "foo"], ["unload", "foo"]], "the words")
+
     @named("leaves reports on standard error away from a terminal")
     def reports(folder):
         here = session(folder)
