@@ -1,9 +1,9 @@
-"""What the built program does where the device fails: what it does with a sound one, or `Reading failed` and no change.
+"""What the built program does where the device fails: `Reading failed` and no change.
 
     python3 -B tests/device.py PROGRAM
 
 Each call that opens, reads, lists or asks for what is there fails in turn, and then all from each on, by different errors.
-A failure is never taken as an absence.
+A failure is never taken as an absence, also where nothing is there.
 """
 
 import errno
@@ -12,61 +12,133 @@ import resource
 import subprocess
 import sys
 
-from harness import FOO, case, loaded, refuser, refuses_each, run_all, same, true
+from harness import FOO, case, loaded, refuser, run_all, same, true
 
 # Errors that tell of no absence, and those that tell of none where the same path was seen before.
 ERRORS = (errno.EIO, errno.EACCES, errno.EMFILE, errno.ELOOP, errno.ESTALE, errno.EINVAL)
 BEHIND_A_LOOK = (errno.ENOENT, errno.ENOTDIR)
 
+REFUSED = (b"", b"ERROR: Reading failed\n", 1)
 
-def answers_or_fails(folder, words, env, errors=(*ERRORS, *BEHIND_A_LOOK)):
-    """The program answers as with a sound device, or changes nothing and says why."""
-    shim = refuser(folder.path, "failing_calls")
+# Where this can't be read, the program asks the C library for its environment.
+OWN_ENVIRONMENT = b"/proc/self/environ"
+
+
+def guesses(paths):
+    """The directories that are opened before anything looked at them. Where that fails the program looks."""
+    return {path for at, path in enumerate(paths) if path.endswith(b"/") and path[:-1] not in paths[:at]}
+
+
+class Command:
+    """A command whose calls can be made to fail. It does without the answers of the calls by the spare paths."""
+
+    def __init__(self, folder, words, env):
+        self.folder = folder
+        self.words = words
+        self.env = {**env, b"LD_PRELOAD": refuser(folder.path, "failing_calls")}
+        self.spare = {OWN_ENVIRONMENT} | guesses(self.paths({}))
+
+    def run(self, asked):
+        done = self.folder.run(*self.words, env={**self.env, **asked})
+        return done.stdout, done.stderr, done.returncode
+
+    def paths(self, asked):
+        """The path of each call that can fail."""
+        listed = os.path.join(self.folder.path, b"calls")
+        with open(listed, "wb"):
+            self.run({**asked, b"CALLS_TO": listed})
+        with open(listed, "rb") as file:
+            return file.read().splitlines()
+
+    def wanted(self, paths, ample):
+        """What the command has to answer where the calls by these paths fail."""
+        return ample if all(path in self.spare for path in paths) else REFUSED
+
+    def fails(self, error):
+        """Each call fails by this error, and then all from each on."""
+        by = {b"FAIL_WITH": b"%d" % error, **({b"FAIL_SEEN": b"1"} if error in BEHIND_A_LOOK else {})}
+        ample = self.run(by)
+        paths = self.paths(by)
+        for at, path in enumerate(paths):
+            what = f"{self.words} by {errno.errorcode[error]}, call {at + 1}, {path}"
+            number = b"%d" % (at + 1)
+            same(self.run({**by, b"FAIL_AT": number}), self.wanted([path], ample), what)
+            same(self.run({**by, b"FAIL_FROM": number}), self.wanted(paths[at:], ample), f"{what} and all after it")
+        return len(paths)
+
+    def notices(self):
+        """At how many of how many calls it is noticed that the program takes a failure for an absence: it then does what
+        it does where nothing is at the path of the call."""
+        ample = self.run({})
+        paths = [path for path in self.paths({}) if path != OWN_ENVIRONMENT]
+        emulated = [self.run({b"ABSENT": path.rstrip(b"/")}) for path in paths]
+        return sum(answer != self.wanted([path], ample) for path, answer in zip(paths, emulated)), len(paths)
+
+
+def refuses_each_failure(folder, words, env, errors=(*ERRORS, *BEHIND_A_LOOK)):
+    """Where a call fails the program changes nothing and says why, and it is noticed if it takes that for an absence."""
+    command = Command(folder, words, env)
     for error in errors:
-
-        def run(asked, error=error):
-            only = {b"FAIL_SEEN": b"1"} if error in BEHIND_A_LOOK else {}
-            done = folder.run(*words, env={**env, **asked, **only, b"FAIL_WITH": b"%d" % error})
-            return done.stdout, done.stderr, done.returncode
-
-        refuses_each(shim, run, (b"", b"ERROR: Reading failed\n", 1).__eq__, f"{words} by {errno.errorcode[error]}")
+        true(command.fails(error) > 0, f"{words} by {errno.errorcode[error]}: no call can fail")
+    noticed, calls = command.notices()
+    print(f"{' '.join(words)}: a failure taken for an absence is noticed at {noticed} of {calls} calls")
+    same(noticed, calls, f"{words}: calls at which it is noticed")
 
 
 def versions(folder):
     for version in ("1.9", "1.10", "1.10-rc"):
-        folder.module(f"ver/{version}", f"setenv V {version}\n")
+        folder.module(f"ver/{version}", f"setenv V {version}\nmodule-whatis {version}\n")
     folder.module("ver/.version", 'set ModulesVersion "1.9"\n')
     return folder.environment()
+
+
+def three_directories(folder):
+    """The first directory of MODULEPATH isn't there; the last has other modules of the names of the second."""
+    env = versions(folder)
+    last = os.path.join(folder.path, b"last")
+    for name in ("ver/1.9", "ver/2", "gone/1", "late/1"):
+        path = os.path.join(last, name.encode())
+        os.makedirs(os.path.dirname(path), exist_ok=True)
+        with open(path, "wb") as file:
+            file.write(b"#%Module\nsetenv V last\n")
+    env[b"MODULEPATH"] = b":".join([folder.path + b"/none", folder.modules, last])
+    return env
 
 
 @case
 def a_load_of_a_whole_name(folder):
     folder.module("foo/1.0", FOO)
-    answers_or_fails(folder, ["sh", "load", "foo/1.0"], folder.environment(PATH="/bin"))
+    refuses_each_failure(folder, ["sh", "load", "foo/1.0"], folder.environment(PATH="/bin"))
 
 
 @case
 def a_load_of_a_default(folder):
-    answers_or_fails(folder, ["sh", "load", "ver"], versions(folder))
+    refuses_each_failure(folder, ["sh", "load", "ver"], versions(folder))
 
 
 @case
 def a_load_of_the_greatest_version(folder):
     env = versions(folder)
     os.remove(folder.at("ver/.version"))
-    answers_or_fails(folder, ["sh", "load", "ver"], env)
+    refuses_each_failure(folder, ["sh", "load", "ver"], env)
 
 
 @case
-def a_load_from_the_second_directory(folder):
-    env = versions(folder)
-    env[b"MODULEPATH"] = folder.path + b"/none:" + folder.path + b":" + folder.modules
-    answers_or_fails(folder, ["sh", "load", "ver/1.9"], env)
+def a_load_from_the_second_of_three_directories(folder):
+    env = three_directories(folder)
+    refuses_each_failure(folder, ["sh", "load", "ver/1.9"], env)
+    refuses_each_failure(folder, ["sh", "load", "ver"], env)
+
+
+@case
+def a_load_from_the_last_of_three_directories(folder):
+    refuses_each_failure(folder, ["sh", "load", "late"], three_directories(folder))
 
 
 @case
 def a_name_that_is_not_there(folder):
-    answers_or_fails(folder, ["sh", "load", "nope"], versions(folder), ERRORS)
+    refuses_each_failure(folder, ["sh", "load", "nope"], versions(folder), ERRORS)
+    refuses_each_failure(folder, ["sh", "load", "nope"], three_directories(folder), ERRORS)
 
 
 @case
@@ -74,23 +146,33 @@ def an_unload_and_a_switch(folder):
     folder.module("foo/1.0", FOO)
     versions(folder)
     env = loaded(folder, "foo/1.0", FOO="on", PATH="/opt/foo/bin:/bin")
-    answers_or_fails(folder, ["sh", "unload", "foo"], env)
-    answers_or_fails(folder, ["csh", "switch", "foo", "ver"], env)
-    env = loaded(folder, "gone/1")
-    answers_or_fails(folder, ["sh", "unload", "gone"], env, ERRORS)
+    refuses_each_failure(folder, ["sh", "unload", "foo"], env)
+    refuses_each_failure(folder, ["csh", "switch", "foo", "ver"], env)
+
+
+@case
+def an_unload_of_what_is_gone(folder):
+    """The last directory of MODULEPATH has a module of that name, and no unload looks for it there."""
+    env = {**three_directories(folder), b"LOADEDMODULES": b"gone/1", b"_LMFILES_": folder.at("gone/1"), b"V": b"x"}
+    refuses_each_failure(folder, ["sh", "unload", "gone"], env, ERRORS)
 
 
 @case
 def an_unload_of_what_is_no_modulefile_any_more(folder):
     folder.file("plain/1", "setenv A 1\n")
-    answers_or_fails(folder, ["sh", "unload", "plain"], loaded(folder, "plain/1"))
+    refuses_each_failure(folder, ["sh", "unload", "plain"], loaded(folder, "plain/1"))
 
 
 @case
 def reports(folder):
+    """Of several directories in a row `avail` opens a later one before it looks at it."""
     env = versions(folder)
-    for words in (["avail"], ["show", "ver"], ["whatis", "ver"]):
-        answers_or_fails(folder, ["sh", *words], env)
+    for name in ("a", "b", "c"):
+        folder.module(f"{name}/1", "")
+    true(guesses(Command(folder, ["sh", "avail"], env).paths({})), "no directory is opened without a look")
+    refuses_each_failure(folder, ["sh", "avail"], env)
+    refuses_each_failure(folder, ["sh", "show", "ver"], env)
+    refuses_each_failure(folder, ["sh", "whatis", "ver"], env)
 
 
 @case

@@ -1,5 +1,6 @@
 /* For tests: a system of whose reads one fails, the FAIL_AT-th, or each from the FAIL_FROM-th on: by errno FAIL_WITH, or
  * EIO. With FAIL_SEEN only those are counted that look at, open or read what was looked at before, and was there.
+ * The path of each that is counted is a line of the file CALLS_TO. Nothing is at the path ABSENT, whoever asks.
  * And one whose file changes meanwhile: the OTHER_AT-th read that gives the cookie of a modulefile gives another. And
  * one that lists the environment of a process otherwise: the file ENVIRON_IN is opened in place of its list. */
 #define _GNU_SOURCE
@@ -8,6 +9,7 @@
 #include <errno.h>
 #include <fcntl.h>
 #include <stdarg.h>
+#include <stdio.h>
 #include <stdlib.h>
 #include <string.h>
 #include <sys/stat.h>
@@ -27,25 +29,62 @@ static int seen_count;
 
 static void note(const char *path)
 {
-    if (*path && seen_count < 1024)
+    if (seen_count < 1024)
         seen[seen_count++] = strdup(path);
 }
 
-/* A call by a file that is open has no path, and the file was there. A directory is opened with a slash at its end. */
+/* Whether a call is about this place. A directory is opened with a slash at its end. */
+static int is_about(const char *path, const char *place)
+{
+    size_t length = strlen(path);
+    if (length > 0 && path[length - 1] == '/')
+        length -= 1;
+    return strlen(place) == length && strncmp(place, path, length) == 0;
+}
+
 static int was_seen(const char *path)
 {
-    if (!path || !*path)
-        return 1;
-    size_t length = strlen(path);
-    if (path[length - 1] == '/')
-        length -= 1;
     for (int i = 0; i < seen_count; i++)
-        if (strlen(seen[i]) == length && strncmp(seen[i], path, length) == 0)
+        if (is_about(path, seen[i]))
             return 1;
     return 0;
 }
 
-static int fails(const char *path)
+/* What is open, by the numbers of the files. */
+static char *opened[1024];
+
+static int keep_open(int file, const char *path)
+{
+    if (file >= 0 && file < 1024) {
+        free(opened[file]);
+        opened[file] = strdup(path);
+    }
+    return file;
+}
+
+static const char *path_of(int file)
+{
+    return file >= 0 && file < 1024 && opened[file] ? opened[file] : "";
+}
+
+static void write_down(const char *path)
+{
+    const char *list = getenv("CALLS_TO");
+    FILE *file = list ? fopen(list, "a") : NULL;
+    if (!file)
+        return;
+    fprintf(file, "%s\n", path);
+    fclose(file);
+}
+
+static int is_absent(const char *path)
+{
+    const char *absent = getenv("ABSENT");
+    return absent && is_about(path, absent);
+}
+
+/* Whether a call fails: by a path, or by a file that is open and has this path. */
+static int fails(const char *path, int is_open)
 {
     static long one, all, with, only_seen;
     static int is_read;
@@ -56,9 +95,14 @@ static int fails(const char *path)
         with = number_in("FAIL_WITH");
         only_seen = number_in("FAIL_SEEN");
     }
-    if (only_seen && !was_seen(path))
+    if (!is_open && is_absent(path)) {
+        errno = ENOENT;
+        return 1;
+    }
+    if (only_seen && !is_open && !was_seen(path))
         return 0;
     asked += 1;
+    write_down(path);
     if (asked != one && (all == 0 || asked < all))
         return 0;
     errno = with ? (int)with : EIO;
@@ -97,7 +141,7 @@ int open(const char *path, int flags, ...)
     va_end(rest);
     if (!real)
         real = dlsym(RTLD_NEXT, "open");
-    return fails(path) ? -1 : real(opened_for(path), flags, mode);
+    return fails(path, 0) ? -1 : keep_open(real(opened_for(path), flags, mode), path);
 }
 
 int openat(int dir, const char *path, int flags, ...)
@@ -109,7 +153,7 @@ int openat(int dir, const char *path, int flags, ...)
     va_end(rest);
     if (!real)
         real = dlsym(RTLD_NEXT, "openat");
-    return fails(path) ? -1 : real(dir, opened_for(path), flags, mode);
+    return fails(path, 0) ? -1 : keep_open(real(dir, opened_for(path), flags, mode), path);
 }
 
 ssize_t read(int file, void *to, size_t count)
@@ -117,7 +161,7 @@ ssize_t read(int file, void *to, size_t count)
     static ssize_t (*real)(int, void *, size_t);
     if (!real)
         real = dlsym(RTLD_NEXT, "read");
-    if (fails(NULL))
+    if (fails(path_of(file), 1))
         return -1;
     ssize_t given = real(file, to, count);
     change(to, given);
@@ -131,7 +175,7 @@ ssize_t getdents64(int dir, void *to, size_t count)
         real = dlsym(RTLD_NEXT, "getdents64");
     /* So the system ends the list of a directory that was removed. */
     int is_end = number_in("FAIL_SEEN") && number_in("FAIL_WITH") == ENOENT;
-    return !is_end && fails(NULL) ? -1 : real(dir, to, count);
+    return !is_end && fails(path_of(dir), 1) ? -1 : real(dir, to, count);
 }
 
 int statx(int dir, const char *restrict path, int flags, unsigned int mask, struct statx *restrict to)
@@ -139,10 +183,11 @@ int statx(int dir, const char *restrict path, int flags, unsigned int mask, stru
     static int (*real)(int, const char *, int, unsigned int, struct statx *);
     if (!real)
         real = dlsym(RTLD_NEXT, "statx");
-    if (fails(path))
+    int is_open = !path || !*path;
+    if (fails(is_open ? path_of(dir) : path, is_open))
         return -1;
     int answer = real(dir, path, flags, mask, to);
-    if (answer == 0)
+    if (answer == 0 && !is_open)
         note(path);
     return answer;
 }

@@ -10,9 +10,13 @@ stand for the folders that a row makes. What a command prints is evaluated by sh
 import os
 import sys
 
-from harness import case, evaluated, run_all, same, true
+from harness import Failed, case, evaluated, run_all, same, true
 from plain import printed
 from worked import FILES, real, write
+
+# The loaded names, and the paths of their files.
+LISTS = (b"LOADEDMODULES", b"_LMFILES_")
+
 
 class Session:
     """Commands one after another, from MODULEPATH and the variables that are given."""
@@ -36,17 +40,50 @@ class Session:
         same(done.returncode, 0, f"status of {line}")
         return done.stdout
 
+    def only_module(self, name):
+        """The full name and the path of the module that a name means, where it can mean only one."""
+        for directory in self.env[b"MODULEPATH"].split(b":"):
+            path = os.path.join(directory, name)
+            if os.path.isfile(path):
+                return name, path
+            versions = os.listdir(path) if os.path.isdir(path) else []
+            true(len(versions) < 2, f"{name} means one of several, so the row says what is loaded")
+            if versions:
+                return os.path.join(name, versions[0]), os.path.join(path, versions[0])
+        raise Failed(f"there is no module {name}")
+
+    def loaded(self):
+        """The full names and the paths of what is loaded."""
+        names, paths = (self.env[name].split(b":") if name in self.env else [] for name in LISTS)
+        return list(zip(names, paths, strict=True))
+
+    def loaded_after(self, line):
+        """The same after a load or an unload."""
+        verb, *names = line.encode().split()
+        if verb == b"load":
+            return list(dict.fromkeys([*self.loaded(), *map(self.only_module, names)]))
+        true(verb == b"unload", f"what is loaded after {line} is known")
+        return [it for it in self.loaded() if not any((it[0] + b"/").startswith(name + b"/") for name in names)]
+
+    def lists_after(self, line):
+        """The changes of the loaded lists by a load or an unload, None for an unset."""
+        after = self.loaded_after(line)
+        changes = {}
+        for place, name in enumerate(LISTS):
+            value = b":".join(module[place] for module in after) if after else None
+            if value != self.env.get(name):
+                changes[name.decode()] = value.decode() if after else None
+        return changes
+
     def makes(self, line, said="", **values):
-        """The command is accepted, and makes these changes, None for an unset, and no others but of the loaded lists,
-        unless they are named. sh evaluates what it prints, and the session goes on from there."""
+        """The command is accepted, and makes these changes, None for an unset, and those of the loaded lists that it
+        means, and no others. sh evaluates what it prints, and the session goes on from there."""
         done = self.run(line)
         same(done.stderr, real(self.folder, said), f"standard error of {line}")
         same(done.returncode, 0, f"status of {line}")
         changes = printed("sh", done.stdout.decode())
-        wanted = {name: None if v is None else real(self.folder, v).decode() for name, v in values.items()}
-        for name in ("LOADEDMODULES", "_LMFILES_"):
-            if name in changes and name not in wanted:
-                wanted[name] = changes[name]
+        named = {name: None if v is None else real(self.folder, v).decode() for name, v in values.items()}
+        wanted = named if {*named} >= {"LOADEDMODULES", "_LMFILES_"} else {**self.lists_after(line), **named}
         same(changes, wanted, f"the changes of {line}")
         same(list(changes), sorted(changes), f"the order of the changes of {line}")
         self.goes_on(done.stdout)

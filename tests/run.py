@@ -5,7 +5,8 @@
 With names, as `program`, `tcl/scripts.py` or `sentence`, the gate isn't run, and of the suites only these, over the
 programs that stand in build/bin.
 
-At the end stands a table of the processor time of each part. The last line counts what passed and what failed.
+At the end stands a table of the processor time of each part, and what wasn't run and why. The last line counts what
+passed and what failed.
 """
 
 import os
@@ -23,7 +24,11 @@ BUILT = os.path.join(TOP, "build", "bin")
 sys.path.append(os.path.join(TOP, "tools"))
 
 import link  # noqa: E402
+
 COUNTS = re.compile(r"(\d+) passed, (\d+) failed")
+
+# Stands in the output of a suite before the reason why it, or a part of it, wasn't run.
+NOT_RUN = "not run: "
 
 # What the gate leaves in the folder out/ of a crate, by the name that the tests outside it know it by.
 PROGRAMS = {
@@ -79,11 +84,20 @@ def left_by_the_gate(name):
     return os.path.join(TOP, "crates", crate, "out", file)
 
 
+def fault(passed, failed, status, reasons):
+    """What the counts don't say: that nothing was counted, nothing was run and no reason is given, or another status."""
+    if failed is None:
+        return f"counted nothing, and ended with status {status}"
+    if passed + failed == 0 and not reasons:
+        return "ran nothing, and doesn't say why"
+    return f"ended with status {status}" if status != 0 and failed == 0 else None
+
+
 def counted(command):
-    """Runs a command, passes its output on, and gives the last counts in it. Without counts, or with a status that they
-    do not explain, one more has failed."""
+    """Runs a command, passes its output on, and gives the last counts in it and why something wasn't run. One more has
+    failed where the counts don't say how it went."""
     print(f"== {' '.join(command)}", flush=True)
-    passed, failed = 0, None
+    passed, failed, reasons = 0, None, []
     with subprocess.Popen(command, cwd=TOP, stdout=subprocess.PIPE, stderr=subprocess.STDOUT) as running:
         for line in running.stdout:
             text = line.decode(errors="replace")
@@ -92,10 +106,12 @@ def counted(command):
             found = COUNTS.search(text)
             if found:
                 passed, failed = int(found[1]), int(found[2])
-    if failed is None or (running.returncode != 0 and failed == 0):
-        print(f"FAILED: {' '.join(command)} ended with status {running.returncode}")
-        failed = (failed or 0) + 1
-    return passed, failed
+            if text.startswith(NOT_RUN):
+                reasons.append(text.removeprefix(NOT_RUN).rstrip())
+    wrong = fault(passed, failed, running.returncode, reasons)
+    if wrong:
+        print(f"FAILED: {' '.join(command)} {wrong}")
+    return passed, (failed or 0) + bool(wrong), reasons
 
 
 def gate():
@@ -153,11 +169,11 @@ def make_object(kit, name, made):
 
 
 def suite(script, program, words):
-    """Runs one suite, and gives what passed, what failed and its processor seconds."""
+    """Runs one suite, and gives what passed, what failed, why something wasn't run, and its processor seconds."""
     if program and not os.path.exists(os.path.join(BUILT, program)):
         crate = PROGRAMS[program][0]
         print(f"FAILED: {script} needs build/bin/{program}: `python3 tools/build.py {crate}` builds it")
-        return 0, 1, 0.0
+        return 0, 1, [], 0.0
     before = children_seconds()
     counts = counted([sys.executable, "-B", os.path.join(HERE, script), os.path.join(BUILT, program), *words])
     return *counts, children_seconds() - before
@@ -177,16 +193,19 @@ def main(words):
     if words[:1] not in ([], ["--only"]) or words == ["--only"]:
         sys.exit("run.py [--only NAME...]")
     suites, start, passed, failed, spent, crates = chosen(words[1:]), children_seconds(), 0, 0, {}, {}
+    not_run = []
     if not words:
         with Sampler(os.getpid()) as sampler:
-            passed, failed = gate()
+            passed, failed, _ = gate()
         spent["rt ci"], crates = children_seconds() - start, sampler.crates()
     for script, program, *more in suites:
-        suite_passed, suite_failed, seconds = suite(script, program, more)
+        suite_passed, suite_failed, reasons, seconds = suite(script, program, more)
         spent[" ".join([script, *more])] = seconds
         passed += suite_passed
         failed += suite_failed
+        not_run += [f"{NOT_RUN}{script}: {reason}" for reason in reasons]
     print(table(crates, spent))
+    print("".join(f"{line}\n" for line in not_run), end="")
     print(f"{passed} passed, {failed} failed")
     return 1 if failed else 0
 

@@ -18,8 +18,9 @@
 //! space, NUL and a backslash; words are separated by blanks, and the word `''` is empty.
 //!
 //! `new` begins a new tree. `module PATH TEXT` puts a modulefile there, whose first line is the cookie; `file PATH
-//! TEXT` and `bytes PATH TEXT` a file of this text, or of it and after it a byte that is no UTF-8; `dir PATH NAME...` a
-//! directory with these names. `from NAME=VALUE...` are the variables from there on, and `vars` shows them.
+//! TEXT` and `bytes PATH TEXT` a file of this text, or of it and after it a byte that is no UTF-8; `long PATH LENGTH` a
+//! modulefile of so many bytes, which are blanks; `dir PATH NAME...` a directory with these names. `from NAME=VALUE...`
+//! are the variables from there on, and `vars` shows them.
 //!
 //! `ask WORD...` runs a request under the limits of `limits COMMANDS DEPTH BYTES` and shows its changes, loaded names,
 //! messages and report, or the number and the text of its refusal; a line more stands where `run` or a session of this
@@ -27,12 +28,16 @@
 //! NAME` judges a module under these limits. `session REQUEST, REQUEST...` runs requests one after another, and shows
 //! the outcome of each and how the variables at the end differ from those at the start. `rehearse SHELL REQUEST, SHELL
 //! REQUEST...` rehearses requests: for each `accepted` and the text that it prints, or `none`, and then the variables
-//! at the end. `poor PATH REQUEST, REQUEST...` runs requests where memory is refused for the file at the path. `write
+//! at the end. `poor PATH REQUEST, REQUEST...` runs requests where memory is refused for the file at the path. `failing
+//! FAULT REQUEST` and `failing FAULT verdict NAME` show what each call answers where one read after another fails, by
+//! the `device` or for want of `memory`, once where answers in a row are the same, and then where none fails. `write
 //! OUT ERR KIND WORD...` runs a command whose writers take so many bytes, and shows how it ended and what they hold.
 #![tactic(auto)]
 
 mod calls;
 mod counted;
+mod failing;
+mod failures;
 mod parts;
 mod poor;
 mod rehearsed;

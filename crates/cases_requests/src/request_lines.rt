@@ -1,10 +1,11 @@
 //! Lines about requests, sessions, verdicts and writers, over one tree and one environment.
 use crate::calls::difference;
+use crate::failures::shown_failures;
 use crate::poor::Poor;
 use crate::rehearsed::{request_of, requests_for_sh, shown_rehearsal};
 use crate::shown::{
-    differences, exit_name, shown_changed, shown_outcome, shown_refusal, text_of, variables,
-    verdict_line,
+    differences, exit_name, shown_changed, shown_outcome, shown_refusal, shown_verdict, text_of,
+    variables,
 };
 use crate::texts::{STANDARD, environment, first_word, limits_of, meant, number, words};
 use crate::writers::{Limited, kind};
@@ -16,6 +17,9 @@ use modulecmd::{
 };
 use std::alloc::Global;
 use std::io;
+
+/// The first line of a modulefile.
+const COOKIE: &str = "#%Module\n";
 
 /// What calls share: the tree, the environment, and the limits of `ask` and `verdict`.
 #[derive(Drop)]
@@ -88,9 +92,10 @@ impl Session {
         let (verb, rest) = first_word(line);
         match verb {
             "new" => self.clear(),
-            "module" => self.put("#%Module\n", rest, b"\n"),
+            "module" => self.put(COOKIE, rest, b"\n"),
             "file" => self.put("", rest, b""),
             "bytes" => self.put("", rest, b"\xc3"),
+            "long" => self.put_long(rest),
             "dir" => self.put_directory(rest),
             "from" => self.begin(rest),
             "limits" => self.limit(rest),
@@ -100,6 +105,7 @@ impl Session {
             "session" => shown_session(self.alloc, rest, &self.env, &mut self.tree),
             "rehearse" => self.rehearse(rest),
             "poor" => self.poor(rest),
+            "failing" => self.fail(rest),
             "write" => self.write(rest),
             _ => Ok(String::from_str(self.alloc, "no such call\n")?),
         }
@@ -119,6 +125,17 @@ impl Session {
         bytes.extend_from_slice(suffix)?;
         let path = meant(self.alloc, path)?;
         self.tree.tree.put_file(&path, &bytes)?;
+        Ok(String::new(self.alloc))
+    }
+
+    /// Puts a modulefile of so many bytes into the tree: the cookie, and blanks.
+    fn put_long(&mut self, rest: &str) -> Result<String> {
+        let (path, length) = first_word(rest);
+        let mut bytes = Vec::from_slice(self.alloc, COOKIE.as_bytes())?;
+        for _ in COOKIE.len() as u64..number(length) {
+            bytes.push(b' ')?;
+        }
+        self.tree.tree.put_file(path, &bytes)?;
         Ok(String::new(self.alloc))
     }
 
@@ -185,10 +202,12 @@ impl Session {
             &mut self.tree,
             self.limits,
         );
-        Ok(match verdict {
-            Ok(verdict) => String::from_str(self.alloc, verdict_line(verdict))?,
-            Err(refusal) => shown_refusal(self.alloc, &refusal)?,
-        })
+        Ok(shown_verdict(self.alloc, &verdict)?)
+    }
+
+    /// Runs a request or judges a module where one read after another fails.
+    fn fail(&mut self, rest: &str) -> Result<String> {
+        shown_failures(self.alloc, rest, &self.env, &mut self.tree, self.limits)
     }
 
     /// Rehearses requests, and shows what they print.

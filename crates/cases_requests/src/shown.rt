@@ -19,7 +19,7 @@ pub(crate) fn exit_name(exit: Exit) -> &'static str {
 }
 
 /// A verdict, as a line.
-pub(crate) fn verdict_line(verdict: Verdict) -> &'static str {
+fn verdict_line(verdict: Verdict) -> &'static str {
     match verdict {
         Verdict::Plain => "Plain\n",
         Verdict::Asked => "Asked\n",
@@ -101,6 +101,17 @@ pub(crate) fn shown_changed(alloc: Global, changed: &Changed) -> Result<String, 
 pub(crate) fn shown_refusal(alloc: Global, refusal: &Refusal) -> Result<String, AllocError> {
     let number = refusal.number();
     format!(in alloc; "{number} {refusal}\n")
+}
+
+/// A verdict, or why there is none.
+pub(crate) fn shown_verdict(
+    alloc: Global,
+    verdict: &Result<Verdict, Refusal>,
+) -> Result<String, AllocError> {
+    match verdict {
+        Ok(verdict) => String::from_str(alloc, verdict_line(*verdict)),
+        Err(refusal) => shown_refusal(alloc, refusal),
+    }
 }
 
 /// The outcome of a request.
