@@ -1,10 +1,17 @@
--- What is known of a path, as what it says of the pairs of maps that agree. For this crate's own contracts alone.
-use Rattle.std.specs.Prelude.{◌≡◌, refl, ℕ, Bool, true, false, List, Option, Some, None, string_bytes, vec_items}
-use Rattle.filetree.specs.Agreement.{HaveSamePrefix}
-use Rattle.filetree.specs.Names.{names_of}
+-- What is known of a path: what it says of the pairs of maps that agree, and of which answers of the system it is made.
+-- For this crate's own contracts alone.
+use Rattle.std.specs.Prelude.{◌≡◌, ◌⊎◌, refl, ℕ, Bool, true, false, not, ◌∷◌, ◌++◌, List, Option, Some, None, Result, Ok, Err, string_bytes, vec_items}
+use Rattle.modulename.specs.ModuleName.{slash}
+use Rattle.filetree.specs.Agreement.{HaveSamePrefix, cached}
+use Rattle.filetree.specs.Names.{names_of, has_name, is_hidden}
 use Rattle.filetree.specs.Prefixes.{prefix_bytes}
+use Rattle.filetree.specs.Systems as systems
+use Rattle.filetree.specs.Systems.{Answers, IsLooked, IsFileThere, IsBeginningThere, AreEntriesThere, IsFault}
 use Rattle.filetree.specs.declared.known.Known.{Known}
 use Rattle.filetree.specs.declared.known.Known.TheVariants as known
+use Rattle.filetree.specs.declared.look.PathKind.{PathKind}
+use Rattle.filetree.specs.declared.look.PathKind.TheVariants as path_kinds
+use Rattle.filetree.specs.declared.tree.TreeFault.{TreeFault}
 
 -- the file at the path is as is known
 abbrev pub FitsFile : Known → Option (List ℕ) → Type 0
@@ -62,6 +69,28 @@ is_unlisted (known.File prefix) = false
 is_unlisted (known.WholeFile bytes) = false
 is_unlisted known.Directory = true
 is_unlisted (known.Listing names) = false
+
+-- What is known is made of answers of the system about the path.
+abbrev pub IsAnswered : Answers → List ℕ → Known → Type 0
+IsAnswered Answered path known.Neither = (kind : PathKind) × IsLooked Answered path (Ok kind)
+    × (systems.is_file kind ≡ false) × (systems.is_directory kind ≡ false)
+IsAnswered Answered path (known.File prefix) = IsBeginningThere Answered path prefix.size (prefix_bytes prefix)
+IsAnswered Answered path (known.WholeFile bytes) = IsFileThere Answered path (vec_items bytes)
+IsAnswered Answered path known.Directory = IsLooked Answered path (Ok path_kinds.Directory)
+IsAnswered Answered path (known.Listing names) = AreEntriesThere Answered path (string_bytes names.text)
+
+-- What is loaded of a path is made of answers of the system about it: what is known, or the fault.
+abbrev pub IsLoaded : Answers → List ℕ → Result Known TreeFault → Type 0
+IsLoaded Answered path (Ok known) = IsAnswered Answered path known
+IsLoaded Answered path (Err fault) = IsFault Answered path fault
+
+-- a directory was listed that has no such name
+abbrev pub lacks : Known → List ℕ → Bool
+lacks known.Neither name = false
+lacks (known.File prefix) name = false
+lacks (known.WholeFile bytes) name = false
+lacks known.Directory name = false
+lacks (known.Listing names) name = not (has_name (string_bytes names.text) name)
 
 -- a file that is as is known
 abbrev pub file_of : Known → Option (List ℕ)

@@ -3,11 +3,11 @@ pub mod Agreement
 pub mod Answers
 pub mod Causes
 pub mod Contents
-pub mod Devices
 pub mod Disk
 pub mod Known
 pub mod Modulefiles
 pub mod Names
 pub mod Prefixes
 pub mod Relations
+pub mod Systems
 pub mod Utf8

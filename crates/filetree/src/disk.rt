@@ -9,10 +9,10 @@ use crate::known::{Known, USUAL};
 use crate::load::{
     load_file, load_likely_directory, load_listing, load_names, load_prefix, load_rest,
 };
+use crate::system::System;
 use crate::tree::{Seen, Tree, TreeFault};
 use std::alloc::AllocError;
 use std::collections::HashMap;
-use std::rt::Files;
 
 /// The files and directories of a disk. Each answer is cached and given again, so the system is asked once for it; a
 /// failure is not cached.
@@ -26,8 +26,8 @@ use std::rt::Files;
 /// A name that begins with a point, as those of default files, is looked for in the listing of its directory where that
 /// is cached: where the listing hasn't the name, nothing is there, and the system isn't asked.
 #[derive(Drop)]
-pub struct DiskTree<R: Files + AllocGlobal + Clone + Drop> {
-    rt: R,
+pub struct DiskTree<S: System + AllocGlobal + Clone + Drop> {
+    system: S,
     /// What is known of each path that was asked for.
     known: HashMap<String, Known>,
     /// The paths at which the device failed, in the order of the failures.
@@ -36,14 +36,14 @@ pub struct DiskTree<R: Files + AllocGlobal + Clone + Drop> {
     directories_in_row: u8,
 }
 
-impl<R: Files + AllocGlobal + Clone + Drop> DiskTree<R> {
+impl<S: System + AllocGlobal + Clone + Drop> DiskTree<S> {
     /// The files and directories that the runtime reads, with no answer cached yet.
-    pub fn new(rt: R) -> DiskTree<R>
-        ensures { (files : Files) (listings : Listings) → ⟦<DiskTree<R> as Tree>⟧.agrees result files listings }
+    pub fn new(system: S) -> DiskTree<S>
+        ensures { (files : Files) (listings : Listings) → ⟦<DiskTree<S> as Tree>⟧.agrees result files listings }
     {
-        let alloc = rt.alloc();
+        let alloc = system.alloc();
         DiskTree {
-            rt,
+            system,
             known: HashMap::new(alloc),
             failed: Vec::new(alloc),
             directories_in_row: 0,
@@ -62,7 +62,7 @@ impl<R: Files + AllocGlobal + Clone + Drop> DiskTree<R> {
         match fault {
             TreeFault::OutOfMemory => TreeFault::OutOfMemory,
             TreeFault::Device => {
-                let Ok(path) = String::from_str(self.rt.alloc(), path) else {
+                let Ok(path) = String::from_str(self.system.alloc(), path) else {
                     return TreeFault::OutOfMemory;
                 };
                 if self.failed.push(path).is_err() {
@@ -76,13 +76,13 @@ impl<R: Files + AllocGlobal + Clone + Drop> DiskTree<R> {
     /// Caches what is known of a path, in place of what was, which said no more.
     fn learn(&mut self, path: &str, known: Known) -> Result<(), AllocError>
         requires { (earlier : Known) → get_by_text self.old.known path.now ≡ Some earlier → SaysNoLess known earlier }
-        ensures narrows { Narrows (⟦<DiskTree<R> as Tree>⟧.agrees self.old)
-            (⟦<DiskTree<R> as Tree>⟧.agrees self.new) }
-        ensures known { OnOk result (InEachPair (⟦<DiskTree<R> as Tree>⟧.agrees self.new)
+        ensures narrows { Narrows (⟦<DiskTree<S> as Tree>⟧.agrees self.old)
+            (⟦<DiskTree<S> as Tree>⟧.agrees self.new) }
+        ensures known { OnOk result (InEachPair (⟦<DiskTree<S> as Tree>⟧.agrees self.new)
             (λ files listings. Fits known (files path.now) (listings path.now))) }
         ensures failed { self.new.failed ≡ self.old.failed }
     {
-        let key = String::from_str(self.rt.alloc(), path)?;
+        let key = String::from_str(self.system.alloc(), path)?;
         self.known.insert(key, known)?;
         Ok(())
     }
@@ -96,9 +96,9 @@ impl<R: Files + AllocGlobal + Clone + Drop> DiskTree<R> {
         requires later { IfOk loaded (λ known. (earlier : Known) → get_by_text self.old.known path.now ≡ Some earlier
             → SaysNoLess known earlier) }
         requires whole { IfOk loaded (λ known. is_read_in_part known ≡ false) }
-        ensures narrows { Narrows (⟦<DiskTree<R> as Tree>⟧.agrees self.old)
-            (⟦<DiskTree<R> as Tree>⟧.agrees self.new) }
-        ensures answer { IfOk result (λ answer. InEachPair (⟦<DiskTree<R> as Tree>⟧.agrees self.new)
+        ensures narrows { Narrows (⟦<DiskTree<S> as Tree>⟧.agrees self.old)
+            (⟦<DiskTree<S> as Tree>⟧.agrees self.new) }
+        ensures answer { IfOk result (λ answer. InEachPair (⟦<DiskTree<S> as Tree>⟧.agrees self.new)
             (λ files listings. files path.now ≡ file_answer answer)) }
         ensures failed { FailsAt is_device (has_failed self.old.failed)
             (has_failed self.new.failed) result (λ at. at ≡ path.now) }
@@ -123,9 +123,9 @@ impl<R: Files + AllocGlobal + Clone + Drop> DiskTree<R> {
         requires later { IfOk loaded (λ known. (earlier : Known) → get_by_text self.old.known dir.now ≡ Some earlier
             → SaysNoLess known earlier) }
         requires listed { IfOk loaded (λ known. is_unlisted known ≡ false) }
-        ensures narrows { Narrows (⟦<DiskTree<R> as Tree>⟧.agrees self.old)
-            (⟦<DiskTree<R> as Tree>⟧.agrees self.new) }
-        ensures answer { IfOk result (λ answer. InEachPair (⟦<DiskTree<R> as Tree>⟧.agrees self.new)
+        ensures narrows { Narrows (⟦<DiskTree<S> as Tree>⟧.agrees self.old)
+            (⟦<DiskTree<S> as Tree>⟧.agrees self.new) }
+        ensures answer { IfOk result (λ answer. InEachPair (⟦<DiskTree<S> as Tree>⟧.agrees self.new)
             (λ files listings. listings dir.now ≡ listing_answer answer)) }
         ensures failed { FailsAt is_device (has_failed self.old.failed)
             (has_failed self.new.failed) result (λ at. at ≡ dir.now) }
@@ -133,7 +133,7 @@ impl<R: Files + AllocGlobal + Clone + Drop> DiskTree<R> {
     {
         match loaded {
             Ok(known) => {
-                let answer = known.names(self.rt.alloc())?;
+                let answer = known.names(self.system.alloc())?;
                 self.learn(dir, known)?;
                 Ok(answer)
             }
@@ -149,11 +149,11 @@ impl<R: Files + AllocGlobal + Clone + Drop> DiskTree<R> {
         prefix: &[u8],
         known: Option<bool>,
     ) -> Result<bool, TreeFault>
-        requires { IfSome known (λ answer. InEachPair (⟦<DiskTree<R> as Tree>⟧.agrees self.old)
+        requires { IfSome known (λ answer. InEachPair (⟦<DiskTree<S> as Tree>⟧.agrees self.old)
             (λ files listings. begins_with prefix.now (files path.now) ≡ answer)) }
-        ensures narrows { Narrows (⟦<DiskTree<R> as Tree>⟧.agrees self.old)
-            (⟦<DiskTree<R> as Tree>⟧.agrees self.new) }
-        ensures answer { IfOk result (λ answer. InEachPair (⟦<DiskTree<R> as Tree>⟧.agrees self.new)
+        ensures narrows { Narrows (⟦<DiskTree<S> as Tree>⟧.agrees self.old)
+            (⟦<DiskTree<S> as Tree>⟧.agrees self.new) }
+        ensures answer { IfOk result (λ answer. InEachPair (⟦<DiskTree<S> as Tree>⟧.agrees self.new)
             (λ files listings. begins_with prefix.now (files path.now) ≡ answer)) }
         ensures failed { FailsAt is_device (has_failed self.old.failed)
             (has_failed self.new.failed) result (λ at. at ≡ path.now) }
@@ -187,21 +187,21 @@ impl<R: Files + AllocGlobal + Clone + Drop> DiskTree<R> {
         if self.is_hidden_and_absent(path) {
             Ok(Known::Neither)
         } else if self.directories_in_row == USUAL {
-            load_likely_directory(&self.rt, path, size)
+            load_likely_directory(&self.system, path, size)
         } else {
-            load_prefix(&self.rt, path, size)
+            load_prefix(&self.system, path, size)
         }
     }
 
     /// What is seen at the path, of which nothing is known. So many bytes of a file are read as it is to begin with.
     fn see_unknown(&mut self, path: &str, prefix: &[u8]) -> Result<Seen, TreeFault>
         requires { get_by_text self.old.known path.now ≡ None }
-        ensures narrows { Narrows (⟦<DiskTree<R> as Tree>⟧.agrees self.old)
-            (⟦<DiskTree<R> as Tree>⟧.agrees self.new) }
-        ensures answer { IfOk result (λ seen. InEachPair (⟦<DiskTree<R> as Tree>⟧.agrees self.new)
+        ensures narrows { Narrows (⟦<DiskTree<S> as Tree>⟧.agrees self.old)
+            (⟦<DiskTree<S> as Tree>⟧.agrees self.new) }
+        ensures answer { IfOk result (λ seen. InEachPair (⟦<DiskTree<S> as Tree>⟧.agrees self.new)
             (λ files listings. begins_with prefix.now (files path.now) ≡ seen.begins)) }
         ensures nothing { IfOk result (λ seen. seen.may_list ≡ false
-            → InEachPair (⟦<DiskTree<R> as Tree>⟧.agrees self.new) (λ files listings. listings path.now ≡ None)) }
+            → InEachPair (⟦<DiskTree<S> as Tree>⟧.agrees self.new) (λ files listings. listings path.now ≡ None)) }
         ensures failed { FailsAt is_device (has_failed self.old.failed)
             (has_failed self.new.failed) result (λ at. at ≡ path.now) }
         ensures cause { FailsOnlyByDevice (vec_len self.old.failed) (vec_len self.new.failed) result }
@@ -220,7 +220,7 @@ impl<R: Files + AllocGlobal + Clone + Drop> DiskTree<R> {
     }
 }
 
-impl<R: Files + AllocGlobal + Clone + Drop> Tree for DiskTree<R> {
+impl<S: System + AllocGlobal + Clone + Drop> Tree for DiskTree<S> {
     ghost failures = { λ t. vec_len t.failed };
 
     ghost failed = { λ t. has_failed t.failed };
@@ -237,11 +237,11 @@ impl<R: Files + AllocGlobal + Clone + Drop> Tree for DiskTree<R> {
     fn read(&mut self, path: &str) -> Result<Option<Vec<u8>>, TreeFault> {
         match self.known.get(path) {
             None => {
-                let loaded = load_file(&self.rt, path);
+                let loaded = load_file(&self.system, path);
                 self.answer_file(path, loaded)
             }
             Some(Known::File(prefix)) => {
-                let loaded = load_rest(&self.rt, path, prefix);
+                let loaded = load_rest(&self.system, path, prefix);
                 self.answer_file(path, loaded)
             }
             Some(known) => Ok(known.file()?),
@@ -274,14 +274,14 @@ impl<R: Files + AllocGlobal + Clone + Drop> Tree for DiskTree<R> {
     fn entries(&mut self, dir: &str) -> Result<Option<Vec<String>>, TreeFault> {
         match self.known.get(dir) {
             None => {
-                let loaded = load_listing(&self.rt, dir);
+                let loaded = load_listing(&self.system, dir);
                 self.answer_listing(dir, loaded)
             }
             Some(Known::Directory) => {
-                let loaded = load_names(&self.rt, dir);
+                let loaded = load_names(&self.system, dir);
                 self.answer_listing(dir, loaded)
             }
-            Some(known) => Ok(known.names(self.rt.alloc())?),
+            Some(known) => Ok(known.names(self.system.alloc())?),
         }
     }
 }

@@ -1,7 +1,8 @@
 //! What the system's answers say of a path.
-ghost use Rattle.std.specs.Prelude.{◌≡◌, List, ℕ, Option, None, false, IfOk, IfSome};
+ghost use Rattle.std.specs.Prelude.{◌≡◌, List, ℕ, Option, None, true, false, IfOk, IfSome};
 ghost use Rattle.filetree.specs.Agreement.{begins_with, file_answer, listing_answer};
-ghost use Rattle.filetree.specs.Known.{FitsFile, FitsListing, is_read_in_part, is_unlisted};
+ghost use Rattle.filetree.specs.Known.{FitsFile, FitsListing, is_read_in_part, is_unlisted, lacks};
+ghost use Rattle.filetree.specs.Names.{is_hidden};
 
 use crate::names::Names;
 use crate::prefix::Prefix;
@@ -50,7 +51,10 @@ impl Known {
     }
 
     /// Whether a directory was listed at the path that has no such name, which begins with a point.
-    pub(crate) fn lacks_hidden(&self, name: &str) -> bool {
+    pub(crate) fn lacks_hidden(&self, name: &str) -> bool
+        requires { is_hidden name.now ≡ true }
+        ensures { result ≡ lacks self.now name.now }
+    {
         match self {
             Known::Listing(names) => !names.has_hidden(name),
             Known::Neither | Known::File(_) | Known::WholeFile(_) | Known::Directory => false,

@@ -12,6 +12,7 @@ mod look;
 mod memory;
 mod names;
 mod prefix;
+mod system;
 mod tree;
 
 pub use disk::DiskTree;

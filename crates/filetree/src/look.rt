@@ -1,12 +1,12 @@
 //! The type of the file at a path, as the system answers it (stat(2)).
-ghost use Rattle.std.specs.Prelude.{◌≡◌, ◌≢◌, ◌↔◌, true, Ok};
-ghost use Rattle.std.specs.Fs.{IsDir, IsFile, file_type};
+ghost use Rattle.std.specs.Prelude.{◌≡◌};
+ghost use Rattle.std.specs.Fs.{file_type};
 ghost use Rattle.std.specs.IoError.{error_kind};
-ghost use Rattle.filetree.specs.Devices.{ShowsKind, fault_of_kind, has_nul, is_absence};
+ghost use Rattle.filetree.specs.Systems.{IsKind, IsLooked, ShowsKind, fault_of, is_absence};
 
+use crate::system::System;
 use crate::tree::TreeFault;
 use std::io::ErrorKind;
-use std::rt::Files;
 use std::{fs, io};
 
 /// What is at a path, after symbolic links are followed.
@@ -23,7 +23,7 @@ pub(crate) enum PathKind {
 }
 
 impl From<io::Error> for TreeFault {
-    ghost from_gives = { λ e fault. fault ≡ fault_of_kind (error_kind e) };
+    ghost from_gives = { λ e fault. fault ≡ fault_of e };
 
     fn from(e: io::Error) -> TreeFault {
         match e.kind() {
@@ -42,9 +42,7 @@ fn is_absence(e: &io::Error) -> bool
 
 /// What the system's metadata say is at a path.
 fn path_kind_of(found: &fs::Metadata) -> PathKind
-    ensures something { result ≢ PathKind.Nothing }
-    ensures file { (result ≡ PathKind.File) ↔ IsFile (file_type found.now) }
-    ensures directory { result ≡ PathKind.Directory → IsDir (file_type found.now) }
+    ensures { IsKind (file_type found.now) result }
 {
     if found.is_file() {
         PathKind::File
@@ -68,11 +66,11 @@ fn found(answer: io::Result<fs::Metadata>) -> Result<PathKind, TreeFault>
 
 /// Asks the system what is at a path, following symbolic links. A text with a NUL is no path, so the system isn't
 /// asked.
-pub(crate) fn look<R: Files>(rt: &R, path: &str) -> Result<PathKind, TreeFault>
-    ensures { has_nul path.now ≡ true → result ≡ Ok PathKind.Nothing }
+pub(crate) fn look<S: System>(system: &S, path: &str) -> Result<PathKind, TreeFault>
+    ensures { IsLooked (S.answers system.now) path.now result }
 {
     if path.as_bytes().contains(&0) {
         return Ok(PathKind::Nothing);
     }
-    found(fs::metadata(rt, path))
+    found(system.find(path))
 }

@@ -1,13 +1,17 @@
 //! The names in a directory, read from the system and kept as one text.
-ghost use Rattle.std.specs.Prelude.{◌≡◌, map, string_bytes, IfOk};
-ghost use Rattle.filetree.specs.Names.{names_of};
+ghost use Rattle.std.specs.Prelude.{◌≡◌, [], map, string_bytes, true, IfErr, IfOk, IfSome};
+ghost use Rattle.std.specs.List.{All, list_any};
+ghost use Rattle.std.specs.List.Sorted.{IsPermutation};
+ghost use Rattle.filetree.specs.Names.{IsName, entries_of, has_name, is_hidden, names_of};
+ghost use Rattle.filetree.specs.Systems.{AreEntriesThere, IsFault, IsListingThere, slashed};
 
 use crate::memory::own_names;
+use crate::system::System;
+use crate::tree::TreeFault;
 use modulename::version_order;
 use std::alloc::{AllocError, Global};
 use std::io;
 use std::io::Read;
-use std::rt::Files;
 
 /// The names in a directory, hidden ones too, in version order, since whoever asks for them mostly sorts them so.
 #[derive(Drop)]
@@ -16,6 +20,7 @@ pub(crate) struct Names {
     text: String,
     /// Whether one begins with a point.
     hides: bool,
+    ghost hides_some: { hides ≡ list_any is_hidden (names_of (string_bytes text)) },
 }
 
 /// How many bytes most names have at least, with their NUL: as many names get their room at once.
@@ -31,6 +36,15 @@ fn parted(alloc: Global, text: &str) -> Result<Vec<&str>, AllocError>
     Ok(names)
 }
 
+/// The entries of a directory, by the text of its names: not the directory itself and the one above it.
+fn entries(alloc: Global, text: &str) -> Result<Vec<&str>, AllocError>
+    ensures { IfOk result (λ entries. map (λ name. name.now) entries.items ≡ entries_of text.entry.now) }
+{
+    let mut names = parted(alloc, text)?;
+    names.retain(|name| *name != "." && *name != "..");
+    Ok(names)
+}
+
 impl Names {
     /// The names as owned strings.
     pub(crate) fn copies(&self, alloc: Global) -> Result<Vec<String>, AllocError>
@@ -41,43 +55,46 @@ impl Names {
     }
 
     /// Whether this is one of the names, for a name that begins with a point.
-    pub(crate) fn has_hidden(&self, name: &str) -> bool {
-        self.hides && self.text.split('\0').any(|other| other == name)
+    pub(crate) fn has_hidden(&self, name: &str) -> bool
+        requires { is_hidden name.now ≡ true }
+        ensures { result ≡ has_name (string_bytes self.now.text) name.now }
+    {
+        self.hides && self.text.split('\0').any(|other| name == other)
     }
 
-    /// The names of a text in which a NUL ends each, without those of the directory itself and the one above it.
-    fn of_text(alloc: Global, text: &str) -> Result<Names, AllocError> {
-        let mut names = parted(alloc, text)?;
-        names.retain(|name| *name != "." && *name != "..");
+    /// The entries of a directory, by the text of its names.
+    fn of_text(alloc: Global, text: &str) -> Result<Names, AllocError>
+        ensures { IfOk result (λ names. IsPermutation (entries_of text.now) (names_of (string_bytes names.text))) }
+    {
+        let mut names = entries(alloc, text)?;
         names.sort_by(|left, right| version_order(left, right))?;
         Names::joined(String::with_capacity(alloc, text.len())?, &names)
     }
 
     /// These names, with their text in this room.
-    fn joined(room: String, names: &[&str]) -> Result<Names, AllocError> {
-        let mut joined = Names {
-            text: room,
-            hides: false,
-        };
+    fn joined(room: String, names: &[&str]) -> Result<Names, AllocError>
+        requires room { string_bytes room ≡ [] }
+        requires names { All IsName (map (λ name. name.now) names.now) }
+        ensures { IfOk result (λ joined. names_of (string_bytes joined.text) ≡ map (λ name. name.now) names.now) }
+    {
+        let mut text = room;
         for name in names {
-            joined.push(name)?;
+            text.push_str(name)?;
+            text.push('\0')?;
         }
-        Ok(joined)
-    }
-
-    /// Adds a name at the end.
-    #[inline]
-    fn push(&mut self, name: &str) -> Result<(), AllocError> {
-        self.hides = self.hides || name.starts_with('.');
-        self.text.push_str(name)?;
-        self.text.push('\0')
+        Ok(Names {
+            text,
+            hides: names.iter().any(|name| name.starts_with('.')),
+        })
     }
 
     /// The names of bytes in which a NUL ends each, as the system gives them.
-    fn of_bytes(alloc: Global, bytes: &[u8]) -> io::Result<Names> {
+    fn of_bytes(alloc: Global, bytes: &[u8]) -> Result<Names, TreeFault>
+        ensures { IfOk result (λ names. IsPermutation (entries_of bytes.now) (names_of (string_bytes names.text))) }
+    {
         match str::from_utf8(bytes) {
             Ok(text) => Ok(Names::of_text(alloc, text)?),
-            Err(_) => Err(io::Error::from(io::ErrorKind::InvalidFilename)),
+            Err(_) => Err(TreeFault::Device),
         }
     }
 }
@@ -86,37 +103,46 @@ impl Names {
 const NAMES_AT_ONCE: usize = 2000;
 
 /// The path of a directory with a slash, which makes the system follow a symbolic link to it.
-fn with_slash(alloc: Global, dir: &str) -> Result<String, AllocError> {
+fn with_slash(alloc: Global, dir: &str) -> Result<String, AllocError>
+    ensures { IfOk result (λ path. string_bytes path ≡ slashed dir.now) }
+{
     let mut path = String::with_capacity(alloc, dir.len().saturating_add(1))?;
     path.push_str(dir)?;
     path.push('/')?;
     Ok(path)
 }
 
-/// Adds the names that are left to read to a text, each ended by a NUL.
-fn read_names<D: Read>(names: &mut D, text: &mut Vec<u8>) -> io::Result<()> {
+/// The names that are left to read, each ended by a NUL.
+fn read_names<D: Read>(alloc: Global, names: &mut D) -> io::Result<Vec<u8>>
+    ensures { IfSome (D.remaining names.old) (λ all. IfOk result (λ text. text.items ≡ all)) }
+{
+    let mut text = Vec::new(alloc);
     let mut room = [0; NAMES_AT_ONCE];
     for _ in 0..u64::MAX {
         let count = names.read(&mut room)?;
         if count == 0 {
-            break;
+            return Ok(text);
         }
         text.extend_from_slice(&room[..count])?;
     }
-    Ok(())
+    Err(io::Error::from(io::ErrorKind::OutOfMemory))
 }
 
 /// The names in a directory, each ended by a NUL, as one text. `fs::read_dir` would make a path of each.
-fn text_of_names<R: Files + AllocGlobal>(rt: &R, dir: &str) -> io::Result<Vec<u8>> {
-    let path = with_slash(rt.alloc(), dir)?;
-    let mut names = rt.open_dir(&path)?;
-    let mut text = Vec::new(rt.alloc());
-    read_names(&mut names, &mut text)?;
-    Ok(text)
+fn text_of_names<S: System + AllocGlobal>(system: &S, dir: &str) -> Result<Vec<u8>, TreeFault>
+    ensures text { IfOk result (λ text. IsListingThere (S.answers system.now) dir.now text.items) }
+    ensures fault { IfErr result (IsFault (S.answers system.now) dir.now) }
+{
+    let path = with_slash(system.alloc(), dir)?;
+    let mut names = system.open_directory(&path)?;
+    Ok(read_names(system.alloc(), &mut names)?)
 }
 
 /// The names in a directory.
-pub(crate) fn list<R: Files + AllocGlobal>(rt: &R, dir: &str) -> io::Result<Names> {
-    let bytes = text_of_names(rt, dir)?;
-    Names::of_bytes(rt.alloc(), &bytes)
+pub(crate) fn list<S: System + AllocGlobal>(system: &S, dir: &str) -> Result<Names, TreeFault>
+    ensures names { IfOk result (λ names. AreEntriesThere (S.answers system.now) dir.now (string_bytes names.text)) }
+    ensures fault { IfErr result (IsFault (S.answers system.now) dir.now) }
+{
+    let bytes = text_of_names(system, dir)?;
+    Names::of_bytes(system.alloc(), &bytes)
 }

@@ -59,7 +59,8 @@ impl Prefix {
 /// So many first bytes of a reader, at most `MOST`, or `None` where it has fewer. No more is read.
 pub(crate) fn first_bytes<F: Read + Drop>(file: F, size: usize) -> io::Result<Option<Prefix>>
     requires { size ≤ MOST }
-    ensures { IfSome (F.remaining file) (λ bytes. IfOk result (λ prefix. IfSome prefix (λ prefix.
+    ensures size { IfOk result (λ prefix. IfSome prefix (λ prefix. prefix.size ≡ size)) }
+    ensures bytes { IfSome (F.remaining file) (λ bytes. IfOk result (λ prefix. IfSome prefix (λ prefix.
         prefix_bytes prefix ≡ take size bytes))) }
 {
     let mut file = file;
