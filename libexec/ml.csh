@@ -42,8 +42,8 @@ default:
     set _module_shell = $_module_words[1]
     set _module_load = ( )
     set _module_unload = ( )
-    # A shell finds no program by its path of the user's, and the line that it prints is never missing.
-    set _module_cut = '/bin/sh -c '"'"'printf %s "${0#-}"; echo'"'"' $_module_word:q'
+    # It needs no program of the user's PATH, and prints a line also of a hyphen alone.
+    set _module_cut = '/bin/sh -c '"'"'command -p printf %s "${0#-}" && echo'"'"' $_module_word:q'
     shift _module_words
     set _module_status = 0
     foreach _module_word ( $_module_words:q )

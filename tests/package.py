@@ -9,6 +9,7 @@ these cases aren't run.
 
 import contextlib
 import glob
+import itertools
 import os
 import re
 import resource
@@ -357,34 +358,40 @@ def an_exported_cdpath_leads_no_install_astray(folder):
     same_looks(looks(elsewhere), empty, "what is made elsewhere")
 
 
-@case
-def an_install_that_fails_changes_nothing(folder):
-    prefix = os.path.join(folder.path.decode(), "prefix")
-    fresh = os.path.join(folder.path.decode(), "fresh", "prefix")
+def installed(folder):
+    """A folder with a product below it that has the site's own file, the prefix, and how the folder looks."""
+    place = os.path.join(folder.path.decode(), "place")
+    prefix = os.path.join(place, "prefix")
     with unpacked(PACKAGES.version) as archive:
-        same(install(archive, prefix)[1:], ("", 0), "the first install")
-        write(os.path.join(prefix, "etc", "modulespath"), "/site\n")
-    before = looks(prefix)
-    for name in NEEDED:
-        for reason in ("there is none", "a folder is in its place"):
-            with unpacked(PACKAGES.later) as archive:
-                os.remove(os.path.join(archive, name))
-                if reason != "there is none":
-                    os.mkdir(os.path.join(archive, name))
-                for at in (prefix, fresh):
-                    out, err, status = install(archive, at)
-                    true(status == 1 and not out and os.path.basename(name) in err, f"{name}, {reason}: {(out, err, status)}")
-                same_looks(looks(prefix), before, f"what an install changes without {name}")
-                true(not os.path.exists(os.path.dirname(fresh)), f"nothing is made without {name}")
+        goes_well(["sh", os.path.join(archive, "install.sh"), prefix])
+    write(os.path.join(prefix, "etc", "modulespath"), "/site\n")
+    return place, prefix, looks(place)
+
+
+def refuses(archive, prefix, said, **how):
+    """An install ends with status 1, and says this."""
+    out, err, status = install(archive, prefix, **how)
+    true(status == 1 and not out and said in err, f"an install that says {said!r}: found {(out, err, status)}")
+
+
+@case
+def an_install_that_lacks_a_file_changes_nothing(folder):
+    """A later version is installed over another one, and where there is none. A folder is no file either."""
+    place, prefix, before = installed(folder)
+    for name, is_folder in itertools.product(NEEDED, (False, True)):
+        with unpacked(PACKAGES.later) as archive:
+            os.remove(os.path.join(archive, name))
+            if is_folder:
+                os.mkdir(os.path.join(archive, name))
+            refuses(archive, prefix, os.path.basename(name))
+            refuses(archive, os.path.join(place, "new", "prefix"), os.path.basename(name))
+        same_looks(looks(place), before, f"what an install without {name} changes")
 
 
 @case
 def an_install_that_finds_no_room_changes_nothing(folder):
     """No file takes more bytes than these: a text is too long, and then a program. A folder stands in a file's place."""
-    prefix = os.path.join(folder.path.decode(), "prefix")
-    with unpacked(PACKAGES.version) as archive:
-        same(install(archive, prefix)[1:], ("", 0), "the first install")
-    before = looks(prefix)
+    place, prefix, before = installed(folder)
     with unpacked(PACKAGES.later) as archive:
         for most in (1000, 100_000):
 
@@ -392,20 +399,18 @@ def an_install_that_finds_no_room_changes_nothing(folder):
                 signal.signal(signal.SIGXFSZ, signal.SIG_IGN)
                 resource.setrlimit(resource.RLIMIT_FSIZE, (most, most))
 
-            out, err, status = install(archive, prefix, preexec_fn=limit)
-            true(status == 1 and not out and "Nothing is installed" in err, f"with {most} bytes: {(out, err, status)}")
-            same_looks(looks(prefix), before, f"what an install with {most} bytes changes")
-        os.remove(os.path.join(prefix, "init/fish"))
-        os.mkdir(os.path.join(prefix, "init/fish"))
-        before = looks(prefix)
-        out, err, status = install(archive, prefix)
-        true(status == 1 and not out and "init/fish" in err, f"over a folder: {(out, err, status)}")
-        same_looks(looks(prefix), before, "what an install over a folder changes")
+            refuses(archive, prefix, "Nothing is installed", preexec_fn=limit)
+            same_looks(looks(place), before, f"what an install with {most} bytes changes")
+        taken = os.path.join(prefix, "init/fish")
+        os.remove(taken)
+        os.mkdir(taken)
+        before = looks(place)
+        refuses(archive, prefix, taken)
+        same_looks(looks(place), before, "what an install over a folder changes")
 
 
 @case
 def relative_paths_begin_where_the_caller_stands(folder):
-    place = folder.path.decode()
     with unpacked(PACKAGES.version) as archive:
         near, name = os.path.split(archive)
         before = looks(archive)
@@ -420,7 +425,6 @@ def relative_paths_begin_where_the_caller_stands(folder):
         same(run(words, cwd=near, env={**os.environ, "DESTDIR": "one"}), ("", "", 0), "install.sh --uninstall")
         same(run(["sh", f"{name}/tools/product.sh", "uninstall", "two", "/p"], cwd=near), ("", "", 0), "uninstall")
         same([os.listdir(f"{near}/{stage}") for stage in ("one", "two")], [[], []], "what is left")
-    same(os.path.exists(f"{place}/p"), False, "nothing is made elsewhere")
 
 
 @case
