@@ -1,9 +1,9 @@
 # Answers calls on texts as tclsh does, a line each. A call is a verb and texts in hexadecimal, of which `-` is the empty one.
 #
-#   list TEXT              ok and the elements, or error
+#   list TEXT              ok and the elements, or error and its message
 #   glob PATTERN TEXT      1 or 0
 #   script TEXT            ok and the words of each command that ran, parted by `;`, or error and its message
-#   expr TEXT              error where the text is no expression, else ok
+#   expr TEXT              error and its message where the text is no expression, else ok
 #   expr TEXT OTHER        same where both texts have one value, or one error that no syntax is, else what they have
 #   value WORD...          ok and the result, or error and its message
 
@@ -30,7 +30,7 @@ proc all_shown {texts} {
 
 proc answer_list {text} {
     if {[catch {llength $text} n]} {
-        return error
+        return "error [shown $n]"
     }
     set elements {}
     for {set i 0} {$i < $n} {incr i} {
