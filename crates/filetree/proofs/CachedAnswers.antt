@@ -1,10 +1,13 @@
 -- One more answer is cached, and one more path is recorded.
-use Rattle.std.proofs.Common.{◌≡◌, ℕ, Bool, true, false, cond, List, Option, Some, String, length, take, string_bytes, [], ◌∷◌, ◌++◌, ◌||◌, map, refl, sym, ap, subst, ◌∙◌, inl, inr, ⊎_elim}
+use Rattle.std.proofs.Common.{◌≡◌, ℕ, Bool, true, false, not, cond, List, Option, Some, Result, Ok, Err, String, length, take, string_bytes, [], ◌∷◌, ◌++◌, ◌||◌, map, refl, sym, ap, subst, ◌∙◌, inl, inr, ⊎_elim}
+use Rattle.std.proofs.Math.Logic.{∥∥₁_elim, ∥∥₁_map, ∥∥₁_prop}
+use Rattle.std.specs.Prelude.{OnErr, OnOk}
 use Rattle.std.proofs.lemmas.Bool.{cases_Bool, or_cases, or_right}
 use Rattle.std.specs.List.{list_any}
 use Rattle.std.proofs.lemmas.Slice.Eq.{bytes_eq-Decides}
 use Rattle.std.proofs.lemmas.Map.Text.{btree_map_updates_text, hash_map_updates_text}
 use Rattle.std.specs.HashMap as hash
+use Rattle.std.specs.Map.{lookup}
 use Rattle.std.specs.HashMap.{HashMap}
 use Rattle.std.specs.BTreeMap.{BTreeMap, get_by_text, UpdatesBy}
 use Rattle.std.specs.Cmp.Lexicographic.{slice_cmp}
@@ -13,9 +16,19 @@ use Rattle.std.specs.Ordering.{nat_cmp}
 use Rattle.std.specs.Str.{bytes_eq}
 use Rattle.std.specs.String.{string_cmp, string_eq}
 use Rattle.std.proofs.lemmas.List.{take-take}
-use Rattle.filetree.specs.Known.{Fits, SaysNoLess}
+use Rattle.filetree.specs.Known.{Fits, IsAnswered, SaysNoLess, lacks}
+use Rattle.filetree.specs.Names.{has_name}
+use Rattle.filetree.specs.Systems.{Answers, IsHiddenAndAbsent, IsHiddenIn}
 use Rattle.filetree.specs.declared.known.Known.{Known}
+use Rattle.filetree.specs.declared.known.Known.TheVariants as known
 use Rattle.filetree.specs.Agreement.{Files, Listings, with_at, HaveSamePrefix, FailedAt}
+
+no_clash : ◌≡◌ {A = Bool} false true → ⊥
+no_clash e = cc
+
+of_not : (b : Bool) → not b ≡ true → b ≡ false
+of_not true e = absurd (no_clash e)
+of_not false e = refl
 
 -- what is at each path fits what is known of it
 abbrev pub FitsAll : {Y S : Type 0} → HashMap (String Y) Known S → Files → Listings → Type 0
@@ -37,6 +50,41 @@ module _ {Y S : Type 0} (m n : HashMap (String Y) Known S) (path key : List ℕ)
         subst (λ q. Fits earlier (files q) (listings q)) at_p (later earlier (ap (λ q. hash.get_by_text m q) at_p ∙ had) (files path) (listings path) fits_path)
     | inr e ↦ all p earlier (rw (now_at p, e) had)
   ]
+
+-- all that is known is made of the system's answers
+abbrev pub AllAnswered : {Y S : Type 0} → Answers → HashMap (String Y) Known S → Type 0
+AllAnswered Answered m = (path : List ℕ) (k : Known) → hash.get_by_text m path ≡ Some k → IsAnswered Answered path k
+
+pub answered_too : {Y S : Type 0} (Answered : Answers) (m n : HashMap (String Y) Known S) (path key : List ℕ) (known : Known) → key ≡ path
+    → hash.UpdatesBy string_eq (λ k. bytes_eq key (string_bytes k)) m n (Some known) → IsAnswered Answered path known → AllAnswered Answered m → AllAnswered Answered n
+answered_too Answered m n path key known same updates h all p k had =
+    let now : hash.get_by_text n p ≡ cond (bytes_eq key p) (Some known) (hash.get_by_text m p) = hash_map_updates_text key m n (Some known) updates p in
+    elim (cases_Bool (bytes_eq key p)) [
+      | inl e ↦
+          let there : Some k ≡ Some known = sym had ∙ (now ∙ ap (λ b. cond b (Some known) (hash.get_by_text m p)) e) in
+          let is : known ≡ k = cc in
+          let at_p : path ≡ p = sym same ∙ (bytes_eq-Decides key p).0 e in
+          subst (λ q. IsAnswered Answered q k) at_p (subst (λ x. IsAnswered Answered path x) is h)
+      | inr e ↦ all p k (sym (now ∙ ap (λ b. cond b (Some known) (hash.get_by_text m p)) e) ∙ had)
+    ]
+
+-- the same after an insertion, which may fail
+pub answered_after : {Y S V E : Type 0} (Answered : Answers) (m n : HashMap (String Y) Known S) (path key : List ℕ) (known : Known) (r : Result V E) → key ≡ path
+    → OnOk r (hash.UpdatesBy string_eq (λ k. bytes_eq key (string_bytes k)) m n (Some known)) → OnErr r (n.entries ≡ m.entries)
+    → ∥ IsAnswered Answered path known ∥₁ → ∥ AllAnswered Answered m ∥₁ → ∥ AllAnswered Answered n ∥₁
+answered_after Answered m n path key known (Ok v) same updates kept one all =
+    ∥∥₁_elim one ∥∥₁_prop (λ h. ∥∥₁_map all (answered_too Answered m n path key known same updates h))
+answered_after Answered m n path key known (Err e) same updates kept one all =
+    ∥∥₁_map all (λ a p k had. a p k (ap (λ es. lookup (λ q. bytes_eq p (string_bytes q)) es) (sym kept) ∙ had))
+
+-- a hidden name that the listing of its directory hasn't
+pub lacks_there : (Answered : Answers) (dir name path : List ℕ) (k : Known) → IsHiddenIn dir name path → IsAnswered Answered dir k → lacks k name ≡ true
+    → IsHiddenAndAbsent Answered path
+lacks_there Answered dir name path known.Neither h a e = absurd (no_clash e)
+lacks_there Answered dir name path (known.File prefix) h a e = absurd (no_clash e)
+lacks_there Answered dir name path (known.WholeFile bytes) h a e = absurd (no_clash e)
+lacks_there Answered dir name path known.Directory h a e = absurd (no_clash e)
+lacks_there Answered dir name path (known.Listing names) h a e = (dir, name, string_bytes names.text, h, a, of_not (has_name (string_bytes names.text) name) e)
 
 -- what is known of the one value that is there
 pub of_some : {X : Type 0} (P : X → Type 0) (there : Option X) (x y : X) → there ≡ Some x → there ≡ Some y → P x → P y

@@ -1,12 +1,11 @@
 -- What is known of a path: what it says of the pairs of maps that agree, and of which answers of the system it is made.
 -- For this crate's own contracts alone.
-use Rattle.std.specs.Prelude.{◌≡◌, ◌⊎◌, refl, ℕ, Bool, true, false, not, ◌∷◌, ◌++◌, List, Option, Some, None, Result, Ok, Err, string_bytes, vec_items}
-use Rattle.modulename.specs.ModuleName.{slash}
-use Rattle.filetree.specs.Agreement.{HaveSamePrefix, cached}
-use Rattle.filetree.specs.Names.{names_of, has_name, is_hidden}
+use Rattle.std.specs.Prelude.{◌≡◌, ◌⊎◌, refl, ℕ, Bool, true, false, not, List, Option, Some, None, Result, Ok, Err, string_bytes, vec_items}
+use Rattle.filetree.specs.Agreement.{HaveSamePrefix}
+use Rattle.filetree.specs.Names.{names_of, has_name}
 use Rattle.filetree.specs.Prefixes.{prefix_bytes}
 use Rattle.filetree.specs.Systems as systems
-use Rattle.filetree.specs.Systems.{Answers, IsLooked, IsFileThere, IsBeginningThere, AreEntriesThere, IsFault}
+use Rattle.filetree.specs.Systems.{Answers, IsLooked, IsFileThere, IsBeginningThere, AreEntriesThere, IsFault, IsHiddenAndAbsent}
 use Rattle.filetree.specs.declared.known.Known.{Known}
 use Rattle.filetree.specs.declared.known.Known.TheVariants as known
 use Rattle.filetree.specs.declared.look.PathKind.{PathKind}
@@ -72,8 +71,9 @@ is_unlisted (known.Listing names) = false
 
 -- What is known is made of answers of the system about the path.
 abbrev pub IsAnswered : Answers → List ℕ → Known → Type 0
-IsAnswered Answered path known.Neither = (kind : PathKind) × IsLooked Answered path (Ok kind)
-    × (systems.is_file kind ≡ false) × (systems.is_directory kind ≡ false)
+IsAnswered Answered path known.Neither =
+    ((kind : PathKind) × IsLooked Answered path (Ok kind) × (systems.is_file kind ≡ false) × (systems.is_directory kind ≡ false))
+    ⊎ IsHiddenAndAbsent Answered path
 IsAnswered Answered path (known.File prefix) = IsBeginningThere Answered path prefix.size (prefix_bytes prefix)
 IsAnswered Answered path (known.WholeFile bytes) = IsFileThere Answered path (vec_items bytes)
 IsAnswered Answered path known.Directory = IsLooked Answered path (Ok path_kinds.Directory)

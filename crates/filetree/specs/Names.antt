@@ -2,6 +2,7 @@
 use Rattle.std.specs.Prelude.{◌≡◌, ℕ, Bool, false, not, ◌||◌, List, [], ◌∷◌, ◌++◌, filter, ◌==◌, codes}
 use Rattle.std.specs.List.{All, list_any, slice_split}
 use Rattle.std.specs.Str.{bytes_eq}
+use Rattle.modulename.specs.ModuleName.{slash}
 use Rattle.filetree.specs.Modulefiles.{is_empty}
 
 -- the texts between the NULs that aren't empty
@@ -29,6 +30,10 @@ text_of_names (name ∷ names) = name ++ 0 ∷ text_of_names names
 abbrev pub is_hidden : List ℕ → Bool
 is_hidden [] = false
 is_hidden (b ∷ bs) = b == 46
+
+-- a text with a slash is no name
+abbrev pub has_slash : List ℕ → Bool
+has_slash text = list_any (λ b. b == slash) text
 
 -- the text has this name
 abbrev pub has_name : List ℕ → List ℕ → Bool

@@ -11,7 +11,8 @@ use Rattle.std.specs.declared.io.ErrorKind.{ErrorKind}
 use Rattle.std.specs.declared.io.ErrorKind.TheVariants as error_kinds
 use Rattle.std.specs.IoError.{error_kind}
 use Rattle.modulename.specs.ModuleName.{slash}
-use Rattle.filetree.specs.Names.{entries_of, names_of}
+use Rattle.filetree.specs.Modulefiles.{path_of}
+use Rattle.filetree.specs.Names.{entries_of, has_name, has_slash, is_hidden, names_of}
 use Rattle.filetree.specs.declared.look.PathKind.{PathKind}
 use Rattle.filetree.specs.declared.look.PathKind.TheVariants as path_kinds
 use Rattle.filetree.specs.declared.tree.TreeFault.{TreeFault}
@@ -109,6 +110,15 @@ IsListingThere Answered dir text =
 abbrev pub AreEntriesThere : Answers → List ℕ → List ℕ → Type 0
 AreEntriesThere Answered dir names =
     (text : List ℕ) × IsListingThere Answered dir text × IsPermutation (entries_of text) (names_of names)
+
+-- The path is that of a hidden name in a directory.
+abbrev pub IsHiddenIn : List ℕ → List ℕ → List ℕ → Type 0
+IsHiddenIn dir name path = (path ≡ path_of dir name) × (has_slash name ≡ false) × (is_hidden name ≡ true)
+
+-- The path is that of a hidden name which such a directory hasn't.
+abbrev pub IsHiddenAndAbsent : Answers → List ℕ → Type 0
+IsHiddenAndAbsent Answered path = (dir : List ℕ) × (name : List ℕ) × (names : List ℕ)
+    × IsHiddenIn dir name path × AreEntriesThere Answered dir names × (has_name names name ≡ false)
 
 -- The fault is one of an answer. Where something was opened, reading it can fail by any fault.
 abbrev pub IsFaultOf : Answer → TreeFault → Type 0

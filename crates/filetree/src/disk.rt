@@ -1,9 +1,11 @@
 //! The tree over a real disk, which caches each answer and gives it again.
-ghost use Rattle.std.specs.Prelude.{◌≡◌, ◌+◌, if◌then◌else◌, ℕ, List, None, Some, Option, IfOk, IfSome, OnOk, false, vec_len};
+ghost use Rattle.std.specs.Prelude.{◌≡◌, ◌+◌, if◌then◌else◌, ℕ, List, None, Some, Option, IfErr, IfOk, IfSome, OnOk, false, true, vec_len};
 ghost use Rattle.std.specs.HashMap.{get_by_text};
 ghost use Rattle.filetree.specs.Agreement.{FailsAt, FailsIf, Files, FailsOnlyByDevice, InEachPair, Listings, Narrows, begins_with, file_answer, is_device, listing_answer};
 ghost use Rattle.filetree.specs.Disk.{cached-fits, file_at, has_failed, listing_at};
-ghost use Rattle.filetree.specs.Known.{Fits, SaysNoLess, is_read_in_part, is_unlisted};
+ghost use Rattle.filetree.specs.Known.{Fits, IsAnswered, IsLoaded, SaysNoLess, is_read_in_part, is_unlisted};
+ghost use Rattle.filetree.specs.Systems.{IsFault, IsHiddenAndAbsent, IsHiddenIn};
+ghost use Rattle.filetree.specs.declared.known.Known.{Known};
 
 use crate::known::{Known, USUAL};
 use crate::load::{
@@ -34,6 +36,20 @@ pub struct DiskTree<S: System + AllocGlobal + Clone + Drop> {
     failed: Vec<String>,
     /// How many directories were found in a row where files were asked for, at most `USUAL`.
     directories_in_row: u8,
+    ghost answered: { ∥ ((path : List ℕ) (k : Known) → get_by_text known path ≡ Some k
+        → IsAnswered (S.answers system) path k) ∥₁ },
+}
+
+/// The directory and the name of a path, where the name begins with a point.
+fn hidden_name(path: &str) -> Option<(&str, &str)>
+    ensures { IfSome result (λ parts. IsHiddenIn parts.0.now parts.1.now path.entry.now) }
+{
+    let (dir, name) = path.rsplit_once('/')?;
+    if name.starts_with('.') {
+        Some((dir, name))
+    } else {
+        None
+    }
 }
 
 impl<S: System + AllocGlobal + Clone + Drop> DiskTree<S> {
@@ -52,6 +68,7 @@ impl<S: System + AllocGlobal + Clone + Drop> DiskTree<S> {
 
     /// The fault; where it is the device's, the path is added to those at which the device failed.
     fn record_failure(&mut self, path: &str, fault: TreeFault) -> TreeFault
+        requires { IsFault (S.answers self.old.system) path.now fault }
         ensures known { self.new.known ≡ self.old.known }
         ensures failed { FailsIf (is_device result) (has_failed self.old.failed)
             (has_failed self.new.failed) (λ at. at ≡ path.now) }
@@ -75,7 +92,8 @@ impl<S: System + AllocGlobal + Clone + Drop> DiskTree<S> {
 
     /// Caches what is known of a path, in place of what was, which said no more.
     fn learn(&mut self, path: &str, known: Known) -> Result<(), AllocError>
-        requires { (earlier : Known) → get_by_text self.old.known path.now ≡ Some earlier → SaysNoLess known earlier }
+        requires answered { ∥ IsAnswered (S.answers self.old.system) path.now known ∥₁ }
+        requires later { (earlier : Known) → get_by_text self.old.known path.now ≡ Some earlier → SaysNoLess known earlier }
         ensures narrows { Narrows (⟦<DiskTree<S> as Tree>⟧.agrees self.old)
             (⟦<DiskTree<S> as Tree>⟧.agrees self.new) }
         ensures known { OnOk result (InEachPair (⟦<DiskTree<S> as Tree>⟧.agrees self.new)
@@ -93,6 +111,7 @@ impl<S: System + AllocGlobal + Clone + Drop> DiskTree<S> {
         path: &str,
         loaded: Result<Known, TreeFault>,
     ) -> Result<Option<Vec<u8>>, TreeFault>
+        requires answered { IsLoaded (S.answers self.old.system) path.now loaded }
         requires later { IfOk loaded (λ known. (earlier : Known) → get_by_text self.old.known path.now ≡ Some earlier
             → SaysNoLess known earlier) }
         requires whole { IfOk loaded (λ known. is_read_in_part known ≡ false) }
@@ -120,6 +139,7 @@ impl<S: System + AllocGlobal + Clone + Drop> DiskTree<S> {
         dir: &str,
         loaded: Result<Known, TreeFault>,
     ) -> Result<Option<Vec<String>>, TreeFault>
+        requires answered { IsLoaded (S.answers self.old.system) dir.now loaded }
         requires later { IfOk loaded (λ known. (earlier : Known) → get_by_text self.old.known dir.now ≡ Some earlier
             → SaysNoLess known earlier) }
         requires listed { IfOk loaded (λ known. is_unlisted known ≡ false) }
@@ -169,13 +189,12 @@ impl<S: System + AllocGlobal + Clone + Drop> DiskTree<S> {
     }
 
     /// Whether the path has a hidden name that the directory, which was listed, hasn't.
-    fn is_hidden_and_absent(&self, path: &str) -> bool {
-        let Some((dir, name)) = path.rsplit_once('/') else {
+    fn is_hidden_and_absent(&self, path: &str) -> bool
+        ensures { result ≡ true → ∥ IsHiddenAndAbsent (S.answers self.now.system) path.now ∥₁ }
+    {
+        let Some((dir, name)) = hidden_name(path) else {
             return false;
         };
-        if !name.starts_with('.') {
-            return false;
-        }
         match self.known.get(dir) {
             Some(listing) => listing.lacks_hidden(name),
             None => false,
@@ -183,7 +202,10 @@ impl<S: System + AllocGlobal + Clone + Drop> DiskTree<S> {
     }
 
     /// What is at a path of which nothing is known, of whose file the first `size` bytes are read.
-    fn load_start(&self, path: &str, size: usize) -> Result<Known, TreeFault> {
+    fn load_start(&self, path: &str, size: usize) -> Result<Known, TreeFault>
+        ensures answered { IfOk result (λ known. ∥ IsAnswered (S.answers self.now.system) path.now known ∥₁) }
+        ensures fault { IfErr result (IsFault (S.answers self.now.system) path.now) }
+    {
         if self.is_hidden_and_absent(path) {
             Ok(Known::Neither)
         } else if self.directories_in_row == USUAL {

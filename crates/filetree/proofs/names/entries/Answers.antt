@@ -1,4 +1,4 @@
-use Rattle.std.proofs.Common.{◌≡◌, List, ℕ, Bool, not, map, filter, ap, ◌∙◌, rules, tests}
+use Rattle.std.proofs.Common.{List, ℕ, Bool, not, map, filter, ap, ◌∙◌, rules, tests}
 use Rattle.std.proofs.lemmas.Fn.{filter_same}
 use Rattle.filetree.specs.Names.{is_dot_name}
 use Rattle.filetree.proofs.NameLemmas.{map-kept, not_or}
