@@ -141,6 +141,8 @@ def grouped_otherwise(call, answer):
     """How tclsh groups an expression that was read as the profile groups it, None where that is the same.
 
     `== !=`, `eq ne` and `in ni` have three levels in the profile, as expr(n) lists them, and one in tclsh."""
+    if not call.startswith("expr "):
+        return None
     ours, theirs = (grouped(text_of(call), levels) for levels in (PROFILE, TCLSH))
     return theirs if ours != theirs and answer == f"ok {shown(ours)}" else None
 
@@ -182,10 +184,10 @@ def main():
     calls = [generate(draw) for generate in GENERATORS for _ in range(CASES)]
     told = answers([sys.argv[1]], ["text " + call for call in calls])
     ours = [plain(call, answer) for call, answer in zip(calls, told, strict=True)]
-    regrouped = [call.startswith("expr ") and grouped_otherwise(call, one) is not None for call, one in zip(calls, ours)]
+    regrouped = sum(grouped_otherwise(*it) is not None for it in zip(calls, ours, strict=True))
     theirs = answers(["tclsh", os.path.join(HERE, "answers.tcl")], list(map(question, calls, ours)))
     ours = list(map(wanted, calls, ours))
-    explained, failed = {"`== !=`, `eq ne` and `in ni` have three levels": sum(regrouped)}, []
+    explained, failed = {"`== !=`, `eq ne` and `in ni` have three levels": regrouped}, []
     for call, one, other in zip(calls, ours, theirs, strict=True):
         if agree(call, one, other):
             continue
