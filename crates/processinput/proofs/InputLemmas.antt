@@ -1,9 +1,13 @@
--- One read after another.
-use Rattle.std.proofs.Common.{◌≡◌, ℕ, Bool, true, false, inl, inr, List, [], ◌++◌, Option, Some, None, refl, sym, ap, ◌∙◌, append_assoc}
+-- One read after another, and the text of what was read.
+use Rattle.std.proofs.Common.{◌≡◌, ◌⊎◌, ◌<◌, ◌≤◌, ◌+◌, ℕ, length, string_bytes, subst, String, Result, Ok, Err, IfOk, IfErr, Bool, true, false, inl, inr, List, [], ◌++◌, Option, Some, None, refl, sym, ap, ◌∙◌, append_assoc}
 use Rattle.std.proofs.lemmas.Bool.{cases_Bool}
 use Rattle.std.proofs.lemmas.Str.{IsUtf8-from_is_utf8}
 use Rattle.std.specs.Str.{IsUtf8, is_utf8}
-use Rattle.std.specs.Io.KnownBytes.{Consumes, Keeps}
+use Rattle.std.specs.Io.KnownBytes.{Consumes, IsAtEnd, Keeps}
+use Rattle.std.specs.declared.alloc.Global.{Global}
+use Rattle.processinput.specs.Inputs.{FailsAfterReading, IsInputFault, IsTextOf, ReadsAll, input_limit}
+use Rattle.processinput.specs.declared.input.InputFault.{InputFault}
+use Rattle.processinput.specs.declared.input.InputFault.TheVariants.{BadInput}
 
 pub consumes_none : (a : Option (List ℕ)) → Consumes a a []
 consumes_none None = tt
@@ -29,3 +33,20 @@ no_utf8 bytes h = elim (cases_Bool (is_utf8 bytes)) [
   where
     clash : ◌≡◌ {A = Bool} false true → ⊥
     clash e = cc
+
+-- what is answered of the bytes that were read
+
+pub given_text : (old new : Option (List ℕ)) (bytes : List ℕ) (r : Result (String Global) InputFault) → Consumes old new bytes → (length bytes ≤ input_limit → IsAtEnd new) → IsTextOf bytes r
+    → IfOk r (λ text. ReadsAll old new (string_bytes text))
+given_text old new bytes (Ok text) taken all h = (subst (λ (bs : List ℕ). Consumes old new bs) (sym h.0) taken, all h.1)
+given_text old new bytes (Err fault) taken all h = tt
+
+pub failed_text : (old new : Option (List ℕ)) (bytes : List ℕ) (r : Result (String Global) InputFault) → Consumes old new bytes → length bytes ≤ input_limit + 1 → (length bytes ≤ input_limit → IsAtEnd new)
+    → IsTextOf bytes r → IfErr r (λ fault. FailsAfterReading fault old new)
+failed_text old new bytes (Ok text) taken within all h = tt
+failed_text old new bytes (Err fault) taken within all h =
+    (bytes, taken, within, subst (λ f. IsInputFault f new bytes) (sym h.0) (bad h.1))
+  where
+    bad : (input_limit < length bytes) ⊎ ((length bytes ≤ input_limit) × (is_utf8 bytes ≡ false)) → IsInputFault BadInput new bytes
+    bad (inl many) = inl many
+    bad (inr odd) = inr (all odd.0, odd.1)

@@ -1,5 +1,7 @@
 -- What is read of an input, and when reading it fails (own).
-use Rattle.std.specs.Prelude.{◌≡◌, ◌⊎◌, ◌<◌, ◌≤◌, ◌+◌, ℕ, false, length, Option}
+use Rattle.std.specs.Prelude.{◌≡◌, ◌⊎◌, ◌<◌, ◌≤◌, ◌+◌, ℕ, false, length, Option, Result, Ok, Err, string_bytes}
+use Rattle.std.specs.declared.alloc.Global.{Global}
+use Rattle.std.specs.declared.string.String.{String}
 use Rattle.std.specs.Io.KnownBytes.{Consumes, IsAtEnd}
 use Rattle.std.specs.Str.{is_utf8}
 use Rattle.envvars.specs.Texts.{Text}
@@ -25,3 +27,9 @@ IsInputFault BadInput new bytes = (input_limit < length bytes) ⊎ (IsAtEnd new 
 abbrev pub FailsAfterReading : InputFault → Option Text → Option Text → Type 0
 FailsAfterReading fault old new =
     (bytes : Text) × Consumes old new bytes × (length bytes ≤ input_limit + 1) × IsInputFault fault new bytes
+
+-- The text of an input that has these bytes, unless they are too many or aren't UTF-8, which is bad input.
+abbrev pub IsTextOf : Text → Result (String Global) InputFault → Type 0
+IsTextOf bytes (Ok text) = (string_bytes text ≡ bytes) × (length bytes ≤ input_limit)
+IsTextOf bytes (Err fault) = (fault ≡ BadInput)
+    × ((input_limit < length bytes) ⊎ ((length bytes ≤ input_limit) × (is_utf8 bytes ≡ false)))

@@ -3,7 +3,7 @@ ghost use Rattle.std.specs.Prelude.{◌≡◌, ◌≤◌, ◌+◌, length, Some,
 ghost use Rattle.std.specs.Io.KnownBytes.{Consumes, IsAtEnd};
 ghost use Rattle.message.specs.Messages.{text_of};
 ghost use Rattle.processinput.specs.Faults.{input_number, input_message};
-ghost use Rattle.processinput.specs.Inputs.{input_limit, ReadsAll, FailsAfterReading};
+ghost use Rattle.processinput.specs.Inputs.{input_limit, FailsAfterReading, IsTextOf, ReadsAll};
 ghost use Rattle.processinput.specs.declared.input.InputFault.TheVariants.{OutOfMemory};
 
 use message::{Message, out_of_memory};
@@ -92,6 +92,19 @@ fn read_bytes<R: Read>(alloc: Global, input: &mut R) -> Result<Vec<u8>, InputFau
     Ok(bytes)
 }
 
+/// The text of an input, of which these bytes were read: all, or one more than it may have.
+fn text_of_bytes(bytes: Vec<u8>) -> Result<String, InputFault>
+    ensures { IsTextOf bytes.items result }
+{
+    if bytes.len() > INPUT_LIMIT {
+        return Err(InputFault::BadInput);
+    }
+    match String::from_utf8(bytes) {
+        Ok(text) => Ok(text),
+        Err(_) => Err(InputFault::BadInput),
+    }
+}
+
 /// The whole text of an input. At most one byte more is read than an input may have.
 ///
 /// The errors: `OutOfMemory`; `ReadFailed` where a read failed or was interrupted; `BadInput` where the input has more
@@ -103,11 +116,5 @@ pub fn read_input<R: Read>(alloc: Global, input: &mut R) -> Result<String, Input
     ensures failed { IfErr result (λ fault. FailsAfterReading fault (R.remaining input.old) (R.remaining input.new)) }
 {
     let bytes = read_bytes(alloc, input)?;
-    if bytes.len() > INPUT_LIMIT {
-        return Err(InputFault::BadInput);
-    }
-    match String::from_utf8(bytes) {
-        Ok(text) => Ok(text),
-        Err(_) => Err(InputFault::BadInput),
-    }
+    text_of_bytes(bytes)
 }

@@ -1,11 +1,12 @@
-use Rattle.std.proofs.Common.{arith, inr}
-use Rattle.processinput.proofs.InputLemmas.{no_utf8}
+use Rattle.processinput.proofs.InputLemmas.{failed_text, given_text}
 use Rattle.processinput.proofs.input.read_input.Goals as goal
 
+pub returns-clause-given : goal.returns-clause-given
+returns-clause-given g c =
+    let remaining = g.R.Read.remaining in
+    given_text (remaining c.args.input.now) (remaining c.read_bytes.new.input) c.in_ok-bytes.bytes.items c.text_of_bytes.result c.in_ok-bytes.ensures.taken c.in_ok-bytes.ensures.all c.text_of_bytes.ensures
+
 pub returns-clause-failed : goal.returns-clause-failed
-returns-clause-failed g c = (
-  c.in_ok-bytes.bytes.items,
-  c.in_ok-bytes.ensures.taken,
-  c.in_ok-bytes.ensures.within,
-  inr (c.in_ok-bytes.ensures.all (omega arith), no_utf8 c.in_ok-bytes.bytes.items (λ is. c.in-Err.ensures.succeeds is)),
-)
+returns-clause-failed g c =
+    let remaining = g.R.Read.remaining in
+    failed_text (remaining c.args.input.now) (remaining c.read_bytes.new.input) c.in_ok-bytes.bytes.items c.text_of_bytes.result c.in_ok-bytes.ensures.taken c.in_ok-bytes.ensures.within c.in_ok-bytes.ensures.all c.text_of_bytes.ensures
