@@ -1,5 +1,5 @@
 """What the documents name, and whether it is there: the functions, clauses and definitions in the tables of
-docs/CLAIMS.md, the tables of docs/ARCHITECTURE.md, and the files, crates and suites that any page names."""
+docs/CLAIMS.md, the lists and paths of docs/ARCHITECTURE.md, and the files, crates and suites that any page names."""
 
 import functools
 import os
@@ -33,6 +33,15 @@ HELPERS = {
 # Around the proof of each library the gate of some kits reads the files of all crates below it, along each path of their
 # graph anew.
 MOST_PATHS = 250_000
+
+# ARCHITECTURE is read before the first change.
+MOST_BYTES = 12_000
+
+# The crates of other layers that those of some layers may list, as ARCHITECTURE says.
+BOUNDARIES = {
+    ("Texts of Tcl", "Evaluation of Tcl"): {"message"},
+    ("Environment",): {"message", "modulename"},
+}
 
 # What begins like a path of the repository: a folder at its top, or one of a crate.
 FOLDERS = "bench|completion|crates|demo|docs|etc|init|libexec|man|tests|tools"
@@ -231,16 +240,48 @@ def check_files():
 
 
 def check_rooms():
-    """The tables of ARCHITECTURE are those that tools/rooms.py makes: one for each group of crates.txt, no other, and
+    """The lists of ARCHITECTURE are those that tools/rooms.py makes: one for each group of crates.txt, no other, and
     none changed."""
     architecture = content("docs", "ARCHITECTURE.md")
     try:
-        tables = {group: rooms.table(crates) for group, crates in rooms.groups()}
+        made = rooms.listings()
     except ValueError as fault:
         raise Failed(str(fault)) from fault
-    for group, table in tables.items():
-        true(f"### {group}\n\n{table}\n" in architecture, f"`python3 tools/rooms.py --write` made the table of {group}")
-    true(architecture.count(rooms.HEAD) == len(tables), f"ARCHITECTURE has {len(tables)} tables of crates")
+    is_made = f"\n{made}## " in architecture and architecture.count("\n### ") == len(rooms.groups())
+    true(is_made, "`python3 tools/rooms.py --write` made the lists of ARCHITECTURE")
+
+
+def check_doors():
+    """ARCHITECTURE is short, and a path on it begins at the top of the repository, in crates/ or beside the page."""
+    architecture = content("docs", "ARCHITECTURE.md")
+    size = len(architecture.encode())
+    true(size <= MOST_BYTES, f"ARCHITECTURE has at most {MOST_BYTES} bytes, not {size}")
+    beginnings = [TOP, CRATES, os.path.join(TOP, "docs")]
+    blocks = "\n".join(BLOCK.findall(architecture))
+    for name in names_in(architecture):
+        if "/" in name and is_file_of_ours(name, blocks):
+            found = any(os.path.exists(os.path.join(folder, name)) for folder in beginnings)
+            true(found, f"ARCHITECTURE names the path of a file from the top or from crates/: {name}")
+
+
+def check_order():
+    """A crate stands on crates before it in crates.txt, but for the exceptions that ARCHITECTURE names."""
+    lists = rooms.lists()
+    order = list(lists)
+    pairs = [(crate, lower) for crate in order for lower in lists[crate] if lower in lists]
+    exceptions = {(crate, lower) for crate, lower in pairs if order.index(lower) > order.index(crate)}
+    named = set(re.findall(r"`(\w+)` on `(\w+)`", content("docs", "ARCHITECTURE.md")))
+    true(named == exceptions, f"ARCHITECTURE names which crates stand on one after them: {sorted(exceptions)}")
+
+
+def check_boundaries():
+    """The layers of Tcl and of the environment name no other crate of the layers beside and below them."""
+    layers, lists = dict(rooms.groups()), rooms.lists()
+    for names, allowed in BOUNDARIES.items():
+        inside = {crate for name in names for crate in layers[name]}
+        outside = {lower for crate in inside for lower in lists[crate] if lower in lists} - inside
+        wanted = f"{' and '.join(names)} list of other layers {sorted(allowed)} alone"
+        true(outside == allowed, f"{wanted}: {sorted(outside)}")
 
 
 def check_groups():

@@ -1,9 +1,11 @@
-"""Prints the tables of docs/ARCHITECTURE.md that say what each crate knows, what it may touch and who uses it.
+"""Prints what each crate knows, in the groups of crates.txt: the lists of docs/ARCHITECTURE.md.
 
     rooms.py [--write]
+    rooms.py --users NAME...
 
-They are made from the heads of crates.txt and from the first three lines of each crate's root file. With `--write` the
-tables on the page are replaced, where a line with the name of the group stands before each.
+What a crate knows is the first line of its root file, in short; the second line says what it may touch, and the third
+who uses it. With `--write` the lists on the page are replaced: its headings of the third level, up to the next of the
+second. With `--users` it prints instead which crates list these in crates.txt.
 """
 
 import os
@@ -12,20 +14,42 @@ import sys
 
 TOP = os.path.dirname(os.path.dirname(os.path.abspath(__file__)))
 PAGE = os.path.join(TOP, "docs", "ARCHITECTURE.md")
-HEAD = "| Crate | Knows | May touch | Used by |\n|---|---|---|---|\n"
-TABLE = re.compile(r"^### (?P<group>[^\n]+)\n\n(?:\|[^\n]*\n)+", re.MULTILINE)
+LISTS = re.compile(r"^### .*?(?=^## )", re.DOTALL | re.MULTILINE)
+
+# A line in short has this many words, and goes on where it would have fewer than the least.
+MOST_WORDS = 12
+LEAST_WORDS = 3
+
+# The pages that a line names in parentheses, and where it can end.
+PAGES = re.compile(r" \((?:[^()]|\(\w+\))*\)")
+PAUSE = re.compile(r"(?=[:;,] )")
 
 
-def groups():
-    """The groups of crates.txt in their order, each a heading with the names of its crates."""
+def blocks():
+    """The groups of crates.txt in their order, each a heading with its lines: a crate, and what that lists."""
     found = []
     with open(os.path.join(TOP, "crates.txt"), encoding="utf-8") as file:
         for block in file.read().split("\n\n"):
             lines = block.strip().split("\n")
-            crates = [line.split(":")[0] for line in lines if not line.startswith("#")]
+            crates = [line.split(":") for line in lines if not line.startswith("#")]
             if crates:
                 found.append((lines[0].lstrip("# ").rstrip("."), crates))
     return found
+
+
+def groups():
+    """The groups of crates.txt in their order, each a heading with the names of its crates."""
+    return [(group, [crate for crate, _ in crates]) for group, crates in blocks()]
+
+
+def lists():
+    """What each crate lists in crates.txt, in the order of that file."""
+    return {crate: listed.split() for _, crates in blocks() for crate, listed in crates}
+
+
+def users(crate):
+    """The crates that list this one."""
+    return [user for user, listed in lists().items() if crate in listed]
 
 
 def head(crate):
@@ -39,26 +63,59 @@ def head(crate):
     return lines
 
 
-def table(crates):
-    return HEAD + "".join(f"| `{crate}` | {' | '.join(head(crate))} |\n" for crate in crates)
+def in_short(line):
+    """A line without the pages that it names, up to a colon or semicolon, and to a comma where it is still long."""
+    first, *rest = PAUSE.split(PAGES.sub("", line).rstrip("."))
+    text = first
+    for part in rest:
+        fits = part[0] == "," and len((text + part).split()) <= MOST_WORDS
+        if not fits and len(text.split()) >= LEAST_WORDS:
+            break
+        text += part
+    return text
+
+
+def listing(group, crates):
+    """The heading of a group, and a line for each of its crates."""
+    lines = "".join(f"- `{crate}`: {in_short(head(crate)[0])}\n" for crate in crates)
+    return f"### {group}\n\n{lines}\n"
+
+
+def listings():
+    return "".join(listing(group, crates) for group, crates in groups())
 
 
 def page(text):
-    """The page with each group's table as it is made."""
-    made = dict(groups())
-    return TABLE.sub(lambda found: f"### {found['group']}\n\n{table(made[found['group']])}", text)
+    """The page with the lists as they are made."""
+    made = listings()
+    return LISTS.sub(lambda _: made, text, count=1)
 
 
-def main():
-    if "--write" not in sys.argv:
-        for group, crates in groups():
-            print(f"### {group}\n\n{table(crates)}")
-        return
+def write_page():
     with open(PAGE, encoding="utf-8") as file:
         text = file.read()
     with open(PAGE, "w", encoding="utf-8") as file:
         file.write(page(text))
 
 
+def print_users(crates):
+    unknown = [crate for crate in crates if crate not in lists()]
+    if unknown:
+        sys.exit(f"crates.txt has no crate {' '.join(unknown)}")
+    for crate in crates:
+        print(f"{crate}: {' '.join(users(crate)) or 'none'}")
+
+
+def main(words):
+    if words[:1] == ["--users"] and words[1:]:
+        print_users(words[1:])
+    elif words == ["--write"]:
+        write_page()
+    elif words:
+        sys.exit("rooms.py [--write | --users NAME...]")
+    else:
+        print(listings(), end="")
+
+
 if __name__ == "__main__":
-    main()
+    main(sys.argv[1:])
