@@ -34,6 +34,9 @@ TOP = os.path.dirname(HERE)
 ERROR = "ERROR: {}\n"
 WRITING_FAILED = ERROR.format("Writing failed").encode()
 
+# How many directories a site may have (modaudit(1), Too many directories).
+MOST_DIRECTORIES = 65_536
+
 # How many random sites are compared with the model.
 SITES = 150
 
@@ -583,6 +586,29 @@ def faults_of_a_whole_audit(folder):
     done = site.run()
     same((done.stdout, done.stderr, done.returncode), (b"", b"ERROR: Reading failed\n", 2), "a ring of links")
     os.remove(path)
+
+
+@case
+def faults_in_their_order(folder):
+    site = Site(folder, {"/m/a/1": ""}, LOADEDMODULES="x")
+    m, gone, none = (os.fsdecode(real(folder, f"/m{end}")) for end in ("", "/gone", "/none"))
+    site.refuses("Bad arguments", gone, "--nope")
+    site.refuses(f"Not a directory: '{gone}'", m, gone, none)
+    site.refuses("Loaded modules are inconsistent", m)
+    del site.env[b"LOADEDMODULES"]
+    os.symlink("b", real(folder, "/m/b"))
+    site.refuses(f"Not a directory: '{gone}'", m, gone, none)
+    site.refuses("Reading failed", m)
+
+
+@case
+def the_most_directories_of_a_site(folder):
+    def site(count):
+        added = ":".join(f"/x{number}" for number in range(1, count))
+        return Site(folder, {"/m/a/1": f"append-path MODULEPATH {added}\n"})
+
+    site(MOST_DIRECTORIES).says(["a/1\tcertified\t\t/m/a/1", "# 1 certified of 1"])
+    site(MOST_DIRECTORIES + 1).refuses("Too many directories")
 
 
 @case

@@ -1,5 +1,5 @@
 -- The causes of faults, and how an audit ends.
-use Rattle.std.proofs.Common.{◌≡◌, ◌⊎◌, Bool, List, Option, Some, None, Result, Ok, Err, sym, subst, inl, inr}
+use Rattle.std.proofs.Common.{◌≡◌, ◌⊎◌, Bool, false, List, Option, Some, None, Result, Ok, Err, sym, subst, inl, inr}
 use Rattle.std.specs.Prelude.{IfErr}
 use Rattle.envvars.specs.Texts.{Text}
 use Rattle.envvars.specs.Environment.{Environment}
@@ -37,10 +37,10 @@ given_up_fault agrees failed e arguments WriteFailed h = absurd h
 pub fault_of_wanted : (agrees : Files → Listings → Type 0) (failed : Type 0) (e : Environment) (arguments : List Text) (wanted : Wanted) (fault : AuditFault) → wanted_of arguments ≡ Some wanted
     → IsWantedFault agrees failed e wanted fault → IsAuditFault agrees failed e arguments fault
 fault_of_wanted agrees failed e arguments wanted fault asked (inl (inl d)) =
-    subst (λ (x : AuditFault). IsAuditFault agrees failed e arguments x) (sym d.1) (no_directory wanted d.0 asked d.2 d.3)
+    subst (λ (x : AuditFault). IsAuditFault agrees failed e arguments x) (sym d.1) (no_directory wanted d.0 asked d.2)
 fault_of_wanted agrees failed e arguments wanted fault asked (inl (inr h)) = given_up_fault agrees failed e arguments fault h
 fault_of_wanted agrees failed e arguments wanted fault asked (inr w) =
-    subst (λ (x : AuditFault). IsAuditFault agrees failed e arguments x) (sym w.1) (no_walk wanted w.0 asked w.2)
+    subst (λ (x : AuditFault). IsAuditFault agrees failed e arguments x) (sym w.1) (no_walk wanted w.0 asked w.2 w.3)
 
 -- what follows on a failure
 pub if_err_so : {X E : Type 0} (r : Result X E) (P Q : E → Type 0) → ((e : E) → P e → Q e) → IfErr r P → IfErr r Q
@@ -48,14 +48,15 @@ if_err_so (Ok x) P Q f h = tt
 if_err_so (Err e) P Q f h = f e h
 
 -- the end of an audit whose report was written, or the first part of it
-pub answered : (exit : AuditExit) (agrees : Files → Listings → Type 0) (failed : Type 0) (e : Environment) (arguments : List Text) (answer : Prepared) (out out' err err' : Option Text)
-    → IsPreparedAudit agrees e arguments answer → WritesAudit exit answer.is_all_certified answer.report.items out out' err err' → EndsAudit exit agrees failed e arguments out out' err err'
-answered exit agrees failed e arguments answer out out' err err' is h =
+pub answered : (exit : AuditExit) (agrees : Files → Listings → Type 0) (failed : Type 0) (Fails : Bool → Type 0) (e : Environment) (arguments : List Text) (answer : Prepared) (out out' err err' : Option Text)
+    → IsPreparedAudit agrees e arguments answer → Fails false → WritesAudit exit answer.is_all_certified answer.report.items out out' err err' → EndsAudit exit agrees failed Fails e arguments out out' err err'
+answered exit agrees failed Fails e arguments answer out out' err err' is none h =
     let found = is.prepared.found in
     inl (
       is.wanted,
       found,
       record { asked = is.asked; directories = is.prepared.directories; exact = is.prepared.exact; holds = is.prepared.holds },
+      none,
       subst (λ (text : Text). WritesAudit exit (all_certified found) text out out' err err') is.prepared.report
           (subst (λ (all : Bool). WritesAudit exit all answer.report.items out out' err err') is.prepared.certified h),
     )

@@ -1,14 +1,19 @@
 -- Directories that are judged one after another, and the faults of words that name none.
 use Rattle.std.proofs.Common.{◌≡◌, ◌⊎◌, ℕ, zero, suc, add-one, ◌+◌, ◌<◌, ◌≤◌, Bool, true, false, List, [], ◌∷◌, ◌++◌, length, get_or, map, take, string_bytes, String, refl, sym, ap, ◌∙◌, subst, inl, inr, arith}
 use Rattle.std.proofs.lemmas.List.{take_more, map-append}
-use Rattle.std.specs.Prelude.{Contains}
 use Rattle.std.specs.declared.alloc.Global.{Global}
 use Rattle.requests.specs.Reasons.{RequestReason}
 use Rattle.modulestep.specs.Answers.{cause_of}
 use Rattle.envvars.specs.Texts.{Text}
-use Rattle.filetree.specs.Agreement.{Files, Listings, InEachPair, Narrows, ReadsOn}
+use Rattle.filetree.specs.Agreement.{FailsIf, Files, Listings, InEachPair, Narrows, ReadsOn}
 use Rattle.filetree.specs.Causes.{Cause, Applies, memory, device, because}
-use Rattle.auditcommand.specs.Audits.{IsDirectory, AreDirectories, IsNoDirectory, has_colon}
+use Rattle.modulestep.proofs.FailureLemmas.{unfailed}
+use Rattle.auditreport.specs.Looked as walks
+use Rattle.auditreport.specs.WalkFault.{WalkFault}
+use Rattle.auditreport.specs.WalkFault.TheVariants as faults
+use Rattle.auditcommand.specs.Audits.{IsDirectory, AreDirectories, IsFirstGone, IsNoDirectory, has_colon}
+use Rattle.auditcommand.specs.Faults.{is_failure, of_walk}
+use Rattle.auditcommand.specs.Looked.{AreThere, LooksInTurn}
 use Rattle.auditcommand.specs.Steps.{IsGivenUp, NamesNoDirectory, IsDirectoryFault, AreDirectoriesFault}
 use Rattle.auditcommand.specs.declared.audit_fault.AuditFault.{AuditFault}
 use Rattle.auditcommand.specs.declared.audit_fault.AuditFault.TheVariants.{Refused, TooManyDirectories, NotADirectory, WriteFailed}
@@ -78,19 +83,61 @@ directory_more P Q xs i x l e n h k =
 -- ---- faults of several words
 
 -- one of the words, by its place
-contained : (xs : List (String Global)) (i : ℕ) (x : String Global) → i < length xs → x ≡ get_or xs i x → Contains (map (λ (s : String Global). string_bytes s) xs) (string_bytes x)
-contained [] i x l e = absurd (omega arith)
-contained (y ∷ ys) zero x l e = (0, omega arith, ap (λ (s : String Global). string_bytes s) (sym e))
-contained (y ∷ ys) (suc i) x l e = let later = contained ys i x (omega arith) e in (later.0 + 1, omega (arith, later.1), rw add-one later.2)
+placed : (xs : List (String Global)) (i : ℕ) (x : String Global) → i < length xs → x ≡ get_or xs i x
+    → (after : List Text) × (map (λ (s : String Global). string_bytes s) xs ≡ map (λ (s : String Global). string_bytes s) (take i xs) ++ string_bytes x ∷ after)
+placed [] i x l e = absurd (omega arith)
+placed (y ∷ ys) zero x l e = (map (λ (s : String Global). string_bytes s) ys, ap (λ (s : String Global). string_bytes s ∷ map (λ (s : String Global). string_bytes s) ys) (sym e))
+placed (y ∷ ys) (suc i) x l e = let later = placed ys i x (omega arith) e in (later.0, ap (λ (words : List Text). string_bytes y ∷ words) later.1)
 
-pub fault_among : (agrees : Files → Listings → Type 0) (failed all_failed : Type 0) (xs : List (String Global)) (i : ℕ) (x : String Global) (fault : AuditFault) → (failed → all_failed)
-    → i < length xs → x ≡ get_or xs i x → IsDirectoryFault agrees failed (string_bytes x) fault → AreDirectoriesFault agrees all_failed (map (λ (s : String Global). string_bytes s) xs) fault
-fault_among agrees failed all_failed xs i x fault f l e (inl d) =
-    let words = map (λ (s : String Global). string_bytes s) xs in
+pub fault_among : (before agrees : Files → Listings → Type 0) (failed all_failed : Type 0) (xs : List (String Global)) (i : ℕ) (x : String Global) (fault : AuditFault) → (failed → all_failed)
+    → i < length xs → x ≡ get_or xs i x → Narrows before agrees → AreDirectories before (map (λ (s : String Global). string_bytes s) (take i xs)) → IsDirectoryFault agrees failed (string_bytes x) fault
+    → AreDirectoriesFault agrees all_failed (map (λ (s : String Global). string_bytes s) xs) fault
+fault_among before agrees failed all_failed xs i x fault f l e n there (inl d) =
+    let so_far = map (λ (s : String Global). string_bytes s) (take i xs) in
+    let order = placed xs i x l e in
     inl (
       d.0,
       d.1,
-      subst (λ (word : Text). Contains words word) (sym d.2) (contained xs i x l e),
-      subst (λ (word : Text). IsNoDirectory agrees word) (sym d.2) d.3,
+      subst (λ (word : Text). IsFirstGone agrees (map (λ (s : String Global). string_bytes s) xs) word) (sym d.2)
+          (record { before = so_far; after = order.0; order = order.1; there = are_in before agrees so_far n there; gone = d.3 }),
     )
-fault_among agrees failed all_failed xs i x fault f l e (inr h) = inr (given_up_in fault failed all_failed f h)
+fault_among before agrees failed all_failed xs i x fault f l e n there (inr h) = inr (given_up_in fault failed all_failed f h)
+
+-- ---- where a tree failed
+
+are_there : (agrees : Files → Listings → Type 0) (files : Files) (listings : Listings) (dirs : List Text) → agrees files listings → AreDirectories agrees dirs → AreThere listings dirs
+are_there agrees files listings [] a h = tt
+are_there agrees files listings (dir ∷ dirs) a h = (h.0.colonless, h.0.listed files listings a, are_there agrees files listings dirs a h.1)
+
+pub looks_in_turn : (before agrees : Files → Listings → Type 0) (xs : List (String Global)) (i : ℕ) (x : String Global) (at : Text) → i < length xs → x ≡ get_or xs i x → Narrows before agrees
+    → AreDirectories before (map (λ (s : String Global). string_bytes s) (take i xs)) → (at ≡ string_bytes x) × (has_colon (string_bytes x) ≡ false)
+    → InEachPair agrees (λ files listings. LooksInTurn listings (map (λ (s : String Global). string_bytes s) xs) at)
+looks_in_turn before agrees xs i x at l e n there h = λ files listings a.
+    let so_far = map (λ (s : String Global). string_bytes s) (take i xs) in
+    let order = placed xs i x l e in
+    subst (λ (path : Text). LooksInTurn listings (map (λ (s : String Global). string_bytes s) xs) path) (sym h.0) (record {
+      before = so_far;
+      after = order.0;
+      order = order.1;
+      there = are_there before files listings so_far (n files listings a) there;
+      colonless = h.1;
+    })
+
+pub all_there : (before agrees : Files → Listings → Type 0) (dirs : List Text) → Narrows before agrees → AreDirectories before dirs → InEachPair agrees (λ files listings. AreThere listings dirs)
+all_there before agrees dirs n there = λ files listings a. are_there before files listings dirs (n files listings a) there
+
+-- what is given up without a tree is no failure of the device
+pub unfailed_without : (fault : AuditFault) (before now : List ℕ → Bool) (W : List ℕ → Type 0) → IsGivenUp ⊥ fault → now ≡ before → FailsIf (is_failure fault) before now W
+unfailed_without (Refused refusal) before now W h same = unfailed refusal (λ reason. ⊥) before now W h same
+unfailed_without TooManyDirectories before now W h same = absurd h
+unfailed_without (NotADirectory dir) before now W h same = absurd h
+unfailed_without WriteFailed before now W h same = absurd h
+
+pub names_unfailed : (fault : AuditFault) (word : Text) (before now : List ℕ → Bool) (W : List ℕ → Type 0) → NamesNoDirectory fault word → now ≡ before → FailsIf (is_failure fault) before now W
+names_unfailed fault word before now W (inl d) same = subst (λ (f : AuditFault). FailsIf (is_failure f) before now W) (sym d.1) same
+names_unfailed fault word before now W (inr h) same = unfailed_without fault before now W h same
+
+-- a failure of the walk is one of the whole
+pub walked_failure : (fault : WalkFault) → walks.is_failure fault ≡ is_failure (of_walk fault)
+walked_failure (faults.Refused refusal) = refl
+walked_failure faults.TooManyDirectories = refl

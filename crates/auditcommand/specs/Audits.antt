@@ -1,5 +1,5 @@
 -- What an audit writes to its two writers, and why there is none (own).
-use Rattle.std.specs.Prelude.{◌≡◌, ◌⊎◌, ℕ, Bool, true, false, List, [], ◌∷◌, codes, Option, Some, None, IsSome, Contains, ◌==◌, string_bytes}
+use Rattle.std.specs.Prelude.{◌≡◌, ◌⊎◌, ℕ, Bool, true, false, List, [], ◌∷◌, ◌++◌, codes, Option, Some, None, IsSome, ◌==◌, string_bytes}
 use Rattle.std.specs.declared.alloc.Global.{Global}
 use Rattle.std.specs.declared.string.String.{String}
 use Rattle.std.specs.List.{join_with_byte, list_all, list_any}
@@ -21,7 +21,7 @@ use Rattle.auditreport.specs.Reports.{report_of}
 use Rattle.modulecmd.specs.Command.{standard}
 use Rattle.modulecmd.specs.Writing.{AppendsPart}
 use Rattle.auditcommand.specs.Arguments.{Wanted, wanted_of}
-use Rattle.auditcommand.specs.Faults.{line_of, of_walk}
+use Rattle.auditcommand.specs.Faults.{is_failure, line_of, of_walk}
 use Rattle.auditcommand.specs.declared.arguments.Format.{Format}
 use Rattle.auditcommand.specs.declared.arguments.Format.TheVariants.{Lines, Document}
 use Rattle.auditcommand.specs.declared.audit_exit.AuditExit.{AuditExit}
@@ -61,6 +61,14 @@ IsNoDirectory agrees dir =
 abbrev pub AreDirectories : (Files → Listings → Type 0) → List Text → Type 0
 AreDirectories agrees [] = Unit {0}
 AreDirectories agrees (dir ∷ dirs) = IsDirectory agrees dir × AreDirectories agrees dirs
+
+-- The directory is the first of these that isn't there.
+pub record IsFirstGone (agrees : Files → Listings → Type 0) (dirs : List Text) (dir : Text) : Type 0 where
+  pub before : List Text
+  pub after : List Text
+  pub order : dirs ≡ before ++ dir ∷ after
+  pub there : AreDirectories agrees before
+  pub gone : IsNoDirectory agrees dir
 
 -- The site that the arguments name was audited: each of their directories is there, what was found is an audit, and its
 -- certificate holds.
@@ -102,27 +110,28 @@ WritesAudit exit all text out out' err err' = AppendsPart out out' text × Write
 
 -- ---- why there is none
 
--- The cause of a fault: an option isn't known, a word names no directory, the walk over the site has a cause, memory is
+-- The cause of a fault, in the order in which all but the last are looked for: an option isn't known; a word names no
+-- directory, and it is the first; each of them is there, and the walk over the site has a cause. At any time memory is
 -- wanting, or the device has failed.
 pub data IsAuditFault (agrees : Files → Listings → Type 0) (failed : Type 0) (e : Environment) (arguments : List Text)
     : AuditFault → Type 0 where
   unknown_option : wanted_of arguments ≡ None → IsAuditFault agrees failed e arguments (Refused BadArguments)
   no_directory : (wanted : Wanted) (dir : String Global) → wanted_of arguments ≡ Some wanted
-      → Contains wanted.directories (string_bytes dir) → IsNoDirectory agrees (string_bytes dir) → IsAuditFault agrees failed e arguments (NotADirectory dir)
+      → IsFirstGone agrees wanted.directories (string_bytes dir) → IsAuditFault agrees failed e arguments (NotADirectory dir)
   no_walk : (wanted : Wanted) (fault : WalkFault) → wanted_of arguments ≡ Some wanted
-      → HasCause agrees failed standard (judged_env e wanted.directories) fault
+      → AreDirectories agrees wanted.directories → HasCause agrees failed standard (judged_env e wanted.directories) fault
       → IsAuditFault agrees failed e arguments (of_walk fault)
   given_up : (refusal : Refusal) → Applies (cause_of refusal) failed (λ reason. ⊥)
       → IsAuditFault agrees failed e arguments (Refused refusal)
 
 -- What an audit writes, by how it ended: its report; or nothing on standard output, and the line that says why there is
--- none on standard error.
-abbrev pub EndsAudit : AuditExit → (Files → Listings → Type 0) → Type 0 → Environment → List Text → Option Text
-    → Option Text → Option Text → Option Text → Type 0
-EndsAudit exit agrees failed e arguments out out' err err' =
-    ((wanted : Wanted) × (found : SiteAudit) × IsAudited agrees e arguments wanted found
+-- none on standard error. Fails says where the device failed, by whether the audit ended so.
+abbrev pub EndsAudit : AuditExit → (Files → Listings → Type 0) → Type 0 → (Bool → Type 0) → Environment → List Text
+    → Option Text → Option Text → Option Text → Option Text → Type 0
+EndsAudit exit agrees failed Fails e arguments out out' err err' =
+    ((wanted : Wanted) × (found : SiteAudit) × IsAudited agrees e arguments wanted found × Fails false
     × WritesAudit exit (all_certified found) (report_text wanted found) out out' err err')
-    ⊎ ((fault : AuditFault) × IsAuditFault agrees failed e arguments fault × Keeps out out'
+    ⊎ ((fault : AuditFault) × IsAuditFault agrees failed e arguments fault × Fails (is_failure fault) × Keeps out out'
     × WritesFault exit err err' fault)
 
 -- the status of the process

@@ -1,6 +1,7 @@
 -- Why there is no audit: the texts of the faults, and the line on standard error (own).
-use Rattle.std.specs.Prelude.{codes, string_bytes}
+use Rattle.std.specs.Prelude.{Bool, false, codes, string_bytes}
 use Rattle.message.specs.Messages.{Text, quoting}
+use Rattle.modulestep.specs.Answers as steps
 use Rattle.modulestep.specs.Messages as refusals
 use Rattle.auditreport.specs.WalkFault.{WalkFault}
 use Rattle.auditreport.specs.WalkFault.TheVariants as walks
@@ -23,3 +24,10 @@ line_of fault = error_line (message_of fault)
 abbrev pub of_walk : WalkFault → AuditFault
 of_walk (walks.Refused refusal) = Refused refusal
 of_walk walks.TooManyDirectories = TooManyDirectories
+
+-- the fault is by 43
+abbrev pub is_failure : AuditFault → Bool
+is_failure (Refused refusal) = steps.is_failure refusal
+is_failure TooManyDirectories = false
+is_failure (NotADirectory dir) = false
+is_failure WriteFailed = false

@@ -3,4 +3,5 @@ pub mod Arguments
 pub mod ArgumentViews
 pub mod Faults
 pub mod Audits
+pub mod Looked
 pub mod Steps

@@ -1,5 +1,5 @@
 -- For the contracts of private functions: the steps of an audit (own).
-use Rattle.std.specs.Prelude.{◌≡◌, ◌⊎◌, Bool, true, false, List, Some, None, IsSome, Contains, string_bytes}
+use Rattle.std.specs.Prelude.{◌≡◌, ◌⊎◌, Bool, true, false, List, Some, None, IsSome, string_bytes}
 use Rattle.std.specs.declared.alloc.Global.{Global}
 use Rattle.std.specs.declared.string.String.{String}
 use Rattle.envvars.specs.Texts.{Text}
@@ -13,7 +13,7 @@ use Rattle.auditreport.specs.Audits.{IsAudit, CertificateStands}
 use Rattle.auditreport.specs.SiteAudit.{SiteAudit}
 use Rattle.modulecmd.specs.Command.{standard}
 use Rattle.auditcommand.specs.Arguments.{Wanted, wanted_of}
-use Rattle.auditcommand.specs.Audits.{AreDirectories, IsNoDirectory, IsAudited, judged_env, judged_site, report_text, all_certified}
+use Rattle.auditcommand.specs.Audits.{AreDirectories, IsFirstGone, IsNoDirectory, IsAudited, judged_env, judged_site, report_text, all_certified}
 use Rattle.auditcommand.specs.Faults.{of_walk}
 use Rattle.auditcommand.specs.declared.running.Prepared.{Prepared}
 use Rattle.auditcommand.specs.declared.audit_fault.AuditFault.{AuditFault}
@@ -42,11 +42,10 @@ IsDirectoryFault agrees failed word fault =
     ((dir : String Global) × (fault ≡ NotADirectory dir) × (string_bytes dir ≡ word) × IsNoDirectory agrees word)
     ⊎ IsGivenUp failed fault
 
--- the same of one of these words
+-- the same of the first of these words that names none
 abbrev pub AreDirectoriesFault : (Files → Listings → Type 0) → Type 0 → List Text → AuditFault → Type 0
 AreDirectoriesFault agrees failed words fault =
-    ((dir : String Global) × (fault ≡ NotADirectory dir) × Contains words (string_bytes dir)
-    × IsNoDirectory agrees (string_bytes dir))
+    ((dir : String Global) × (fault ≡ NotADirectory dir) × IsFirstGone agrees words (string_bytes dir))
     ⊎ IsGivenUp failed fault
 
 -- What is to be written of an audit of what is asked for.
@@ -69,5 +68,5 @@ pub record IsPreparedAudit (agrees : Files → Listings → Type 0) (e : Environ
 abbrev pub IsWantedFault : (Files → Listings → Type 0) → Type 0 → Environment → Wanted → AuditFault → Type 0
 IsWantedFault agrees failed e wanted fault =
     AreDirectoriesFault agrees failed wanted.directories fault
-    ⊎ ((walked : WalkFault) × (fault ≡ of_walk walked)
+    ⊎ ((walked : WalkFault) × (fault ≡ of_walk walked) × AreDirectories agrees wanted.directories
     × HasCause agrees failed standard (judged_env e wanted.directories) walked)

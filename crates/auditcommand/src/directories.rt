@@ -1,8 +1,10 @@
 //! The directories of the command line: whether each is there, and the environment that has them as its MODULEPATH.
-ghost use Rattle.std.specs.Prelude.{◌≡◌, ◌<◌, map, IfOk, IfErr, OnOk, string_bytes};
-ghost use Rattle.filetree.specs.Agreement.{ReadsOn};
+ghost use Rattle.std.specs.Prelude.{◌≡◌, ◌<◌, false, map, IfOk, IfErr, OnOk, string_bytes};
+ghost use Rattle.filetree.specs.Agreement.{FailsAt, FailsWhere, ReadsOn};
 ghost use Rattle.auditcommand.specs.Audits as spec;
 ghost use Rattle.auditcommand.specs.Audits.{IsDirectory, AreDirectories};
+ghost use Rattle.auditcommand.specs.Faults.{is_failure};
+ghost use Rattle.auditcommand.specs.Looked.{LooksInTurn};
 ghost use Rattle.auditcommand.specs.Steps.{IsGivenUp, IsListing, NamesNoDirectory, IsDirectoryFault, AreDirectoriesFault};
 
 use crate::audit_fault::AuditFault;
@@ -23,6 +25,7 @@ fn is_listed<T: Tree>(tree: &mut T, dir: &str) -> Result<bool, AuditFault>
     ensures reads { ReadsOn T.agrees T.failures tree.old tree.new }
     ensures answer { IfOk result (IsListing (T.agrees tree.new) dir.now) }
     ensures cause { IfErr result (IsGivenUp (T.failures tree.old < T.failures tree.new)) }
+    ensures failed { FailsAt is_failure (T.failed tree.old) (T.failed tree.new) result (λ at. at ≡ dir.now) }
 {
     let names = tree.entries(dir)?;
     Ok(names.is_some())
@@ -44,6 +47,8 @@ fn judge_directory<T: Tree>(alloc: Global, tree: &mut T, dir: &str) -> Result<()
     ensures there { OnOk result (IsDirectory (T.agrees tree.new) dir.now) }
     ensures cause { IfErr result (IsDirectoryFault (T.agrees tree.new) (T.failures tree.old < T.failures tree.new)
         dir.now) }
+    ensures failed { FailsAt is_failure (T.failed tree.old) (T.failed tree.new) result (λ at.
+        (at ≡ dir.now) × (spec.has_colon dir.now ≡ false)) }
 {
     if has_colon(dir) {
         return Err(no_directory(alloc, dir));
@@ -64,6 +69,8 @@ pub(crate) fn judge_directories<T: Tree>(
     ensures there { OnOk result (AreDirectories (T.agrees tree.new) (map string_bytes dirs.now)) }
     ensures cause { IfErr result (AreDirectoriesFault (T.agrees tree.new) (T.failures tree.old < T.failures tree.new)
         (map string_bytes dirs.now)) }
+    ensures failed { FailsWhere is_failure T.agrees T.failed tree.old tree.new result (λ files listings.
+        LooksInTurn listings (map string_bytes dirs.now)) }
 {
     for dir in dirs {
         judge_directory(alloc, tree, dir.as_str())?;

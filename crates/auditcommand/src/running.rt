@@ -1,11 +1,13 @@
 //! Runs an audit (modaudit(1)): its arguments, what it finds, and what it writes.
 ghost use Rattle.std.specs.Prelude.{◌≡◌, ◌<◌, map, IfOk, IfErr, string_bytes};
 ghost use Rattle.std.specs.List.{list_all};
-ghost use Rattle.filetree.specs.Agreement.{ReadsOn};
+ghost use Rattle.filetree.specs.Agreement.{FailsIf, FailsWhere, InEachPair, ReadsOn};
 ghost use Rattle.auditreport.specs.Audits.{is_certified};
 ghost use Rattle.auditcommand.specs.ArgumentViews.{wanted_view};
 ghost use Rattle.auditcommand.specs.Audits as spec;
 ghost use Rattle.auditcommand.specs.Audits.{EndsAudit, IsAuditFault, WritesAudit, WritesFault};
+ghost use Rattle.auditcommand.specs.Faults.{is_failure};
+ghost use Rattle.auditcommand.specs.Looked.{AuditLooksAt, WantedLooksAt};
 ghost use Rattle.auditcommand.specs.Steps.{IsPrepared, IsPreparedAudit, IsWantedFault};
 
 use crate::arguments::{Format, Wanted, wanted_of};
@@ -68,6 +70,8 @@ fn audit_wanted<T: Tree, P: Progress>(
     ensures answered { IfOk result (IsPrepared (T.agrees tree.new) env (wanted_view wanted.now)) }
     ensures refused { IfErr result (IsWantedFault (T.agrees tree.new) (T.failures tree.old < T.failures tree.new)
         env (wanted_view wanted.now)) }
+    ensures failed { FailsWhere is_failure T.agrees T.failed tree.old tree.new result
+        (WantedLooksAt env (wanted_view wanted.now)) }
 {
     judge_directories(alloc, tree, wanted.directories.as_slice())?;
     let judged = judged_env(alloc, env, wanted.directories.as_slice())?;
@@ -91,6 +95,8 @@ fn answer_of<T: Tree, P: Progress>(
     ensures answered { IfOk result (IsPreparedAudit (T.agrees tree.new) env (map string_bytes args.now)) }
     ensures refused { IfErr result (IsAuditFault (T.agrees tree.new) (T.failures tree.old < T.failures tree.new)
         env (map string_bytes args.now)) }
+    ensures failed { FailsWhere is_failure T.agrees T.failed tree.old tree.new result
+        (AuditLooksAt env (map string_bytes args.now)) }
 {
     match wanted_of(alloc, args)? {
         None => Err(AuditFault::Refused(Refusal::BadArguments)),
@@ -128,8 +134,9 @@ fn write_report<W: Write, E: Write>(answer: &Prepared, out: &mut W, err: &mut E)
 ///
 /// The arguments are the options `--quiet` and `--json`, and directories, which are the MODULEPATH of the audit; where
 /// there are none, it is that of the environment. A word that begins with `-` and is no such option is refused (56), but
-/// not after the word `--`; and a word that names no directory is a fault of its own. Each file of the site is evaluated
-/// once, and the report goes to standard output.
+/// not after the word `--`; after that the first word that names no directory is a fault of its own, before anything of the
+/// site is read. Each file of the site is evaluated once, and the report goes to standard output. A failed device (43)
+/// failed at a path that the audit looks at.
 ///
 /// Where there is a fault before the report is made, nothing is written but the line that says why, to standard error.
 pub fn run_audit<T: Tree, P: Progress, W: Write, E: Write>(
@@ -142,8 +149,10 @@ pub fn run_audit<T: Tree, P: Progress, W: Write, E: Write>(
     err: &mut E,
 ) -> AuditExit
     ensures reads { ReadsOn T.agrees T.failures tree.old tree.new }
-    ensures ended { EndsAudit result (T.agrees tree.new) (T.failures tree.old < T.failures tree.new) env
-        (map string_bytes args.now)
+    ensures ended { EndsAudit result (T.agrees tree.new) (T.failures tree.old < T.failures tree.new)
+        (λ fails. FailsIf fails (T.failed tree.old) (T.failed tree.new) (λ at.
+        InEachPair (T.agrees tree.new) (λ files listings. AuditLooksAt env (map string_bytes args.now) files listings at)))
+        env (map string_bytes args.now)
         (W.contents out.old) (W.contents out.new) (E.contents err.old) (E.contents err.new) }
 {
     let answer = answer_of(alloc, args, env, tree, progress);

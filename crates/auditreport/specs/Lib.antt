@@ -6,6 +6,7 @@ pub mod Documents
 pub mod Tokens
 -- What an audit answers, so that a caller need not name the crates below.
 pub use Rattle.siteaudit.specs.Audits
+pub use Rattle.siteaudit.specs.Looked
 pub use Rattle.siteaudit.specs.declared.auditing.SiteAudit
 pub use Rattle.siteaudit.specs.Sites
 pub use Rattle.siteaudit.specs.Walks

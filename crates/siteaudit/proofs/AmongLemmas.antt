@@ -1,5 +1,5 @@
 -- Members of lists.
-use Rattle.std.proofs.Common.{◌≡◌, ◌⊎◌, inl, inr, ℕ, ◌+◌, ◌<◌, List, [], ◌∷◌, ◌++◌, map, take, length, get_or, refl, sym, ap, ◌∙◌, subst}
+use Rattle.std.proofs.Common.{◌≡◌, ◌⊎◌, inl, inr, ℕ, zero, suc, ◌+◌, ◌<◌, List, [], ◌∷◌, ◌++◌, map, take, length, get_or, refl, sym, ap, ◌∙◌, subst, arith}
 use Rattle.std.specs.Prelude.{◌↔◌}
 use Rattle.std.proofs.lemmas.List.{take_more}
 use Rattle.siteclash.specs.RecordUses.{IsAmong}
@@ -16,6 +16,12 @@ pub of_map : {X Y : Type 0} (f : X → Y) (y : Y) (xs : List X) → IsAmong y (m
 of_map f y [] h = absurd h
 of_map f y (x ∷ xs) (inl e) = (x, inl refl, sym e)
 of_map f y (x ∷ xs) (inr h) = let i = of_map f y xs h in (i.0, inr i.1, i.2)
+
+-- a member by its place
+pub among_at : {X : Type 0} (xs : List X) (i : ℕ) (x : X) → i < length xs → x ≡ get_or xs i x → IsAmong x xs
+among_at [] i x l e = absurd (omega arith)
+among_at (y ∷ ys) zero x l e = inl e
+among_at (y ∷ ys) (suc i) x l e = inr (among_at ys i x (omega arith) e)
 
 -- ---- one more at a time
 

@@ -13,20 +13,27 @@ use Rattle.siteaudit.proofs.FolderLemmas.{same_directory}
 use Rattle.siteaudit.proofs.Evaluations.{of_site, is_evaluated}
 
 -- a folder of an evaluated module is one of the site
-pub of_folder : (site : Site) (es : List Evaluation) (outs : List Evaluated) (path : Text) → AreEvaluated site outs → AreEvaluations es outs
-    → (folder : FolderText) → HoldsOneOf es folder → IsBadIn site.limits site.files site.listings folder path → IsBadDefaultFile site path
-of_folder site es outs path all h folder holds bad =
+pub folder_there : (site : Site) (es : List Evaluation) (outs : List Evaluated) → AreEvaluated site outs → AreEvaluations es outs
+    → (folder : FolderText) → (holds : HoldsOneOf es folder) → IsDirectory site folder.0 × IsBelow site.files site.listings folder.0 (path_of folder.1 holds.2.1.version)
+folder_there site es outs all h folder holds =
     let e = holds.0 in
     let m : SiteModule = evaluated_file e in
     let o = of_site site es outs e all h holds.1 in
-    let dir : o.dir ≡ folder.0 = same_directory o.dir folder.0 m.name (sym o.there.path ∙ holds.2.0) in
+    let dir : o.dir ≡ folder.0 = same_directory o.dir folder.0 m.name (sym o.there.path ∙ holds.2.0) in (
+      subst (IsDirectory site) dir o.directory,
+      subst (λ (d : Text). IsBelow site.files site.listings d (path_of folder.1 holds.2.1.version)) dir (subst (IsBelow site.files site.listings o.dir) holds.2.1.joined o.there.below),
+    )
+
+pub of_folder : (site : Site) (es : List Evaluation) (outs : List Evaluated) (path : Text) → AreEvaluated site outs → AreEvaluations es outs
+    → (folder : FolderText) → HoldsOneOf es folder → IsBadIn site.limits site.files site.listings folder path → IsBadDefaultFile site path
+of_folder site es outs path all h folder holds bad =
+    let there = folder_there site es outs all h folder holds in
     record {
       dir = folder.0;
       folder = folder.1;
       version = holds.2.1.version;
-      directory = subst (IsDirectory site) dir o.directory;
-      module_there = subst (λ (d : Text). IsBelow site.files site.listings d (path_of folder.1 holds.2.1.version)) dir
-          (subst (IsBelow site.files site.listings o.dir) holds.2.1.joined o.there.below);
+      directory = there.0;
+      module_there = there.1;
       in_folder = holds.2.1.single;
       refused = bad;
     }

@@ -7,4 +7,5 @@ mod Evaluations
 mod Settled
 mod Unknown
 mod BadFiles
+mod Looked
 mod Audited

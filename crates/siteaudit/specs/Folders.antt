@@ -8,6 +8,7 @@ use Rattle.defaultfiles.specs.DefaultFileResults.{HasResult}
 use Rattle.search.specs.Single.{is_single}
 use Rattle.search.specs.Reasons.{bad_default}
 use Rattle.search.specs.Found.{Found}
+use Rattle.search.specs.Looked.{LooksAt}
 use Rattle.siteclash.specs.RecordUses.{IsAmong}
 use Rattle.sitewalk.specs.declared.walk.Evaluation.{Evaluation}
 use Rattle.siteaudit.specs.declared.defaults.Folder.{Folder}
@@ -56,3 +57,17 @@ abbrev pub AreBadAmong : Limits → Files → Listings → List Evaluation → L
 AreBadAmong limits files listings evaluations paths =
     (path : Text) → IsAmong path paths
     ↔ ((folder : FolderText) × HoldsOneOf evaluations folder × IsBadIn limits files listings folder path)
+
+-- the search for the folder along its directory looks at this path
+abbrev pub SearchLooksAt : Limits → Files → Listings → FolderText → Text → Type 0
+SearchLooksAt limits files listings folder at = LooksAt (HasResult limits) files listings folder.0 folder.1 at
+
+-- the same of one of these folders
+abbrev pub SearchesLookAt : Limits → Files → Listings → List FolderText → Text → Type 0
+SearchesLookAt limits files listings folders at =
+    (folder : FolderText) × IsAmong folder folders × SearchLooksAt limits files listings folder at
+
+-- the same of one of the folders in which the evaluated modules are
+abbrev pub EvaluatedLookAt : Limits → Files → Listings → List Evaluation → Text → Type 0
+EvaluatedLookAt limits files listings evaluations at =
+    (folder : FolderText) × HoldsOneOf evaluations folder × SearchLooksAt limits files listings folder at

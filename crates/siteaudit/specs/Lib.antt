@@ -1,4 +1,5 @@
 pub mod Audits
+pub mod Looked
 -- for this crate's own contracts alone
 pub mod Findings
 pub mod Mentions

@@ -1,11 +1,14 @@
 //! The audit of a whole site.
 ghost use Rattle.std.specs.Prelude.{◌<◌, IfOk, IfErr};
-ghost use Rattle.filetree.specs.Agreement.{InEachPair, ReadsOn};
+ghost use Rattle.filetree.specs.Agreement.{FailsWhere, InEachPair, ReadsOn};
 ghost use Rattle.filetree.specs.Causes.{Applies};
+ghost use Rattle.modulestep.specs.Answers as steps;
 ghost use Rattle.modulestep.specs.Answers.{cause_of};
 ghost use Rattle.sitewalk.specs.Sites.{site_of};
 ghost use Rattle.sitewalk.specs.Walks.{HasCause};
 ghost use Rattle.siteaudit.specs.Audits.{IsAudit, CertificateStands};
+ghost use Rattle.siteaudit.specs.Folders.{EvaluatedLookAt};
+ghost use Rattle.siteaudit.specs.Looked.{AuditLooksAt, is_failure};
 ghost use Rattle.siteaudit.specs.Parts.{AreParts, PartsAreAudits};
 
 use crate::defaults::bad_default_files;
@@ -83,6 +86,8 @@ fn audit_evaluations<T: Tree>(
         AreParts (site_of limits env.now files listings) evaluations.items found)) }
     ensures cause { IfErr result (λ refusal.
         Applies (cause_of refusal) (T.failures tree.old < T.failures tree.new) (λ reason. ⊥)) }
+    ensures failed { FailsWhere steps.is_failure T.agrees T.failed tree.old tree.new result (λ files listings.
+        EvaluatedLookAt limits files listings evaluations.items) }
 {
     let unknown_names = unknown_names(alloc, evaluations.as_slice())?;
     let bad_default_files = bad_default_files(alloc, tree, limits, evaluations.as_slice())?;
@@ -106,8 +111,8 @@ fn audit_evaluations<T: Tree>(
 /// What is found is an audit of the site (`exact`). Its certificate stands (`holds`): a session that begins in an
 /// environment that agrees with it, and loads modules alone that stand as certified, returns to its start.
 ///
-/// Errors: loaded lists that don't fit together (35); a device that failed in this call (43); want of memory (11, 31,
-/// 41); more than `MAX_DIRECTORIES` directories.
+/// Errors: loaded lists that don't fit together (35); a device that failed in this call, at a path that the audit looks at
+/// (43); want of memory (11, 31, 41); more than `MAX_DIRECTORIES` directories.
 pub fn audit<T: Tree, P: Progress>(
     alloc: Global,
     env: &Env,
@@ -121,8 +126,11 @@ pub fn audit<T: Tree, P: Progress>(
     ensures holds { IfOk result (λ found. InEachPair (T.agrees tree.new) (λ files listings.
         CertificateStands (site_of limits env.now files listings) found)) }
     ensures cause { IfErr result (HasCause (T.agrees tree.new) (T.failures tree.old < T.failures tree.new) limits env.now) }
+    ensures failed { FailsWhere is_failure T.agrees T.failed tree.old tree.new result (λ files listings.
+        AuditLooksAt (site_of limits env.now files listings)) }
 {
     parts_are_audits();
+    sitewalk::walks();
     let Walk {
         directories: _,
         evaluations,

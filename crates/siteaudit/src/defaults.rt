@@ -2,11 +2,12 @@
 ghost use Rattle.std.specs.Prelude.{◌≡◌, ◌↔◌, ◌⊎◌, ◌<◌, ◌++◌, option_to_list, Some, map, IfOk, IfErr, OnOk, string_bytes};
 ghost use Rattle.std.specs.Option.{option_map};
 ghost use Rattle.envvars.specs.Texts.{texts_in};
-ghost use Rattle.filetree.specs.Agreement.{InEachPair, ReadsOn};
+ghost use Rattle.filetree.specs.Agreement.{FailsWhere, InEachPair, ReadsOn};
 ghost use Rattle.filetree.specs.Causes.{Applies};
-ghost use Rattle.modulestep.specs.Answers.{cause_of};
+ghost use Rattle.modulestep.specs.Answers.{cause_of, is_failure};
 ghost use Rattle.siteclash.specs.RecordUses.{IsAmong};
 ghost use Rattle.siteaudit.specs.Folders.{FolderText, folder_view, HoldsModule, HoldsOneOf, IsBadAnswer, AreBadIn, AreBadAmong};
+ghost use Rattle.siteaudit.specs.Folders.{SearchLooksAt, SearchesLookAt, EvaluatedLookAt};
 
 use crate::folders::{directory_of, folder_of};
 use defaultfiles::Evaluated;
@@ -85,6 +86,8 @@ fn bad_default_file<T: Tree>(
         IsBadAnswer limits files listings (folder_view folder.now) (option_map string_bytes answer))) }
     ensures cause { IfErr result (λ refusal.
         Applies (cause_of refusal) (T.failures tree.old < T.failures tree.new) (λ reason. ⊥)) }
+    ensures failed { FailsWhere is_failure T.agrees T.failed tree.old tree.new result (λ files listings.
+        SearchLooksAt limits files listings (folder_view folder.now)) }
 {
     let default_files = Evaluated { limits };
     one_found(&default_files);
@@ -127,6 +130,8 @@ fn bad_in_folders<T: Tree>(
         AreBadIn limits files listings (map folder_view folders.now) (texts_in paths))) }
     ensures cause { IfErr result (λ refusal.
         Applies (cause_of refusal) (T.failures tree.old < T.failures tree.new) (λ reason. ⊥)) }
+    ensures failed { FailsWhere is_failure T.agrees T.failed tree.old tree.new result (λ files listings.
+        SearchesLookAt limits files listings (map folder_view folders.now)) }
 {
     let mut paths = Vec::new(alloc);
     for folder in folders {
@@ -148,6 +153,8 @@ pub(crate) fn bad_default_files<T: Tree>(
         AreBadAmong limits files listings evaluations.now (texts_in paths))) }
     ensures cause { IfErr result (λ refusal.
         Applies (cause_of refusal) (T.failures tree.old < T.failures tree.new) (λ reason. ⊥)) }
+    ensures failed { FailsWhere is_failure T.agrees T.failed tree.old tree.new result (λ files listings.
+        EvaluatedLookAt limits files listings evaluations.now) }
 {
     let folders = folders_of(alloc, evaluations)?;
     bad_in_folders(alloc, tree, limits, folders.as_slice())

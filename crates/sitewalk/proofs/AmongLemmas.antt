@@ -1,5 +1,5 @@
 -- What is among the members of a list.
-use Rattle.std.proofs.Common.{◌≡◌, inl, inr, ℕ, ◌<◌, length, arith, suc, zero, List, [], ◌∷◌, ◌++◌, map, flat_map, take, slice_get, Some, None, refl, sym, ap, ◌∙◌, subst}
+use Rattle.std.proofs.Common.{◌≡◌, inl, inr, ℕ, ◌<◌, ◌≤◌, length, get_or, arith, suc, zero, List, [], ◌∷◌, ◌++◌, map, flat_map, take, slice_get, Some, None, refl, sym, ap, ◌∙◌, subst}
 use Rattle.std.proofs.lemmas.List.{map-append}
 use Rattle.sitelaws.specs.RecordUses.{IsAmong}
 use Rattle.sitelaws.proofs.UsedLemmas.{by_cases, among_left, among_right, among_either}
@@ -11,10 +11,20 @@ module _ {X : Type 0} where
   at_place x (y ∷ xs) zero h = inl (cc)
   at_place x (y ∷ xs) (suc n) h = inr (at_place x xs n h)
 
+  pub among_at : (xs : List X) (i : ℕ) (x : X) → i < length xs → x ≡ get_or xs i x → IsAmong x xs
+  among_at [] i x l e = absurd (omega arith)
+  among_at (y ∷ ys) zero x l e = inl e
+  among_at (y ∷ ys) (suc i) x l e = inr (among_at ys i x (omega arith) e)
+
   pub place_below : (x : X) (xs : List X) (n : ℕ) → slice_get xs n ≡ Some x → n < length xs
   place_below x [] n h = absurd (cc)
   place_below x (y ∷ xs) zero h = omega arith
   place_below x (y ∷ xs) (suc n) h = omega (arith, place_below x xs n h)
+
+  pub place_gone : (xs : List X) (n : ℕ) → slice_get xs n ≡ None → length xs ≤ n
+  place_gone [] n h = omega arith
+  place_gone (y ∷ xs) zero h = absurd (cc)
+  place_gone (y ∷ xs) (suc n) h = omega (arith, place_gone xs n h)
 
   pub take_next : (n : ℕ) (xs rest : List X) (x : X) → slice_get xs n ≡ Some x → take (suc n) (xs ++ rest) ≡ take n xs ++ x ∷ []
   take_next n [] rest x h = absurd (cc)

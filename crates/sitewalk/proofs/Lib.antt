@@ -2,4 +2,5 @@ mod AmongLemmas
 mod DirectoryLemmas
 mod OutcomeLemmas
 mod ListingLemmas
+mod FailureLemmas
 mod WalkLemmas

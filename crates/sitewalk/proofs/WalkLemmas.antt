@@ -1,5 +1,5 @@
 -- A walk over a site, directory by directory.
-use Rattle.std.proofs.Common.{◌≡◌, inl, inr, ℕ, ◌+◌, ◌<◌, suc, Bool, true, false, cond, not, ◌&&◌, List, [], ◌∷◌, ◌++◌, map, flat_map, take, slice_get, length, get_or, Some, None, Result, Ok, Err, refl, sym, ap, ◌∙◌, subst, append-nil, append_assoc}
+use Rattle.std.proofs.Common.{◌≡◌, inl, inr, ℕ, ◌+◌, ◌<◌, ◌≤◌, suc, Bool, true, false, cond, not, ◌&&◌, List, [], ◌∷◌, ◌++◌, map, flat_map, take, slice_get, length, get_or, Some, None, Result, Ok, Err, refl, sym, ap, ◌∙◌, subst, append-nil, append_assoc}
 use Rattle.std.specs.List.{list_all}
 use Rattle.std.proofs.lemmas.List.{map-append, take_more}
 use Rattle.envvars.specs.Texts.{Text}
@@ -29,8 +29,7 @@ use Rattle.sitelaws.specs.Sites.{Site, SiteModule, Evaluated, EvaluatesTo, HasPl
 use Rattle.sitelaws.specs.Laws.{DirectoriesFound}
 use Rattle.sitelaws.specs.DirectorySets.{with_directories}
 use Rattle.sitewalk.specs.declared.walk.Evaluation.{Evaluation}
-use Rattle.sitewalk.specs.declared.walk.TheConstants.{MAX_DIRECTORIES}
-use Rattle.sitewalk.specs.Walks.{directories_by_plain, directories_of, IsWalk, IsOutcome, AreEvaluations, HasTooMany}
+use Rattle.sitewalk.specs.Walks.{directories_by_plain, directories_of, IsWalk, IsOutcome, AreEvaluations, HasTooMany, most_directories}
 use Rattle.sitewalk.specs.Parts.{is_plain_ran, directories_after, directories_found, AreEvaluationsOf, IsEvaluationOf, GoesThrough}
 use Rattle.sitelaws.proofs.UsedLemmas.{by_cases, among_left, among_right, among_either}
 use Rattle.sitelaws.proofs.DirectorySetLemmas.{with-append}
@@ -267,12 +266,13 @@ module _ (site : Site) (place : ℕ) (dirs : List Text) (evaluations : List Eval
       }
 
   -- at its end
-  pub walk_ends : laws.OneOutcome → DirectoriesFound → slice_get dirs place ≡ None → (outcomes : List Evaluated) × IsWalk site dirs outcomes × AreEvaluations evaluations outcomes
-  walk_ends one law gone = (
+  pub walk_ends : laws.OneOutcome → DirectoriesFound → length dirs ≤ most_directories → slice_get dirs place ≡ None → (outcomes : List Evaluated) × IsWalk site dirs outcomes × AreEvaluations evaluations outcomes
+  walk_ends one law within gone = (
     w.outcomes,
     record {
       directories = law site dirs (closed one gone) w.directories;
       order = once_each;
+      within = within;
       modules = subst (λ (ds : List Text). AreModulesIn site ds (map (λ (o : Evaluated). o.0) w.outcomes)) (take_all_gone place dirs gone) w.modules;
       evaluated = w.evaluated;
     },
@@ -280,7 +280,7 @@ module _ (site : Site) (place : ℕ) (dirs : List Text) (evaluations : List Eval
   )
 
   -- where it has found too many
-  pub walk_exceeds : MAX_DIRECTORIES < length dirs → HasTooMany site
+  pub walk_exceeds : most_directories < length dirs → HasTooMany site
   walk_exceeds many = record {
     some = dirs;
     distinct = ap are_distinct once_each ∙ distinct_firsts (first_directories site ++ flat_map directories_of w.outcomes);

@@ -1,4 +1,5 @@
 pub mod Walks
+pub mod Looked
 pub mod Parts
 -- Handed on, so that a caller need not name the crates below.
 pub use Rattle.sitelaws.specs.Laws

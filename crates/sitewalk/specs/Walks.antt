@@ -1,5 +1,5 @@
 -- What a walk over a site answers (own).
-use Rattle.std.specs.Prelude.{◌≡◌, ◌<◌, true, List, [], ◌∷◌, ◌++◌, length, map, flat_map, Option, Some, None, Result, Ok, Err, string_bytes}
+use Rattle.std.specs.Prelude.{◌≡◌, ℕ, ◌<◌, ◌≤◌, true, List, [], ◌∷◌, ◌++◌, length, map, flat_map, Option, Some, None, Result, Ok, Err, string_bytes}
 use Rattle.envvars.specs.Texts.{Text, texts_in}
 use Rattle.envvars.specs.Fields.{without_repeats, are_distinct}
 use Rattle.envvars.specs.Environment.{Environment}
@@ -18,11 +18,14 @@ use Rattle.modulestep.specs.Answers.{cause_of}
 use Rattle.modulestep.specs.declared.refusal.Refusal.{Refusal}
 use Rattle.sitelaws.specs.RecordUses.{IsAmong}
 use Rattle.sitelaws.specs.Sites.{Site, Evaluated, EvaluatesTo, first_directories, added_directories, plain_of, site_of, IsDirectory, AreDirectories, AreModulesIn}
-use Rattle.sitewalk.specs.declared.walk.TheConstants.{MAX_DIRECTORIES}
 use Rattle.sitewalk.specs.declared.fault.WalkFault.{WalkFault}
 use Rattle.sitewalk.specs.declared.fault.WalkFault.TheVariants.{Refused, TooManyDirectories}
 use Rattle.sitewalk.specs.declared.walk.Evaluation.{Evaluation}
 use Rattle.sitewalk.specs.declared.walk.Walk.{Walk}
+
+-- the most directories that a walk goes through
+abbrev pub most_directories : ℕ
+most_directories = 65536
 
 -- the directories that a module adds, where it is plain
 abbrev pub directories_by_plain : Option Module → List Text
@@ -34,10 +37,12 @@ abbrev pub directories_of : Evaluated → List Text
 directories_of outcome = directories_by_plain (plain_of outcome)
 
 -- These directories are those of the site, each once: those of MODULEPATH, and then those that the plain modules in them
--- add, as they come. These are the modules in them in turn, each with the outcome of its evaluation.
+-- add, as they come; and they are no more than a walk goes through. These are the modules in them in turn, each with the
+-- outcome of its evaluation.
 pub record IsWalk (site : Site) (dirs : List Text) (outcomes : List Evaluated) : Type 0 where
   pub directories : AreDirectories site dirs
   pub order : dirs ≡ without_repeats (first_directories site ++ flat_map directories_of outcomes)
+  pub within : length dirs ≤ most_directories
   pub modules : AreModulesIn site dirs (map (λ outcome. outcome.0) outcomes)
   pub evaluated : (outcome : Evaluated) → IsAmong outcome outcomes → EvaluatesTo site outcome.0 outcome.1
 
@@ -72,7 +77,7 @@ IsWalkAnswer site found =
 pub record HasTooMany (site : Site) : Type 0 where
   pub some : List Text
   pub distinct : are_distinct some ≡ true
-  pub many : MAX_DIRECTORIES < length some
+  pub many : most_directories < length some
   pub directories : (dir : Text) → IsAmong dir some → IsDirectory site dir
 
 -- Why there is no answer, each fault with its cause: memory ran out, which can always be; the device failed in the call;

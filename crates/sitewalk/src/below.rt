@@ -1,9 +1,11 @@
 //! The modules below a directory of a site, evaluated in turn.
 ghost use Rattle.std.specs.Prelude.{◌≡◌, ◌<◌, [], ◌∷◌, IfOk, IfErr, map, string_bytes};
-ghost use Rattle.filetree.specs.Agreement.{InEachPair, ReadsOn};
+ghost use Rattle.filetree.specs.Agreement.{FailsWhere, InEachPair, ReadsOn};
 ghost use Rattle.filetree.specs.Modulefiles.{directories};
+ghost use Rattle.modulestep.specs.Answers.{is_failure};
 ghost use Rattle.search.specs.ListingEntries.{name_of};
 ghost use Rattle.sitelaws.specs.Sites.{site_of, AreNamesBelow};
+ghost use Rattle.sitewalk.specs.Looked.{DirectoryLooksAt};
 ghost use Rattle.sitewalk.specs.Parts.{HasLoaded, AreEvaluationsBelow, GivesUp};
 
 use crate::files::{SiteSettings, evaluate_module};
@@ -28,6 +30,9 @@ fn modules_below<T: Tree>(
         AreNamesBelow (site_of settings.entry.limits settings.entry.env.now files listings) dir.now
         (map name_of entries.items))) }
     ensures cause { IfErr result (GivesUp (T.failures tree.old < T.failures tree.new)) }
+    ensures failed { FailsWhere is_failure T.agrees T.failed tree.old tree.new result (λ files listings at.
+        directories dir.now ≡ dir.now ∷ []
+        → DirectoryLooksAt (site_of settings.entry.limits settings.entry.env.now files listings) dir.now at) }
 {
     sitelaws::laws::walks();
     let default_files = Evaluated {
@@ -57,6 +62,9 @@ pub(crate) fn evaluate_below<T: Tree, P: Progress>(
         AreEvaluationsBelow (site_of settings.entry.limits settings.entry.env.now files listings) dir.now
         evaluations.items)) }
     ensures cause { IfErr result (GivesUp (T.failures tree.old < T.failures tree.new)) }
+    ensures failed { FailsWhere is_failure T.agrees T.failed tree.old tree.new result (λ files listings at.
+        directories dir.now ≡ dir.now ∷ []
+        → DirectoryLooksAt (site_of settings.entry.limits settings.entry.env.now files listings) dir.now at) }
 {
     let entries = modules_below(settings, tree, dir)?;
     let found = before.saturating_add(entries.len());

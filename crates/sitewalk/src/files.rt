@@ -1,8 +1,9 @@
 //! The evaluation of the file of a module of a site.
 ghost use Rattle.std.specs.Prelude.{◌≡◌, ◌<◌, IfOk, IfErr, map, string_bytes};
 ghost use Rattle.envvars.specs.Texts.{texts_in};
-ghost use Rattle.filetree.specs.Agreement.{InEachPair, ReadsOn};
+ghost use Rattle.filetree.specs.Agreement.{FailsAt, InEachPair, ReadsOn};
 ghost use Rattle.modulefile.specs.Files.{RunsFile};
+ghost use Rattle.modulestep.specs.Answers.{is_failure};
 ghost use Rattle.requests.specs.Reasons.{file_refused};
 ghost use Rattle.requests.specs.Refusals.{RefusedAs};
 ghost use Rattle.sitelaws.specs.Sites.{EvaluatesTo, site_of, module_below};
@@ -87,6 +88,7 @@ fn evaluate_file<T: Tree>(
     ensures over_tree { ComesToOverTree (T.agrees tree.new) (T.failures tree.old < T.failures tree.new) result
         (λ files listings. EvaluatesTo (site_of settings.entry.limits settings.entry.env.now files listings)
         (record { name = name.now; path = path.now })) }
+    ensures failed { FailsAt is_failure (T.failed tree.old) (T.failed tree.new) result (λ at. at ≡ path.now) }
 {
     let text = script_at(settings.alloc, tree, path)?;
     run_script(settings, name, path, text.as_str())
@@ -94,7 +96,7 @@ fn evaluate_file<T: Tree>(
 
 /// The module of this name below a directory, with what the evaluation of its file leaves.
 ///
-/// Errors: a device that failed; want of memory.
+/// Errors: a device that failed, at the path of the file; want of memory.
 pub(crate) fn evaluate_module<T: Tree>(
     settings: SiteSettings<'_>,
     tree: &mut T,
@@ -107,6 +109,8 @@ pub(crate) fn evaluate_module<T: Tree>(
         IsEvaluationOf (site_of settings.entry.limits settings.entry.env.now files listings)
         (module_below dir.now name.now) evaluation)) }
     ensures cause { IfErr result (GivesUp (T.failures tree.old < T.failures tree.new)) }
+    ensures failed { FailsAt is_failure (T.failed tree.old) (T.failed tree.new) result (λ at.
+        at ≡ (module_below dir.now name.now).path) }
 {
     let path = path_of(settings.alloc, dir, name)?;
     let full_name = String::from_str(settings.alloc, name)?;

@@ -1,8 +1,8 @@
 //! The walk over a site: its directories, its modules, and what the evaluation of each module's file leaves.
 //! Takes memory, reads the files and directories (`Tree`) that it is given, and says how far it has come.
 //! Used by siteaudit.
-//! Clauses: `reads` says what the tree was asked; `listed`, `evaluated` and `walked` what is found by each pair that agrees
-//! with it; and `cause` why a call gives no answer.
+//! Clauses: `reads` and `failed` say what the tree was asked; `listed`, `evaluated` and `walked` what is found by each pair
+//! that agrees with it; and `cause` why a call gives no answer.
 #![tactic(auto)]
 
 mod below;

@@ -1,9 +1,11 @@
 //! Each directory of a site once, in the order in which they are found, and each module in them, evaluated once.
 ghost use Rattle.std.specs.Prelude.{◌≡◌, ◌<◌, [], ◌∷◌, IfOk, IfErr, OnOk, map, string_bytes};
-ghost use Rattle.filetree.specs.Agreement.{InEachPair, ReadsOn};
+ghost use Rattle.filetree.specs.Agreement.{FailsWhere, InEachPair, ReadsOn};
 ghost use Rattle.filetree.specs.Modulefiles.{directories};
+ghost use Rattle.modulestep.specs.Answers as steps;
 ghost use Rattle.requests.specs.Steps.{modulepath as modulepath_of};
 ghost use Rattle.sitelaws.specs.Sites.{site_of};
+ghost use Rattle.sitewalk.specs.Looked.{DirectoryLooksAt, WalkLooksAt, is_failure};
 ghost use Rattle.sitewalk.specs.Walks.{IsWalkAnswer, HasCause};
 ghost use Rattle.sitewalk.specs.Parts.{HasLoaded, GivesUp, GoesThrough};
 
@@ -73,6 +75,9 @@ fn walk_directory<T: Tree, P: Progress>(
         GoesThrough (site_of settings.entry.limits settings.entry.env.now files listings) dir.now
         (map string_bytes dirs.old.keys) (map string_bytes dirs.new.keys) evaluations.old.items evaluations.new.items)) }
     ensures cause { IfErr result (GivesUp (T.failures tree.old < T.failures tree.new)) }
+    ensures failed { FailsWhere steps.is_failure T.agrees T.failed tree.old tree.new result (λ files listings at.
+        directories dir.now ≡ dir.now ∷ []
+        → DirectoryLooksAt (site_of settings.entry.limits settings.entry.env.now files listings) dir.now at) }
 {
     let mut below = evaluate_below(settings, tree, dir, evaluations.len(), progress)?;
     push_found(settings.alloc, dirs, below.as_slice())?;
@@ -94,6 +99,8 @@ fn walk_from<T: Tree, P: Progress>(
         IsWalkAnswer (site_of settings.entry.limits settings.entry.env.now files listings) found)) }
     ensures cause { IfErr result (HasCause (T.agrees tree.new) (T.failures tree.old < T.failures tree.new)
         settings.entry.limits settings.entry.env.now) }
+    ensures failed { FailsWhere is_failure T.agrees T.failed tree.old tree.new result (λ files listings.
+        WalkLooksAt (site_of settings.entry.limits settings.entry.env.now files listings)) }
 {
     sitelaws::laws::walks();
     modulefile::files();
@@ -124,8 +131,8 @@ fn walk_from<T: Tree, P: Progress>(
 /// Walks over a site, that of the MODULEPATH of an environment over a tree and within limits: each file is evaluated
 /// once, for loading, in sh, in that environment, which doesn't change.
 ///
-/// Errors: loaded lists that don't fit together (35); a device that failed in this call (43); want of memory (11, 31,
-/// 41); more than `MAX_DIRECTORIES` directories.
+/// Errors: loaded lists that don't fit together (35); a device that failed in this call, at a path that the walk looks at
+/// (43); want of memory (11, 31, 41); more than `MAX_DIRECTORIES` directories.
 pub fn walk_site<T: Tree, P: Progress>(
     alloc: Global,
     env: &Env,
@@ -137,6 +144,8 @@ pub fn walk_site<T: Tree, P: Progress>(
     ensures walked { IfOk result (λ found. InEachPair (T.agrees tree.new) (λ files listings.
         IsWalkAnswer (site_of limits env.now files listings) found)) }
     ensures cause { IfErr result (HasCause (T.agrees tree.new) (T.failures tree.old < T.failures tree.new) limits env.now) }
+    ensures failed { FailsWhere is_failure T.agrees T.failed tree.old tree.new result (λ files listings.
+        WalkLooksAt (site_of limits env.now files listings)) }
 {
     let loaded = loaded_names(alloc, env)?;
     let settings = SiteSettings {

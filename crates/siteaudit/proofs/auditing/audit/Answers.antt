@@ -1,4 +1,13 @@
+use Rattle.std.proofs.Common.{refl, inl, ◌∙◌}
+use Rattle.std.proofs.lemmas.Result.{err_from_is_err_and}
+use Rattle.filetree.specs.Agreement.{InEachPair}
+use Rattle.search.proofs.FailureLemmas.{fails_then}
+use Rattle.modulestep.specs.Answers as steps
+use Rattle.sitewalk.specs.Looked.{WalkLooksAt}
 use Rattle.sitewalk.specs.Sites.{site_of}
+use Rattle.siteaudit.specs.Folders.{EvaluatedLookAt}
+use Rattle.siteaudit.specs.Looked.{AuditLooksAt, is_failure}
+use Rattle.siteaudit.proofs.Looked.{of_folders}
 use Rattle.siteaudit.proofs.auditing.audit.Goals as goal
 
 pub returns-clause-exact : goal.returns-clause-exact
@@ -12,3 +21,29 @@ returns-clause-holds g c = λ files listings agrees.
     let before = c.in_ok-audit_evaluations.ensures.reads.narrows files listings agrees in
     (c.parts_are_audits.ensures (site_of c.args.limits c.args.env.now files listings) c.in_ok-evaluations.field-0 c.in_ok-audit_evaluations.field-0
     (c.in_ok-evaluations.ensures.walked files listings before) (c.in_ok-audit_evaluations.ensures.parts files listings agrees)).1
+
+pub returns-in_err-evaluations-clause-failed : goal.returns-in_err-evaluations-clause-failed
+returns-in_err-evaluations-clause-failed g c =
+    let a = c.args in
+    let fails = is_failure c.in_err-evaluations.field-0.0 in
+    let agrees = g.T.Tree.agrees c.walk_site.new.tree in
+    let p = err_from_is_err_and c.from_residual.result c.from_residual.ensures.1 in
+    rw (p.1, p.2) (fails_then fails fails (g.T.Tree.failed a.tree.now) (g.T.Tree.failed a.tree.now) (g.T.Tree.failed c.walk_site.new.tree)
+    (λ at. InEachPair agrees (λ files listings. WalkLooksAt (site_of a.limits a.env.now files listings) at))
+    (λ at. InEachPair agrees (λ files listings. AuditLooksAt (site_of a.limits a.env.now files listings) at)) refl refl (λ at h files listings k. inl (h files listings k)) c.in_err-evaluations.ensures.failed)
+
+pub returns-in_err-audit_evaluations-clause-failed : goal.returns-in_err-audit_evaluations-clause-failed
+returns-in_err-audit_evaluations-clause-failed g c =
+    let a = c.args in
+    let walk = c.in_ok-evaluations.field-0 in
+    let fails = steps.is_failure c.in_err-audit_evaluations.field-0.0 in
+    let agrees = g.T.Tree.agrees c.audit_evaluations.new.tree in
+    let p = err_from_is_err_and c.from_residual-in_err-audit_evaluations.result c.from_residual-in_err-audit_evaluations.ensures.1 in
+    rw (p.1, p.2) (fails_then fails fails (g.T.Tree.failed a.tree.now) (g.T.Tree.failed c.walk_site.new.tree) (g.T.Tree.failed c.audit_evaluations.new.tree)
+    (λ at. InEachPair agrees (λ files listings. EvaluatedLookAt a.limits files listings walk.evaluations.items at))
+    (λ at. InEachPair agrees (λ files listings. AuditLooksAt (site_of a.limits a.env.now files listings) at)) c.in_ok-evaluations.ensures.failed refl
+    (λ at h files listings k. of_folders c.walks.ensures.modules (site_of a.limits a.env.now files listings) walk at
+    (c.in_ok-evaluations.ensures.walked files listings (c.audit_evaluations.ensures.reads.narrows files listings k)) (h files listings k)) c.in_err-audit_evaluations.ensures.failed)
+
+pub returns-clause-failed : goal.returns-clause-failed
+returns-clause-failed g c = c.in_ok-audit_evaluations.ensures.failed ∙ c.in_ok-evaluations.ensures.failed

@@ -1,4 +1,5 @@
 use Rattle.std.proofs.Common.{◌≡◌, map, flat_map, subst, List}
+use Rattle.std.proofs.lemmas.Result.{err_from_is_err_and}
 use Rattle.envvars.specs.Texts.{texts_in}
 use Rattle.sitewalk.specs.declared.walk.Evaluation.{Evaluation}
 use Rattle.siteaudit.specs.Audits.{mention_of}
@@ -15,3 +16,21 @@ returns-clause-parts g c = λ files listings agrees. record {
   agrees = rw (← c.as_slice-3.ensures.value) c.in_ok-disagreements.ensures.agrees;
   disagreements = rw (← c.as_slice-3.ensures.value) c.in_ok-disagreements.ensures.named;
 }
+
+pub returns-in_err-bad_default_files-clause-failed : goal.returns-in_err-bad_default_files-clause-failed
+returns-in_err-bad_default_files-clause-failed g c =
+    let p = err_from_is_err_and c.from_residual-in_err-bad_default_files.result c.from_residual-in_err-bad_default_files.ensures.1 in
+    rw (p.1, p.2) (rw c.as_slice-2.ensures.value at c.in_err-bad_default_files.ensures.failed)
+
+pub returns-in_err-modules-clause-failed : goal.returns-in_err-modules-clause-failed
+returns-in_err-modules-clause-failed g c =
+    let p = err_from_is_err_and c.from_residual-in_err-modules.result c.from_residual-in_err-modules.ensures.1 in
+    rw (p.1, p.2) c.in_ok-bad_default_files.ensures.failed
+
+pub returns-in_err-disagreements-clause-failed : goal.returns-in_err-disagreements-clause-failed
+returns-in_err-disagreements-clause-failed g c =
+    let p = err_from_is_err_and c.from_residual-in_err-disagreements.result c.from_residual-in_err-disagreements.ensures.1 in
+    rw (p.1, p.2) c.in_ok-bad_default_files.ensures.failed
+
+pub returns-clause-failed : goal.returns-clause-failed
+returns-clause-failed g c = c.in_ok-bad_default_files.ensures.failed

@@ -1,9 +1,13 @@
-use Rattle.std.proofs.Common.{◌<◌, Result, sym, ◌∙◌, subst}
+use Rattle.std.proofs.Common.{◌≡◌, ◌<◌, ℕ, List, Result, sym, ◌∙◌, subst}
+use Rattle.std.proofs.lemmas.Result.{err_from_is_err_and}
 use Rattle.envvars.specs.Texts.{Text}
+use Rattle.filetree.specs.Agreement.{FailsAt}
 use Rattle.modulerun.specs.declared.run.Ran.{Ran}
+use Rattle.modulestep.specs.Answers.{is_failure}
 use Rattle.modulestep.specs.declared.refusal.Refusal.{Refusal}
 use Rattle.sitelaws.specs.Sites.{EvaluatesTo, site_of, module_below}
 use Rattle.sitewalk.specs.Parts.{ComesToOverTree}
+use Rattle.sitewalk.proofs.FailureLemmas.{given_up_failed, kept_unfailed}
 use Rattle.sitewalk.proofs.OutcomeLemmas.{has_outcome}
 use Rattle.sitewalk.proofs.files.evaluate_module.Goals as goal
 
@@ -23,3 +27,18 @@ returns-clause-evaluated g c = λ files listings k.
       h.1,
       record { name = sym c.in_ok-full_name.ensures.ok; path = sym c.in_ok-path.ensures; outcome = h.2 },
     )
+
+pub returns-in_err-outcome-clause-failed : goal.returns-in_err-outcome-clause-failed
+returns-in_err-outcome-clause-failed g c =
+    let p = err_from_is_err_and c.from_residual-in_err-outcome.result c.from_residual-in_err-outcome.ensures.1 in
+    let failed = rw (c.as_str.ensures.value ∙ c.in_ok-path.ensures) at c.evaluate_file.ensures.failed in
+    rw (p.1, p.2) (given_up_failed c.evaluate_file.result c.in_err-outcome.field-0.0 (g.T.Tree.failed c.args.tree.now) (g.T.Tree.failed c.evaluate_file.new.tree)
+    (λ at. at ≡ (module_below c.args.dir.now c.args.name.now).path) c.in_err-outcome.ensures.given_up.0 failed)
+
+pub returns-clause-failed : goal.returns-clause-failed
+returns-clause-failed g c =
+    let before = g.T.Tree.failed c.args.tree.now in
+    let now = g.T.Tree.failed c.evaluate_file.new.tree in
+    let Here : List ℕ → Type 0 = λ at. at ≡ c.as_str.result.now in
+    kept_unfailed c.in_ok-outcome.outcome before now Here c.in_ok-outcome.ensures.kept
+    (subst (λ (o : Result Ran Refusal). FailsAt is_failure before now o Here) (sym c.in_ok-outcome.ensures.same) c.evaluate_file.ensures.failed)

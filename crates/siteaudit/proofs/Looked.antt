@@ -1,0 +1,24 @@
+-- Where the searches for the folders of evaluated modules look.
+use Rattle.std.proofs.Common.{map, inr}
+use Rattle.envvars.specs.Texts.{Text}
+use Rattle.sitewalk.specs.Sites.{Site, Evaluated, AreEvaluated}
+use Rattle.sitewalk.specs.Laws.{ModulesFound}
+use Rattle.sitewalk.specs.Walks.{IsWalkAnswer}
+use Rattle.sitewalk.specs.declared.walk.Walk.{Walk}
+use Rattle.siteaudit.specs.Folders.{EvaluatedLookAt}
+use Rattle.siteaudit.specs.Looked.{AuditLooksAt}
+use Rattle.siteaudit.proofs.BadFiles.{folder_there}
+
+-- those are folders of the site
+pub of_folders : ModulesFound → (site : Site) (walk : Walk) (at : Text) → IsWalkAnswer site walk → EvaluatedLookAt site.limits site.files site.listings walk.evaluations.items at
+    → AuditLooksAt site at
+of_folders found site walk at (outs, w, h) (folder, holds, searched) =
+    let all : AreEvaluated site outs = record { modules = λ m. found site _ (map (λ (o : Evaluated). o.0) outs) w.directories w.modules m; evaluated = w.evaluated } in
+    let there = folder_there site walk.evaluations.items outs all h folder holds in
+    inr (record {
+      dir = folder.0;
+      folder = folder.1;
+      directory = there.0;
+      module_there = (holds.2.1.version, holds.2.1.single, there.1);
+      searched = searched;
+    })

@@ -1,0 +1,22 @@
+-- Where an audit of a site looks (own): the paths of the files and directories that it reads or lists on its way. No failure
+-- of the device at another path can end it.
+use Rattle.std.specs.Prelude.{◌⊎◌}
+use Rattle.envvars.specs.Texts.{Text}
+use Rattle.defaultfiles.specs.DefaultFileResults.{HasResult}
+use Rattle.search.specs.Looked.{HasModule, LooksAt}
+use Rattle.sitewalk.specs.Sites.{Site, IsDirectory}
+use Rattle.sitewalk.specs.Looked.{WalkLooksAt}
+pub use Rattle.sitewalk.specs.Looked.{is_failure}
+
+-- the search for a folder of a directory of the site, in which a module stands, looks at this path
+pub record FolderLooksAt (site : Site) (at : Text) : Type 0 where
+  pub dir : Text
+  pub folder : Text
+  pub directory : IsDirectory site dir
+  pub module_there : HasModule site.files site.listings dir folder
+  pub searched : LooksAt (HasResult site.limits) site.files site.listings dir folder at
+
+-- An audit of the site looks at this path: the walk does, or the search for a folder, by which a fault in its default file
+-- is found.
+abbrev pub AuditLooksAt : Site → Text → Type 0
+AuditLooksAt site at = WalkLooksAt site at ⊎ FolderLooksAt site at
