@@ -30,7 +30,7 @@ returns-in_err-modules-clause-failed g c =
 pub returns-in_err-disagreements-clause-failed : goal.returns-in_err-disagreements-clause-failed
 returns-in_err-disagreements-clause-failed g c =
     let p = err_from_is_err_and c.from_residual-in_err-disagreements.result c.from_residual-in_err-disagreements.ensures.1 in
-    rw (p.1, p.2) c.in_ok-bad_default_files.ensures.failed
+    rw (p.1, p.2, c.in_err-disagreements.ensures.only) c.in_ok-bad_default_files.ensures.failed
 
 pub returns-clause-failed : goal.returns-clause-failed
 returns-clause-failed g c = c.in_ok-bad_default_files.ensures.failed
