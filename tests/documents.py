@@ -10,10 +10,10 @@ from harness import Failed
 from run import SUITES
 
 CHECKS = {
-    "the tables of CLAIMS have functions, clauses and definitions that are there": named.check_claims,
-    "the tables of CLAIMS have the groups and the order of crates.txt": named.check_groups,
+    "the tables in the crates' pages have functions, clauses and definitions that are there": named.check_claims,
+    "the crates' pages begin as their root files": named.check_heads,
     "the examples of CLAIMS are all of them": named.check_examples,
-    "a function that CLAIMS doesn't name has the definition of its name": named.check_rest,
+    "a function that its crate's page doesn't name has the definition of its name": named.check_rest,
     "the lists of ARCHITECTURE are those of tools/rooms.py": named.check_rooms,
     "ARCHITECTURE is short, and its paths are whole": named.check_doors,
     "crates stand on those before them in crates.txt, but for the exceptions of ARCHITECTURE": named.check_order,

@@ -3,7 +3,7 @@ of the built program in which the start is lost, or an unload takes what another
 
     python3 -B tests/losses.py PROGRAM
 
-Each row has its modulefiles, the standing of each by the rules in docs/DEFINITIONS.md (and so by the model in
+Each row has its modulefiles, the standing of each by the rules in the crates' pages (and so by the model in
 `standings.py`, where the records stand in the row), the variables of the start, the commands, and what is there after
 them. The start agrees with all that the modules use, where any start does. What is there is typed by hand from
 modulefile(5).

@@ -2,7 +2,7 @@
 
     python3 -B tests/modaudit.py PROGRAM
 
-The rows are typed by hand from the rules in docs/DEFINITIONS.md (sites, certificates); random sites are compared with the
+The rows are typed by hand from the rules in the crates' pages (sites, certificates); random sites are compared with the
 model in `standings.py`, which shares nothing with the program. In rows and modulefiles `/m`, `/n` and `/o` stand for the
 folders that a case makes.
 """

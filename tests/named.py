@@ -1,5 +1,5 @@
-"""What the documents name, and whether it is there: the functions, clauses and definitions in the tables of
-docs/CLAIMS.md, the lists and paths of docs/ARCHITECTURE.md, and the files, crates and suites that any page names."""
+"""What the documents name, and whether it is there: the functions, clauses and definitions in the tables of the crates'
+pages, the lists and paths of docs/ARCHITECTURE.md, and the files, crates and suites that any page names."""
 
 import functools
 import os
@@ -12,7 +12,7 @@ import rooms  # in tools/, which harness puts into the path
 TOP = os.path.dirname(HERE)
 CRATES = os.path.join(TOP, "crates")
 
-CLAIMED = "| Crate | Function | Clauses |"
+CLAIMED = "| Function | Clauses |"
 PREMISES = "| Premise | Examples without it |"
 SPAN = re.compile(r"`([^`\n]+)`")
 OWNER = re.compile(r"(?:impl(?:<.*?>)?|pub trait) (?:.* for )?(?:&'a )?(\w+)")
@@ -148,16 +148,19 @@ def cells(text, header):
             yield [cell.strip() for cell in line.strip("|").split("|")]
 
 
+def page_of(crate):
+    return content("crates", crate, "README.md")
+
+
 @functools.cache
 def claims():
-    """The lines of CLAIMS' tables: a crate, the functions and types of it, and the words of its clauses. An empty cell
-    is the crate of the line above."""
-    found, crate = [], ""
-    text = content("docs", "CLAIMS.md")
-    for first, functions, clauses in cells(text, CLAIMED):
-        crate = first.strip("`") or crate
-        found.append((crate, SPAN.findall(functions), SPAN.findall(clauses)))
-    true(found, "CLAIMS has tables")
+    """The lines of the tables in the crates' pages: a crate, the functions and types of it, and the words of its
+    clauses."""
+    found = []
+    for crate in rooms.lists():
+        for functions, clauses in cells(page_of(crate), CLAIMED):
+            found.append((crate, SPAN.findall(functions), SPAN.findall(clauses)))
+    true(found, "the crates' pages have tables")
     return found
 
 
@@ -185,7 +188,7 @@ def check_examples():
 
 
 def check_rest():
-    """A function that CLAIMS doesn't name has one clause, with the definition of its own name."""
+    """A function that the page of its crate doesn't name has one clause, with the definition of its own name."""
     named = {}
     for crate, names, _ in claims():
         named.setdefault(crate, set()).update(names)
@@ -197,13 +200,14 @@ def check_rest():
             if (function.owner or function.name) not in users or not function.clauses:
                 continue
             is_named = function.name in rest or function.owner in rest or function.name in OF_FAULTS
-            true(is_named or function.has_own_name(), f"CLAIMS names {crate} {function.owner} {function.name}")
+            true(is_named or function.has_own_name(), f"the page of {crate} names {function.owner} {function.name}")
 
 
 def pages():
     """Each page for readers, with its text."""
     docs = [f"docs/{name}" for name in sorted(os.listdir(os.path.join(TOP, "docs"))) if name.endswith(".md")]
-    return {name: content(name) for name in ["README.md", "CONTRIBUTING.md", *docs]}
+    crates = [f"crates/{crate}/README.md" for crate in rooms.lists()]
+    return {name: content(name) for name in ["README.md", "CONTRIBUTING.md", *docs, *crates]}
 
 
 def files():
@@ -227,7 +231,8 @@ def is_file_of_ours(name, blocks):
 
 
 def check_files():
-    """Each file and folder that a page names is there: by its path, or by the end of it."""
+    """Each file and folder that a page names is there: by its path, or by the end of it; one that the page of a crate
+    names by a folder of crates, as `specs/Paths.antt`, in that crate."""
     ends = set()
     for path in files():
         parts = path.split(os.sep)
@@ -236,7 +241,10 @@ def check_files():
         blocks = "\n".join(BLOCK.findall(text))
         for name in names_in(text):
             if is_file_of_ours(name, blocks):
-                true(name.rstrip("/").removeprefix("../") in ends, f"{page} names a file that is there: {name}")
+                there = name.rstrip("/").removeprefix("../") in ends
+                if page.startswith("crates/") and name.startswith(("specs/", "src/")):
+                    there = os.path.exists(os.path.join(TOP, os.path.dirname(page), name))
+                true(there, f"{page} names a file that is there: {name}")
 
 
 def check_rooms():
@@ -284,18 +292,13 @@ def check_boundaries():
         true(outside == allowed, f"{wanted}: {sorted(outside)}")
 
 
-def check_groups():
-    """The tables of CLAIMS name their crates in the groups and the order of crates.txt; a crate without a claim of its
-    own, or a group of such, is omitted."""
-    text = content("docs", "CLAIMS.md")
-    parts = re.split(r"^### ([^\n]+)\n", text, flags=re.MULTILINE)
-    found = {}
-    for group, part in zip(parts[1::2], parts[2::2]):
-        found[group] = [first.strip("`") for first, *_ in cells(part.partition("\n## ")[0], CLAIMED) if first]
-    order = {group: [name for name in crates if name in found.get(group, ())] for group, crates in rooms.groups()}
-    true(list(found) == [group for group in order if order[group]], f"the groups of CLAIMS are in order: {list(found)}")
-    for group, crates in found.items():
-        true(crates == order[group], f"{group} of CLAIMS has its crates in order: {crates}")
+def check_heads():
+    """Each crate has a page, which begins with the first two lines of its root file: what it knows, and what it may
+    touch."""
+    for crate in rooms.lists():
+        knows, touches, _ = rooms.head(crate)
+        head = f"# `{crate}`\n\n{knows}\n\n{touches}\n"
+        true(page_of(crate).startswith(head), f"the page of {crate} begins as its root file")
 
 
 def check_crates():

@@ -1,6 +1,6 @@
 """A model of loads and unloads of its own, and random runs of it.
 
-The model is written from the rules in docs/DEFINITIONS.md (environments, paths with counters, stacks, the loaded list,
+The model is written from the rules in the crates' pages (environments, paths with counters, stacks, the loaded list,
 records and their effects, reversible, apart, in order, standing over a start), and shares nothing with the definitions
 that the prover reads nor with the program. What the laws of the crate `reversal` say of all runs is tried here on random
 ones: after each load and unload the environment is in order and stands over the start, and it is the start where no

@@ -3,7 +3,7 @@
 Random trees of modulefiles that unloading undoes, random environments in order, and random lists of loads, unloads,
 switches and purges, each list in one process of a shell, whose last commands unload what is loaded. After each command
 the exported variables of the shell are those that a model makes (`runs.py` has its edits; search, requests and their
-refusals stand here, from the rules in docs/DEFINITIONS.md), standard error and the status too; and after the last one
+refusals stand here, from the rules in the crates' pages), standard error and the status too; and after the last one
 `env -0` writes what it wrote at the start, but for the order of its entries.
 
     python3 -B tests/sentence.py PROGRAM [RUNS [SEED [SHELL]]]

@@ -1,6 +1,6 @@
 """A model of how the modules of a site stand: which of them are certified, and which starts agree with these.
 
-It is written from the rules in docs/DEFINITIONS.md (sites, certificates), and shares nothing with the definitions that
+It is written from the rules in the crates' pages (sites, certificates), and shares nothing with the definitions that
 the prover reads nor with the programs. `runs.py` has the edits of environments.
 
 A use of a variable is what `runs.py` calls a way: ("fixed", None) where a module sets it, ("fixed", value) where it

@@ -2,7 +2,7 @@
 
 The program `cases_tcl` and answers.tcl read the same calls from standard input, a line each, and write an answer a line; the
 first reads the word `text` before each.
-Each known difference stands in DIFFERENCES with the rule of the profile (docs/DEFINITIONS.md) that means it."""
+Each known difference stands in DIFFERENCES with the rule of the profile (the pages of the crates of Tcl) that means it."""
 
 import random
 import re
