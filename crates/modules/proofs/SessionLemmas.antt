@@ -1,9 +1,9 @@
 -- Sessions grow by one request at their end.
-use Rattle.std.proofs.Common.{◌≡◌, ℕ, true, ◌+◌, ◌≤◌, ◌<◌, List, [], ◌∷◌, ◌++◌, map, inl, inr, refl, sym, subst, ap, ◌∙◌, Ok, Err, append_assoc, append-nil, arith}
+use Rattle.std.proofs.Common.{◌≡◌, ℕ, Bool, true, ◌+◌, ◌≤◌, ◌<◌, List, [], ◌∷◌, ◌++◌, map, inl, inr, refl, sym, subst, ap, ◌∙◌, Ok, Err, append_assoc, append-nil, arith}
 use Rattle.envvars.specs.Environment.{Environment}
 use Rattle.envvars.specs.Texts.{Text}
 use Rattle.requests.specs.Laws.{SessionsReturn, StepsAreTheirMoves}
-use Rattle.requests.specs.Looked.{OneLooksAt}
+use Rattle.requests.specs.Looked.{IsOwnResponse, OneLooksAt, OwnLooksAt, SessionLooksAt}
 use Rattle.requests.specs.Reasons.{RequestReason}
 use Rattle.requests.specs.RequestViews.{request_view}
 use Rattle.requests.specs.Requests.{RequestedAction, Request}
@@ -12,8 +12,10 @@ use Rattle.requests.specs.Returning.{AreNew, AreReversibleBeside}
 use Rattle.requests.specs.Sessions as sessions
 use Rattle.requests.specs.Sessions.{Response, Session, IsResponse, env_after, in_shell, is_given_up_by, session_moves}
 use Rattle.requests.specs.Steps.{RequestContext, RequestStep}
-use Rattle.filetree.specs.Agreement.{Files, Listings, InEachPair}
+use Rattle.filetree.specs.Agreement.{FailsOnlyWhere, Files, Listings, InEachPair, Narrows}
 use Rattle.filetree.specs.Causes.{Cause, Applies, memory, device, because}
+use Rattle.filetree.proofs.FailedPaths.{only_then_in_each, only_wider_in_each}
+use Rattle.shells.specs.declared.shell.Shell.{Shell}
 use Rattle.requeststep.specs.Answers.{cause_of}
 use Rattle.requeststep.specs.Messages.{memory_number, number_by, number_of}
 use Rattle.requeststep.specs.Refusal.{Refusal}
@@ -157,3 +159,20 @@ pub looks_on : {R : Type 0} (Looks : Environment → R → Text → Type 0) (Has
     → whole ≡ r ∷ rs → Has e r o → new ≡ env_after e o → OneLooksAt Looks Has new rs at → OneLooksAt Looks Has e whole at
 looks_on Looks Has e new whole r rs o at same has end h =
     subst (λ (all : List _). OneLooksAt Looks Has e all at) (sym same) (inr (o, has, subst (λ (x : Environment). OneLooksAt Looks Has x rs at) end h))
+
+-- where the device has failed after one request more: the rest looks where the whole does
+pub session_fails : (agrees agrees' : Files → Listings → Type 0) (before mid now : List ℕ → Bool) (context : Files → Listings → Shell → RequestContext) (start e : Environment) (all whole : List Request) (r : Request) (rs : List Request)
+    → Narrows agrees agrees' → whole ≡ r ∷ rs
+    → InEachPair agrees (λ files listings. (shell : Shell) (at : Text) → SessionLooksAt (context files listings shell) e whole at → SessionLooksAt (context files listings shell) start all at)
+    → FailsOnlyWhere before mid (λ at. InEachPair agrees (λ files listings. (shell : Shell) → SessionLooksAt (context files listings shell) start all at))
+    → FailsOnlyWhere mid now (λ at. InEachPair agrees' (λ files listings. (shell : Shell) → OwnLooksAt (context files listings shell) e r at))
+    → FailsOnlyWhere before now (λ at. InEachPair agrees' (λ files listings. (shell : Shell) → SessionLooksAt (context files listings shell) start all at))
+session_fails agrees agrees' before mid now context start e all whole r rs narrows split looks first second =
+    let Whole : Files → Listings → Text → Type 0 = λ files listings at. (shell : Shell) → SessionLooksAt (context files listings shell) start all at in
+    let Here : Files → Listings → Text → Type 0 = λ files listings at. (shell : Shell) → OwnLooksAt (context files listings shell) e r at in
+    only_then_in_each agrees agrees' before mid now Whole narrows first
+    (only_wider_in_each agrees' mid now Here Whole
+    (λ files listings agreed at h shell.
+    looks files listings (narrows files listings agreed) shell at
+    (looks_here (OwnLooksAt (context files listings shell)) (IsOwnResponse (context files listings shell)) e whole r rs at split (h shell)))
+    second)

@@ -1,8 +1,9 @@
 -- Sessions of lines grow by one line at their end.
-use Rattle.std.proofs.Common.{◌≡◌, ℕ, ◌<◌, ◌≤◌, ◌+◌, true, List, [], ◌∷◌, ◌++◌, map, refl, sym, subst, ap, ◌∙◌, Ok, Err, append_assoc, append-nil, arith}
+use Rattle.std.proofs.Common.{◌≡◌, ℕ, Bool, ◌<◌, ◌≤◌, ◌+◌, true, List, [], ◌∷◌, ◌++◌, map, refl, sym, subst, ap, ◌∙◌, Ok, Err, append_assoc, append-nil, arith}
 use Rattle.envvars.specs.Texts.{Text}
 use Rattle.envvars.specs.Environment.{Environment}
-use Rattle.filetree.specs.Agreement.{Files, Listings}
+use Rattle.filetree.specs.Agreement.{FailsOnlyWhere, Files, InEachPair, Listings, Narrows}
+use Rattle.filetree.proofs.FailedPaths.{only_then_in_each, only_wider_in_each}
 use Rattle.filetree.specs.Causes.{Cause, Applies, memory, device, because}
 use Rattle.filetree.specs.Relations.{Is}
 use Rattle.requests.specs.Looked.{RequestLooksAt}
@@ -15,10 +16,10 @@ use Rattle.tclrules.specs.declared.limits.Limits.{Limits}
 use Rattle.modules.specs.Answers.{cause_of}
 use Rattle.modules.specs.Messages.{memory_number, number_by}
 use Rattle.modules.specs.Refusal.{Refusal}
-use Rattle.modules.proofs.SessionLemmas.{memory_is_cause, refused_counts}
+use Rattle.modules.proofs.SessionLemmas.{looks_here, memory_is_cause, refused_counts}
 use Rattle.modules.specs.Responses.{by_cause, count_failed, response_of}
 use Rattle.modules.specs.declared.sessions.Outcome.TheVariants.{Refused}
-use Rattle.sessioncheck.specs.Sessions.{IsLineResponse, LineLooksAt, LineSession}
+use Rattle.sessioncheck.specs.Sessions.{IsLineResponse, LineLooksAt, LineSession, LinesLookAt}
 
 -- the response of a line's request is the line's
 pub line_responds : (s : RequestContext) (e : Environment) (words : List Text) (asked : RequestedAction) (o : Response) → request_of words ≡ Ok asked
@@ -73,3 +74,20 @@ lines_done {W} view s start e rest all sofar none run =
     let Whole : List Response → Type 0 = λ x. LineSession s start all x in
     let Rest : List W → Type 0 = λ ws. LineSession s e (map view ws) [] in
     subst Whole (append-nil sofar) (run [] (subst Rest (sym none) tt))
+
+-- where the device has failed after one line more: the rest looks where the whole does
+pub lines_fail : (agrees agrees' : Files → Listings → Type 0) (before mid now : List ℕ → Bool) (context : Files → Listings → RequestContext) (start e : Environment) (all whole : List (List Text)) (words : List Text) (lines : List (List Text))
+    → Narrows agrees agrees' → whole ≡ words ∷ lines
+    → InEachPair agrees (λ files listings. (at : Text) → LinesLookAt (context files listings) e whole at → LinesLookAt (context files listings) start all at)
+    → FailsOnlyWhere before mid (λ at. InEachPair agrees (λ files listings. LinesLookAt (context files listings) start all at))
+    → FailsOnlyWhere mid now (λ at. InEachPair agrees' (λ files listings. LineLooksAt (context files listings) e words at))
+    → FailsOnlyWhere before now (λ at. InEachPair agrees' (λ files listings. LinesLookAt (context files listings) start all at))
+lines_fail agrees agrees' before mid now context start e all whole words lines narrows split looks first second =
+    let Whole : Files → Listings → Text → Type 0 = λ files listings at. LinesLookAt (context files listings) start all at in
+    let Here : Files → Listings → Text → Type 0 = λ files listings at. LineLooksAt (context files listings) e words at in
+    only_then_in_each agrees agrees' before mid now Whole narrows first
+    (only_wider_in_each agrees' mid now Here Whole
+    (λ files listings agreed at h.
+    looks files listings (narrows files listings agreed) at
+    (looks_here (LineLooksAt (context files listings)) (IsLineResponse (context files listings)) e whole words lines at split h))
+    second)

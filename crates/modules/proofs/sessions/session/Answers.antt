@@ -2,7 +2,7 @@ use Rattle.std.proofs.Common.{◌≡◌, ◌+◌, ◌≤◌, List, [], ◌∷◌
 use Rattle.std.proofs.Math.ListN.{drop_of_length-le}
 use Rattle.envvars.specs.Environment.{Environment}
 use Rattle.envvars.specs.Texts.{Text}
-use Rattle.filetree.proofs.FailedPaths.{only_if, only_then_in_each, only_wider_in_each}
+use Rattle.filetree.proofs.FailedPaths.{only_if, only_wider_in_each}
 use Rattle.shells.specs.declared.shell.Shell.TheVariants.{Sh}
 use Rattle.requests.specs.RequestViews.{request_view}
 use Rattle.requests.specs.Requests.{Request}
@@ -12,7 +12,7 @@ use Rattle.requeststep.proofs.EachLemmas.{split_at}
 use Rattle.modules.specs.declared.sessions.Outcome.{Outcome}
 use Rattle.requests.specs.Steps.{request_context_in}
 use Rattle.modules.specs.Responses.{count_failed, response_of, responses}
-use Rattle.modules.proofs.SessionLemmas.{failures_push, looks_here, looks_on, session_done, session_grows, session_returning, session_taken}
+use Rattle.modules.proofs.SessionLemmas.{failures_push, looks_on, session_done, session_fails, session_grows, session_returning, session_taken}
 use Rattle.modules.proofs.sessions.session.Goals as goal
 
 pub loop-request-preserved : goal.loop-request-preserved
@@ -51,13 +51,8 @@ loop-request-preserved g c =
           (looks_on (OwnLooksAt context) (IsOwnResponse context) before_it new (map request_view (drop i requests)) (request_view c.request-item.result) (map request_view (drop (i + 1) requests)) (response_of before_it outcome) at split
           (c.respond-outcome.ensures.answer files listings agreed) (c.respond-outcome.ensures.end files listings agreed) more);
       failed =
-          only_then_in_each _ _ _ _ _ _ c.respond-outcome.ensures.narrows c.loop-request.invariant.failed
-          (only_wider_in_each _ _ _ _ _
-          (λ files listings agreed at h shell.
-          let context = request_context_in c.args.limits shell files listings in
-          c.loop-request.invariant.looks files listings (c.respond-outcome.ensures.narrows files listings agreed) shell at
-          (looks_here (OwnLooksAt context) (IsOwnResponse context) before_it (map request_view (drop i requests)) (request_view c.request-item.result) (map request_view (drop (i + 1) requests)) at split h))
-          (only_if _ _ _ _ c.respond-outcome.ensures.failed));
+          session_fails _ _ _ _ _ (λ files listings shell. request_context_in c.args.limits shell files listings) start before_it _ _ _ _ c.respond-outcome.ensures.narrows split c.loop-request.invariant.looks
+          c.loop-request.invariant.failed (only_wider_in_each _ _ _ _ _ (λ files listings agreed at h shell. h) (only_if _ _ _ _ c.respond-outcome.ensures.failed));
     }
 
 pub returns-clause-ran : goal.returns-clause-ran
@@ -73,3 +68,9 @@ returns-clause-returns g c =
     session_returning c.session_returns.ensures context c.args.env (map request_view c.args.requests.now) (responses c.args.env c.loop-request.outcomes.items)
     (session_done context c.args.env c.loop-request.after (drop c.loop-request.request-index c.args.requests.now) (map request_view c.args.requests.now) (responses c.args.env c.loop-request.outcomes.items)
     (drop_of_length-le c.args.requests.now c.loop-request-test.false) (c.loop-request.invariant.ran files listings agreed Sh))
+
+pub returns-in_err-push-clause-failed : goal.returns-in_err-push-clause-failed
+returns-in_err-push-clause-failed g c =
+    session_fails _ _ _ _ _ (λ files listings shell. request_context_in c.args.limits shell files listings) c.args.env c.loop-request.after _ _ _ _ c.respond-outcome.ensures.narrows
+    (split_at request_view c.args.requests.now c.loop-request.request-index c.request-item.result c.loop-request-test.true c.request-item.is) c.loop-request.invariant.looks c.loop-request.invariant.failed
+    (only_wider_in_each _ _ _ _ _ (λ files listings agreed at h shell. h) (only_if _ _ _ _ c.respond-outcome.ensures.failed))

@@ -3,13 +3,12 @@ use Rattle.std.proofs.Math.ListN.{drop_of_length-le}
 use Rattle.std.specs.declared.alloc.Global.{Global}
 use Rattle.std.specs.declared.string.String.{String}
 use Rattle.envvars.specs.Texts.{Text}
-use Rattle.filetree.proofs.FailedPaths.{only_then_in_each, only_wider_in_each}
 use Rattle.requests.specs.Looked.{IsOwnResponse, OwnLooksAt}
 use Rattle.requests.specs.RequestViews.{request_view}
 use Rattle.requests.specs.Requests.{Request}
 use Rattle.requests.specs.Steps.{request_context_in}
 use Rattle.modules.proofs.EachLemmas.{split_at}
-use Rattle.modules.proofs.SessionLemmas.{looks_here, looks_on}
+use Rattle.modules.proofs.SessionLemmas.{looks_on, session_fails}
 use Rattle.sessioncheck.specs.Rehearsals.{Rehearsal}
 use Rattle.sessioncheck.specs.RehearsalParts.{print_view, prints}
 use Rattle.sessioncheck.proofs.TextLemmas.{rehearsed_on, prints_push, no_requests}
@@ -50,13 +49,8 @@ loop-request-preserved g c =
           (looks_on (OwnLooksAt context) (IsOwnResponse context) before_it new (map request_view (drop i requests)) (request_view c.request-item.result) (map request_view (drop (i + 1) requests)) printed.response at split
           (printed.answers files listings agreed) printed.end more);
       failed =
-          only_then_in_each _ _ _ _ _ _ c.print_request-text.ensures.narrows c.loop-request.invariant.failed
-          (only_wider_in_each _ _ _ _ _
-          (λ files listings agreed at h shell.
-          let context = request_context_in c.args.limits shell files listings in
-          c.loop-request.invariant.looks files listings (c.print_request-text.ensures.narrows files listings agreed) shell at
-          (looks_here (OwnLooksAt context) (IsOwnResponse context) before_it (map request_view (drop i requests)) (request_view c.request-item.result) (map request_view (drop (i + 1) requests)) at split (h shell)))
-          c.print_request-text.ensures.failed);
+          session_fails _ _ _ _ _ (λ files listings shell. request_context_in c.args.limits shell files listings) c.args.env before_it _ _ _ _ c.print_request-text.ensures.narrows split c.loop-request.invariant.looks
+          c.loop-request.invariant.failed c.print_request-text.ensures.failed;
     }
 
 pub returns-clause-rehearsed : goal.returns-clause-rehearsed
@@ -78,3 +72,9 @@ pub returns-clause-returns_to_start : goal.returns-clause-returns_to_start
 returns-clause-returns_to_start g c =
     λ files listings agreed shell.
     c.texts_return_to_start.ensures (request_context_in c.args.limits shell files listings) c.args.env (map request_view c.args.requests.now) (prints c.loop-request.texts.items) c.loop-request.after
+
+pub returns-in_err-push-clause-failed : goal.returns-in_err-push-clause-failed
+returns-in_err-push-clause-failed g c =
+    session_fails _ _ _ _ _ (λ files listings shell. request_context_in c.args.limits shell files listings) c.args.env c.loop-request.after _ _ _ _ c.print_request-text.ensures.narrows
+    (split_at request_view c.args.requests.now c.loop-request.request-index c.request-item.result c.loop-request-test.true c.request-item.is) c.loop-request.invariant.looks c.loop-request.invariant.failed
+    c.print_request-text.ensures.failed

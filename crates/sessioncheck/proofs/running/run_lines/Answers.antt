@@ -2,14 +2,13 @@ use Rattle.std.proofs.Common.{◌≡◌, ◌+◌, ◌≤◌, List, [], ◌∷◌
 use Rattle.std.proofs.Math.ListN.{drop_of_length-le}
 use Rattle.envvars.specs.Texts.{Text, texts_in}
 use Rattle.requests.specs.Sessions.{end_environment}
-use Rattle.filetree.proofs.FailedPaths.{only_then_in_each, only_wider_in_each}
 use Rattle.modules.proofs.EachLemmas.{split_at}
 use Rattle.modules.specs.declared.sessions.Outcome.{Outcome}
 use Rattle.requests.specs.Steps.{request_context_in}
 use Rattle.modules.specs.Responses.{count_failed, response_of, responses}
-use Rattle.modules.proofs.SessionLemmas.{failures_push, looks_here, looks_on, session_grows}
+use Rattle.modules.proofs.SessionLemmas.{failures_push, looks_on, session_grows}
 use Rattle.sessioncheck.specs.Sessions.{IsLineResponse, LineLooksAt, LineSession}
-use Rattle.sessioncheck.proofs.RunLemmas.{lines_done, lines_taken}
+use Rattle.sessioncheck.proofs.RunLemmas.{lines_done, lines_fail, lines_taken}
 use Rattle.sessioncheck.proofs.running.run_lines.Goals as goal
 
 pub loop-words-preserved : goal.loop-words-preserved
@@ -48,13 +47,8 @@ loop-words-preserved g c =
           (looks_on (LineLooksAt context) (IsLineResponse context) before_it new (map texts_in (drop i lines)) (texts_in c.words-item.result) (map texts_in (drop (i + 1) lines)) (response_of before_it outcome) at split
           (rw c.as_slice.ensures.value at c.respond_to-outcome.ensures.answer files listings agreed) (c.respond_to-outcome.ensures.end files listings agreed) more);
       failed =
-          only_then_in_each _ _ _ _ _ _ c.respond_to-outcome.ensures.narrows c.loop-words.invariant.failed
-          (only_wider_in_each _ _ _ _ _
-          (λ files listings agreed at h.
-          let context = request_context_in c.args.limits c.args.shell files listings in
-          c.loop-words.invariant.looks files listings (c.respond_to-outcome.ensures.narrows files listings agreed) at
-          (looks_here (LineLooksAt context) (IsLineResponse context) before_it (map texts_in (drop i lines)) (texts_in c.words-item.result) (map texts_in (drop (i + 1) lines)) at split h))
-          (rw c.as_slice.ensures.value at c.respond_to-outcome.ensures.failed));
+          lines_fail _ _ _ _ _ (λ files listings. request_context_in c.args.limits c.args.shell files listings) start before_it _ _ _ _ c.respond_to-outcome.ensures.narrows split c.loop-words.invariant.looks
+          c.loop-words.invariant.failed (rw c.as_slice.ensures.value at c.respond_to-outcome.ensures.failed);
     }
 
 pub returns-clause-ran : goal.returns-clause-ran
@@ -62,3 +56,9 @@ returns-clause-ran g c =
     λ files listings agreed.
     lines_done texts_in (request_context_in c.args.limits c.args.shell files listings) c.args.env.now c.loop-words.env (drop c.loop-words.words-index c.args.lines.now) (map texts_in c.args.lines.now) (responses c.args.env.now c.loop-words.outcomes.items)
     (drop_of_length-le c.args.lines.now c.loop-words-test.false) (c.loop-words.invariant.ran files listings agreed)
+
+pub returns-in_err-push-clause-failed : goal.returns-in_err-push-clause-failed
+returns-in_err-push-clause-failed g c =
+    lines_fail _ _ _ _ _ (λ files listings. request_context_in c.args.limits c.args.shell files listings) c.args.env.now c.loop-words.env _ _ _ _ c.respond_to-outcome.ensures.narrows
+    (split_at texts_in c.args.lines.now c.loop-words.words-index c.words-item.result c.loop-words-test.true c.words-item.is) c.loop-words.invariant.looks c.loop-words.invariant.failed
+    (rw c.as_slice.ensures.value at c.respond_to-outcome.ensures.failed)
