@@ -13,7 +13,7 @@ use Rattle.auditreport.specs.WalkFault.{WalkFault}
 use Rattle.auditreport.specs.WalkFault.TheVariants as faults
 use Rattle.auditcommand.specs.Audits.{IsDirectory, AreDirectories, IsFirstGone, IsNoDirectory, has_colon}
 use Rattle.auditcommand.specs.Faults.{is_failure, of_walk}
-use Rattle.auditcommand.specs.Looked.{AreThere, LooksInTurn}
+use Rattle.auditcommand.specs.Looked.{AreThere, DirectoriesLookAt}
 use Rattle.auditcommand.specs.Steps.{IsGivenUp, NamesNoDirectory, IsDirectoryFault, AreDirectoriesFault}
 use Rattle.auditcommand.specs.declared.audit_fault.AuditFault.{AuditFault}
 use Rattle.auditcommand.specs.declared.audit_fault.AuditFault.TheVariants.{Refused, TooManyDirectories, NotADirectory, WriteFailed}
@@ -111,11 +111,11 @@ are_there agrees files listings (dir ∷ dirs) a h = (h.0.colonless, h.0.listed 
 
 pub looks_in_turn : (before agrees : Files → Listings → Type 0) (xs : List (String Global)) (i : ℕ) (x : String Global) (at : Text) → i < length xs → x ≡ get_or xs i x → Narrows before agrees
     → AreDirectories before (map (λ (s : String Global). string_bytes s) (take i xs)) → (at ≡ string_bytes x) × (has_colon (string_bytes x) ≡ false)
-    → InEachPair agrees (λ files listings. LooksInTurn listings (map (λ (s : String Global). string_bytes s) xs) at)
+    → InEachPair agrees (λ files listings. DirectoriesLookAt listings (map (λ (s : String Global). string_bytes s) xs) at)
 looks_in_turn before agrees xs i x at l e n there h = λ files listings a.
     let so_far = map (λ (s : String Global). string_bytes s) (take i xs) in
     let order = placed xs i x l e in
-    subst (λ (path : Text). LooksInTurn listings (map (λ (s : String Global). string_bytes s) xs) path) (sym h.0) (record {
+    subst (λ (path : Text). DirectoriesLookAt listings (map (λ (s : String Global). string_bytes s) xs) path) (sym h.0) (record {
       before = so_far;
       after = order.0;
       order = order.1;

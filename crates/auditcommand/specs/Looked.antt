@@ -14,7 +14,7 @@ AreThere listings [] = Unit {0}
 AreThere listings (dir ∷ dirs) = (has_colon dir ≡ false) × IsSome (listings dir) × AreThere listings dirs
 
 -- the path is that of one of these directories, and those before it are there
-pub record LooksInTurn (listings : Listings) (dirs : List Text) (at : Text) : Type 0 where
+pub record DirectoriesLookAt (listings : Listings) (dirs : List Text) (at : Text) : Type 0 where
   pub before : List Text
   pub after : List Text
   pub order : dirs ≡ before ++ at ∷ after
@@ -25,10 +25,10 @@ pub record LooksInTurn (listings : Listings) (dirs : List Text) (at : Text) : Ty
 -- which the audit of their site looks
 abbrev pub WantedLooksAt : Environment → Wanted → Files → Listings → Text → Type 0
 WantedLooksAt e wanted files listings at =
-    LooksInTurn listings wanted.directories at
+    DirectoriesLookAt listings wanted.directories at
     ⊎ (AreThere listings wanted.directories × audits.AuditLooksAt (judged_site e wanted files listings) at)
 
 -- An audit by these arguments looks at this path.
-abbrev pub AuditLooksAt : Environment → List Text → Files → Listings → Text → Type 0
-AuditLooksAt e arguments files listings at =
+abbrev pub AuditCommandLooksAt : Environment → List Text → Files → Listings → Text → Type 0
+AuditCommandLooksAt e arguments files listings at =
     (wanted : Wanted) × (wanted_of arguments ≡ Some wanted) × WantedLooksAt e wanted files listings at

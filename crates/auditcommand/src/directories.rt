@@ -4,7 +4,7 @@ ghost use Rattle.filetree.specs.Agreement.{FailsAt, FailsWhere, ReadsOn};
 ghost use Rattle.auditcommand.specs.Audits as spec;
 ghost use Rattle.auditcommand.specs.Audits.{IsDirectory, AreDirectories};
 ghost use Rattle.auditcommand.specs.Faults.{is_failure};
-ghost use Rattle.auditcommand.specs.Looked.{LooksInTurn};
+ghost use Rattle.auditcommand.specs.Looked.{DirectoriesLookAt};
 ghost use Rattle.auditcommand.specs.Steps.{IsGivenUp, IsListing, NamesNoDirectory, IsDirectoryFault, AreDirectoriesFault};
 
 use crate::audit_fault::AuditFault;
@@ -70,7 +70,7 @@ pub(crate) fn judge_directories<T: Tree>(
     ensures cause { IfErr result (AreDirectoriesFault (T.agrees tree.new) (T.failures tree.old < T.failures tree.new)
         (map string_bytes dirs.now)) }
     ensures failed { FailsWhere is_failure T.agrees T.failed tree.old tree.new result (λ files listings.
-        LooksInTurn listings (map string_bytes dirs.now)) }
+        DirectoriesLookAt listings (map string_bytes dirs.now)) }
 {
     for dir in dirs {
         judge_directory(alloc, tree, dir.as_str())?;

@@ -7,7 +7,7 @@ ghost use Rattle.auditcommand.specs.ArgumentViews.{wanted_view};
 ghost use Rattle.auditcommand.specs.Audits as spec;
 ghost use Rattle.auditcommand.specs.Audits.{EndsAudit, IsAuditFault, WritesAudit, WritesFault};
 ghost use Rattle.auditcommand.specs.Faults.{is_failure};
-ghost use Rattle.auditcommand.specs.Looked.{AuditLooksAt, WantedLooksAt};
+ghost use Rattle.auditcommand.specs.Looked.{AuditCommandLooksAt, WantedLooksAt};
 ghost use Rattle.auditcommand.specs.Steps.{IsPrepared, IsPreparedAudit, IsWantedFault};
 
 use crate::arguments::{Format, Wanted, wanted_of};
@@ -96,7 +96,7 @@ fn answer_of<T: Tree, P: Progress>(
     ensures refused { IfErr result (IsAuditFault (T.agrees tree.new) (T.failures tree.old < T.failures tree.new)
         env (map string_bytes args.now)) }
     ensures failed { FailsWhere is_failure T.agrees T.failed tree.old tree.new result
-        (AuditLooksAt env (map string_bytes args.now)) }
+        (AuditCommandLooksAt env (map string_bytes args.now)) }
 {
     match wanted_of(alloc, args)? {
         None => Err(AuditFault::Refused(Refusal::BadArguments)),
@@ -151,7 +151,7 @@ pub fn run_audit<T: Tree, P: Progress, W: Write, E: Write>(
     ensures reads { ReadsOn T.agrees T.failures tree.old tree.new }
     ensures ended { EndsAudit result (T.agrees tree.new) (T.failures tree.old < T.failures tree.new)
         (λ fails. FailsIf fails (T.failed tree.old) (T.failed tree.new) (λ at.
-        InEachPair (T.agrees tree.new) (λ files listings. AuditLooksAt env (map string_bytes args.now) files listings at)))
+        InEachPair (T.agrees tree.new) (λ files listings. AuditCommandLooksAt env (map string_bytes args.now) files listings at)))
         env (map string_bytes args.now)
         (W.contents out.old) (W.contents out.new) (E.contents err.old) (E.contents err.new) }
 {

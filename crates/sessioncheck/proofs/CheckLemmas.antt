@@ -1,10 +1,11 @@
 -- A check, of the session of its lines and the verdicts on what that loaded.
-use Rattle.std.proofs.Common.{◌≡◌, ℕ, ◌+◌, ◌<◌, ◌≤◌, List, arith, inl, inr, sym, subst, ap, ◌∙◌}
+use Rattle.std.proofs.Common.{◌≡◌, ℕ, Bool, ◌+◌, ◌<◌, ◌≤◌, List, arith, inl, inr, sym, subst, ap, ◌∙◌}
 use Rattle.std.specs.List.{flat_map}
 use Rattle.envvars.specs.Texts.{Text}
 use Rattle.envvars.specs.Environment.{Environment}
 use Rattle.envvars.specs.Fields.{without_repeats}
-use Rattle.filetree.specs.Agreement.{Files, Listings, InEachPair, Narrows}
+use Rattle.filetree.specs.Agreement.{FailsOnlyWhere, Files, Listings, InEachPair, Narrows}
+use Rattle.filetree.proofs.FailedPaths.{only_then_in_each, only_wider_in_each}
 use Rattle.shells.specs.declared.shell.Shell.{Shell}
 use Rattle.shells.specs.declared.shell.Shell.TheVariants.{Sh}
 use Rattle.tclrules.specs.declared.limits.Limits.{Limits}
@@ -49,16 +50,41 @@ checked agrees agrees' before mid now limits shell e from text lines names f nar
 
 -- ---- where a check looks
 
-pub looks_by_lines : (s : RequestContext) (from e : Environment) (lines lines' : List (List Text)) (at : Text) → from ≡ e → lines ≡ lines' → LinesLookAt s from lines at → CheckLooksAt s e lines' at
+looks_by_lines : (s : RequestContext) (from e : Environment) (lines lines' : List (List Text)) (at : Text) → from ≡ e → lines ≡ lines' → LinesLookAt s from lines at → CheckLooksAt s e lines' at
 looks_by_lines s from e lines lines' at same made h =
     let P : List (List Text) → Type 0 = λ xs. LinesLookAt s from xs at in
     let Q : Environment → Type 0 = λ x. LinesLookAt s x lines' at in
     inl (subst Q same (subst P made h))
 
-pub looks_by_names : (s : RequestContext) (from e : Environment) (lines lines' : List (List Text)) (names : List Text) (outcomes : List Outcome) (at : Text) → from ≡ e → lines ≡ lines'
+looks_by_names : (s : RequestContext) (from e : Environment) (lines lines' : List (List Text)) (names : List Text) (outcomes : List Outcome) (at : Text) → from ≡ e → lines ≡ lines'
     → LineSession s from lines (responses from outcomes) → names ≡ without_repeats (flat_map loaded_in outcomes) → NamesLookAt (in_shell s Sh) e names at → CheckLooksAt s e lines' at
 looks_by_names s from e lines lines' names outcomes at same made ran named h =
     let P : List (List Text) → Type 0 = λ xs. LineSession s from xs (responses from outcomes) in
     let Q : Environment → Type 0 = λ x. LineSession s x lines' (responses x outcomes) in
     let N : List Text → Type 0 = λ ns. NamesLookAt (in_shell s Sh) e ns at in
-    inr (responses e outcomes, (subst Q same (subst P made ran), subst N (named ∙ ap without_repeats (sym (names_of_responses e outcomes))) h))
+    inr (responses e outcomes, subst Q same (subst P made ran), subst N (named ∙ ap without_repeats (sym (names_of_responses e outcomes))) h)
+
+-- where the device has failed after the lines
+pub lines_fail : (agrees : Files → Listings → Type 0) (before now : List ℕ → Bool) (limits : Limits) (shell : Shell) (from e : Environment) (text : Text) (lines : List (List Text)) → from ≡ e → lines ≡ lines_in text
+    → FailsOnlyWhere before now (λ at. InEachPair agrees (λ files listings. LinesLookAt (request_context_in limits shell files listings) from lines at))
+    → FailsOnlyWhere before now (λ at. InEachPair agrees (λ files listings. CheckLooksAt (request_context_in limits shell files listings) e (lines_in text) at))
+lines_fail agrees before now limits shell from e text lines same made =
+    let Here : Files → Listings → Text → Type 0 = λ files listings at. LinesLookAt (request_context_in limits shell files listings) from lines at in
+    let Whole : Files → Listings → Text → Type 0 = λ files listings at. CheckLooksAt (request_context_in limits shell files listings) e (lines_in text) at in
+    only_wider_in_each agrees before now Here Whole (λ files listings agreed at h. looks_by_lines (request_context_in limits shell files listings) from e lines (lines_in text) at same made h)
+
+-- and after the verdicts on what they loaded
+pub check_fails : (agrees agrees' : Files → Listings → Type 0) (before mid now : List ℕ → Bool) (limits : Limits) (shell : Shell) (from e : Environment) (text : Text) (lines : List (List Text)) (names : List Text) (outcomes : List Outcome)
+    → Narrows agrees agrees' → from ≡ e → lines ≡ lines_in text
+    → InEachPair agrees (λ files listings. LineSession (request_context_in limits shell files listings) from lines (responses from outcomes)) → names ≡ without_repeats (flat_map loaded_in outcomes)
+    → FailsOnlyWhere before mid (λ at. InEachPair agrees (λ files listings. LinesLookAt (request_context_in limits shell files listings) from lines at))
+    → FailsOnlyWhere mid now (λ at. InEachPair agrees' (λ files listings. NamesLookAt (request_context_in limits Sh files listings) e names at))
+    → FailsOnlyWhere before now (λ at. InEachPair agrees' (λ files listings. CheckLooksAt (request_context_in limits shell files listings) e (lines_in text) at))
+check_fails agrees agrees' before mid now limits shell from e text lines names outcomes narrows same made ran named first second =
+    let Here : Files → Listings → Text → Type 0 = λ files listings at. NamesLookAt (request_context_in limits Sh files listings) e names at in
+    let Whole : Files → Listings → Text → Type 0 = λ files listings at. CheckLooksAt (request_context_in limits shell files listings) e (lines_in text) at in
+    only_then_in_each agrees agrees' before mid now Whole narrows (lines_fail agrees before mid limits shell from e text lines same made first)
+    (only_wider_in_each agrees' mid now Here Whole
+    (λ files listings agreed at h.
+    looks_by_names (request_context_in limits shell files listings) from e lines (lines_in text) names outcomes at same made (ran files listings (narrows files listings agreed)) named h)
+    second)

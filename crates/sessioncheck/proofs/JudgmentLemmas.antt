@@ -1,11 +1,13 @@
 -- Verdicts one after another, and the names that are judged.
-use Rattle.std.proofs.Common.{◌≡◌, ℕ, ◌+◌, ◌<◌, ◌≤◌, List, [], ◌∷◌, ◌++◌, length, take, get_or, Bor, string_bytes, Result, Ok, Err, refl, sym, subst, ap, ◌∙◌, arith}
+use Rattle.std.proofs.Common.{◌≡◌, ℕ, Bool, ◌+◌, ◌<◌, ◌≤◌, List, [], ◌∷◌, ◌++◌, length, take, get_or, Bor, string_bytes, Result, Ok, Err, refl, sym, subst, ap, ◌∙◌, arith}
 use Rattle.std.proofs.lemmas.List.{get_or-map, length-map, map-append, take_more}
 use Rattle.std.specs.List.{Any, flat_map}
 use Rattle.envvars.specs.Texts.{Text, slice_texts, texts_in}
 use Rattle.envvars.specs.Environment.{Environment}
-use Rattle.filetree.specs.Agreement.{Files, Listings, InEachPair, Narrows}
+use Rattle.filetree.specs.Agreement.{FailsOnlyWhere, Files, Listings, InEachPair, Narrows}
+use Rattle.filetree.proofs.FailedPaths.{only_then_in_each, only_wider_in_each}
 use Rattle.filetree.specs.Causes.{Cause, Applies, memory, device, because}
+use Rattle.requests.specs.Looked.{SearchLooksAt}
 use Rattle.requests.specs.Moves.{Move, Loads, Unloads, loaded_names}
 use Rattle.tclrules.specs.declared.limits.Limits.{Limits}
 use Rattle.requests.specs.Reasons.{RequestReason}
@@ -20,7 +22,7 @@ use Rattle.modules.specs.Responses.{by_cause, count_cause, response_of, response
 use Rattle.modules.specs.declared.sessions.Outcome.{Outcome}
 use Rattle.modules.specs.declared.sessions.Outcome.TheVariants.{Accepted, Refused}
 use Rattle.modules.specs.Messages.{number_of}
-use Rattle.sessioncheck.specs.Judgments.{IsJudgment, AreJudgments, count_failed_judgments, count_unjudged}
+use Rattle.sessioncheck.specs.Judgments.{IsJudgment, AreJudgments, NamesLookAt, count_failed_judgments, count_unjudged}
 use Rattle.sessioncheck.specs.Parts.{loaded_in}
 use Rattle.sessioncheck.specs.declared.judging.Judgment.{Judgment}
 
@@ -116,7 +118,19 @@ pub named_at : (names : List (Bor Text)) (i : ℕ) (d : Bor Text) (P : Text → 
 named_at names i d P below p =
     let text : Bor Text → Text = λ x. x.now in
     let In : ℕ → Type 0 = λ n. i < n in
-    (i, (get_or names i d).now, subst In (sym (length-map names text)) below, sym (get_or-map text names i d (get_or names i d).now below), p)
+    (i, (get_or names i d).now, subst In (sym (length-map names text)) below, get_or-map text names i d (get_or names i d).now below, p)
+
+-- where the device has failed after the search for one name more
+pub names_fail : (agrees agrees' : Files → Listings → Type 0) (before mid now : List ℕ → Bool) (limits : Limits) (e : Environment) (names : List (Bor Text)) (i : ℕ) (d : Bor Text)
+    → Narrows agrees agrees' → i < length names
+    → FailsOnlyWhere before mid (λ at. InEachPair agrees (λ files listings. NamesLookAt (in_sh limits files listings) e (slice_texts names) at))
+    → FailsOnlyWhere mid now (λ at. InEachPair agrees' (λ files listings. SearchLooksAt (in_sh limits files listings) e (get_or names i d).now at))
+    → FailsOnlyWhere before now (λ at. InEachPair agrees' (λ files listings. NamesLookAt (in_sh limits files listings) e (slice_texts names) at))
+names_fail agrees agrees' before mid now limits e names i d narrows below first second =
+    let Whole : Files → Listings → Text → Type 0 = λ files listings at. NamesLookAt (in_sh limits files listings) e (slice_texts names) at in
+    let Here : Files → Listings → Text → Type 0 = λ files listings at. SearchLooksAt (in_sh limits files listings) e (get_or names i d).now at in
+    only_then_in_each agrees agrees' before mid now Whole narrows first
+    (only_wider_in_each agrees' mid now Here Whole (λ files listings agreed at h. named_at names i d (λ n. SearchLooksAt (in_sh limits files listings) e n at) below h) second)
 
 -- a judgment of a name that was copied
 pub judged_name : (agrees : Files → Listings → Type 0) (failed failed' : Type 0) (limits : Limits) (e : Environment) (name : Text) (j : Judgment)

@@ -6,7 +6,7 @@ use Rattle.filetree.specs.Agreement.{InEachPair}
 use Rattle.search.proofs.FailureLemmas.{fails_then}
 use Rattle.auditcommand.specs.Audits.{has_colon}
 use Rattle.auditcommand.specs.Faults.{is_failure}
-use Rattle.auditcommand.specs.Looked.{LooksInTurn}
+use Rattle.auditcommand.specs.Looked.{DirectoriesLookAt}
 use Rattle.auditcommand.proofs.DirectoryLemmas.{reads_more, fails_later, directory_more, fault_among, looks_in_turn}
 use Rattle.auditcommand.proofs.directories.judge_directories.Goals as goal
 
@@ -42,7 +42,7 @@ returns-in_err-judge_directory-clause-failed g c =
     let agrees = g.T.Tree.agrees c.judge_directory.new.tree in
     let word = string_bytes c.dir-item.result in
     rw (p.1, p.2) (fails_then fails fails (g.T.Tree.failed c.args.tree.now) (g.T.Tree.failed c.loop-dir.tree) (g.T.Tree.failed c.judge_directory.new.tree) (λ at. (at ≡ word) × (has_colon word ≡ false))
-    (λ at. InEachPair agrees (λ files listings. LooksInTurn listings (map (λ (s : String Global). string_bytes s) c.args.dirs.now) at)) c.loop-dir.invariant.unfailed refl
+    (λ at. InEachPair agrees (λ files listings. DirectoriesLookAt listings (map (λ (s : String Global). string_bytes s) c.args.dirs.now) at)) c.loop-dir.invariant.unfailed refl
     (λ at h. looks_in_turn (g.T.Tree.agrees c.loop-dir.tree) agrees c.args.dirs.now c.loop-dir.dir-index c.dir-item.result at c.loop-dir-test.true c.dir-item.is c.in_err-judge_directory.ensures.reads.narrows
     c.loop-dir.invariant.there h) (rw c.as_str.ensures.value at c.in_err-judge_directory.ensures.failed))
 

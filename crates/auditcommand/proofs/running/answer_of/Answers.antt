@@ -7,7 +7,7 @@ use Rattle.modulestep.specs.declared.refusal.Refusal.TheVariants.{OutOfMemory}
 use Rattle.auditcommand.specs.ArgumentViews.{wanted_view}
 use Rattle.auditcommand.specs.Audits.{IsAuditFault, unknown_option, given_up}
 use Rattle.auditcommand.specs.Faults.{is_failure}
-use Rattle.auditcommand.specs.Looked.{AuditLooksAt, WantedLooksAt}
+use Rattle.auditcommand.specs.Looked.{AuditCommandLooksAt, WantedLooksAt}
 use Rattle.auditcommand.specs.Steps.{IsWantedFault}
 use Rattle.auditcommand.specs.declared.arguments.Wanted.{Wanted}
 use Rattle.auditcommand.proofs.AuditLemmas.{fault_of_wanted, if_err_so}
@@ -38,5 +38,5 @@ returns-in-Some-clause-failed g c =
     let wanted = wanted_view c.in-Some.wanted in
     let asked = sym c.in_ok-wanted_of.ensures ∙ ap (λ (o : Option Wanted). option_map wanted_view o) c.in-Some.is in
     fails_last is_failure (g.T.Tree.failed c.args.tree.now) (g.T.Tree.failed c.args.tree.now) (g.T.Tree.failed c.audit_wanted.new.tree) c.audit_wanted.result
-    (λ at. InEachPair agrees (λ files listings. WantedLooksAt c.args.env wanted files listings at)) (λ at. InEachPair agrees (λ files listings. AuditLooksAt c.args.env arguments files listings at)) refl
+    (λ at. InEachPair agrees (λ files listings. WantedLooksAt c.args.env wanted files listings at)) (λ at. InEachPair agrees (λ files listings. AuditCommandLooksAt c.args.env arguments files listings at)) refl
     (λ at h files listings a. (wanted, asked, h files listings a)) c.audit_wanted.ensures.failed

@@ -8,7 +8,7 @@ use Rattle.modulecmd.specs.Command.{standard}
 use Rattle.auditcommand.specs.ArgumentViews.{wanted_view}
 use Rattle.auditcommand.specs.Audits.{judged_site}
 use Rattle.auditcommand.specs.Faults.{is_failure, of_walk}
-use Rattle.auditcommand.specs.Looked.{LooksInTurn, WantedLooksAt}
+use Rattle.auditcommand.specs.Looked.{DirectoriesLookAt, WantedLooksAt}
 use Rattle.auditcommand.proofs.AuditLemmas.{cause_in}
 use Rattle.auditcommand.proofs.DirectoryLemmas.{all_there, are_in, fails_later, unfailed_without, walked_failure}
 use Rattle.auditcommand.proofs.running.audit_wanted.Goals as goal
@@ -52,7 +52,7 @@ returns-in_err-judge_directories-clause-failed g c =
     let agrees = g.T.Tree.agrees c.judge_directories.new.tree in
     let p = err_from_is_err_and c.from_residual.result c.from_residual.ensures.1 in
     rw (p.1, p.2) (fails_then fails fails (g.T.Tree.failed c.args.tree.now) (g.T.Tree.failed c.args.tree.now) (g.T.Tree.failed c.judge_directories.new.tree)
-    (λ at. InEachPair agrees (λ files listings. LooksInTurn listings wanted.directories at)) (λ at. InEachPair agrees (λ files listings. WantedLooksAt c.args.env wanted files listings at)) refl refl
+    (λ at. InEachPair agrees (λ files listings. DirectoriesLookAt listings wanted.directories at)) (λ at. InEachPair agrees (λ files listings. WantedLooksAt c.args.env wanted files listings at)) refl refl
     (λ at h files listings a. inl (h files listings a)) (rw c.as_slice.ensures.value at c.in_err-judge_directories.ensures.failed))
 
 pub returns-in_err-judged-clause-failed : goal.returns-in_err-judged-clause-failed

@@ -2,11 +2,8 @@ use Rattle.std.proofs.Common.{map, ap, ◌∙◌}
 use Rattle.std.specs.List.{flat_map}
 use Rattle.envvars.specs.Fields.{without_repeats}
 use Rattle.envvars.specs.Texts.{texts_in}
-use Rattle.filetree.proofs.FailedPaths.{only_then_in_each, only_wider_in_each}
-use Rattle.requests.specs.Steps.{request_context_in}
-use Rattle.sessioncheck.specs.Lines.{lines_in}
 use Rattle.sessioncheck.specs.Parts.{loaded_in}
-use Rattle.sessioncheck.proofs.CheckLemmas.{checked, looks_by_lines, looks_by_names}
+use Rattle.sessioncheck.proofs.CheckLemmas.{check_fails, checked, lines_fail}
 use Rattle.sessioncheck.proofs.checking.check.Goals as goal
 
 pub returns-clause-checked : goal.returns-clause-checked
@@ -21,19 +18,19 @@ returns-clause-checked g c =
     (ap (map texts_in) c.as_slice.ensures.value ∙ c.in_ok-lines.ensures) c.in_ok-outcomes.ensures.ran c.in_ok-outcomes.ensures.end
     (ap (λ xs. without_repeats (flat_map loaded_in xs)) c.as_slice-2.ensures.value) c.in_ok-judgments.ensures.judged
 
+pub returns-in_err-outcomes-clause-failed : goal.returns-in_err-outcomes-clause-failed
+returns-in_err-outcomes-clause-failed g c =
+    lines_fail _ _ _ c.args.limits c.args.shell c.in-Ok.after c.args.env.now c.args.text.now (map texts_in c.as_slice.result.now) c.in-Ok.ensures.ok
+    (ap (map texts_in) c.as_slice.ensures.value ∙ c.in_ok-lines.ensures) c.run_lines.ensures.failed
+
+pub returns-in_err-judgments-clause-failed : goal.returns-in_err-judgments-clause-failed
+returns-in_err-judgments-clause-failed g c =
+    check_fails _ _ _ _ _ c.args.limits c.args.shell c.in-Ok.after c.args.env.now c.args.text.now (map texts_in c.as_slice.result.now) (without_repeats (flat_map loaded_in c.as_slice-2.result.now)) c.in_ok-outcomes.outcomes.items
+    c.judge_loaded.ensures.reads.narrows c.in-Ok.ensures.ok (ap (map texts_in) c.as_slice.ensures.value ∙ c.in_ok-lines.ensures) c.in_ok-outcomes.ensures.ran
+    (ap (λ xs. without_repeats (flat_map loaded_in xs)) c.as_slice-2.ensures.value) c.run_lines.ensures.failed c.judge_loaded.ensures.failed
+
 pub returns-clause-failed : goal.returns-clause-failed
 returns-clause-failed g c =
-    let e = c.args.env.now in
-    let made = ap (map texts_in) c.as_slice.ensures.value ∙ c.in_ok-lines.ensures in
-    only_then_in_each _ _ _ _ _ _ c.judge_loaded.ensures.reads.narrows
-    (only_wider_in_each _ _ _ _ _
-    (λ files listings agreed at h.
-    looks_by_lines (request_context_in c.args.limits c.args.shell files listings) c.in-Ok.after e (map texts_in c.as_slice.result.now) (lines_in c.args.text.now) at c.in-Ok.ensures.ok made h)
-    c.run_lines.ensures.failed)
-    (only_wider_in_each _ _ _ _ _
-    (λ files listings agreed at h.
-    looks_by_names (request_context_in c.args.limits c.args.shell files listings) c.in-Ok.after e (map texts_in c.as_slice.result.now) (lines_in c.args.text.now)
-    (without_repeats (flat_map loaded_in c.as_slice-2.result.now)) c.in_ok-outcomes.outcomes.items at c.in-Ok.ensures.ok made
-    (c.in_ok-outcomes.ensures.ran files listings (c.judge_loaded.ensures.reads.narrows files listings agreed))
-    (ap (λ xs. without_repeats (flat_map loaded_in xs)) c.as_slice-2.ensures.value) h)
-    c.judge_loaded.ensures.failed)
+    check_fails _ _ _ _ _ c.args.limits c.args.shell c.in-Ok.after c.args.env.now c.args.text.now (map texts_in c.as_slice.result.now) (without_repeats (flat_map loaded_in c.as_slice-2.result.now)) c.in_ok-outcomes.outcomes.items
+    c.judge_loaded.ensures.reads.narrows c.in-Ok.ensures.ok (ap (map texts_in) c.as_slice.ensures.value ∙ c.in_ok-lines.ensures) c.in_ok-outcomes.ensures.ran
+    (ap (λ xs. without_repeats (flat_map loaded_in xs)) c.as_slice-2.ensures.value) c.run_lines.ensures.failed c.judge_loaded.ensures.failed

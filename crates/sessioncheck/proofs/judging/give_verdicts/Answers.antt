@@ -1,12 +1,10 @@
 use Rattle.std.proofs.Common.{◌≡◌, ◌+◌, ◌<◌, ◌≤◌, List, [], ◌∷◌, ◌++◌, take, string_bytes, arith, sym, subst}
 use Rattle.std.proofs.lemmas.List.{take_all}
 use Rattle.envvars.specs.Texts.{Text, slice_texts}
-use Rattle.filetree.proofs.FailedPaths.{only_at, only_then_in_each, only_wider_in_each}
-use Rattle.requests.specs.Looked.{SearchLooksAt}
-use Rattle.modules.specs.Verdicts.{in_sh}
+use Rattle.filetree.proofs.FailedPaths.{only_at}
 use Rattle.sessioncheck.specs.Judgments.{AreJudgments, count_failed_judgments}
 use Rattle.sessioncheck.specs.declared.judging.Judgment.{Judgment}
-use Rattle.sessioncheck.proofs.JudgmentLemmas.{below_more, failures_more, judged_name, judgments_narrowed, judgments_push, more_below, named_at, named_so_far, verdict_counts}
+use Rattle.sessioncheck.proofs.JudgmentLemmas.{below_more, failures_more, judged_name, judgments_narrowed, judgments_push, more_below, named_so_far, names_fail, verdict_counts}
 use Rattle.sessioncheck.proofs.judging.give_verdicts.Goals as goal
 
 pub loop-name-preserved : goal.loop-name-preserved
@@ -39,13 +37,19 @@ loop-name-preserved g c =
           (judged_name agrees (was < is) (first < is) c.args.limits c.args.env.now _ judgment c.in_ok-full_name.ensures.ok
           (λ h. below_more first was is c.loop-name.invariant.reads.counts_failures h) c.verdict-answer.ensures.judged)));
       failed =
-          only_then_in_each _ _ _ _ _ _ c.verdict-answer.ensures.reads.narrows c.loop-name.invariant.failed
-          (only_wider_in_each _ _ _ _ _
-          (λ files listings agreed at h.
-          let Looks : Text → Type 0 = λ n. SearchLooksAt (in_sh c.args.limits files listings) c.args.env.now n at in
-          named_at names i _ Looks c.loop-name-test.true h)
-          (only_at _ _ _ c.verdict-answer.result _ c.verdict-answer.ensures.failed));
+          names_fail _ _ _ _ _ c.args.limits c.args.env.now c.args.names.now c.loop-name.name-index _ c.verdict-answer.ensures.reads.narrows c.loop-name-test.true c.loop-name.invariant.failed
+          (only_at _ _ _ c.verdict-answer.result _ c.verdict-answer.ensures.failed);
     }
 
 pub returns-clause-judged : goal.returns-clause-judged
 returns-clause-judged g c = rw (take_all c.loop-name.name-index c.args.names.now c.loop-name-test.false) at c.loop-name.invariant.judged
+
+pub returns-in_err-full_name-clause-failed : goal.returns-in_err-full_name-clause-failed
+returns-in_err-full_name-clause-failed g c =
+    names_fail _ _ _ _ _ c.args.limits c.args.env.now c.args.names.now c.loop-name.name-index _ c.verdict-answer.ensures.reads.narrows c.loop-name-test.true c.loop-name.invariant.failed
+    (only_at _ _ _ c.verdict-answer.result _ c.verdict-answer.ensures.failed)
+
+pub returns-in_err-push-clause-failed : goal.returns-in_err-push-clause-failed
+returns-in_err-push-clause-failed g c =
+    names_fail _ _ _ _ _ c.args.limits c.args.env.now c.args.names.now c.loop-name.name-index _ c.verdict-answer.ensures.reads.narrows c.loop-name-test.true c.loop-name.invariant.failed
+    (only_at _ _ _ c.verdict-answer.result _ c.verdict-answer.ensures.failed)
