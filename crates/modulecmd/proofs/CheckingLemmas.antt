@@ -1,18 +1,25 @@
 -- How a check ended, and the causes of its faults.
-use Rattle.std.proofs.Common.{◌≡◌, ℕ, List, [], Bool, true, false, Option, String, string_bytes, refl, sym, subst}
+use Rattle.std.proofs.Common.{◌≡◌, ℕ, List, [], Bool, true, false, Ok, Option, String, string_bytes, refl, sym, subst}
 use Rattle.std.proofs.Common.{inl, inr}
 use Rattle.std.proofs.lemmas.Str.{IsUtf8-string_bytes, is_utf8-from_IsUtf8}
 use Rattle.std.specs.declared.alloc.Global.{Global}
 use Rattle.std.specs.Str.{is_utf8}
 use Rattle.envvars.specs.Texts.{Text}
 use Rattle.envvars.specs.Environment.{Environment}
-use Rattle.filetree.specs.Agreement.{Files, Listings}
+use Rattle.filetree.specs.Agreement.{FailsOnlyWhere, Files, InEachPair, Listings}
+use Rattle.filetree.proofs.FailedPaths.{only_wider_in_each}
+use Rattle.processinput.specs.Inputs.{ReadsAll}
+use Rattle.requests.specs.Steps.{request_context_in}
+use Rattle.sessioncheck.specs.Checks.{CheckLooksAt}
+use Rattle.sessioncheck.specs.Lines.{lines_in}
 use Rattle.sessioncheck.specs.Reports.{report_of}
 use Rattle.modulecmd.specs.declared.checking.PreparedCheck.{PreparedCheck}
 use Rattle.modulecmd.specs.declared.command_exit.Exit.{Exit}
 use Rattle.modulecmd.specs.declared.command_exit.Exit.TheVariants.{Success, Reported, CutShort}
 use Rattle.modulecmd.specs.declared.command_fault.CommandFault.{CommandFault}
-use Rattle.modulecmd.specs.Checking.{EndsCheck, IsCheckFault, ShowsWhetherAccepted, writing_of}
+use Rattle.shells.specs.declared.shell.Shell.{Shell}
+use Rattle.modulecmd.specs.Checking.{CheckOfInputLooksAt, EndsCheck, IsCheckFault, ShowsWhetherAccepted, shell_of, writing_of}
+use Rattle.modulecmd.specs.Command.{standard}
 use Rattle.modulecmd.specs.CheckWords.{IsPreparedCheck, exit_of}
 use Rattle.modulecmd.specs.Output.{FinishesWriting, WritesFault}
 use Rattle.modulecmd.proofs.WriterLemmas.{keeps_same}
@@ -60,3 +67,13 @@ pub refused : (exit : Exit) (agrees : Files → Listings → Type 0) (before now
 refused exit agrees before now e arguments input input' out err err' fault is h =
     let Tells : Exit → Type 0 = λ x. WritesFault x err err' [] fault in
     inr (fault, is, (keeps_same out, subst Tells (sym (writes_so exit false)) h))
+
+-- where the device has failed: the check of all that the input gives looks there
+pub input_fails : (agrees : Files → Listings → Type 0) (before now : List ℕ → Bool) (e : Environment) (arguments : List Text) (input input' : Option Text) (shell : Shell) (text : Text)
+    → shell_of arguments ≡ Ok shell → ReadsAll input input' text
+    → FailsOnlyWhere before now (λ at. InEachPair agrees (λ files listings. CheckLooksAt (request_context_in standard shell files listings) e (lines_in text) at))
+    → FailsOnlyWhere before now (λ at. InEachPair agrees (λ files listings. CheckOfInputLooksAt arguments input input' e files listings at))
+input_fails agrees before now e arguments input input' shell text named given =
+    let Here : Files → Listings → Text → Type 0 = λ files listings at. CheckLooksAt (request_context_in standard shell files listings) e (lines_in text) at in
+    let Whole : Files → Listings → Text → Type 0 = λ files listings at. CheckOfInputLooksAt arguments input input' e files listings at in
+    only_wider_in_each agrees before now Here Whole (λ files listings agreed at h. (shell, text, named, given, h))

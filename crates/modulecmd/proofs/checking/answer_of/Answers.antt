@@ -4,7 +4,7 @@ use Rattle.std.specs.declared.alloc.Global.{Global}
 use Rattle.envvars.specs.Changes.{new_values_in}
 use Rattle.modulecmd.specs.Checking.{IsUnnamed, CheckLacksText}
 use Rattle.modulecmd.proofs.CommandLemmas.{unprinted}
-use Rattle.modulecmd.proofs.CheckingLemmas.{readable}
+use Rattle.modulecmd.proofs.CheckingLemmas.{input_fails, readable}
 use Rattle.modulecmd.proofs.checking.answer_of.Goals as goal
 
 pub returns-in_err-text-clause-refused : goal.returns-in_err-text-clause-refused
@@ -51,3 +51,28 @@ returns-clause-answered g c = record {
   report = c.in_ok-report.ensures;
   accepted = c.is_accepted.ensures;
 }
+
+pub returns-in_err-found-clause-failed : goal.returns-in_err-found-clause-failed
+returns-in_err-found-clause-failed g c =
+    input_fails _ _ _ _ (map (λ (s : String Global). string_bytes s) c.args.args.now) _ _ c.in_ok-shell.shell (string_bytes c.in_ok-lines.lines) c.in_ok-shell.ensures.named c.in_ok-lines.ensures.given
+    (rw c.as_str.ensures.value at c.check.ensures.failed)
+
+pub returns-in_err-difference-clause-failed : goal.returns-in_err-difference-clause-failed
+returns-in_err-difference-clause-failed g c =
+    input_fails _ _ _ _ (map (λ (s : String Global). string_bytes s) c.args.args.now) _ _ c.in_ok-shell.shell (string_bytes c.in_ok-lines.lines) c.in_ok-shell.ensures.named c.in_ok-lines.ensures.given
+    (rw c.as_str.ensures.value at c.check.ensures.failed)
+
+pub returns-in_err-text-clause-failed : goal.returns-in_err-text-clause-failed
+returns-in_err-text-clause-failed g c =
+    input_fails _ _ _ _ (map (λ (s : String Global). string_bytes s) c.args.args.now) _ _ c.in_ok-shell.shell (string_bytes c.in_ok-lines.lines) c.in_ok-shell.ensures.named c.in_ok-lines.ensures.given
+    (rw c.as_str.ensures.value at c.check.ensures.failed)
+
+pub returns-in_err-report-clause-failed : goal.returns-in_err-report-clause-failed
+returns-in_err-report-clause-failed g c =
+    input_fails _ _ _ _ (map (λ (s : String Global). string_bytes s) c.args.args.now) _ _ c.in_ok-shell.shell (string_bytes c.in_ok-lines.lines) c.in_ok-shell.ensures.named c.in_ok-lines.ensures.given
+    (rw c.as_str.ensures.value at c.check.ensures.failed)
+
+pub returns-clause-failed : goal.returns-clause-failed
+returns-clause-failed g c =
+    input_fails _ _ _ _ (map (λ (s : String Global). string_bytes s) c.args.args.now) _ _ c.in_ok-shell.shell (string_bytes c.in_ok-lines.lines) c.in_ok-shell.ensures.named c.in_ok-lines.ensures.given
+    (rw c.as_str.ensures.value at c.check.ensures.failed)
