@@ -5,7 +5,7 @@ use Rattle.filetree.specs.Agreement.{HaveSamePrefix}
 use Rattle.filetree.specs.Names.{names_of, has_name}
 use Rattle.filetree.specs.Prefixes.{prefix_bytes}
 use Rattle.filetree.specs.Systems as systems
-use Rattle.filetree.specs.Systems.{Answers, IsLooked, IsFileThere, IsBeginningThere, AreEntriesThere, IsFault, IsHiddenAndAbsent}
+use Rattle.filetree.specs.Systems.{Answers, IsLooked, IsFileThere, IsBeginningThere, AreEntriesThere, IsFault, IsHiddenAndAbsent, WasFile}
 use Rattle.filetree.specs.declared.known.Known.{Known}
 use Rattle.filetree.specs.declared.known.Known.TheVariants as known
 use Rattle.filetree.specs.declared.look.PathKind.{PathKind}
@@ -69,13 +69,14 @@ is_unlisted (known.WholeFile bytes) = false
 is_unlisted known.Directory = true
 is_unlisted (known.Listing names) = false
 
--- What is known is made of answers of the system about the path.
+-- What is known is made of answers of the system about the path. What was read was shown to be a file before, since opening
+-- a pipe or a device can wait without end.
 abbrev pub IsAnswered : Answers → List ℕ → Known → Type 0
 IsAnswered Answered path known.Neither =
     ((kind : PathKind) × IsLooked Answered path (Ok kind) × (systems.is_file kind ≡ false) × (systems.is_directory kind ≡ false))
     ⊎ IsHiddenAndAbsent Answered path
-IsAnswered Answered path (known.File prefix) = IsBeginningThere Answered path prefix.size (prefix_bytes prefix)
-IsAnswered Answered path (known.WholeFile bytes) = IsFileThere Answered path (vec_items bytes)
+IsAnswered Answered path (known.File prefix) = WasFile Answered path × IsBeginningThere Answered path prefix.size (prefix_bytes prefix)
+IsAnswered Answered path (known.WholeFile bytes) = WasFile Answered path × IsFileThere Answered path (vec_items bytes)
 IsAnswered Answered path known.Directory = IsLooked Answered path (Ok path_kinds.Directory)
 IsAnswered Answered path (known.Listing names) = AreEntriesThere Answered path (string_bytes names.text)
 

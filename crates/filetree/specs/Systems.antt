@@ -91,11 +91,11 @@ abbrev pub IsFileThere : Answers → List ℕ → List ℕ → Type 0
 IsFileThere Answered path bytes =
     (there : Option (List ℕ)) × Answered path (file (Ok there)) × IfSome there (λ all. bytes ≡ all)
 
--- These are the first `size` bytes of such a file. Where none is wanted, it is enough that a file is there.
+-- These are the first `size` bytes of such a file. Where none is wanted, it need not be opened.
 abbrev pub IsBeginningThere : Answers → List ℕ → ℕ → List ℕ → Type 0
 IsBeginningThere Answered path size bytes =
     ((there : Option (List ℕ)) × Answered path (file (Ok there)) × IfSome there (λ all. bytes ≡ take size all))
-    ⊎ (IsLooked Answered path (Ok path_kinds.File) × (size ≡ 0) × (bytes ≡ []))
+    ⊎ ((size ≡ 0) × (bytes ≡ []))
 
 -- the path of a directory with a slash, by which it is opened
 abbrev pub slashed : List ℕ → List ℕ
@@ -120,11 +120,22 @@ abbrev pub IsHiddenAndAbsent : Answers → List ℕ → Type 0
 IsHiddenAndAbsent Answered path = (dir : List ℕ) × (name : List ℕ) × (names : List ℕ)
     × IsHiddenIn dir name path × AreEntriesThere Answered dir names × (has_name names name ≡ false)
 
--- The fault is one of an answer. Where something was opened, reading it can fail by any fault.
-abbrev pub IsFaultOf : Answer → TreeFault → Type 0
-IsFaultOf (found answer) fault = ShowsKind answer (Err fault)
-IsFaultOf (file answer) fault = IfErr answer (λ e. fault ≡ fault_of e)
-IsFaultOf (directory answer) fault = IfErr answer (λ e. fault ≡ fault_of e)
+-- The system said that a file is at the path.
+abbrev pub WasFile : Answers → List ℕ → Type 0
+WasFile Answered path = ∥ IsLooked Answered path (Ok path_kinds.File) ∥₁
+
+-- The system said that a directory is at the path, or opened it.
+abbrev pub WasDirectory : Answers → List ℕ → Type 0
+WasDirectory Answered dir =
+    ∥ IsLooked Answered dir (Ok path_kinds.Directory)
+    ⊎ ((there : Option (List ℕ)) × Answered (slashed dir) (directory (Ok there))) ∥₁
+
+-- The fault is one of an answer about the path. That something is not there is a fault only where it was. Where it was
+-- opened, reading it can fail by any fault.
+abbrev pub IsFaultOf : Answers → List ℕ → Answer → TreeFault → Type 0
+IsFaultOf Answered path (found answer) fault = ShowsKind answer (Err fault)
+IsFaultOf Answered path (file answer) fault = WasFile Answered path × IfErr answer (λ e. fault ≡ fault_of e)
+IsFaultOf Answered path (directory answer) fault = WasDirectory Answered path × IfErr answer (λ e. fault ≡ fault_of e)
 
 -- the path by which the system is asked
 abbrev pub asked_by : List ℕ → Answer → List ℕ
@@ -135,4 +146,5 @@ asked_by path (directory answer) = slashed path
 -- Why what is at a path is not known: an allocation failed, or it is the fault of an answer.
 abbrev pub IsFault : Answers → List ℕ → TreeFault → Type 0
 IsFault Answered path fault =
-    (fault ≡ faults.OutOfMemory) ⊎ ((answer : Answer) × Answered (asked_by path answer) answer × IsFaultOf answer fault)
+    (fault ≡ faults.OutOfMemory)
+    ⊎ ((answer : Answer) × Answered (asked_by path answer) answer × IsFaultOf Answered path answer fault)

@@ -1,7 +1,7 @@
 //! Asks the system for files and directories, and says what its answers make known of a path.
 ghost use Rattle.std.specs.Prelude.{◌≡◌, true, false, Ok, IfErr, IfOk};
 ghost use Rattle.filetree.specs.Known.{IsLoaded, SaysNoLess, has_directory, has_file, is_read_in_part, is_unlisted};
-ghost use Rattle.filetree.specs.Systems.{IsFault, IsFileThere, IsLooked, is_directory, is_file};
+ghost use Rattle.filetree.specs.Systems.{IsFault, IsFileThere, IsLooked, WasDirectory, WasFile, is_directory, is_file};
 
 use crate::known::Known;
 use crate::look::{PathKind, look};
@@ -11,8 +11,9 @@ use crate::system::System;
 use crate::tree::TreeFault;
 use std::io::Read;
 
-/// The whole file at a path.
+/// The whole file at a path where one was.
 fn read_file<S: System + AllocGlobal>(system: &S, path: &str) -> Result<Vec<u8>, TreeFault>
+    requires { WasFile (S.answers system.now) path.now }
     ensures bytes { IfOk result (λ bytes. IsFileThere (S.answers system.now) path.now bytes.items) }
     ensures fault { IfErr result (IsFault (S.answers system.now) path.now) }
 {
@@ -24,6 +25,7 @@ fn read_file<S: System + AllocGlobal>(system: &S, path: &str) -> Result<Vec<u8>,
 
 /// What is at a path where this is, whose file is read whole. Only a file is opened, since opening a pipe or a device
 /// can wait without end.
+#[tactic(auto, using(crate::proofs::WasThere::file_looked))]
 fn file_of_kind<S: System + AllocGlobal>(
     system: &S,
     path: &str,
@@ -59,6 +61,7 @@ pub(crate) fn load_rest<S: System + AllocGlobal>(
     path: &str,
     prefix: &Prefix,
 ) -> Result<Known, TreeFault>
+    requires { WasFile (S.answers system.now) path.now }
     ensures answered { IsLoaded (S.answers system.now) path.now result }
     ensures whole { IfOk result (λ known. is_read_in_part known ≡ false) }
     ensures same_prefix { IfOk result (λ known. SaysNoLess known (Known.File prefix.now)) }
@@ -71,13 +74,14 @@ pub(crate) fn load_rest<S: System + AllocGlobal>(
     }
 }
 
-/// The file at a path, of which the first `size` bytes are read. One that is shorter is read whole, and so is one of which
-/// more is asked for than is kept as a prefix.
+/// The file at a path where one was, of which the first `size` bytes are read. One that is shorter is read whole, and so
+/// is one of which more is asked for than is kept as a prefix.
 fn start_of_file<S: System + AllocGlobal>(
     system: &S,
     path: &str,
     size: usize,
 ) -> Result<Known, TreeFault>
+    requires { WasFile (S.answers system.now) path.now }
     ensures answered { IsLoaded (S.answers system.now) path.now result }
     ensures file { IfOk result (λ known. has_file known ≡ true) }
     ensures directory { IfOk result (λ known. has_directory known ≡ false) }
@@ -92,6 +96,7 @@ fn start_of_file<S: System + AllocGlobal>(
 
 /// What is at a path where this is, of whose file the first `size` bytes are read; more than are kept as a prefix are not
 /// read without the rest.
+#[tactic(auto, using(crate::proofs::WasThere::file_looked))]
 fn prefix_of_kind<S: System + AllocGlobal>(
     system: &S,
     path: &str,
@@ -137,8 +142,9 @@ pub(crate) fn load_likely_directory<S: System + AllocGlobal>(
     }
 }
 
-/// The directory at a path, with its names.
+/// The directory at a path where one was, with its names.
 pub(crate) fn load_names<S: System + AllocGlobal>(system: &S, dir: &str) -> Result<Known, TreeFault>
+    requires { WasDirectory (S.answers system.now) dir.now }
     ensures answered { IsLoaded (S.answers system.now) dir.now result }
     ensures directory { IfOk result (λ known. SaysNoLess known Known.Directory) }
     ensures listed { IfOk result (λ known. is_unlisted known ≡ false) }
@@ -147,6 +153,7 @@ pub(crate) fn load_names<S: System + AllocGlobal>(system: &S, dir: &str) -> Resu
 }
 
 /// What is at a path where this is, whose directory is listed. Of a file nothing is read.
+#[tactic(auto, using(crate::proofs::WasThere::directory_looked, crate::proofs::WasThere::file_looked))]
 fn listing_of_kind<S: System + AllocGlobal>(
     system: &S,
     dir: &str,

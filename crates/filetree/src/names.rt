@@ -1,9 +1,10 @@
 //! The names in a directory, read from the system and kept as one text.
-ghost use Rattle.std.specs.Prelude.{◌≡◌, [], map, string_bytes, true, IfErr, IfOk, IfSome};
+ghost use Rattle.std.specs.Prelude.{◌≡◌, [], false, map, string_bytes, true, IfErr, IfOk, IfSome};
 ghost use Rattle.std.specs.List.{All, list_any};
 ghost use Rattle.std.specs.List.Sorted.{IsPermutation};
 ghost use Rattle.filetree.specs.Names.{IsName, entries_of, has_name, is_hidden, names_of};
-ghost use Rattle.filetree.specs.Systems.{AreEntriesThere, IsFault, IsListingThere, slashed};
+ghost use Rattle.filetree.specs.Systems.{AreEntriesThere, IsFault, IsListingThere, WasDirectory, slashed};
+ghost use Rattle.filetree.specs.Utf8.{is_text};
 
 use crate::memory::own_names;
 use crate::system::System;
@@ -90,7 +91,8 @@ impl Names {
 
     /// The names of bytes in which a NUL ends each, as the system gives them.
     fn of_bytes(alloc: Global, bytes: &[u8]) -> Result<Names, TreeFault>
-        ensures { IfOk result (λ names. IsPermutation (entries_of bytes.now) (names_of (string_bytes names.text))) }
+        ensures names { IfOk result (λ names. IsPermutation (entries_of bytes.now) (names_of (string_bytes names.text))) }
+        ensures fault { IfErr result (λ fault. fault ≡ TreeFault.Device → is_text bytes.now ≡ false) }
     {
         match str::from_utf8(bytes) {
             Ok(text) => Ok(Names::of_text(alloc, text)?),
@@ -131,7 +133,7 @@ fn read_names<D: Read>(alloc: Global, names: &mut D) -> io::Result<Vec<u8>>
 /// The names in a directory, each ended by a NUL, as one text. `fs::read_dir` would make a path of each.
 fn text_of_names<S: System + AllocGlobal>(system: &S, dir: &str) -> Result<Vec<u8>, TreeFault>
     ensures text { IfOk result (λ text. IsListingThere (S.answers system.now) dir.now text.items) }
-    ensures fault { IfErr result (IsFault (S.answers system.now) dir.now) }
+    ensures fault { WasDirectory (S.answers system.now) dir.now → IfErr result (IsFault (S.answers system.now) dir.now) }
 {
     let path = with_slash(system.alloc(), dir)?;
     let mut names = system.open_directory(&path)?;
@@ -141,7 +143,7 @@ fn text_of_names<S: System + AllocGlobal>(system: &S, dir: &str) -> Result<Vec<u
 /// The names in a directory.
 pub(crate) fn list<S: System + AllocGlobal>(system: &S, dir: &str) -> Result<Names, TreeFault>
     ensures names { IfOk result (λ names. AreEntriesThere (S.answers system.now) dir.now (string_bytes names.text)) }
-    ensures fault { IfErr result (IsFault (S.answers system.now) dir.now) }
+    ensures fault { WasDirectory (S.answers system.now) dir.now → IfErr result (IsFault (S.answers system.now) dir.now) }
 {
     let bytes = text_of_names(system, dir)?;
     Names::of_bytes(system.alloc(), &bytes)

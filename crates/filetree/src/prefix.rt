@@ -1,5 +1,6 @@
 //! The first bytes of files: read without the rest, and compared with what is read later.
 ghost use Rattle.std.specs.Prelude.{◌≡◌, ◌≤◌, Some, List, ℕ, Option, take, IfOk, IfSome, true};
+ghost use Rattle.std.specs.Str.{bytes_eq};
 ghost use Rattle.filetree.specs.Agreement.{HaveSamePrefix, begins_with};
 ghost use Rattle.filetree.specs.Prefixes.{prefix_bytes};
 
@@ -89,7 +90,8 @@ fn first(bytes: &[u8], size: usize) -> &[u8]
 
 /// Whether a file begins with the first bytes that were read before.
 pub(crate) fn has_same_prefix(bytes: &[u8], prefix: &Prefix) -> bool
-    ensures { result ≡ true → HaveSamePrefix prefix.now.size (Some bytes.now) (Some (prefix_bytes prefix.now)) }
+    ensures exact { result ≡ bytes_eq (take prefix.now.size bytes.now) (prefix_bytes prefix.now) }
+    ensures same { result ≡ true → HaveSamePrefix prefix.now.size (Some bytes.now) (Some (prefix_bytes prefix.now)) }
 {
     first(bytes, prefix.size) == prefix.bytes()
 }

@@ -6,7 +6,14 @@ use Rattle.filetree.specs.Known.{SaysNoLess}
 use Rattle.filetree.specs.declared.known.Known.{Known}
 use Rattle.filetree.specs.declared.known.Known.TheVariants.{Directory}
 use Rattle.filetree.proofs.CachedAnswers.{of_some}
+use Rattle.filetree.proofs.WasThere.{directory_known}
 use Rattle.filetree.proofs.disk.DiskTreeTree.entries.Goals as goal
+
+pub load_names-loaded-requires : goal.load_names-loaded-requires
+load_names-loaded-requires g c =
+    let tree = c.args.self.now in
+    let had : get_by_text tree.known c.args.dir.now ≡ Some Directory = sym c.get.ensures.value ∙ (ap option_copied c.in-Some-Directory.is ∙ ap Some c.in-Some-Directory.field-0-is) in
+    directory_known (g.S.System.answers tree.system) tree.known c.args.dir.now had tree.answered
 
 pub answer_listing-requires-in-Some-Directory-clause-later : goal.answer_listing-requires-in-Some-Directory-clause-later
 answer_listing-requires-in-Some-Directory-clause-later g c =
