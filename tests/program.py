@@ -3,6 +3,7 @@
 The expected texts are typed by hand from the rules of the program, and never taken from what it wrote.
 """
 
+import errno
 import os
 import resource
 import socket
@@ -10,7 +11,7 @@ import subprocess
 import sys
 import time
 
-from harness import FOO, NOBODY, case, encoded, loaded, run_all, same, true
+from harness import FOO, NOBODY, case, encoded, loaded, refuser, run_all, same, true
 
 
 def new_lists(folder, name):
@@ -967,6 +968,17 @@ def a_standard_output_that_takes_nothing(folder):
         done = folder.run("sh", "load", "foo/1.0", stdout=stream)
         close()
         same((done.stderr, done.returncode), (b"ERROR: Writing failed\n", 1), f"a standard output {name}")
+
+
+@case
+def a_write_that_failed_is_not_tried_again(folder):
+    folder.module("foo/1.0", FOO)
+    env = {**folder.environment(PATH="/usr/bin:/bin"), b"LD_PRELOAD": refuser(folder.path, "failing_write")}
+    for error in (errno.EINTR, errno.EAGAIN, errno.EIO, errno.ENOSPC):
+        for stream, words in ((b"1", ["load", "foo/1.0"]), (b"2", ["avail"])):
+            done = folder.run("sh", *words, env={**env, b"FAIL_WITH": b"%d" % error, b"FAIL_WRITE_TO": stream})
+            found = done.stdout, done.stderr, done.returncode
+            same(found, (b"", b"ERROR: Writing failed\n", 1), f"one write to {stream} fails by {errno.errorcode[error]}")
 
 
 @case
