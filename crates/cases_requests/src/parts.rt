@@ -2,9 +2,8 @@
 
 use crate::texts::push_all;
 use crate::trees::file_text;
-use defaultfiles::Evaluated;
 use filetree::MemoryTree;
-use lookup::{Limits, version_order};
+use lookup::{Evaluated, Limits, version_order};
 use search::{DefaultFiles, Ended, FileContent, directories, locate, path_of, read_modulefile};
 use std::alloc::{AllocError, Global};
 use std::cmp::Ordering;

@@ -1,5 +1,9 @@
--- Handed on, so that a caller need not name the crate below.
-pub use Rattle.loadedlist.proofs.LoadedAgain
-pub use Rattle.loadedlist.proofs.LoadedReadable
-pub use Rattle.loadedlist.proofs.LoadedEdits
-pub use Rattle.loadedlist.proofs.LoadedOrder
+pub mod Copies
+pub mod ElementLemmas
+pub mod LoadedReading
+pub mod LoadedWriting
+pub mod LoadedAgain
+pub mod LoadedReadable
+pub mod LoadedEdits
+pub mod LoadedExamples
+pub mod LoadedOrder

@@ -1,14 +1,14 @@
 //! Adding a module to the loaded ones, and dropping one.
 ghost use Rattle.std.specs.Prelude.{◌≡◌, ◌++◌, [], ◌∷◌, Some, map, OnOk, OnErr, IfErr};
-ghost use Rattle.loadedlist.specs.Loaded.{with_loaded, with_conflicts_once, added_to, added_loaded, without_entry, dropped_from, dropped_loaded};
-ghost use Rattle.loadedlist.specs.LoadedEntries.{entry_view};
-ghost use Rattle.loadedlist.specs.Reasons.{Edits};
-ghost use Rattle.loadedlist.specs.EnvFault.TheVariants.{OutOfMemory};
+ghost use Rattle.envloaded.specs.Loaded.{with_loaded, with_conflicts_once, added_to, added_loaded, without_entry, dropped_from, dropped_loaded};
+ghost use Rattle.envloaded.specs.LoadedEntries.{entry_view};
+ghost use Rattle.envvars.specs.Reasons.{Edits};
+ghost use Rattle.envvars.specs.declared.fault.EnvFault.TheVariants.{OutOfMemory};
 
-use loadedlist::{
-    EnvFault, Loaded, Vars, can_be_added, copy_entry, is_loaded, loaded, loaded_changes,
-    with_conflicts_once,
-};
+use crate::entry::Loaded;
+use crate::list::{copy_entry, loaded};
+use crate::writing::{can_be_added, is_loaded, loaded_changes, with_conflicts_once};
+use envvars::{EnvFault, Vars};
 use std::alloc::Global;
 
 /// Writes the list to its four variables; to none where memory is refused.

@@ -1,9 +1,14 @@
-//! Adding to and dropping from the list of loaded modules, which four variables hold (LOADEDMODULES ...), in load order.
-//! Takes memory; touches these four variables. Hands on what loadedlist has of the list.
-//! Used by envstate, modulerecords, reversal, requests, modulestep, requeststep, the crates of sites and modulecmd.
+//! The list of loaded modules, in load order, which four variables hold (LOADEDMODULES ...): read, and edited.
+//! Takes memory; touches these four variables.
 #![tactic(auto)]
 
 mod edits;
+mod entry;
+pub mod laws;
+mod list;
+mod writing;
 
 pub use edits::{add_loaded, add_to_list, drop_from_list, drop_loaded};
-pub use loadedlist::{Loaded, conflicts_of, copy_list, is_loaded, laws, loaded, prereqs_of};
+pub use entry::Loaded;
+pub use list::{conflicts_of, copy_list, loaded, prereqs_of};
+pub use writing::is_loaded;

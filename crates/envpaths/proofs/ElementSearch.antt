@@ -1,6 +1,5 @@
 -- An element is one of a text's exactly where it stands between two delimiters, once the text has one at each end.
-use Rattle.std.proofs.Common.{◌≡◌, ℕ, ◌<◌, ◌≤◌, Bool, true, false, cond, not, ◌||◌, List, [], ◌∷◌, ◌++◌, refl, sym, ap, ◌∙◌, subst, arith, eqb, Some, None, append_assoc, length-append, take-append-drop}
-use Rattle.std.proofs.Common.{take as front_of, drop as cut}
+use Rattle.std.proofs.Common.{◌≡◌, ℕ, ◌<◌, ◌≤◌, Bool, true, false, cond, not, ◌||◌, List, [], ◌∷◌, ◌++◌, refl, sym, ap, ◌∙◌, subst, arith, eqb, Some, None, append_assoc, length-append, take-append-drop, take as front_of, drop as cut}
 use Rattle.std.specs.Prelude.{bytes_eq}
 use Rattle.std.specs.List.{onto_first, join_with_byte}
 use Rattle.std.specs.Bool.{MatchBool}
@@ -13,7 +12,7 @@ use Rattle.std.proofs.lemmas.List.Splits.{length-slice_split, join_with_byte-sli
 use Rattle.envvars.specs.Texts.{Text, has}
 use Rattle.envvars.specs.Fields.{without}
 use Rattle.envvars.proofs.TextLemmas.{same_text, bytes_eq-same, bytes_eq-symmetric, or_left, or_right}
-use Rattle.pathstate.specs.PathTexts.{split_elements, HasNoDelimiter}
+use Rattle.envpaths.specs.PathTexts.{split_elements, HasNoDelimiter}
 use Rattle.envpaths.proofs.RoundTrip.{eqb-same, split_front}
 
 -- splitting at a delimiter inside

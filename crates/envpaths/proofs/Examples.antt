@@ -2,9 +2,9 @@
 use Rattle.std.proofs.Common.{◌≡◌, refl, [], ◌∷◌, ◌++◌, Some, None}
 use Rattle.std.specs.Prelude.{codes}
 use Rattle.std.specs.Fmt.{digits}
-use Rattle.pathstate.specs.Paths.{drop, add_all}
-use Rattle.pathstate.specs.PathTexts.{state_of, elements_text, pairs_text}
-use Rattle.pathstate.specs.declared.adding.End.TheVariants.{Front, Back}
+use Rattle.envpaths.specs.Paths.{drop, add_all}
+use Rattle.envpaths.specs.PathTexts.{state_of, elements_text, pairs_text}
+use Rattle.envpaths.specs.declared.adding.End.TheVariants.{Front, Back}
 
 pub one : pairs_text (drop (state_of 58 (Some (codes "/a:/b:/a")) (Some (codes "/a:3:/b:2:/a:9:x"))) (codes "/a")) ≡ Some (codes "/a:2:/b:2")
 unfolding digits

@@ -1,3 +1,9 @@
+pub mod PathLemmas
+pub mod PairLemmas
+pub mod CounterLemmas
+pub mod WritingLemmas
+pub mod Readable
+pub mod PathSteps
 pub mod RoundTrip
 pub mod Examples
 pub mod PathEditLemmas
@@ -5,6 +11,5 @@ pub mod PathOrderLemmas
 pub mod UncountedLemmas
 pub mod ElementSearch
 pub mod OneElement
--- Handed on, so that a caller need not name the crate below.
-pub use Rattle.pathstate.proofs.PathLemmas
-pub use Rattle.pathstate.proofs.Readable
+pub mod CopyLemmas
+pub mod PathAnew

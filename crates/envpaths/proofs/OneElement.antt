@@ -10,14 +10,14 @@ use Rattle.std.proofs.lemmas.List.Splits.{length-slice_split, join_with_byte-sli
 use Rattle.envvars.specs.Texts.{Text, has, slice_texts}
 use Rattle.envvars.specs.Fields.{text_of_elements, without, without_repeats}
 use Rattle.envvars.proofs.TextLemmas.{same_text}
-use Rattle.pathstate.specs.Paths.{PathState, put_at, one_higher, one_lower, add, add_all, drop, drop_all}
-use Rattle.pathstate.specs.PathTexts.{split_elements, state_from, state_of, elements_text, is_lone_empty, counter_fields, pairs_text}
-use Rattle.pathstate.specs.PathEdits.{AreTexts, IsWritten}
-use Rattle.pathstate.specs.declared.path.PathTexts.{PathTexts}
-use Rattle.pathstate.specs.declared.adding.End.{End}
-use Rattle.pathstate.specs.declared.adding.End.TheVariants.{Front, Back}
-use Rattle.pathstate.proofs.PathSteps.{small_fits}
-use Rattle.pathstate.proofs.WritingLemmas.{join_with_byte-push}
+use Rattle.envpaths.specs.Paths.{PathState, put_at, one_higher, one_lower, add, add_all, drop, drop_all}
+use Rattle.envpaths.specs.PathTexts.{split_elements, state_from, state_of, elements_text, is_lone_empty, counter_fields, pairs_text}
+use Rattle.envpaths.specs.PathEdits.{AreTexts, IsWritten}
+use Rattle.envpaths.specs.declared.path.PathTexts.{PathTexts}
+use Rattle.envpaths.specs.declared.adding.End.{End}
+use Rattle.envpaths.specs.declared.adding.End.TheVariants.{Front, Back}
+use Rattle.envpaths.proofs.PathSteps.{small_fits}
+use Rattle.envpaths.proofs.WritingLemmas.{join_with_byte-push}
 
 -- no counter is two or more
 

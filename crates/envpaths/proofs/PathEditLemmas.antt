@@ -6,15 +6,15 @@ use Rattle.std.specs.Result.{OnOk, OnErr, IfErr}
 use Rattle.envvars.specs.Texts.{Text}
 use Rattle.envvars.specs.Names.{share_name}
 use Rattle.envvars.specs.Environment.{Environment, lookup, with_value}
-use Rattle.pathstate.specs.Paths.{PathState, add_all, drop_all}
-use Rattle.pathstate.specs.PathTexts.{state_of, elements_text}
-use Rattle.pathstate.specs.PathVariables.{path_in, with_path, path_reason, counters_fit, written_path, added_path, dropped_path}
-use Rattle.pathstate.specs.PathEdits.{AreTexts, IsFull}
+use Rattle.envpaths.specs.Paths.{PathState, add_all, drop_all}
+use Rattle.envpaths.specs.PathTexts.{state_of, elements_text}
+use Rattle.envpaths.specs.PathVariables.{path_in, with_path, path_reason, counters_fit, written_path, added_path, dropped_path}
+use Rattle.envpaths.specs.PathEdits.{AreTexts, IsFull}
 use Rattle.envvars.specs.Reasons.{EnvReason, reason_of, counter_full, unless, Edits}
-use Rattle.envvars.specs.EnvFault.{EnvFault}
-use Rattle.envvars.specs.EnvFault.TheVariants.{OutOfMemory}
-use Rattle.pathstate.specs.declared.path.PathTexts.{PathTexts}
-use Rattle.pathstate.specs.declared.adding.End.{End}
+use Rattle.envvars.specs.declared.fault.EnvFault.{EnvFault}
+use Rattle.envvars.specs.declared.fault.EnvFault.TheVariants.{OutOfMemory}
+use Rattle.envpaths.specs.declared.path.PathTexts.{PathTexts}
+use Rattle.envpaths.specs.declared.adding.End.{End}
 
 -- the state of the two texts that were looked up
 pub looked_up : (e : Environment) (name share : Text) (delim : ℕ) (t u : Option Text) → t ≡ lookup e name → u ≡ lookup e share → share ≡ share_name name → state_of delim t u ≡ path_in e name delim

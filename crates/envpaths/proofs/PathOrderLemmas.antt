@@ -10,18 +10,18 @@ use Rattle.std.specs.Option.{option_or}
 use Rattle.envvars.specs.Names.{share_name, name_reason}
 use Rattle.envvars.specs.Environment.{Environment, lookup, with_value}
 use Rattle.envvars.specs.Fields.{without}
-use Rattle.pathstate.specs.Paths.{PathState, IsPathState, CountersFit, largest_counter, put_at, add, drop, add_front, add_back, add_all, drop_all}
-use Rattle.pathstate.specs.PathTexts.{is_delimiter, HasNoDelimiter, IsWritable, state_of, elements_text, pairs_text}
-use Rattle.pathstate.specs.PathVariables.{path_in, with_path, is_element, counters_fit, path_reason, added_path, dropped_path, written_path}
+use Rattle.envpaths.specs.Paths.{PathState, IsPathState, CountersFit, largest_counter, put_at, add, drop, add_front, add_back, add_all, drop_all}
+use Rattle.envpaths.specs.PathTexts.{is_delimiter, HasNoDelimiter, IsWritable, state_of, elements_text, pairs_text}
+use Rattle.envpaths.specs.PathVariables.{path_in, with_path, is_element, counters_fit, path_reason, added_path, dropped_path, written_path}
 use Rattle.envpaths.specs.PathOrder.{IsPathInOrder, LeavesPath}
 use Rattle.envvars.specs.Reasons.{EnvReason, unless, counter_full, bad_value}
-use Rattle.pathstate.specs.declared.adding.End.{End}
-use Rattle.pathstate.specs.declared.adding.End.TheVariants.{Front, Back}
+use Rattle.envpaths.specs.declared.adding.End.{End}
+use Rattle.envpaths.specs.declared.adding.End.TheVariants.{Front, Back}
 use Rattle.envvars.proofs.TextLemmas.{same_text, bytes_eq-same}
 use Rattle.envvars.proofs.EnvLemmas.{lookup-with_value}
-use Rattle.pathstate.proofs.PathLemmas.{IsPathState-add, IsPathState-drop}
+use Rattle.envpaths.proofs.PathLemmas.{IsPathState-add, IsPathState-drop}
 use Rattle.envpaths.proofs.RoundTrip.{state_of-written, unparted_filter}
-use Rattle.pathstate.proofs.Readable.{IsWritable-state_of}
+use Rattle.envpaths.proofs.Readable.{IsWritable-state_of}
 
 -- elements without the delimiter
 

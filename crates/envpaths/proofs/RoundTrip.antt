@@ -10,12 +10,12 @@ use Rattle.envvars.specs.Texts.{Text, has}
 use Rattle.envvars.specs.Fields.{text_of_elements, without_repeats}
 use Rattle.envvars.specs.Escapes.{escaped}
 use Rattle.envvars.proofs.EscapeLemmas.{fields-escaped}
-use Rattle.pathstate.specs.Paths.{PathState, largest_counter}
-use Rattle.pathstate.specs.Counters.{counter_of}
-use Rattle.pathstate.specs.PathTexts.{split_elements, paired, counter_in_pairs, pairs_of, elements_of, state_of, elements_text, is_lone_empty, written, counter_fields, pairs_text, HasNoDelimiter, IsWritable}
+use Rattle.envpaths.specs.Paths.{PathState, largest_counter}
+use Rattle.envpaths.specs.Counters.{counter_of}
+use Rattle.envpaths.specs.PathTexts.{split_elements, paired, counter_in_pairs, pairs_of, elements_of, state_of, elements_text, is_lone_empty, written, counter_fields, pairs_text, HasNoDelimiter, IsWritable}
 use Rattle.envvars.proofs.TextLemmas.{same_text, has-without, or_left, or_right}
-use Rattle.pathstate.proofs.PathLemmas.{same_state}
-use Rattle.pathstate.proofs.CounterLemmas.{counter_of-decimal, escaped-decimal}
+use Rattle.envpaths.proofs.PathLemmas.{same_state}
+use Rattle.envpaths.proofs.CounterLemmas.{counter_of-decimal, escaped-decimal}
 
 pub eqb-same : (d : ℕ) → eqb d d ≡ true
 eqb-same d = grind (arith, nat_tests)

@@ -7,7 +7,7 @@ use Rattle.std.specs.Result.{OnOk}
 use Rattle.envvars.specs.Texts.{Text}
 use Rattle.envvars.specs.Names.{share_name}
 use Rattle.envvars.specs.Environment.{Environment, lookup, with_value}
-use Rattle.envvars.specs.EnvFault.{EnvFault}
+use Rattle.envvars.specs.declared.fault.EnvFault.{EnvFault}
 use Rattle.envvars.proofs.TextLemmas.{bytes_eq-symmetric, same_text}
 use Rattle.envvars.proofs.EnvLemmas.{same_environment, lookup-with_value}
 use Rattle.envpaths.proofs.PathOrderLemmas.{share_apart}

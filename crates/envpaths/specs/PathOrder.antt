@@ -3,9 +3,9 @@ use Rattle.std.specs.Prelude.{◌≡◌, ℕ, false, bytes_eq}
 use Rattle.envvars.specs.Texts.{Text}
 use Rattle.envvars.specs.Names.{share_name}
 use Rattle.envvars.specs.Environment.{Environment, lookup}
-use Rattle.pathstate.specs.Paths.{PathState}
-use Rattle.pathstate.specs.PathTexts.{elements_text, pairs_text}
-use Rattle.pathstate.specs.PathVariables.{path_in}
+use Rattle.envpaths.specs.Paths.{PathState}
+use Rattle.envpaths.specs.PathTexts.{elements_text, pairs_text}
+use Rattle.envpaths.specs.PathVariables.{path_in}
 
 -- the texts of the variable, with this delimiter, and of its counters are those that their state is written as
 pub record IsPathInOrder (e : Environment) (name : Text) (delim : ℕ) : Type 0 where

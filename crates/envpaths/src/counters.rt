@@ -1,6 +1,6 @@
 //! How the counter of an element is read from a text.
 ghost use Rattle.std.specs.Prelude.{◌≡◌, ◌&&◌, nat_le, slice_index};
-ghost use Rattle.pathstate.specs.Counters.{counter_of};
+ghost use Rattle.envpaths.specs.Counters.{counter_of};
 
 /// Whether the text begins with a digit from 1 to 9, as a counter without leading zeros does.
 fn begins_as_counter(text: &str) -> bool

@@ -6,16 +6,19 @@ ghost use Rattle.envvars.specs.Texts.{slice_texts};
 ghost use Rattle.envvars.specs.Environment.{lookup, with_value};
 ghost use Rattle.envvars.specs.Reasons.{Judges, Edits};
 ghost use Rattle.envvars.specs.Names.{share_name};
-ghost use Rattle.envvars.specs.EnvFault.TheVariants.{OutOfMemory};
-ghost use Rattle.pathstate.specs.Paths.{add_all, drop_all};
-ghost use Rattle.pathstate.specs.PathTexts.{is_delimiter, state_of};
-ghost use Rattle.pathstate.specs.PathVariables.{is_element, path_reason, added_path, dropped_path};
-ghost use Rattle.pathstate.specs.PathEdits.{AreTexts, IsWrittenOrFull};
+ghost use Rattle.envvars.specs.declared.fault.EnvFault.TheVariants.{OutOfMemory};
+ghost use Rattle.envpaths.specs.Paths.{add_all, drop_all};
+ghost use Rattle.envpaths.specs.PathTexts.{is_delimiter, state_of};
+ghost use Rattle.envpaths.specs.PathVariables.{is_element, path_reason, added_path, dropped_path};
+ghost use Rattle.envpaths.specs.PathEdits.{AreTexts, IsWrittenOrFull};
 
+use crate::adding::{End, add_each};
+use crate::dropping::drop_from_path;
 use crate::one_element::{with_one_less, with_one_more};
+use crate::path::PathTexts;
 use crate::texts::read_path;
+use crate::writing::write_path;
 use envvars::{EnvFault, Vars, judge_name, push_change, share_name};
-use pathstate::{End, PathTexts, add_each, drop_from_path, write_path};
 use std::alloc::{AllocError, Global};
 
 /// Whether the character can separate elements: a printable character of ASCII, from the space to the tilde.

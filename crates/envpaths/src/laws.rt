@@ -4,13 +4,13 @@ ghost use Rattle.std.specs.Prelude.{◌≡◌, ◌↔◌, ℕ, List, Option, Som
 ghost use Rattle.std.specs.List.{list_all};
 ghost use Rattle.envvars.specs.Texts.{Text};
 ghost use Rattle.envvars.specs.Environment.{Environment};
-ghost use Rattle.pathstate.specs.Counters.{counter_of, SpellsCounter};
-ghost use Rattle.pathstate.specs.Paths.{PathState, IsPathState, add_all, drop_all};
-ghost use Rattle.pathstate.specs.PathRuns.{PathChange, after, live, none_live, more_live, fewer_live, AreLive, EachDropUndoes, IsPathStartWith};
-ghost use Rattle.pathstate.specs.PathTexts.{IsWritable, state_of, elements_text, pairs_text};
-ghost use Rattle.pathstate.specs.PathVariables.{path_in, added_path, dropped_path, is_element, counters_fit};
+ghost use Rattle.envpaths.specs.Counters.{counter_of, SpellsCounter};
+ghost use Rattle.envpaths.specs.Paths.{PathState, IsPathState, add_all, drop_all};
+ghost use Rattle.envpaths.specs.PathRuns.{PathChange, after, live, none_live, more_live, fewer_live, AreLive, EachDropUndoes, IsPathStartWith};
+ghost use Rattle.envpaths.specs.PathTexts.{IsWritable, state_of, elements_text, pairs_text};
+ghost use Rattle.envpaths.specs.PathVariables.{path_in, added_path, dropped_path, is_element, counters_fit};
 ghost use Rattle.envpaths.specs.PathOrder.{LeavesPath};
-ghost use Rattle.pathstate.specs.declared.adding.End.{End};
+ghost use Rattle.envpaths.specs.declared.adding.End.{End};
 
 /// After any adds, and drops that each undo one of them, the elements of the start are there in their order, and the
 /// live adds, those that no drop has undone, are counted on top of them. Where no add is live, it is the start.

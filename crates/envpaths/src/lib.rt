@@ -1,14 +1,20 @@
 //! Path variables, as PATH is: a list of elements, and how often each was added, in two variables of an environment.
 //! Takes memory; touches the path variable that a call names and the variable of its counters.
-//! Used by envstate, modulerecords, modulefile, modulerun, reversal, certificate, pathorder and modulecmd.
 //! A drop is what remove-path does, and an unload.
 #![tactic(auto)]
 
+mod adding;
+pub mod copies;
 mod counters;
+mod dropping;
 mod edits;
 pub mod laws;
 mod one_element;
+mod order;
+mod path;
 mod texts;
+mod writing;
 
+pub use adding::End;
 pub use edits::{add_path, drop_path, is_element};
-pub use pathstate::End;
+pub use order::is_path_in_order;

@@ -4,13 +4,14 @@ ghost use Rattle.std.specs.List.{list_all, join_with_byte};
 ghost use Rattle.std.specs.Option.{option_map};
 ghost use Rattle.envvars.specs.Texts.{has, slice_texts};
 ghost use Rattle.envvars.specs.Fields.{without};
-ghost use Rattle.pathstate.specs.Paths.{put_at, add_all, drop_all};
-ghost use Rattle.pathstate.specs.PathTexts.{split_elements, state_of};
-ghost use Rattle.pathstate.specs.PathVariables.{is_element};
-ghost use Rattle.pathstate.specs.PathEdits.{AreTexts, IsWritten};
+ghost use Rattle.envpaths.specs.Paths.{put_at, add_all, drop_all};
+ghost use Rattle.envpaths.specs.PathTexts.{split_elements, state_of};
+ghost use Rattle.envpaths.specs.PathVariables.{is_element};
+ghost use Rattle.envpaths.specs.PathEdits.{AreTexts, IsWritten};
 
+use crate::adding::End;
+use crate::path::PathTexts;
 use envvars::fields::join;
-use pathstate::{End, PathTexts};
 use std::alloc::{AllocError, Global};
 
 /// The text with the delimiter before and after it.

@@ -2,16 +2,16 @@
 ghost use Rattle.std.specs.Prelude.{◌≡◌, ◌≤◌, ◌<◌, IfOk, [], ◌∷◌, is_some};
 ghost use Rattle.std.specs.Option.{option_map};
 ghost use Rattle.envvars.specs.Texts.{Text, slice_texts};
-ghost use Rattle.pathstate.specs.Paths.{largest_counter};
-ghost use Rattle.pathstate.specs.Counters.{counter_of};
-ghost use Rattle.pathstate.specs.Tables.{counter_in, count_in, overwritten_by, one_for_each, state_from_table, HasCountersOf};
-ghost use Rattle.pathstate.specs.PathTexts.{counter_in_pairs, paired, elements_of, state_from_pairs, state_of};
+ghost use Rattle.envpaths.specs.Paths.{largest_counter};
+ghost use Rattle.envpaths.specs.Counters.{counter_of};
+ghost use Rattle.envpaths.specs.Tables.{counter_in, count_in, overwritten_by, one_for_each, state_from_table, HasCountersOf};
+ghost use Rattle.envpaths.specs.PathTexts.{counter_in_pairs, paired, elements_of, state_from_pairs, state_of};
 
 use crate::counters::counter_of;
+use crate::path::{Counters, Path};
 use envvars::escapes::unescaped_fields;
 use envvars::fields::{parts, slices};
 use indexmap::IndexMap;
-use pathstate::{Counters, Path};
 use std::alloc::{AllocError, Global};
 
 /// Sets the counter of an element to the one that a text spells, where the element is there and the text spells one.

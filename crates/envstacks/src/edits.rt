@@ -8,7 +8,7 @@ ghost use Rattle.envstacks.specs.Stacks.{is_owner, without_owner, visible, items
 ghost use Rattle.envstacks.specs.StackItems.{item_in, items_of_vec, state_of_borrowed, state_of_owned};
 ghost use Rattle.envstacks.specs.StackVariables.{push_reason, pop_reason, with_stack, pushed_value, popped_value};
 ghost use Rattle.envvars.specs.Reasons.{Judges, Edits};
-ghost use Rattle.envvars.specs.EnvFault.TheVariants.{OutOfMemory};
+ghost use Rattle.envvars.specs.declared.fault.EnvFault.TheVariants.{OutOfMemory};
 
 use crate::texts::{StackItem, read_stack, stack_text};
 use envvars::fields::copy;

@@ -1,6 +1,5 @@
 //! Stacks of values (modulefile(5), pushenv): a variable's values, each with the module that pushed it.
 //! Takes memory; touches the variable that a call names and the variable of its stack.
-//! Used by envstate, modulerecords, modulerun, reversal, certificate, startcheck and modulecmd.
 #![tactic(auto)]
 
 mod edits;

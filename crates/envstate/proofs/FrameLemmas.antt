@@ -13,7 +13,7 @@ use Rattle.envpaths.specs.PathTexts.{state_of, elements_text, pairs_text}
 use Rattle.envpaths.specs.PathVariables.{path_in, value_reason, added_path, dropped_path, with_path, written_path}
 use Rattle.envpaths.specs.PathOrder.{IsPathInOrder}
 use Rattle.envpaths.specs.Paths.{add_all, drop_all}
-use Rattle.envpaths.specs.End.{End}
+use Rattle.envpaths.specs.declared.adding.End.{End}
 use Rattle.envpaths.proofs.PathOrderLemmas.{LeavesPath-added, LeavesPath-dropped}
 use Rattle.envstacks.specs.StackTexts.{items_in}
 use Rattle.envstacks.specs.StackVariables.{stack_in, stack_from, pushed_on, popped_from, pushed_value, popped_value, IsStackInOrder}

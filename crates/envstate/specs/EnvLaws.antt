@@ -9,7 +9,7 @@ use Rattle.envvars.specs.Names.{share_name, stack_name, name_reason}
 use Rattle.envvars.specs.Environment.{Environment, lookup, with_value}
 use Rattle.envpaths.specs.PathVariables.{path_in, added_path, dropped_path}
 use Rattle.envpaths.specs.PathOrder.{IsPathInOrder}
-use Rattle.envpaths.specs.End.{End}
+use Rattle.envpaths.specs.declared.adding.End.{End}
 use Rattle.envstacks.specs.Stacks.{StackState, holds}
 use Rattle.envstacks.specs.StackRuns.{IsOwnedStart, start_with_pushes}
 use Rattle.envstacks.specs.StackVariables.{stack_in, pushed_value, popped_value, is_loaded_owner, IsStackInOrder}

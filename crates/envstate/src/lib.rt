@@ -1,6 +1,5 @@
 //! The state of modules in the environment: variables, path variables, stacks, the loaded modules, and their laws.
 //! Touches nothing by itself: it hands on the calls of envvars, envpaths, envstacks and envloaded under one name.
-//! Used by reversal, modulestep and the crates of sites, for laws of whole environments, and by cases_environment.
 #![tactic(auto)]
 
 pub mod laws;

@@ -16,15 +16,15 @@ use Rattle.std.proofs.lemmas.Map.Keys.{IsDistinct-IsPermutation}
 use Rattle.std.proofs.lemmas.Map.Made.{IsDistinct-keys_filter}
 use Rattle.std.proofs.lemmas.Map.Text.{is_eq-slice_cmp}
 use Rattle.indexmap.proofs.MapLemmas.{lookup_permutation}
-use Rattle.envtable.specs.Texts.{Text, has}
-use Rattle.envtable.specs.Environment.{Environment, lookup}
-use Rattle.envtable.specs.Changes.{NewValue, same_value, difference, new_value_at, new_value_of, AreChanges}
-use Rattle.envtable.specs.Tables.{Slot, differs_from, names_of, new_values_of, written_over}
-use Rattle.envtable.specs.declared.change.Change.{Change}
-use Rattle.envtable.proofs.TextLemmas.{same_text, bytes_eq-same, bytes_eq-symmetric}
-use Rattle.envtable.proofs.EnvLemmas.{lookup-with_value}
-use Rattle.envtable.proofs.ChangeLemmas.{same_as_itself}
-use Rattle.envtable.proofs.TableLemmas.{not_written}
+use Rattle.envvars.specs.Texts.{Text, has}
+use Rattle.envvars.specs.Environment.{Environment, lookup}
+use Rattle.envvars.specs.Changes.{NewValue, same_value, difference, new_value_at, new_value_of, AreChanges}
+use Rattle.envvars.specs.Tables.{Slot, differs_from, names_of, new_values_of, written_over}
+use Rattle.envvars.specs.declared.change.Change.{Change}
+use Rattle.envvars.proofs.TextLemmas.{same_text, bytes_eq-same, bytes_eq-symmetric}
+use Rattle.envvars.proofs.EnvLemmas.{lookup-with_value}
+use Rattle.envvars.proofs.ChangeLemmas.{same_as_itself}
+use Rattle.envvars.proofs.TableLemmas.{not_written}
 use Rattle.std.proofs.lemmas.Bool.{false≢true}
 
 -- one more change that may pass

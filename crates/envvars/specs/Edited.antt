@@ -1,7 +1,7 @@
 -- A working environment as contracts see it: the environment below, and the one that its edits make of it (own).
 use Rattle.std.specs.Prelude.{refl}
 use Rattle.std.specs.Coded.{Coded, code_by, coded×}
-use Rattle.envtable.specs.Environment.{Environment, environment_code}
+use Rattle.envvars.specs.Environment.{Environment, environment_code}
 
 -- the environment below, and the edited one
 pub record Edited : Type 0 where

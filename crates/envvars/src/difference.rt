@@ -5,15 +5,18 @@ ghost use Rattle.std.specs.Cmp.Lexicographic.{slice_cmp};
 ghost use Rattle.std.specs.List.{IsDistinct};
 ghost use Rattle.std.specs.List.Sorted.{IsStrictlySortedBy};
 ghost use Rattle.std.specs.Option.{option_map};
-ghost use Rattle.envtable.specs.Texts.{Text, has, slice_texts};
-ghost use Rattle.envtable.specs.Environment.{lookup};
-ghost use Rattle.envtable.specs.declared.fault.EnvFault.TheVariants.{OutOfMemory};
-ghost use Rattle.envtable.specs.Changes.{AreChanges, new_value_at, new_value_of, new_values_in, same_value};
-ghost use Rattle.envtable.specs.Tables.{differs_from, names_of, new_values_of, written_over};
+ghost use Rattle.envvars.specs.Texts.{Text, has, slice_texts};
+ghost use Rattle.envvars.specs.Environment.{lookup};
+ghost use Rattle.envvars.specs.declared.fault.EnvFault.TheVariants.{OutOfMemory};
+ghost use Rattle.envvars.specs.Changes.{AreChanges, new_value_at, new_value_of, new_values_in, same_value};
+ghost use Rattle.envvars.specs.Tables.{differs_from, names_of, new_values_of, written_over};
 
-use envtable::fields::copy;
-use envtable::table::{Table, sorted_once};
-use envtable::{Change, Env, EnvFault, Vars};
+use crate::change::Change;
+use crate::env::Env;
+use crate::fault::EnvFault;
+use crate::fields::copy;
+use crate::table::{Table, sorted_once};
+use crate::vars::Vars;
 use std::alloc::{AllocError, Global};
 
 /// Whether the variable has another value in `old`, or only one of the two is a value.

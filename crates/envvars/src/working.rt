@@ -1,11 +1,14 @@
 //! A working environment: edits over an environment that stays unchanged.
 ghost use Rattle.std.specs.Prelude.{◌≡◌, IfOk, IfErr};
-ghost use Rattle.envtable.specs.Changes.{AreChanges, new_values_in};
-ghost use Rattle.envtable.specs.declared.fault.EnvFault.TheVariants.{OutOfMemory};
+ghost use Rattle.envvars.specs.Changes.{AreChanges, new_values_in};
+ghost use Rattle.envvars.specs.declared.fault.EnvFault.TheVariants.{OutOfMemory};
 
+use crate::change::Change;
 use crate::difference::changes_over;
-use envtable::table::{Table, found, make_changes, write_entry, write_value};
-use envtable::{Change, Env, EnvFault, Vars};
+use crate::env::Env;
+use crate::fault::EnvFault;
+use crate::table::{Table, found, make_changes, write_entry, write_value};
+use crate::vars::Vars;
 use indexmap::IndexMap;
 use std::alloc::Global;
 use std::marker::Model;
@@ -33,7 +36,7 @@ impl<'a, B: Vars> Drop for Working<'a, B> {
 }
 
 impl<'a, B: Vars> Model for Working<'a, B> {
-    ghost use Rattle.envtable.specs.Tables.{written_over};
+    ghost use Rattle.envvars.specs.Tables.{written_over};
     ghost use Rattle.envvars.specs.Edited.{Edited, edited_code};
 
     ghost Value = { Edited };

@@ -1,6 +1,5 @@
 //! Files and directories by their paths, in memory or on a disk.
 //! `MemoryTree` takes memory; `DiskTree` reads files and directories by the runtime that it is given, and writes none.
-//! Used by candidates, search, requests and all crates above them.
 #![tactic(auto)]
 
 mod disk;

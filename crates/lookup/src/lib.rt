@@ -1,12 +1,17 @@
-//! The search for callers of their own: `locate` and `available`, with default files evaluated within limits.
+//! The search with default files evaluated as Tcl within limits (modulefile(5)): `locate` and `available`.
 //! Takes memory, and reads files and directories through the `Tree` that it is given.
-//! Used by modulecmd, which hands it on, and by cases_requests; requests search by search itself.
 #![tactic(auto)]
 
+mod command_answers;
+mod evaluated;
+mod host;
+mod laws;
 mod listings;
 mod located;
 
+pub use evaluated::Evaluated;
 pub use filetree::{DiskTree, FindFault, MemoryTree, Seen, Tree, TreeFault};
+pub use laws::{one_result, some_result};
 pub use listings::{Listing, available};
 pub use located::{Found, locate};
 pub use modulename::version_order;

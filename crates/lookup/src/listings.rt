@@ -6,11 +6,11 @@ ghost use Rattle.search.specs.Looked.{ListingLooksAt};
 ghost use Rattle.search.specs.Answers.{cause_of, is_failure};
 ghost use Rattle.search.specs.Listings.{listing_view};
 ghost use Rattle.search.specs.ListingEntries.{listing_entry_view};
-ghost use Rattle.defaultfiles.specs.DefaultFileResults.{HasResult};
+ghost use Rattle.lookup.specs.DefaultFileResults.{HasResult};
 ghost use Rattle.lookup.specs.Lines.{line_of, lines_of, Available};
 ghost use Rattle.lookup.specs.LineViews.{line_view};
 
-use defaultfiles::Evaluated;
+use crate::evaluated::Evaluated;
 use filetree::{FindFault, Tree};
 use search::ListingEntry;
 use std::alloc::{AllocError, Global};

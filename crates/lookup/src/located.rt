@@ -4,11 +4,11 @@ ghost use Rattle.modulename.specs.ModuleName.{is_module_name};
 ghost use Rattle.filetree.specs.Agreement.{FailsWhere, ReadsOn};
 ghost use Rattle.search.specs.Looked.{LooksAt};
 ghost use Rattle.search.specs.Answers.{FindAnswersOverTree, is_failure};
-ghost use Rattle.defaultfiles.specs.DefaultFileResults.{HasResult};
+ghost use Rattle.lookup.specs.DefaultFileResults.{HasResult};
 ghost use Rattle.lookup.specs.Located.{Located};
 ghost use Rattle.lookup.specs.LocatedViews.{located_module_view};
 
-use defaultfiles::Evaluated;
+use crate::evaluated::Evaluated;
 use filetree::{FindFault, Tree};
 use std::alloc::Global;
 use tclrules::Limits;

@@ -1,6 +1,5 @@
 //! The texts of faults and reports: a message has parts, so that it is shown and written without taking memory.
 //! Touches nothing but the text or writer that it is shown on, and takes no memory.
-//! Used by every crate whose faults have a text: a fault's `message` makes its `Display` and its error line.
 #![tactic(auto)]
 
 ghost use Rattle.std.specs.Prelude.{◌≡◌, Some};

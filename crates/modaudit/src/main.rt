@@ -5,8 +5,9 @@
 
 mod progress_line;
 
-use auditcommand::{AuditExit, CommandFault, DiskTree, process_input, run_audit, write_refusal};
+use modulecmd::{CommandFault, DiskTree, process_input, write_refusal};
 use progress_line::ProgressLine;
+use sitecommand::{AuditExit, run_audit};
 use std::process::ExitCode;
 
 /// Says why there is no audit, and with which status the program ends.

@@ -1,5 +1,5 @@
 //! A line on a terminal that says how far an audit has come.
-use auditcommand::Progress;
+use siteaudit::Progress;
 use std::io::{IsTerminal, Stderr, Write};
 use std::time::{Clock, Instant};
 

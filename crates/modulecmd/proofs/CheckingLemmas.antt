@@ -1,6 +1,5 @@
 -- How a check ended, and the causes of its faults.
-use Rattle.std.proofs.Common.{◌≡◌, ℕ, List, [], Bool, true, false, Ok, Option, String, string_bytes, refl, sym, subst}
-use Rattle.std.proofs.Common.{inl, inr}
+use Rattle.std.proofs.Common.{◌≡◌, ℕ, List, [], Bool, true, false, Ok, Option, String, string_bytes, refl, sym, subst, inl, inr}
 use Rattle.std.proofs.lemmas.Str.{IsUtf8-string_bytes, is_utf8-from_IsUtf8}
 use Rattle.std.specs.declared.alloc.Global.{Global}
 use Rattle.std.specs.Str.{is_utf8}
@@ -10,14 +9,14 @@ use Rattle.filetree.specs.Agreement.{FailsOnlyWhere, Files, InEachPair, Listings
 use Rattle.filetree.proofs.FailedPaths.{only_wider_in_each}
 use Rattle.processinput.specs.Inputs.{ReadsAll}
 use Rattle.requests.specs.Steps.{request_context_in}
-use Rattle.sessioncheck.specs.Checks.{CheckLooksAt}
-use Rattle.sessioncheck.specs.Lines.{lines_in}
-use Rattle.sessioncheck.specs.Reports.{report_of}
+use Rattle.sessions.specs.Checks.{CheckLooksAt}
+use Rattle.sessions.specs.Lines.{lines_in}
+use Rattle.sessions.specs.Reports.{report_of}
 use Rattle.modulecmd.specs.declared.checking.PreparedCheck.{PreparedCheck}
 use Rattle.modulecmd.specs.declared.command_exit.Exit.{Exit}
 use Rattle.modulecmd.specs.declared.command_exit.Exit.TheVariants.{Success, Reported, CutShort}
 use Rattle.modulecmd.specs.declared.command_fault.CommandFault.{CommandFault}
-use Rattle.shells.specs.declared.shell.Shell.{Shell}
+use Rattle.shelltext.specs.declared.shell.Shell.{Shell}
 use Rattle.modulecmd.specs.Checking.{CheckOfInputLooksAt, EndsCheck, IsCheckFault, ShowsWhetherAccepted, shell_of, writing_of}
 use Rattle.modulecmd.specs.Command.{standard}
 use Rattle.modulecmd.specs.CheckWords.{IsPreparedCheck, exit_of}

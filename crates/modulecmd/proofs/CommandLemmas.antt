@@ -4,7 +4,7 @@ use Rattle.envvars.specs.Texts.{Text}
 use Rattle.envvars.specs.Environment.{Environment}
 use Rattle.envvars.specs.Changes.{NewValue, AreChanges, new_values_in}
 use Rattle.filetree.specs.Agreement.{Files, Listings, InEachPair}
-use Rattle.shells.specs.declared.shell.Shell.{Shell}
+use Rattle.shelltext.specs.declared.shell.Shell.{Shell}
 use Rattle.shelltext.specs.Printing.{IsPrintFault, IsUnsayable}
 use Rattle.shelltext.specs.Reading.{OneEffect, DifferenceMakes, TextSays, SaysDifference}
 use Rattle.shelltext.specs.declared.print.PrintFault.{PrintFault}

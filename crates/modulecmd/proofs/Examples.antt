@@ -1,6 +1,6 @@
 -- What command lines ask for, written out by hand.
 use Rattle.std.proofs.Common.{◌≡◌, [], ◌∷◌, Ok, Err, codes, refl}
-use Rattle.shells.specs.declared.shell.Shell.TheVariants.{Sh, Bash, Zsh, Csh, Tcsh, Fish}
+use Rattle.shelltext.specs.declared.shell.Shell.TheVariants.{Sh, Bash, Zsh, Csh, Tcsh, Fish}
 use Rattle.std.specs.Prelude.{Some}
 use Rattle.requests.specs.Reasons.{bad_arguments, unknown_subcommand}
 use Rattle.requests.specs.Requests.{load, unload, switch, purge, avail}

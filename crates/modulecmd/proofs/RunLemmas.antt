@@ -3,7 +3,7 @@ use Rattle.std.proofs.Common.{◌≡◌, List, [], ◌∷◌, ◌++◌, Result, 
 use Rattle.envvars.specs.Texts.{Text}
 use Rattle.envvars.specs.Environment.{Environment}
 use Rattle.filetree.specs.Agreement.{Files, Listings}
-use Rattle.requests.specs.Moves.{Module, Move, Loads, Unloads}
+use Rattle.modulefile.specs.Moves.{Module, Move, Loads, Unloads}
 use Rattle.shelltext.specs.Reading.{OneEffect, DifferenceMakes, SaysDifference}
 use Rattle.reversal.specs.VariableUses.{VariableUse}
 use Rattle.reversal.specs.Starts.{IsStart}

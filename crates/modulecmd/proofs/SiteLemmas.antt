@@ -3,7 +3,7 @@ use Rattle.std.proofs.Common.{◌≡◌, List, [], ◌∷◌, ◌++◌, Result, 
 use Rattle.envvars.specs.Texts.{Text}
 use Rattle.envvars.specs.Environment.{Environment}
 use Rattle.filetree.specs.Agreement.{Files, Listings}
-use Rattle.requests.specs.Moves.{Module, Move, Loads, Unloads}
+use Rattle.modulefile.specs.Moves.{Module, Move, Loads, Unloads}
 use Rattle.shelltext.specs.Reading.{OneEffect, DifferenceMakes}
 use Rattle.reversal.specs.Runs.{live_after}
 use Rattle.reversal.specs.Laws.{Holds}
@@ -11,9 +11,9 @@ use Rattle.requests.specs.Reasons.{RequestReason}
 use Rattle.requests.specs.Requests.{Request}
 use Rattle.requests.specs.Returning.{AreNew}
 use Rattle.requests.specs.Steps.{Done, RequestStep, request_context_in}
-use Rattle.sitelaws.specs.RecordUses.{uses_by}
-use Rattle.sitelaws.specs.Certificates.{certified, certificate, AgreesWith}
-use Rattle.sitelaws.specs.CertificateLaws.{AreCertifiedTogether}
+use Rattle.sitecertificate.specs.RecordUses.{uses_by}
+use Rattle.sitecertificate.specs.Certificates.{certified, certificate, AgreesWith}
+use Rattle.sitecertificate.specs.Laws.{AreCertifiedTogether}
 use Rattle.sitelaws.specs.Sites.{site_of, ArePlainModules}
 use Rattle.sitelaws.specs.Laws.{LoadsAreOf, SiteSessionsReturn, SiteCommandsReturn}
 use Rattle.modulecmd.specs.Command.{CommandResult, CommandHasResult, standard, with_shell}

@@ -3,11 +3,11 @@ use Rattle.std.specs.Prelude.{◌≡◌, ℕ, Bool, true, false, List, Option, s
 use Rattle.envvars.specs.Texts.{Text}
 use Rattle.envvars.specs.Environment.{Environment}
 use Rattle.filetree.specs.Agreement.{Files, Listings}
-use Rattle.shells.specs.declared.shell.Shell.{Shell}
+use Rattle.shelltext.specs.declared.shell.Shell.{Shell}
 use Rattle.shelltext.specs.Reading.{SaysDifference}
-use Rattle.sessioncheck.specs.Checks.{all_accepted}
-use Rattle.sessioncheck.specs.Reports.{report_of}
-use Rattle.sessioncheck.specs.declared.checking.Findings.{Findings}
+use Rattle.sessions.specs.Checks.{all_accepted}
+use Rattle.sessions.specs.Reports.{report_of}
+use Rattle.sessions.specs.declared.checking.Findings.{Findings}
 use Rattle.modulecmd.specs.Checking.{ChecksInput}
 use Rattle.modulecmd.specs.declared.command_exit.Exit.{Exit}
 use Rattle.modulecmd.specs.declared.command_exit.Exit.TheVariants.{Success, Reported, CutShort}

@@ -1,6 +1,5 @@
 -- What the check of an input's lines writes to its two writers (own).
-use Rattle.std.specs.Prelude.{◌≡◌, ◌⊎◌, ◌≤◌, ℕ, Bool, true, false, List, [], ◌∷◌, length, Option, Some, None, Result}
-use Rattle.std.specs.Prelude.{Ok, Err}
+use Rattle.std.specs.Prelude.{◌≡◌, ◌⊎◌, ◌≤◌, ℕ, Bool, true, false, List, [], ◌∷◌, length, Option, Some, None, Result, Ok, Err}
 use Rattle.std.specs.Io.KnownBytes.{Keeps}
 use Rattle.std.specs.Str.{is_utf8}
 use Rattle.envvars.specs.Texts.{Text}
@@ -10,13 +9,13 @@ use Rattle.processinput.specs.declared.input.InputFault.{InputFault}
 use Rattle.processinput.specs.Inputs.{ReadsAll, FailsAfterReading, input_limit}
 use Rattle.requests.specs.Reasons.{bad_arguments}
 use Rattle.requests.specs.Steps.{request_context_in}
-use Rattle.shells.specs.declared.shell.Shell.{Shell}
-use Rattle.shells.specs.Shells.{shell_named}
+use Rattle.shelltext.specs.declared.shell.Shell.{Shell}
+use Rattle.shelltext.specs.Shells.{shell_named}
 use Rattle.shelltext.specs.Reading.{SaysDifference}
-use Rattle.sessioncheck.specs.Checks.{CheckLooksAt, IsCheck, all_accepted}
-use Rattle.sessioncheck.specs.Lines.{lines_in}
-use Rattle.sessioncheck.specs.Reports.{report_of}
-use Rattle.sessioncheck.specs.declared.checking.Findings.{Findings}
+use Rattle.sessions.specs.Checks.{CheckLooksAt, IsCheck, all_accepted}
+use Rattle.sessions.specs.Lines.{lines_in}
+use Rattle.sessions.specs.Reports.{report_of}
+use Rattle.sessions.specs.declared.checking.Findings.{Findings}
 use Rattle.modulecmd.specs.declared.checking.CheckExit.{CheckExit}
 use Rattle.modulecmd.specs.declared.checking.CheckExit.TheVariants as exits
 use Rattle.modulecmd.specs.declared.command_exit.Exit.{Exit}
@@ -24,7 +23,7 @@ use Rattle.modulecmd.specs.declared.command_exit.Exit.TheVariants.{Success, Repo
 use Rattle.modulecmd.specs.declared.command_fault.CommandFault.{CommandFault}
 use Rattle.modulecmd.specs.Command.{CommandReason, IsCausedBy, refused_for, of_input, standard, unknown_shell}
 use Rattle.modulecmd.specs.Output.{FinishesWriting, Refuses}
-use Rattle.sessioncheck.specs.Rehearsals.{LacksText}
+use Rattle.sessions.specs.Rehearsals.{LacksText}
 
 -- the shell that a word names
 abbrev pub shell_or : Text → Option Shell → Result Shell CommandReason

@@ -4,8 +4,8 @@ use Rattle.envvars.specs.Texts.{Text}
 use Rattle.envvars.specs.Environment.{Environment}
 use Rattle.filetree.specs.Agreement.{Files, Listings}
 use Rattle.filetree.specs.Relations.{Is, ◌>>◌}
-use Rattle.shells.specs.declared.shell.Shell.{Shell}
-use Rattle.shells.specs.Shells.{shell_named}
+use Rattle.shelltext.specs.declared.shell.Shell.{Shell}
+use Rattle.shelltext.specs.Shells.{shell_named}
 use Rattle.shelltext.specs.declared.print.PrintFault.TheVariants as prints
 use Rattle.shelltext.specs.Printing.{print_fault_number}
 use Rattle.tclrules.specs.declared.limits.Limits.{Limits}
@@ -17,7 +17,7 @@ use Rattle.requests.specs.Steps.{Done, RequestStep, request_context_in}
 use Rattle.filetree.specs.Causes.{Applies}
 use Rattle.modules.specs.Answers.{cause_of}
 use Rattle.modules.specs.Messages as texts
-use Rattle.modules.specs.Refusal.TheVariants as refusals
+use Rattle.modules.specs.declared.refusal.Refusal.TheVariants as refusals
 use Rattle.filetree.specs.declared.find_fault.FindFault.TheVariants as finds
 use Rattle.processinput.specs.declared.input.InputFault.{InputFault}
 use Rattle.processinput.specs.declared.input.InputFault.TheVariants as inputs

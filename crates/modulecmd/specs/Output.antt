@@ -4,13 +4,13 @@ use Rattle.std.specs.List.{flat_map}
 use Rattle.std.specs.Io.KnownBytes.{Keeps, Appends}
 use Rattle.envvars.specs.Texts.{Text}
 use Rattle.envvars.specs.Environment.{Environment}
-use Rattle.requests.specs.Moves.{Module}
+use Rattle.modulefile.specs.Moves.{Module}
 use Rattle.reversal.specs.VariableUses.{VariableUse}
 use Rattle.reversal.specs.Starts.{IsInOrder, IsStart, IsStartWith}
 use Rattle.reversal.specs.Runs.{live_after, AreReversibleTogether}
 use Rattle.reversal.specs.Laws.{Holds}
 use Rattle.requests.specs.Steps.{Done}
-use Rattle.sessioncheck.specs.Rehearsals.{LacksText}
+use Rattle.sessions.specs.Rehearsals.{LacksText}
 use Rattle.requests.specs.Returning.{AreNew, AreReversibleBeside}
 use Rattle.filetree.specs.Agreement.{Files, Listings, InEachPair}
 use Rattle.shelltext.specs.Reading.{TextMakes, SaysDifference}

@@ -4,7 +4,7 @@ use Rattle.std.specs.List.{flat_map}
 use Rattle.envvars.specs.Texts.{Text}
 use Rattle.envvars.specs.Environment.{Environment}
 use Rattle.filetree.specs.Agreement.{Files, Listings}
-use Rattle.requests.specs.Moves.{Move}
+use Rattle.modulefile.specs.Moves.{Move}
 use Rattle.reversal.specs.VariableUses.{VariableUse}
 use Rattle.reversal.specs.Starts.{IsStart}
 use Rattle.reversal.specs.Runs.{live_after}

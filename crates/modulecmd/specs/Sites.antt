@@ -2,12 +2,12 @@
 use Rattle.std.specs.Prelude.{List, []}
 use Rattle.envvars.specs.Environment.{Environment}
 use Rattle.filetree.specs.Agreement.{Files, Listings}
-use Rattle.requests.specs.Moves.{Module}
+use Rattle.modulefile.specs.Moves.{Module}
 use Rattle.reversal.specs.Runs.{live_after}
 use Rattle.reversal.specs.Laws.{Holds}
 use Rattle.requests.specs.Returning.{AreNew}
-use Rattle.sitelaws.specs.RecordUses.{uses_by}
-use Rattle.sitelaws.specs.Certificates.{certified, certificate, AgreesWith}
+use Rattle.sitecertificate.specs.RecordUses.{uses_by}
+use Rattle.sitecertificate.specs.Certificates.{certified, certificate, AgreesWith}
 use Rattle.sitelaws.specs.Sites.{site_of, ArePlainModules}
 use Rattle.sitelaws.specs.Laws.{LoadsAreOf}
 use Rattle.modulecmd.specs.Command.{standard}

@@ -15,9 +15,8 @@ use envvars::{Env, changes};
 use filetree::Tree;
 use modules::Refusal;
 use processinput::read_input;
-use sessioncheck::check;
-use shells::Shell;
-use shelltext::print_changes;
+use sessions::check;
+use shelltext::{Shell, print_changes};
 use std::alloc::Global;
 use std::io::{Read, Write};
 

@@ -13,11 +13,12 @@ use crate::command_fault::CommandFault;
 use crate::finishing::{finish, report_fault};
 use envvars::Env;
 use filetree::Tree;
-use modules::{Changed, Limits, Refusal, Request, request, run_changes};
-use shells::Shell;
-use shelltext::print_changes;
+use modules::{Changed, Refusal, request, run_changes};
+use requests::Request;
+use shelltext::{Shell, print_changes};
 use std::alloc::Global;
 use std::io::Write;
+use tclrules::Limits;
 
 /// How much every command may use: commands in a modulefile, evaluations within one another, bytes in a value.
 pub(crate) const STANDARD: Limits = Limits {

@@ -4,15 +4,16 @@ ghost use Rattle.std.specs.Io.KnownBytes.{Appends};
 ghost use Rattle.modulecmd.specs.Writing.{AppendsPart};
 ghost use Rattle.message.specs.Messages.{around, text_of};
 ghost use Rattle.modulecmd.specs.Lines.{error_line, line_of, message_of};
-ghost use Rattle.modules.specs.Refusal.TheVariants as refusals;
+ghost use Rattle.modules.specs.declared.refusal.Refusal.TheVariants as refusals;
 ghost use Rattle.modulecmd.specs.declared.command_fault.CommandFault.TheVariants.{Refused, Unprinted};
 ghost use Rattle.modulecmd.specs.Command.{number_of, of_arguments, of_input};
 
 use crate::writers::{WriteFault, write_parts};
 use envvars::EnvFault;
+use filetree::FindFault;
 use itoa::Buffer;
 use message::Message;
-use modules::{FindFault, Refusal};
+use modules::Refusal;
 use processinput::{ArgumentsFault, InputFault};
 use shelltext::PrintFault;
 use std::alloc::AllocError;

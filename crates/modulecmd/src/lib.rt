@@ -1,6 +1,5 @@
 //! A whole command: the words of a command line in, the text for a shell and the messages out (module(1)).
 //! Takes memory; reads the tree and input and writes to the writers that it is given; one call asks the process.
-//! Used by the programs modulecmd_main and modcheck, by auditcommand, and by every caller of the library.
 //! `modulecmd` is `run_command`, but answers the status of the process.
 #![tactic(auto)]
 
@@ -21,19 +20,23 @@ pub use envloaded::{Loaded, add_loaded, conflicts_of, drop_loaded, loaded, prere
 pub use envpaths::{End, add_path, drop_path};
 pub use envstacks::{pop_value, push_value};
 pub use envvars::{Change, Env, EnvFault, changes};
-pub use filetree::{DiskTree, MemoryTree, Seen, Tree, TreeFault};
+pub use filetree::{DiskTree, FindFault, MemoryTree, Seen, Tree, TreeFault};
 pub use laws::{commands_return, one_command, site_commands_return};
-pub use lookup::{FindFault, Found, Listing, available, locate, version_order};
+pub use lookup::{Found, Listing, available, locate};
+pub use modulefile::RecordFault;
+pub use modulename::version_order;
+pub use modulerun::RunFault;
 pub use modules::{
-    Action, Changed, Done, EvalFault, Limits, MissingNames, Module, Move, Outcome, RecordFault,
-    Refusal, Reply, Request, RunFault, TextFault, Verdict, request, run, run_changes, session,
-    verdict,
+    Changed, Done, MissingNames, Module, Move, Outcome, Refusal, Reply, Verdict, request, run,
+    run_changes, session, verdict,
 };
 pub use process::process_input;
 pub use processinput::{
     ArgumentsFault, InputFault, arguments, environment_block, environment_of, read_input,
 };
-pub use sessioncheck::rehearse;
-pub use shells::Shell;
-pub use shelltext::{PrintFault, print_changes};
+pub use requests::{Action, Request};
+pub use sessions::rehearse;
+pub use shelltext::{PrintFault, Shell, print_changes};
+pub use tclchars::TextFault;
+pub use tclrules::{EvalFault, Limits};
 pub use writers::WriteFault;

@@ -4,25 +4,25 @@ use Rattle.std.specs.Prelude.{codes}
 use Rattle.std.specs.Str.{chars}
 use Rattle.std.specs.Fmt.{digits}
 use lib.Utf8.{encode}
-use Rattle.tclrules.specs.Runs.{Text}
-use Rattle.tclrules.specs.Braces.{braced_at}
-use Rattle.tclrules.specs.ScanState.{scan}
-use Rattle.tclrules.specs.ScriptReading.{whole_script, script_with, command_at, word_at, unexpanded_word_at, braced_word_at, quoted_word_at, quotes_at, parts_with, part_at, dollar_at, backslash_at, bracket_at, index_at, braced_name_at, after_expansion, inner_at}
-use Rattle.tclrules.specs.Marks.{mark_at, after_white}
-use Rattle.tclrules.specs.Operands.{operand_at, after_number, after_digits, is_truth, quoted_at, braced_text_at}
-use Rattle.tclrules.specs.Operands as operands
-use Rattle.tclrules.specs.ExpressionReading.{expr_at, whole_at, chain_at, climb_at, prefix_at, below_at}
-use Rattle.tclrules.specs.Numerals.{numeral}
-use Rattle.tclrules.specs.ListReading.{list_of, list_at, element_at, piece_of, piece_at}
-use Rattle.tclrules.specs.ValueMessages as value_messages
-use Rattle.tclrules.specs.Characters.{white_space, split_space}
+use Rattle.tclchars.specs.Runs.{Text}
+use Rattle.tclchars.specs.Braces.{braced_at}
+use Rattle.tclscript.specs.ScanState.{scan}
+use Rattle.tclscript.specs.Reading.{whole_script, script_with, command_at, word_at, unexpanded_word_at, braced_word_at, quoted_word_at, quotes_at, parts_with, part_at, dollar_at, backslash_at, bracket_at, index_at, braced_name_at, after_expansion, inner_at}
+use Rattle.tclexpr.specs.Marks.{mark_at, after_white}
+use Rattle.tclexpr.specs.Operands.{operand_at, after_number, after_digits, is_truth, quoted_at, braced_text_at}
+use Rattle.tclexpr.specs.Operands as operands
+use Rattle.tclexpr.specs.Reading.{expr_at, whole_at, chain_at, climb_at, prefix_at, below_at}
+use Rattle.tclchars.specs.Numerals.{numeral}
+use Rattle.tcllist.specs.ListReading.{list_of, list_at, element_at, piece_of, piece_at}
+use Rattle.tcloperators.specs.Messages as value_messages
+use Rattle.tclvalue.specs.Characters.{white_space, split_space}
 use Rattle.tclrules.specs.Messages.{no_variable, no_command, outside_loop, cannot_unset, is_array, bad_option, no_body, no_loop_variable, cannot_redefine}
 use Rattle.tclrules.specs.Names.{unsupported_commands, core_commands}
 use Rattle.modulefile.specs.CommandNames as names
 use Rattle.tclrules.specs.Forms.{core_form}
 use Rattle.tclrules.specs.Derivation.{LeftOut}
 use Rattle.envvars.specs.Environment.{Environment, with_value}
-use Rattle.modulerecords.specs.Records.{Set, Unset, Front, Back, Conflict}
+use Rattle.modulefile.specs.Records.{Set, Unset, Front, Back, Conflict}
 use Rattle.modulefile.specs.Calls.{call_of}
 use Rattle.modulefile.specs.Answers.{FileContext}
 use Rattle.modulefile.specs.Files.{Ran, FileReason, halted, refused, failed, RunsFile, play}

@@ -5,10 +5,10 @@ use Rattle.envvars.specs.Names.{is_variable_name}
 use Rattle.envvars.specs.Environment.{Environment}
 use Rattle.tclrules.specs.Oracle as oracle
 use Rattle.tclrules.specs.Oracle.{Nothing, addition, records_with}
-use Rattle.modulerecords.specs.Records.{Record}
-use Rattle.modulerecords.specs.Judgments.{RecordReason}
-use Rattle.modulerecords.specs.Effects.{Mode, effect, effects}
-use Rattle.modulerecords.proofs.Effected.{whole, effects_go_on}
+use Rattle.modulefile.specs.Records.{Record}
+use Rattle.modulefile.specs.Judgments.{RecordReason}
+use Rattle.modulefile.specs.Effects.{Mode, effect, effects}
+use Rattle.modulefile.proofs.Effected.{whole, effects_go_on}
 use Rattle.modulefile.specs.Results.{◌>>=◌}
 use Rattle.modulefile.specs.Calls as calls
 use Rattle.modulefile.specs.Calls.{adds_record, adds_message, getenv, is_loaded, own_name, typed_name, info, info_test, CallReason, unknown, unsupported, bad_record, CallForm, call_of}

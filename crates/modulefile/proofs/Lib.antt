@@ -1,3 +1,6 @@
+pub mod RecordLemmas
+pub mod Effected
+pub mod Moved
 pub mod Bound
 mod FileEnds
 mod OneFile

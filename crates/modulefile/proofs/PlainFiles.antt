@@ -11,8 +11,8 @@ use Rattle.tclrules.specs.Plans.{Completion, Normal, Raised, Returned, Broken, C
 use Rattle.tclrules.specs.Meaning as meaning
 use Rattle.tclrules.specs.Meaning.{Setting, EvaluatesTo, with_oracle}
 use Rattle.tclrules.specs.declared.limits.Limits.{Limits}
-use Rattle.modulerecords.specs.Judgments.{RecordReason, record_reason}
-use Rattle.modulerecords.specs.Effects.{edited, edit_outcome, permitted, effect}
+use Rattle.modulefile.specs.Judgments.{RecordReason, record_reason}
+use Rattle.modulefile.specs.Effects.{edited, edit_outcome, permitted, effect}
 use Rattle.modulefile.specs.Calls.{adds_record, adds_message, getenv, is_loaded, own_name, typed_name, info, info_test, CallForm, call_of}
 use Rattle.modulefile.specs.Answers.{FileContext, record_number, record_name, record_answer, variable_answer, command_answer, records_in, environment_after, oracle_of, value_shown}
 use Rattle.modulefile.specs.Files.{Ran, FileReason, ran_of, setting_of, FinishesFile, RunsFile, IsSameOrRefused}

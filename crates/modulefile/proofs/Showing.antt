@@ -2,10 +2,10 @@
 use Rattle.std.proofs.Common.{◌≡◌, List, [], ◌∷◌, Option, Some, None, Ok, ◌∙◌}
 use Rattle.envvars.specs.Texts.{Text}
 use Rattle.envvars.specs.Environment.{Environment}
-use Rattle.modulerecords.specs.Records.{Record}
-use Rattle.modulerecords.specs.Judgments.{RecordReason, record_reason}
-use Rattle.modulerecords.specs.Effects.{Mode, load, unload, display, whatis, permitted, effect, effects}
-use Rattle.modulerecords.proofs.Effected.{parts}
+use Rattle.modulefile.specs.Records.{Record}
+use Rattle.modulefile.specs.Judgments.{RecordReason, record_reason}
+use Rattle.modulefile.specs.Effects.{Mode, load, unload, display, whatis, permitted, effect, effects}
+use Rattle.modulefile.proofs.Effected.{parts}
 use Rattle.modulefile.specs.Laws.{ChangesNothing, ShowingChangesNothing}
 use Rattle.modulefile.proofs.WholeFiles.{records_make}
 

@@ -9,9 +9,9 @@ use Rattle.tclrules.specs.Meaning.{Setting, EvaluatesTo, line_at}
 use Rattle.tclrules.specs.Variables.{State}
 use Rattle.tclrules.specs.declared.limits.Limits.{Limits}
 use Rattle.tclrules.proofs.Consultations.{grown, kept}
-use Rattle.modulerecords.specs.Records.{Record}
-use Rattle.modulerecords.specs.Effects.{effects}
-use Rattle.modulerecords.proofs.Effected.{all_allowed}
+use Rattle.modulefile.specs.Records.{Record}
+use Rattle.modulefile.specs.Effects.{effects}
+use Rattle.modulefile.proofs.Effected.{all_allowed}
 use Rattle.modulefile.specs.Results.{◌>>=◌}
 use Rattle.modulefile.specs.Answers.{FileContext, records_in, record_outcome, effects_so_far}
 use Rattle.modulefile.specs.Files.{Ran, FileReason, failed, halt_reason, setting_of, ran_of, FinishesFile}

@@ -8,12 +8,12 @@ use Rattle.envvars.specs.Environment.{Environment, lookup}
 use Rattle.envvars.specs.Reasons.{EnvReason, bad_variable, protected, counter_full, inconsistent, bad_stack, bad_value}
 use Rattle.tclrules.specs.Oracle as oracle
 use Rattle.tclrules.specs.Oracle.{Oracle, OracleAnswer, HostRefusal, Addition, Nothing, NewRecord, Message, Done, Unknown, LeftOut, Refused}
-use Rattle.modulerecords.specs.Records.{Record}
-use Rattle.modulerecords.specs.Judgments.{RecordReason, bad_edit, bad_module_name}
-use Rattle.modulerecords.specs.Effects.{Mode, load, unload, display, whatis, effect, effects}
-use Rattle.shells.specs.declared.shell.Shell.{Shell}
+use Rattle.modulefile.specs.Records.{Record}
+use Rattle.modulefile.specs.Judgments.{RecordReason, bad_edit, bad_module_name}
+use Rattle.modulefile.specs.Effects.{Mode, load, unload, display, whatis, effect, effects}
+use Rattle.shelltext.specs.declared.shell.Shell.{Shell}
 use Rattle.modulefile.specs.Results.{◌>>=◌}
-use Rattle.shells.specs.Shells.{shell_name, shell_family_name}
+use Rattle.shelltext.specs.Shells.{shell_name, shell_family_name}
 use Rattle.modulefile.specs.CommandNames.{command_names}
 use Rattle.modulefile.specs.Calls.{InfoField, mode, shell, shell_type, Call, adds_record, adds_message, getenv, is_loaded, own_name, typed_name, info, info_test, CallReason, unknown, unsupported, bad_arguments, bad_record, CallForm, call_of}
 

@@ -3,8 +3,8 @@ use Rattle.std.specs.Prelude.{◌≡◌, ℕ, List, [], ◌∷◌, ◌++◌, map
 use Rattle.std.specs.Option.{option_map}
 use Rattle.std.specs.declared.alloc.Global.{Global}
 use Rattle.envvars.specs.Texts.{Text}
-use Rattle.modulerecords.specs.Records as records
-use Rattle.modulerecords.specs.Records.{Record}
+use Rattle.modulefile.specs.Records as records
+use Rattle.modulefile.specs.Records.{Record}
 use Rattle.modulefile.specs.declared.call.InfoField.{InfoField}
 use Rattle.modulefile.specs.declared.call.InfoField.TheVariants as info_fields
 use Rattle.modulefile.specs.declared.call.PathEdit.{PathEdit}

@@ -2,14 +2,14 @@
 -- its words alone.
 use Rattle.std.specs.Prelude.{ℕ, ◌||◌, List, [], ◌∷◌, ◌++◌, codes, flat_map, bytes_eq, if◌then◌else◌, Option, Some, None, Result, Ok, Err}
 use Rattle.std.specs.List.{join_with_byte}
-use Rattle.tclrules.specs.Runs.{begins}
-use Rattle.tclrules.specs.Indexes.{after_prefix}
+use Rattle.tclchars.specs.Runs.{begins}
+use Rattle.tclvalue.specs.Indexes.{after_prefix}
 use Rattle.tclrules.specs.Names.{is_among}
 use Rattle.envvars.specs.Texts.{Text}
 use Rattle.envvars.specs.Fields.{colon}
 use Rattle.envpaths.specs.PathTexts.{is_delimiter, split_elements}
-use Rattle.modulerecords.specs.Records.{Record, Set, Unset, Push, Front, Back, Remove, Conflict, Prereq, Whatis}
-use Rattle.modulerecords.specs.Judgments.{RecordReason}
+use Rattle.modulefile.specs.Records.{Record, Set, Unset, Push, Front, Back, Remove, Conflict, Prereq, Whatis}
+use Rattle.modulefile.specs.Judgments.{RecordReason}
 use Rattle.modulefile.specs.CommandNames.{unsupported_commands}
 use Rattle.modulefile.specs.Results.{◌>>=◌}
 

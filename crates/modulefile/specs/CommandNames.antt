@@ -1,6 +1,6 @@
 -- The names of the commands of modulefiles (modulefile(5)). No procedure of a modulefile or a default file may have one.
 use Rattle.std.specs.Prelude.{List, [], ◌∷◌, ◌++◌, codes}
-use Rattle.tclrules.specs.Runs.{Text}
+use Rattle.tclchars.specs.Runs.{Text}
 
 -- the commands of modulefiles, and of default files
 unfoldable pub supported_commands : List Text

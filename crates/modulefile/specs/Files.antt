@@ -3,7 +3,7 @@
 use Rattle.std.specs.Prelude.{◌≡◌, ◌⊎◌, ℕ, Bool, false, List, [], ◌∷◌, codes, Option, Some, None, Result, Ok, Err}
 use Rattle.envvars.specs.Texts.{Text}
 use Rattle.envvars.specs.Environment.{Environment}
-use Rattle.tclrules.specs.TextFaults.{fault_number}
+use Rattle.tclchars.specs.Faults.{fault_number}
 use Rattle.tclrules.specs.Oracle.{HostRefusal, Trace}
 use Rattle.tclrules.specs.Derivation.{Halt, OutOfMemory, BadText, TooManyCommands, TooDeep, ValueTooLong, NumberTooLarge, FractionOperand, LeftOut, Stopped, ByHost, EvaluationOutcome, Ended, Halted, World}
 use Rattle.tclrules.specs.Variables.{Variables}
@@ -11,8 +11,8 @@ use Rattle.tclrules.specs.Plans.{Completion, Normal, Raised, Returned, Broken, C
 use Rattle.tclrules.specs.Playing.{Played}
 use Rattle.tclrules.specs.Meaning.{Setting, EvaluatesTo, line_at, play_file}
 use Rattle.tclrules.specs.declared.limits.Limits.{Limits}
-use Rattle.modulerecords.specs.Records.{Record}
-use Rattle.modulerecords.specs.Effects.{effects}
+use Rattle.modulefile.specs.Records.{Record}
+use Rattle.modulefile.specs.Effects.{effects}
 use Rattle.modulefile.specs.Results.{◌>>=◌}
 use Rattle.modulefile.specs.Calls.{CallReason}
 use Rattle.modulefile.specs.Answers.{FileContext, records_in, record_outcome, oracle_of}

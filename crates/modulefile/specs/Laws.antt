@@ -5,8 +5,8 @@ use Rattle.envvars.specs.Texts.{Text}
 use Rattle.tclrules.specs.Oracle as oracle
 use Rattle.tclrules.specs.Oracle.{OracleAnswer, Nothing, Done, Unknown, LeftOut, Refused, addition, is_question}
 use Rattle.tclrules.specs.declared.limits.Limits.{Limits}
-use Rattle.modulerecords.specs.Judgments.{is_allowed}
-use Rattle.modulerecords.specs.Effects.{Mode, load, unload, display, whatis, effects}
+use Rattle.modulefile.specs.Judgments.{is_allowed}
+use Rattle.modulefile.specs.Effects.{Mode, load, unload, display, whatis, effects}
 use Rattle.modulefile.specs.Calls.{call_of}
 use Rattle.modulefile.specs.Answers.{FileContext, oracle_of, call_adds, call_asks}
 use Rattle.modulefile.specs.Files.{Ran, FileReason, RunsFile, IsSameOrRefused, play}

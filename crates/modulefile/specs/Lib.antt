@@ -1,3 +1,8 @@
+pub mod Records
+pub mod Judgments
+pub mod Effects
+pub mod Moves
+pub mod RecordLaws
 pub mod Results
 pub mod CommandNames
 pub mod Calls
@@ -9,5 +14,5 @@ pub mod Files
 pub mod Reports
 pub mod Rows
 pub mod Laws
+
 -- What the definitions above cite, so that a caller need not name the crates below.
-pub use Rattle.envpaths.specs.PathTexts

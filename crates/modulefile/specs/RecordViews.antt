@@ -3,9 +3,9 @@ use Rattle.std.specs.Prelude.{string_bytes, Option, Some}
 use Rattle.std.specs.Option.{option_map}
 use Rattle.envvars.specs.Texts.{texts_in}
 use Rattle.envvars.specs.Reasons.{reason_of}
-use Rattle.modulerecords.specs.Records as records
-use Rattle.modulerecords.specs.Judgments.{RecordReason, bad_edit, bad_module_name}
-use Rattle.modulerecords.specs.Effects as effects
+use Rattle.modulefile.specs.Records as records
+use Rattle.modulefile.specs.Judgments.{RecordReason, bad_edit, bad_module_name}
+use Rattle.modulefile.specs.Effects as effects
 use Rattle.modulefile.specs.declared.records.Record.{Record}
 use Rattle.modulefile.specs.declared.records.Record.TheVariants as code
 use Rattle.modulefile.specs.declared.records.Mode.{Mode}

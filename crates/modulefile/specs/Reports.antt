@@ -2,10 +2,10 @@
 -- words are written as a list of Tcl, and its descriptions.
 use Rattle.std.specs.Prelude.{ℕ, ◌==◌, List, [], ◌∷◌, ◌++◌, codes, flat_map, if◌then◌else◌, Some, None}
 use Rattle.std.specs.List.{join_with_byte}
-use Rattle.tclrules.specs.Lists.{list_text}
+use Rattle.tcllist.specs.Lists.{list_text}
 use Rattle.envvars.specs.Texts.{Text}
 use Rattle.envvars.specs.Fields.{colon}
-use Rattle.modulerecords.specs.Records.{Record, Set, Unset, Push, Front, Back, Remove, Conflict, Prereq, Whatis, whatis_texts}
+use Rattle.modulefile.specs.Records.{Record, Set, Unset, Push, Front, Back, Remove, Conflict, Prereq, Whatis, whatis_texts}
 
 -- a path command: the option where the delimiter isn't the colon, and the elements as one value
 abbrev pub path_words : Text → ℕ → Text → List Text → List Text

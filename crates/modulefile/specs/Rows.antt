@@ -4,9 +4,9 @@ use Rattle.envvars.specs.Texts.{Text}
 use Rattle.envvars.specs.Environment.{Environment, with_value}
 use Rattle.tclrules.specs.Derivation.{Halt}
 use Rattle.tclrules.specs.declared.limits.Limits.{Limits}
-use Rattle.modulerecords.specs.Records.{Record}
-use Rattle.modulerecords.specs.Effects.{Mode, load, unload, display}
-use Rattle.shells.specs.declared.shell.Shell.TheVariants.{Sh}
+use Rattle.modulefile.specs.Records.{Record}
+use Rattle.modulefile.specs.Effects.{Mode, load, unload, display}
+use Rattle.shelltext.specs.declared.shell.Shell.TheVariants.{Sh}
 use Rattle.modulefile.specs.Answers.{FileContext}
 use Rattle.modulefile.specs.Files.{halted, refused, failed, RunsFile}
 

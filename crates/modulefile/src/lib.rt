@@ -1,12 +1,11 @@
-//! What the commands of modulefiles mean in every mode (modulefile(5)), and what a whole file makes of an environment.
+//! What modulefiles ask for, what their commands mean in every mode, and what a whole file makes of an environment.
 //! Takes memory and touches nothing else.
-//! Used by modulerun, defaultfiles, requests, modulestep and the crates of sites.
 #![tactic(auto)]
 
 mod call;
 mod call_fault;
 mod delimiter;
-mod laws;
+pub mod laws;
 mod names;
 mod record_fault;
 mod records;
@@ -20,4 +19,3 @@ pub use names::{command_names, is_unsupported_command};
 pub use record_fault::RecordFault;
 pub use records::{Mode, Record};
 pub use rows::{completion_rows, file_rows, path_rows, question_rows, refused_rows, report_rows};
-pub use shells::Shell;

@@ -5,7 +5,7 @@ ghost use Rattle.modulefile.specs.Answers.{record_number};
 ghost use Rattle.modulefile.specs.RecordFaults.{number_of, message_of};
 ghost use Rattle.modulefile.specs.RecordViews.{fault_reason};
 ghost use Rattle.modulefile.specs.declared.record_fault.RecordFault.TheVariants.{Env};
-ghost use Rattle.envvars.specs.EnvFault.TheVariants.{OutOfMemory};
+ghost use Rattle.envvars.specs.declared.fault.EnvFault.TheVariants.{OutOfMemory};
 
 use envvars::EnvFault;
 use message::Message;

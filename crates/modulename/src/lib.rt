@@ -1,6 +1,5 @@
 //! The names of modules: how they are spelled, which modules a name means, and the order of versions.
 //! Touches nothing and takes no memory.
-//! Used by whatever handles names: the environment's stacks and loaded list, modulefiles, the search, and requests.
 #![tactic(auto)]
 
 mod digits;

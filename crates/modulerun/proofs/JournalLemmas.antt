@@ -5,9 +5,9 @@ use Rattle.envvars.specs.Texts.{Text}
 use Rattle.envvars.specs.Environment.{Environment}
 use Rattle.envvars.specs.Changes.{NewValue, AreChanges, applied}
 use Rattle.envvars.proofs.ChangeLemmas.{applied-changes}
-use Rattle.modulerecords.specs.Records as records
-use Rattle.modulerecords.specs.Effects as effects
-use Rattle.modulerecords.specs.Effects.{effect, effects}
+use Rattle.modulefile.specs.Records as records
+use Rattle.modulefile.specs.Effects as effects
+use Rattle.modulefile.specs.Effects.{effect, effects}
 use Rattle.modulefile.proofs.Bound.{bind_ok}
 use Rattle.modulefile.proofs.HasEffects.{records_more, effects_more}
 use Rattle.modulefile.specs.declared.records.Mode.{Mode}

@@ -4,7 +4,7 @@ use Rattle.std.specs.declared.alloc.Global.{Global}
 use Rattle.std.specs.List.{list_any}
 use Rattle.std.proofs.lemmas.List.{append_assoc, map-append, drop_more}
 use Rattle.envvars.specs.Texts.{Text, slice_texts}
-use Rattle.modulefile.specs.PathTexts.{split_elements}
+use Rattle.envpaths.specs.PathTexts.{split_elements}
 use Rattle.modulefile.specs.Calls.{elements_of}
 
 -- there is a text, so some text is any

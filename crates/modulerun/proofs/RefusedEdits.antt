@@ -4,8 +4,8 @@ use Rattle.std.specs.Prelude.{IfSome}
 use Rattle.std.specs.Option.{option_map, option_or}
 use Rattle.envvars.specs.Environment.{Environment}
 use Rattle.envvars.specs.Reasons.{EnvReason}
-use Rattle.modulerecords.specs.Judgments.{RecordReason, bad_edit}
-use Rattle.modulerecords.specs.Effects.{edit_outcome, permitted}
+use Rattle.modulefile.specs.Judgments.{RecordReason, bad_edit}
+use Rattle.modulefile.specs.Effects.{edit_outcome, permitted}
 
 -- a variable's name that is refused, before anything else is judged
 pub name_refused : (o n more : Option EnvReason) → IfSome o (λ r. n ≡ Some r) → IfSome (option_map bad_edit o) (λ r. option_map bad_edit (option_or n more) ≡ Some r)

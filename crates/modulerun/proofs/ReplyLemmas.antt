@@ -13,8 +13,8 @@ use Rattle.tclrules.specs.Oracle.{Oracle, OracleAnswer, Trace, NewRecord, trace_
 use Rattle.tclrules.specs.Hosts.{Answers}
 use Rattle.tclrules.specs.declared.host.HostAnswer.{HostAnswer}
 use Rattle.tclrules.specs.declared.host.HostAnswer.TheVariants.{Done, Unknown, LeftOut, Refused, OutOfMemory}
-use Rattle.modulerecords.specs.Records as records
-use Rattle.modulerecords.specs.Judgments.{RecordReason, bad_edit, bad_module_name}
+use Rattle.modulefile.specs.Records as records
+use Rattle.modulefile.specs.Judgments.{RecordReason, bad_edit, bad_module_name}
 use Rattle.modulefile.specs.declared.call.Call.{Call}
 use Rattle.modulefile.specs.declared.call_fault.CallFault.{CallFault}
 use Rattle.modulefile.specs.declared.records.Record.{Record}

@@ -14,7 +14,7 @@ use Rattle.tclrules.specs.declared.limits.Limits.{Limits}
 use Rattle.tclrules.specs.declared.outcome.Ending.{Ending}
 use Rattle.tclrules.specs.declared.outcome.EvalFault.{EvalFault}
 use Rattle.tclrules.specs.declared.outcome.EvalFault.TheVariants as faults
-use Rattle.modulerecords.specs.Effects.{Mode, load, unload, display, whatis}
+use Rattle.modulefile.specs.Effects.{Mode, load, unload, display, whatis}
 use Rattle.modulefile.specs.Calls.{call_of, mode, info, own_name}
 use Rattle.modulefile.specs.Answers.{FileContext, command_answer, mode_word, oracle_of}
 use Rattle.modulefile.specs.Files as files

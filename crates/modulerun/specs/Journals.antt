@@ -6,10 +6,10 @@ use Rattle.std.specs.declared.snapshot.Snapshot.{Snapshot}
 use Rattle.std.specs.declared.vec.Vec.{Vec}
 use Rattle.envvars.specs.Texts.{Text}
 use Rattle.envvars.specs.Environment.{Environment, environment_code}
-use Rattle.modulerecords.specs.Records as records
-use Rattle.modulerecords.specs.Judgments.{RecordReason}
-use Rattle.modulerecords.specs.Effects as effects
-use Rattle.modulerecords.specs.Effects.{effect, effects}
+use Rattle.modulefile.specs.Records as records
+use Rattle.modulefile.specs.Judgments.{RecordReason}
+use Rattle.modulefile.specs.Effects as effects
+use Rattle.modulefile.specs.Effects.{effect, effects}
 use Rattle.modulefile.specs.declared.records.Mode.{Mode}
 use Rattle.modulefile.specs.declared.records.Mode.TheVariants.{Load, Unload, Display, Whatis}
 use Rattle.modulefile.specs.declared.record_fault.RecordFault.{RecordFault}

@@ -1,7 +1,7 @@
 -- The numbers and texts of the faults of modulefiles (own): those of the fault below, or their own.
 use Rattle.std.specs.Prelude.{ℕ, codes}
 use Rattle.message.specs.Messages.{Text, out_of_memory}
-use Rattle.tclrules.specs.TextFaults.{fault_number}
+use Rattle.tclchars.specs.Faults.{fault_number}
 use Rattle.tclrules.specs.Faults as evaluation
 use Rattle.tclrules.specs.declared.outcome.EvalFault.{EvalFault}
 use Rattle.tclrules.specs.declared.outcome.EvalFault.TheVariants as evals

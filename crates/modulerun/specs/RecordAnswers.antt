@@ -1,7 +1,7 @@
 -- What the answers of the code to a command, a judgment and an edit mean (own).
 use Rattle.std.specs.Prelude.{◌≡◌, Option, None, Some, IfSome, Result, Ok, Err}
 use Rattle.envvars.specs.Environment.{Environment}
-use Rattle.modulerecords.specs.Judgments.{RecordReason}
+use Rattle.modulefile.specs.Judgments.{RecordReason}
 use Rattle.modulefile.specs.declared.record_fault.RecordFault.{RecordFault}
 use Rattle.modulefile.specs.RecordViews.{fault_reason}
 

@@ -1,6 +1,6 @@
 -- The fault of a file for the fault of a command or of an edit (own).
-use Rattle.envvars.specs.EnvFault.{EnvFault}
-use Rattle.envvars.specs.EnvFault.TheVariants as edits
+use Rattle.envvars.specs.declared.fault.EnvFault.{EnvFault}
+use Rattle.envvars.specs.declared.fault.EnvFault.TheVariants as edits
 use Rattle.modulefile.specs.declared.record_fault.RecordFault.TheVariants.{Env}
 use Rattle.modulerun.specs.declared.run_fault.RunFault.{RunFault}
 use Rattle.modulerun.specs.declared.run_fault.RunFault.TheVariants as runs

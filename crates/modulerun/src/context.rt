@@ -1,6 +1,6 @@
 //! The context that a modulefile is evaluated in.
 use modulefile::Mode;
-use shells::Shell;
+use shelltext::Shell;
 
 /// The context that a modulefile is evaluated in, but for the environment before it.
 #[derive(Clone, Copy)]

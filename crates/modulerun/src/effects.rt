@@ -4,8 +4,8 @@ ghost use Rattle.std.specs.List.{list_all};
 ghost use Rattle.std.specs.Option.{option_map};
 ghost use Rattle.envvars.specs.Reasons.{Edits};
 ghost use Rattle.envpaths.specs.PathVariables.{is_element, path_reason, added_path, dropped_path};
-ghost use Rattle.modulerecords.specs.Judgments.{bad_edit, value_reason, values_of, names_reason, record_reason};
-ghost use Rattle.modulerecords.specs.Effects.{loaded_by, unloaded_by, edited, effect};
+ghost use Rattle.modulefile.specs.Judgments.{bad_edit, value_reason, values_of, names_reason, record_reason};
+ghost use Rattle.modulefile.specs.Effects.{loaded_by, unloaded_by, edited, effect};
 ghost use Rattle.modulefile.specs.RecordViews.{record_view, mode_view};
 ghost use Rattle.modulerun.specs.RecordAnswers.{IsJudged, IsEdited};
 

@@ -3,8 +3,8 @@ ghost use Rattle.std.specs.Prelude.{◌≡◌, ◌++◌, ◌∷◌, [], Ok, map,
 ghost use Rattle.std.specs.Option.{option_map};
 ghost use Rattle.envvars.specs.Environment.{lookup};
 ghost use Rattle.envvars.specs.Changes.{applied, new_values_in};
-ghost use Rattle.envvars.specs.EnvFault.TheVariants.{OutOfMemory};
-ghost use Rattle.modulerecords.specs.Effects.{effect, effects};
+ghost use Rattle.envvars.specs.declared.fault.EnvFault.TheVariants.{OutOfMemory};
+ghost use Rattle.modulefile.specs.Effects.{effect, effects};
 ghost use Rattle.modulefile.specs.Calls.{adds_record, call_of};
 ghost use Rattle.modulefile.specs.Answers.{records_in};
 ghost use Rattle.modulefile.specs.RecordViews.{mode_view, record_view};

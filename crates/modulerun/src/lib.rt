@@ -1,6 +1,5 @@
 //! The run of one modulefile (modulefile(5)): its text is evaluated as Tcl, and its commands have their effects.
 //! Takes memory, and edits the variables that it is given, all at once where the file is accepted.
-//! Used by modulestep, and by sitewalk and siteaudit for each module of a site.
 #![tactic(auto)]
 
 mod accepted;

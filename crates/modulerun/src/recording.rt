@@ -2,7 +2,7 @@
 ghost use Rattle.std.specs.Prelude.{◌≡◌, map, string_bytes, IfOk};
 ghost use Rattle.std.specs.Option.{option_map};
 ghost use Rattle.envvars.specs.Texts.{texts_in};
-ghost use Rattle.modulerecords.specs.Records.{Set, Unset, Push, Conflict, Prereq};
+ghost use Rattle.modulefile.specs.Records.{Set, Unset, Push, Conflict, Prereq};
 ghost use Rattle.modulefile.specs.Calls.{elements_of, description};
 ghost use Rattle.modulefile.specs.CallViews.{edit_record};
 ghost use Rattle.modulefile.specs.RecordViews.{record_view};

@@ -3,13 +3,12 @@ ghost use Rattle.std.specs.Prelude.{◌≡◌, ◌++◌, ◌∷◌, [], None, So
 ghost use Rattle.envvars.specs.Texts.{Text, texts_in};
 ghost use Rattle.envvars.specs.Changes.{applied, new_values_in};
 ghost use Rattle.tclrules.specs.Oracle.{Nothing, Message, Done};
-ghost use Rattle.modulerecords.specs.Judgments.{RecordReason};
+ghost use Rattle.modulefile.specs.Judgments.{RecordReason};
 ghost use Rattle.modulefile.specs.Calls.{CallReason, bad_record, adds_record, call_of};
 ghost use Rattle.modulefile.specs.CallViews.{HasReason, call_view, field_view};
 ghost use Rattle.modulefile.specs.RecordViews.{mode_view, record_view};
 ghost use Rattle.modulerun.specs.RecordAnswers.{HasFault};
-ghost use Rattle.modulefile.specs.Answers.{command_answer, any_loaded, question_answer, not_done, variable_answer, truth};
-ghost use Rattle.modulefile.specs.Answers.{field_text, field_test, value_shown};
+ghost use Rattle.modulefile.specs.Answers.{command_answer, any_loaded, question_answer, not_done, variable_answer, truth, field_text, field_test, value_shown};
 ghost use Rattle.modulefile.specs.Files.{ran_of};
 ghost use Rattle.modulerun.specs.declared.run_fault.RunFault.TheVariants.{OutOfMemory};
 ghost use Rattle.modulerun.specs.Running.{ran_view, eval_reason, file_reason_of};

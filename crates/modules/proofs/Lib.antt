@@ -1,5 +1,13 @@
+pub mod MoveLemmas
+pub mod StepLemmas
+pub mod NameLemmas
+pub mod VerdictLemmas
+pub mod MemoryNumberLemmas
+pub mod FailureLemmas
+pub mod ListedLemmas
+pub mod TreeAnswers
+pub mod EachLemmas
+pub mod SwitchLemmas
+pub mod RequestNumbers
 pub mod RunLemmas
 pub mod SessionLemmas
--- Handed on, so that a caller need not name the crates below.
-pub use Rattle.requeststep.proofs.EachLemmas
-pub use Rattle.requeststep.proofs.MemoryNumberLemmas

@@ -15,13 +15,13 @@ use Rattle.requests.specs.Steps.{RequestContext, RequestStep}
 use Rattle.filetree.specs.Agreement.{FailsOnlyWhere, Files, Listings, InEachPair, Narrows}
 use Rattle.filetree.specs.Causes.{Cause, Applies, memory, device, because}
 use Rattle.filetree.proofs.FailedPaths.{only_then_in_each, only_wider_in_each}
-use Rattle.shells.specs.declared.shell.Shell.{Shell}
-use Rattle.requeststep.specs.Answers.{cause_of}
-use Rattle.requeststep.specs.Messages.{memory_number, number_by, number_of}
-use Rattle.requeststep.specs.Refusal.{Refusal}
-use Rattle.requeststep.specs.Views.{done_view}
-use Rattle.requeststep.specs.Done.{Done}
-use Rattle.requeststep.proofs.MemoryNumberLemmas.{of_three}
+use Rattle.shelltext.specs.declared.shell.Shell.{Shell}
+use Rattle.modules.specs.Answers.{cause_of}
+use Rattle.modules.specs.Messages.{memory_number, number_by, number_of}
+use Rattle.modules.specs.declared.refusal.Refusal.{Refusal}
+use Rattle.modules.specs.Views.{done_view}
+use Rattle.modules.specs.declared.done.Done.{Done}
+use Rattle.modules.proofs.MemoryNumberLemmas.{of_three}
 use Rattle.modules.specs.declared.sessions.Outcome.{Outcome}
 use Rattle.modules.specs.declared.sessions.Outcome.TheVariants.{Accepted, Refused}
 use Rattle.modules.specs.Responses.{accepted_in, by_cause, count_cause, count_failed, count_one, env_after_moves, response_of, responses, Returns}

@@ -1,10 +1,18 @@
+-- How the values and answers of the program show what the definitions in requests say.
+pub mod MoveViews
+pub mod Views
+pub mod Answers
+pub mod Spaced
+pub mod Messages
+pub mod Verdicts
+-- for this crate's own contracts, and those of requeststep
+pub mod Parts
+pub mod MemoryNumbers
+-- for this crate's own contracts alone
+pub mod RequestParts
+-- How the values and answers of one module show what the definitions say, so that a caller need not name the crate below.
 -- The answers of requests and sessions, as the definitions see them.
 pub mod Replies
 pub mod Responses
+
 -- What a step answers, so that a caller need not name the crates below.
-pub use Rattle.requeststep.specs.Answers
-pub use Rattle.requeststep.specs.Messages
-pub use Rattle.requeststep.specs.MoveViews
-pub use Rattle.requeststep.specs.Verdicts
-pub use Rattle.requeststep.specs.Refusal
-pub use Rattle.requeststep.specs.Verdict

@@ -3,7 +3,7 @@ use Rattle.std.specs.Prelude.{string_bytes}
 use Rattle.envvars.specs.Environment.{Environment}
 use Rattle.envvars.specs.Texts.{texts_in}
 use Rattle.envvars.specs.Changes.{applied, new_values_in}
-use Rattle.requeststep.specs.MoveViews.{moves_of}
+use Rattle.modules.specs.MoveViews.{moves_of}
 use Rattle.modules.specs.declared.reply.Changed.{Changed}
 use Rattle.modules.specs.declared.reply.Reply.{Reply}
 use Rattle.requests.specs.Steps.{Done}

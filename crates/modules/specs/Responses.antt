@@ -2,21 +2,21 @@
 use Rattle.std.specs.Prelude.{◌≡◌, ℕ, Bool, false, ◌+◌, List, [], ◌∷◌, ◌++◌, Result, Ok, Err}
 use Rattle.envvars.specs.Texts.{Text}
 use Rattle.envvars.specs.Environment.{Environment}
-use Rattle.requests.specs.Moves.{all_moved}
-use Rattle.requests.specs.VariableUses.{VariableUse}
-use Rattle.requests.specs.Starts.{IsStart}
-use Rattle.requests.specs.Runs.{live_after}
-use Rattle.requests.specs.ReversalLaws.{Holds}
+use Rattle.modulefile.specs.Moves.{all_moved}
+use Rattle.reversal.specs.VariableUses.{VariableUse}
+use Rattle.reversal.specs.Starts.{IsStart}
+use Rattle.reversal.specs.Runs.{live_after}
+use Rattle.reversal.specs.Laws.{Holds}
 use Rattle.requests.specs.Sessions as sessions
 use Rattle.requests.specs.Sessions.{Response, accepted, refused, given_up, env_after, session_moves}
 use Rattle.requests.specs.Returning.{AreNew, AreReversibleBeside}
 use Rattle.requests.specs.Reasons.{RequestReason}
 use Rattle.filetree.specs.Causes.{Cause, memory, device, because}
-use Rattle.requeststep.specs.Answers.{cause_of, is_failure}
-use Rattle.requeststep.specs.Messages.{number_of}
-use Rattle.requeststep.specs.MoveViews.{moves_of}
-use Rattle.requeststep.specs.Views.{done_view}
-use Rattle.requeststep.specs.Done.{Done}
+use Rattle.modules.specs.Answers.{cause_of, is_failure}
+use Rattle.modules.specs.Messages.{number_of}
+use Rattle.modules.specs.MoveViews.{moves_of}
+use Rattle.modules.specs.Views.{done_view}
+use Rattle.modules.specs.declared.done.Done.{Done}
 use Rattle.modules.specs.declared.sessions.Outcome.{Outcome}
 use Rattle.modules.specs.declared.sessions.Outcome.TheVariants.{Accepted, Refused}
 

@@ -1,23 +1,40 @@
 //! Requests run over an environment, one alone or one after another: `run`, `run_changes`, `session` (module(1)).
 //! Takes memory; changes the `Env` and reads the files and directories (`Tree`) that it is given.
-//! Used by sessioncheck and modulecmd.
+//! Clauses: `over_tree` is the answer over a tree, `given` that of a call that reads none; `reads` and `failed` say what
+//! the tree was asked, and `base` that the environment below the variables stays. The calls for one name have these of a
+//! tree as one record, `TreeAnswer`.
 #![tactic(auto)]
 
+mod commands;
+mod done;
+mod entries;
+mod files;
+mod judged;
+mod missing;
+mod progress;
+mod refusal;
 mod reply;
 mod request_words;
 mod running;
+mod scripts;
 mod sessions;
+mod verdicts;
 
+pub use done::{Done, Module, Move};
 pub use envvars::{Change, Env, EnvFault};
 pub use filetree::{FindFault, Tree, TreeFault};
+pub use judged::{Verdict, are_reversible, is_reversible};
+pub use missing::MissingNames;
 pub use modulefile::RecordFault;
 pub use modulerun::RunFault;
+pub use refusal::Refusal;
 pub use reply::{Changed, Reply};
 pub use request_words::request;
 pub use requests::{Action, Request};
-pub use requeststep::{Done, MissingNames, Module, Move, Refusal, Verdict, verdict};
 pub use running::{run, run_changes};
+pub use scripts::script_at;
 pub use sessions::{Outcome, respond, session};
-pub use shells::Shell;
+pub use shelltext::Shell;
 pub use tclchars::TextFault;
 pub use tclrules::{EvalFault, Limits};
+pub use verdicts::verdict;

@@ -1,11 +1,11 @@
 //! What an accepted request answers: its changes or its environment, and what it did besides.
 ghost use Rattle.std.specs.Prelude.{◌≡◌};
 ghost use Rattle.envvars.specs.Texts.{texts_in};
-ghost use Rattle.requests.specs.Moves.{loaded_names};
-ghost use Rattle.requeststep.specs.MoveViews.{moves_of};
+ghost use Rattle.modulefile.specs.Moves.{loaded_names};
+ghost use Rattle.modules.specs.MoveViews.{moves_of};
 
+use crate::done::Move;
 use envvars::{Change, Env};
-use requeststep::Move;
 use std::snapshot::Snapshot;
 
 /// What an accepted request changes, and what it did besides.

@@ -3,11 +3,11 @@ ghost use Rattle.std.specs.Prelude.{◌≡◌, map, IfOk, string_bytes};
 ghost use Rattle.filetree.specs.Relations.{Is};
 ghost use Rattle.requests.specs.Requests.{request_of};
 ghost use Rattle.requests.specs.RequestViews.{action_view};
-ghost use Rattle.requeststep.specs.Answers.{GivesOrRefuses};
+ghost use Rattle.modules.specs.Answers.{GivesOrRefuses};
 
+use crate::refusal::Refusal;
 use requests::Request;
-use requeststep::Refusal;
-use shells::Shell;
+use shelltext::Shell;
 use std::alloc::Global;
 
 /// The request that the words make; the first is the subcommand. `add`, `rm`, `swap` and `display` are short for

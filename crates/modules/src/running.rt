@@ -5,16 +5,17 @@ ghost use Rattle.filetree.specs.Agreement.{FailsAt, InEachPair, ReadsOn};
 ghost use Rattle.requests.specs.RequestViews.{action_view};
 ghost use Rattle.requests.specs.Steps.{RequestStep, request_context_in};
 ghost use Rattle.requests.specs.Looked.{RequestLooksAt};
-ghost use Rattle.requeststep.specs.Answers.{StepAnswersOverTree, is_failure};
-ghost use Rattle.requeststep.specs.MemoryNumbers.{memory_numbers};
-ghost use Rattle.requeststep.specs.Messages.{MemoryNumberAmong};
+ghost use Rattle.modules.specs.Answers.{StepAnswersOverTree, is_failure};
+ghost use Rattle.modules.specs.MemoryNumbers.{memory_numbers};
+ghost use Rattle.modules.specs.Messages.{MemoryNumberAmong};
 ghost use Rattle.modules.specs.Replies.{changed_env, changed_view, reply_view};
 
+use crate::commands::step;
+use crate::refusal::Refusal;
 use crate::reply::{Changed, Reply};
 use envvars::{Env, Vars, Working};
 use filetree::Tree;
 use requests::Request;
-use requeststep::{Refusal, step};
 use std::alloc::Global;
 use tclrules::Limits;
 

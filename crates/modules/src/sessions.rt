@@ -1,21 +1,22 @@
 //! Runs requests one after another, each with its outcome; a refused one changes nothing.
 ghost use Rattle.std.specs.Prelude.{◌≡◌, ◌<◌, ◌≤◌, ◌+◌, [], ◌∷◌, map, IfOk, IfErr, OnErr};
 ghost use Rattle.filetree.specs.Agreement.{FailsAt, FailsIf, FailsOnlyAt, InEachPair, Narrows, ReadsOn};
-ghost use Rattle.shells.specs.declared.shell.Shell.{Shell};
+ghost use Rattle.shelltext.specs.declared.shell.Shell.{Shell};
 ghost use Rattle.requests.specs.RequestViews.{action_view, request_view};
 ghost use Rattle.requests.specs.Sessions.{Session, IsResponse, env_after, end_environment};
 ghost use Rattle.requests.specs.Steps.{RequestStep, request_context_in};
 ghost use Rattle.requests.specs.Looked.{RequestLooksAt, SessionLooksAt};
-ghost use Rattle.requeststep.specs.Answers.{StepAnswersOverTree, is_failure};
-ghost use Rattle.requeststep.specs.Views.{done_view};
-ghost use Rattle.requeststep.specs.Refusal.TheVariants as refusals;
+ghost use Rattle.modules.specs.Answers.{StepAnswersOverTree, is_failure};
+ghost use Rattle.modules.specs.Views.{done_view};
+ghost use Rattle.modules.specs.declared.refusal.Refusal.TheVariants as refusals;
 ghost use Rattle.modules.specs.Responses.{response_of, responses, has_failed, count_failed, Returns};
 
+use crate::done::Done;
+use crate::refusal::Refusal;
 use crate::running::run_changes;
 use envvars::{Env, Vars};
 use filetree::Tree;
 use requests::Request;
-use requeststep::{Done, Refusal};
 use std::alloc::Global;
 use tclrules::Limits;
 

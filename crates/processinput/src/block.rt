@@ -1,6 +1,6 @@
 //! An environment from a block of entries, as the system gives it to a process (environ(7)).
 ghost use Rattle.std.specs.Prelude.{◌≡◌, IfOk, IfErr};
-ghost use Rattle.envvars.specs.EnvFault.TheVariants.{OutOfMemory};
+ghost use Rattle.envvars.specs.declared.fault.EnvFault.TheVariants.{OutOfMemory};
 ghost use Rattle.envvars.specs.EnvironmentBlock as block_specs;
 
 use envvars::{Env, EnvFault};

@@ -10,10 +10,10 @@ use Rattle.envvars.specs.Texts.{Text, has}
 use Rattle.envvars.specs.Environment.{Environment}
 use Rattle.envloaded.specs.Loaded.{Entry, names_of, loaded_in}
 use Rattle.filetree.specs.Relations.{Is, Then, If}
-use Rattle.modulerecords.specs.Records.{Record}
-use Rattle.modulerecords.specs.Effects as modes
-use Rattle.modulerecords.specs.Effects.{Mode}
-use Rattle.modulerecords.specs.Moves.{Move, Loads, Unloads, moved, Fits, MovesReach}
+use Rattle.modulefile.specs.Records.{Record}
+use Rattle.modulefile.specs.Effects as modes
+use Rattle.modulefile.specs.Effects.{Mode}
+use Rattle.modulefile.specs.Moves.{Move, Loads, Unloads, moved, Fits, MovesReach}
 use Rattle.search.specs.Reasons.{bad_name}
 use Rattle.search.specs.Found as search
 use Rattle.requests.specs.Refusals.{refused_as}

@@ -6,12 +6,12 @@ use Rattle.envvars.specs.Environment.{Environment}
 use Rattle.envloaded.specs.Loaded.{Entry, names_of}
 use Rattle.filetree.specs.Modulefiles.{FileContent, absent, no_cookie, not_utf8, script, modulefile}
 use Rattle.filetree.specs.Relations.{Is, Then, If}
-use Rattle.modulerecords.specs.Effects as modes
-use Rattle.modulerecords.specs.Moves.{Module, Move, Loads, Unloads, moved}
-use Rattle.modulerecords.specs.Moves as moves
+use Rattle.modulefile.specs.Effects as modes
+use Rattle.modulefile.specs.Moves.{Module, Move, Loads, Unloads, moved}
+use Rattle.modulefile.specs.Moves as moves
 use Rattle.modulefile.specs.Answers.{FileContext}
 use Rattle.modulefile.specs.Files.{Ran, RunsFile}
-use Rattle.defaultfiles.specs.DefaultFileResults.{HasResult}
+use Rattle.lookup.specs.DefaultFileResults.{HasResult}
 use Rattle.search.specs.Reasons.{bad_name}
 use Rattle.search.specs.Found as search
 use Rattle.search.specs.Found.{Found}

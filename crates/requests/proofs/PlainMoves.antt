@@ -12,8 +12,8 @@ use Rattle.envvars.specs.Environment.{Environment}
 use Rattle.envvars.proofs.ChangeLemmas.{are_distinct-push}
 use Rattle.envloaded.specs.Loaded.{Entry, names_of, loaded_in}
 use Rattle.filetree.specs.Modulefiles.{script, modulefile}
-use Rattle.shells.specs.declared.shell.Shell.{Shell}
-use Rattle.modulerecords.specs.Moves.{Module, Move, Loads, Unloads, entry_of, Fits, MovesReach}
+use Rattle.shelltext.specs.declared.shell.Shell.{Shell}
+use Rattle.modulefile.specs.Moves.{Module, Move, Loads, Unloads, entry_of, Fits, MovesReach}
 use Rattle.modulefile.specs.Files.{Ran, refused_by, RunsFile, IsSameOrRefused}
 use Rattle.modulefile.specs.Laws.{PlainFilesAgree}
 use Rattle.reversal.specs.VariableUses.{VariableUse}

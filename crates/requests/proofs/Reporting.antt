@@ -3,9 +3,9 @@ use Rattle.std.proofs.Common.{◌≡◌, List, [], ◌∷◌, Result, Ok, Err, r
 use Rattle.envvars.specs.Texts.{Text}
 use Rattle.envvars.specs.Environment.{Environment}
 use Rattle.filetree.specs.Relations.{Is, Then}
-use Rattle.modulerecords.specs.Records.{Record}
-use Rattle.modulerecords.specs.Effects as modes
-use Rattle.modulerecords.specs.Effects.{Mode}
+use Rattle.modulefile.specs.Records.{Record}
+use Rattle.modulefile.specs.Effects as modes
+use Rattle.modulefile.specs.Effects.{Mode}
 use Rattle.search.specs.Found as search
 use Rattle.requests.specs.Reasons.{RequestReason}
 use Rattle.requests.specs.Requests.{RequestedAction, load, unload, switch, purge, list, avail, show, whatis}

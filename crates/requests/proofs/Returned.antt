@@ -2,7 +2,7 @@
 use Rattle.std.proofs.Common.{◌≡◌, List, [], ◌∷◌, ◌++◌, refl, ap, sym, ◌∙◌, subst}
 use Rattle.envvars.specs.Texts.{Text}
 use Rattle.envvars.specs.Environment.{Environment}
-use Rattle.modulerecords.specs.Moves.{Module, Move, Loads, Unloads, MovesReach}
+use Rattle.modulefile.specs.Moves.{Module, Move, Loads, Unloads, MovesReach}
 use Rattle.reversal.specs.VariableUses.{VariableUse}
 use Rattle.reversal.specs.Runs.{without_live}
 use Rattle.reversal.specs.Requests as moves

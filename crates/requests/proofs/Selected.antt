@@ -2,7 +2,7 @@
 use Rattle.std.proofs.Common.{◌≡◌, ◌<◌, List, [], ◌∷◌, String, Global, map, length, refl, arith}
 use Rattle.std.specs.Prelude.{nat_eq, string_bytes}
 use Rattle.std.specs.List.{list_any, starts_with}
-use Rattle.search.specs.ModuleName.{Text}
+use Rattle.modulename.specs.ModuleName.{Text}
 use Rattle.requests.specs.Reports.{is_selected}
 
 -- where there are texts, those that begin with one of them

@@ -3,8 +3,8 @@ use Rattle.std.proofs.Common.{◌≡◌, true, List, [], ◌∷◌, map, Ok, Err
 use Rattle.std.specs.List.{list_all}
 use Rattle.std.proofs.lemmas.Bool.{and_parts}
 use Rattle.envvars.specs.Environment.{Environment}
-use Rattle.modulerecords.specs.Moves.{MovesReach}
-use Rattle.modulerecords.specs.Laws.{ReachComposes}
+use Rattle.modulefile.specs.Moves.{MovesReach}
+use Rattle.modulefile.specs.RecordLaws.{ReachComposes}
 use Rattle.reversal.specs.Requests as moves
 use Rattle.requests.specs.Requests.{RequestedAction, Request}
 use Rattle.requests.specs.Steps.{RequestContext}

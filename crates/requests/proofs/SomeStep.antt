@@ -7,14 +7,14 @@ use Rattle.envloaded.specs.Loaded.{Entry, names_of}
 use Rattle.filetree.specs.Modulefiles.{modulefile}
 use Rattle.tclrules.specs.declared.limits.Limits.{Limits}
 use Rattle.filetree.specs.Relations.{Is, Then}
-use Rattle.modulerecords.specs.Records.{Record}
-use Rattle.modulerecords.specs.Effects as modes
-use Rattle.modulerecords.specs.Effects.{Mode}
-use Rattle.modulerecords.specs.Moves.{Unloads}
+use Rattle.modulefile.specs.Records.{Record}
+use Rattle.modulefile.specs.Effects as modes
+use Rattle.modulefile.specs.Effects.{Mode}
+use Rattle.modulefile.specs.Moves.{Unloads}
 use Rattle.modulefile.specs.Answers.{FileContext}
 use Rattle.modulefile.specs.Files.{RunsFile}
 use Rattle.modulefile.specs.Laws as files
-use Rattle.defaultfiles.specs.DefaultFileResults.{HasResult}
+use Rattle.lookup.specs.DefaultFileResults.{HasResult}
 use Rattle.search.specs.DefaultFiles.{DefaultFileResult}
 use Rattle.search.specs.Reasons.{bad_name}
 use Rattle.search.specs.Found as search

@@ -7,7 +7,7 @@ use Rattle.envvars.specs.Texts.{Text, has}
 use Rattle.envvars.specs.Environment.{Environment}
 use Rattle.envloaded.specs.Loaded.{Entry, names_of, loaded_in, AreLoadedInOrder}
 use Rattle.envloaded.proofs.LoadedAgain.{loaded_again}
-use Rattle.modulerecords.specs.Moves.{Module, Move, Loads, Unloads, entry_of, Fits, MovesReach}
+use Rattle.modulefile.specs.Moves.{Module, Move, Loads, Unloads, entry_of, Fits, MovesReach}
 use Rattle.reversal.specs.VariableUses.{VariableUse}
 use Rattle.reversal.specs.Live.{entries_over}
 use Rattle.reversal.specs.Starts.{IsInOrder, IsStart, IsStartWith}

@@ -1,6 +1,6 @@
 -- The rest of the report of a directory, while it is written (own).
 use Rattle.std.specs.Prelude.{Bool, true, false, List, filter, flat_map}
-use Rattle.search.specs.ModuleName.{Text}
+use Rattle.modulename.specs.ModuleName.{Text}
 use Rattle.search.specs.Listed.{ListingEntry}
 use Rattle.requests.specs.Reports.{is_selected, module_line, modules_text}
 

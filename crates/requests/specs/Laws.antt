@@ -4,7 +4,7 @@ use Rattle.std.specs.Prelude.{◌≡◌, true, List, [], ◌++◌, map, Result, 
 use Rattle.std.specs.List.{list_all}
 use Rattle.envvars.specs.Texts.{Text}
 use Rattle.envvars.specs.Environment.{Environment}
-use Rattle.modulerecords.specs.Moves.{Module, all_moved, MovesReach}
+use Rattle.modulefile.specs.Moves.{Module, all_moved, MovesReach}
 use Rattle.reversal.specs.VariableUses.{VariableUse}
 use Rattle.reversal.specs.Starts.{IsInOrder, IsStart, IsStartWith}
 use Rattle.reversal.specs.Runs.{live_after, AreReversibleTogether}

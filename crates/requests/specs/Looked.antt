@@ -5,14 +5,13 @@ use Rattle.modulename.specs.ModuleName.{is_module_name}
 use Rattle.envvars.specs.Texts.{Text, has}
 use Rattle.envvars.specs.Environment.{Environment}
 use Rattle.envloaded.specs.Loaded.{Entry, names_of}
-use Rattle.defaultfiles.specs.DefaultFileResults.{HasResult}
-use Rattle.modulerecords.specs.Effects as modes
+use Rattle.lookup.specs.DefaultFileResults.{HasResult}
+use Rattle.modulefile.specs.Effects as modes
 use Rattle.search.specs.Looked as search
 use Rattle.requests.specs.Reasons.{RequestReason}
 use Rattle.requests.specs.Requests.{Request, RequestedAction, load, unload, switch, purge, list, avail, show, whatis}
 use Rattle.requests.specs.Sessions.{Response, IsResponse, env_after, in_shell}
-use Rattle.requests.specs.Steps.{RequestContext, Done, nothing_done, entries_of, modulepath, last_meant, old_name}
-use Rattle.requests.specs.Steps.{LoadsName, UnloadsName, ShowsName, shown_text, described_text}
+use Rattle.requests.specs.Steps.{RequestContext, Done, nothing_done, entries_of, modulepath, last_meant, old_name, LoadsName, UnloadsName, ShowsName, shown_text, described_text}
 
 -- The search for what a name means now looks at this path. The file of the module that is found is one of these.
 abbrev pub SearchLooksAt : RequestContext → Environment → Text → Text → Type 0

@@ -2,7 +2,7 @@
 -- they are causes beside these.
 use Rattle.std.specs.Prelude.{ℕ, List}
 use Rattle.envvars.specs.Texts.{Text}
-use Rattle.modulerecords.specs.Judgments.{RecordReason}
+use Rattle.modulefile.specs.Judgments.{RecordReason}
 use Rattle.modulefile.specs.Answers.{record_number}
 use Rattle.modulefile.specs.Files.{FileReason, file_reason_number}
 use Rattle.search.specs.Reasons as search

@@ -1,7 +1,7 @@
 -- What a command line asks for (module(1), Sub-commands).
 use Rattle.std.specs.Prelude.{Bool, ◌||◌, List, [], ◌∷◌, codes, if◌then◌else◌, bytes_eq, Option, Some, None, Result, Ok, Err}
 use Rattle.envvars.specs.Texts.{Text}
-use Rattle.shells.specs.declared.shell.Shell.{Shell}
+use Rattle.shelltext.specs.declared.shell.Shell.{Shell}
 use Rattle.requests.specs.Reasons.{RequestReason, bad_arguments, unknown_subcommand}
 
 -- What is asked for: with the names of modules, or the texts, as they were typed.

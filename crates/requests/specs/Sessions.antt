@@ -2,8 +2,8 @@
 use Rattle.std.specs.Prelude.{ℕ, ◌≡◌, ◌==◌, Bool, true, false, List, [], ◌∷◌, map, Ok, Err}
 use Rattle.std.specs.List.{list_any}
 use Rattle.envvars.specs.Environment.{Environment}
-use Rattle.shells.specs.declared.shell.Shell.{Shell}
-use Rattle.modulerecords.specs.Moves.{Move}
+use Rattle.shelltext.specs.declared.shell.Shell.{Shell}
+use Rattle.modulefile.specs.Moves.{Move}
 use Rattle.reversal.specs.Requests as moves
 use Rattle.reversal.specs.Requests.{all_moves}
 use Rattle.requests.specs.Reasons.{RequestReason}

@@ -7,20 +7,20 @@ use Rattle.envvars.specs.Environment.{Environment, lookup}
 use Rattle.envvars.specs.Reasons as edits
 use Rattle.envloaded.specs.Loaded.{Entry, names_of, loaded_in}
 use Rattle.tclrules.specs.declared.limits.Limits.{Limits}
-use Rattle.shells.specs.declared.shell.Shell.{Shell}
+use Rattle.shelltext.specs.declared.shell.Shell.{Shell}
 use Rattle.filetree.specs.Agreement.{Files, Listings}
 use Rattle.filetree.specs.Modulefiles.{FileContent, absent, no_cookie, not_utf8, script, modulefile}
 use Rattle.filetree.specs.Relations.{Is, If, ◌>>◌}
-use Rattle.modulerecords.specs.Records.{Record}
-use Rattle.modulerecords.specs.Judgments.{bad_edit}
-use Rattle.modulerecords.specs.Effects as modes
-use Rattle.modulerecords.specs.Effects.{Mode}
-use Rattle.modulerecords.specs.Moves.{Module, Move, Loads, Unloads, moved}
+use Rattle.modulefile.specs.Records.{Record}
+use Rattle.modulefile.specs.Judgments.{bad_edit}
+use Rattle.modulefile.specs.Effects as modes
+use Rattle.modulefile.specs.Effects.{Mode}
+use Rattle.modulefile.specs.Moves.{Module, Move, Loads, Unloads, moved}
 use Rattle.modulefile.specs.Results.{◌>>=◌}
 use Rattle.modulefile.specs.Answers.{FileContext}
 use Rattle.modulefile.specs.Files.{Ran, RunsFile}
 use Rattle.modulefile.specs.Reports.{show_text, whatis_text}
-use Rattle.defaultfiles.specs.DefaultFileResults.{HasResult}
+use Rattle.lookup.specs.DefaultFileResults.{HasResult}
 use Rattle.search.specs.Reasons.{bad_name, not_utf8_at}
 use Rattle.search.specs.Found as search
 use Rattle.search.specs.Found.{Found}

@@ -4,9 +4,9 @@ use Rattle.std.specs.List.{list_all}
 use Rattle.envvars.specs.Texts.{Text}
 use Rattle.envvars.specs.Environment.{Environment}
 use Rattle.envloaded.specs.Loaded.{Entry}
-use Rattle.shells.specs.declared.shell.Shell.TheVariants.{Sh}
+use Rattle.shelltext.specs.declared.shell.Shell.TheVariants.{Sh}
 use Rattle.filetree.specs.Relations.{Is, ◌>>◌}
-use Rattle.modulerecords.specs.Effects as modes
+use Rattle.modulefile.specs.Effects as modes
 use Rattle.modulefile.specs.Answers.{FileContext}
 use Rattle.modulefile.specs.Files.{Ran, FileReason, RunsFile, IsSameOrRefused}
 use Rattle.search.specs.Found as search

@@ -1,6 +1,6 @@
 //! A request: what a command line asks for, and for which shell (module(1)).
 
-use shells::Shell;
+use shelltext::Shell;
 
 /// What is asked for, with the names of modules, or the texts, as they were typed.
 #[derive(Debug, Drop)]

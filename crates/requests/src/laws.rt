@@ -1,6 +1,5 @@
 //! Laws about requests, sessions and verdicts. Each is a function that does nothing: its contract is the law.
-ghost use Rattle.requests.specs.Laws.{OneOutcome, SomeOutcome, StepsReach, StepsAreTheirMoves, ReportsChangeNothing};
-ghost use Rattle.requests.specs.Laws.{SessionsRun, SessionsReach, OneSession, SessionsReturn, PlainSessionsReturn, CommandsReturn};
+ghost use Rattle.requests.specs.Laws.{OneOutcome, SomeOutcome, StepsReach, StepsAreTheirMoves, ReportsChangeNothing, SessionsRun, SessionsReach, OneSession, SessionsReturn, PlainSessionsReturn, CommandsReturn};
 ghost use Rattle.requests.specs.PlainRuns.{JudgedIsPlain};
 ghost use Rattle.requests.specs.JudgedRuns.{SomeVerdict, JudgedIsReversible, JudgedSessionsReturn};
 ghost use Rattle.requests.specs.Verdicts.{OneVerdict, PlainHolds};
@@ -14,8 +13,8 @@ pub fn outcomes()
     ensures all_moved { StepsAreTheirMoves }
 {
     modulefile::files();
-    defaultfiles::one_result();
-    modulerecords::laws::moves();
+    lookup::one_result();
+    modulefile::laws::moves();
 }
 
 /// Each request other than `avail` has an outcome: what a search asks of a tree can be decided, and every evaluation
@@ -24,7 +23,7 @@ pub fn some_outcome()
     ensures { SomeOutcome }
 {
     modulefile::files();
-    defaultfiles::some_result();
+    lookup::some_result();
 }
 
 /// `list`, `avail`, `show` and `whatis` leave the environment as it is.
@@ -40,7 +39,7 @@ pub fn sessions()
     ensures one { OneSession }
 {
     outcomes();
-    modulerecords::laws::moves();
+    modulefile::laws::moves();
 }
 
 /// From a start in order, in a session of new modules that are reversible and apart, each environment is in order and
@@ -93,6 +92,6 @@ pub fn verdicts()
 {
     modulefile::files();
     modulefile::plain();
-    defaultfiles::one_result();
-    defaultfiles::some_result();
+    lookup::one_result();
+    lookup::some_result();
 }

@@ -1,6 +1,5 @@
 //! Requests (module(1)): what one is and makes of an environment, with laws; its words, conditions and reports.
 //! Takes memory for the words of a request and the text of a report, and touches nothing else.
-//! Used by modulestep and the crates above it, as sessioncheck, modulecmd and those of sites.
 #![tactic(auto)]
 
 mod action;
@@ -18,7 +17,6 @@ mod words;
 pub use action::{Action, Request};
 pub use avail::avail_report;
 pub use conditions::{first_lost, last_meant, missing_group, own_conflict, recorded_conflict};
-pub use defaultfiles::Evaluated;
 pub use laws::{
     command_returns, judged_session_returns, outcomes, plain_session_returns, reports,
     session_returns, sessions, some_outcome, verdicts,

@@ -1,7 +1,7 @@
 //! Worked examples of requests, conditions and reports, proved by computation. More stand in `cases_requests`,
 //! and of whole commands in `tests/commands.txt`.
 ghost use Rattle.std.specs.Prelude.{◌≡◌, [], ◌∷◌, codes, Some, None, Ok, Err};
-ghost use Rattle.modulerecords.specs.Records.{Conflict};
+ghost use Rattle.modulefile.specs.Records.{Conflict};
 ghost use Rattle.requests.specs.Reasons.{bad_arguments, unknown_subcommand, conflict_with, still_needed_by};
 ghost use Rattle.requests.specs.Requests.{request_of, load, switch};
 ghost use Rattle.requests.specs.Conditions.{load_objection, end_objection};

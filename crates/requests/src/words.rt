@@ -8,7 +8,7 @@ ghost use Rattle.requests.specs.RequestViews.{reason_of, action_view, texts_of};
 use crate::action::{Action, Request};
 use crate::request_fault::RequestFault;
 use envvars::fields::copies;
-use shells::Shell;
+use shelltext::Shell;
 use std::alloc::Global;
 
 /// A copy of the names that follow a subcommand which needs at least one; 56 where there is none.

@@ -7,17 +7,17 @@ use Rattle.envvars.specs.Texts.{Text}
 use Rattle.envvars.specs.Names.{name_reason}
 use Rattle.envvars.specs.Environment.{Environment, lookup, with_value}
 use Rattle.envvars.specs.Reasons.{EnvReason}
-use Rattle.envpaths.specs.End.TheVariants as ends
+use Rattle.envpaths.specs.declared.adding.End.TheVariants as ends
 use Rattle.envloaded.specs.Loaded.{loaded_in}
 use Rattle.envstate.specs.Roles.{role_of, is_editable}
 use Rattle.envstate.specs.Roles.VariableRole.{Other}
 use Rattle.envstate.specs.Frames.{EditsVariable, IsVariableUnchanged, AreLoadedUnchanged}
 use Rattle.envstate.proofs.RoleLemmas.{no_reason_against}
 use Rattle.envstate.proofs.FrameLemmas.{add_edits, drop_edits, push_edits, pop_edits, set_edits, path_edits_variable, stack_edits_variable, keeps_other, keeps_loaded, rest_stays}
-use Rattle.modulerecords.specs.Records.{Record, Set, Unset, Push, Front, Back, Remove, Conflict, Prereq, Whatis, variable_of}
-use Rattle.modulerecords.specs.Judgments.{RecordReason, bad_edit, value_reason, values_of, record_reason}
-use Rattle.modulerecords.specs.Effects.{Mode, load, unload, display, whatis, loaded_by, unloaded_by, edited, edit_outcome, permitted, effect, effects}
-use Rattle.modulerecords.proofs.Effected.{parts}
+use Rattle.modulefile.specs.Records.{Record, Set, Unset, Push, Front, Back, Remove, Conflict, Prereq, Whatis, variable_of}
+use Rattle.modulefile.specs.Judgments.{RecordReason, bad_edit, value_reason, values_of, record_reason}
+use Rattle.modulefile.specs.Effects.{Mode, load, unload, display, whatis, loaded_by, unloaded_by, edited, edit_outcome, permitted, effect, effects}
+use Rattle.modulefile.proofs.Effected.{parts}
 use Rattle.reversal.specs.VariableUses.{is_reversible}
 
 abbrev pub accepted : Environment → Result Environment EnvReason

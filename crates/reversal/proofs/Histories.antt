@@ -16,17 +16,17 @@ use Rattle.envvars.proofs.TableLemmas.{nothing_set}
 use Rattle.envpaths.specs.Paths.{PathState, add_all, drop_all}
 use Rattle.envpaths.specs.PathTexts.{state_of, elements_text, pairs_text}
 use Rattle.envpaths.specs.PathVariables.{path_in, path_reason, counters_fit, with_path, written_path, added_path, dropped_path}
-use Rattle.envpaths.specs.End.{End}
-use Rattle.envpaths.specs.End.TheVariants as ends
+use Rattle.envpaths.specs.declared.adding.End.{End}
+use Rattle.envpaths.specs.declared.adding.End.TheVariants as ends
 use Rattle.envstacks.specs.Stacks.{StackState, holds, push, pop}
 use Rattle.envstacks.specs.StackTexts.{items_in, stack_text}
 use Rattle.envstacks.specs.StackVariables.{stack_from, stack_in, with_stack, push_reason, pop_reason, pushed_on, pushed_value, popped_from, popped_value}
 use Rattle.envloaded.specs.LoadedTexts.{names_variable, files_variable, conflicts_variable, prereqs_variable}
 use Rattle.envloaded.specs.Loaded.{Entry, names_of, names_text, files_text, conflicts_text, prereqs_text, entries_in, loaded_in, with_loaded, can_be_added, with_conflicts_once, without_entry, added_to, added_loaded, dropped_from, dropped_loaded}
-use Rattle.modulerecords.specs.Records.{Record, Set, Unset, Push, Front, Back, Remove, Conflict, Prereq, Whatis}
-use Rattle.modulerecords.specs.Judgments.{RecordReason, record_reason}
-use Rattle.modulerecords.specs.Effects.{Mode, load, unload, display, whatis, edited, edit_outcome, permitted, effect, effects, and_then}
-use Rattle.modulerecords.specs.Moves.{Move, Loads, Unloads, entry_of, module_of_move, mode_of, entry_moved, moved, Fits, MovesReach}
+use Rattle.modulefile.specs.Records.{Record, Set, Unset, Push, Front, Back, Remove, Conflict, Prereq, Whatis}
+use Rattle.modulefile.specs.Judgments.{RecordReason, record_reason}
+use Rattle.modulefile.specs.Effects.{Mode, load, unload, display, whatis, edited, edit_outcome, permitted, effect, effects, and_then}
+use Rattle.modulefile.specs.Moves.{Move, Loads, Unloads, entry_of, module_of_move, mode_of, entry_moved, moved, Fits, MovesReach}
 
 abbrev as_ok : Environment → Result Environment EnvReason
 as_ok e = Ok e

@@ -12,5 +12,3 @@ mod Losses
 mod Histories
 mod Lost
 pub mod Parts
--- Handed on, so that a caller need not name the crate below.
-pub use Rattle.modulerecords.proofs.RecordLemmas

@@ -11,7 +11,7 @@ use Rattle.envvars.proofs.EditLemmas.{both_true, not_is}
 use Rattle.envstacks.specs.StackRuns.{other_pushes}
 use Rattle.envloaded.specs.Loaded.{Entry, names_of, without_entry}
 use Rattle.envstate.proofs.StateLemmas.{names_added}
-use Rattle.modulerecords.specs.Moves.{Module, entry_of}
+use Rattle.modulefile.specs.Moves.{Module, entry_of}
 use Rattle.reversal.specs.VariableUses.{VariableUse, AllSuit}
 use Rattle.reversal.specs.Live.{last_set, live_set, adds, live_adds, last_push, with_push, live_pushes, entries_over}
 use Rattle.reversal.specs.Starts.{IsPermutation, none, next, swap, transitive}

@@ -5,9 +5,9 @@ use Rattle.envvars.specs.Reasons.{EnvReason}
 use Rattle.envloaded.specs.Loaded.{added_loaded, dropped_loaded}
 use Rattle.envloaded.proofs.LoadedEdits.{loaded_after_add}
 use Rattle.envstate.proofs.FrameLemmas.{add_edits_loaded}
-use Rattle.modulerecords.specs.Judgments.{RecordReason}
-use Rattle.modulerecords.specs.Effects.{load, unload, effects, edit_outcome, and_then}
-use Rattle.modulerecords.specs.Moves.{Module, Loads, Unloads, entry_of, entry_moved, moved}
+use Rattle.modulefile.specs.Judgments.{RecordReason}
+use Rattle.modulefile.specs.Effects.{load, unload, effects, edit_outcome, and_then}
+use Rattle.modulefile.specs.Moves.{Module, Loads, Unloads, entry_of, entry_moved, moved}
 use Rattle.reversal.specs.Laws.{IsLoad}
 use Rattle.reversal.proofs.Frames.{accepted}
 use Rattle.reversal.proofs.ModuleEntries.{added_entry}

@@ -4,8 +4,8 @@ use Rattle.std.proofs.lemmas.Option.{none-some}
 use Rattle.envvars.specs.Texts.{Text}
 use Rattle.envvars.specs.Environment.{Environment, lookup, with_value}
 use Rattle.envvars.proofs.EnvLemmas.{lookup-set}
-use Rattle.modulerecords.specs.Records.{Record, Set, Unset}
-use Rattle.modulerecords.specs.Effects.{Mode, load, unload, edited, effect, effects}
+use Rattle.modulefile.specs.Records.{Record, Set, Unset}
+use Rattle.modulefile.specs.Effects.{Mode, load, unload, edited, effect, effects}
 use Rattle.reversal.specs.Losses.{SetLosesValue, UnsetLosesValue, UnsetGivesAnother}
 use Rattle.reversal.proofs.Frames.{accepted, same_accepted, effect_edits}
 use Rattle.reversal.proofs.Loads.{parts}

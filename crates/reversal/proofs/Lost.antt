@@ -15,8 +15,8 @@ use Rattle.envpaths.specs.PathOrder.{IsPathInOrder}
 use Rattle.envstacks.specs.StackVariables.{IsStackInOrder}
 use Rattle.envloaded.specs.LoadedTexts.{names_variable, files_variable, conflicts_variable, prereqs_variable}
 use Rattle.envloaded.specs.Loaded.{Entry, IsLoadedList, AreLoadedInOrder, names_of, names_text, files_text, conflicts_text, prereqs_text, with_loaded}
-use Rattle.modulerecords.specs.Records.{Record, Set, Unset, Back, Remove}
-use Rattle.modulerecords.specs.Moves.{Module, Move, Loads, Unloads}
+use Rattle.modulefile.specs.Records.{Record, Set, Unset, Back, Remove}
+use Rattle.modulefile.specs.Moves.{Module, Move, Loads, Unloads}
 use Rattle.reversal.specs.VariableUses.{VariableUse, Untouched, Fixed, Pathed, Stacked}
 use Rattle.reversal.specs.Starts.{IsStart}
 use Rattle.reversal.specs.Runs.{live_after}

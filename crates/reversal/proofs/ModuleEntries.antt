@@ -7,8 +7,8 @@ use Rattle.envvars.proofs.FieldLemmas.{without-absent}
 use Rattle.envvars.proofs.EditLemmas.{both_true, not_is}
 use Rattle.envloaded.specs.Loaded.{Entry, loaded_in, with_conflicts_once}
 use Rattle.envloaded.proofs.LoadedReadable.{distinct_firsts}
-use Rattle.modulerecords.specs.Records.{conflict_names, prereq_groups}
-use Rattle.modulerecords.specs.Moves.{Module, entry_of}
+use Rattle.modulefile.specs.Records.{conflict_names, prereq_groups}
+use Rattle.modulefile.specs.Moves.{Module, entry_of}
 
 firsts_distinct : (xs : List Text) → are_distinct xs ≡ true → without_repeats xs ≡ xs
 firsts_distinct [] h = refl

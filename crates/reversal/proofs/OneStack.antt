@@ -19,8 +19,8 @@ use Rattle.envstacks.proofs.StackInOrder.{push_in_order, pop_in_order}
 use Rattle.envstate.specs.Roles.{is_editable}
 use Rattle.envstate.specs.Frames.{IsVariableUnchanged}
 use Rattle.envstate.proofs.FrameLemmas.{push_edits, pop_edits, stack_edits_variable}
-use Rattle.modulerecords.specs.Records.{Record, variable_of}
-use Rattle.modulerecords.specs.Effects.{load, unload, effect, effects}
+use Rattle.modulefile.specs.Records.{Record, variable_of}
+use Rattle.modulefile.specs.Effects.{load, unload, effect, effects}
 use Rattle.reversal.specs.VariableUses.{VariableUse, Stacked, Suits, AllSuit}
 use Rattle.reversal.specs.Live.{push_by, last_push, with_push}
 use Rattle.reversal.proofs.Frames.{effect_edits, loads, unloads, is_named}

@@ -16,8 +16,8 @@ use Rattle.envpaths.proofs.Readable.{IsWritable-state_of}
 use Rattle.envstate.specs.Roles.{is_editable}
 use Rattle.envstate.specs.Frames.{IsVariableUnchanged}
 use Rattle.envstate.proofs.FrameLemmas.{set_edits, add_edits, drop_edits, path_edits_variable, stack_edits_variable}
-use Rattle.modulerecords.specs.Records.{Record, variable_of}
-use Rattle.modulerecords.specs.Effects.{Mode, load, unload, effect, effects}
+use Rattle.modulefile.specs.Records.{Record, variable_of}
+use Rattle.modulefile.specs.Effects.{Mode, load, unload, effect, effects}
 use Rattle.reversal.specs.VariableUses.{VariableUse, Untouched, Fixed, Pathed, Suits, AllSuit}
 use Rattle.reversal.specs.Live.{set_by, last_set, adds_by, adds}
 use Rattle.reversal.specs.Starts.{HasValue}

@@ -3,8 +3,8 @@ use Rattle.std.proofs.Common.{◌≡◌, true, List, [], ◌∷◌}
 use Rattle.std.specs.List.{list_all}
 use Rattle.envvars.specs.Texts.{Text}
 use Rattle.envvars.proofs.EditLemmas.{both_true}
-use Rattle.modulerecords.specs.Records.{Record}
-use Rattle.modulerecords.specs.Moves.{Module, Move, Loads, Unloads}
+use Rattle.modulefile.specs.Records.{Record}
+use Rattle.modulefile.specs.Moves.{Module, Move, Loads, Unloads}
 use Rattle.reversal.specs.VariableUses.{VariableUse, AllFollowUses, AllSuit, is_reversible}
 use Rattle.reversal.specs.Runs.{without_live, AreReversible}
 use Rattle.reversal.specs.Examples.{Part, of_kind, follows_use, apart, alive, unchanged, HasPart, PartsAreAll}

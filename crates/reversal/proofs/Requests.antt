@@ -1,8 +1,8 @@
 -- Runs of requests are runs of their moves.
 use Rattle.std.proofs.Common.{◌≡◌, List, [], ◌∷◌, ◌++◌, refl, sym, ap, ◌∙◌, subst}
 use Rattle.envvars.specs.Environment.{Environment}
-use Rattle.modulerecords.specs.Moves.{Move, MovesReach}
-use Rattle.modulerecords.proofs.Moved.{reach_composes}
+use Rattle.modulefile.specs.Moves.{Move, MovesReach}
+use Rattle.modulefile.proofs.Moved.{reach_composes}
 use Rattle.reversal.specs.Runs.{AreReversible}
 use Rattle.reversal.specs.Requests.{RequestOutcome, accepted, refused, moves_of, all_moves, RequestReaches, RequestsReach}
 use Rattle.reversal.specs.Laws.{RequestsReturn}

@@ -24,9 +24,9 @@ use Rattle.envstate.specs.Frames.{IsVariableUnchanged, AreLoadedUnchanged}
 use Rattle.envstate.specs.EnvLaws.{AreSound}
 use Rattle.envstate.proofs.FrameLemmas.{add_edits_loaded, drop_edits_loaded, loaded_keeps, loaded_rest_stays}
 use Rattle.envstate.proofs.StateLemmas.{start_of, standing_absent, names_dropped, list_in_order, dropped_list}
-use Rattle.modulerecords.specs.Records.{Record, variable_of}
-use Rattle.modulerecords.specs.Effects.{Mode, load, unload, effect, effects}
-use Rattle.modulerecords.specs.Moves.{Module, Loads, Unloads, entry_of, moved, Fits}
+use Rattle.modulefile.specs.Records.{Record, variable_of}
+use Rattle.modulefile.specs.Effects.{Mode, load, unload, effect, effects}
+use Rattle.modulefile.specs.Moves.{Module, Loads, Unloads, entry_of, moved, Fits}
 use Rattle.reversal.specs.VariableUses.{VariableUse, Untouched, Fixed, Pathed, Stacked, AllSuit}
 use Rattle.reversal.specs.Live.{last_set, live_set, adds, live_adds, last_push, with_push, live_pushes, entries_over}
 use Rattle.reversal.specs.Starts.{IsStart, HasValue, IsPermutation}

@@ -6,11 +6,11 @@ use Rattle.envvars.specs.Texts.{Text}
 use Rattle.envvars.specs.Environment.{Environment, with_value}
 use Rattle.envvars.proofs.TextLemmas.{same_text}
 use Rattle.envpaths.specs.PathVariables.{added_path, dropped_path}
-use Rattle.envpaths.specs.End.{End}
-use Rattle.envpaths.specs.End.TheVariants as ends
+use Rattle.envpaths.specs.declared.adding.End.{End}
+use Rattle.envpaths.specs.declared.adding.End.TheVariants as ends
 use Rattle.envstacks.specs.StackVariables.{pushed_value, popped_value}
-use Rattle.modulerecords.specs.Records.{Record, Set, Unset, Push, Front, Back, Remove, Conflict, Prereq, Whatis, variable_of}
-use Rattle.modulerecords.specs.Effects.{loaded_by, unloaded_by}
+use Rattle.modulefile.specs.Records.{Record, Set, Unset, Push, Front, Back, Remove, Conflict, Prereq, Whatis, variable_of}
+use Rattle.modulefile.specs.Effects.{loaded_by, unloaded_by}
 use Rattle.reversal.specs.VariableUses.{VariableUse, Untouched, Fixed, Pathed, Stacked, Suits}
 use Rattle.reversal.specs.Live.{set_by, adds_by, push_by}
 use Rattle.reversal.proofs.Frames.{accepted, is_named}

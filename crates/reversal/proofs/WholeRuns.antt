@@ -18,9 +18,9 @@ use Rattle.envstate.specs.Roles.{VariableRole, role_of, is_editable, IsNameOf}
 use Rattle.envstate.specs.Roles.VariableRole.{Variable, Counters, Stack, LoadedNames, LoadedFiles, LoadedConflicts, LoadedPrereqs, Other}
 use Rattle.envstate.proofs.RoleLemmas.{name_of_role}
 use Rattle.envstate.proofs.StateLemmas.{start_of, one_path, one_stack, one_list, list_in_order}
-use Rattle.modulerecords.specs.Records.{Record}
-use Rattle.modulerecords.specs.Judgments.{RecordReason}
-use Rattle.modulerecords.specs.Moves.{Module, Move, Loads, Unloads, moved, MovesReach}
+use Rattle.modulefile.specs.Records.{Record}
+use Rattle.modulefile.specs.Judgments.{RecordReason}
+use Rattle.modulefile.specs.Moves.{Module, Move, Loads, Unloads, moved, MovesReach}
 use Rattle.reversal.specs.VariableUses.{VariableUse, Untouched, Fixed, Pathed, Stacked}
 use Rattle.reversal.specs.Live.{live_adds, entries_over}
 use Rattle.reversal.specs.Starts.{IsInOrder, IsStart, HasValue, HasVariable, IsStartWith}

@@ -6,8 +6,8 @@ use Rattle.envvars.specs.Texts.{Text}
 use Rattle.envvars.specs.Environment.{Environment, with_value}
 use Rattle.envvars.specs.Fields.{colon}
 use Rattle.envloaded.specs.Loaded.{AreLoadedInOrder}
-use Rattle.modulerecords.specs.Records.{Record, Set, Unset, Push, Front, Back, Remove}
-use Rattle.modulerecords.specs.Moves.{Module, Move, Loads, Unloads, MovesReach}
+use Rattle.modulefile.specs.Records.{Record, Set, Unset, Push, Front, Back, Remove}
+use Rattle.modulefile.specs.Moves.{Module, Move, Loads, Unloads, MovesReach}
 use Rattle.reversal.specs.VariableUses.{VariableUse, Untouched, Fixed, Pathed, Stacked, is_reversible, AllFollowUses, AllSuit}
 use Rattle.reversal.specs.Live.{last_set, live_set}
 use Rattle.reversal.specs.Starts.{IsStart, IsStartWith}

@@ -4,8 +4,8 @@ use Rattle.envvars.specs.Texts.{Text}
 use Rattle.envvars.specs.Environment.{Environment}
 use Rattle.envloaded.specs.Loaded.{Entry, loaded_in}
 use Rattle.envstate.specs.Frames.{OnlyAmong, loaded_names}
-use Rattle.modulerecords.specs.Effects.{load, effects}
-use Rattle.modulerecords.specs.Moves.{Module, Move, Loads, entry_of, moved, MovesReach}
+use Rattle.modulefile.specs.Effects.{load, effects}
+use Rattle.modulefile.specs.Moves.{Module, Move, Loads, entry_of, moved, MovesReach}
 use Rattle.reversal.specs.VariableUses.{VariableUse}
 use Rattle.reversal.specs.Starts.{IsInOrder, IsStart, IsStartWith}
 use Rattle.reversal.specs.Requests.{RequestOutcome, all_moves, RequestsReach}

@@ -4,8 +4,8 @@ use Rattle.std.specs.Prelude.{ℕ, ◌+◌, List, [], ◌∷◌, ◌++◌, bytes
 use Rattle.std.specs.Option.{option_or}
 use Rattle.envvars.specs.Texts.{Text}
 use Rattle.envloaded.specs.Loaded.{Entry}
-use Rattle.modulerecords.specs.Records.{Record, Set, Unset, Push, Front, Back}
-use Rattle.modulerecords.specs.Moves.{Module, entry_of}
+use Rattle.modulefile.specs.Records.{Record, Set, Unset, Push, Front, Back}
+use Rattle.modulefile.specs.Moves.{Module, entry_of}
 
 -- What a record sets the variable to, a value or unset; none where it does neither.
 abbrev pub set_by : Text → Record → Option (Option Text)

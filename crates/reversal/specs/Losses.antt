@@ -2,8 +2,8 @@
 use Rattle.std.specs.Prelude.{◌≡◌, ◌≢◌, List, [], ◌∷◌, Some, None, Ok}
 use Rattle.envvars.specs.Texts.{Text}
 use Rattle.envvars.specs.Environment.{Environment, lookup}
-use Rattle.modulerecords.specs.Records.{Record, Set, Unset}
-use Rattle.modulerecords.specs.Effects.{load, unload, effects}
+use Rattle.modulefile.specs.Records.{Record, Set, Unset}
+use Rattle.modulefile.specs.Effects.{load, unload, effects}
 
 -- the records are loaded, and then unloaded
 abbrev pub ThereAndBack : Text → List Record → Environment → Environment → Type 0

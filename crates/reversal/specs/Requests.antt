@@ -1,7 +1,7 @@
 -- Requests: the outcome of each, and what environment a list of them reaches (module(1)).
 use Rattle.std.specs.Prelude.{◌≡◌, List, [], ◌∷◌, ◌++◌}
 use Rattle.envvars.specs.Environment.{Environment}
-use Rattle.modulerecords.specs.Moves.{Move, MovesReach}
+use Rattle.modulefile.specs.Moves.{Move, MovesReach}
 
 -- A request is accepted with its moves, the first of them first: one for each module that it loads or unloads, so that
 -- a switch is an unload and then a load. Or it is refused.

@@ -1,7 +1,7 @@
 -- Loads and unloads of modules that are reversible and apart (own).
 use Rattle.std.specs.Prelude.{◌≡◌, true, List, [], ◌∷◌, bytes_eq, if◌then◌else◌, Option, Some, None, is_some}
 use Rattle.envvars.specs.Texts.{Text}
-use Rattle.modulerecords.specs.Moves.{Module, Move, Loads, Unloads}
+use Rattle.modulefile.specs.Moves.{Module, Move, Loads, Unloads}
 use Rattle.reversal.specs.VariableUses.{VariableUse, AllSuit}
 use Rattle.reversal.specs.Live.{last_set, live_set}
 

@@ -12,7 +12,7 @@ use Rattle.envstacks.specs.StackVariables.{stack_in, IsStackInOrder}
 use Rattle.envloaded.specs.Loaded.{Entry, names_of, loaded_in, AreLoadedInOrder}
 use Rattle.envstate.specs.Roles.{role_of, is_editable}
 use Rattle.envstate.specs.Roles.VariableRole.{Other}
-use Rattle.modulerecords.specs.Moves.{Module}
+use Rattle.modulefile.specs.Moves.{Module}
 use Rattle.reversal.specs.VariableUses.{VariableUse, Untouched, Fixed, Pathed, Stacked}
 use Rattle.reversal.specs.Live.{live_set, live_adds, live_pushes, entries_over}
 

@@ -1,7 +1,7 @@
 -- How loads and unloads use variables, and the records that unloading undoes (own).
 use Rattle.std.specs.Prelude.{◌≡◌, ℕ, Bool, true, false, List, [], ◌∷◌, Option, Some, None}
 use Rattle.envvars.specs.Texts.{Text}
-use Rattle.modulerecords.specs.Records.{Record, Set, Unset, Push, Front, Back, Remove, Conflict, Prereq, Whatis}
+use Rattle.modulefile.specs.Records.{Record, Set, Unset, Push, Front, Back, Remove, Conflict, Prereq, Whatis}
 
 -- How a variable is used: each has one use.
 pub data VariableUse : Type 0 where

@@ -1,10 +1,6 @@
 //! Why each premise is needed: worked examples in which the others hold, and accepted moves lose the start, or in one
 //! of them the value of a module that is loaded over it. They are computed from the definitions.
-ghost use Rattle.reversal.specs.Examples.{EmptyPath, CounterOfNone, BottomAlone, HiddenValue, OtherEscapes, OwnerNotLoaded, ValueBeforeSet, OtherValue};
-ghost use Rattle.reversal.specs.Examples.{EmptyLists, NeedsOfNone, ConflictTwice, IllSpelled, EmptyGroup};
-ghost use Rattle.reversal.specs.Examples.{UnsetWithoutValue, ElementRemoved, OtherRecords, StartUnloaded};
-ghost use Rattle.reversal.specs.Examples.{SetAndPushed, UnsetAndPushed, AddedAndPushed, TwoDelimiters, SetByTwo};
-ghost use Rattle.reversal.specs.Examples.{PartsAreAll};
+ghost use Rattle.reversal.specs.Examples.{EmptyPath, CounterOfNone, BottomAlone, HiddenValue, OtherEscapes, OwnerNotLoaded, ValueBeforeSet, OtherValue, EmptyLists, NeedsOfNone, ConflictTwice, IllSpelled, EmptyGroup, UnsetWithoutValue, ElementRemoved, OtherRecords, StartUnloaded, SetAndPushed, UnsetAndPushed, AddedAndPushed, TwoDelimiters, SetByTwo, PartsAreAll};
 
 /// Starts that aren't in order, or where a fixed variable has another value, though their loaded list is in order and
 /// the modules are reversible and apart.

@@ -1,6 +1,5 @@
 //! When unloads undo loads: those of modules that are reversible and apart give back the environment before them.
 //! Touches nothing: these are definitions and laws, without code, and examples of why each premise is needed.
-//! Used by certificate, and by requests and the crates above it, whose laws of sessions follow from these.
 #![tactic(auto)]
 
 pub mod examples;

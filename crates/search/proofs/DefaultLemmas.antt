@@ -5,14 +5,14 @@ use Rattle.std.proofs.lemmas.Slice.Eq.{bytes_eq-Decides}
 use Rattle.modulename.specs.ModuleName.{Text, slash, parts}
 use Rattle.filetree.specs.Agreement.{Files, Listings}
 use Rattle.filetree.specs.Modulefiles.{path_of}
-use Rattle.candidates.specs.Single.{is_single}
+use Rattle.search.specs.Single.{is_single}
 use Rattle.search.specs.Reasons.{FindReason}
-use Rattle.candidates.specs.DefaultVersions.{DefaultFileResult}
+use Rattle.search.specs.DefaultVersions.{DefaultFileResult}
 use Rattle.search.specs.Found.{NamedDefault}
 use Rattle.search.specs.Listed.{IsNamed}
 use Rattle.search.proofs.OneFound.{one_named}
 use Rattle.search.specs.Walks.{IsDefaultOf}
-use Rattle.candidates.proofs.PartLemmas.{parts-single, parts-path, one_folder, no_folder}
+use Rattle.search.proofs.PartLemmas.{parts-single, parts-path, one_folder, no_folder}
 
 cancel : (prefix xs ys : Text) → prefix ++ xs ≡ prefix ++ ys → xs ≡ ys
 cancel [] xs ys h = h

@@ -6,15 +6,15 @@ use Rattle.std.proofs.lemmas.Bool.{or_left, or_right}
 use Rattle.std.proofs.lemmas.Slice.Eq.{bytes_eq-Decides}
 use Rattle.modulename.specs.ModuleName.{Text}
 use Rattle.filetree.specs.Agreement.{Files, Listings}
-use Rattle.candidates.specs.Single.{is_single}
-use Rattle.candidates.specs.DefaultVersions.{DefaultFileResult}
+use Rattle.search.specs.Single.{is_single}
+use Rattle.search.specs.DefaultVersions.{DefaultFileResult}
 use Rattle.search.specs.Listed.{IsNamed, names_of}
-use Rattle.candidates.proofs.VersionLemmas.{has, in_filter}
+use Rattle.search.proofs.VersionLemmas.{has, in_filter}
 use Rattle.search.specs.Marks.{is_marked_by}
 use Rattle.search.specs.ListingEntries.{listing_entry_of}
-use Rattle.candidates.specs.BelowFolder.{name_below, names_in, is_module_below}
+use Rattle.search.specs.BelowFolder.{name_below, names_in, is_module_below}
 use Rattle.search.specs.Walks.{IsMarkRight, IsDefaultOf, AreEntriesOfFiles}
-use Rattle.candidates.proofs.UnderLemmas.{name_from}
+use Rattle.search.proofs.UnderLemmas.{name_from}
 
 names_of-listing_entries : (default : Option Text) (modules : List Text) → names_of (map (listing_entry_of default) modules) ≡ modules
 names_of-listing_entries default [] = refl

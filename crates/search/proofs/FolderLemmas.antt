@@ -3,13 +3,13 @@ use Rattle.std.proofs.Common.{◌≡◌, ◌⊎◌, true, false, List, Option, S
 use Rattle.std.proofs.lemmas.Bool.{cases_Bool}
 use Rattle.modulename.specs.ModuleName.{Text}
 use Rattle.filetree.specs.Agreement.{Files, Listings}
-use Rattle.candidates.specs.DefaultVersions.{DefaultFileResult}
+use Rattle.search.specs.DefaultVersions.{DefaultFileResult}
 use Rattle.search.specs.Listed.{ListingEntry}
-use Rattle.candidates.specs.BelowFolder.{folder_path, names_in, IsUnder, IsInside, AreAmong, HasAllFolders}
+use Rattle.search.specs.BelowFolder.{folder_path, names_in, IsUnder, IsInside, AreAmong, HasAllFolders}
 use Rattle.search.specs.Walks.{AreListingEntries}
-use Rattle.candidates.proofs.VersionLemmas.{has}
-use Rattle.candidates.proofs.UnderLemmas.{none_under, inside, outside}
-use Rattle.candidates.proofs.NameLemmas.{has_middle}
+use Rattle.search.proofs.VersionLemmas.{has}
+use Rattle.search.proofs.UnderLemmas.{none_under, inside, outside}
+use Rattle.search.proofs.NameLemmas.{has_middle}
 use Rattle.search.proofs.RowLemmas.{rows_same}
 use Rattle.search.proofs.WalkLemmas.{split_at}
 

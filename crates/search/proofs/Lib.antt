@@ -1,3 +1,9 @@
+pub mod VersionNamedLemmas
+pub mod VersionLemmas
+pub mod CandidateFailures
+pub mod NameLemmas
+pub mod PartLemmas
+pub mod UnderLemmas
 pub mod OneFound
 pub mod OneListing
 pub mod NamedLemmas

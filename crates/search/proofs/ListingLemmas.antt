@@ -17,11 +17,11 @@ use Rattle.modulename.specs.ModuleName.{Text, parts}
 use Rattle.modulename.specs.Versions.{version_order}
 use Rattle.modulename.proofs.OrderLemmas.{total, equal}
 use Rattle.filetree.specs.Agreement.{Files, Listings}
-use Rattle.candidates.specs.DefaultVersions.{DefaultFileResult}
+use Rattle.search.specs.DefaultVersions.{DefaultFileResult}
 use Rattle.search.specs.Listed as listed
-use Rattle.candidates.specs.BelowFolder.{ReachesThrough, IsBelow, IsUnder}
+use Rattle.search.specs.BelowFolder.{ReachesThrough, IsBelow, IsUnder}
 use Rattle.search.specs.Listed.{IsNamed, IsListing, names_of, is_marked}
-use Rattle.candidates.proofs.VersionLemmas.{has, same}
+use Rattle.search.proofs.VersionLemmas.{has, same}
 use Rattle.search.specs.Walks.{IsMarkRight, AreListingEntries}
 use Rattle.search.specs.ListingEntries.{listing_entry_view, name_of, goes_before, is_same_name}
 use Rattle.search.specs.declared.listing_entries.ListingEntry.{ListingEntry}

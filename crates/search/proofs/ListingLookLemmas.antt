@@ -8,15 +8,15 @@ use Rattle.std.proofs.lemmas.Slice.Eq.{bytes_eq-Decides}
 use Rattle.modulename.specs.ModuleName.{Text, slash, parts, is_module_name}
 use Rattle.filetree.specs.Agreement.{Files, Listings}
 use Rattle.filetree.specs.Modulefiles.{path_of}
-use Rattle.candidates.specs.Single.{is_single}
-use Rattle.candidates.specs.DefaultVersions.{DefaultFileResult}
-use Rattle.candidates.specs.Candidates.{HasEntry}
-use Rattle.candidates.specs.BelowFolder.{ReachesThrough, IsBelow, folder_path, name_below, names_in, is_module_below, LooksAmong}
+use Rattle.search.specs.Single.{is_single}
+use Rattle.search.specs.DefaultVersions.{DefaultFileResult}
+use Rattle.search.specs.Candidates.{HasEntry}
+use Rattle.search.specs.BelowFolder.{ReachesThrough, IsBelow, folder_path, name_below, names_in, is_module_below, LooksAmong}
 use Rattle.search.specs.Looked.{IsReached}
-use Rattle.candidates.proofs.VersionLemmas.{has, in_filter}
+use Rattle.search.proofs.VersionLemmas.{has, in_filter}
 use Rattle.search.specs.Walks.{LooksForDefault, IsFolderOf, LooksFromFolder}
-use Rattle.candidates.proofs.PartLemmas.{parts-single, parts-path, parts-some, path-assoc}
-use Rattle.candidates.proofs.UnderLemmas.{name_from}
+use Rattle.search.proofs.PartLemmas.{parts-single, parts-path, parts-some, path-assoc}
+use Rattle.search.proofs.UnderLemmas.{name_from}
 
 -- the folder that is reached by parts
 abbrev walked : Text → List Text → Text

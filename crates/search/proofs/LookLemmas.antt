@@ -4,9 +4,9 @@ use Rattle.std.specs.Prelude.{codes}
 use Rattle.modulename.specs.ModuleName.{Text}
 use Rattle.filetree.specs.Agreement.{Files, Listings}
 use Rattle.filetree.specs.Modulefiles.{FileContent, absent, no_cookie, not_utf8, script, modulefile, is_module, path_of}
-use Rattle.candidates.specs.DefaultVersions.{DefaultFileResult, VersionIn, by_command, by_variable}
+use Rattle.search.specs.DefaultVersions.{DefaultFileResult, VersionIn, by_command, by_variable}
 use Rattle.search.specs.DefaultFiles.{Names}
-use Rattle.candidates.specs.Candidates.{IsModuleAt, IsCandidate, HasCandidates, IsVersionIn}
+use Rattle.search.specs.Candidates.{IsModuleAt, IsCandidate, HasCandidates, IsVersionIn}
 use Rattle.search.specs.Found.{IsSomeCandidate, NamedDefault, Default, default_file}
 use Rattle.search.specs.Looked.{LooksAtDefaultFile, LooksForNamed, LooksInFolder, LooksBelow, GivesModule, LooksAlong}
 use Rattle.search.specs.Steps.{module_in, module_at, DefaultIn, OfDefault, FoundBelow}

@@ -3,12 +3,12 @@ use Rattle.std.proofs.Common.{◌≡◌, Option, Some, None, Result, Ok, Err, in
 use Rattle.modulename.specs.ModuleName.{Text}
 use Rattle.filetree.specs.Agreement.{Files, Listings}
 use Rattle.search.specs.Reasons.{FindReason}
-use Rattle.candidates.specs.DefaultVersions.{DefaultFileResult}
-use Rattle.candidates.specs.Candidates.{IsCandidate}
+use Rattle.search.specs.DefaultVersions.{DefaultFileResult}
+use Rattle.search.specs.Candidates.{IsCandidate}
 use Rattle.search.specs.Found.{IsSomeCandidate, NamedDefault}
 use Rattle.search.specs.Looked.{ModulercNamesNoCandidate}
-use Rattle.candidates.specs.declared.version_named.DefaultFile.{DefaultFile}
-use Rattle.candidates.specs.declared.version_named.DefaultFile.TheVariants.{Modulerc, Version}
+use Rattle.search.specs.declared.version_named.DefaultFile.{DefaultFile}
+use Rattle.search.specs.declared.version_named.DefaultFile.TheVariants.{Modulerc, Version}
 use Rattle.search.specs.VersionsNamed.{NamedBy}
 
 -- what two answers give that are one

@@ -6,9 +6,9 @@ use Rattle.filetree.specs.Modulefiles.{FileContent, absent, no_cookie, not_utf8,
 use Rattle.filetree.specs.Relations.{IsOne}
 use Rattle.filetree.proofs.OneOutcome.{one_is, one_then, one_if, one_where}
 use Rattle.search.specs.Reasons.{bad_name, bad_default, not_found}
-use Rattle.candidates.specs.DefaultVersions.{DefaultFileResult, VersionIn}
+use Rattle.search.specs.DefaultVersions.{DefaultFileResult, VersionIn}
 use Rattle.search.specs.DefaultFiles.{version_named, NamesIn, Names}
-use Rattle.candidates.specs.Candidates.{IsCandidate}
+use Rattle.search.specs.Candidates.{IsCandidate}
 use Rattle.search.specs.Found.{NamedDefault, Greatest, NamedOrGreatest, Default, read, FoundAlong, Found}
 use Rattle.modulename.proofs.OrderLemmas.{one_greatest}
 

@@ -8,11 +8,11 @@ use Rattle.std.proofs.lemmas.Cmp.{tied_itself}
 use Rattle.modulename.specs.ModuleName.{Text}
 use Rattle.filetree.specs.Agreement.{Files, Listings}
 use Rattle.filetree.specs.Modulefiles.{directories}
-use Rattle.candidates.specs.DefaultVersions.{DefaultFileResult}
+use Rattle.search.specs.DefaultVersions.{DefaultFileResult}
 use Rattle.modulename.specs.Versions.{version_order}
 use Rattle.search.specs.Listed.{ListingEntry, names_of, is_marked, IsListing, Listing, AreListings, Listed}
 use Rattle.modulename.proofs.OrderLemmas.{total}
-use Rattle.candidates.proofs.VersionLemmas.{has, same, itself}
+use Rattle.search.proofs.VersionLemmas.{has, same, itself}
 
 abbrev Sorted : List Text → Type 0
 Sorted xs = IsStrictlySortedBy version_order xs

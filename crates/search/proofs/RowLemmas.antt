@@ -5,11 +5,11 @@ use Rattle.std.specs.List.{AllByRecursion}
 use Rattle.std.proofs.lemmas.Bool.{or_left, or_right}
 use Rattle.modulename.specs.ModuleName.{Text}
 use Rattle.filetree.specs.Agreement.{Files, Listings}
-use Rattle.candidates.specs.DefaultVersions.{DefaultFileResult}
+use Rattle.search.specs.DefaultVersions.{DefaultFileResult}
 use Rattle.search.specs.Listed.{ListingEntry, names_of}
-use Rattle.candidates.proofs.VersionLemmas.{has, in_filter, filter_has, itself}
-use Rattle.candidates.specs.BelowFolder.{is_module_below}
-use Rattle.candidates.proofs.NameLemmas.{has_left, has_right}
+use Rattle.search.proofs.VersionLemmas.{has, in_filter, filter_has, itself}
+use Rattle.search.specs.BelowFolder.{is_module_below}
+use Rattle.search.proofs.NameLemmas.{has_left, has_right}
 use Rattle.search.specs.Walks.{IsMarkRight, AreEntriesOfFiles, AreListingEntries}
 
 names_of-append : (listing_entries more : List ListingEntry) → names_of (listing_entries ++ more) ≡ names_of listing_entries ++ names_of more

@@ -10,12 +10,12 @@ use Rattle.filetree.specs.declared.find_fault.FindFault.{FindFault}
 use Rattle.filetree.specs.declared.find_fault.FindFault.TheVariants as faults
 use Rattle.filetree.specs.Relations.{Then, Where}
 use Rattle.search.specs.Reasons.{FindReason}
-use Rattle.candidates.specs.DefaultVersions.{DefaultFileResult}
+use Rattle.search.specs.DefaultVersions.{DefaultFileResult}
 use Rattle.search.specs.Found.{FoundModule, NamedDefault, Default, ModuleAt, FoundAlong, read}
-use Rattle.candidates.specs.Candidates.{IsCandidate, HasCandidates}
+use Rattle.search.specs.Candidates.{IsCandidate, HasCandidates}
 use Rattle.search.specs.Answers.{FindAnswersOverTree, cause_of}
 use Rattle.search.specs.Steps.{caused, because_of, module_in, module_at, DefaultIn, OfDefault, FoundBelow}
-use Rattle.candidates.specs.Versions.{IsGreatestOf}
+use Rattle.search.specs.Versions.{IsGreatestOf}
 use Rattle.search.proofs.NamedLemmas.{named_is_candidate, same_value}
 
 -- a fault of one step is a fault of the whole

@@ -3,14 +3,14 @@ use Rattle.std.proofs.Common.{◌≡◌, ◌≢◌, ◌≤◌, ◌<◌, ◌+◌,
 use Rattle.std.proofs.lemmas.List.{drop_more, map-append, take-append-drop, take_more}
 use Rattle.modulename.specs.ModuleName.{Text, parts}
 use Rattle.filetree.specs.Agreement.{Files, Listings}
-use Rattle.candidates.specs.DefaultVersions.{DefaultFileResult}
+use Rattle.search.specs.DefaultVersions.{DefaultFileResult}
 use Rattle.search.specs.Listed.{ListingEntry}
-use Rattle.candidates.proofs.VersionLemmas.{has}
-use Rattle.candidates.specs.BelowFolder.{parts_of, names_in, is_module_below, IsUnder, IsInside}
+use Rattle.search.proofs.VersionLemmas.{has}
+use Rattle.search.specs.BelowFolder.{parts_of, names_in, is_module_below, IsUnder, IsInside}
 use Rattle.search.specs.Walks.{AreEntriesOfFiles, AreListingEntries}
-use Rattle.candidates.proofs.PartLemmas.{parts_of-below}
-use Rattle.candidates.proofs.UnderLemmas.{name_from}
-use Rattle.candidates.proofs.NameLemmas.{has_left, has_middle, has_last}
+use Rattle.search.proofs.PartLemmas.{parts_of-below}
+use Rattle.search.proofs.UnderLemmas.{name_from}
+use Rattle.search.proofs.NameLemmas.{has_left, has_middle, has_last}
 use Rattle.search.proofs.RowLemmas.{rows_same, rows_append, rows_of_files}
 
 -- an element that is read from a list: those before it, and those after it

@@ -7,9 +7,9 @@ use Rattle.filetree.specs.Modulefiles.{FileContent, absent, no_cookie, not_utf8,
 use Rattle.filetree.specs.Relations.{Is, If, Where, ◌>>◌}
 use Rattle.modulename.specs.Versions.{IsGreatest}
 use Rattle.search.specs.Reasons.{FindReason, bad_name, not_found, not_utf8_at}
-use Rattle.candidates.specs.DefaultVersions.{DefaultFileResult, by_command, by_variable}
+use Rattle.search.specs.DefaultVersions.{DefaultFileResult, by_command, by_variable}
 use Rattle.search.specs.DefaultFiles.{Names}
-pub use Rattle.candidates.specs.Candidates.{IsModuleAt, HasEntry, IsCandidate, HasCandidates}
+pub use Rattle.search.specs.Candidates.{IsModuleAt, HasEntry, IsCandidate, HasCandidates}
 
 -- some version is named, and it is a candidate
 abbrev pub IsSomeCandidate : (Text → Type 0) → Option Text → Type 0

@@ -1,3 +1,14 @@
+-- Names below directories, versions, candidates and default files.
+pub mod Single
+pub mod Candidates
+pub mod BelowFolder
+pub mod DefaultVersions
+-- How the type of the code shows the result of an evaluation.
+pub mod Ended
+-- The versions of a name, and the two default files, as the code has them.
+pub mod Versions
+pub mod DefaultFileKinds
+-- What the definitions above cite, so that a caller need not name the crates below.
 -- What names mean, what is listed, and what default files say: the definitions of this crate.
 pub mod Reasons
 pub mod DefaultFiles
@@ -14,10 +25,5 @@ pub mod VersionsNamed
 pub mod Steps
 pub mod Marks
 pub mod Walks
+
 -- What the definitions above cite, so that a caller need not name the crates below.
-pub use Rattle.candidates.specs.ModuleName
-pub use Rattle.candidates.specs.Single
-pub use Rattle.candidates.specs.Candidates
-pub use Rattle.candidates.specs.BelowFolder
-pub use Rattle.candidates.specs.DefaultVersions
-pub use Rattle.candidates.specs.Ended

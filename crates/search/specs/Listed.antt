@@ -7,9 +7,9 @@ use Rattle.modulename.specs.ModuleName.{Text, parts}
 use Rattle.filetree.specs.Agreement.{Files, Listings}
 use Rattle.filetree.specs.Modulefiles.{directories, path_of}
 use Rattle.modulename.specs.Versions.{version_order}
-use Rattle.candidates.specs.DefaultVersions.{DefaultFileResult}
+use Rattle.search.specs.DefaultVersions.{DefaultFileResult}
 use Rattle.search.specs.Found.{NamedDefault}
-pub use Rattle.candidates.specs.BelowFolder.{ReachesThrough, IsBelow}
+pub use Rattle.search.specs.BelowFolder.{ReachesThrough, IsBelow}
 
 -- A default file of the module's folder names it. Where a default file has a fault, no module of the folder is named.
 pub record IsNamed (results : Text → Text → Option DefaultFileResult → Type 0) (files : Files) (listings : Listings)

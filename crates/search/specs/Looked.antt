@@ -5,15 +5,14 @@ use Rattle.std.specs.List.{list_any}
 use Rattle.modulename.specs.ModuleName.{Text, parts, is_module_name}
 use Rattle.filetree.specs.Agreement.{Files, Listings}
 use Rattle.filetree.specs.Modulefiles.{directories, path_of}
-use Rattle.candidates.specs.Single.{is_single}
+use Rattle.search.specs.Single.{is_single}
 use Rattle.search.specs.Reasons.{FindReason}
-use Rattle.candidates.specs.DefaultVersions.{DefaultFileResult, VersionIn, by_command, by_variable}
+use Rattle.search.specs.DefaultVersions.{DefaultFileResult, VersionIn, by_command, by_variable}
 use Rattle.search.specs.DefaultFiles.{Names}
-use Rattle.candidates.specs.Candidates.{IsModuleAt, IsCandidate, HasCandidates}
-use Rattle.search.specs.Found.{IsSomeCandidate}
-use Rattle.search.specs.Found.{NamedDefault, default_file}
-use Rattle.candidates.specs.BelowFolder.{ReachesThrough, IsBelow}
-pub use Rattle.candidates.specs.Candidates.{IsVersionIn, LooksAtVersion, LooksForGreatest}
+use Rattle.search.specs.Candidates.{IsModuleAt, IsCandidate, HasCandidates}
+use Rattle.search.specs.Found.{IsSomeCandidate, NamedDefault, default_file}
+use Rattle.search.specs.BelowFolder.{ReachesThrough, IsBelow}
+pub use Rattle.search.specs.Candidates.{IsVersionIn, LooksAtVersion, LooksForGreatest}
 
 -- the path of a default file, and that of the file of the version that it names
 abbrev pub LooksAtDefaultFile : (Text → Text → Option DefaultFileResult → Type 0) → Files → Listings → Text → Text

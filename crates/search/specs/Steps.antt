@@ -5,12 +5,12 @@ use Rattle.filetree.specs.Agreement.{Files, Listings}
 use Rattle.filetree.specs.Modulefiles.{FileContent, absent, no_cookie, not_utf8, script, modulefile, path_of}
 use Rattle.filetree.specs.Relations.{Is, Where, ◌>>◌}
 use Rattle.search.specs.Reasons.{FindReason, not_utf8_at}
-use Rattle.candidates.specs.DefaultVersions.{DefaultFileResult}
+use Rattle.search.specs.DefaultVersions.{DefaultFileResult}
 use Rattle.filetree.specs.Causes.{Cause, because}
 use Rattle.filetree.specs.declared.find_fault.FindFault.{FindFault}
 use Rattle.search.specs.Answers.{cause_of}
 use Rattle.search.specs.Found.{FoundModule, Default}
-use Rattle.candidates.specs.Candidates.{IsModuleAt, HasCandidates}
+use Rattle.search.specs.Candidates.{IsModuleAt, HasCandidates}
 
 -- a call's result, by its value or the cause of its fault
 abbrev pub caused : {X Y : Type 0} → (X → Y) → Result X FindFault → Result Y (Cause FindReason)

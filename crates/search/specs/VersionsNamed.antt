@@ -5,12 +5,12 @@ use Rattle.modulename.specs.ModuleName.{Text}
 use Rattle.filetree.specs.Agreement.{Files, Listings}
 use Rattle.filetree.specs.Relations.{Is, Where, ◌>>◌}
 use Rattle.search.specs.Reasons.{FindReason, bad_default}
-use Rattle.candidates.specs.DefaultVersions.{DefaultFileResult}
-use Rattle.candidates.specs.DefaultFileKinds.{file_name, says}
+use Rattle.search.specs.DefaultVersions.{DefaultFileResult}
+use Rattle.search.specs.DefaultFileKinds.{file_name, says}
 use Rattle.search.specs.DefaultFiles.{Names}
-use Rattle.candidates.specs.Candidates.{IsCandidate}
+use Rattle.search.specs.Candidates.{IsCandidate}
 use Rattle.search.specs.Found.{IsSomeCandidate, default_file}
-use Rattle.candidates.specs.declared.version_named.DefaultFile.{DefaultFile}
+use Rattle.search.specs.declared.version_named.DefaultFile.{DefaultFile}
 use Rattle.search.specs.declared.defaults.NamedVersion.{NamedVersion}
 use Rattle.search.specs.declared.defaults.NamedVersion.TheVariants as versions
 

@@ -4,9 +4,9 @@ use Rattle.std.specs.Prelude.{◌≡◌, ◌↔◌, true, List, filter, Option, 
 use Rattle.std.specs.List.{list_any, AllByRecursion}
 use Rattle.modulename.specs.ModuleName.{Text}
 use Rattle.filetree.specs.Agreement.{Files, Listings}
-use Rattle.candidates.specs.Single.{is_single}
-use Rattle.candidates.specs.DefaultVersions.{DefaultFileResult}
-use Rattle.candidates.specs.BelowFolder.{name_below, is_module_below}
+use Rattle.search.specs.Single.{is_single}
+use Rattle.search.specs.DefaultVersions.{DefaultFileResult}
+use Rattle.search.specs.BelowFolder.{name_below, is_module_below}
 use Rattle.search.specs.Listed.{IsNamed, ListingEntry, names_of}
 use Rattle.search.specs.Looked.{IsReached, LooksForNamed, LooksForListing}
 use Rattle.search.specs.Marks.{is_marked_by}

@@ -3,20 +3,20 @@ ghost use Rattle.std.specs.Prelude.{◌≡◌, map, Some, IfOk, string_bytes};
 ghost use Rattle.filetree.specs.Agreement.{FailsAt, FailsWhere, InEachPair, Narrows, FailsOnlyByDevice, is_device};
 ghost use Rattle.filetree.specs.Modulefiles.{path_of};
 ghost use Rattle.search.specs.DefaultFiles.{Names, version_named};
-ghost use Rattle.candidates.specs.Candidates.{IsCandidate, LooksAtVersion};
+ghost use Rattle.search.specs.Candidates.{IsCandidate, LooksAtVersion};
 ghost use Rattle.search.specs.Found.{NamedDefault, default_file};
 ghost use Rattle.search.specs.Looked.{LooksAtDefaultFile, LooksForNamed};
-ghost use Rattle.candidates.specs.DefaultFileKinds.{file_name, says};
+ghost use Rattle.search.specs.DefaultFileKinds.{file_name, says};
 ghost use Rattle.search.specs.VersionsNamed.{named_version_view, IsCandidateIfAny, NamedBy};
 ghost use Rattle.std.specs.Option.{option_map};
-ghost use Rattle.candidates.specs.Ended.{ended_view};
+ghost use Rattle.search.specs.Ended.{ended_view};
 
+use crate::default_files::{DefaultFiles, Ended};
+use crate::module_files::{holds_module, is_module_in};
 use crate::modulefile::{FileContent, read_modulefile};
-use candidates::module_files::{holds_module, is_module_in};
-use candidates::paths::{has, path_in_folder};
-use candidates::version_named::DefaultFile;
-use candidates::versions::is_version;
-use candidates::{DefaultFiles, Ended};
+use crate::paths::{has, path_in_folder};
+use crate::version_named::DefaultFile;
+use crate::versions::is_version;
 use filetree::{Tree, TreeFault};
 use std::alloc::{AllocError, Global};
 

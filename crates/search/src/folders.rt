@@ -3,14 +3,15 @@ ghost use Rattle.std.specs.Prelude.{◌≡◌, ◌++◌, ◌+◌, ◌≤◌, Lis
 ghost use Rattle.std.specs.Option.{option_map};
 ghost use Rattle.filetree.specs.Agreement.{FailsWhere, InEachPair, Narrows, FailsOnlyByDevice, is_device};
 ghost use Rattle.search.specs.Listed as listed;
-ghost use Rattle.candidates.specs.BelowFolder.{folder_path, parts_of, names_in, IsUnder, AreAmong, HasAllFolders};
+ghost use Rattle.search.specs.BelowFolder.{folder_path, parts_of, names_in, IsUnder, AreAmong, HasAllFolders};
 ghost use Rattle.search.specs.Walks.{AreEntriesOfFiles, AreListingEntries, IsDefaultOf, LooksForDefault, LooksFromFolder};
 ghost use Rattle.search.specs.ListingEntries.{listing_entry_view};
 
+use crate::default_files::DefaultFiles;
 use crate::defaults::{NamedVersion, named_default};
 use crate::listing_entries::{ListingEntry, push_listing_entries};
-use candidates::names::{Sorted, folder_path, names_in, sort_out};
-use candidates::{DefaultFiles, path_of};
+use crate::names::{Sorted, folder_path, names_in, sort_out};
+use crate::paths::path_of;
 use filetree::{Tree, TreeFault};
 use std::alloc::Global;
 

@@ -11,10 +11,11 @@ ghost use Rattle.search.specs.Looked.{LooksInFolder, LooksBelow, LooksAlong, Loo
 ghost use Rattle.search.specs.Answers.{FindAnswersOverTree, found_view, is_failure};
 ghost use Rattle.search.specs.Steps.{caused, because_of, module_in, module_at, DefaultIn, FoundBelow};
 
+use crate::default_files::DefaultFiles;
 use crate::defaults::{NamedVersion, named_default};
 use crate::modulefile::{FileContent, read_modulefile};
-use candidates::versions::{greatest_candidate, has_version};
-use candidates::{DefaultFiles, path_of};
+use crate::paths::path_of;
+use crate::versions::{greatest_candidate, has_version};
 use filetree::{FindFault, Tree};
 use modulename::is_module_name;
 use std::alloc::{AllocError, Global};

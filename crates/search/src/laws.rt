@@ -1,12 +1,25 @@
-//! Laws of the definitions of the search and of listings. The functions do nothing; their contracts are the theorems.
-ghost use Rattle.std.specs.Prelude.{◌≡◌, List, Result};
+//! Laws of default files, of the search and of listings. The functions do nothing; their contracts are the theorems.
+ghost use Rattle.std.specs.Prelude.{◌≡◌, [], ◌∷◌, codes, Some, None, List, Result};
+ghost use Rattle.search.specs.DefaultVersions.{last_default};
 ghost use Rattle.modulename.specs.ModuleName.{Text};
 ghost use Rattle.filetree.specs.Agreement.{Files, Listings};
 ghost use Rattle.search.specs.Reasons.{FindReason};
 ghost use Rattle.search.specs.Found.{FoundModule, Found};
 ghost use Rattle.search.specs.Listed.{Listing, Listed};
 
-use candidates::DefaultFiles;
+use crate::default_files::DefaultFiles;
+
+/// Worked examples: the version that `module-version` commands make the default of a folder.
+pub fn rows_of_defaults()
+    ensures named { last_default (codes "d/e") ((codes "module-version" ∷ codes "d/e/1" ∷ codes "default" ∷ [])
+        ∷ (codes "module-version" ∷ codes "d/e/2" ∷ codes "old" ∷ []) ∷ []) ≡ Some (codes "1") }
+    ensures last { last_default (codes "ver") ((codes "module-version" ∷ codes "ver/1" ∷ codes "default" ∷ [])
+        ∷ (codes "module-version" ∷ codes "./2" ∷ codes "new" ∷ codes "default" ∷ []) ∷ []) ≡ Some (codes "2") }
+    ensures slash { last_default (codes "ver") ((codes "module-version" ∷ codes "/3" ∷ codes "default" ∷ [])
+        ∷ (codes "module-version" ∷ codes "other/2" ∷ codes "default" ∷ []) ∷ []) ≡ Some (codes "3") }
+    ensures other { last_default (codes "ver") ((codes "module-version" ∷ codes "other/2" ∷ codes "default" ∷ [])
+        ∷ []) ≡ None }
+{}
 
 /// For the same files and directories, a name along a MODULEPATH means one module at most, and there is one reason at
 /// most why it means none.

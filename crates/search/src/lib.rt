@@ -1,20 +1,26 @@
-//! Which modulefile a name means along MODULEPATH, what a path holds as one, all modules, default files.
+//! Which modulefile a name means along MODULEPATH, what a path holds as one, all modules, and default versions.
 //! Takes memory, reads through the `Tree`, and has default files evaluated by the `DefaultFiles`, that it is given.
-//! Used by lookup, modulestep and requeststep; defaultfiles implements the trait that it hands on.
 #![tactic(auto)]
 
+mod default_files;
 mod defaults;
 mod folders;
 mod found;
 mod laws;
 mod listing_entries;
 mod listings;
+mod module_files;
 mod modulefile;
+mod names;
+mod paths;
+mod version_named;
+mod versions;
 
-pub use candidates::{DefaultFiles, Ended, is_single, path_of, rows_of_defaults};
+pub use default_files::{DefaultFiles, Ended};
 pub use defaults::{NamedVersion, named_default};
 pub use found::{Found, directories, locate};
-pub use laws::{one_found, one_listed};
+pub use laws::{one_found, one_listed, rows_of_defaults};
 pub use listing_entries::ListingEntry;
 pub use listings::{Listing, available};
 pub use modulefile::{FileContent, read_modulefile};
+pub use paths::{is_single, path_of};

@@ -6,10 +6,10 @@ ghost use Rattle.search.specs.Looked.{LooksForListing, ListingLooksAt};
 ghost use Rattle.search.specs.ListingEntries.{listing_entry_view};
 ghost use Rattle.search.specs.Listings.{listing_view};
 
+use crate::default_files::DefaultFiles;
 use crate::folders::Walk;
 use crate::found::directories;
 use crate::listing_entries::{ListingEntry, drop_repeats, sort_listing_entries};
-use candidates::DefaultFiles;
 use filetree::{Tree, TreeFault};
 use modulename::MAX_PARTS;
 use std::alloc::Global;

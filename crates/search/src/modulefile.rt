@@ -4,7 +4,7 @@ ghost use Rattle.filetree.specs.Agreement.{FailsAt, InEachPair, FailsOnlyByDevic
 ghost use Rattle.filetree.specs.Modulefiles.{cookie, modulefile};
 ghost use Rattle.search.specs.FileContents.{file_content_view};
 
-use candidates::module_files::COOKIE;
+use crate::module_files::COOKIE;
 use filetree::{Tree, TreeFault};
 
 /// What a path holds as a modulefile: a file that begins with `#%Module` (modulefile(5)).

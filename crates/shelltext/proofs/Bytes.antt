@@ -5,8 +5,8 @@ use Rattle.std.proofs.lemmas.Bool.Decides.{nat_tests}
 use Rattle.std.proofs.lemmas.Str.{encode_ascii, inside_one}
 use Rattle.std.specs.List.{flat_map}
 use Rattle.std.specs.Prelude.{encode_utf8}
-use Rattle.shells.specs.declared.family.Family.{Family}
-use Rattle.shells.specs.declared.family.Family.TheVariants.{Sh, Csh, Fish}
+use Rattle.shelltext.specs.declared.family.Family.{Family}
+use Rattle.shelltext.specs.declared.family.Family.TheVariants.{Sh, Csh, Fish}
 use Rattle.shelltext.specs.Reading.{is_special}
 use Rattle.shelltext.specs.Printing.{spell, special_text}
 

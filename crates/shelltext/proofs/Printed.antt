@@ -4,11 +4,11 @@ use Rattle.std.proofs.lemmas.Bool.{cases_Bool, and_parts}
 use Rattle.std.proofs.lemmas.Bool.Decides.{nat_tests}
 use Rattle.std.proofs.lemmas.List.Folds.{list_all-append}
 use Rattle.std.specs.List.{flat_map, list_all, find}
-use Rattle.shells.specs.declared.shell.Shell.{Shell}
+use Rattle.shelltext.specs.declared.shell.Shell.{Shell}
 use Rattle.envvars.specs.Changes.{NewValue}
-use Rattle.shells.specs.declared.family.Family.{Family}
-use Rattle.shells.specs.declared.family.Family.TheVariants.{Sh, Csh, Fish}
-use Rattle.shells.specs.Shells.{family_of}
+use Rattle.shelltext.specs.declared.family.Family.{Family}
+use Rattle.shelltext.specs.declared.family.Family.TheVariants.{Sh, Csh, Fish}
+use Rattle.shelltext.specs.Shells.{family_of}
 use Rattle.shelltext.specs.Reading.{is_special, is_literal, is_unsayable, ValuePart, literal, special, IsPart, AreParts, part_value, part_text, inner_text, value_text, Spells, LineSays, LinesSay, TextSays}
 use Rattle.shelltext.specs.Printing.{spell, special_text, quoted, is_sayable, value_is_sayable, printed_line, line_of_value}
 

@@ -5,10 +5,10 @@ use Rattle.std.proofs.lemmas.Bool.Decides.{nat_tests}
 use Rattle.std.specs.List.{flat_map, list_all}
 use Rattle.envvars.specs.Names.{is_name_start, is_name_byte, is_variable_name}
 use Rattle.envvars.specs.Changes.{NewValue}
-use Rattle.shells.specs.declared.shell.Shell.{Shell}
-use Rattle.shells.specs.declared.family.Family.{Family}
-use Rattle.shells.specs.declared.family.Family.TheVariants.{Sh, Csh, Fish}
-use Rattle.shells.specs.Shells.{family_of}
+use Rattle.shelltext.specs.declared.shell.Shell.{Shell}
+use Rattle.shelltext.specs.declared.family.Family.{Family}
+use Rattle.shelltext.specs.declared.family.Family.TheVariants.{Sh, Csh, Fish}
+use Rattle.shelltext.specs.Shells.{family_of}
 use Rattle.shelltext.specs.Reading.{is_special, is_literal, ValuePart, literal, special, AreParts, part_value, part_text, inner_text, value_text, set_line, unset_line, LineSays, LinesSay, TextSays}
 
 -- between parts, inside quotes, behind a backslash

@@ -9,7 +9,7 @@ use Rattle.std.proofs.lemmas.Bool.Decides.{nat_tests}
 use Rattle.std.proofs.lemmas.Grind.{get_or_default_zero}
 use Rattle.std.proofs.lemmas.List.Folds.{list_any_at, list_any_none}
 use Rattle.std.proofs.lemmas.Str.Pattern.{contains_char}
-use Rattle.shells.specs.declared.family.Family.{Family}
+use Rattle.shelltext.specs.declared.family.Family.{Family}
 use Rattle.shelltext.specs.Reading.{is_special}
 use Rattle.shelltext.specs.Printing.{spell, special_text}
 

@@ -1,3 +1,4 @@
+pub mod Shells
 pub mod Reading
 pub mod Printing
 pub mod Sequences

@@ -2,14 +2,14 @@
 use Rattle.std.specs.Prelude.{codes, ◌≡◌, ℕ, List, [], ◌∷◌, ◌++◌, Bool, true, not, ◌&&◌, Option, Some, None, if◌then◌else◌, string_bytes, find}
 use Rattle.std.specs.List.{flat_map, list_all}
 use Rattle.std.specs.Option.{option_map}
-use Rattle.shells.specs.declared.shell.Shell.{Shell}
+use Rattle.shelltext.specs.declared.shell.Shell.{Shell}
 use Rattle.message.specs.Messages.{around, out_of_memory}
 use Rattle.envvars.specs.Texts.{Text}
 use Rattle.envvars.specs.Names.{is_variable_name}
 use Rattle.envvars.specs.Changes.{NewValue}
-use Rattle.shells.specs.declared.family.Family.{Family}
-use Rattle.shells.specs.declared.family.Family.TheVariants.{Sh, Csh, Fish}
-use Rattle.shells.specs.Shells.{family_of}
+use Rattle.shelltext.specs.declared.family.Family.{Family}
+use Rattle.shelltext.specs.declared.family.Family.TheVariants.{Sh, Csh, Fish}
+use Rattle.shelltext.specs.Shells.{family_of}
 use Rattle.shelltext.specs.declared.print.PrintFault.{PrintFault}
 use Rattle.shelltext.specs.declared.print.PrintFault.TheVariants.{OutOfMemory, NotSayable}
 use Rattle.shelltext.specs.Reading.{is_special, is_unsayable, set_line, unset_line, TextSays}

@@ -7,10 +7,10 @@ use Rattle.envvars.specs.Texts.{Text}
 use Rattle.envvars.specs.Names.{is_variable_name}
 use Rattle.envvars.specs.Environment.{Environment}
 use Rattle.envvars.specs.Changes.{NewValue, AreChanges, applied}
-use Rattle.shells.specs.declared.shell.Shell.{Shell}
-use Rattle.shells.specs.declared.family.Family.{Family}
-use Rattle.shells.specs.declared.family.Family.TheVariants.{Sh, Csh, Fish}
-use Rattle.shells.specs.Shells.{family_of}
+use Rattle.shelltext.specs.declared.shell.Shell.{Shell}
+use Rattle.shelltext.specs.declared.family.Family.{Family}
+use Rattle.shelltext.specs.declared.family.Family.TheVariants.{Sh, Csh, Fish}
+use Rattle.shelltext.specs.Shells.{family_of}
 
 -- a byte that means something inside quotes, and is written with a backslash: the single quote, in csh the exclamation
 -- mark too, and in fish the backslash

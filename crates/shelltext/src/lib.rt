@@ -1,12 +1,14 @@
-//! Changes of variables as text for a shell: how each family of shells reads a text, and the printer.
+//! Shells: their names and families, how each family reads a text, and the printer of changes of variables (module(1)).
 //! Takes memory and touches nothing else: the text is handed back, and nothing is written.
-//! Used by sessioncheck and modulecmd.
 #![tactic(auto)]
 
+mod family;
 pub mod laws;
 mod print;
 pub mod rows;
+mod shell;
 mod spelling;
 
+pub use family::Family;
 pub use print::{PrintFault, print_changes};
-pub use shells::{Family, Shell};
+pub use shell::Shell;

@@ -7,10 +7,11 @@ ghost use Rattle.shelltext.specs.Printing as printing;
 ghost use Rattle.shelltext.specs.Printing.{printed_line, IsPrintFault, print_fault_number, print_message};
 ghost use Rattle.shelltext.specs.declared.print.PrintFault.TheVariants.{OutOfMemory};
 
+use crate::family::Family;
+use crate::shell::Shell;
 use crate::spelling::{is_value_sayable, push_set, push_unset};
 use envvars::{Change, is_variable_name};
 use message::{Message, out_of_memory};
-use shells::{Family, Shell};
 use std::alloc::{AllocError, Global};
 use std::error::Error;
 use std::fmt;

@@ -1,7 +1,7 @@
 //! Worked examples: texts, and the changes that a shell reads in them. `cases_environment` tests more of them.
 ghost use Rattle.std.specs.Prelude.{[], ◌∷◌, Some, None, codes};
 ghost use Rattle.envvars.specs.Texts.{Text};
-ghost use Rattle.shells.specs.declared.shell.Shell.TheVariants.{Sh, Zsh, Csh, Tcsh, Fish};
+ghost use Rattle.shelltext.specs.declared.shell.Shell.TheVariants.{Sh, Zsh, Csh, Tcsh, Fish};
 ghost use Rattle.shelltext.specs.Reading.{TextSays};
 
 /// Values between quotes: with bytes that need a backslash, and empty ones.

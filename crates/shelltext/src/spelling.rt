@@ -4,7 +4,7 @@ ghost use Rattle.std.specs.List.{flat_map, list_all, list_any};
 ghost use Rattle.shelltext.specs.Reading as reading;
 ghost use Rattle.shelltext.specs.Printing as printing;
 
-use shells::Family;
+use crate::family::Family;
 use std::alloc::AllocError;
 
 /// Whether the value has the character, which is ASCII.

@@ -3,18 +3,18 @@ use Rattle.std.proofs.Common.{◌≡◌, List, map, filter, ap, sym, ◌∙◌, 
 use Rattle.std.specs.Prelude.{filter_map, flat_map}
 use Rattle.envvars.specs.Texts.{Text, texts_in}
 use Rattle.modulefile.specs.Laws as files
-use Rattle.requests.specs.Moves.{Module}
-use Rattle.siteclash.specs.RecordUses.{UsedVariable, IsAmong, used_by_modules, is_in_step}
-use Rattle.siteclash.specs.Certificates.{certified, certificate}
-use Rattle.siteclash.specs.Laws.{CertifiedAreExact}
-use Rattle.siteclash.specs.UseViews.{used_view}
-use Rattle.sitewalk.specs.Sites.{Site, file_of, AreModulesIn, Evaluated, plain_of, AreEvaluated}
-use Rattle.sitewalk.specs.Laws.{ModulesFound, PlainModulesFound, AuditsHold}
-use Rattle.siteclash.specs.ClashAnswers.{AreAnswers, without_clashes}
-use Rattle.siteclash.specs.EachOnce.{each_once}
-use Rattle.siteclash.proofs.OnceLemmas.{in_once}
-use Rattle.sitewalk.specs.declared.walk.Evaluation.{Evaluation}
-use Rattle.sitewalk.specs.Walks.{IsWalk, AreEvaluations}
+use Rattle.modulefile.specs.Moves.{Module}
+use Rattle.sitecertificate.specs.RecordUses.{UsedVariable, IsAmong, used_by_modules, is_in_step}
+use Rattle.sitecertificate.specs.Certificates.{certified, certificate}
+use Rattle.sitecertificate.specs.Laws.{CertifiedAreExact}
+use Rattle.sitecertificate.specs.UseViews.{used_view}
+use Rattle.sitelaws.specs.Sites.{Site, file_of, AreModulesIn, Evaluated, plain_of, AreEvaluated}
+use Rattle.sitelaws.specs.Laws.{ModulesFound, PlainModulesFound, AuditsHold}
+use Rattle.sitecertificate.specs.ClashAnswers.{AreAnswers, without_clashes}
+use Rattle.sitecertificate.specs.EachOnce.{each_once}
+use Rattle.sitecertificate.proofs.OnceLemmas.{in_once}
+use Rattle.siteaudit.specs.declared.walk.Evaluation.{Evaluation}
+use Rattle.siteaudit.specs.Walks.{IsWalk, AreEvaluations}
 use Rattle.siteaudit.specs.declared.auditing.AuditedModule.{AuditedModule}
 use Rattle.siteaudit.specs.Audits.{audited_file, AllStand, certified_files}
 use Rattle.siteaudit.specs.Findings.{Shown, judged_of, steps_in, settled, AreStandings}

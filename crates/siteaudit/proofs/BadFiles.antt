@@ -3,9 +3,9 @@ use Rattle.std.proofs.Common.{◌≡◌, List, refl, sym, ◌∙◌, subst}
 use Rattle.envvars.specs.Texts.{Text}
 use Rattle.filetree.specs.Modulefiles.{path_of}
 use Rattle.search.specs.Listed.{IsBelow}
-use Rattle.sitewalk.specs.Sites.{Site, SiteModule, module_below, IsDirectory, Evaluated, AreEvaluated}
-use Rattle.sitewalk.specs.declared.walk.Evaluation.{Evaluation}
-use Rattle.sitewalk.specs.Walks.{AreEvaluations}
+use Rattle.sitelaws.specs.Sites.{Site, SiteModule, module_below, IsDirectory, Evaluated, AreEvaluated}
+use Rattle.siteaudit.specs.declared.walk.Evaluation.{Evaluation}
+use Rattle.siteaudit.specs.Walks.{AreEvaluations}
 use Rattle.siteaudit.specs.Audits.{IsBadDefaultFile}
 use Rattle.siteaudit.specs.Findings.{evaluated_file}
 use Rattle.siteaudit.specs.Folders.{FolderText, HoldsModule, HoldsOneOf, IsBadIn}

@@ -3,16 +3,16 @@ use Rattle.std.proofs.Common.{◌≡◌, inl, inr, false, List, [], ◌∷◌, R
 use Rattle.filetree.specs.Modulefiles.{modulefile}
 use Rattle.filetree.specs.Relations.{IsOne}
 use Rattle.filetree.proofs.OneOutcome.{one_is, one_then}
-use Rattle.requests.specs.Effects as modes
+use Rattle.modulefile.specs.Effects as modes
 use Rattle.modulefile.specs.Files.{RunsFile}
 use Rattle.modulefile.specs.Laws as files
 use Rattle.requests.specs.Refusals.{refused_as, RefusedAs}
 use Rattle.requests.specs.Reasons.{file_refused}
 use Rattle.requests.specs.Steps.{entries_of, script_at, context_of}
-use Rattle.siteclash.specs.RecordUses.{IsAmong}
-use Rattle.sitewalk.specs.Sites.{Site, SiteModule, over_site, EvaluatesTo, IsOfSite, Evaluated, AreEvaluated}
-use Rattle.sitewalk.specs.declared.walk.Evaluation.{Evaluation}
-use Rattle.sitewalk.specs.Walks.{IsEvaluation, AreEvaluations}
+use Rattle.sitecertificate.specs.RecordUses.{IsAmong}
+use Rattle.sitelaws.specs.Sites.{Site, SiteModule, over_site, EvaluatesTo, IsOfSite, Evaluated, AreEvaluated}
+use Rattle.siteaudit.specs.declared.walk.Evaluation.{Evaluation}
+use Rattle.siteaudit.specs.Walks.{IsEvaluation, AreEvaluations}
 use Rattle.siteaudit.specs.Findings.{evaluated_file}
 use Rattle.siteaudit.proofs.AmongLemmas.{among_map, of_map}
 

@@ -1,33 +1,25 @@
 -- Names in folders, and paths below directories.
-use Rattle.std.proofs.Common.{Some, None, option_to_list, Option, Bor, subst, ◌+◌, ◌≡◌, ◌≢◌, ◌⊎◌, inl, inr, ℕ, ◌<◌, ◌≤◌, ◌==◌, Bool, true, false, not, ◌||◌, List, [], ◌∷◌, ◌++◌, length, get_or, take, drop, append_assoc, refl, sym, ap, ◌∙◌, arith, suc}
+use Rattle.std.proofs.Common.{Some, None, option_to_list, Option, Bor, subst, ◌+◌, ◌≡◌, ◌≢◌, ◌⊎◌, inl, inr, ℕ, ◌<◌, ◌≤◌, ◌==◌, Bool, true, false, not, ◌||◌, List, [], ◌∷◌, ◌++◌, length, get_or, take, drop, append_assoc, refl, sym, ap, ◌∙◌, arith, suc, string_bytes, map, cond, take_all}
 use Rattle.std.specs.List.{list_any}
 use Rattle.std.specs.Str.{NoCharPasses}
-use Rattle.std.specs.Str.Pattern.{RFindsChar}
+use Rattle.std.specs.Str.Pattern.{RFindsChar, FindsTextSuffix, FindsCharSuffix, StripsSuffix}
 use Rattle.std.proofs.lemmas.Bool.Decides.{nat_tests}
-use Rattle.std.specs.Prelude.{MatchOption}
-use Rattle.std.proofs.Common.{string_bytes}
-use Rattle.std.specs.Str.Pattern.{FindsTextSuffix, FindsCharSuffix, StripsSuffix}
-use Rattle.std.proofs.lemmas.Bool.{false≢true}
-use Rattle.std.proofs.lemmas.List.{take-append-drop, append_cancel_right, length-append}
-use Rattle.std.proofs.lemmas.Str.Pattern.{strip_suffix_char}
-use Rattle.std.proofs.lemmas.Str.Pattern.{NoCharPasses-char, drop_at_char}
+use Rattle.std.specs.Prelude.{MatchOption, bytes_eq, ◌↔◌}
+use Rattle.std.proofs.lemmas.Bool.{false≢true, and_parts}
+use Rattle.std.proofs.lemmas.List.{take-append-drop, append_cancel_right, length-append, map-append}
+use Rattle.std.proofs.lemmas.Str.Pattern.{strip_suffix_char, NoCharPasses-char, drop_at_char}
 use Rattle.modulename.specs.ModuleName.{Text, slash}
 use Rattle.filetree.specs.Modulefiles.{path_of}
 use Rattle.search.specs.Single.{is_single}
-use Rattle.std.proofs.Common.{map, cond, take_all}
-use Rattle.std.proofs.lemmas.Bool.{and_parts}
-use Rattle.std.specs.Prelude.{bytes_eq}
 use Rattle.envvars.proofs.TextLemmas.{same_text}
-use Rattle.std.specs.Prelude.{◌↔◌}
-use Rattle.std.proofs.lemmas.List.{map-append}
 use Rattle.indexmap.specs.IndexSet.{insert_key}
-use Rattle.siteclash.specs.RecordUses.{IsAmong}
+use Rattle.sitecertificate.specs.RecordUses.{IsAmong}
 use Rattle.siteaudit.specs.declared.defaults.Folder.{Folder}
 use Rattle.siteaudit.specs.contracts.defaults.FolderPartialEq.TheImpl as FolderPartialEq
-use Rattle.sitewalk.specs.declared.walk.Evaluation.{Evaluation}
+use Rattle.siteaudit.specs.declared.walk.Evaluation.{Evaluation}
 use Rattle.siteaudit.specs.Folders.{IsInFolder, FolderText, folder_view, HoldsModule, HoldsOneOf}
-use Rattle.siteclash.proofs.UsedLemmas.{by_cases, among_left, among_right, among_either}
-use Rattle.siteclash.proofs.Exact.{any_some}
+use Rattle.sitecertificate.proofs.UsedLemmas.{by_cases, among_left, among_right, among_either}
+use Rattle.sitecertificate.proofs.Exact.{any_some}
 use Rattle.siteaudit.proofs.AmongLemmas.{taken, among_one, among_map, one_more}
 
 -- the last part of a name

@@ -3,9 +3,9 @@ use Rattle.std.proofs.Common.{◌≡◌, List, [], ◌∷◌, ◌++◌, flat_map
 use Rattle.std.specs.List.{AllByRecursion}
 use Rattle.std.proofs.lemmas.List.{map-append}
 use Rattle.std.proofs.lemmas.Grind.{flat_map-append}
-use Rattle.requests.specs.Moves.{Module}
+use Rattle.modulefile.specs.Moves.{Module}
 use Rattle.siteaudit.specs.declared.standing.Finding.{Finding}
-use Rattle.sitewalk.specs.declared.walk.Evaluation.{Evaluation}
+use Rattle.siteaudit.specs.declared.walk.Evaluation.{Evaluation}
 use Rattle.siteaudit.specs.declared.judgement.Judged.{Judged}
 use Rattle.siteaudit.specs.Findings.{Shown, IsFinding, IsShown, judged_of, steps_in, AreJudged}
 

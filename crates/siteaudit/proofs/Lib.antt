@@ -1,3 +1,9 @@
+mod AmongSites
+mod DirectoryLemmas
+mod OutcomeLemmas
+mod ListingLemmas
+mod FailureLemmas
+mod WalkLemmas
 mod AmongLemmas
 mod FolderLemmas
 mod NameLemmas

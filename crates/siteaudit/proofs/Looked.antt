@@ -1,10 +1,10 @@
 -- Where the searches for the folders of evaluated modules look.
 use Rattle.std.proofs.Common.{map, inr}
 use Rattle.envvars.specs.Texts.{Text}
-use Rattle.sitewalk.specs.Sites.{Site, Evaluated, AreEvaluated}
-use Rattle.sitewalk.specs.Laws.{ModulesFound}
-use Rattle.sitewalk.specs.Walks.{IsWalkAnswer}
-use Rattle.sitewalk.specs.declared.walk.Walk.{Walk}
+use Rattle.sitelaws.specs.Sites.{Site, Evaluated, AreEvaluated}
+use Rattle.sitelaws.specs.Laws.{ModulesFound}
+use Rattle.siteaudit.specs.Walks.{IsWalkAnswer}
+use Rattle.siteaudit.specs.declared.walk.Walk.{Walk}
 use Rattle.siteaudit.specs.Folders.{EvaluatedLookAt}
 use Rattle.siteaudit.specs.Looked.{AuditLooksAt}
 use Rattle.siteaudit.proofs.BadFiles.{folder_there}

@@ -10,22 +10,22 @@ use Rattle.modulefile.specs.Files.{Ran}
 use Rattle.modulefile.specs.RecordViews.{record_view}
 use Rattle.modulerun.specs.declared.run.Ran as code
 use Rattle.modulerun.specs.Running.{ran_view}
-use Rattle.requests.specs.Records.{Record}
-use Rattle.requests.specs.Moves.{Module}
-use Rattle.requests.specs.VariableUses.{VariableUse, Pathed, is_reversible}
+use Rattle.modulefile.specs.Records.{Record}
+use Rattle.modulefile.specs.Moves.{Module}
+use Rattle.reversal.specs.VariableUses.{VariableUse, Pathed, is_reversible}
 use Rattle.requests.specs.Reasons.{RequestReason}
 use Rattle.requests.specs.Verdicts.{plain, asked, one_way}
-use Rattle.modulestep.specs.declared.refusal.Refusal.{Refusal}
-use Rattle.siteclash.specs.RecordUses.{UsedVariable, used_by, IsAmong, modulepath, same_use, use_alike, are_in_step, is_in_step, IsInStep}
-use Rattle.siteclash.specs.Certificates.{is_other, IsCertified, clashes_among, certified}
-use Rattle.siteclash.specs.Laws.{CertifiedAreExact}
-use Rattle.siteclash.proofs.UsedLemmas.{by_test, by_cases}
-use Rattle.siteclash.proofs.Exact.{all_each, filtered, in_filter}
-use Rattle.sitewalk.specs.Sites.{Site, SiteModule, file_of, with_records, EvaluatesTo, HasPlainRecords, IsOfSite, ArePlainModules, Evaluated, plain_by, plain_of}
-use Rattle.sitewalk.specs.Standings.{IsUsedTwice}
-use Rattle.siteclash.specs.ClashAnswers.{IsAnswer, AreAnswers, without_clashes}
-use Rattle.siteclash.specs.declared.answers.Clash.{Clash}
-use Rattle.sitewalk.specs.Walks.{IsOutcome, AreEvaluations}
+use Rattle.modules.specs.declared.refusal.Refusal.{Refusal}
+use Rattle.sitecertificate.specs.RecordUses.{UsedVariable, used_by, IsAmong, modulepath, same_use, use_alike, are_in_step, is_in_step, IsInStep}
+use Rattle.sitecertificate.specs.Certificates.{is_other, IsCertified, clashes_among, certified}
+use Rattle.sitecertificate.specs.Laws.{CertifiedAreExact}
+use Rattle.sitecertificate.proofs.UsedLemmas.{by_test, by_cases}
+use Rattle.sitecertificate.proofs.Exact.{all_each, filtered, in_filter}
+use Rattle.sitelaws.specs.Sites.{Site, SiteModule, file_of, with_records, EvaluatesTo, HasPlainRecords, IsOfSite, ArePlainModules, Evaluated, plain_by, plain_of}
+use Rattle.sitelaws.specs.Standings.{IsUsedTwice}
+use Rattle.sitecertificate.specs.ClashAnswers.{IsAnswer, AreAnswers, without_clashes}
+use Rattle.sitecertificate.specs.declared.answers.Clash.{Clash}
+use Rattle.siteaudit.specs.Walks.{IsOutcome, AreEvaluations}
 use Rattle.siteaudit.specs.declared.standing.Standing.{Standing}
 use Rattle.siteaudit.specs.declared.standing.Standing.TheVariants.{Certified, Asks, OneWay, OutOfStep, Clashes, Refused}
 use Rattle.siteaudit.specs.declared.standing.Finding.{Finding}

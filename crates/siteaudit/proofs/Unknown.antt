@@ -9,15 +9,15 @@ use Rattle.modulefile.specs.Laws as files
 use Rattle.modulefile.specs.RecordViews.{record_view}
 use Rattle.modulerun.specs.declared.run.Ran as code
 use Rattle.modulerun.specs.Running.{ran_view}
-use Rattle.requests.specs.Records.{Record, Set, Unset, Push, Front, Back, Remove, Conflict, Prereq, Whatis, conflict_names, prereq_groups}
+use Rattle.modulefile.specs.Records.{Record, Set, Unset, Push, Front, Back, Remove, Conflict, Prereq, Whatis, conflict_names, prereq_groups}
 use Rattle.requests.specs.Reasons.{RequestReason}
-use Rattle.modulestep.specs.declared.refusal.Refusal.{Refusal}
-use Rattle.siteclash.specs.RecordUses.{IsAmong}
-use Rattle.siteclash.proofs.UsedLemmas.{by_test, by_cases, among_left, among_right, among_either}
-use Rattle.siteclash.proofs.Exact.{any_some, some_any}
-use Rattle.sitewalk.specs.Sites.{Site, SiteModule, EvaluatesTo, IsOfSite, Evaluated, AreEvaluated}
-use Rattle.sitewalk.specs.declared.walk.Evaluation.{Evaluation}
-use Rattle.sitewalk.specs.Walks.{IsOutcome, AreEvaluations}
+use Rattle.modules.specs.declared.refusal.Refusal.{Refusal}
+use Rattle.sitecertificate.specs.RecordUses.{IsAmong}
+use Rattle.sitecertificate.proofs.UsedLemmas.{by_test, by_cases, among_left, among_right, among_either}
+use Rattle.sitecertificate.proofs.Exact.{any_some, some_any}
+use Rattle.sitelaws.specs.Sites.{Site, SiteModule, EvaluatesTo, IsOfSite, Evaluated, AreEvaluated}
+use Rattle.siteaudit.specs.declared.walk.Evaluation.{Evaluation}
+use Rattle.siteaudit.specs.Walks.{IsOutcome, AreEvaluations}
 use Rattle.siteaudit.specs.Audits.{Mention, AreMentioned, IsUnknown}
 use Rattle.siteaudit.specs.Findings.{evaluated_file}
 use Rattle.siteaudit.specs.Mentions.{is_known, unknown_by, unknown_in, unknown_after, unknown_of}

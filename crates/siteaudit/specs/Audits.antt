@@ -4,27 +4,27 @@ use Rattle.modulename.specs.ModuleName.{means}
 use Rattle.envvars.specs.Texts.{Text, texts_in}
 use Rattle.filetree.specs.Causes.{because}
 use Rattle.filetree.specs.Modulefiles.{path_of}
-use Rattle.defaultfiles.specs.DefaultFileResults.{HasResult}
+use Rattle.lookup.specs.DefaultFileResults.{HasResult}
 use Rattle.search.specs.Single.{is_single}
 use Rattle.search.specs.Reasons.{bad_default}
 use Rattle.search.specs.Found.{Found}
 use Rattle.search.specs.Listed.{IsBelow}
 use Rattle.modulefile.specs.Files.{Ran}
 use Rattle.modulefile.specs.RecordViews.{record_view}
-use Rattle.requests.specs.Records.{Record, conflict_names, prereq_groups}
-use Rattle.requests.specs.Moves.{Module}
+use Rattle.modulefile.specs.Records.{Record, conflict_names, prereq_groups}
+use Rattle.modulefile.specs.Moves.{Module}
 use Rattle.requests.specs.Reasons.{RequestReason}
-use Rattle.modulestep.specs.Answers.{cause_of}
-use Rattle.siteclash.specs.RecordUses.{IsAmong}
-use Rattle.siteclash.specs.Certificates.{certificate, AgreesWith}
-use Rattle.siteclash.specs.UseViews.{use_view, used_view}
-use Rattle.startcheck.specs.Disagreements.{Disagreement, IsDisagreement}
-use Rattle.startcheck.specs.DisagreementViews.{disagreement_view}
-use Rattle.sitewalk.specs.Sites.{Site, SiteModule, file_of, EvaluatesTo, IsDirectory, IsOfSite, ArePlainModules, AreDirectories, AreModulesIn}
-use Rattle.sitewalk.specs.Standings as standings
-use Rattle.sitewalk.specs.Standings.{HasStanding}
-use Rattle.sitewalk.specs.Laws.{CertificateHolds}
-use Rattle.siteclash.specs.EachOnce.{each_once}
+use Rattle.modules.specs.Answers.{cause_of}
+use Rattle.sitecertificate.specs.RecordUses.{IsAmong}
+use Rattle.sitecertificate.specs.Certificates.{certificate, AgreesWith}
+use Rattle.sitecertificate.specs.UseViews.{use_view, used_view}
+use Rattle.sitecertificate.specs.Disagreements.{Disagreement, IsDisagreement}
+use Rattle.sitecertificate.specs.DisagreementViews.{disagreement_view}
+use Rattle.sitelaws.specs.Sites.{Site, SiteModule, file_of, EvaluatesTo, IsDirectory, IsOfSite, ArePlainModules, AreDirectories, AreModulesIn}
+use Rattle.sitelaws.specs.Standings as standings
+use Rattle.sitelaws.specs.Standings.{HasStanding}
+use Rattle.sitelaws.specs.Laws.{CertificateHolds}
+use Rattle.sitecertificate.specs.EachOnce.{each_once}
 use Rattle.siteaudit.specs.declared.standing.Standing.{Standing}
 use Rattle.siteaudit.specs.declared.standing.Standing.TheVariants.{Certified, Asks, OneWay, OutOfStep, Clashes, Refused}
 use Rattle.siteaudit.specs.declared.auditing.AuditedModule.{AuditedModule}

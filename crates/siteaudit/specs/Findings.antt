@@ -5,19 +5,19 @@ use Rattle.std.specs.List.{list_all, AllByRecursion}
 use Rattle.envvars.specs.Fields.{colon}
 use Rattle.modulefile.specs.RecordViews.{record_view}
 use Rattle.modulerun.specs.declared.run.Ran.{Ran}
-use Rattle.requests.specs.Records.{Record}
-use Rattle.requests.specs.Moves.{Module}
-use Rattle.requests.specs.VariableUses.{Pathed, is_reversible}
-use Rattle.modulestep.specs.MoveViews.{module_view}
-use Rattle.modulestep.specs.declared.refusal.Refusal.{Refusal}
-use Rattle.siteclash.specs.RecordUses.{UsedVariable, used_by, used_by_modules, IsAmong, modulepath, same_use, are_in_step}
-use Rattle.siteclash.specs.UseViews.{use_view}
-use Rattle.sitewalk.specs.Sites.{SiteModule, with_records}
-use Rattle.sitewalk.specs.Standings.{IsFirstOneWay, IsUsedTwice}
-use Rattle.siteclash.specs.declared.answers.Clash.{Clash}
-use Rattle.siteclash.specs.ClashAnswers.{AreAnswers, without_clashes}
-use Rattle.siteclash.specs.EachOnce.{each_once}
-use Rattle.sitewalk.specs.declared.walk.Evaluation.{Evaluation}
+use Rattle.modulefile.specs.Records.{Record}
+use Rattle.modulefile.specs.Moves.{Module}
+use Rattle.reversal.specs.VariableUses.{Pathed, is_reversible}
+use Rattle.modules.specs.MoveViews.{module_view}
+use Rattle.modules.specs.declared.refusal.Refusal.{Refusal}
+use Rattle.sitecertificate.specs.RecordUses.{UsedVariable, used_by, used_by_modules, IsAmong, modulepath, same_use, are_in_step}
+use Rattle.sitecertificate.specs.UseViews.{use_view}
+use Rattle.sitelaws.specs.Sites.{SiteModule, with_records}
+use Rattle.sitelaws.specs.Standings.{IsFirstOneWay, IsUsedTwice}
+use Rattle.sitecertificate.specs.declared.answers.Clash.{Clash}
+use Rattle.sitecertificate.specs.ClashAnswers.{AreAnswers, without_clashes}
+use Rattle.sitecertificate.specs.EachOnce.{each_once}
+use Rattle.siteaudit.specs.declared.walk.Evaluation.{Evaluation}
 use Rattle.siteaudit.specs.declared.standing.UnlikeUses.{UnlikeUses}
 use Rattle.siteaudit.specs.declared.standing.Standing.{Standing}
 use Rattle.siteaudit.specs.declared.standing.Standing.TheVariants.{Certified, Asks, OneWay, OutOfStep, Clashes, Refused}

@@ -4,13 +4,13 @@ use Rattle.envvars.specs.Texts.{Text}
 use Rattle.tclrules.specs.declared.limits.Limits.{Limits}
 use Rattle.filetree.specs.Agreement.{Files, Listings}
 use Rattle.filetree.specs.Modulefiles.{path_of}
-use Rattle.defaultfiles.specs.DefaultFileResults.{HasResult}
+use Rattle.lookup.specs.DefaultFileResults.{HasResult}
 use Rattle.search.specs.Single.{is_single}
 use Rattle.search.specs.Reasons.{bad_default}
 use Rattle.search.specs.Found.{Found}
 use Rattle.search.specs.Looked.{LooksAt}
-use Rattle.siteclash.specs.RecordUses.{IsAmong}
-use Rattle.sitewalk.specs.declared.walk.Evaluation.{Evaluation}
+use Rattle.sitecertificate.specs.RecordUses.{IsAmong}
+use Rattle.siteaudit.specs.declared.walk.Evaluation.{Evaluation}
 use Rattle.siteaudit.specs.declared.defaults.Folder.{Folder}
 
 -- the module of this name is in this folder

@@ -2,11 +2,11 @@
 -- of the device at another path can end it.
 use Rattle.std.specs.Prelude.{◌⊎◌}
 use Rattle.envvars.specs.Texts.{Text}
-use Rattle.defaultfiles.specs.DefaultFileResults.{HasResult}
+use Rattle.lookup.specs.DefaultFileResults.{HasResult}
 use Rattle.search.specs.Looked.{HasModule, LooksAt}
-use Rattle.sitewalk.specs.Sites.{Site, IsDirectory}
-use Rattle.sitewalk.specs.Looked.{WalkLooksAt}
-pub use Rattle.sitewalk.specs.Looked.{is_failure}
+use Rattle.sitelaws.specs.Sites.{Site, IsDirectory}
+use Rattle.siteaudit.specs.LookedAtWalk.{WalkLooksAt}
+pub use Rattle.siteaudit.specs.LookedAtWalk.{is_failure}
 
 -- the search for a folder of a directory of the site, in which a module stands, looks at this path
 pub record FolderLooksAt (site : Site) (at : Text) : Type 0 where

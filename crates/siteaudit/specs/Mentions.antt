@@ -7,10 +7,10 @@ use Rattle.modulename.specs.ModuleName.{means}
 use Rattle.envvars.specs.Texts.{Text, has}
 use Rattle.modulefile.specs.RecordViews.{record_view}
 use Rattle.modulerun.specs.declared.run.Ran.{Ran}
-use Rattle.requests.specs.Records.{Record, Set, Unset, Push, Front, Back, Remove, Conflict, Prereq, Whatis}
-use Rattle.modulestep.specs.declared.refusal.Refusal.{Refusal}
-use Rattle.sitewalk.specs.Sites.{SiteModule}
-use Rattle.sitewalk.specs.declared.walk.Evaluation.{Evaluation}
+use Rattle.modulefile.specs.Records.{Record, Set, Unset, Push, Front, Back, Remove, Conflict, Prereq, Whatis}
+use Rattle.modules.specs.declared.refusal.Refusal.{Refusal}
+use Rattle.sitelaws.specs.Sites.{SiteModule}
+use Rattle.siteaudit.specs.declared.walk.Evaluation.{Evaluation}
 use Rattle.siteaudit.specs.Audits.{Mention}
 use Rattle.siteaudit.specs.Findings.{evaluated_file}
 

@@ -1,15 +1,15 @@
 -- The parts of an audit, by the evaluations of a walk: for this crate's own contracts alone.
 use Rattle.std.specs.Prelude.{◌≡◌, ◌↔◌, List, [], map, flat_map}
 use Rattle.envvars.specs.Texts.{texts_in}
-use Rattle.siteclash.specs.RecordUses.{IsAmong}
-use Rattle.siteclash.specs.Certificates.{AgreesWith}
-use Rattle.siteclash.specs.UseViews.{used_view}
-use Rattle.startcheck.specs.Disagreements.{Disagreement, IsDisagreement}
-use Rattle.startcheck.specs.DisagreementViews.{disagreement_view}
-use Rattle.sitewalk.specs.Sites.{Site}
-use Rattle.sitewalk.specs.Walks.{IsWalkAnswer}
-use Rattle.sitewalk.specs.declared.walk.Evaluation.{Evaluation}
-use Rattle.sitewalk.specs.declared.walk.Walk.{Walk}
+use Rattle.sitecertificate.specs.RecordUses.{IsAmong}
+use Rattle.sitecertificate.specs.Certificates.{AgreesWith}
+use Rattle.sitecertificate.specs.UseViews.{used_view}
+use Rattle.sitecertificate.specs.Disagreements.{Disagreement, IsDisagreement}
+use Rattle.sitecertificate.specs.DisagreementViews.{disagreement_view}
+use Rattle.sitelaws.specs.Sites.{Site}
+use Rattle.siteaudit.specs.Walks.{IsWalkAnswer}
+use Rattle.siteaudit.specs.declared.walk.Evaluation.{Evaluation}
+use Rattle.siteaudit.specs.declared.walk.Walk.{Walk}
 use Rattle.siteaudit.specs.Audits.{mention_of, IsAudit, CertificateStands}
 use Rattle.siteaudit.specs.Findings.{AreStandings}
 use Rattle.siteaudit.specs.Folders.{AreBadAmong}

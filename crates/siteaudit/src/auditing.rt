@@ -2,25 +2,26 @@
 ghost use Rattle.std.specs.Prelude.{◌<◌, IfOk, IfErr};
 ghost use Rattle.filetree.specs.Agreement.{FailsWhere, InEachPair, ReadsOn};
 ghost use Rattle.filetree.specs.Causes.{Applies};
-ghost use Rattle.modulestep.specs.Answers as steps;
-ghost use Rattle.modulestep.specs.Answers.{cause_of};
-ghost use Rattle.sitewalk.specs.Sites.{site_of};
-ghost use Rattle.sitewalk.specs.Walks.{HasCause};
+ghost use Rattle.modules.specs.Answers as steps;
+ghost use Rattle.modules.specs.Answers.{cause_of};
+ghost use Rattle.sitelaws.specs.Sites.{site_of};
+ghost use Rattle.siteaudit.specs.Walks.{HasCause};
 ghost use Rattle.siteaudit.specs.Audits.{IsAudit, CertificateStands};
 ghost use Rattle.siteaudit.specs.Folders.{EvaluatedLookAt};
 ghost use Rattle.siteaudit.specs.Looked.{AuditLooksAt, is_failure};
 ghost use Rattle.siteaudit.specs.Parts.{AreParts, PartsAreAudits};
 
 use crate::defaults::bad_default_files;
+use crate::fault::WalkFault;
 use crate::judgement::{Standings, judge_modules};
 use crate::names::unknown_names;
+use crate::progress::Progress;
 use crate::standing::Standing;
+use crate::walk::{Evaluation, Walk, walk_site};
 use envvars::Env;
 use filetree::Tree;
-use modulestep::Refusal;
-use siteclash::UsedVariable;
-use sitewalk::{Evaluation, Progress, Walk, WalkFault, walk_site};
-use startcheck::{Disagreement, disagreements};
+use modules::Refusal;
+use sitecertificate::{Disagreement, UsedVariable, disagreements};
 use std::alloc::Global;
 use tclrules::Limits;
 
@@ -68,9 +69,9 @@ fn parts_are_audits()
     ensures { PartsAreAudits }
 {
     modulefile::files();
-    siteclash::certified();
-    sitewalk::walks();
-    sitewalk::sessions_return();
+    sitecertificate::laws::certified();
+    sitelaws::laws::walks();
+    sitelaws::laws::sessions_return();
 }
 
 /// The parts of an audit, by the evaluations of a walk.
@@ -130,7 +131,7 @@ pub fn audit<T: Tree, P: Progress>(
         AuditLooksAt (site_of limits env.now files listings)) }
 {
     parts_are_audits();
-    sitewalk::walks();
+    sitelaws::laws::walks();
     let Walk {
         directories: _,
         evaluations,

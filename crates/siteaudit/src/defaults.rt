@@ -4,18 +4,17 @@ ghost use Rattle.std.specs.Option.{option_map};
 ghost use Rattle.envvars.specs.Texts.{texts_in};
 ghost use Rattle.filetree.specs.Agreement.{FailsWhere, InEachPair, ReadsOn};
 ghost use Rattle.filetree.specs.Causes.{Applies};
-ghost use Rattle.modulestep.specs.Answers.{cause_of, is_failure};
-ghost use Rattle.siteclash.specs.RecordUses.{IsAmong};
-ghost use Rattle.siteaudit.specs.Folders.{FolderText, folder_view, HoldsModule, HoldsOneOf, IsBadAnswer, AreBadIn, AreBadAmong};
-ghost use Rattle.siteaudit.specs.Folders.{SearchLooksAt, SearchesLookAt, EvaluatedLookAt};
+ghost use Rattle.modules.specs.Answers.{cause_of, is_failure};
+ghost use Rattle.sitecertificate.specs.RecordUses.{IsAmong};
+ghost use Rattle.siteaudit.specs.Folders.{FolderText, folder_view, HoldsModule, HoldsOneOf, IsBadAnswer, AreBadIn, AreBadAmong, SearchLooksAt, SearchesLookAt, EvaluatedLookAt};
 
 use crate::folders::{directory_of, folder_of};
-use defaultfiles::Evaluated;
+use crate::walk::Evaluation;
 use filetree::{FindFault, Tree};
 use indexmap::IndexSet;
-use modulestep::Refusal;
+use lookup::Evaluated;
+use modules::Refusal;
 use search::{locate, one_found};
-use sitewalk::Evaluation;
 use std::alloc::{AllocError, Global};
 use tclrules::Limits;
 

@@ -1,16 +1,16 @@
 //! All modules of a site together: each judged by itself, the answers about clashes, and the certificate.
 ghost use Rattle.std.specs.Prelude.{◌≡◌, ◌++◌, [], ◌∷◌, map, IfOk, OnOk};
 ghost use Rattle.std.specs.Vec.Iter.{into_iter_items};
-ghost use Rattle.modulestep.specs.MoveViews.{module_view};
-ghost use Rattle.siteclash.specs.UseViews.{used_view};
+ghost use Rattle.modules.specs.MoveViews.{module_view};
+ghost use Rattle.sitecertificate.specs.UseViews.{used_view};
 ghost use Rattle.siteaudit.specs.Findings as findings;
 ghost use Rattle.siteaudit.specs.Findings.{standing_of, steps_of, AddsJudged, AreJudged, AreStandings, answers_left, settled};
 
 use crate::auditing::AuditedModule;
 use crate::standing::{Finding, Standing, judge};
-use modulestep::Module;
-use siteclash::{Clash, FoundClashes, UsedVariable, clashes};
-use sitewalk::Evaluation;
+use crate::walk::Evaluation;
+use modules::Module;
+use sitecertificate::{Clash, FoundClashes, UsedVariable, clashes};
 use std::alloc::{AllocError, Global};
 use std::vec::IntoIter;
 

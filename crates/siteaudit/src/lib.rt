@@ -1,17 +1,26 @@
-//! The audit of a whole site: how each of its modules stands, the certificate of those that need no judgement, remarks.
+//! The audit of a whole site: its walk, how each module stands, the certificate of those without a judgement, remarks.
 //! Takes memory, reads the files and directories (`Tree`) that it is given, and says how far it has come.
-//! Used by auditreport, which hands it on to auditcommand, for the program modaudit.
+//! Clauses: `reads` and `failed` say what the tree was asked; `listed`, `evaluated` and `walked` what is found by each pair
+//! that agrees with it; and `cause` why a call gives no answer.
 #![tactic(auto)]
 
 mod auditing;
+mod below;
 mod defaults;
+mod directories;
+mod fault;
+mod files;
 mod folders;
+mod given_up;
 mod judgement;
 mod names;
+mod plain;
+mod progress;
 mod standing;
+mod walk;
 
 pub use auditing::{AuditedModule, SiteAudit, UnknownNames, audit};
-pub use siteclash::{Clash, UsedVariable, VariableUse};
-pub use sitewalk::{MAX_DIRECTORIES, Progress, Silent, WalkFault};
+pub use fault::WalkFault;
+pub use progress::{Progress, Silent};
 pub use standing::Standing;
-pub use startcheck::Disagreement;
+pub use walk::MAX_DIRECTORIES;

@@ -4,16 +4,16 @@ ghost use Rattle.std.specs.List.{list_all};
 ghost use Rattle.std.specs.Option.{option_map};
 ghost use Rattle.envvars.specs.Fields.{colon};
 ghost use Rattle.modulefile.specs.RecordViews.{record_view};
-ghost use Rattle.requests.specs.VariableUses as variable_uses;
-ghost use Rattle.siteclash.specs.RecordUses as uses;
-ghost use Rattle.siteclash.specs.RecordUses.{use_alike, are_in_step, modulepath};
-ghost use Rattle.siteclash.specs.UseViews.{use_view, used_view};
+ghost use Rattle.reversal.specs.VariableUses as variable_uses;
+ghost use Rattle.sitecertificate.specs.RecordUses as uses;
+ghost use Rattle.sitecertificate.specs.RecordUses.{use_alike, are_in_step, modulepath};
+ghost use Rattle.sitecertificate.specs.UseViews.{use_view, used_view};
 ghost use Rattle.siteaudit.specs.Findings.{AreUnlike, IsFinding, IsFindingOf};
 
 use modulefile::{Delimiter, Record};
 use modulerun::{Ran, records_unless_asked};
-use modulestep::{Refusal, is_reversible};
-use siteclash::{Clash, UsedVariable, VariableUse, first_unlike, used_by};
+use modules::{Refusal, is_reversible};
+use sitecertificate::{Clash, UsedVariable, VariableUse, first_unlike, used_by};
 use std::alloc::{AllocError, Global};
 
 /// How a module of a site stands.

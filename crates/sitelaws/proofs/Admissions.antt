@@ -4,14 +4,14 @@ use Rattle.modulename.specs.ModuleName.{is_module_name}
 use Rattle.envvars.specs.Texts.{Text, has}
 use Rattle.envvars.specs.Environment.{Environment}
 use Rattle.envloaded.specs.Loaded.{Entry, names_of, loaded_in}
-use Rattle.shells.specs.declared.shell.Shell.{Shell}
+use Rattle.shelltext.specs.declared.shell.Shell.{Shell}
 use Rattle.filetree.specs.Modulefiles.{script, modulefile}
 use Rattle.filetree.specs.Relations.{Is, Then, If}
-use Rattle.requests.specs.Records.{Record}
-use Rattle.requests.specs.Effects as modes
-use Rattle.requests.specs.Effects.{Mode}
-use Rattle.requests.specs.Moves.{Module, Move, Loads, Unloads, moved}
-use Rattle.requests.specs.Moves as moves
+use Rattle.modulefile.specs.Records.{Record}
+use Rattle.modulefile.specs.Effects as modes
+use Rattle.modulefile.specs.Effects.{Mode}
+use Rattle.modulefile.specs.Moves.{Module, Move, Loads, Unloads, moved}
+use Rattle.modulefile.specs.Moves as moves
 use Rattle.modulefile.specs.Files.{Ran}
 use Rattle.search.specs.Reasons.{bad_name}
 use Rattle.search.specs.Found as search

@@ -6,11 +6,11 @@ use Rattle.modulename.specs.ModuleName.{means}
 use Rattle.envvars.specs.Texts.{Text}
 use Rattle.envvars.proofs.TextLemmas.{or_left, or_right}
 use Rattle.envloaded.specs.Loaded.{Entry}
-use Rattle.requests.specs.Records.{conflict_names, prereq_groups}
-use Rattle.requests.specs.Moves.{Module}
+use Rattle.modulefile.specs.Records.{conflict_names, prereq_groups}
+use Rattle.modulefile.specs.Moves.{Module}
 use Rattle.requests.specs.Reasons.{RequestReason, conflict_with, prereq_missing}
 use Rattle.requests.specs.Conditions.{recorded_conflict, own_conflict, missing_group, load_objection}
-use Rattle.certificate.specs.Clashes.{in_conflict_with_entry}
+use Rattle.sitecertificate.specs.Clashes.{in_conflict_with_entry}
 
 neither : {X : Type 0} (o p : Option X) → option_or o p ≡ None → (o ≡ None) × (p ≡ None)
 neither None p h = (refl, h)

@@ -9,6 +9,3 @@ mod Returned
 mod Walked
 mod PlainOnes
 pub mod DirectorySetLemmas
--- Handed on, so that a caller need not name the crates below.
-pub use Rattle.certificate.proofs.Exact
-pub use Rattle.certificate.proofs.UsedLemmas

@@ -6,18 +6,18 @@ use Rattle.envvars.specs.Fields.{colon}
 use Rattle.filetree.specs.Modulefiles.{modulefile}
 use Rattle.filetree.specs.Relations.{IsOne}
 use Rattle.filetree.proofs.OneOutcome.{one_is, one_then}
-use Rattle.requests.specs.Effects as modes
-use Rattle.requests.specs.Records.{Record}
-use Rattle.requests.specs.Moves.{Module}
+use Rattle.modulefile.specs.Effects as modes
+use Rattle.modulefile.specs.Records.{Record}
+use Rattle.modulefile.specs.Moves.{Module}
 use Rattle.modulefile.specs.Files.{Ran, RunsFile}
 use Rattle.modulefile.specs.Laws as files
-use Rattle.requests.specs.VariableUses.{VariableUse, Pathed}
+use Rattle.reversal.specs.VariableUses.{VariableUse, Pathed}
 use Rattle.requests.specs.Refusals.{refused_as, RefusedAs}
 use Rattle.requests.specs.Reasons.{RequestReason, file_refused}
 use Rattle.requests.specs.Steps.{entries_of, script_at, context_of}
 use Rattle.requests.specs.Verdicts.{Verdict, plain, asked, one_way, verdict_of}
-use Rattle.certificate.specs.RecordUses.{used_by, IsAmong, modulepath, same_use, AreInStep}
-use Rattle.certificate.proofs.Exact.{use_itself}
+use Rattle.sitecertificate.specs.RecordUses.{used_by, IsAmong, modulepath, same_use, AreInStep}
+use Rattle.sitecertificate.proofs.Exact.{use_itself}
 use Rattle.sitelaws.specs.Sites.{Site, SiteModule, over_site, EvaluatesTo, HasPlainRecords, with_records}
 use Rattle.sitelaws.specs.Standings.{Standing, Certified, Asks, OneWay, OutOfStep, Clashes, Refused, IsUsedTwice, ClashesWith, HasStanding, standing_word}
 use Rattle.sitelaws.specs.Laws.{OneStanding}

@@ -3,7 +3,7 @@ use Rattle.std.proofs.Common.{◌≡◌, Result, Ok, subst, sym}
 use Rattle.modulename.specs.ModuleName.{Text}
 use Rattle.envvars.specs.Environment.{Environment}
 use Rattle.filetree.specs.Modulefiles.{FileContent, absent, no_cookie, not_utf8, script, modulefile}
-use Rattle.requests.specs.DefaultFileResults.{HasResult}
+use Rattle.lookup.specs.DefaultFileResults.{HasResult}
 use Rattle.modulefile.specs.Answers.{FileContext}
 use Rattle.modulefile.specs.Files.{Ran, RunsFile}
 use Rattle.search.specs.Found.{FoundModule, Found}

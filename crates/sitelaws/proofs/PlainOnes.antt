@@ -2,13 +2,13 @@
 use Rattle.std.proofs.Common.{◌≡◌, ◌⊎◌, inl, inr, List, [], ◌∷◌, map, Option, Some, None, Result, Ok, Err, refl, ap, sym, ◌∙◌, subst}
 use Rattle.std.specs.Prelude.{filter_map}
 use Rattle.std.specs.List.{cons_option}
-use Rattle.requests.specs.Records.{Record}
-use Rattle.requests.specs.Moves.{Module}
+use Rattle.modulefile.specs.Records.{Record}
+use Rattle.modulefile.specs.Moves.{Module}
 use Rattle.modulefile.specs.Files.{Ran}
 use Rattle.modulefile.specs.Laws as files
 use Rattle.requests.specs.Reasons.{RequestReason}
 use Rattle.requests.specs.Verdicts.{Verdict, plain, asked, one_way, verdict_of}
-use Rattle.certificate.specs.RecordUses.{IsAmong}
+use Rattle.sitecertificate.specs.RecordUses.{IsAmong}
 use Rattle.sitelaws.specs.Sites.{Site, SiteModule, file_of, with_records, EvaluatesTo, HasPlainRecords, IsOfSite, Evaluated, plain_by, plain_of}
 use Rattle.sitelaws.specs.Laws.{PlainModulesFound}
 use Rattle.sitelaws.proofs.OneStanding.{one_outcome}

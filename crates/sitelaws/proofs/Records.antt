@@ -4,16 +4,16 @@ use Rattle.std.specs.List.{list_all}
 use Rattle.envvars.specs.Texts.{Text}
 use Rattle.filetree.specs.Modulefiles.{script, modulefile}
 use Rattle.filetree.specs.Relations.{Is, ◌>>◌}
-use Rattle.requests.specs.Effects as modes
+use Rattle.modulefile.specs.Effects as modes
 use Rattle.modulefile.specs.Files.{Ran, refused_by, RunsFile, IsSameOrRefused}
 use Rattle.modulefile.specs.Laws.{PlainFilesAgree}
-use Rattle.requests.specs.VariableUses.{is_reversible}
+use Rattle.reversal.specs.VariableUses.{is_reversible}
 use Rattle.requests.specs.Refusals.{RefusedAs}
 use Rattle.requests.specs.Reasons.{file_refused}
 use Rattle.requests.specs.Steps.{RequestContext, entries_of, script_at, context_of}
 use Rattle.requests.specs.Verdicts.{plain, asked, one_way, verdict_of}
 use Rattle.requests.specs.PlainRuns.{HasEvaluatedTo}
-use Rattle.certificate.specs.Laws.{CertifiedAreExact}
+use Rattle.sitecertificate.specs.Laws.{CertifiedAreExact}
 use Rattle.sitelaws.specs.Sites.{Site, SiteModule, over_site, EvaluatesTo, with_records}
 use Rattle.sitelaws.specs.Laws.{PlainRecordsAreAll, CertifiedStand}
 use Rattle.requests.proofs.Bound.{went_on}

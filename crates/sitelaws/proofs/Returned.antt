@@ -6,23 +6,23 @@ use Rattle.envvars.specs.Texts.{Text}
 use Rattle.envvars.specs.Environment.{Environment}
 use Rattle.envloaded.specs.Loaded.{Entry, loaded_in}
 use Rattle.envstate.proofs.StateLemmas.{list_in_order}
-use Rattle.requests.specs.Moves.{Module, Move, Loads, Unloads, Fits, moved, MovesReach}
+use Rattle.modulefile.specs.Moves.{Module, Move, Loads, Unloads, Fits, moved, MovesReach}
 use Rattle.modulefile.specs.Files.{Ran}
-use Rattle.requests.specs.Live.{entries_over}
-use Rattle.requests.specs.Starts.{IsInOrder, IsStartWith}
-use Rattle.requests.specs.RequestMoves as moves
-use Rattle.requests.specs.Runs.{live_named, without_live, Undoes}
-use Rattle.requests.specs.ReversalLaws.{Holds}
+use Rattle.reversal.specs.Live.{entries_over}
+use Rattle.reversal.specs.Starts.{IsInOrder, IsStartWith}
+use Rattle.reversal.specs.Requests as moves
+use Rattle.reversal.specs.Runs.{live_named, without_live, Undoes}
+use Rattle.reversal.specs.Laws.{Holds}
 use Rattle.requests.specs.Requests.{Request}
 use Rattle.requests.specs.Steps.{RequestContext}
 use Rattle.requests.specs.PlainRuns.{HasEvaluatedTo}
 use Rattle.requests.specs.Sessions.{Response, Session, in_shell, env_after, end_environment, outcome_of, session_moves}
 use Rattle.requests.specs.Returning.{IsNew, AreNew}
 use Rattle.requests.specs.Laws.{SessionsReach, StepsReach}
-use Rattle.certificate.specs.RecordUses.{IsAmong, uses_by}
-use Rattle.certificate.specs.Clashes.{in_conflict, in_conflict_with_entry}
-use Rattle.certificate.specs.Certificates.{IsCertified, certified, certificate, AgreesWith}
-use Rattle.certificate.specs.Laws.{CertifiedAreExact, AreCertified, EntriesHaveConflicts, CertifiedRunsStand, AreCertifiedTogether, CertifiedMovesPreserve}
+use Rattle.sitecertificate.specs.RecordUses.{IsAmong, uses_by}
+use Rattle.sitecertificate.specs.Clashes.{in_conflict, in_conflict_with_entry}
+use Rattle.sitecertificate.specs.Certificates.{IsCertified, certified, certificate, AgreesWith}
+use Rattle.sitecertificate.specs.Laws.{CertifiedAreExact, AreCertified, EntriesHaveConflicts, CertifiedRunsStand, AreCertifiedTogether, CertifiedMovesPreserve}
 use Rattle.sitelaws.specs.Sites.{Site, over_site, file_of, ArePlainModules}
 use Rattle.sitelaws.specs.Admitted.{IsAdmitted}
 use Rattle.sitelaws.specs.Laws.{PlainRecordsAreAll, IsOneOf, LoadsAreOf, SiteSessionsReturn, AuditsHold, SiteCommandsReturn}

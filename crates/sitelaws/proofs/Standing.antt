@@ -8,21 +8,21 @@ use Rattle.envvars.specs.Fields.{colon}
 use Rattle.envvars.proofs.TextLemmas.{same_text, bytes_eq-same}
 use Rattle.filetree.specs.Modulefiles.{modulefile}
 use Rattle.filetree.specs.Relations.{Is, Then}
-use Rattle.requests.specs.Effects as modes
-use Rattle.requests.specs.Records.{Record}
-use Rattle.requests.specs.Moves.{Module}
+use Rattle.modulefile.specs.Effects as modes
+use Rattle.modulefile.specs.Records.{Record}
+use Rattle.modulefile.specs.Moves.{Module}
 use Rattle.modulefile.specs.Files.{Ran}
 use Rattle.modulefile.specs.Laws as files
-use Rattle.requests.specs.VariableUses.{VariableUse, Pathed, is_reversible}
+use Rattle.reversal.specs.VariableUses.{VariableUse, Pathed, is_reversible}
 use Rattle.requests.specs.Refusals.{refused_as}
 use Rattle.requests.specs.Reasons.{RequestReason, file_refused}
 use Rattle.requests.specs.Steps.{entries_of, script_at, context_of}
-use Rattle.certificate.specs.RecordUses.{UsedVariable, used_by, IsAmong, modulepath, same_use, use_alike, are_in_step, is_in_step, IsInStep}
-use Rattle.certificate.specs.Clashes.{exclude, uses_clash, do_clash}
-use Rattle.certificate.specs.Certificates.{is_other, clashes_among}
-use Rattle.certificate.specs.Laws.{CertifiedAreExact}
-use Rattle.certificate.proofs.UsedLemmas.{by_test, by_cases}
-use Rattle.certificate.proofs.Exact.{any_some, in_filter}
+use Rattle.sitecertificate.specs.RecordUses.{UsedVariable, used_by, IsAmong, modulepath, same_use, use_alike, are_in_step, is_in_step, IsInStep}
+use Rattle.sitecertificate.specs.Clashes.{exclude, uses_clash, do_clash}
+use Rattle.sitecertificate.specs.Certificates.{is_other, clashes_among}
+use Rattle.sitecertificate.specs.Laws.{CertifiedAreExact}
+use Rattle.sitecertificate.proofs.UsedLemmas.{by_test, by_cases}
+use Rattle.sitecertificate.proofs.Exact.{any_some, in_filter}
 use Rattle.sitelaws.specs.Sites.{Site, SiteModule, over_site, EvaluatesTo, HasPlainRecords, IsOfSite, ArePlainModules, with_records}
 use Rattle.sitelaws.specs.Standings.{Standing, Certified, Asks, OneWay, OutOfStep, Clashes, Refused, IsUsedTwice, ClashesWith, HasStanding}
 use Rattle.sitelaws.specs.Laws.{EachStands}

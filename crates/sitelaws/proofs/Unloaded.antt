@@ -12,11 +12,11 @@ use Rattle.envvars.proofs.ChangeLemmas.{are_distinct-push}
 use Rattle.envvars.proofs.TextLemmas.{same_text}
 use Rattle.envloaded.specs.Loaded.{Entry, names_of, loaded_in, AreLoadedInOrder}
 use Rattle.envstate.proofs.StateLemmas.{list_in_order}
-use Rattle.requests.specs.Moves.{Module, Unloads, entry_of, Fits}
-use Rattle.requests.specs.VariableUses.{VariableUse}
-use Rattle.requests.specs.Live.{entries_over}
-use Rattle.requests.specs.Starts.{IsInOrder, IsStartWith}
-use Rattle.requests.specs.Runs.{live_named}
+use Rattle.modulefile.specs.Moves.{Module, Unloads, entry_of, Fits}
+use Rattle.reversal.specs.VariableUses.{VariableUse}
+use Rattle.reversal.specs.Live.{entries_over}
+use Rattle.reversal.specs.Starts.{IsInOrder, IsStartWith}
+use Rattle.reversal.specs.Runs.{live_named}
 use Rattle.requests.specs.Returning.{IsNew}
 use Rattle.requests.proofs.Undone.{is_entry_of, not_among, same_list}
 use Rattle.requests.proofs.PlainMoves.{same_live}

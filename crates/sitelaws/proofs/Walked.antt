@@ -7,7 +7,7 @@ use Rattle.envvars.specs.Texts.{Text}
 use Rattle.envvars.proofs.TextLemmas.{same_text, bytes_eq-same}
 use Rattle.filetree.specs.Modulefiles.{path_of}
 use Rattle.search.specs.Listed.{names_of}
-use Rattle.certificate.specs.RecordUses.{IsAmong}
+use Rattle.sitecertificate.specs.RecordUses.{IsAmong}
 use Rattle.sitelaws.specs.Sites.{Site, SiteModule, module_below, IsIn, IsDirectory, first, added, IsClosed, AreNamesBelow, AreModulesIn}
 use Rattle.sitelaws.specs.Laws.{NamesListed, DirectoriesFound, ModulesFound}
 

@@ -2,7 +2,7 @@
 use Rattle.std.specs.Prelude.{◌≡◌, List, [], ◌∷◌, Some, None, Ok}
 use Rattle.envvars.specs.Environment.{Environment}
 use Rattle.envloaded.specs.Loaded.{Entry, loaded_in}
-use Rattle.requests.specs.Moves.{Move, Loads, Unloads, moved}
+use Rattle.modulefile.specs.Moves.{Move, Loads, Unloads, moved}
 use Rattle.requests.specs.Conditions.{load_objection}
 
 -- A load is admitted where neither the conflicts that the loaded list records, nor those of the module itself, nor its

@@ -3,23 +3,23 @@
 use Rattle.std.specs.Prelude.{◌≡◌, ◌↔◌, List, [], ◌∷◌, ◌++◌, filter_map, Ok}
 use Rattle.envvars.specs.Texts.{Text}
 use Rattle.envvars.specs.Environment.{Environment}
-use Rattle.shells.specs.declared.shell.Shell.{Shell}
-use Rattle.requests.specs.Records.{Record}
-use Rattle.requests.specs.Moves.{Module, Move, Loads, Unloads}
+use Rattle.shelltext.specs.declared.shell.Shell.{Shell}
+use Rattle.modulefile.specs.Records.{Record}
+use Rattle.modulefile.specs.Moves.{Module, Move, Loads, Unloads}
 use Rattle.modulefile.specs.Files.{Ran}
-use Rattle.requests.specs.Starts.{IsInOrder, IsStartWith}
-use Rattle.requests.specs.Runs.{live_after}
-use Rattle.requests.specs.ReversalLaws.{Holds}
-use Rattle.requests.specs.DefaultFileResults.{HasResult}
+use Rattle.reversal.specs.Starts.{IsInOrder, IsStartWith}
+use Rattle.reversal.specs.Runs.{live_after}
+use Rattle.reversal.specs.Laws.{Holds}
+use Rattle.lookup.specs.DefaultFileResults.{HasResult}
 use Rattle.search.specs.Listed.{ListingEntry, names_of, IsListing}
 use Rattle.requests.specs.Requests.{RequestedAction, Request}
 use Rattle.requests.specs.Steps.{RequestContext, Done, RequestStep}
 use Rattle.requests.specs.Sessions.{Response, Session, in_shell, end_environment, session_moves}
 use Rattle.requests.specs.Returning.{AreNew}
 use Rattle.requests.specs.PlainRuns.{HasEvaluatedTo}
-use Rattle.certificate.specs.RecordUses.{UsedVariable, IsAmong, uses_by}
-use Rattle.certificate.specs.Certificates.{IsCertified, certified, certificate, AgreesWith}
-use Rattle.certificate.specs.Laws.{AreCertifiedTogether}
+use Rattle.sitecertificate.specs.RecordUses.{UsedVariable, IsAmong, uses_by}
+use Rattle.sitecertificate.specs.Certificates.{IsCertified, certified, certificate, AgreesWith}
+use Rattle.sitecertificate.specs.Laws.{AreCertifiedTogether}
 use Rattle.sitelaws.specs.Sites.{Site, SiteModule, over_site, HasPlainRecords, IsDirectory, IsOfSite, with_records, ArePlainModules, IsClosed, AreDirectories, AreNamesBelow, AreModulesIn, Evaluated, plain_of, AreEvaluated}
 use Rattle.sitelaws.specs.Standings.{Standing, Certified, standing_word, HasStanding}
 use Rattle.sitelaws.specs.Admitted.{AdmittedMovesReach}

@@ -3,7 +3,5 @@ pub mod Standings
 pub mod Admitted
 pub mod Laws
 pub mod DirectorySets
+
 -- What the definitions above cite, so that a caller need not name the crates below.
-pub use Rattle.certificate.specs.Certificates
-pub use Rattle.certificate.specs.Laws as CertificateLaws
-pub use Rattle.certificate.specs.RecordUses

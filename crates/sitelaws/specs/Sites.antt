@@ -5,13 +5,13 @@ use Rattle.modulename.specs.Versions.{version_order}
 use Rattle.envvars.specs.Texts.{Text}
 use Rattle.envvars.specs.Environment.{Environment}
 use Rattle.tclrules.specs.declared.limits.Limits.{Limits}
-use Rattle.shells.specs.declared.shell.Shell.TheVariants.{Sh}
+use Rattle.shelltext.specs.declared.shell.Shell.TheVariants.{Sh}
 use Rattle.filetree.specs.Agreement.{Files, Listings}
 use Rattle.filetree.specs.Modulefiles.{modulefile, directories, path_of}
 use Rattle.filetree.specs.Relations.{Is, ◌>>◌}
-use Rattle.requests.specs.Records.{Record, Set, Unset, Push, Front, Back, Remove, Conflict, Prereq, Whatis}
-use Rattle.requests.specs.Effects as modes
-use Rattle.requests.specs.Moves.{Module}
+use Rattle.modulefile.specs.Records.{Record, Set, Unset, Push, Front, Back, Remove, Conflict, Prereq, Whatis}
+use Rattle.modulefile.specs.Effects as modes
+use Rattle.modulefile.specs.Moves.{Module}
 use Rattle.modulefile.specs.Files.{Ran, RunsFile}
 use Rattle.search.specs.Listed.{IsBelow}
 use Rattle.requests.specs.Refusals.{RefusedAs}
@@ -19,7 +19,7 @@ use Rattle.requests.specs.Reasons.{RequestReason, file_refused}
 use Rattle.requests.specs.Steps as requests
 use Rattle.requests.specs.Steps.{RequestContext, request_context_in, entries_of, script_at, context_of}
 use Rattle.requests.specs.Verdicts.{Verdict, plain, asked, one_way, verdict_of}
-use Rattle.certificate.specs.RecordUses.{IsAmong, modulepath}
+use Rattle.sitecertificate.specs.RecordUses.{IsAmong, modulepath}
 
 -- A site: the files and directories of a tree, the limits on the evaluation of each file, and the environment at hand.
 -- Its MODULEPATH is where the site begins, and each file is evaluated in it.

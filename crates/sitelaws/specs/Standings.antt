@@ -2,15 +2,15 @@
 use Rattle.std.specs.Prelude.{◌≡◌, true, false, not, List, ◌∷◌, codes, find, Some, Ok, Err}
 use Rattle.envvars.specs.Texts.{Text}
 use Rattle.envvars.specs.Fields.{colon}
-use Rattle.requests.specs.Records.{Record}
-use Rattle.requests.specs.Moves.{Module}
+use Rattle.modulefile.specs.Records.{Record}
+use Rattle.modulefile.specs.Moves.{Module}
 use Rattle.modulefile.specs.Files.{Ran}
-use Rattle.requests.specs.VariableUses.{VariableUse, Pathed, is_reversible}
+use Rattle.reversal.specs.VariableUses.{VariableUse, Pathed, is_reversible}
 use Rattle.requests.specs.Reasons.{RequestReason}
 use Rattle.requests.specs.Verdicts.{asked, one_way, verdict_of}
-use Rattle.certificate.specs.RecordUses.{IsAmong, used_by, same_use, modulepath, IsInStep}
-use Rattle.certificate.specs.Clashes.{Clash}
-use Rattle.certificate.specs.Certificates.{is_other, IsCertified}
+use Rattle.sitecertificate.specs.RecordUses.{IsAmong, used_by, same_use, modulepath, IsInStep}
+use Rattle.sitecertificate.specs.Clashes.{Clash}
+use Rattle.sitecertificate.specs.Certificates.{is_other, IsCertified}
 use Rattle.sitelaws.specs.Sites.{Site, SiteModule, EvaluatesTo, HasPlainRecords, with_records}
 
 pub data Standing : Type 0 where

@@ -1,7 +1,5 @@
 //! Laws of sites. Each function does nothing: its contract is the law.
-ghost use Rattle.sitelaws.specs.Laws.{StepsAreAdmitted, SessionsAreAdmitted, NamesListed, DirectoriesFound, ModulesFound, PlainModulesFound};
-ghost use Rattle.sitelaws.specs.Laws.{PlainRecordsAreAll, EachStands, OneStanding, CertifiedStand};
-ghost use Rattle.sitelaws.specs.Laws.{SiteSessionsReturn, AuditsHold, SiteCommandsReturn};
+ghost use Rattle.sitelaws.specs.Laws.{StepsAreAdmitted, SessionsAreAdmitted, NamesListed, DirectoriesFound, ModulesFound, PlainModulesFound, PlainRecordsAreAll, EachStands, OneStanding, CertifiedStand, SiteSessionsReturn, AuditsHold, SiteCommandsReturn};
 
 /// Nothing that was loaded at the moment of an accepted load forbade it: neither a conflict that the loaded list records,
 /// nor a conflict of the module itself, nor a prereq. So it is for requests, and for sessions.
@@ -36,7 +34,7 @@ pub fn standings()
     ensures certified { CertifiedStand }
 {
     modulefile::files();
-    certificate::laws::certified();
+    sitecertificate::laws::certified();
 }
 
 /// From a start that agrees with the certificate of a site, in a session over that site whose accepted loads are of
@@ -51,10 +49,10 @@ pub fn sessions_return()
     admissions();
     plain_records();
     requests::sessions();
-    certificate::laws::certified();
-    certificate::laws::conflicts();
-    certificate::laws::runs();
-    certificate::laws::steps();
+    sitecertificate::laws::certified();
+    sitecertificate::laws::conflicts();
+    sitecertificate::laws::runs();
+    sitecertificate::laws::steps();
 }
 
 /// The same for one command, which knows no history.
@@ -64,7 +62,7 @@ pub fn command_returns()
     admissions();
     plain_records();
     requests::outcomes();
-    certificate::laws::certified();
-    certificate::laws::conflicts();
-    certificate::laws::steps();
+    sitecertificate::laws::certified();
+    sitecertificate::laws::conflicts();
+    sitecertificate::laws::steps();
 }

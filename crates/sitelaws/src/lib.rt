@@ -1,6 +1,5 @@
 //! A whole site judged: its directories, its modules, how each stands, and the law of sessions of certified modules.
 //! Takes memory for the set of directories that a walk has found, and touches nothing: the rest is definitions and laws.
-//! Used by modulecmd, whose law of commands over a site stands on the laws here, and by sitewalk.
 #![tactic(auto)]
 
 pub mod directories;

@@ -1,6 +1,6 @@
 //! Worked examples of the directories that records add to a site, computed from the definitions.
 ghost use Rattle.std.specs.Prelude.{◌≡◌, [], ◌∷◌, codes, Some, None};
-ghost use Rattle.requests.specs.Records.{Set, Unset, Push, Front, Back, Remove};
+ghost use Rattle.modulefile.specs.Records.{Set, Unset, Push, Front, Back, Remove};
 ghost use Rattle.sitelaws.specs.Sites.{added_directories};
 
 /// Elements that are added to MODULEPATH are directories of the site: at its front or its end, with whatever delimiter,

@@ -1,6 +1,5 @@
 //! `Kept`, the parsed texts: scripts and expressions with their trees, so that nothing is parsed twice.
 //! Takes memory and touches nothing else.
-//! Used by tclevaluator, which hands it on to tcleval.
 #![tactic(auto)]
 
 mod kept;

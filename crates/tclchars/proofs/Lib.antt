@@ -6,3 +6,7 @@ pub mod BraceClose
 pub mod BackslashLemmas
 pub mod BracedTextLemmas
 mod Rows
+pub mod NumberLemmas
+pub mod Examples
+pub mod WholeNumbers
+pub mod Fractions

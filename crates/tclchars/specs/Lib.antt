@@ -1,4 +1,3 @@
-pub use Rattle.message.specs.Answers
 pub mod Bytes
 pub mod Runs
 pub mod Backslash
@@ -8,3 +7,6 @@ pub mod BracedText
 pub mod Faults
 pub mod Reading
 pub mod Whole
+pub mod Division
+pub mod Numerals
+pub mod Numbers

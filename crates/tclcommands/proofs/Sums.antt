@@ -3,8 +3,8 @@ use Rattle.std.proofs.Common.{◌≡◌, ◌≤◌, ℕ, ℤ, Option, Some, None
 use Rattle.std.specs.Prelude.{IfOk, IfSome, unwrap_or}
 use Rattle.std.specs.Fmt.{signed_decimal}
 use Rattle.tclchars.specs.Runs.{Text}
-use Rattle.tclnumber.specs.Numerals.{numeral}
-use Rattle.tclnumber.specs.declared.number.Numeral.TheVariants.{Whole}
+use Rattle.tclchars.specs.Numerals.{numeral}
+use Rattle.tclchars.specs.declared.number.Numeral.TheVariants.{Whole}
 use Rattle.tclrules.specs.Variables.{State}
 use Rattle.tclrules.specs.Rules.{increased}
 use Rattle.tclvariables.specs.Contents.{IsIncreased}

@@ -12,7 +12,7 @@ use Rattle.tclrules.specs.Plans.{Bounds, Job, Next, given}
 use Rattle.tclrules.specs.Rules.{increased, lengthened, value_or, write_at}
 use Rattle.tclsubstitution.specs.Machine.{bounds}
 use Rattle.tclsubstitution.specs.Stops.{after}
-use Rattle.tclsubstitution.specs.Stop.{Stop}
+use Rattle.tclsubstitution.specs.declared.stop.Stop.{Stop}
 use Rattle.tclvariables.specs.Locations.{scalar_view}
 use Rattle.tclcommands.specs.declared.value.Value.{Value}
 use Rattle.tclcommands.specs.declared.value.Value.TheVariants as values

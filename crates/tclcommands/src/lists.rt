@@ -4,7 +4,7 @@ ghost use Rattle.std.specs.Prelude.{◌≡◌, ◌++◌, ◌≤◌, [], List, le
 ghost use Rattle.tclchars.specs.Runs.{Text};
 ghost use Rattle.tclchars.specs.Faults.{max_bytes};
 ghost use Rattle.tcllist.specs.Lists.{list_text};
-ghost use Rattle.tclvalue.specs.Faults.{GivesText};
+ghost use Rattle.tcloperators.specs.Faults.{GivesText};
 ghost use Rattle.tclrules.specs.Variables.{value_at, writable};
 ghost use Rattle.tclrules.specs.Forms.{ListAppend};
 ghost use Rattle.tclrules.specs.Rules.{form, value_or, lengthened};
@@ -17,8 +17,9 @@ use crate::value::{Value, value_or};
 use crate::writing::{put_at, take_text};
 use std::alloc::{AllocError, Global};
 use tclchars::MAX_BYTES;
+use tcloperators::{ValueFault, elements};
 use tclsubstitution::Stop;
-use tclvalue::{ValueFault, elements, list_text};
+use tclvalue::list_text;
 use tclvariables::{Content, Scalar, Variables, writable};
 
 /// The text of a list, as the evaluator writes it, with elements appended.

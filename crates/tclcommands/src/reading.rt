@@ -1,6 +1,6 @@
 //! Commands that read variables: set(n) with one word, and `info exists` of info(n).
 ghost use Rattle.std.specs.Prelude.{◌≡◌, string_bytes};
-ghost use Rattle.tclvalue.specs.Operators.{truth_text};
+ghost use Rattle.tcloperators.specs.Operators.{truth_text};
 ghost use Rattle.tclrules.specs.Variables as rules;
 ghost use Rattle.tclrules.specs.Variables.{State};
 ghost use Rattle.tclrules.specs.Simulates.{point};

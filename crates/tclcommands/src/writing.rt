@@ -1,8 +1,8 @@
 //! Commands that write a variable: set(n), append(n), incr(n), within the limit on the bytes of a value.
 ghost use Rattle.std.specs.Prelude.{◌≡◌, ◌≤◌, ◌++◌, [], None, Ok, codes, length, map, string_bytes, IfOk, IfSome, OnOk};
 ghost use Rattle.std.specs.Fmt.{signed_decimal};
-ghost use Rattle.tclchars.specs.Answers.{Gives};
-ghost use Rattle.tclvalue.specs.Faults.{GivesText, reason_of};
+ghost use Rattle.message.specs.Answers.{Gives};
+ghost use Rattle.tcloperators.specs.Faults.{GivesText, reason_of};
 ghost use Rattle.tclvalue.specs.Limits.{limited};
 ghost use Rattle.tclvalue.specs.Characters.{joined};
 ghost use Rattle.tclchars.specs.Runs.{Text};
@@ -17,9 +17,10 @@ use crate::increment::Increment;
 use crate::value::{Value, value_or};
 use itoa::Buffer;
 use std::alloc::{AllocError, Global};
+use tcloperators::{ValueFault, sum};
 use tclrules::EvalFault;
 use tclsubstitution::Stop;
-use tclvalue::{ValueFault, count_of, sum};
+use tclvalue::count_of;
 use tclvariables::{Content, Scalar, Variables, writable};
 
 /// Gives the variable at a location its content, within the limit on values.

@@ -1,1 +1,4 @@
+pub mod Running
+pub mod LiteralWords
+pub mod Conditions
 pub mod Whole

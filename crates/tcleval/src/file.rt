@@ -7,20 +7,24 @@ ghost use Rattle.tclrules.specs.Rules as rules;
 ghost use Rattle.tclrules.specs.Rules.{rule, file_ended};
 ghost use Rattle.tclrules.specs.Meaning.{line_at};
 ghost use Rattle.tclrules.specs.Promise.{Evaluates, texts_of};
-ghost use Rattle.tclevaluator.specs.Machine.{range_text};
-ghost use Rattle.tclevaluator.specs.Kept.{BeginWith};
-ghost use Rattle.tclevaluator.specs.Continues.{Continues, bounds_of};
-ghost use Rattle.tclevaluator.specs.OnlyGrows.{OnlyGrows};
-ghost use Rattle.tclevaluator.specs.Completions.{finish, completed};
+ghost use Rattle.tclsubstitution.specs.Machine.{range_text};
+ghost use Rattle.tclcache.specs.Kept.{BeginWith};
+ghost use Rattle.tcleval.specs.Continues.{Continues, bounds_of};
+ghost use Rattle.tcleval.specs.OnlyGrows.{OnlyGrows};
+ghost use Rattle.tclcommands.specs.Completions.{finish, completed};
 ghost use Rattle.tcleval.specs.Files.{after_file, ReportsFailure, AnswersFile};
 
+use crate::bounds::Bounds;
+use crate::evaluator::Evaluator;
+use crate::sourced::Sourced;
 use std::alloc::Global;
 use std::mem;
-use tclevaluator::{
-    Bounds, Evaluator, Kept, ResultUse, Sourced, Stop, Variables, initial_variables,
-};
+use tclcache::Kept;
+use tclcommands::{ResultUse, initial_variables};
 use tclrules::{Ending, EvalFault, Host, Limits};
 use tclscript::{ByteRange, Script};
+use tclsubstitution::Stop;
+use tclvariables::Variables;
 
 /// Evaluates the commands of a file in turn. The byte offset of the current one is noted, for the line of an error.
 #[tactic(none)]

@@ -1,10 +1,18 @@
 //! The evaluation of a file (Tcl(n)): from its text and global variables to its result, or a fault with its line.
 //! Takes memory, and asks the host for puts(n), for commands that aren't Tcl's and for the environment.
-//! Used by modulerun for modulefiles and by defaultfiles for default files.
 #![tactic(auto)]
 
+mod bounds;
+mod evaluation;
+mod evaluator;
 mod file;
+mod literals;
+mod loop_body;
+mod sourced;
+mod trees;
+mod turns;
+mod words;
 
 pub use file::{evaluate, evaluate_with};
-pub use tclevaluator::Kept;
+pub use tclcache::Kept;
 pub use tclrules::{Ending, EvalFault, Host, HostAnswer, Limits};

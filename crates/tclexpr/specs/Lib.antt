@@ -12,8 +12,3 @@ pub mod View
 pub mod ViablePrefixes
 pub mod UnsupportedSyntax
 pub mod Owned
--- Handed on, so that a caller need not name the crates below.
-pub use Rattle.tclscript.specs.Reading as ScriptReading
-pub use Rattle.tclscript.specs.ScanState
-pub use Rattle.tclscript.specs.Text as ScriptText
-pub use Rattle.tclscript.specs.Tree as ScriptTree

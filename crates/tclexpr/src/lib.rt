@@ -1,6 +1,5 @@
 //! Expressions of Tcl as trees, and what is wrong with a text that is none (expr(n)).
 //! Takes memory and touches nothing else.
-//! Used by tcloperators, tclrules, tclsubstitution, tclcache and tclevaluator.
 #![tactic(auto)]
 
 mod laws;

@@ -1,7 +1,7 @@
 //! The operands of expressions, read (expr(n), OPERANDS).
 ghost use Rattle.std.specs.Prelude.{◌≡◌, ◌≤◌, ◌<◌, ◌∷◌, length, suc};
 ghost use Rattle.tclchars.specs.Runs.{Text};
-ghost use Rattle.tclchars.specs.Answers.{Gives};
+ghost use Rattle.message.specs.Answers.{Gives};
 ghost use Rattle.tclchars.specs.Reading.{stopped_by};
 ghost use Rattle.tclscript.specs.Pieces.{IsSuffixOf};
 ghost use Rattle.tclscript.specs.Tree.{part_nesting};

@@ -2,7 +2,7 @@
 //! OPERATORS).
 ghost use Rattle.std.specs.Prelude.{◌≡◌, ◌≤◌, ◌<◌, suc, nat_lt, if◌then◌else◌, ◌-◌, Some, Err, IfOk, MatchOption};
 ghost use Rattle.tclchars.specs.Runs.{Text};
-ghost use Rattle.tclchars.specs.Answers.{Gives};
+ghost use Rattle.message.specs.Answers.{Gives};
 ghost use Rattle.tclchars.specs.Reading.{stopped_by, read_map};
 ghost use Rattle.tclchars.specs.declared.fault.Fault.TheVariants.{TooDeep};
 ghost use Rattle.tclscript.specs.Pieces.{IsSuffixOf};

@@ -1,6 +1,6 @@
 //! Whole texts as expressions, within the limits of length and nesting.
 ghost use Rattle.std.specs.Prelude.{◌≡◌, IfOk, IfErr, MatchResult};
-ghost use Rattle.tclchars.specs.Answers.{Gives};
+ghost use Rattle.message.specs.Answers.{Gives};
 ghost use Rattle.tclchars.specs.Reading.{stopped_by};
 ghost use Rattle.tclchars.specs.Faults.{max_nesting};
 ghost use Rattle.tclchars.specs.declared.fault.TextFault.TheVariants.{OutOfMemory};

@@ -2,7 +2,7 @@
 use Rattle.std.proofs.Common.{◌≡◌, Bool, true, false, List, [], ◌∷◌, ◌++◌, Some, None, Ok, Err, refl, sym, ap, ◌∙◌}
 use Rattle.std.specs.Prelude.{codes, bytes_eq, if◌then◌else◌}
 use Rattle.std.proofs.lemmas.List.{append_assoc}
-use Rattle.tclrules.specs.Runs.{Text}
+use Rattle.tclchars.specs.Runs.{Text}
 use Rattle.tcloperators.specs.Faults.{Answer}
 use Rattle.tclrules.specs.Forms as forms
 use Rattle.tclrules.specs.Forms.{Branches, branch, last_words, branches, after_condition, after_body}

@@ -6,7 +6,7 @@ use Rattle.std.specs.Str.{bytes_eq}
 use Rattle.std.proofs.lemmas.Bool.Decides.{nat_tests}
 use Rattle.std.proofs.lemmas.List.{map-append, take_all}
 use Rattle.std.proofs.lemmas.Slice.Eq.{bytes_eq-Decides}
-use Rattle.tclrules.specs.Runs.{Text}
+use Rattle.tclchars.specs.Runs.{Text}
 use Rattle.tcloperators.specs.Faults.{Answer, ◌>>=◌}
 use Rattle.tclrules.specs.Variables.{Variables, Parameter, without}
 use Rattle.tclrules.specs.Rules.{parameter_value, parameter_values}

@@ -1,6 +1,6 @@
 -- Lists that are made from the first element on, and the parameters of a procedure (proc(n)). Own.
 use Rattle.std.specs.Prelude.{List, ◌++◌, Ok}
-use Rattle.tclrules.specs.Runs.{Text}
+use Rattle.tclchars.specs.Runs.{Text}
 use Rattle.tcloperators.specs.Faults.{Answer, ◌>>=◌}
 use Rattle.tcloperators.specs.Elements.{elements_of}
 use Rattle.tclrules.specs.Variables.{Parameter}

@@ -3,7 +3,7 @@ use Rattle.std.specs.Prelude.{ℕ, Bool, true, false, List, [], ◌∷◌, map, 
 use Rattle.std.specs.Borrow.{Bor}
 use Rattle.std.specs.Option.{option_map}
 use Rattle.std.specs.declared.alloc.Global.{Global}
-use Rattle.tclrules.specs.Runs.{Text}
+use Rattle.tclchars.specs.Runs.{Text}
 use Rattle.tcloperators.specs.Faults.{Answer}
 use Rattle.tclrules.specs.Forms as forms
 use Rattle.tclforms.specs.declared.form.Form.{Form}

@@ -1,6 +1,6 @@
 //! The values that a call gives the parameters of a procedure (proc(n)).
 ghost use Rattle.std.specs.Prelude.{◌≡◌, OnOk, map, string_bytes};
-ghost use Rattle.tclrules.specs.Answers.{Gives};
+ghost use Rattle.message.specs.Answers.{Gives};
 ghost use Rattle.tcloperators.specs.Faults.{reason_of};
 ghost use Rattle.tclrules.specs.Rules.{argument, parameter_value, parameter_values};
 ghost use Rattle.tclvariables.specs.Views.{parameter_view};
@@ -10,7 +10,7 @@ ghost use Rattle.tclforms.specs.Firsts.{AreNamesOf, with_first};
 use indexmap::IndexSet;
 use std::alloc::{AllocError, Global};
 use tcloperators::{ValueFault, wrong_words};
-use tclrules::list_text;
+use tclvalue::list_text;
 use tclvariables::Parameter;
 
 /// The value of a parameter, and the words that remain for the others.

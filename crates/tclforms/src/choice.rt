@@ -4,7 +4,7 @@ ghost use Rattle.tclforms.specs.Views.{in_pairs, is_glob};
 ghost use Rattle.tclrules.specs.Rules.{is_default, fits, fall_through, chosen};
 
 use crate::form::Comparison;
-use tclrules::glob;
+use tclvalue::glob;
 
 /// Whether a pattern is the default: it is `default`, and no pattern follows.
 fn is_default(pattern: &str, following: &[String]) -> bool

@@ -1,7 +1,7 @@
 //! The words of if(n).
 ghost use Rattle.std.specs.Prelude.{◌≡◌, ◌<◌, length, map, string_bytes, IfSome};
 ghost use Rattle.std.specs.Option.{option_map};
-ghost use Rattle.tclrules.specs.Answers.{Gives};
+ghost use Rattle.message.specs.Answers.{Gives};
 ghost use Rattle.tcloperators.specs.Faults.{reason_of};
 ghost use Rattle.tclrules.specs.Forms.{last_body, last_words, if_form};
 ghost use Rattle.tclforms.specs.Views.{form_view, pair_texts, texts_of};

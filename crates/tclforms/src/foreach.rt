@@ -1,6 +1,6 @@
 //! The words of foreach(n).
 ghost use Rattle.std.specs.Prelude.{map, string_bytes};
-ghost use Rattle.tclrules.specs.Answers.{Gives};
+ghost use Rattle.message.specs.Answers.{Gives};
 ghost use Rattle.tcloperators.specs.Faults.{reason_of};
 ghost use Rattle.tclrules.specs.Forms.{foreach_form};
 ghost use Rattle.tclforms.specs.Views.{form_view};

@@ -1,6 +1,5 @@
 //! What the words of Tcl's core commands ask for: forms, foreach items, switch bodies, parameters, reserved names.
 //! Takes memory and touches nothing else.
-//! Used by modulefile, and by tclcommands, which hands it on to tclcontrol and tclevaluator.
 #![tactic(auto)]
 
 mod calls;

@@ -1,6 +1,6 @@
 //! What the turns of foreach(n) take.
 ghost use Rattle.std.specs.Prelude.{◌≡◌, ◌++◌, map, string_bytes, IfOk, OnOk};
-ghost use Rattle.tclrules.specs.Answers.{Gives};
+ghost use Rattle.message.specs.Answers.{Gives};
 ghost use Rattle.tcloperators.specs.Faults.{reason_of};
 ghost use Rattle.tclrules.specs.Rules.{loops, turn_pairs, shortened, are_done};
 ghost use Rattle.tclrules.specs.Rules as rules;

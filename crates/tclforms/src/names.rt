@@ -2,7 +2,7 @@
 ghost use Rattle.std.specs.Prelude.{◌≡◌, map};
 ghost use Rattle.tclrules.specs.Names.{is_among, is_reserved, core_commands, unsupported_commands};
 
-use tclrules::is_value_command;
+use tclvalue::is_value_command;
 
 /// Commands of Tcl that are unsupported.
 const UNSUPPORTED: [&str; 57] = [

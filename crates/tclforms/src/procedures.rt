@@ -1,6 +1,6 @@
 //! The parameters of procedures, as proc(n) is given them.
 ghost use Rattle.std.specs.Prelude.{◌≡◌, map, string_bytes};
-ghost use Rattle.tclrules.specs.Answers.{Gives};
+ghost use Rattle.message.specs.Answers.{Gives};
 ghost use Rattle.tcloperators.specs.Faults.{reason_of};
 ghost use Rattle.tclrules.specs.Rules.{parameter, parameters};
 ghost use Rattle.tclvariables.specs.Views.{parameter_view};

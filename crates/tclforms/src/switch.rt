@@ -1,7 +1,7 @@
 //! The words of switch(n).
 ghost use Rattle.std.specs.Prelude.{◌≡◌, [], ◌∷◌, map, string_bytes, false};
 ghost use Rattle.std.specs.Option.{option_map};
-ghost use Rattle.tclrules.specs.Answers.{Gives};
+ghost use Rattle.message.specs.Answers.{Gives};
 ghost use Rattle.tcloperators.specs.Faults.{reason_of};
 ghost use Rattle.tclrules.specs.Forms.{is_option, options, glob_option, by_glob, paired, patterns_in, bodiless, with_patterns, switch_with, even_pairs, switch_form};
 ghost use Rattle.tclforms.specs.Views.{texts_of, in_pairs, is_glob, pattern_texts, form_view};

@@ -1,10 +1,9 @@
 //! The commands whose words are taken as they are: no word is a list, and none is given to more than one operand.
-ghost use Rattle.std.specs.Prelude.{map, string_bytes};
-ghost use Rattle.tclrules.specs.Answers.{Gives};
+ghost use Rattle.std.specs.Prelude.{map, string_bytes, ◌≡◌};
+ghost use Rattle.message.specs.Answers.{Gives};
 ghost use Rattle.tcloperators.specs.Faults.{reason_of};
 ghost use Rattle.tclrules.specs.Forms.{set_form, after_dashes, unset_form, append_form, lappend_form, incr_form, expr_form, while_form, for_form, proc_form, return_form, exit_form, error_form, catch_form, exists_form, info_form, to_stderr, without_newline, puts_form, without_words};
 ghost use Rattle.tclforms.specs.Views.{form_view, texts_of};
-ghost use Rattle.std.specs.Prelude.{◌≡◌};
 
 use crate::form::{ForLoop, Form, Missing, Simple, WhileLoop};
 use std::alloc::Global;

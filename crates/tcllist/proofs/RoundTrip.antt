@@ -2,9 +2,8 @@
 use Rattle.std.proofs.Common.{◌≡◌, ◌≢◌, ℕ, zero, suc, List, [], ◌∷◌, ◌++◌, Bool, true, false, not, ◌&&◌, ◌==◌, Option, Some, None, flat_map, refl, sym, ap, subst, ◌∙◌, arith, append_assoc, ◌⊎◌, inl, inr}
 use Rattle.std.proofs.lemmas.Bool.Decides.{nat_tests}
 use Rattle.std.specs.List.{list_all}
-use Rattle.tclchars.specs.Bytes.{is_literal, backslash, hash, MayBegin, DoesBegin}
+use Rattle.tclchars.specs.Bytes.{is_literal, backslash, hash, MayBegin, DoesBegin, is_space}
 use Rattle.tclchars.specs.Runs.{Text}
-use Rattle.tclchars.specs.Bytes.{is_space}
 use Rattle.tclchars.specs.Backslash.{after_backslash}
 use Rattle.tclchars.specs.Braces.{Balanced, nothing, other, inner}
 use Rattle.tcllist.specs.ListGrammar as grammar

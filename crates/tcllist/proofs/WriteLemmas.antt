@@ -2,13 +2,11 @@
 use Rattle.std.proofs.Common.{◌≡◌, ℕ, ◌<◌, [], ◌∷◌, ◌++◌, length, Bool, true, false, not, ◌==◌, flat_map, refl, sym, ap, subst, ◌∙◌, arith, append_assoc, append-nil}
 use Rattle.std.proofs.lemmas.Bool.Decides.{nat_tests}
 use Rattle.tclchars.specs.Bytes.{is_literal, AllPass, MayBegin}
-use Rattle.tclchars.specs.Runs.{Text}
-use Rattle.tclchars.specs.Runs.{take_while, drop_while}
+use Rattle.tclchars.specs.Runs.{Text, take_while, drop_while}
 use Rattle.tcllist.specs.Lists.{needs_escape, begins_needing_escape, letter_of, escape}
-use Rattle.tcllist.proofs.Runs.{front_back, front_passes, back_fails}
+use Rattle.tcllist.proofs.Runs.{front_back, front_passes, back_fails, back_no_longer}
 use Rattle.std.specs.List.{list_all}
 use Rattle.tclchars.proofs.RunLemmas.{drop_while-cons_true, drop_while-cons_false}
-use Rattle.tcllist.proofs.Runs.{back_no_longer}
 
 pub marked_ascii : (b : ℕ) → needs_escape b ≡ true → b < 128
 marked_ascii b h = grind (arith, nat_tests)

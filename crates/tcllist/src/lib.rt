@@ -1,6 +1,5 @@
 //! Lists of Tcl: the elements of a text, and the text of elements (Tcl(n), lindex(n), list(n)).
 //! Takes memory and touches nothing else.
-//! Used by tcloperators, tclvalue, tclrules, tclvariables, tclcommands and modulefile.
 #![tactic(auto)]
 
 mod laws;
@@ -11,5 +10,4 @@ pub use laws::{
     list_of_grammar, list_round_trip, no_list_prefix, one_list, one_list_fault, prefix_before_fault,
 };
 pub use read::parse_list;
-pub use tclchars::TextFault;
 pub use write::write_list;

@@ -3,7 +3,7 @@ ghost use Rattle.std.specs.Prelude.{◌≡◌, ℕ, suc, ◌≤◌, List, length
 ghost use Rattle.tclchars.specs.Runs.{Text, take_while, drop_while};
 ghost use Rattle.tclchars.specs.Braces.{braced_at};
 ghost use Rattle.tclchars.specs.Faults.{max_bytes};
-ghost use Rattle.tclchars.specs.Answers.{Gives};
+ghost use Rattle.message.specs.Answers.{Gives};
 ghost use Rattle.tclchars.specs.Reading.{stopped_by};
 ghost use Rattle.tclchars.specs.declared.fault.TextFault.TheVariants.{OutOfMemory};
 ghost use Rattle.tcllist.specs.ListGrammar.{IsList};

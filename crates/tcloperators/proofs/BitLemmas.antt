@@ -10,7 +10,7 @@ use Rattle.std.proofs.lemmas.Grind.{div_ceil_times}
 use Rattle.std.proofs.lemmas.Nat.{pow_pos, and_le_l, or_lt, xor_lt}
 use mir.Val.{sel}
 use Rattle.std.proofs.lemmas.Nat.Bits.{bit_at-lt, bit_at_not, bit_at_and, bit_at_or, bit_at_xor, same_from_bits_below}
-use Rattle.tclnumber.specs.Division.{fits, quotient}
+use Rattle.tclchars.specs.Division.{fits, quotient}
 use Rattle.tcloperators.specs.Numbers.{remainder, is_zero, has_bit, exactly_one, bitwise_not, bitwise_and, bitwise_or, bitwise_xor, MakesEachBit, IsDeterminedByBits}
 
 -- a number between two multiples

@@ -2,7 +2,7 @@
 use Rattle.std.proofs.Common.{◌≡◌, ℕ, zero, suc, ◌+◌, ◌*◌, ◌/◌, ◌%◌, ◌<◌, ◌≤◌, min, false, ℤ, pos, negsuc, neg_ℤ, ◌+ℤ◌, ◌-ℤ◌, ◌*ℤ◌, ◌≤ℤ◌, ◌<ℤ◌, refl, sym, subst, arith, zero-mul}
 use Rattle.std.specs.Int.{div_ceil}
 use Rattle.std.proofs.lemmas.Int.{ints}
-use Rattle.tclnumber.specs.Division.{quotient}
+use Rattle.tclchars.specs.Division.{quotient}
 use Rattle.tcloperators.specs.Numbers.{remainder, IsRemainder, is_zero}
 
 pub whole_is : (a b : ℤ) → quotient a b *ℤ b +ℤ remainder a b ≡ a

@@ -2,7 +2,7 @@
 use Rattle.std.specs.Prelude.{◌≡◌, refl, codes, Ok, Err, true}
 use Rattle.std.specs.Str.{chars}
 use Rattle.std.specs.Fmt.{digits}
-use Rattle.tclnumber.specs.Numerals.{numeral}
+use Rattle.tclchars.specs.Numerals.{numeral}
 use Rattle.tclexpr.specs.declared.operators.UnaryOperator.TheVariants.{Minus, Complement}
 use Rattle.tclexpr.specs.declared.operators.BinaryOperator.TheVariants as binary
 use Rattle.tcloperators.specs.Faults.{error, fraction, number_too_large}

@@ -7,7 +7,7 @@ use Rattle.std.proofs.lemmas.Bool.{lt-ltb, le-ltb, cases_lt}
 use Rattle.std.proofs.lemmas.Int.{to_z-of_z, to_z_pos}
 use Rattle.std.proofs.lemmas.Nat.{pow_below}
 use Rattle.std.proofs.Math.Nat.{pow-le-pow_right, mul-le-mul_right, div-eq_of_lt}
-use Rattle.tcllist.specs.Answers.{Gives}
+use Rattle.message.specs.Answers.{Gives}
 use Rattle.tcloperators.specs.Faults.{reason_of, number_too_large}
 use Rattle.tcloperators.specs.Numbers.{within_64_bits}
 use Rattle.tcloperators.specs.declared.fault.ValueFault.TheVariants.{NumberTooLarge}

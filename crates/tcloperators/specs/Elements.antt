@@ -2,9 +2,9 @@
 use Rattle.std.specs.Prelude.{List, map, string_bytes, String, Result, Ok, Err}
 use Rattle.std.specs.declared.vec.Vec.{Vec}
 use Rattle.std.specs.declared.alloc.Global.{Global}
-use Rattle.tcllist.specs.TextFault.{TextFault}
-use Rattle.tcllist.specs.TextFault.TheVariants.{TooLong}
-use Rattle.tcllist.specs.Runs.{Text}
+use Rattle.tclchars.specs.declared.fault.TextFault.{TextFault}
+use Rattle.tclchars.specs.declared.fault.TextFault.TheVariants.{TooLong}
+use Rattle.tclchars.specs.Runs.{Text}
 use Rattle.tcllist.specs.ListReading.{list_of}
 use Rattle.tcloperators.specs.Faults.{Answer, text, error}
 use Rattle.tcloperators.specs.Messages.{not_a_list}

@@ -1,9 +1,9 @@
 -- Why there is no value, and what a call of this crate answers. Running out of memory is no reason: any call may do so.
 use Rattle.std.specs.Prelude.{◌≡◌, ℕ, string_bytes, String, Option, Some, None, IfSome, Result, Ok, Err}
 use Rattle.std.specs.declared.alloc.Global.{Global}
-use Rattle.tcllist.specs.Answers.{Gives}
-use Rattle.tcllist.specs.Runs.{Text}
-use Rattle.tcllist.specs.TextFault.{TextFault}
+use Rattle.message.specs.Answers.{Gives}
+use Rattle.tclchars.specs.Runs.{Text}
+use Rattle.tclchars.specs.declared.fault.TextFault.{TextFault}
 use Rattle.tcloperators.specs.declared.fault.ValueFault.{ValueFault}
 use Rattle.tcloperators.specs.declared.fault.ValueFault.TheVariants as faults
 

@@ -7,8 +7,5 @@ pub mod Operators
 pub mod Values
 -- for private contracts of this crate alone
 pub mod Views
+
 -- The numbers and lists that values are read as, so that a caller need not name the crates below.
-pub use Rattle.tclnumber.specs.Numerals
-pub use Rattle.tclnumber.specs.declared.number.Numeral
-pub use Rattle.tcllist.specs.Lists
-pub use Rattle.tcllist.specs.ListReading

@@ -1,6 +1,6 @@
 -- The messages of errors of values that catch(n) catches. The texts are Tcl's, or own where Tcl's has more words.
 use Rattle.std.specs.Prelude.{◌++◌, codes}
-use Rattle.tcllist.specs.Runs.{Text}
+use Rattle.tclchars.specs.Runs.{Text}
 
 unfoldable pub divide_by_zero : Text
 divide_by_zero = codes "divide by zero"

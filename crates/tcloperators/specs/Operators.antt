@@ -7,11 +7,11 @@ use Rattle.std.specs.Fmt.{signed_decimal}
 use Rattle.std.specs.declared.cmp.Ordering.{Ordering}
 use Rattle.std.specs.Ordering.{nat_cmp, int_cmp, is_lt, is_gt, is_le, is_ge, is_eq, is_ne}
 use Rattle.std.specs.Cmp.Lexicographic.{slice_cmp}
-use Rattle.tcllist.specs.Runs.{Text}
-use Rattle.tclnumber.specs.Numerals.{numeral}
+use Rattle.tclchars.specs.Runs.{Text}
+use Rattle.tclchars.specs.Numerals.{numeral}
 use Rattle.tclexpr.specs.Symbols.{unary_symbol, binary_symbol}
-use Rattle.tclnumber.specs.declared.number.Numeral.{Numeral}
-use Rattle.tclnumber.specs.declared.number.Numeral.TheVariants as numerals
+use Rattle.tclchars.specs.declared.number.Numeral.{Numeral}
+use Rattle.tclchars.specs.declared.number.Numeral.TheVariants as numerals
 use Rattle.tclexpr.specs.declared.operators.UnaryOperator.{UnaryOperator}
 use Rattle.tclexpr.specs.declared.operators.UnaryOperator.TheVariants.{Minus, Plus, Complement, Not}
 use Rattle.tclexpr.specs.declared.operators.BinaryOperator.{BinaryOperator}
@@ -19,8 +19,7 @@ use Rattle.tclexpr.specs.declared.operators.BinaryOperator.TheVariants as binary
 use Rattle.tcloperators.specs.Faults.{Answer, error, number_too_large, fraction, ◌>>=◌}
 use Rattle.tcloperators.specs.Elements.{elements_of}
 use Rattle.tcloperators.specs.Messages.{not_numeric, not_a_boolean}
-use Rattle.tcloperators.specs.Numbers.{within_64_bits, is_zero, sum, difference, product, quotient_value, remainder_value, shifted_left, shifted_right}
-use Rattle.tcloperators.specs.Numbers.{bitwise_and, bitwise_xor, bitwise_or, bitwise_not}
+use Rattle.tcloperators.specs.Numbers.{within_64_bits, is_zero, sum, difference, product, quotient_value, remainder_value, shifted_left, shifted_right, bitwise_and, bitwise_xor, bitwise_or, bitwise_not}
 
 -- the number of an operand that has to be whole; the symbol is that of the operator, for the message
 abbrev pub whole_of : Text → Numeral → Answer ℤ

@@ -1,6 +1,6 @@
 -- The value of an operator between its operands, as the text that Tcl has for it.
 use Rattle.std.specs.Fmt.{signed_decimal}
-use Rattle.tcllist.specs.Runs.{Text}
+use Rattle.tclchars.specs.Runs.{Text}
 use Rattle.tcloperators.specs.Operators.{truth_text}
 use Rattle.tcloperators.specs.declared.operators.Computed.{Computed}
 use Rattle.tcloperators.specs.declared.operators.Computed.TheVariants as values

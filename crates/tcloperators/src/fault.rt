@@ -4,7 +4,7 @@ ghost use Rattle.tcloperators.specs.declared.fault.ValueFault.TheVariants as fau
 ghost use Rattle.tcloperators.specs.Faults.{number_of};
 
 use std::alloc::{AllocError, AllocFailed};
-use tcllist::TextFault;
+use tclchars::TextFault;
 use thiserror::Error;
 
 /// Why there is no value. Its `Display` is what an error line has after `ERROR: `, but for the line number that an

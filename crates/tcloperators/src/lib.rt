@@ -1,6 +1,5 @@
 //! The operators of expressions (expr(n)) on values, truth values, and the fault of a value.
 //! Takes memory and touches nothing else. Hands on the numbers and lists that values are read as.
-//! Used by tclvalue, which hands it on, and by the crates that evaluate, from tclforms and tclreading to tclevaluator.
 #![tactic(auto)]
 
 mod fault;
@@ -22,6 +21,4 @@ pub use operands::sum;
 pub use operators::{
     Computed, binary, compare_numbers, compute, text_order, truth_text, unary, whole_number,
 };
-pub use tcllist::write_list;
-pub use tclnumber::{Numeral, read_number};
 pub use truth_values::truth;

@@ -1,14 +1,15 @@
 //! The elements of a list, and whether a text is among them (list(n)).
 ghost use Rattle.std.specs.Prelude.{◌≡◌, map, bytes_eq, string_bytes};
 ghost use Rattle.std.specs.List.{list_any};
-ghost use Rattle.tcllist.specs.Answers.{Gives};
+ghost use Rattle.message.specs.Answers.{Gives};
 ghost use Rattle.tcloperators.specs.Faults.{reason_of};
 ghost use Rattle.tcloperators.specs.Elements.{elements_of, texts_in};
 
 use crate::fault::ValueFault;
 use crate::messages::not_a_list;
 use std::alloc::Global;
-use tcllist::{TextFault, parse_list};
+use tclchars::TextFault;
+use tcllist::parse_list;
 
 /// The elements of the list that a text is.
 ///

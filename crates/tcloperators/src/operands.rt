@@ -1,7 +1,7 @@
 //! Arithmetic of two whole numbers of 64 bits (expr(n), OPERATORS).
 ghost use Rattle.std.specs.Prelude.{◌≡◌, ◌^◌, ◌*ℤ◌, pos, IfErr};
-ghost use Rattle.tcllist.specs.Answers.{Gives};
-ghost use Rattle.tclnumber.specs.Division.{quotient};
+ghost use Rattle.message.specs.Answers.{Gives};
+ghost use Rattle.tclchars.specs.Division.{quotient};
 ghost use Rattle.tcloperators.specs.Faults.{reason_of};
 ghost use Rattle.tcloperators.specs.Numbers as numbers;
 ghost use Rattle.tcloperators.specs.declared.fault.ValueFault.TheVariants.{NumberTooLarge};
@@ -9,7 +9,7 @@ ghost use Rattle.tcloperators.specs.declared.fault.ValueFault.TheVariants.{Numbe
 use crate::fault::ValueFault;
 use crate::messages::{divide_by_zero, negative_shift};
 use std::alloc::Global;
-use tclnumber::quotient;
+use tclchars::quotient;
 
 /// The two whole numbers that an operator computes with.
 #[derive(Clone, Copy)]

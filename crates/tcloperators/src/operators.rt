@@ -1,15 +1,14 @@
 //! The operators of expressions on the texts of their operands (expr(n), OPERATORS).
 ghost use Rattle.std.specs.Prelude.{◌≡◌, neg_ℤ, Ok, IfSome};
-ghost use Rattle.tcllist.specs.Runs.{Text};
-ghost use Rattle.tclnumber.specs.Numerals.{numeral};
-ghost use Rattle.tclnumber.specs.declared.number.Numeral.TheVariants.{Whole};
+ghost use Rattle.tclchars.specs.Runs.{Text};
+ghost use Rattle.tclchars.specs.Numerals.{numeral};
+ghost use Rattle.tclchars.specs.declared.number.Numeral.TheVariants.{Whole};
 ghost use Rattle.tcloperators.specs.declared.operators.Computed.TheVariants.{Truth};
 ghost use Rattle.tclexpr.specs.Symbols.{binary_symbol};
-ghost use Rattle.tcllist.specs.Answers.{Gives};
+ghost use Rattle.message.specs.Answers.{Gives};
 ghost use Rattle.tcloperators.specs.Faults.{reason_of, GivesText};
 ghost use Rattle.tcloperators.specs.Numbers.{within_64_bits, bitwise_not};
-ghost use Rattle.tcloperators.specs.Operators.{unary_value, binary_value, truth_text, text_order, order_of, decimal_text};
-ghost use Rattle.tcloperators.specs.Operators.{whole_operand, whole_operands, number_operand, found_in};
+ghost use Rattle.tcloperators.specs.Operators.{unary_value, binary_value, truth_text, text_order, order_of, decimal_text, whole_operand, whole_operands, number_operand, found_in};
 ghost use Rattle.tcloperators.specs.Values.{computed_text};
 ghost use Rattle.tcloperators.specs.Views.{operands_view};
 
@@ -20,8 +19,8 @@ use crate::operands::Operands;
 use crate::truth_values::truth;
 use std::alloc::Global;
 use std::cmp::Ordering;
+use tclchars::{Numeral, read_number};
 use tclexpr::{BinaryOperator, UnaryOperator};
-use tclnumber::{Numeral, read_number};
 
 /// The value of an operator between two operands, before its text is made.
 #[derive(Clone, Copy, Debug, PartialEq, Eq)]

@@ -1,13 +1,13 @@
 //! Truth values: what a condition takes for true and false (expr(n), OPERANDS).
 ghost use Rattle.std.specs.Prelude.{◌≡◌};
-ghost use Rattle.tcllist.specs.Answers.{Gives};
+ghost use Rattle.message.specs.Answers.{Gives};
 ghost use Rattle.tcloperators.specs.Faults.{reason_of};
 ghost use Rattle.tcloperators.specs.Operators.{has_abbreviation, is_true_word, is_false_word, word_truth, truth};
 
 use crate::fault::ValueFault;
 use crate::messages::not_a_boolean;
 use std::alloc::Global;
-use tclnumber::{Numeral, read_number};
+use tclchars::{Numeral, read_number};
 
 /// Whether a value is true. A whole number is unless it is 0. Of words, in any case of their letters, `true` and `yes`,
 /// or their first letters, and `on` are true; `false` and `no`, or their first letters, and `of` and `off` are false.

@@ -1,6 +1,5 @@
 //! Patterns of texts, as `string match` has them (string(n), match).
 //! Touches nothing, and takes no memory from the allocator.
-//! Used by tclvalue, for `string match` and the patterns of `switch -glob`.
 #![tactic(auto)]
 
 mod halves;

@@ -4,17 +4,17 @@ use Rattle.std.specs.Prelude.{if◌then◌else◌, codes, bytes_eq, nat_eq, nat_
 use Rattle.tclchars.specs.Runs.{Text}
 use Rattle.tclchars.specs.BracedText.{braced_text}
 use Rattle.tclchars.specs.declared.fault.TextFault.{TextFault}
-use Rattle.tclexpr.specs.ScriptTree as tree
-use Rattle.tclexpr.specs.ScriptTree.{Commands, no_commands, command, Parts, no_parts, part, Part}
-use Rattle.tclexpr.specs.ScriptText.{script_of}
-use Rattle.tclvalue.specs.Numerals.{numeral}
+use Rattle.tclscript.specs.Tree as tree
+use Rattle.tclscript.specs.Tree.{Commands, no_commands, command, Parts, no_parts, part, Part}
+use Rattle.tclscript.specs.Text.{script_of}
+use Rattle.tclchars.specs.Numerals.{numeral}
 use Rattle.tclexpr.specs.Tree.{Expr, operand, unary, binary, conjunction, disjunction, choice}
 use Rattle.tclexpr.specs.Operands as operands
 use Rattle.tclexpr.specs.Operands.{Operand}
 use Rattle.tclexpr.specs.Text.{expr_of}
-use Rattle.tclvalue.specs.Faults as value
-use Rattle.tclvalue.specs.Faults.{Answer, text, error, value_too_long, number_too_large, fraction, unsupported}
-use Rattle.tclvalue.specs.Operators.{truth, truth_text, unary_value, binary_value}
+use Rattle.tcloperators.specs.Faults as value
+use Rattle.tcloperators.specs.Faults.{Answer, text, error, value_too_long, number_too_large, fraction, unsupported}
+use Rattle.tcloperators.specs.Operators.{truth, truth_text, unary_value, binary_value}
 use Rattle.tclrules.specs.Messages.{no_variable}
 use Rattle.tclrules.specs.Variables.{State, Location, Scalar, Element, location_of, location_named, with_value, writable, env}
 use Rattle.tclrules.specs.Plans as plans

@@ -5,17 +5,17 @@ use Rattle.tclchars.specs.Runs.{Text}
 use Rattle.tclchars.specs.BracedText.{braced_text}
 use Rattle.tclchars.specs.declared.fault.TextFault.{TextFault}
 use Rattle.tclchars.specs.declared.fault.TextFault.TheVariants.{BadExpression}
-use Rattle.tclvalue.specs.Numerals.{numeral}
-use Rattle.tclvalue.specs.Numeral.{Numeral}
-use Rattle.tclvalue.specs.Numeral.TheVariants as numerals
+use Rattle.tclchars.specs.Numerals.{numeral}
+use Rattle.tclchars.specs.declared.number.Numeral.{Numeral}
+use Rattle.tclchars.specs.declared.number.Numeral.TheVariants as numerals
 use Rattle.tclexpr.specs.Tree.{Expr, operand, unary, binary, conjunction, disjunction, choice}
 use Rattle.tclexpr.specs.Operands as operands
 use Rattle.tclexpr.specs.Operands.{Operand}
 use Rattle.tclexpr.specs.Text.{expr_of}
 use Rattle.tclexpr.specs.UnsupportedSyntax.{unsupported_at}
-use Rattle.tclvalue.specs.Faults as value
-use Rattle.tclvalue.specs.Faults.{Answer, number_too_large, fraction, unsupported}
-use Rattle.tclvalue.specs.Operators.{truth, truth_text, unary_value, binary_value}
+use Rattle.tcloperators.specs.Faults as value
+use Rattle.tcloperators.specs.Faults.{Answer, number_too_large, fraction, unsupported}
+use Rattle.tcloperators.specs.Operators.{truth, truth_text, unary_value, binary_value}
 use Rattle.tclrules.specs.Derivation.{Runs}
 use Rattle.tclrules.specs.Variables.{State}
 use Rattle.tclrules.specs.Plans.{Bounds, Step, Next, Bracket, on_normal, given, sized}

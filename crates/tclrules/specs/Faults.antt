@@ -4,8 +4,8 @@ use Rattle.message.specs.Messages.{Text, around, at_line, out_of_memory}
 use Rattle.tclchars.specs.Faults.{fault_message}
 use Rattle.tclchars.specs.declared.fault.TextFault.{TextFault}
 use Rattle.tclchars.specs.declared.fault.TextFault.TheVariants as texts
-use Rattle.tclvalue.specs.ValueFault.{ValueFault}
-use Rattle.tclvalue.specs.ValueFault.TheVariants as values
+use Rattle.tcloperators.specs.declared.fault.ValueFault.{ValueFault}
+use Rattle.tcloperators.specs.declared.fault.ValueFault.TheVariants as values
 use Rattle.tclrules.specs.declared.outcome.EvalFault.{EvalFault}
 use Rattle.tclrules.specs.declared.outcome.EvalFault.TheVariants as fault
 

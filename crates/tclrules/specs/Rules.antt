@@ -5,14 +5,14 @@ use Rattle.std.specs.Option.{unwrap_or}
 use Rattle.std.specs.List.{list_all}
 use Rattle.tclchars.specs.Runs.{Text}
 use Rattle.tclchars.specs.declared.fault.TextFault.{TextFault}
-use Rattle.tclexpr.specs.ScriptTree.{Commands, no_commands, command}
-use Rattle.tclexpr.specs.ScriptText.{script_of}
-use Rattle.tclvalue.specs.Lists.{list_text}
-use Rattle.tclvalue.specs.Faults.{Answer, ◌>>=◌, error}
-use Rattle.tclvalue.specs.Messages.{wrong_words, not_a_list}
-use Rattle.tclvalue.specs.Elements.{elements_of}
+use Rattle.tclscript.specs.Tree.{Commands, no_commands, command}
+use Rattle.tclscript.specs.Text.{script_of}
+use Rattle.tcllist.specs.Lists.{list_text}
+use Rattle.tcloperators.specs.Faults.{Answer, ◌>>=◌, error}
+use Rattle.tcloperators.specs.Messages.{wrong_words, not_a_list}
+use Rattle.tcloperators.specs.Elements.{elements_of}
 use Rattle.tclvalue.specs.Indexes.{count_of}
-use Rattle.tclvalue.specs.Numbers.{sum}
+use Rattle.tcloperators.specs.Numbers.{sum}
 use Rattle.tclvalue.specs.Characters.{joined, concatenated}
 use Rattle.tclvalue.specs.Globs.{glob}
 use Rattle.tclvalue.specs.Commands.{command_value}

@@ -1,6 +1,5 @@
 //! What a Tcl script evaluates to, as rules (Tcl(n) and the page of each command) with their laws; the trait of hosts.
 //! Touches nothing: definitions and theorems, and a host in memory as an example. Hands on what tclvalue computes.
-//! Used by all that evaluate (tclvariables up to tcleval), and by the crates whose hosts they evaluate for.
 #![tactic(auto)]
 
 mod host;
@@ -18,7 +17,3 @@ pub use limits::Limits;
 pub use outcome::{Ending, EvalFault};
 pub use recorder::Recorder;
 pub use rows::worked_rows;
-pub use tclvalue::{
-    ValueFault, binary, glob, is_value_command, list_text, sum, truth, unary, unsupported,
-    whole_number,
-};

@@ -10,7 +10,7 @@ use std::error::Error;
 use std::fmt;
 use std::fmt::Display;
 use tclchars::TextFault;
-use tclvalue::ValueFault;
+use tcloperators::ValueFault;
 
 /// How a script ended that was evaluated to its end.
 #[derive(Drop)]

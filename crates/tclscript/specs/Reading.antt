@@ -14,10 +14,9 @@ use Rattle.tclchars.specs.declared.fault.Fault.TheVariants.{OpenBrace, OpenQuote
 use Rattle.tclchars.specs.declared.runs.Class.TheVariants.{InBracedName}
 use Rattle.tclscript.specs.declared.context.Context.{Context}
 use Rattle.tclscript.specs.declared.context.Context.TheVariants.{InIndex, InQuotes}
-use Rattle.tclscript.specs.ScanState.{Name}
+use Rattle.tclscript.specs.ScanState.{Name, scan, skip_blanks, skip_gap}
 use Rattle.tclscript.specs.Tree.{Commands, Command, word, Word, word_of, Parts, no_parts, part, Part, literal, braced, backslash, variable, indexed, bracket, parts_of, words_of, commands_of}
 use Rattle.tclscript.specs.Ends.{script_ends, command_ends, word_ends, parts_end, class_of, bare}
-use Rattle.tclscript.specs.ScanState.{scan, skip_blanks, skip_gap}
 
 -- Marks
 

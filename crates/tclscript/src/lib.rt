@@ -1,6 +1,5 @@
 //! Scripts of Tcl as trees, and what is wrong with a text that is none (Tcl(n)).
 //! Takes memory and touches nothing else.
-//! Used by tclexpr for substitutions, and by tclrules, tclsubstitution, tclcache and tclevaluator for whole scripts.
 #![tactic(auto)]
 
 mod context;
@@ -16,6 +15,5 @@ pub use laws::{correct_prefix, one_fault, one_script, script_of_grammar};
 pub use owned::{OwnedScript, own_script};
 pub use piece::{ByteRange, Source, taken};
 pub use reading::{read_bracket, read_dollar, read_quotes};
-pub use tclchars::{MAX_BYTES, MAX_NESTING};
 pub use text::{parse_pieces, parse_script};
 pub use tree::{Command, Part, Script, Word, WordContent};

@@ -1,7 +1,7 @@
 //! The words and commands of a script, read from left to right (Tcl(n), rules 1 to 9).
 ghost use Rattle.std.specs.Prelude.{◌≡◌, ◌∷◌, ◌<◌, Ok, IfSome, option_map};
 ghost use Rattle.tclchars.specs.Bytes.{dollar, backslash};
-ghost use Rattle.tclchars.specs.Answers.{Gives};
+ghost use Rattle.message.specs.Answers.{Gives};
 ghost use Rattle.tclchars.specs.Reading.{stopped_by};
 ghost use Rattle.tclscript.specs.Pieces.{IsSuffixOf, IsPrefixOf};
 ghost use Rattle.tclscript.specs.Tree as tree;

@@ -6,8 +6,8 @@ use Rattle.tclrules.specs.Plans.{Job, Step, Next}
 use Rattle.tclrules.specs.Simulates.{Point, Simulates}
 use Rattle.tclrules.specs.Variables.{State, value_at}
 use Rattle.tclrules.specs.Words.{read_scalar}
-use Rattle.tclreading.specs.Locations.{is_env}
-use Rattle.tclreading.proofs.Scalars.{scalar_found}
+use Rattle.tclvariables.specs.Locations.{is_env}
+use Rattle.tclsubstitution.proofs.Scalars.{scalar_found}
 
 pub if_some : {A : Type 0} (P Q : A → Type 0) (r : Option A) → ((a : A) → P a → Q a) → IfSome r P → IfSome r Q
 if_some P Q None f h = tt

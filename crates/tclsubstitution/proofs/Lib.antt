@@ -1,4 +1,4 @@
+pub mod Leading
+pub mod Scalars
 pub mod Trees
 pub mod AtHand
--- Handed on, so that a caller need not name the crates below.
-pub use Rattle.tclreading.proofs.Leading

@@ -16,7 +16,7 @@ use Rattle.tclexpr.specs.declared.tree.Operand as rust_operand
 use Rattle.tclexpr.specs.declared.tree.Expr as rust_expr
 use Rattle.tclexpr.specs.declared.tree.Expr.{Expr}
 use Rattle.tclsubstitution.specs.Machine.{WeighsLess}
-use Rattle.tclreading.specs.declared.stop.Stop.{Stop}
+use Rattle.tclsubstitution.specs.declared.stop.Stop.{Stop}
 use Rattle.tclsubstitution.specs.declared.frame.WaitingFrame.{WaitingFrame}
 use Rattle.tclsubstitution.specs.declared.frame.Step.{Step}
 use Rattle.tclsubstitution.specs.declared.frame.Step.TheVariants as steps

@@ -1,6 +1,5 @@
+-- The definitions that the contracts of this crate are written in: what a stop means in the rules of evaluation.
+pub mod Stops
 pub mod Weights
 pub mod Machine
 pub mod BorrowedOperands
--- Handed on, so that a caller need not name the crates below.
-pub use Rattle.tclreading.specs.Stops
-pub use Rattle.tclreading.specs.declared.stop.Stop

@@ -6,7 +6,7 @@ use Rattle.tclscript.specs.Pieces.{between}
 use Rattle.tclscript.specs.View.{parts_view, script_view}
 use Rattle.tclscript.specs.declared.piece.ByteRange.{ByteRange}
 use Rattle.tclexpr.specs.View.{expr_view}
-use Rattle.tclrules.specs.Operators.{truth, truth_text, unary_value, binary_value}
+use Rattle.tcloperators.specs.Operators.{truth, truth_text, unary_value, binary_value}
 use Rattle.tclrules.specs.Derivation.{Runs}
 use Rattle.tclrules.specs.Variables.{State}
 use Rattle.tclrules.specs.Plans as plans
@@ -14,9 +14,9 @@ use Rattle.tclrules.specs.Plans.{Bounds, Job, Next, Bracket, on_normal, given, s
 use Rattle.tclrules.specs.Simulates.{Point, Simulates}
 use Rattle.tclrules.specs.Words.{parts, read_element}
 use Rattle.tclrules.specs.Expressions.{expr}
-use Rattle.tclreading.specs.Stops.{after}
+use Rattle.tclsubstitution.specs.Stops.{after}
 use Rattle.tclsubstitution.specs.Weights.{parts_weight, expr_weight}
-use Rattle.tclreading.specs.declared.stop.Stop.{Stop}
+use Rattle.tclsubstitution.specs.declared.stop.Stop.{Stop}
 use Rattle.tclsubstitution.specs.declared.context.SubstitutionContext.{SubstitutionContext}
 use Rattle.tclsubstitution.specs.declared.frame.WaitingFrame.{WaitingFrame}
 use Rattle.tclsubstitution.specs.declared.frame.WaitingFrame.TheVariants as frames

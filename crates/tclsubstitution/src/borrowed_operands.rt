@@ -2,33 +2,32 @@
 //! from the variables, so that the comparisons and sums of most loops take no continuation frame and copy no text.
 ghost use Rattle.std.specs.Prelude.{◌≡◌, ℕ, Ok, IfSome, IfOk, IfErr};
 ghost use Rattle.tclexpr.specs.View.{expr_view, operand_view};
-ghost use Rattle.tclrules.specs.Numerals.{numeral};
-ghost use Rattle.tclrules.specs.Numeral.TheVariants.{Whole};
-ghost use Rattle.tclrules.specs.Operators.{binary_value};
-ghost use Rattle.tclreading.specs.Values.{computed_text};
-ghost use Rattle.tclreading.specs.Computed.TheVariants.{Truth};
+ghost use Rattle.tclchars.specs.Numerals.{numeral};
+ghost use Rattle.tclchars.specs.declared.number.Numeral.TheVariants.{Whole};
+ghost use Rattle.tcloperators.specs.Operators.{binary_value};
+ghost use Rattle.tcloperators.specs.Values.{computed_text};
+ghost use Rattle.tcloperators.specs.declared.operators.Computed.TheVariants.{Truth};
 ghost use Rattle.tclrules.specs.Variables.{State};
 ghost use Rattle.tclrules.specs.Plans as plans;
 ghost use Rattle.tclrules.specs.Plans.{Job, Next};
 ghost use Rattle.tclrules.specs.Simulates.{Simulates, Point};
-ghost use Rattle.tclchars.specs.Answers.{Gives};
+ghost use Rattle.message.specs.Answers.{Gives};
 ghost use Rattle.tclchars.specs.Runs.{Text};
-ghost use Rattle.tclrules.specs.ValueFaults.{reason_of};
+ghost use Rattle.tcloperators.specs.Faults.{reason_of};
 ghost use Rattle.tclrules.specs.Words.{read, read_scalar};
 ghost use Rattle.tclrules.specs.Expressions.{expr, operand_value};
 ghost use Rattle.tclsubstitution.specs.BorrowedOperands.{operand_text};
 ghost use Rattle.tclsubstitution.specs.Machine.{range_text, bounds};
-ghost use Rattle.tclreading.specs.Stops.{stopped};
-ghost use Rattle.tclreading.specs.Locations.{is_global};
+ghost use Rattle.tclsubstitution.specs.Stops.{stopped};
+ghost use Rattle.tclvariables.specs.Locations.{is_global};
 
 use crate::context::SubstitutionContext;
+use crate::stop::Stop;
 use std::alloc::Global;
 use tclexpr::{BinaryOperator, Expr, Operand};
-use tclreading::{
-    Computed, Content, Scalar, Stop, ValueFault, Variables, compare_numbers, compute, plain_scalar,
-    whole_number,
-};
+use tcloperators::{Computed, ValueFault, compare_numbers, compute, whole_number};
 use tclscript::ByteRange;
+use tclvariables::{Content, Scalar, Variables, plain_scalar};
 
 /// An operand whose text is borrowed.
 #[derive(Clone, Copy)]

@@ -1,8 +1,8 @@
 //! What each step of a substitution reads and doesn't change.
 
 use std::alloc::Global;
-use tclreading::Variables;
 use tclrules::Limits;
+use tclvariables::Variables;
 
 /// The variables, the limits, and the source text of which the pieces of the tree are byte ranges.
 #[derive(Clone, Copy)]

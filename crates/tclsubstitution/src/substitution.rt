@@ -4,7 +4,7 @@ ghost use Rattle.std.specs.Prelude.{◌≡◌, ◌++◌, ◌+◌, ℕ, [], ◌�
 ghost use Rattle.tclchars.specs.BracedText.{braced_text};
 ghost use Rattle.tclscript.specs.View.{part_view, parts_view};
 ghost use Rattle.tclexpr.specs.View.{expr_view, operand_view};
-ghost use Rattle.tclrules.specs.Operators.{truth_text};
+ghost use Rattle.tcloperators.specs.Operators.{truth_text};
 ghost use Rattle.tclrules.specs.Simulates.{point};
 ghost use Rattle.tclrules.specs.Plans.{sized};
 ghost use Rattle.tclrules.specs.Words.{parts, one};
@@ -12,17 +12,19 @@ ghost use Rattle.tclrules.specs.Expressions.{expr, operand_value};
 ghost use Rattle.tclsubstitution.specs.Weights.{parts_weight, part_weight, expr_weight, operand_weight};
 ghost use Rattle.tclsubstitution.specs.Machine.{range_text, continuation, stack_continuation, control_plan, frame_weight, frames_weight, control_weight, StepsTo};
 ghost use Rattle.tclsubstitution.specs.declared.frame.WaitingFrame.TheVariants.{And, Or, Choice};
-ghost use Rattle.tclreading.specs.declared.stop.Stop.TheVariants.{Fault};
+ghost use Rattle.tclsubstitution.specs.declared.stop.Stop.TheVariants.{Fault};
 ghost use Rattle.tclrules.specs.declared.outcome.EvalFault.TheVariants.{OutOfMemory};
 
 use crate::borrowed_operands::compute_borrowed;
 use crate::context::SubstitutionContext;
 use crate::frame::{Control, Step, WaitingFrame};
+use crate::reading::{read, read_element};
+use crate::stop::Stop;
 use std::alloc::Global;
 use tclchars::push_braced_text;
 use tclexpr::{Expr, Operand};
-use tclreading::{Stop, read, read_element};
-use tclrules::{EvalFault, Host, binary, truth, unary};
+use tcloperators::{binary, truth, unary};
+use tclrules::{EvalFault, Host};
 use tclscript::{ByteRange, Part};
 
 /// The text of a piece of the source.

@@ -9,11 +9,11 @@ use Rattle.tclexpr.specs.declared.numbers.Digits.{Digits}
 use Rattle.tclexpr.specs.declared.numbers.Digits.TheVariants.{Binary, Octal, Decimal, Hexadecimal}
 use Rattle.tclexpr.specs.Operands as operands
 use Rattle.tclexpr.specs.Operands.{begins_digit, after_digits, announced, after_announced, after_based, after_sign, after_exponent, after_fraction, begins_point, after_decimal, first_of_both, after_number}
-use Rattle.tclnumber.specs.Numerals as numerals
-use Rattle.tclnumber.specs.Numbers as numbers
-use Rattle.tclnumber.proofs.WholeNumbers.{either, magnitude_read, magnitude_found}
-use Rattle.tclnumber.proofs.Fractions.{Named, named_is, fraction_begun}
-use Rattle.tclnumber.specs.Numbers.{IsMagnitude, IsSigned, IsExponent, IsFraction, IsNumber, IsNumberIn}
+use Rattle.tclchars.specs.Numerals as numerals
+use Rattle.tclchars.specs.Numbers as numbers
+use Rattle.tclchars.proofs.WholeNumbers.{either, magnitude_read, magnitude_found}
+use Rattle.tclchars.proofs.Fractions.{Named, named_is, fraction_begun}
+use Rattle.tclchars.specs.Numbers.{IsMagnitude, IsSigned, IsExponent, IsFraction, IsNumber, IsNumberIn}
 
 -- the digits of a base, by their number
 abbrev base_number : Digits → ℕ

@@ -2,7 +2,7 @@
 ghost use Rattle.std.specs.Prelude.{◌≡◌, ◌++◌, Some, None};
 ghost use Rattle.tclchars.specs.Runs.{Text};
 ghost use Rattle.tclexpr.specs.Operands.{after_number};
-ghost use Rattle.tclnumber.specs.Numbers.{IsNumber, IsNumberIn};
+ghost use Rattle.tclchars.specs.Numbers.{IsNumber, IsNumberIn};
 
 /// A number in an expression is the longest prefix that is a number; and where none is read, no prefix is one.
 pub fn number_in_expression()

@@ -7,7 +7,7 @@ use Rattle.std.specs.Option.{unwrap_or}
 use Rattle.std.specs.List.{repeat}
 use Rattle.std.specs.Str.{chars}
 use Rattle.tclchars.specs.Runs.{Text}
-use Rattle.tcloperators.specs.Lists.{list_text}
+use Rattle.tcllist.specs.Lists.{list_text}
 use Rattle.tcloperators.specs.Faults.{Answer, ◌>>=◌, error, unsupported}
 use Rattle.tcloperators.specs.Messages.{wrong_words}
 use Rattle.tcloperators.specs.Operators.{truth_text, text_order, is_nil}
@@ -16,8 +16,7 @@ use Rattle.tclvalue.specs.Limits.{limited}
 use Rattle.tclvalue.specs.Indexes.{Index, index_of, position, item_at, items_between, count_of, at_least_0}
 use Rattle.tclvalue.specs.Searches.{first_position, last_position, pairs_of, mapped}
 use Rattle.tclvalue.specs.Globs.{glob}
-use Rattle.tclvalue.specs.Characters.{trimmed, trimmed_left, trimmed_right, characters_between, parts, joined, concatenated}
-use Rattle.tclvalue.specs.Characters.{white_space, split_space}
+use Rattle.tclvalue.specs.Characters.{trimmed, trimmed_left, trimmed_right, characters_between, parts, joined, concatenated, white_space, split_space}
 
 -- a command, as a function of the words after its name
 abbrev pub ValueFunction : Type 0

@@ -1,6 +1,5 @@
 //! Tcl's commands on lists and texts alone: list, llength, lindex, lrange, split, join, concat, string (their pages).
 //! Takes memory and touches nothing else. Hands on the operators and faults of tcloperators.
-//! Used by tclrules, whose rules they are part of, and by crates that evaluate: tclcommands, tclcontrol, tclevaluator.
 #![tactic(auto)]
 
 mod bounded;

@@ -1,6 +1,6 @@
 //! The text of a list, and texts joined (list(n), join(n)).
 ghost use Rattle.std.specs.Prelude.{◌≡◌, map, IfOk, string_bytes};
-ghost use Rattle.tcloperators.specs.Lists.{list_text};
+ghost use Rattle.tcllist.specs.Lists.{list_text};
 ghost use Rattle.tcloperators.specs.Faults.{GivesText};
 ghost use Rattle.tclvalue.specs.Limits.{limited};
 ghost use Rattle.tclvalue.specs.Growing.{Appends};
@@ -9,7 +9,8 @@ ghost use Rattle.tclvalue.specs.Characters.{joined, joined_rest, encoded_all};
 use crate::bounded::{Bounded, limited};
 use crate::characters::text_of;
 use std::alloc::{AllocError, Global};
-use tcloperators::{ValueFault, write_list};
+use tcllist::write_list;
+use tcloperators::ValueFault;
 
 /// The texts as slices, as the writer of lists takes them.
 fn slices(alloc: Global, texts: &[String]) -> Result<Vec<&str>, AllocError>

@@ -2,7 +2,7 @@
 ghost use Rattle.std.specs.Prelude.{◌≡◌, ◌<◌, ◌-◌, ◌++◌, length, drop, map, string_bytes, IfOk, IfErr, OnOk};
 ghost use Rattle.std.specs.Option.{option_map, option_copied};
 ghost use Rattle.std.specs.Str.{chars};
-ghost use Rattle.tclchars.specs.Answers.{Gives};
+ghost use Rattle.message.specs.Answers.{Gives};
 ghost use Rattle.tcloperators.specs.Faults.{reason_of, GivesText};
 ghost use Rattle.tclvalue.specs.Limits.{limited};
 ghost use Rattle.tclvalue.specs.Growing.{Appends, Exceeds, StaysWithin};

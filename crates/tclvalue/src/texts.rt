@@ -3,8 +3,7 @@ ghost use Rattle.std.specs.Prelude.{◌≡◌, ◌∷◌, [], map, string_bytes,
 ghost use Rattle.std.specs.List.{repeat, slice_split};
 ghost use Rattle.tcloperators.specs.Faults.{GivesText};
 ghost use Rattle.tclvalue.specs.Limits.{limited};
-ghost use Rattle.tclvalue.specs.Characters.{is_among, characters_between, parts, pieces, encoded_all};
-ghost use Rattle.tclvalue.specs.Characters.{white_space, split_space};
+ghost use Rattle.tclvalue.specs.Characters.{is_among, characters_between, parts, pieces, encoded_all, white_space, split_space};
 ghost use Rattle.tclvalue.specs.Views.{without, trimmed_at, index_view};
 
 use crate::characters::{characters, is_among, text_of, without_end, without_start};

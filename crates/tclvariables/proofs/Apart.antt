@@ -5,7 +5,7 @@ use Rattle.std.proofs.lemmas.List.{reverse-append, reverse-reverse, take-append-
 use Rattle.std.proofs.lemmas.Str.Pattern.{IsSplitOnceResult, split_once_first}
 use Rattle.std.proofs.Math.Seq.{take-length}
 use Rattle.std.specs.List.{after_first, before_first, position_or_len}
-use Rattle.tclrules.specs.Runs.{Text, take_while, drop_while, begins}
+use Rattle.tclchars.specs.Runs.{Text, take_while, drop_while, begins}
 use Rattle.tclrules.specs.Variables.{name_and_index}
 
 abbrev is_no_opening_parenthesis : ℕ → Bool

@@ -3,7 +3,7 @@ use Rattle.std.proofs.Common.{◌≡◌, ℕ, Bool, true, false, ◌==◌, ◌&&
 use Rattle.std.proofs.lemmas.Bool.Decides.{nat_tests}
 use Rattle.std.specs.Prelude.{◌↔◌}
 use Rattle.std.specs.Str.Iter.{HasSubslice}
-use Rattle.tclrules.specs.Runs.{Text, begins}
+use Rattle.tclchars.specs.Runs.{Text, begins}
 use Rattle.tclrules.specs.Variables.{has_colons}
 
 is_colon : (b : ℕ) → (b == 58) ≡ true → b ≡ 58

@@ -3,12 +3,12 @@ use Rattle.std.proofs.Common.{◌≡◌, ℕ, zero, suc, ◌<◌, ◌≤◌, ◌
 use Rattle.std.proofs.lemmas.Bool.Decides.{nat_tests}
 use Rattle.std.proofs.lemmas.Fmt.{decimal_is_IsNumeral, decimal_digit, first_decimal, length-decimal-le}
 use Rattle.std.specs.Fmt.{decimal, signed_decimal}
-use Rattle.tclrules.specs.Bytes.{DoesBegin}
-use Rattle.tclnumber.specs.Numbers as numbers
-use Rattle.tclnumber.specs.Numbers.{IsDigits}
-use Rattle.tclnumber.specs.Numerals.{numeral}
-use Rattle.tclnumber.specs.declared.number.Numeral.TheVariants.{Whole}
-use Rattle.tclnumber.proofs.WholeNumbers.{whole_read}
+use Rattle.tclchars.specs.Bytes.{DoesBegin}
+use Rattle.tclchars.specs.Numbers as numbers
+use Rattle.tclchars.specs.Numbers.{IsDigits}
+use Rattle.tclchars.specs.Numerals.{numeral}
+use Rattle.tclchars.specs.declared.number.Numeral.TheVariants.{Whole}
+use Rattle.tclchars.proofs.WholeNumbers.{whole_read}
 
 begins_other : (ds : List ℕ) → 48 < get_or ds 0 0 → DoesBegin (λ b. not (b == 48)) ds
 begins_other [] h = absurd (omega arith)

@@ -6,7 +6,7 @@ use Rattle.std.specs.String.{string_bytes, string_eq}
 use Rattle.std.specs.Str.{bytes_eq}
 use Rattle.std.specs.Map as pairs
 use Rattle.indexmap.specs.IndexMap.{insert_entry, shift_remove_entry}
-use Rattle.tclrules.specs.Runs.{Text}
+use Rattle.tclchars.specs.Runs.{Text}
 use Rattle.tclrules.specs.Variables.{lookup, store, without}
 use Rattle.tclvariables.specs.Views.{texts_of}
 

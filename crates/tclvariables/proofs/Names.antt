@@ -5,7 +5,7 @@ use Rattle.std.specs.String.{string_bytes, string_eq}
 use Rattle.std.specs.Str.{bytes_eq}
 use Rattle.std.proofs.lemmas.List.{map-append}
 use Rattle.indexmap.specs.IndexSet.{insert_key}
-use Rattle.tclrules.specs.Runs.{Text}
+use Rattle.tclchars.specs.Runs.{Text}
 use Rattle.tclrules.specs.Variables.{with_name}
 
 pub any_named : (n : Text) (ks : List (String Global)) → list_any (λ k. bytes_eq n (string_bytes k)) ks ≡ list_any (bytes_eq n) (map string_bytes ks)

@@ -4,8 +4,8 @@ use Rattle.std.proofs.lemmas.Bool.Decides.{nat_tests}
 use Rattle.std.specs.Borrow.{Bor}
 use Rattle.std.specs.List.{list_any}
 use Rattle.std.specs.Option.{option_map}
-use Rattle.tclrules.specs.Runs.{Text, begins}
-use Rattle.tclrules.specs.Indexes.{after_prefix}
+use Rattle.tclchars.specs.Runs.{Text, begins}
+use Rattle.tclvalue.specs.Indexes.{after_prefix}
 use Rattle.tclrules.specs.Variables.{State, Scalar, has_colons, sees, name_and_index, location_named}
 
 colonless : (s : Text) → list_any (λ b. b == 58) s ≡ false → has_colons s ≡ false

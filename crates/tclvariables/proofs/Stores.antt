@@ -2,9 +2,9 @@
 use Rattle.std.proofs.Common.{◌≡◌, Bool, true, false, cond, [], ◌∷◌, Option, Some, None, Ok, Err, codes, refl, sym, ap, ◌∙◌}
 use Rattle.std.specs.Str.{bytes_eq}
 use Rattle.std.proofs.lemmas.Slice.Eq.{bytes_eq-Decides}
-use Rattle.tclrules.specs.Runs.{Text}
-use Rattle.tclrules.specs.ValueFaults.{Answer, ◌>>=◌, unsupported}
-use Rattle.tclrules.specs.Indexes.{after_prefix}
+use Rattle.tclchars.specs.Runs.{Text}
+use Rattle.tcloperators.specs.Faults.{Answer, ◌>>=◌, unsupported}
+use Rattle.tclvalue.specs.Indexes.{after_prefix}
 use Rattle.tclrules.specs.Variables.{Variables, State, Frame, Location, Scalar, Element, lookup, store, own_of, with_own, value_at, with_value, has_colons, unqualified, indexed, qualified_location, location_named, writable_scalar, writable, env, name_and_index}
 
 same : (xs : Text) → bytes_eq xs xs ≡ true

@@ -1,10 +1,10 @@
 -- What is known of the texts of variables: that one is the text of a list, as list(n) writes it, or the sum of two
 -- numbers, as incr(n) writes it.
 use Rattle.std.specs.Prelude.{◌≡◌, ◌≤◌, ℕ, ℤ, length, List, Option, Some, None, Ok}
-use Rattle.tclnumber.specs.Numerals.{numeral}
-use Rattle.tclnumber.specs.declared.number.Numeral.TheVariants.{Whole}
-use Rattle.tclrules.specs.Runs.{Text}
-use Rattle.tclrules.specs.Lists.{list_text}
+use Rattle.tclchars.specs.Numerals.{numeral}
+use Rattle.tclchars.specs.declared.number.Numeral.TheVariants.{Whole}
+use Rattle.tclchars.specs.Runs.{Text}
+use Rattle.tcllist.specs.Lists.{list_text}
 use Rattle.tclrules.specs.Rules.{increased}
 
 -- the text is what list(n) writes for some elements

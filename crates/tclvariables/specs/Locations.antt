@@ -1,7 +1,7 @@
 -- What the locations of variables in the program stand for in the rules.
 use Rattle.std.specs.Prelude.{Bool, true, false, ◌&&◌, bytes_eq}
-use Rattle.tclrules.specs.Runs.{Text}
-use Rattle.tclrules.specs.ValueFaults.{Answer, ◌>>=◌}
+use Rattle.tclchars.specs.Runs.{Text}
+use Rattle.tcloperators.specs.Faults.{Answer, ◌>>=◌}
 use Rattle.tclrules.specs.Variables as rules
 use Rattle.tclrules.specs.Variables.{State, env, location_named, sharable}
 use Rattle.tclvariables.specs.declared.location.Scope.{Scope}

@@ -1,7 +1,7 @@
 -- What the variables and procedures of the program stand for in the rules.
 use Rattle.std.specs.Prelude.{List, map, string_bytes, option_map, String}
 use Rattle.std.specs.declared.alloc.Global.{Global}
-use Rattle.tclrules.specs.Runs.{Text}
+use Rattle.tclchars.specs.Runs.{Text}
 use Rattle.tclrules.specs.Variables as rules
 use Rattle.tclrules.specs.Variables.{State}
 use Rattle.tclvariables.specs.declared.variables.Parameter.{Parameter}

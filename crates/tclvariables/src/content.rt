@@ -1,14 +1,14 @@
 //! What a variable holds: a text, of which may be known that it is a list, or which whole number it spells.
 ghost use Rattle.std.specs.Prelude.{◌≡◌, length, nat_le, string_bytes, true, OnOk, IfSome};
 ghost use Rattle.std.specs.Fmt.{signed_decimal};
-ghost use Rattle.tclnumber.specs.Numerals.{numeral};
-ghost use Rattle.tclnumber.specs.declared.number.Numeral.TheVariants.{Whole};
+ghost use Rattle.tclchars.specs.Numerals.{numeral};
+ghost use Rattle.tclchars.specs.declared.number.Numeral.TheVariants.{Whole};
 ghost use Rattle.tclvariables.specs.Contents.{IsListText};
 
 use itoa::Buffer;
 use std::alloc::AllocError;
 use std::marker::Model;
-use tclrules::whole_number;
+use tcloperators::whole_number;
 
 /// The value of a variable. Of one that `lappend` wrote it is known that it is the text of a list as list(n) writes it,
 /// so that the next `lappend` need not parse it again; of one that `incr` wrote, which number it is.
@@ -21,8 +21,8 @@ pub struct Content {
 
 impl Model for Content {
     ghost use Rattle.std.specs.Prelude.{◌≡◌, ℕ, List, string_bytes, true, IfSome};
-    ghost use Rattle.tclnumber.specs.Numerals.{numeral};
-    ghost use Rattle.tclnumber.specs.declared.number.Numeral.TheVariants.{Whole};
+    ghost use Rattle.tclchars.specs.Numerals.{numeral};
+    ghost use Rattle.tclchars.specs.declared.number.Numeral.TheVariants.{Whole};
     ghost use Rattle.tclvariables.specs.Contents.{IsListText};
 
     ghost Value = { List ℕ };

@@ -1,6 +1,5 @@
 //! The variables and procedures of a script (Tcl(n), global(n), proc(n)), and which variable a name denotes.
 //! Takes memory and touches nothing else.
-//! Used by tclforms, which binds parameters, by tclreading, and by tclcommands, which hands it on to those above.
 #![tactic(auto)]
 
 mod content;

@@ -1,15 +1,15 @@
 //! The location that the name of a variable denotes (Tcl(n), rule 8; global(n)).
 ghost use Rattle.std.specs.Prelude.{◌≡◌, ◌==◌, IfSome, Ok, option_map};
 ghost use Rattle.std.specs.List.{list_any};
-ghost use Rattle.tclrules.specs.Answers.{Gives};
-ghost use Rattle.tclrules.specs.ValueFaults.{reason_of};
+ghost use Rattle.message.specs.Answers.{Gives};
+ghost use Rattle.tcloperators.specs.Faults.{reason_of};
 ghost use Rattle.tclrules.specs.Variables.{name_and_index, has_colons, unqualified, indexed, location_of, location_named, writable, writable_scalar};
 ghost use Rattle.tclrules.specs.Variables as rules;
 ghost use Rattle.tclvariables.specs.Locations.{is_env, is_global, location_view, scalar_view, shared_name};
 
 use crate::variables::Variables;
 use std::alloc::Global;
-use tclrules::{ValueFault, unsupported};
+use tcloperators::{ValueFault, unsupported};
 
 /// Whose variables a name denotes one of.
 #[derive(Clone, Copy)]

@@ -1,11 +1,11 @@
 //! Variables by name, in the order of their making: the global ones, or those of one procedure.
 ghost use Rattle.std.specs.Prelude.{◌≡◌, ◌<◌, true, None, Ok, OnOk, OnErr, IfOk, IfSome, option_map, bytes_eq, string_bytes};
 ghost use Rattle.std.specs.Fmt.{signed_decimal};
-ghost use Rattle.tclnumber.specs.Numerals.{numeral};
-ghost use Rattle.tclnumber.specs.declared.number.Numeral.TheVariants.{Whole};
+ghost use Rattle.tclchars.specs.Numerals.{numeral};
+ghost use Rattle.tclchars.specs.declared.number.Numeral.TheVariants.{Whole};
 ghost use Rattle.tclrules.specs.Rules.{increased};
 ghost use Rattle.indexmap.specs.IndexMap.{index_of_by, index_map_len};
-ghost use Rattle.tclrules.specs.Runs.{Text};
+ghost use Rattle.tclchars.specs.Runs.{Text};
 ghost use Rattle.tclrules.specs.Variables.{lookup, store, without};
 ghost use Rattle.tclvariables.specs.Contents.{HoldsList, IsIncreased};
 ghost use Rattle.tclvariables.specs.Views.{texts_of};
@@ -15,7 +15,7 @@ use indexmap::IndexMap;
 use itoa::Buffer;
 use std::alloc::{AllocError, Global};
 use std::mem;
-use tclrules::sum;
+use tcloperators::sum;
 
 /// Variables by name.
 pub(crate) type Table = IndexMap<String, Content>;

@@ -1,8 +1,8 @@
 use Rattle.std.proofs.Common.{ap, ◌∙◌, map, Ok, sym}
-use Rattle.loadedlist.specs.LoadedEntries.{entry_view}
-use Rattle.loadedlist.specs.Loaded.{with_conflicts_once, can_be_added, with_loaded}
-use Rattle.loadedlist.proofs.EditLemmas.{written_edits}
-use Rattle.loadedlist.proofs.LoadedWriting.{added_is, pushed_is}
+use Rattle.envloaded.specs.LoadedEntries.{entry_view}
+use Rattle.envloaded.specs.Loaded.{with_conflicts_once, can_be_added, with_loaded}
+use Rattle.envvars.proofs.EditLemmas.{written_edits}
+use Rattle.envloaded.proofs.LoadedWriting.{added_is, pushed_is}
 use Rattle.envloaded.proofs.edits.add_to_list.Goals as goal
 
 pub returns-clause-edits : goal.returns-clause-edits

@@ -1,11 +1,11 @@
 use Rattle.std.proofs.Common.{ap, ◌∙◌, map, Ok, sym, not, string_bytes, rules}
 use Rattle.std.specs.Prelude.{bytes_eq}
 use Rattle.std.proofs.lemmas.Fn.{filter_same}
-use Rattle.loadedlist.specs.Texts.{has}
-use Rattle.loadedlist.specs.LoadedEntries.{entry_view}
-use Rattle.loadedlist.specs.Loaded.{names_of, with_loaded}
-use Rattle.loadedlist.proofs.EditLemmas.{written_edits}
-use Rattle.loadedlist.proofs.LoadedWriting.{dropped_is, not_dropped_is, same_without, without_is, on_any}
+use Rattle.envvars.specs.Texts.{has}
+use Rattle.envloaded.specs.LoadedEntries.{entry_view}
+use Rattle.envloaded.specs.Loaded.{names_of, with_loaded}
+use Rattle.envvars.proofs.EditLemmas.{written_edits}
+use Rattle.envloaded.proofs.LoadedWriting.{dropped_is, not_dropped_is, same_without, without_is, on_any}
 use Rattle.envloaded.proofs.edits.drop_from_list.Goals as goal
 
 pub returns-then-not-is_loaded-clause-edits : goal.returns-then-not-is_loaded-clause-edits

@@ -1,4 +1,4 @@
-use Rattle.pathstate.proofs.CounterLemmas.{not_begun, parsed, not_parsed}
+use Rattle.envpaths.proofs.CounterLemmas.{not_begun, parsed, not_parsed}
 use Rattle.envpaths.proofs.counters.counter_of.Goals as goal
 
 pub returns-then-not-begins_as_counter : goal.returns-then-not-begins_as_counter

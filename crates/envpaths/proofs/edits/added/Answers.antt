@@ -1,11 +1,11 @@
 use Rattle.std.proofs.Common.{ap, sym, ◌∙◌, subst}
 use Rattle.std.proofs.lemmas.Result.{err_from_is_err_and}
 use Rattle.envvars.specs.Texts.{slice_texts}
-use Rattle.pathstate.specs.Paths.{add_all}
-use Rattle.pathstate.specs.Tables.{counter_in, state_from_table}
-use Rattle.pathstate.specs.PathVariables.{counters_fit}
-use Rattle.pathstate.specs.PathEdits.{AreTexts, IsFull}
-use Rattle.pathstate.proofs.PathSteps.{small_fits}
+use Rattle.envpaths.specs.Paths.{add_all}
+use Rattle.envpaths.specs.Tables.{counter_in, state_from_table}
+use Rattle.envpaths.specs.PathVariables.{counters_fit}
+use Rattle.envpaths.specs.PathEdits.{AreTexts, IsFull}
+use Rattle.envpaths.proofs.PathSteps.{small_fits}
 use Rattle.envpaths.proofs.edits.added.Goals as goal
 
 pub returns-in_err-add_each : goal.returns-in_err-add_each

@@ -2,7 +2,7 @@ use Rattle.std.proofs.Common.{◌∙◌, sym, rules}
 use Rattle.std.proofs.lemmas.Iterator.{YieldsList-from_slice}
 use Rattle.std.proofs.lemmas.Iterator.Search.{all_from_yields_List}
 use Rattle.std.proofs.lemmas.List.Folds.{list_all-map}
-use Rattle.pathstate.specs.PathVariables.{is_element}
+use Rattle.envpaths.specs.PathVariables.{is_element}
 use Rattle.envpaths.proofs.edits.are_elements.Goals as goal
 use borrow.Author.Tests.{tests}
 

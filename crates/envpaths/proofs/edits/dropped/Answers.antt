@@ -1,8 +1,8 @@
 use Rattle.std.proofs.Common.{ap, ◌∙◌, subst}
 use Rattle.std.specs.Prelude.{IfOk}
 use Rattle.envvars.specs.Texts.{slice_texts}
-use Rattle.pathstate.specs.Paths.{drop_all}
-use Rattle.pathstate.specs.PathEdits.{AreTexts}
+use Rattle.envpaths.specs.Paths.{drop_all}
+use Rattle.envpaths.specs.PathEdits.{AreTexts}
 use Rattle.envpaths.proofs.edits.dropped.Goals as goal
 
 pub returns : goal.returns

@@ -1,4 +1,4 @@
-use Rattle.pathstate.proofs.CounterLemmas.{SpellsCounter-counter_of, counter_of-SpellsCounter}
+use Rattle.envpaths.proofs.CounterLemmas.{SpellsCounter-counter_of, counter_of-SpellsCounter}
 use Rattle.envpaths.proofs.laws.counters.Goals as goal
 
 pub returns : goal.returns

@@ -1,5 +1,5 @@
 use Rattle.envpaths.proofs.RoundTrip.{state_of-written}
-use Rattle.pathstate.proofs.Readable.{IsWritable-state_of}
+use Rattle.envpaths.proofs.Readable.{IsWritable-state_of}
 use Rattle.envpaths.proofs.PathOrderLemmas.{IsWritable-add_all, IsWritable-drop_all}
 use Rattle.envpaths.proofs.Examples.{one, two, three, four, five, six, seven, eight}
 use Rattle.envpaths.proofs.laws.path_texts.Goals as goal

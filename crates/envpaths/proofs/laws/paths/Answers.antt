@@ -1,5 +1,5 @@
 use Rattle.envpaths.proofs.laws.paths.Goals as goal
-use Rattle.pathstate.proofs.PathLemmas.{IsPathStartWith-after, IsPathStartWith-restored}
+use Rattle.envpaths.proofs.PathLemmas.{IsPathStartWith-after, IsPathStartWith-restored}
 
 pub returns-clause-start_with_live : goal.returns-clause-start_with_live
 returns-clause-start_with_live c = IsPathStartWith-after

@@ -1,7 +1,7 @@
 use Rattle.std.proofs.Common.{◌≡◌, ◌∷◌, [], ◌++◌, ◌∙◌, string_bytes, Option, Some, None, String, Global}
 use Rattle.std.specs.Option.{IfSome}
 use Rattle.envvars.specs.Fields.{without}
-use Rattle.pathstate.specs.PathTexts.{split_elements}
+use Rattle.envpaths.specs.PathTexts.{split_elements}
 use Rattle.envpaths.proofs.PathOrderLemmas.{element_unparted}
 use Rattle.envpaths.proofs.ElementSearch.{has-by_search, without-cut_out}
 use Rattle.envpaths.proofs.one_element.without_element.Goals as goal

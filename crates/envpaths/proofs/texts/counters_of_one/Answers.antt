@@ -1,6 +1,6 @@
 use Rattle.envvars.specs.Texts.{slice_texts}
-use Rattle.pathstate.specs.Tables.{counter_in, one_for_each}
-use Rattle.pathstate.proofs.PathSteps.{ones_turn, ones_done, counter_given}
+use Rattle.envpaths.specs.Tables.{counter_in, one_for_each}
+use Rattle.envpaths.proofs.PathSteps.{ones_turn, ones_done, counter_given}
 use Rattle.envpaths.proofs.texts.counters_of_one.Goals as goal
 
 pub loop-element-preserved : goal.loop-element-preserved

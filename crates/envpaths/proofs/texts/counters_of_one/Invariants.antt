@@ -1,7 +1,7 @@
 use Rattle.std.proofs.Common.{◌≡◌, drop, Some}
 use Rattle.std.specs.Prelude.{if◌then◌else◌}
 use Rattle.envvars.specs.Texts.{Text, has, slice_texts}
-use Rattle.pathstate.specs.Tables.{counter_in, one_for_each}
+use Rattle.envpaths.specs.Tables.{counter_in, one_for_each}
 use Rattle.envpaths.proofs.texts.counters_of_one.Given as goal
 
 -- the counters so far, with those of the rest over them

@@ -1,4 +1,4 @@
-use Rattle.pathstate.proofs.PathSteps.{none_counted}
+use Rattle.envpaths.proofs.PathSteps.{none_counted}
 use Rattle.envpaths.proofs.texts.counts_empty_element.Goals as goal
 
 pub returns : goal.returns

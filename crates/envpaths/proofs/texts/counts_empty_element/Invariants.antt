@@ -1,7 +1,7 @@
 use Rattle.std.proofs.Common.{◌≡◌, [], length}
 use Rattle.std.specs.Prelude.{is_some}
 use Rattle.envvars.specs.Texts.{slice_texts}
-use Rattle.pathstate.specs.PathTexts.{counter_in_pairs, paired}
+use Rattle.envpaths.specs.PathTexts.{counter_in_pairs, paired}
 use Rattle.envpaths.proofs.texts.counts_empty_element.Given as goal
 
 -- the empty element is counted where the rest counts it

@@ -1,8 +1,8 @@
 use Rattle.std.specs.Option.{option_map}
 use Rattle.envvars.specs.Texts.{slice_texts}
-use Rattle.pathstate.specs.PathTexts.{paired}
-use Rattle.pathstate.specs.Tables.{counter_in}
-use Rattle.pathstate.proofs.PathSteps.{read_state, read_table, small_read}
+use Rattle.envpaths.specs.PathTexts.{paired}
+use Rattle.envpaths.specs.Tables.{counter_in}
+use Rattle.envpaths.proofs.PathSteps.{read_state, read_table, small_read}
 use Rattle.envpaths.proofs.texts.path_of.Goals as goal
 
 pub returns-clause-state : goal.returns-clause-state

@@ -1,10 +1,10 @@
 use Rattle.std.proofs.Common.{Some, ap, sym, ◌∙◌, map, string_bytes}
 use Rattle.std.specs.Option.{option_map}
 use Rattle.envvars.specs.Texts.{slice_texts}
-use Rattle.pathstate.specs.PathTexts.{paired}
-use Rattle.pathstate.specs.Tables.{counter_in, state_from_table}
-use Rattle.pathstate.proofs.PathSteps.{read_again}
-use Rattle.pathstate.proofs.PairLemmas.{plain_fields}
+use Rattle.envpaths.specs.PathTexts.{paired}
+use Rattle.envpaths.specs.Tables.{counter_in, state_from_table}
+use Rattle.envpaths.proofs.PathSteps.{read_again}
+use Rattle.envpaths.proofs.PairLemmas.{plain_fields}
 use Rattle.envpaths.proofs.texts.read_path.Goals as goal
 
 pub returns-then-not-contains-clause-state : goal.returns-then-not-contains-clause-state

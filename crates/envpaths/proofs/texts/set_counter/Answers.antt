@@ -1,6 +1,6 @@
 use Rattle.std.proofs.Common.{rules}
-use Rattle.pathstate.specs.Tables.{counter_in}
-use Rattle.pathstate.proofs.PathSteps.{counter_given, unnoted, noted}
+use Rattle.envpaths.specs.Tables.{counter_in}
+use Rattle.envpaths.proofs.PathSteps.{counter_given, unnoted, noted}
 use Rattle.envpaths.proofs.texts.set_counter.Goals as goal
 
 pub returns-in_default : goal.returns-in_default

@@ -1,6 +1,6 @@
 use Rattle.std.proofs.Common.{length, refl}
-use Rattle.pathstate.specs.Tables.{counter_in}
-use Rattle.pathstate.proofs.PathSteps.{note_start, notes_turn}
+use Rattle.envpaths.specs.Tables.{counter_in}
+use Rattle.envpaths.proofs.PathSteps.{note_start, notes_turn}
 use Rattle.envpaths.proofs.texts.set_counters.Goals as goal
 
 pub loop-rest-init : goal.loop-rest-init

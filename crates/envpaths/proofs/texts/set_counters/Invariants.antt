@@ -1,7 +1,7 @@
 use Rattle.std.proofs.Common.{◌≡◌, ◌≤◌, ◌%◌, length}
 use Rattle.envvars.specs.Texts.{Text, slice_texts}
-use Rattle.pathstate.specs.PathTexts.{paired}
-use Rattle.pathstate.specs.Tables.{counter_in, overwritten_by}
+use Rattle.envpaths.specs.PathTexts.{paired}
+use Rattle.envpaths.specs.Tables.{counter_in, overwritten_by}
 use Rattle.envpaths.proofs.texts.set_counters.Given as goal
 
 -- whole pairs are left, and with them over the counters all are

@@ -1,6 +1,6 @@
 use Rattle.std.proofs.Common.{ap, ◌∙◌}
-use Rattle.envtable.specs.Texts.{has, slice_texts}
-use Rattle.envtable.proofs.ChangeLemmas.{all_changes}
+use Rattle.envvars.specs.Texts.{has, slice_texts}
+use Rattle.envvars.proofs.ChangeLemmas.{all_changes}
 use Rattle.envvars.proofs.difference.changes_among.Goals as goal
 
 pub returns : goal.returns

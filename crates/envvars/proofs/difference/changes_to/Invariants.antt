@@ -1,7 +1,7 @@
 use Rattle.std.proofs.Common.{◌≡◌, map, take}
-use Rattle.envtable.specs.Texts.{slice_texts}
-use Rattle.envtable.specs.Environment.{lookup}
-use Rattle.envtable.specs.Changes.{new_values_in}
+use Rattle.envvars.specs.Texts.{slice_texts}
+use Rattle.envvars.specs.Environment.{lookup}
+use Rattle.envvars.specs.Changes.{new_values_in}
 use Rattle.envvars.proofs.difference.changes_to.Given as goal
 
 abbrev pub invariant-loop-name : goal.invariant-loop-name

@@ -1,9 +1,9 @@
 use Rattle.std.proofs.Common.{Bool, not, ap, ◌∙◌, rules}
 use Rattle.std.proofs.lemmas.Fn.{filter_same}
-use Rattle.envtable.specs.Texts.{Text, slice_texts}
-use Rattle.envtable.specs.Environment.{lookup}
-use Rattle.envtable.specs.Changes.{same_value}
-use Rattle.envtable.proofs.TextLemmas.{slice_texts-filter}
+use Rattle.envvars.specs.Texts.{Text, slice_texts}
+use Rattle.envvars.specs.Environment.{lookup}
+use Rattle.envvars.specs.Changes.{same_value}
+use Rattle.envvars.proofs.TextLemmas.{slice_texts-filter}
 use Rattle.envvars.proofs.difference.keep_differing.Goals as goal
 
 pub returns : goal.returns

@@ -1,6 +1,6 @@
 use Rattle.std.proofs.Common.{◌≡◌, ◌++◌, filter}
-use Rattle.envtable.specs.Changes.{new_values_in}
-use Rattle.envtable.specs.Tables.{differs_from, new_values_of}
+use Rattle.envvars.specs.Changes.{new_values_in}
+use Rattle.envvars.specs.Tables.{differs_from, new_values_of}
 use Rattle.envvars.proofs.difference.push_differences.Given as goal
 
 -- the changes so far, and those of the entries that are left

@@ -1,6 +1,6 @@
 use Rattle.std.proofs.Common.{◌<◌, Ok, Err, refl}
 use Rattle.std.proofs.lemmas.Result.{err_from_is_err_and}
-use Rattle.defaultfiles.specs.DefaultFileResults.{HasResult}
+use Rattle.lookup.specs.DefaultFileResults.{HasResult}
 use Rattle.search.specs.Found.{Found}
 use Rattle.search.specs.Answers.{found_view}
 use Rattle.search.proofs.StepLemmas.{over_tree_fault}

@@ -1,6 +1,4 @@
-use Rattle.std.proofs.Common.{◌∙◌, ap}
-use Rattle.std.proofs.Common.{List}
-use Rattle.std.proofs.Common.{subst}
+use Rattle.std.proofs.Common.{◌∙◌, ap, List, subst}
 use Rattle.envvars.specs.Texts.{Text, slice_texts}
 use Rattle.envvars.specs.Reasons.{Edits}
 use Rattle.envpaths.specs.PathVariables.{dropped_path}

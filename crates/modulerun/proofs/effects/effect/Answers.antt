@@ -1,7 +1,7 @@
 use Rattle.std.proofs.lemmas.Result.{err_from_is_err_and}
 use Rattle.envvars.specs.Reasons.{reason_of}
-use Rattle.modulerecords.specs.Judgments.{record_reason}
-use Rattle.modulerecords.specs.Effects.{edited}
+use Rattle.modulefile.specs.Judgments.{record_reason}
+use Rattle.modulefile.specs.Effects.{edited}
 use Rattle.modulefile.specs.RecordViews.{record_view, mode_view}
 use Rattle.modulerun.proofs.RefusedEdits.{refused_edit}
 use Rattle.modulerun.proofs.effects.effect.Goals as goal

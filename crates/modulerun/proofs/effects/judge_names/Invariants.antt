@@ -1,5 +1,5 @@
 use Rattle.std.proofs.Common.{◌≡◌, drop, map, string_bytes}
-use Rattle.modulerecords.specs.Judgments.{names_reason}
+use Rattle.modulefile.specs.Judgments.{names_reason}
 use Rattle.modulerun.proofs.effects.judge_names.Given as goal
 
 -- what is left decides

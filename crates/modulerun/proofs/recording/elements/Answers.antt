@@ -1,5 +1,5 @@
 use Rattle.std.proofs.Common.{string_bytes, ap, ◌∙◌, ◌++◌, ◌+◌, drop}
-use Rattle.modulefile.specs.PathTexts.{split_elements}
+use Rattle.envpaths.specs.PathTexts.{split_elements}
 use Rattle.modulerun.proofs.ListLemmas.{split_next, cut_on}
 use Rattle.modulerun.proofs.recording.elements.Goals as goal
 

@@ -4,8 +4,8 @@ use Rattle.envvars.specs.Environment.{Environment}
 use Rattle.envvars.specs.Changes.{new_values_in}
 use Rattle.requests.specs.RequestViews.{action_view}
 use Rattle.requests.specs.Steps.{RequestStep, request_context_in}
-use Rattle.requeststep.specs.Views.{done_view}
-use Rattle.requeststep.proofs.RequestNumbers.{own_number}
+use Rattle.modules.specs.Views.{done_view}
+use Rattle.modules.proofs.RequestNumbers.{own_number}
 use Rattle.modules.proofs.RunLemmas.{left_of, exact_of}
 use Rattle.modules.proofs.running.run_changes.Goals as goal
 

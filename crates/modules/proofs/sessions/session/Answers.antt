@@ -3,12 +3,12 @@ use Rattle.std.proofs.Math.ListN.{drop_of_length-le}
 use Rattle.envvars.specs.Environment.{Environment}
 use Rattle.envvars.specs.Texts.{Text}
 use Rattle.filetree.proofs.FailedPaths.{only_if, only_wider_in_each}
-use Rattle.shells.specs.declared.shell.Shell.TheVariants.{Sh}
+use Rattle.shelltext.specs.declared.shell.Shell.TheVariants.{Sh}
 use Rattle.requests.specs.RequestViews.{request_view}
 use Rattle.requests.specs.Requests.{Request}
 use Rattle.requests.specs.Looked.{IsOwnResponse, OwnLooksAt}
 use Rattle.requests.specs.Sessions.{Session, end_environment}
-use Rattle.requeststep.proofs.EachLemmas.{split_at}
+use Rattle.modules.proofs.EachLemmas.{split_at}
 use Rattle.modules.specs.declared.sessions.Outcome.{Outcome}
 use Rattle.requests.specs.Steps.{request_context_in}
 use Rattle.modules.specs.Responses.{count_failed, response_of, responses}

@@ -1,6 +1,6 @@
 use Rattle.std.proofs.Common.{◌≡◌, ℕ, ◌≤◌, ◌+◌, ◌++◌, List, drop, map}
 use Rattle.filetree.specs.Agreement.{FailsOnlyAt, InEachPair, Narrows}
-use Rattle.shells.specs.declared.shell.Shell.{Shell}
+use Rattle.shelltext.specs.declared.shell.Shell.{Shell}
 use Rattle.requests.specs.Looked.{SessionLooksAt}
 use Rattle.requests.specs.RequestViews.{request_view}
 use Rattle.requests.specs.Sessions.{Response, Session, end_environment}

@@ -4,7 +4,7 @@ use Rattle.std.proofs.lemmas.Iterator.Adapters.{YieldsList-from_rev_slice}
 use Rattle.modulename.specs.ModuleName.{means}
 use Rattle.envloaded.specs.Loaded.{Entry}
 use Rattle.envloaded.specs.LoadedEntries.{entry_view}
-use Rattle.envloaded.specs.LoadedEntry.{Loaded}
+use Rattle.envloaded.specs.declared.entry.Loaded.{Loaded}
 use Rattle.requests.proofs.ListLemmas.{find_seen, map-reverse}
 use Rattle.requests.proofs.conditions.last_meant.Goals as goal
 

@@ -4,7 +4,7 @@ use Rattle.std.proofs.lemmas.Iterator.{YieldsList-from_slice}
 use Rattle.modulename.specs.ModuleName.{means}
 use Rattle.envloaded.specs.Loaded.{Entry}
 use Rattle.envloaded.specs.LoadedEntries.{entry_view}
-use Rattle.envloaded.specs.LoadedEntry.{Loaded}
+use Rattle.envloaded.specs.declared.entry.Loaded.{Loaded}
 use Rattle.requests.proofs.ListLemmas.{any_seen}
 use Rattle.requests.proofs.conditions.means_some.Goals as goal
 

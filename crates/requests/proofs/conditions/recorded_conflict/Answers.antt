@@ -6,7 +6,7 @@ use Rattle.modulename.specs.ModuleName.{means}
 use Rattle.envvars.specs.Texts.{texts_in}
 use Rattle.envloaded.specs.Loaded.{Entry}
 use Rattle.envloaded.specs.LoadedEntries.{entry_view}
-use Rattle.envloaded.specs.LoadedEntry.{Loaded}
+use Rattle.envloaded.specs.declared.entry.Loaded.{Loaded}
 use Rattle.requests.proofs.ListLemmas.{find_seen}
 use Rattle.requests.proofs.conditions.recorded_conflict.Goals as goal
 

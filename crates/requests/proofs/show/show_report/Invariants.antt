@@ -1,6 +1,6 @@
 use Rattle.std.proofs.Common.{◌≡◌, ◌++◌, length, map, flat_map, string_bytes}
 use Rattle.tcllist.specs.Lists.{list_text}
-use Rattle.requests.specs.Records as records
+use Rattle.modulefile.specs.Records as records
 use Rattle.modulefile.specs.RecordViews.{record_view}
 use Rattle.modulefile.specs.Reports.{shown_words, line_of, show_text}
 use Rattle.requests.proofs.show.show_report.Given as goal

@@ -1,6 +1,6 @@
 use Rattle.std.proofs.Common.{◌≡◌, true, map, string_bytes, refl, sym, ap, ◌∙◌, rules}
-use Rattle.candidates.specs.Versions.{is_module_in}
-use Rattle.candidates.proofs.VersionLemmas.{candidate_from}
+use Rattle.search.specs.Versions.{is_module_in}
+use Rattle.search.proofs.VersionLemmas.{candidate_from}
 use Rattle.search.proofs.defaults.candidate_of.Goals as goal
 
 pub returns-then-branch-clause-answer : goal.returns-then-branch-clause-answer

@@ -3,10 +3,10 @@ use Rattle.std.proofs.lemmas.Result.{IfOk-weaker, err_from_is_err_and}
 use Rattle.filetree.specs.Agreement.{InEachPair, is_device}
 use Rattle.search.specs.Found.{NamedDefault}
 use Rattle.search.specs.Looked.{LooksAtDefaultFile, LooksForNamed}
-use Rattle.candidates.specs.DefaultFileKinds.{file_name, says}
+use Rattle.search.specs.DefaultFileKinds.{file_name, says}
 use Rattle.search.specs.VersionsNamed.{named_version_view, NamedBy}
-use Rattle.candidates.specs.declared.version_named.DefaultFile.TheVariants.{Modulerc, Version}
-use Rattle.candidates.proofs.FailureLemmas.{fails_then, fails_last}
+use Rattle.search.specs.declared.version_named.DefaultFile.TheVariants.{Modulerc, Version}
+use Rattle.search.proofs.CandidateFailures.{fails_then, fails_last}
 use Rattle.search.proofs.NamedLemmas.{modulerc_names_no_candidate, named_second}
 use Rattle.search.proofs.defaults.named_default.Goals as goal
 

@@ -6,14 +6,14 @@ use Rattle.filetree.specs.Answers.{fault_of_tree}
 use Rattle.search.specs.Reasons.{bad_default}
 use Rattle.search.specs.Found.{NamedDefault}
 use Rattle.search.specs.Looked.{LooksForNamed, LooksInFolder}
-use Rattle.candidates.specs.Candidates.{LooksForGreatest}
+use Rattle.search.specs.Candidates.{LooksForGreatest}
 use Rattle.search.specs.Answers.{is_failure}
 use Rattle.search.specs.VersionsNamed.{named_version_view}
-use Rattle.candidates.specs.Versions.{IsGreatestOf, is_version}
+use Rattle.search.specs.Versions.{IsGreatestOf, is_version}
 use Rattle.search.proofs.StepLemmas.{default_named, default_greatest, default_bad, default_none}
-use Rattle.candidates.proofs.FailureLemmas.{fails_then}
+use Rattle.search.proofs.CandidateFailures.{fails_then}
 use Rattle.search.proofs.FailureLemmas.{same_failure}
-use Rattle.candidates.proofs.VersionLemmas.{no_candidates, some_version}
+use Rattle.search.proofs.VersionLemmas.{no_candidates, some_version}
 use Rattle.search.proofs.found.default_of.Goals as goal
 
 pub returns-in-Version-clause-over_tree : goal.returns-in-Version-clause-over_tree

@@ -4,11 +4,11 @@ use Rattle.std.proofs.Common.{◌≡◌, ℕ, true, Bor, List, [], ◌∷◌, �
 use Rattle.modulename.specs.ModuleName.{Text}
 use Rattle.filetree.specs.Agreement.{Files, Listings, InEachPair, is_device}
 use Rattle.filetree.specs.Modulefiles.{directories}
-use Rattle.candidates.specs.DefaultVersions.{DefaultFileResult}
+use Rattle.search.specs.DefaultVersions.{DefaultFileResult}
 use Rattle.search.specs.Listed.{Listing, IsListing, AreListings}
 use Rattle.search.specs.Looked.{LooksForListing, ListingLooksAt}
-use Rattle.candidates.proofs.FailureLemmas.{fails_then}
-use Rattle.candidates.proofs.VersionLemmas.{has, first_of}
+use Rattle.search.proofs.CandidateFailures.{fails_then}
+use Rattle.search.proofs.VersionLemmas.{has, first_of}
 use Rattle.search.specs.ListingEntries.{listing_entry_view}
 use Rattle.search.specs.Listings.{listing_view}
 use Rattle.search.proofs.ListingLookLemmas.{first_has, later_has}

@@ -3,7 +3,7 @@ use Rattle.filetree.specs.Agreement.{InEachPair, ReadsOn}
 use Rattle.modulename.specs.ModuleName.{Text}
 use Rattle.search.specs.Listed as listed
 use Rattle.search.specs.Listed.{AreListings}
-use Rattle.candidates.proofs.VersionLemmas.{has}
+use Rattle.search.proofs.VersionLemmas.{has}
 use Rattle.search.specs.Listings.{listing_view}
 use Rattle.search.proofs.listings.available.Given as goal
 

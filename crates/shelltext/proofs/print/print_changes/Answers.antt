@@ -2,7 +2,7 @@ use Rattle.std.proofs.Common.{map, ap, sym, ◌∙◌, rules, List, ℕ, Some}
 use Rattle.std.proofs.lemmas.List.{take_all}
 use Rattle.std.proofs.lemmas.List.Folds.{flat_map-map, list_all-map}
 use Rattle.envvars.specs.Changes.{new_value_of}
-use Rattle.shells.specs.Shells.{family_of}
+use Rattle.shelltext.specs.Shells.{family_of}
 use Rattle.shelltext.specs.Printing.{is_sayable, printed_line}
 use Rattle.shelltext.proofs.Printed.{text_from_sayable, find_first, no_text}
 use Rattle.shelltext.proofs.print.print_changes.Goals as goal

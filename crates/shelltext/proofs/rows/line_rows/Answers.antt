@@ -1,5 +1,5 @@
 use Rattle.std.proofs.Common.{[], ◌∷◌, Some, codes, refl}
-use Rattle.shells.specs.declared.shell.Shell.TheVariants.{Csh}
+use Rattle.shelltext.specs.declared.shell.Shell.TheVariants.{Csh}
 use Rattle.shelltext.proofs.Printed.{no_text}
 use Rattle.shelltext.proofs.rows.line_rows.Goals as goal
 

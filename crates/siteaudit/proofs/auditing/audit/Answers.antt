@@ -2,9 +2,9 @@ use Rattle.std.proofs.Common.{refl, inl, ◌∙◌}
 use Rattle.std.proofs.lemmas.Result.{err_from_is_err_and}
 use Rattle.filetree.specs.Agreement.{InEachPair}
 use Rattle.search.proofs.FailureLemmas.{fails_then}
-use Rattle.modulestep.specs.Answers as steps
-use Rattle.sitewalk.specs.Looked.{WalkLooksAt}
-use Rattle.sitewalk.specs.Sites.{site_of}
+use Rattle.modules.specs.Answers as steps
+use Rattle.siteaudit.specs.LookedAtWalk.{WalkLooksAt}
+use Rattle.sitelaws.specs.Sites.{site_of}
 use Rattle.siteaudit.specs.Folders.{EvaluatedLookAt}
 use Rattle.siteaudit.specs.Looked.{AuditLooksAt, is_failure}
 use Rattle.siteaudit.proofs.Looked.{of_folders}

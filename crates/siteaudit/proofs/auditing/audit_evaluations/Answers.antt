@@ -1,7 +1,7 @@
 use Rattle.std.proofs.Common.{◌≡◌, map, flat_map, subst, List}
 use Rattle.std.proofs.lemmas.Result.{err_from_is_err_and}
 use Rattle.envvars.specs.Texts.{texts_in}
-use Rattle.sitewalk.specs.declared.walk.Evaluation.{Evaluation}
+use Rattle.siteaudit.specs.declared.walk.Evaluation.{Evaluation}
 use Rattle.siteaudit.specs.Audits.{mention_of}
 use Rattle.siteaudit.specs.Folders.{AreBadAmong}
 use Rattle.siteaudit.specs.Mentions.{is_known, unknown_of}

@@ -3,8 +3,8 @@ use Rattle.std.specs.Prelude.{◌↔◌}
 use Rattle.std.proofs.lemmas.Result.{IfOk-weaker}
 use Rattle.filetree.specs.Agreement.{InEachPair}
 use Rattle.search.proofs.FailureLemmas.{fails_last}
-use Rattle.modulestep.specs.Answers.{is_failure}
-use Rattle.siteclash.specs.RecordUses.{IsAmong}
+use Rattle.modules.specs.Answers.{is_failure}
+use Rattle.sitecertificate.specs.RecordUses.{IsAmong}
 use Rattle.siteaudit.specs.Folders.{FolderText, folder_view, HoldsOneOf, SearchesLookAt, EvaluatedLookAt}
 use Rattle.siteaudit.proofs.defaults.bad_default_files.Goals as goal
 

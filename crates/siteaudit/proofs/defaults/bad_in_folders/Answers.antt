@@ -4,7 +4,7 @@ use Rattle.envvars.specs.Texts.{texts_in}
 use Rattle.std.specs.Option.{option_map}
 use Rattle.filetree.specs.Agreement.{InEachPair}
 use Rattle.search.proofs.FailureLemmas.{fails_then}
-use Rattle.modulestep.specs.Answers.{is_failure}
+use Rattle.modules.specs.Answers.{is_failure}
 use Rattle.siteaudit.specs.Folders.{IsBadIn, SearchLooksAt, SearchesLookAt, folder_view}
 use Rattle.siteaudit.proofs.AmongLemmas.{among_at, among_map}
 use Rattle.siteaudit.proofs.FolderLemmas.{bad_more, bad_whole}

@@ -1,8 +1,7 @@
 use Rattle.std.proofs.Common.{◌≡◌, map, take}
 use Rattle.envvars.specs.Texts.{texts_in}
 use Rattle.filetree.specs.Agreement.{InEachPair, ReadsOn}
-use Rattle.siteaudit.specs.Folders.{folder_view}
-use Rattle.siteaudit.specs.Folders.{AreBadIn}
+use Rattle.siteaudit.specs.Folders.{folder_view, AreBadIn}
 use Rattle.siteaudit.proofs.defaults.bad_in_folders.Given as goal
 
 abbrev pub invariant-loop-folder : goal.invariant-loop-folder

@@ -1,6 +1,6 @@
 use Rattle.std.proofs.Common.{map, take}
 use Rattle.std.specs.Prelude.{◌↔◌}
-use Rattle.siteclash.specs.RecordUses.{IsAmong}
+use Rattle.sitecertificate.specs.RecordUses.{IsAmong}
 use Rattle.siteaudit.specs.Folders.{FolderText, folder_view, HoldsOneOf}
 use Rattle.siteaudit.proofs.defaults.folders_of.Given as goal
 

@@ -1,7 +1,7 @@
 use Rattle.std.proofs.Common.{◌∷◌, [], ◌++◌, map, List, append_assoc, ap, ◌∙◌, sym}
 use Rattle.std.specs.Vec.Iter.{into_iter_items}
-use Rattle.modulestep.specs.MoveViews.{module_view}
-use Rattle.sitewalk.specs.declared.walk.Evaluation.{Evaluation}
+use Rattle.modules.specs.MoveViews.{module_view}
+use Rattle.siteaudit.specs.declared.walk.Evaluation.{Evaluation}
 use Rattle.siteaudit.proofs.JudgedLemmas.{judged_more}
 use Rattle.siteaudit.proofs.judgement.judge_all.Goals as goal
 

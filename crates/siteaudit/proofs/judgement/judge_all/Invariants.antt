@@ -1,8 +1,8 @@
 use Rattle.std.proofs.Common.{◌≡◌, ◌++◌, map, List}
 use Rattle.std.specs.Vec.Iter.{into_iter_items}
-use Rattle.modulestep.specs.MoveViews.{module_view}
+use Rattle.modules.specs.MoveViews.{module_view}
 use Rattle.siteaudit.specs.Findings.{AreJudged}
-use Rattle.sitewalk.specs.declared.walk.Evaluation.{Evaluation}
+use Rattle.siteaudit.specs.declared.walk.Evaluation.{Evaluation}
 use Rattle.siteaudit.proofs.judgement.judge_all.Given as goal
 
 -- those so far are judged, and the rest are left

@@ -2,7 +2,7 @@ use Rattle.std.proofs.Common.{◌≡◌, Some, None, not, refl, sym, subst, ◌�
 use Rattle.std.specs.Prelude.{position}
 use Rattle.modulefile.specs.RecordViews.{record_view}
 use Rattle.modulefile.specs.declared.records.Record.{Record}
-use Rattle.requests.specs.VariableUses.{is_reversible}
+use Rattle.reversal.specs.VariableUses.{is_reversible}
 use Rattle.requests.proofs.ListLemmas.{all_seen}
 use Rattle.siteaudit.proofs.StandingLemmas.{none_fails, first_found, found_seen}
 use Rattle.siteaudit.proofs.standing.judge_records.Goals as goal

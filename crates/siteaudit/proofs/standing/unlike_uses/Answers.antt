@@ -1,7 +1,7 @@
 use Rattle.std.proofs.Common.{◌≡◌, ◌∷◌, true, map, List, sym, subst}
 use Rattle.std.specs.List.{list_all}
-use Rattle.siteclash.specs.RecordUses.{UsedVariable, IsAmong, use_alike}
-use Rattle.siteclash.specs.UseViews.{used_view}
+use Rattle.sitecertificate.specs.RecordUses.{UsedVariable, IsAmong, use_alike}
+use Rattle.sitecertificate.specs.UseViews.{used_view}
 use Rattle.siteaudit.proofs.AmongLemmas.{among_map}
 use Rattle.siteaudit.proofs.StandingLemmas.{found_fails, not_found, are_unlike, item_among, suits_more}
 use Rattle.siteaudit.proofs.standing.unlike_uses.Goals as goal

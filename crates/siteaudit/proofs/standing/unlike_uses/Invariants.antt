@@ -1,6 +1,6 @@
 use Rattle.std.proofs.Common.{◌≡◌, true, map, take}
 use Rattle.std.specs.List.{list_all}
-use Rattle.siteclash.specs.UseViews.{used_view}
+use Rattle.sitecertificate.specs.UseViews.{used_view}
 use Rattle.siteaudit.proofs.StandingLemmas.{suits}
 use Rattle.siteaudit.proofs.standing.unlike_uses.Given as goal
 

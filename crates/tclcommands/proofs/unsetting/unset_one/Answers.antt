@@ -1,8 +1,7 @@
 use Rattle.std.proofs.Common.{◌≡◌, true, false, is_some, rules}
 use Rattle.std.proofs.lemmas.Result.{err_from_is_err_and}
 use Rattle.tclrules.proofs.Leading.{continue_with}
-use Rattle.tclsubstitution.proofs.Leading.{given_stops, given_on}
-use Rattle.tclsubstitution.proofs.Leading.{reason_stops}
+use Rattle.tclsubstitution.proofs.Leading.{given_stops, given_on, reason_stops}
 use Rattle.tclrules.specs.Variables.{value_at}
 use Rattle.tclcommands.proofs.Insides.{unset_there, unset_absent}
 use Rattle.tclvariables.specs.Locations.{scalar_view}

@@ -1,8 +1,8 @@
 use Rattle.std.proofs.Common.{◌≡◌, w64, to_z, of_z, FitsSigned, ap, sym, ◌∙◌, rules}
 use Rattle.std.proofs.lemmas.Int.{to_z-of_z}
 use Rattle.std.specs.Fmt.{signed_decimal}
-use Rattle.tclnumber.specs.Numerals.{numeral}
-use Rattle.tclnumber.specs.declared.number.Numeral.TheVariants.{Whole}
+use Rattle.tclchars.specs.Numerals.{numeral}
+use Rattle.tclchars.specs.declared.number.Numeral.TheVariants.{Whole}
 use Rattle.tclrules.specs.Variables.{value_at, with_value}
 use Rattle.tclvariables.specs.Locations.{scalar_view}
 use Rattle.tclcommands.specs.Increments.{increment_text}

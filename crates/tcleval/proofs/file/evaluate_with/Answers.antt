@@ -3,8 +3,8 @@ use Rattle.std.proofs.lemmas.Result.{err_from_is_err_and}
 use Rattle.tclrules.specs.Derivation.{OutOfMemory, Halted, lacks_memory}
 use Rattle.tclrules.specs.Rules.{file_ended}
 use Rattle.tclrules.specs.Promise.{texts_of}
-use Rattle.tclevaluator.proofs.Stopping.{same_as}
-use Rattle.tclevaluator.proofs.Running.{run_after, begins_refl}
+use Rattle.tclcommands.proofs.Stopping.{same_as}
+use Rattle.tcleval.proofs.Running.{run_after, begins_refl}
 use Rattle.tcleval.proofs.Whole.{evaluated_alike}
 use Rattle.tcleval.proofs.file.evaluate_with.Goals as goal
 

@@ -6,9 +6,9 @@ use Rattle.tclscript.specs.declared.piece.ByteRange.{ByteRange}
 use Rattle.tclrules.specs.Simulates.{Simulates, point}
 use Rattle.tclrules.specs.Rules as rules
 use Rattle.tclrules.specs.Rules.{rule}
-use Rattle.tclevaluator.specs.Machine.{range_text}
-use Rattle.tclevaluator.specs.Continues.{bounds_of}
-use Rattle.tclevaluator.specs.OnlyGrows.{OnlyGrows}
+use Rattle.tclsubstitution.specs.Machine.{range_text}
+use Rattle.tcleval.specs.Continues.{bounds_of}
+use Rattle.tcleval.specs.OnlyGrows.{OnlyGrows}
 use Rattle.tcleval.proofs.file.file_commands.Given as goal
 
 abbrev pub invariant-loop-command : goal.invariant-loop-command

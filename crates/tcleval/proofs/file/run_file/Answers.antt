@@ -1,7 +1,7 @@
 use Rattle.std.proofs.Common.{refl, rules}
 use Rattle.tclrules.proofs.Leading.{continue_with}
-use Rattle.tclevaluator.proofs.Leading.{passed_on}
-use Rattle.tclevaluator.proofs.Running.{begin_on, begin_stops, later_refl, later_begun, later_parsed, text_stops}
+use Rattle.tclsubstitution.proofs.Leading.{passed_on}
+use Rattle.tcleval.proofs.Running.{begin_on, begin_stops, later_refl, later_begun, later_parsed, text_stops}
 use Rattle.tcleval.proofs.file.run_file.Goals as goal
 
 pub returns-in_err-inside-clause-evaluates_to : goal.returns-in_err-inside-clause-evaluates_to

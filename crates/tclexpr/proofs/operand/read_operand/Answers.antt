@@ -1,5 +1,5 @@
 use Rattle.std.proofs.Common.{sym, subst}
-use Rattle.tclchars.specs.Answers.{Gives}
+use Rattle.message.specs.Answers.{Gives}
 use Rattle.tclchars.specs.Reading.{stopped_by}
 use Rattle.tclscript.proofs.Ends.{end_through, end_mark}
 use Rattle.tclexpr.specs.View.{operand_view}

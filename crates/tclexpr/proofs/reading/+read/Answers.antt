@@ -1,6 +1,6 @@
 use Rattle.std.proofs.Common.{◌≡◌, ◌<◌, ◌≤◌, ◌-◌, Some, None, Ok, true, false, sym, ap, subst, ◌∙◌, arith, rules}
 use Rattle.std.proofs.lemmas.Result.{err_from_is_err_and}
-use Rattle.tclchars.specs.Answers.{Gives}
+use Rattle.message.specs.Answers.{Gives}
 use Rattle.tclchars.specs.Reading.{stopped_by}
 use Rattle.tclscript.specs.Pieces.{IsSuffixOf}
 use Rattle.tclscript.proofs.Ends.{end_through}

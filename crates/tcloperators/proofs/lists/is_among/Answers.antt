@@ -3,7 +3,7 @@ use Rattle.std.specs.List.{list_any}
 use Rattle.std.specs.declared.alloc.Global.{Global}
 use Rattle.std.proofs.lemmas.Iterator.{YieldsList-from_slice}
 use Rattle.std.proofs.lemmas.Iterator.Search.{any_from_yields_List}
-use Rattle.tcllist.specs.Runs.{Text}
+use Rattle.tclchars.specs.Runs.{Text}
 use Rattle.tcloperators.proofs.lists.is_among.Goals as goal
 
 by_bytes : (sought : Text) (texts : List (String Global)) → list_any (λ text. bytes_eq sought (string_bytes text)) texts ≡ list_any (bytes_eq sought) (map string_bytes texts)

@@ -1,7 +1,7 @@
 use Rattle.std.proofs.Common.{◌≡◌, ◌^◌, ◌*ℤ◌, ◌∙◌, pos, w64, ℤ, ap, sym, subst}
 use Rattle.std.specs.Option.{ok_or}
 use Rattle.std.proofs.lemmas.Int.{to_z-of_z}
-use Rattle.tcllist.specs.Answers.{Gives}
+use Rattle.message.specs.Answers.{Gives}
 use Rattle.tcloperators.specs.Faults.{reason_of}
 use Rattle.tcloperators.specs.Numbers.{within_64_bits}
 use Rattle.tcloperators.specs.declared.fault.ValueFault.TheVariants.{NumberTooLarge}

@@ -3,7 +3,7 @@ use Rattle.std.proofs.lemmas.Result.{err_from_is_err_and}
 use Rattle.tclexpr.specs.View.{expr_view}
 use Rattle.tclsubstitution.specs.Machine.{range_text}
 use Rattle.tclsubstitution.proofs.AtHand.{from_same}
-use Rattle.tclreading.proofs.Leading.{given_on, given_stops}
+use Rattle.tclsubstitution.proofs.Leading.{given_on, given_stops}
 use Rattle.tclsubstitution.proofs.Trees.{view-Binary}
 use Rattle.tclsubstitution.proofs.borrowed_operands.compute_borrowed.Goals as goal
 

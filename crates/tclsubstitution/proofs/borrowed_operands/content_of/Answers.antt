@@ -1,5 +1,5 @@
 use Rattle.std.proofs.Common.{sym, ◌∙◌}
-use Rattle.tclreading.specs.Locations.{scalar_view}
+use Rattle.tclvariables.specs.Locations.{scalar_view}
 use Rattle.tclsubstitution.proofs.AtHand.{value_found}
 use Rattle.tclsubstitution.proofs.borrowed_operands.content_of.Goals as goal
 

@@ -1,7 +1,7 @@
 use Rattle.std.proofs.Common.{◌++◌, ◌<◌, ◌≤◌, length, string_bytes, ap, arith}
 use Rattle.std.proofs.lemmas.Result.{err_from_is_err_and}
 use Rattle.tclrules.proofs.Leading.{starve}
-use Rattle.tclreading.proofs.Leading.{sized_on, sized_stops}
+use Rattle.tclsubstitution.proofs.Leading.{sized_on, sized_stops}
 use Rattle.tclsubstitution.proofs.substitution.append_piece.Goals as goal
 
 pub returns-in_err-text : goal.returns-in_err-text

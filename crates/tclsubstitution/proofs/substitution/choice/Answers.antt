@@ -1,8 +1,8 @@
 use Rattle.std.proofs.Common.{◌≡◌, string_bytes, Ok, true, false, ap, ◌∙◌, arith}
 use Rattle.std.proofs.lemmas.Result.{err_from_is_err_and}
-use Rattle.tclrules.specs.Operators.{truth}
+use Rattle.tcloperators.specs.Operators.{truth}
 use Rattle.tclrules.proofs.Leading.{stay}
-use Rattle.tclreading.proofs.Leading.{given_stops}
+use Rattle.tclsubstitution.proofs.Leading.{given_stops}
 use Rattle.tclsubstitution.proofs.substitution.choice.Goals as goal
 
 pub returns-in_err-truth : goal.returns-in_err-truth

@@ -3,7 +3,7 @@ use Rattle.std.proofs.lemmas.Result.{err_from_is_err_and}
 use Rattle.tclexpr.specs.View.{expr_view}
 use Rattle.tclrules.proofs.Leading.{stay, continue_with, starve}
 use Rattle.tclsubstitution.specs.Machine.{range_text, bounds, stack_continuation}
-use Rattle.tclreading.proofs.Leading.{given_on, given_stops}
+use Rattle.tclsubstitution.proofs.Leading.{given_on, given_stops}
 use Rattle.tclsubstitution.proofs.Trees.{view-Operand, view-Unary, view-Binary, view-And, view-Or, view-Choice, on_top, less_more}
 use Rattle.tclsubstitution.proofs.substitution.expression.Goals as goal
 

@@ -2,7 +2,7 @@ use Rattle.std.proofs.Common.{◌<◌, ◌≤◌, length, string_bytes, arith, r
 use Rattle.std.proofs.lemmas.Result.{err_from_is_err_and}
 use Rattle.tclrules.proofs.Leading.{stay, starve}
 use Rattle.tclsubstitution.proofs.Trees.{on_top, less_more}
-use Rattle.tclreading.proofs.Leading.{given_stops, sized_on, sized_stops}
+use Rattle.tclsubstitution.proofs.Leading.{given_stops, sized_on, sized_stops}
 use Rattle.tclsubstitution.proofs.substitution.resume.Goals as goal
 
 pub read_element-requires-text-name : goal.read_element-requires-text-name

@@ -1,6 +1,5 @@
-use Rattle.std.proofs.Common.{◌≡◌, option_map, false, rules, tests}
+use Rattle.std.proofs.Common.{◌≡◌, option_map, false, rules, tests, ◌==◌}
 use Rattle.std.specs.List.{list_any}
-use Rattle.std.proofs.Common.{◌==◌}
 use Rattle.tclvariables.proofs.Plain.{plain_location, unindexed}
 use Rattle.tclvariables.proofs.location.plain_scalar.Goals as goal
 

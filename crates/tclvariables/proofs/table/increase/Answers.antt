@@ -1,7 +1,7 @@
 use Rattle.std.proofs.Common.{◌≡◌, ◌≤◌, Ok, length, w64, to_z, of_z, FitsSigned, ap, sym, ◌∙◌, arith, rules}
 use Rattle.std.proofs.lemmas.Int.{to_z-of_z}
 use Rattle.std.specs.Fmt.{signed_decimal}
-use Rattle.tclnumber.specs.declared.number.Numeral.TheVariants.{Whole}
+use Rattle.tclchars.specs.declared.number.Numeral.TheVariants.{Whole}
 use Rattle.tclvariables.proofs.Places.{set_at_place, lookup_at_place}
 use Rattle.tclvariables.proofs.table.increase.Goals as goal
 

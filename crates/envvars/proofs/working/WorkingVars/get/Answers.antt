@@ -1,7 +1,7 @@
 use Rattle.std.proofs.Common.{refl, ap, Some, None}
 use Rattle.std.specs.Option.{option_map}
 use Rattle.envvars.specs.Edited.{Edited}
-use Rattle.envtable.proofs.TableLemmas.{found_over}
+use Rattle.envvars.proofs.TableLemmas.{found_over}
 use Rattle.envvars.proofs.working.WorkingVars.get.Goals as goal
 
 pub returns-in-Some : goal.returns-in-Some

@@ -1,8 +1,8 @@
 use Rattle.std.proofs.Common.{ap, ◌∙◌, Some, string_bytes}
 use Rattle.std.specs.FinMap as finite
 use Rattle.envvars.specs.Edited.{Edited}
-use Rattle.envtable.proofs.EnvLemmas.{refused}
-use Rattle.envtable.proofs.TableLemmas.{kept_over, entered_over}
+use Rattle.envvars.proofs.EnvLemmas.{refused}
+use Rattle.envvars.proofs.TableLemmas.{kept_over, entered_over}
 use Rattle.envvars.proofs.working.WorkingVars.put.Goals as goal
 
 pub returns-in_err-write_value-clause-err : goal.returns-in_err-write_value-clause-err

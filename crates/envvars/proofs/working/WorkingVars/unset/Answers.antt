@@ -1,8 +1,8 @@
 use Rattle.std.proofs.Common.{ap, ◌∙◌, None}
 use Rattle.std.specs.FinMap as finite
 use Rattle.envvars.specs.Edited.{Edited}
-use Rattle.envtable.proofs.EnvLemmas.{refused}
-use Rattle.envtable.proofs.TableLemmas.{kept_over, entered_over}
+use Rattle.envvars.proofs.EnvLemmas.{refused}
+use Rattle.envvars.proofs.TableLemmas.{kept_over, entered_over}
 use Rattle.envvars.proofs.working.WorkingVars.unset.Goals as goal
 
 pub returns-in_err-write_entry-clause-err : goal.returns-in_err-write_entry-clause-err

@@ -1,6 +1,6 @@
 use Rattle.std.proofs.Common.{◌≡◌, Ok, map, ap, sym, subst, ◌∙◌}
 use Rattle.envvars.specs.Changes.{applied, new_values_in}
-use Rattle.modulerecords.specs.Effects.{effects}
+use Rattle.modulefile.specs.Effects.{effects}
 use Rattle.modulefile.specs.RecordViews.{mode_view, record_view}
 use Rattle.modulefile.specs.Answers.{records_in}
 use Rattle.modulerun.specs.Journals.{JournalState}

@@ -1,7 +1,7 @@
 use Rattle.std.proofs.Common.{◌≡◌, Option, Some, None, IfSome, ap, sym, ◌∙◌}
 use Rattle.std.specs.Option.{option_map}
 use Rattle.envvars.specs.Reasons.{EnvReason, bad_variable, reason_of}
-use Rattle.modulerecords.specs.Judgments.{bad_edit}
+use Rattle.modulefile.specs.Judgments.{bad_edit}
 use Rattle.modulefile.specs.Calls.{bad_record}
 use Rattle.modulefile.specs.RecordViews.{mode_view}
 use Rattle.modulefile.specs.Answers.{question_answer, not_done, value_shown}

@@ -2,12 +2,12 @@ use Rattle.std.proofs.lemmas.List.{take_all}
 use Rattle.std.proofs.Common.{◌≡◌, ◌≤◌, ◌++◌, ◌∷◌, [], length, map, option_map, string_bytes, take, Some, None, refl, sym, ap, ◌∙◌, append_assoc, append-nil, subst, arith, rules}
 use Rattle.std.proofs.lemmas.Result.{err_from_is_err_and}
 use Rattle.filetree.specs.Agreement.{InEachPair, is_device, listing_answer}
-use Rattle.candidates.proofs.FailureLemmas.{fails_then}
-use Rattle.candidates.proofs.VersionLemmas.{has}
+use Rattle.search.proofs.CandidateFailures.{fails_then}
+use Rattle.search.proofs.VersionLemmas.{has}
 use Rattle.search.specs.ListingEntries.{listing_entry_view}
-use Rattle.candidates.specs.BelowFolder.{folder_path, names_in, parts_of, IsUnder, IsInside, AreAmong, HasAllFolders}
+use Rattle.search.specs.BelowFolder.{folder_path, names_in, parts_of, IsUnder, IsInside, AreAmong, HasAllFolders}
 use Rattle.search.specs.Walks.{AreListingEntries, LooksFromFolder}
-use Rattle.candidates.proofs.UnderLemmas.{none_under, deep_under}
+use Rattle.search.proofs.UnderLemmas.{none_under, deep_under}
 use Rattle.search.proofs.RowLemmas.{rows_none}
 use Rattle.search.proofs.WalkLemmas.{deeper, rows_begun, rows_more, one_more}
 use Rattle.search.proofs.FolderLemmas.{read_among, rows_ended}

@@ -3,7 +3,7 @@ use Rattle.filetree.specs.Agreement.{InEachPair, ReadsOn}
 use Rattle.search.specs.Listed as listed
 use Rattle.search.specs.ListingEntries.{listing_entry_view}
 use Rattle.search.specs.Walks.{AreListingEntries}
-use Rattle.candidates.specs.BelowFolder.{IsInside, names_in}
+use Rattle.search.specs.BelowFolder.{IsInside, names_in}
 use Rattle.search.proofs.folders.Walk.+list_folder.Given as goal
 
 abbrev pub decreases-list_folder : goal.decreases-list_folder

@@ -1,9 +1,9 @@
 use Rattle.std.proofs.Common.{map, vec_len, option_map, string_bytes, refl, sym, subst}
 use Rattle.std.proofs.lemmas.Result.{err_from_is_err_and}
 use Rattle.filetree.specs.Agreement.{InEachPair, is_device}
-use Rattle.candidates.proofs.FailureLemmas.{fails_then}
+use Rattle.search.proofs.CandidateFailures.{fails_then}
 use Rattle.search.specs.ListingEntries.{listing_entry_of}
-use Rattle.candidates.specs.BelowFolder.{LooksAmong}
+use Rattle.search.specs.BelowFolder.{LooksAmong}
 use Rattle.search.specs.Walks.{IsDefaultOf, LooksForDefault, LooksFromFolder}
 use Rattle.search.proofs.FileLemmas.{files_made}
 use Rattle.search.proofs.ListingLookLemmas.{looks_among, looks_at_default, some_seen}

@@ -1,8 +1,0 @@
--- What the code has of its arguments, in the definitions (own).
-use Rattle.envvars.specs.Texts.{texts_in}
-use Rattle.auditcommand.specs.Arguments as arguments
-use Rattle.auditcommand.specs.declared.arguments.Wanted.{Wanted}
-
--- what is asked for
-abbrev pub wanted_view : Wanted → arguments.Wanted
-wanted_view w = record { selection = w.selection; format = w.format; directories = texts_in w.directories }

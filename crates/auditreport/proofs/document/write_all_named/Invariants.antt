@@ -1,6 +1,0 @@
-use Rattle.std.proofs.Common.{flat_map, take}
-use Rattle.auditreport.specs.Tokens.{AddsTokens, named_tokens}
-use Rattle.auditreport.proofs.document.write_all_named.Given as goal
-
-abbrev pub invariant-loop-module : goal.invariant-loop-module
-invariant-loop-module l = AddsTokens l.initial.writer l.writer (flat_map (named_tokens l.selection) (take l.module-index l.modules))

@@ -1,8 +1,0 @@
-use Rattle.std.proofs.Common.{◌≡◌, ◌++◌, drop, map, option_map, string_bytes}
-use Rattle.candidates.specs.BelowFolder.{names_in}
-use Rattle.candidates.proofs.names.names_in.Given as goal
-
-abbrev pub invariant-loop-entry : goal.invariant-loop-entry
-invariant-loop-entry l =
-    names_in (option_map (λ f. f.now) l.prefix) (map string_bytes l.entries)
-    ≡ map string_bytes l.names.items ++ names_in (option_map (λ f. f.now) l.prefix) (map string_bytes (drop l.entry-index l.entries))

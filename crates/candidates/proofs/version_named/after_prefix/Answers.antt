@@ -1,5 +1,0 @@
-use Rattle.candidates.proofs.VersionNamedLemmas.{stripped}
-use Rattle.candidates.proofs.version_named.after_prefix.Goals as goal
-
-pub returns : goal.returns
-returns c = stripped _ _ _ c.strip_prefix.ensures.cases

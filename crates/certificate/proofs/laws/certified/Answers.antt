@@ -1,5 +1,0 @@
-use Rattle.certificate.proofs.Exact.{certified_are_exact}
-use Rattle.certificate.proofs.laws.certified.Goals as goal
-
-pub returns : goal.returns
-returns c = certified_are_exact

@@ -1,4 +1,0 @@
-pub mod DefaultFileResults
-pub mod OneResult
--- for this crate's own contracts alone
-pub mod CommandAnswers

@@ -1,0 +1,12 @@
+use Rattle.envvars.specs.Texts.{slice_texts}
+use Rattle.envvars.specs.Fields.{are_distinct}
+use Rattle.envloaded.proofs.LoadedReading.{fit_is, no_fit, ok_fit}
+use Rattle.envloaded.proofs.list.are_consistent.Goals as goal
+
+pub returns-then-not-are_well_spelled : goal.returns-then-not-are_well_spelled
+returns-then-not-are_well_spelled c =
+    no_fit c.are_well_spelled.result (are_distinct (slice_texts c.args.names.now)) _ (fit_is c.args.names.now c.args.files.now c.are_well_spelled.result c.are_well_spelled.ensures) c.if-not-are_well_spelled.true
+
+pub returns : goal.returns
+returns c =
+    ok_fit c.are_distinct.result c.are_well_spelled.result _ _ (fit_is c.args.names.now c.args.files.now c.are_well_spelled.result c.are_well_spelled.ensures) c.if-not-are_well_spelled.false c.are_distinct.ensures

@@ -1,9 +1,0 @@
-pub mod TextLemmas
-pub mod EntryLemmas
-pub mod EnvLemmas
-pub mod GivenLemmas
-pub mod TableLemmas
-pub mod ChangeLemmas
-pub mod FieldLemmas
-pub mod EscapeLemmas
-pub mod EditLemmas

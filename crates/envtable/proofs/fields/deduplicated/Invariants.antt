@@ -1,9 +1,0 @@
-use Rattle.std.proofs.Common.{◌≡◌, ◌++◌, drop, not}
-use Rattle.std.specs.Prelude.{filter}
-use Rattle.envtable.specs.Texts.{has, slice_texts}
-use Rattle.envtable.specs.Fields.{without_repeats}
-use Rattle.envtable.proofs.fields.deduplicated.Given as goal
-
--- those so far, and of the rest those that are new
-abbrev pub invariant-loop-text : goal.invariant-loop-text
-invariant-loop-text l = slice_texts l.done.keys ++ filter (λ y. not (has y (slice_texts l.done.keys))) (without_repeats (slice_texts (drop l.text-index l.texts))) ≡ without_repeats (slice_texts l.texts)

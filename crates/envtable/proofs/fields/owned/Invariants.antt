@@ -1,6 +1,0 @@
-use Rattle.std.proofs.Common.{◌≡◌, map, string_bytes, take}
-use Rattle.envtable.specs.Texts.{slice_texts}
-use Rattle.envtable.proofs.fields.owned.Given as goal
-
-abbrev pub invariant-loop-text : goal.invariant-loop-text
-invariant-loop-text l = map string_bytes l.owned.items ≡ slice_texts (take l.text-index l.texts)

@@ -1,8 +1,0 @@
-use Rattle.envtable.proofs.EnvLemmas.{lookup-with_value, same_environment}
-use Rattle.envtable.proofs.laws.variables.Goals as goal
-
-pub returns-clause-written : goal.returns-clause-written
-returns-clause-written c = lookup-with_value
-
-pub returns-clause-same : goal.returns-clause-same
-returns-clause-same c = same_environment

@@ -1,8 +1,0 @@
-use Rattle.std.proofs.Common.{◌≡◌, ◌++◌}
-use Rattle.envtable.specs.Texts.{slice_texts}
-use Rattle.envtable.specs.Tables.{names_of}
-use Rattle.envtable.proofs.table.push_names_of.Given as goal
-
--- the names so far, and those that are left
-abbrev pub invariant-loop-name : goal.invariant-loop-name
-invariant-loop-name l = slice_texts l.names.items ++ names_of l.name-iterator ≡ slice_texts l.fn.names.items ++ names_of l.table.entries

@@ -1,3 +1,0 @@
-pub mod RecordLemmas
-pub mod Effected
-pub mod Moved

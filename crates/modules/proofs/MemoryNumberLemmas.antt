@@ -1,0 +1,30 @@
+-- The number of want of memory.
+use Rattle.std.proofs.Common.{◌≡◌, ℕ, true, [], ◌∷◌, Result, Ok, Err, IfErr, refl}
+use Rattle.std.specs.Prelude.{◌==◌}
+use Rattle.std.specs.List.{list_any}
+use Rattle.modulerun.specs.declared.run_fault.RunFault.TheVariants.{OutOfMemory, Eval, BadArguments, BadRecord}
+use Rattle.modules.specs.Messages.{MemoryNumberAmong, memory_number}
+use Rattle.modules.specs.declared.refusal.Refusal.{Refusal}
+use Rattle.modules.specs.declared.refusal.Refusal.TheVariants as refusals
+
+-- what holds of the three numbers holds of it
+pub of_three : (refusal : Refusal) (P : ℕ → Type 0) → P 11 → P 31 → P 41 → P (memory_number refusal)
+of_three refusals.OutOfMemory P evaluation own search = own
+of_three (refusals.Run OutOfMemory) P evaluation own search = own
+of_three (refusals.Run (Eval fault)) P evaluation own search = evaluation
+of_three (refusals.Run BadArguments) P evaluation own search = own
+of_three (refusals.Run (BadRecord fault)) P evaluation own search = own
+of_three (refusals.Find fault) P evaluation own search = search
+of_three (refusals.Env fault) P evaluation own search = own
+of_three refusals.BadArguments P evaluation own search = own
+of_three (refusals.UnknownSubcommand word) P evaluation own search = own
+of_three (refusals.ConflictWith name) P evaluation own search = own
+of_three (refusals.PrereqMissing missing) P evaluation own search = own
+of_three (refusals.StillNeededBy name) P evaluation own search = own
+of_three (refusals.FileGone path) P evaluation own search = own
+of_three (refusals.NotAModulefile path) P evaluation own search = own
+
+-- where files are searched for and evaluated, each of them can be
+pub wants_any : {X : Type 0} (r : Result X Refusal) → IfErr r (MemoryNumberAmong (11 ∷ 31 ∷ 41 ∷ []))
+wants_any (Ok x) = tt
+wants_any (Err refusal) = of_three refusal (λ n. list_any (λ m. m == n) (11 ∷ 31 ∷ 41 ∷ []) ≡ true) refl refl refl

@@ -1,0 +1,173 @@
+//! Why a request is refused, with the number and the text of each refusal.
+ghost use Rattle.std.specs.Prelude.{◌≡◌, Some};
+ghost use Rattle.message.specs.Messages.{text_of};
+ghost use Rattle.modules.specs.declared.refusal.Refusal.TheVariants as refusals;
+ghost use Rattle.modulerun.specs.Running.{file_reason_of};
+ghost use Rattle.requests.specs.Reasons.{file_refused};
+ghost use Rattle.modules.specs.Answers.{by_reason, refused_read, refused_words};
+ghost use Rattle.modules.specs.Messages.{number_by, number_of, message_of, run_memory_number};
+
+use crate::missing::MissingNames;
+use envvars::EnvFault;
+use filetree::{FindFault, TreeFault};
+use message::{Message, out_of_memory};
+use modulerun::RunFault;
+use requests::RequestFault;
+use std::alloc::{AllocError, AllocFailed};
+use std::error::Error;
+use std::fmt;
+use std::fmt::Display;
+
+/// Why a request is refused. Its `Display` is what follows `ERROR: `.
+#[derive(Debug, Drop)]
+pub enum Refusal {
+    /// 31: memory ran out.
+    OutOfMemory,
+    /// 2 to 37, 44 and 56, by its cause: a modulefile is refused.
+    Run(RunFault),
+    /// 41 to 46: no modulefile is found, or it can't be read.
+    Find(FindFault),
+    /// 31 to 37: an edit of the environment is refused.
+    Env(EnvFault),
+    /// 56: the words don't fit the subcommand, or there is none.
+    BadArguments,
+    /// 57: no subcommand has this name.
+    UnknownSubcommand(String),
+    /// 51: the module and this loaded one are in conflict.
+    ConflictWith(String),
+    /// 52: none of these is loaded.
+    PrereqMissing(MissingNames),
+    /// 53: this module would lose what it needs.
+    StillNeededBy(String),
+    /// 54: no file is at the path of a loaded module.
+    FileGone(String),
+    /// 55: the file at the path of a loaded module is no modulefile.
+    NotAModulefile(String),
+}
+
+/// The number of a modulefile's fault, as the refusal of a request.
+fn run_number(fault: &RunFault) -> u16
+    ensures { result ≡ number_by (run_memory_number fault.now) (by_reason file_refused (file_reason_of fault.now)) }
+{
+    fault.number()
+}
+
+impl Refusal {
+    /// The number of the refusal: that of its reason, or 43 for a failed device, or for want of memory 11 in the
+    /// evaluation of a file, 41 in the search, and else 31.
+    pub fn number(&self) -> u16
+        ensures { result ≡ number_of self.now }
+    {
+        match self {
+            Refusal::OutOfMemory => 31,
+            Refusal::Run(fault) => run_number(fault),
+            Refusal::Find(fault) => fault.number(),
+            Refusal::Env(fault) => fault.number(),
+            Refusal::BadArguments => 56,
+            Refusal::UnknownSubcommand(_) => 57,
+            Refusal::ConflictWith(_) => 51,
+            Refusal::PrereqMissing(_) => 52,
+            Refusal::StillNeededBy(_) => 53,
+            Refusal::FileGone(_) => 54,
+            Refusal::NotAModulefile(_) => 55,
+        }
+    }
+
+    /// The text of the refusal.
+    pub fn message(&self) -> Message<'_>
+        ensures { text_of result ≡ message_of self.now }
+    {
+        match self {
+            Refusal::OutOfMemory => out_of_memory(),
+            Refusal::Run(fault) => fault.message(),
+            Refusal::Find(fault) => fault.message(),
+            Refusal::Env(fault) => fault.message(),
+            Refusal::BadArguments => Message::of_text("Bad arguments"),
+            Refusal::UnknownSubcommand(word) => {
+                Message::quoting("Unknown subcommand '", word.as_str())
+            }
+            Refusal::ConflictWith(name) => Message::quoting("Conflict with '", name.as_str()),
+            Refusal::PrereqMissing(missing) => {
+                Message::quoting("Missing one of '", missing.text())
+            }
+            Refusal::StillNeededBy(name) => Message::quoting("Still needed by '", name.as_str()),
+            Refusal::FileGone(path) => Message::quoting("No file at '", path.as_str()),
+            Refusal::NotAModulefile(path) => {
+                Message::quoting("Not a modulefile: '", path.as_str())
+            }
+        }
+    }
+}
+
+impl fmt::Display for Refusal {
+    ghost output = { λ refusal. Some (message_of refusal) };
+
+    fn fmt<W: fmt::Write>(&self, f: &mut fmt::Formatter<W>) -> fmt::Result {
+        self.message().fmt(f)
+    }
+}
+
+impl Error for Refusal {}
+
+impl From<AllocError> for Refusal {
+    ghost from_gives = { λ _ e. e ≡ refusals.OutOfMemory };
+
+    fn from(_e: AllocError) -> Refusal {
+        Refusal::OutOfMemory
+    }
+}
+
+impl<T: Drop> From<AllocFailed<T>> for Refusal {
+    ghost from_gives = { λ _ e. e ≡ refusals.OutOfMemory };
+
+    fn from(_e: AllocFailed<T>) -> Refusal {
+        Refusal::OutOfMemory
+    }
+}
+
+impl From<RunFault> for Refusal {
+    ghost from_gives = { λ fault e. e ≡ refusals.Run fault };
+
+    fn from(fault: RunFault) -> Refusal {
+        Refusal::Run(fault)
+    }
+}
+
+impl From<FindFault> for Refusal {
+    ghost from_gives = { λ fault e. e ≡ refusals.Find fault };
+
+    fn from(fault: FindFault) -> Refusal {
+        Refusal::Find(fault)
+    }
+}
+
+impl From<EnvFault> for Refusal {
+    ghost from_gives = { λ fault e. e ≡ refusals.Env fault };
+
+    fn from(fault: EnvFault) -> Refusal {
+        Refusal::Env(fault)
+    }
+}
+
+impl From<RequestFault> for Refusal {
+    ghost from_gives = { λ fault e. e ≡ refused_words fault };
+
+    fn from(fault: RequestFault) -> Refusal {
+        match fault {
+            RequestFault::OutOfMemory => Refusal::OutOfMemory,
+            RequestFault::BadArguments => Refusal::BadArguments,
+            RequestFault::UnknownSubcommand(word) => Refusal::UnknownSubcommand(word),
+        }
+    }
+}
+
+impl From<TreeFault> for Refusal {
+    ghost from_gives = { λ fault e. e ≡ refused_read fault };
+
+    fn from(fault: TreeFault) -> Refusal {
+        match fault {
+            TreeFault::OutOfMemory => Refusal::Find(FindFault::OutOfMemory),
+            TreeFault::Device => Refusal::Find(FindFault::Device),
+        }
+    }
+}

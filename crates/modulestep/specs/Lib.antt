@@ -1,9 +1,0 @@
--- How the values and answers of the program show what the definitions in requests say.
-pub mod MoveViews
-pub mod Views
-pub mod Answers
-pub mod Spaced
-pub mod Messages
-pub mod Verdicts
--- for this crate's own contracts, and those of requeststep
-pub mod Parts

@@ -1,2 +1,0 @@
--- Handed on, so that a caller need not name the crate below.
-pub use Rattle.envpaths.specs.PathOrder

@@ -1,7 +1,0 @@
-pub mod Paths
-pub mod Counters
-pub mod PathTexts
-pub mod Tables
-pub mod PathVariables
-pub mod PathRuns
-pub mod PathEdits

@@ -1,0 +1,111 @@
+//! The directories that evaluated modules add to those of a site.
+ghost use Rattle.std.specs.Prelude.{◌≡◌, map, flat_map, Ok, OnOk, string_bytes};
+ghost use Rattle.filetree.specs.Modulefiles.{directories};
+ghost use Rattle.modulefile.specs.RecordViews.{record_view};
+ghost use Rattle.sitelaws.specs.Sites.{directories_in, directories_by, added_directories};
+ghost use Rattle.sitelaws.specs.DirectorySets.{with_directories};
+ghost use Rattle.siteaudit.specs.WalkParts.{directories_after, directories_found};
+
+use crate::plain::is_plain;
+use crate::walk::Evaluation;
+use modulefile::{PathEdit, Record};
+use modulerun::Ran;
+use sitelaws::directories::{Directories, push_directories};
+use std::alloc::{AllocError, Global};
+
+/// Adds the directories in each of these texts.
+fn push_each(alloc: Global, dirs: &mut Directories, elements: &[String]) -> Result<(), AllocError>
+    ensures { OnOk result (map string_bytes dirs.new.keys
+        ≡ with_directories (map string_bytes dirs.old.keys) (flat_map directories (map string_bytes elements.now))) }
+{
+    for element in elements {
+        push_directories(alloc, dirs, element.as_str())?;
+    }
+    Ok(())
+}
+
+/// Adds the directories in elements that are added to a variable, if it is MODULEPATH.
+fn push_elements(
+    alloc: Global,
+    dirs: &mut Directories,
+    variable: &str,
+    elements: &[String],
+) -> Result<(), AllocError>
+    ensures { OnOk result (map string_bytes dirs.new.keys
+        ≡ with_directories (map string_bytes dirs.old.keys) (directories_in variable.now (map string_bytes elements.now))) }
+{
+    if variable == "MODULEPATH" {
+        push_each(alloc, dirs, elements)
+    } else {
+        Ok(())
+    }
+}
+
+/// Adds the directories that a record adds to MODULEPATH.
+fn push_recorded(alloc: Global, dirs: &mut Directories, recorded: &Record) -> Result<(), AllocError>
+    ensures { OnOk result (map string_bytes dirs.new.keys
+        ≡ with_directories (map string_bytes dirs.old.keys) (directories_by (record_view recorded.now))) }
+{
+    match recorded {
+        Record::Path {
+            edit: PathEdit::Front | PathEdit::Back,
+            var,
+            elements,
+            ..
+        } => push_elements(alloc, dirs, var.as_str(), elements.as_slice()),
+        _ => Ok(()),
+    }
+}
+
+/// Adds the directories that records add to MODULEPATH.
+fn push_added(alloc: Global, dirs: &mut Directories, records: &[Record]) -> Result<(), AllocError>
+    ensures { OnOk result (map string_bytes dirs.new.keys
+        ≡ with_directories (map string_bytes dirs.old.keys) (added_directories (map record_view records.now))) }
+{
+    for recorded in records {
+        push_recorded(alloc, dirs, recorded)?;
+    }
+    Ok(())
+}
+
+/// Adds the directories that a file adds whose evaluation left this, if its module is plain.
+fn push_plain(alloc: Global, dirs: &mut Directories, ran: &Ran) -> Result<(), AllocError>
+    ensures { OnOk result (map string_bytes dirs.new.keys
+        ≡ with_directories (map string_bytes dirs.old.keys) (directories_after (Ok ran.now))) }
+{
+    if is_plain(ran) {
+        push_added(alloc, dirs, ran.records.as_slice())
+    } else {
+        Ok(())
+    }
+}
+
+/// Adds the directories that an evaluated module adds.
+fn push_evaluated(
+    alloc: Global,
+    dirs: &mut Directories,
+    evaluation: &Evaluation,
+) -> Result<(), AllocError>
+    ensures { OnOk result (map string_bytes dirs.new.keys
+        ≡ with_directories (map string_bytes dirs.old.keys) (directories_after evaluation.now.outcome)) }
+{
+    match &evaluation.outcome {
+        Ok(ran) => push_plain(alloc, dirs, ran),
+        Err(_) => Ok(()),
+    }
+}
+
+/// Adds the directories that the evaluated modules add, in their order.
+pub(crate) fn push_found(
+    alloc: Global,
+    dirs: &mut Directories,
+    evaluations: &[Evaluation],
+) -> Result<(), AllocError>
+    ensures { OnOk result (map string_bytes dirs.new.keys
+        ≡ with_directories (map string_bytes dirs.old.keys) (directories_found evaluations.now)) }
+{
+    for evaluation in evaluations {
+        push_evaluated(alloc, dirs, evaluation)?;
+    }
+    Ok(())
+}

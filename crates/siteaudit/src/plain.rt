@@ -1,0 +1,13 @@
+//! Which evaluations are those of plain modules: they asked nothing, and unloading undoes what they leave.
+ghost use Rattle.std.specs.Prelude.{◌≡◌};
+ghost use Rattle.siteaudit.specs.WalkParts.{is_plain_ran};
+
+use modulerun::Ran;
+use modules::are_reversible;
+
+/// Whether a file whose evaluation left this is that of a plain module.
+pub(crate) fn is_plain(ran: &Ran) -> bool
+    ensures { result ≡ is_plain_ran ran.now }
+{
+    !ran.asked && are_reversible(ran.records.as_slice())
+}

@@ -1,0 +1,158 @@
+//! Each directory of a site once, in the order in which they are found, and each module in them, evaluated once.
+ghost use Rattle.std.specs.Prelude.{◌≡◌, ◌<◌, [], ◌∷◌, IfOk, IfErr, OnOk, map, string_bytes};
+ghost use Rattle.filetree.specs.Agreement.{FailsWhere, InEachPair, ReadsOn};
+ghost use Rattle.filetree.specs.Modulefiles.{directories};
+ghost use Rattle.modules.specs.Answers as steps;
+ghost use Rattle.requests.specs.Steps.{modulepath as modulepath_of};
+ghost use Rattle.sitelaws.specs.Sites.{site_of};
+ghost use Rattle.siteaudit.specs.LookedAtWalk.{DirectoryLooksAt, WalkLooksAt, is_failure};
+ghost use Rattle.siteaudit.specs.Walks.{IsWalkAnswer, HasCause};
+ghost use Rattle.siteaudit.specs.WalkParts.{HasLoaded, GivesUp, GoesThrough};
+
+use crate::below::evaluate_below;
+use crate::directories::push_found;
+use crate::fault::WalkFault;
+use crate::files::{SiteSettings, loaded_names};
+use crate::progress::Progress;
+use envvars::{Env, Vars};
+use filetree::Tree;
+use indexmap::IndexSet;
+use modulerun::Ran;
+use modules::Refusal;
+use sitelaws::directories::{Directories, directory_at, in_order, push_directories};
+use std::alloc::Global;
+use tclrules::Limits;
+
+/// The most directories that a walk goes through. A module may add its own directory under ever longer spellings, so
+/// that a site can have more than any number of them.
+pub const MAX_DIRECTORIES: usize = 65_536;
+
+/// A module of a site, with what the evaluation of its file leaves, or why that is refused.
+#[derive(Drop)]
+pub struct Evaluation {
+    /// The module's full name, as `foo/1.0`.
+    pub name: String,
+    /// The path of its file.
+    pub path: String,
+    /// What its evaluation leaves, or why it is refused.
+    pub outcome: Result<Ran, Refusal>,
+}
+
+/// What a walk over a site finds.
+#[derive(Drop)]
+pub struct Walk {
+    /// The directories of the site, each once: those of MODULEPATH, and then those that its modules add, as they are
+    /// found.
+    pub directories: Vec<String>,
+    /// The modules in each directory in turn, in the order of `avail`.
+    pub evaluations: Vec<Evaluation>,
+}
+
+/// MODULEPATH, or the empty text where it is unset.
+fn modulepath(env: &Env) -> &str
+    ensures { result.now ≡ modulepath_of env.now }
+{
+    match env.get("MODULEPATH") {
+        None => "",
+        Some(text) => text,
+    }
+}
+
+/// Evaluates each module below a directory, and adds to the directories those that the plain ones add.
+///
+/// Errors: a device that failed; want of memory.
+fn walk_directory<T: Tree, P: Progress>(
+    settings: SiteSettings<'_>,
+    tree: &mut T,
+    dir: &str,
+    dirs: &mut Directories,
+    evaluations: &mut Vec<Evaluation>,
+    progress: &mut P,
+) -> Result<(), Refusal>
+    requires { HasLoaded settings.env.now (map string_bytes settings.loaded.now) }
+    ensures reads { ReadsOn T.agrees T.failures tree.old tree.new }
+    ensures walked { directories dir.now ≡ dir.now ∷ [] → OnOk result (InEachPair (T.agrees tree.new) (λ files listings.
+        GoesThrough (site_of settings.entry.limits settings.entry.env.now files listings) dir.now
+        (map string_bytes dirs.old.keys) (map string_bytes dirs.new.keys) evaluations.old.items evaluations.new.items)) }
+    ensures cause { IfErr result (GivesUp (T.failures tree.old < T.failures tree.new)) }
+    ensures failed { FailsWhere steps.is_failure T.agrees T.failed tree.old tree.new result (λ files listings at.
+        directories dir.now ≡ dir.now ∷ []
+        → DirectoryLooksAt (site_of settings.entry.limits settings.entry.env.now files listings) dir.now at) }
+{
+    let mut below = evaluate_below(settings, tree, dir, evaluations.len(), progress)?;
+    push_found(settings.alloc, dirs, below.as_slice())?;
+    evaluations.append(&mut below)?;
+    Ok(())
+}
+
+/// Walks over the site of a MODULEPATH.
+fn walk_from<T: Tree, P: Progress>(
+    settings: SiteSettings<'_>,
+    tree: &mut T,
+    modulepath: &str,
+    progress: &mut P,
+) -> Result<Walk, WalkFault>
+    requires loaded { HasLoaded settings.env.now (map string_bytes settings.loaded.now) }
+    requires begins { modulepath.now ≡ modulepath_of settings.env.now }
+    ensures reads { ReadsOn T.agrees T.failures tree.old tree.new }
+    ensures walked { IfOk result (λ found. InEachPair (T.agrees tree.new) (λ files listings.
+        IsWalkAnswer (site_of settings.entry.limits settings.entry.env.now files listings) found)) }
+    ensures cause { IfErr result (HasCause (T.agrees tree.new) (T.failures tree.old < T.failures tree.new)
+        settings.entry.limits settings.entry.env.now) }
+    ensures failed { FailsWhere is_failure T.agrees T.failed tree.old tree.new result (λ files listings.
+        WalkLooksAt (site_of settings.entry.limits settings.entry.env.now files listings)) }
+{
+    sitelaws::laws::walks();
+    modulefile::files();
+    let mut dirs = IndexSet::new(settings.alloc);
+    let mut evaluations = Vec::new(settings.alloc);
+    push_directories(settings.alloc, &mut dirs, modulepath)?;
+    let mut place = 0;
+    while let Some(dir) = directory_at(settings.alloc, &dirs, place)? {
+        if dirs.len() > MAX_DIRECTORIES {
+            return Err(WalkFault::TooManyDirectories);
+        }
+        walk_directory(
+            settings,
+            tree,
+            dir.as_str(),
+            &mut dirs,
+            &mut evaluations,
+            progress,
+        )?;
+        place += 1;
+    }
+    Ok(Walk {
+        directories: in_order(settings.alloc, dirs)?,
+        evaluations,
+    })
+}
+
+/// Walks over a site, that of the MODULEPATH of an environment over a tree and within limits: each file is evaluated
+/// once, for loading, in sh, in that environment, which doesn't change.
+///
+/// Errors: loaded lists that don't fit together (35); a device that failed in this call, at a path that the walk looks at
+/// (43); want of memory (11, 31, 41); more than `MAX_DIRECTORIES` directories.
+pub fn walk_site<T: Tree, P: Progress>(
+    alloc: Global,
+    env: &Env,
+    tree: &mut T,
+    limits: Limits,
+    progress: &mut P,
+) -> Result<Walk, WalkFault>
+    ensures reads { ReadsOn T.agrees T.failures tree.old tree.new }
+    ensures walked { IfOk result (λ found. InEachPair (T.agrees tree.new) (λ files listings.
+        IsWalkAnswer (site_of limits env.now files listings) found)) }
+    ensures cause { IfErr result (HasCause (T.agrees tree.new) (T.failures tree.old < T.failures tree.new) limits env.now) }
+    ensures failed { FailsWhere is_failure T.agrees T.failed tree.old tree.new result (λ files listings.
+        WalkLooksAt (site_of limits env.now files listings)) }
+{
+    let loaded = loaded_names(alloc, env)?;
+    let settings = SiteSettings {
+        alloc,
+        env,
+        limits,
+        loaded: loaded.as_slice(),
+    };
+    walk_from(settings, tree, modulepath(env), progress)
+}

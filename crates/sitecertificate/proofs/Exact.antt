@@ -1,0 +1,204 @@
+-- The tests are those of the definitions.
+use Rattle.std.proofs.Common.{◌≡◌, Bool, true, false, cond, not, ◌&&◌, ◌||◌, List, [], ◌∷◌, filter, refl, sym, ap, ◌∙◌, subst, Option, Some, None, inl, inr}
+use Rattle.std.specs.Prelude.{bytes_eq}
+use Rattle.std.specs.List.{list_all, list_any}
+use Rattle.std.specs.Option.{option_eq}
+use Rattle.std.proofs.lemmas.Bool.{false≢true, eqb-true, eq-eqb, and_parts, and_from, or_cases, not-true, not_from_false, false_from_ne_true}
+use Rattle.envvars.specs.Texts.{Text}
+use Rattle.envvars.specs.Fields.{colon}
+use Rattle.envvars.proofs.TextLemmas.{same_text, bytes_eq-same}
+use Rattle.modulefile.specs.Records.{Record}
+use Rattle.modulefile.specs.Moves.{Module}
+use Rattle.reversal.specs.VariableUses.{VariableUse, Untouched, Fixed, Pathed, Stacked, is_reversible}
+use Rattle.sitecertificate.specs.RecordUses.{UsedVariable, used_by, IsAmong, Uses, modulepath, AreInStep, IsInStep, same_use, use_alike, are_in_step, is_in_step}
+use Rattle.sitecertificate.specs.Clashes.{exclude, uses_clash, Clash, do_clash}
+use Rattle.sitecertificate.specs.Certificates.{is_other, IsCertified, clashes_among, certified}
+use Rattle.sitecertificate.specs.Laws.{CertifiedAreExact}
+use Rattle.sitecertificate.proofs.UsedLemmas.{by_test, by_cases}
+
+-- tests of lists
+
+pub all_each : {X : Type 0} (p : X → Bool) (xs : List X) → list_all p xs ≡ true → (x : X) → IsAmong x xs → p x ≡ true
+all_each p [] h x a = absurd a
+all_each p (y ∷ xs) h x (inl e) = ap p e ∙ (and_parts (p y) (list_all p xs) h).0
+all_each p (y ∷ xs) h x (inr a) = all_each p xs (and_parts (p y) (list_all p xs) h).1 x a
+
+each_all : {X : Type 0} (p : X → Bool) (xs : List X) → ((x : X) → IsAmong x xs → p x ≡ true) → list_all p xs ≡ true
+each_all p [] h = refl
+each_all p (y ∷ xs) h = and_from (p y) (list_all p xs) (h y (inl refl)) (each_all p xs (λ x a. h x (inr a)))
+
+pub any_some : {X : Type 0} (p : X → Bool) (xs : List X) → list_any p xs ≡ true → (x : X) × IsAmong x xs × (p x ≡ true)
+any_some p [] h = absurd (false≢true h)
+any_some p (y ∷ xs) h = by_cases (or_cases (p y) (list_any p xs) h)
+    (λ t. (y, inl refl, t))
+    (λ t. let i = any_some p xs t in (i.0, inr i.1, i.2))
+
+pub some_any : {X : Type 0} (p : X → Bool) (xs : List X) (x : X) → IsAmong x xs → p x ≡ true → list_any p xs ≡ true
+some_any p [] x a h = absurd a
+some_any p (y ∷ xs) x (inl e) h = let t : p y ≡ true = ap p (sym e) ∙ h in rw t refl
+some_any p (y ∷ xs) x (inr a) h = or_true (p y) (list_any p xs) (some_any p xs x a h)
+  where
+    or_true : (c d : Bool) → d ≡ true → (c || d) ≡ true
+    or_true true d k = refl
+    or_true false d k = k
+
+pub filtered : {X : Type 0} (p : X → Bool) (xs : List X) (x : X) → IsAmong x (filter p xs) → IsAmong x xs × (p x ≡ true)
+filtered p [] x a = absurd a
+filtered p (y ∷ xs) x a = by_test (p y) _
+    (λ t. by_cases (subst (λ (b : Bool). IsAmong x (cond b (y ∷ filter p xs) (filter p xs))) t a)
+    (λ e. (inl e, ap p e ∙ t))
+    (λ k. let i = filtered p xs x k in (inr i.0, i.1)))
+    (λ t. let i = filtered p xs x (subst (λ (b : Bool). IsAmong x (cond b (y ∷ filter p xs) (filter p xs))) t a) in (inr i.0, i.1))
+
+pub in_filter : {X : Type 0} (p : X → Bool) (xs : List X) (x : X) → IsAmong x xs → p x ≡ true → IsAmong x (filter p xs)
+in_filter p [] x a h = absurd a
+in_filter p (y ∷ xs) x (inl e) h = subst (λ (b : Bool). IsAmong x (cond b (y ∷ filter p xs) (filter p xs))) (sym (ap p (sym e) ∙ h)) (inl e)
+in_filter p (y ∷ xs) x (inr a) h = more (p y) (in_filter p xs x a h)
+  where
+    more : (b : Bool) → IsAmong x (filter p xs) → IsAmong x (cond b (y ∷ filter p xs) (filter p xs))
+    more true k = inr k
+    more false k = k
+
+-- uses
+
+option_same : (x y : Option Text) → option_eq bytes_eq x y ≡ true → x ≡ y
+option_same None None h = refl
+option_same None (Some y) h = absurd (false≢true h)
+option_same (Some x) None h = absurd (false≢true h)
+option_same (Some x) (Some y) h = ap (λ (t : Text). Some t) (same_text x y h)
+
+option_itself : (x : Option Text) → option_eq bytes_eq x x ≡ true
+option_itself None = refl
+option_itself (Some x) = bytes_eq-same x
+
+pub use_same : (x y : VariableUse) → same_use x y ≡ true → x ≡ y
+use_same Untouched Untouched h = refl
+use_same Untouched (Fixed a) h = absurd (false≢true h)
+use_same Untouched (Pathed a) h = absurd (false≢true h)
+use_same Untouched Stacked h = absurd (false≢true h)
+use_same (Fixed a) Untouched h = absurd (false≢true h)
+use_same (Fixed a) (Fixed b) h = ap Fixed (option_same a b h)
+use_same (Fixed a) (Pathed b) h = absurd (false≢true h)
+use_same (Fixed a) Stacked h = absurd (false≢true h)
+use_same (Pathed a) Untouched h = absurd (false≢true h)
+use_same (Pathed a) (Fixed b) h = absurd (false≢true h)
+use_same (Pathed a) (Pathed b) h = ap Pathed (eqb-true a b h)
+use_same (Pathed a) Stacked h = absurd (false≢true h)
+use_same Stacked Untouched h = absurd (false≢true h)
+use_same Stacked (Fixed b) h = absurd (false≢true h)
+use_same Stacked (Pathed b) h = absurd (false≢true h)
+use_same Stacked Stacked h = refl
+
+pub use_itself : (x : VariableUse) → same_use x x ≡ true
+use_itself Untouched = refl
+use_itself (Fixed a) = option_itself a
+use_itself (Pathed a) = eq-eqb a a refl
+use_itself Stacked = refl
+
+same_bytes : (v w : Text) → v ≡ w → bytes_eq v w ≡ true
+same_bytes v w e = ap (λ (t : Text). bytes_eq t w) e ∙ bytes_eq-same w
+
+alike_at : (b s : Bool) → (not b || s) ≡ true → b ≡ true → s ≡ true
+alike_at true s h t = h
+alike_at false s h t = absurd (false≢true t)
+
+alike : (p q : UsedVariable) → use_alike p q ≡ true → p.0 ≡ q.0 → p.1 ≡ q.1
+alike p q h e = use_same p.1 q.1 (alike_at (bytes_eq p.0 q.0) (same_use p.1 q.1) h (same_bytes p.0 q.0 e))
+
+to_alike : (p q : UsedVariable) → (p.0 ≡ q.0 → p.1 ≡ q.1) → use_alike p q ≡ true
+to_alike p q h = by_test (bytes_eq p.0 q.0) _
+    (λ t. let s : same_use p.1 q.1 ≡ true = ap (same_use p.1) (sym (h (same_text p.0 q.0 t))) ∙ use_itself p.1 in rw (t, s) refl)
+    (λ t. rw t refl)
+
+-- modules in step
+
+abbrev modulepath_colons : UsedVariable
+modulepath_colons = (modulepath, Pathed colon)
+
+abbrev suits_all : List UsedVariable → UsedVariable → Bool
+suits_all ps p = use_alike p modulepath_colons && list_all (use_alike p) ps
+
+steps : (rs : List Record) → are_in_step (used_by rs) ≡ true → AreInStep rs
+steps rs h = record {
+  one_use = λ v x y a b.
+      let p = and_parts (use_alike (v, x) modulepath_colons) (list_all (use_alike (v, x)) (used_by rs)) (all_each (suits_all (used_by rs)) (used_by rs) h (v, x) a) in
+      alike (v, x) (v, y) (all_each (use_alike (v, x)) (used_by rs) p.1 (v, y) b) refl;
+  modulepath = λ x a.
+      let p = and_parts (use_alike (modulepath, x) modulepath_colons) (list_all (use_alike (modulepath, x)) (used_by rs)) (all_each (suits_all (used_by rs)) (used_by rs) h (modulepath, x) a) in
+      alike (modulepath, x) modulepath_colons p.0 refl;
+}
+
+to_steps : (rs : List Record) → AreInStep rs → are_in_step (used_by rs) ≡ true
+to_steps rs s = each_all (suits_all (used_by rs)) (used_by rs) (λ p a. and_from (use_alike p modulepath_colons) (list_all (use_alike p) (used_by rs))
+    (to_alike p modulepath_colons (λ e. s.modulepath p.1 (subst (λ (w : Text). IsAmong (w, p.1) (used_by rs)) e a)))
+    (each_all (use_alike p) (used_by rs) (λ q b. to_alike p q (λ e. s.one_use p.0 p.1 q.1 a (subst (λ (w : Text). IsAmong (w, q.1) (used_by rs)) (sym e) b)))))
+
+in_step : (m : Module) → is_in_step m ≡ true → IsInStep m
+in_step m h = let p = and_parts (list_all is_reversible m.records) (are_in_step (used_by m.records)) h in record { reversible = p.0; in_step = steps m.records p.1 }
+
+to_in_step : (m : Module) → IsInStep m → is_in_step m ≡ true
+to_in_step m s = and_from (list_all is_reversible m.records) (are_in_step (used_by m.records)) s.reversible (to_steps m.records s.in_step)
+
+-- modules that clash
+
+record SomeClash (m n : Module) : Type 0 where
+  variable : Text
+  one : VariableUse
+  other : VariableUse
+  clash : Clash m n variable one other
+
+abbrev clash_at : Module → Module → UsedVariable → UsedVariable → Bool
+clash_at m n p q = bytes_eq p.0 q.0 && uses_clash (exclude m n) p.1 q.1
+
+clashes : (m n : Module) → do_clash m n ≡ true → SomeClash m n
+clashes m n h =
+    let p = any_some (λ p. list_any (clash_at m n p) (used_by n.records)) (used_by m.records) h in
+    let q = any_some (clash_at m n p.0) (used_by n.records) p.2 in
+    let t = and_parts (bytes_eq p.0.0 q.0.0) (uses_clash (exclude m n) p.0.1 q.0.1) q.2 in
+    record {
+      variable = p.0.0;
+      one = p.0.1;
+      other = q.0.1;
+      clash = record {
+        first = p.1;
+        second = subst (λ (w : Text). Uses n.records w q.0.1) (sym (same_text p.0.0 q.0.0 t.0)) q.1;
+        clash = t.1;
+      };
+    }
+
+to_clashes : (m n : Module) (v : Text) (x y : VariableUse) → Clash m n v x y → do_clash m n ≡ true
+to_clashes m n v x y c =
+    some_any (λ p. list_any (clash_at m n p) (used_by n.records)) (used_by m.records) (v, x) c.first
+    (some_any (clash_at m n (v, x)) (used_by n.records) (v, y) c.second (and_from (bytes_eq v v) (uses_clash (exclude m n) x y) (bytes_eq-same v) c.clash))
+
+-- certified modules
+
+abbrev other_clash : Module → Module → Bool
+other_clash m n = is_in_step n && (is_other m n && do_clash m n)
+
+is_certified : (ms : List Module) (m : Module) → IsAmong m (certified ms) → IsCertified ms m
+is_certified ms m h =
+    let f = filtered (λ k. is_in_step k && not (clashes_among ms k)) ms m h in
+    let p = and_parts (is_in_step m) (not (clashes_among ms m)) f.1 in
+    record {
+      listed = f.0;
+      in_step = in_step m p.0;
+      no_clash = λ n v x y a s o c. false≢true (sym (not-true (clashes_among ms m) p.1) ∙ some_any (other_clash m) ms n a
+          (and_from (is_in_step n) (is_other m n && do_clash m n) (to_in_step n s) (and_from (is_other m n) (do_clash m n) o (to_clashes m n v x y c))));
+    }
+
+pub to_certified : (ms : List Module) (m : Module) → IsCertified ms m → IsAmong m (certified ms)
+to_certified ms m c =
+    in_filter (λ k. is_in_step k && not (clashes_among ms k)) ms m c.listed (and_from (is_in_step m) (not (clashes_among ms m)) (to_in_step m c.in_step)
+    (not_from_false (clashes_among ms m) (false_from_ne_true (clashes_among ms m) none)))
+  where
+    none : clashes_among ms m ≡ true → ⊥
+    none t =
+        let s = any_some (other_clash m) ms t in
+        let p = and_parts (is_in_step s.0) (is_other m s.0 && do_clash m s.0) s.2 in
+        let q = and_parts (is_other m s.0) (do_clash m s.0) p.1 in
+        let k = clashes m s.0 q.1 in
+        c.no_clash s.0 k.variable k.one k.other s.1 (in_step s.0 p.0) q.0 k.clash
+
+pub certified_are_exact : CertifiedAreExact
+certified_are_exact ms m = (is_certified ms m, to_certified ms m)

@@ -1,0 +1,118 @@
+-- Certified modules that are loaded together use each variable in one way.
+use Rattle.std.proofs.Common.{◌≡◌, Bool, true, false, not, ◌&&◌, ◌||◌, List, [], ◌∷◌, refl, sym, ap, ◌∙◌, subst, Option, Some, None, inl, inr}
+use Rattle.std.specs.Prelude.{bytes_eq, is_some}
+use Rattle.std.specs.Option.{option_or}
+use Rattle.std.proofs.lemmas.Bool.{false≢true, eqb-true}
+use Rattle.envvars.specs.Texts.{Text}
+use Rattle.envvars.proofs.TextLemmas.{or_left}
+use Rattle.modulefile.specs.Moves.{Module}
+use Rattle.reversal.specs.VariableUses.{VariableUse, Untouched, Fixed, Pathed, Stacked}
+use Rattle.reversal.specs.Live.{last_set, live_set}
+use Rattle.reversal.specs.Runs.{IsReversibleAndApart, AreReversibleTogether}
+use Rattle.reversal.proofs.Parts.{all_suit}
+use Rattle.sitecertificate.specs.RecordUses.{used_by, used_by_modules, IsAmong, Uses, uses_by}
+use Rattle.sitecertificate.specs.Clashes.{exclude, in_conflict, go_together, agree_at_start}
+use Rattle.sitecertificate.specs.Certificates.{is_other, IsCertified}
+use Rattle.sitecertificate.specs.Laws.{AreCertifiedTogether}
+use Rattle.sitecertificate.proofs.UsedLemmas.{by_test, by_cases, among_left, among_right, among_either, user_of, Unused, first_or_none}
+use Rattle.sitecertificate.proofs.RecordLemmas.{all_follow, AreOfKind, sets_used}
+
+-- Uses that go together are one.
+
+go_equal : (x y : VariableUse) → go_together x y ≡ true → x ≡ y
+go_equal Untouched y h = absurd (false≢true h)
+go_equal (Fixed a) y h = absurd (false≢true h)
+go_equal (Pathed d) Untouched h = absurd (false≢true h)
+go_equal (Pathed d) (Fixed a) h = absurd (false≢true h)
+go_equal (Pathed d) (Pathed k) h = ap Pathed (eqb-true d k h)
+go_equal (Pathed d) Stacked h = absurd (false≢true h)
+go_equal Stacked Untouched h = absurd (false≢true h)
+go_equal Stacked (Fixed a) h = absurd (false≢true h)
+go_equal Stacked (Pathed d) h = absurd (false≢true h)
+go_equal Stacked Stacked h = refl
+
+clash_at : (excluded g a : Bool) → excluded ≡ false → g ≡ false → (not (excluded || g) || not a) ≡ true
+clash_at excluded g a e h = rw (e, h) refl
+
+-- Of certified modules that don't exclude each other, two uses of one variable go together.
+
+together : (ms : List Module) (m n : Module) (v : Text) (x y : VariableUse) → IsCertified ms m → IsCertified ms n → exclude m n ≡ false → Uses m.records v x → Uses n.records v y → go_together x y ≡ true
+together ms m n v x y c d e f g = by_test (go_together x y) _ (λ t. t) (λ t. absurd (c.no_clash n v x y d.listed d.in_step other
+    (record { first = f; second = g; clash = clash_at (exclude m n) (go_together x y) (agree_at_start x y) e t })))
+  where
+    name : bytes_eq m.name n.name ≡ false
+    name = or_left (bytes_eq m.name n.name) (in_conflict m n) e
+
+    other : is_other m n ≡ true
+    other = ap (λ (b : Bool). not (b && bytes_eq m.path n.path)) name
+
+-- each variable is used in one way
+abbrev pub HaveOneUse : List Module → Type 0
+HaveOneUse ms = (v : Text) (x y : VariableUse) → IsAmong (v, x) (used_by_modules ms) → IsAmong (v, y) (used_by_modules ms) → x ≡ y
+
+pub certified_of : (ms live : List Module) → AreCertifiedTogether ms live → (m : Module) → IsAmong m live → IsCertified ms m
+certified_of ms [] t m a = absurd a
+certified_of ms (n ∷ live) t m (inl e) = subst (IsCertified ms) (sym e) t.0
+certified_of ms (n ∷ live) t m (inr a) = certified_of ms live t.2 m a
+
+pub of_kind : (ms live : List Module) → AreCertifiedTogether ms live → AreOfKind live
+of_kind ms live t m a = (certified_of ms live t m a).in_step.reversible
+
+-- the newest of the modules beside an older one
+beside : (ms live : List Module) (m : Module) (v : Text) (x y : VariableUse) → AreCertifiedTogether ms (m ∷ live) → Uses m.records v x → IsAmong (v, y) (used_by_modules live) → go_together x y ≡ true
+beside ms live m v x y t u a =
+    let p = user_of v y live a in
+    together ms m p.user v x y t.0 (certified_of ms live t.2 p.user p.there) (t.1 p.user p.there) u p.uses
+
+pub one_use : (ms live : List Module) → AreCertifiedTogether ms live → HaveOneUse live
+one_use ms [] t v x y h k = absurd h
+one_use ms (m ∷ live) t v x y h k =
+    by_cases (among_either (v, x) (used_by m.records) (used_by_modules live) h)
+    (λ a. by_cases (among_either (v, y) (used_by m.records) (used_by_modules live) k)
+    (λ b. t.0.in_step.in_step.one_use v x y a b)
+    (λ b. go_equal x y (beside ms live m v x y t a b)))
+    (λ a. by_cases (among_either (v, y) (used_by m.records) (used_by_modules live) k)
+    (λ b. sym (go_equal y x (beside ms live m v y x t b a)))
+    (λ b. one_use ms live t.2 v x y a b))
+
+-- So the first use of a variable is that of each record that names it.
+
+pub each_use : (live : List Module) → HaveOneUse live → (v : Text) (x : VariableUse) → IsAmong (v, x) (used_by_modules live) → uses_by live v ≡ x
+each_use live one v x a = by_cases (first_or_none v (used_by_modules live))
+    (λ f. one v (uses_by live v) x f a)
+    (λ (f : Unused v (used_by_modules live)). absurd (f.none x a))
+
+-- Modules that are loaded together are reversible and apart, by these uses.
+
+no_fixed : (x : VariableUse) (k : Option Text) → go_together (Fixed k) x ≡ true → ⊥
+no_fixed x k h = false≢true h
+
+not_some : (o : Option (Option Text)) → is_some o ≡ false → o ≡ None
+not_some None h = refl
+not_some (Some x) h = absurd (false≢true (sym h))
+
+-- none of the older modules sets what the newest one does
+older_sets : (live : List Module) → AreOfKind live → (v : Text) → ((k : Option Text) → IsAmong (v, Fixed k) (used_by_modules live) → ⊥) → live_set v live ≡ None
+older_sets [] k v h = refl
+older_sets (n ∷ live) k v h =
+    by_test (is_some (last_set v n.records)) _
+    (λ t. let p = sets_used v n.records (k n (inl refl)) t in absurd (h p.0 (among_left (v, Fixed p.0) (used_by n.records) (used_by_modules live) p.1)))
+    (λ t. ap (λ (o : Option (Option Text)). option_or o (live_set v live)) (not_some (last_set v n.records) t)
+    ∙ older_sets live (λ m a. k m (inr a)) v (λ j a. h j (among_right (v, Fixed j) (used_by n.records) (used_by_modules live) a)))
+
+-- the uses are those of each of the modules
+abbrev pub AreUses : (Text → VariableUse) → List Module → Type 0
+AreUses u live = (v : Text) (x : VariableUse) → IsAmong (v, x) (used_by_modules live) → u v ≡ x
+
+pub newest_fits : (ms live : List Module) (m : Module) (u : Text → VariableUse) → AreCertifiedTogether ms (m ∷ live) → AreUses u (m ∷ live) → IsReversibleAndApart u live m
+newest_fits ms live m u t h = record {
+  suits = all_suit u m.records t.0.in_step.reversible (all_follow u m.records (λ v x a. h v x (among_left (v, x) (used_by m.records) (used_by_modules live) a)));
+  sets_apart = λ v s.
+      let p = sets_used v m.records t.0.in_step.reversible s in
+      older_sets live (of_kind ms live t.2) v (λ k a. no_fixed (Fixed k) p.0 (beside ms live m v (Fixed p.0) (Fixed k) t p.1 a));
+}
+
+pub all_fit : (ms live : List Module) (u : Text → VariableUse) → AreCertifiedTogether ms live → AreUses u live → AreReversibleTogether u live
+all_fit ms [] u t h = tt
+all_fit ms (m ∷ live) u t h =
+    (newest_fits ms live m u t h, all_fit ms live u t.2 (λ v x a. h v x (among_right (v, x) (used_by m.records) (used_by_modules live) a)))

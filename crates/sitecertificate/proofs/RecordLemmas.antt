@@ -1,0 +1,158 @@
+-- What records do to a variable, by the uses that they make of it.
+use Rattle.std.proofs.Common.{◌≡◌, Bool, true, false, cond, List, [], ◌∷◌, refl, sym, ap, ◌∙◌, arith, Option, Some, None, inl, inr}
+use Rattle.std.specs.Prelude.{bytes_eq, count_by, is_some}
+use Rattle.std.specs.List.{list_all}
+use Rattle.std.specs.Option.{option_or}
+use Rattle.std.proofs.lemmas.Bool.{false≢true}
+use Rattle.envvars.specs.Texts.{Text}
+use Rattle.envvars.proofs.TextLemmas.{same_text}
+use Rattle.envvars.proofs.EditLemmas.{both_true}
+use Rattle.modulefile.specs.Records.{Record, Set, Unset, Push, Front, Back, Remove, Conflict, Prereq, Whatis}
+use Rattle.modulefile.specs.Moves.{Module}
+use Rattle.reversal.specs.VariableUses.{VariableUse, Fixed, Pathed, Stacked, is_reversible, FollowsUse, AllFollowUses}
+use Rattle.reversal.specs.Live.{set_by, last_set, live_set, adds_by, adds, live_adds, push_by, last_push, with_push, live_pushes}
+use Rattle.sitecertificate.specs.RecordUses.{UsedVariable, use_by, used_by, used_by_modules, IsAmong, Uses}
+use Rattle.sitecertificate.proofs.UsedLemmas.{by_test, among_left, among_right, used_first, used_later}
+
+-- A record follows uses that are those that it makes.
+
+follows : (u : Text → VariableUse) (r : Record) → ((v : Text) (x : VariableUse) → use_by r ≡ Some (v, x) → u v ≡ x) → FollowsUse u r
+follows u (Set var value) h = h var (Fixed None) refl
+follows u (Unset var None) h = tt
+follows u (Unset var (Some value)) h = h var (Fixed (Some value)) refl
+follows u (Push var value) h = h var Stacked refl
+follows u (Front delim var xs) h = h var (Pathed delim) refl
+follows u (Back delim var xs) h = h var (Pathed delim) refl
+follows u (Remove delim var xs) h = tt
+follows u (Conflict names) h = tt
+follows u (Prereq names) h = tt
+follows u (Whatis text) h = tt
+
+pub all_follow : (u : Text → VariableUse) (rs : List Record) → ((v : Text) (x : VariableUse) → Uses rs v x → u v ≡ x) → AllFollowUses u rs
+all_follow u [] h = tt
+all_follow u (r ∷ rs) h = (follows u r (λ v x e. h v x (used_first (v, x) r rs e)), all_follow u rs (λ v x k. h v x (used_later (v, x) r rs k)))
+
+-- A record that doesn't use a variable does nothing to it.
+
+at_name : {P : Type 0} (v var : Text) (x : VariableUse) → ((y : VariableUse) → ◌≡◌ {A = Option UsedVariable} (Some (var, x)) (Some (v, y)) → ⊥) → bytes_eq v var ≡ true → P
+at_name v var x h t = absurd (h x (ap (λ (w : Text). Some (w, x)) (sym (same_text v var t))))
+
+no_set : (v : Text) (r : Record) → is_reversible r ≡ true → ((x : VariableUse) → use_by r ≡ Some (v, x) → ⊥) → set_by v r ≡ None
+no_set v (Set var value) k h = by_test (bytes_eq v var) _ (λ t. at_name v var (Fixed None) h t) (λ t. ap (λ (b : Bool). cond b (Some (Some value)) None) t)
+no_set v (Unset var None) k h = absurd (false≢true k)
+no_set v (Unset var (Some value)) k h = by_test (bytes_eq v var) _ (λ t. at_name v var (Fixed (Some value)) h t) (λ t. ap (λ (b : Bool). cond b (Some None) None) t)
+no_set v (Push var value) k h = refl
+no_set v (Front delim var xs) k h = refl
+no_set v (Back delim var xs) k h = refl
+no_set v (Remove delim var xs) k h = refl
+no_set v (Conflict names) k h = refl
+no_set v (Prereq names) k h = refl
+no_set v (Whatis text) k h = refl
+
+no_add : (v y : Text) (r : Record) → ((x : VariableUse) → use_by r ≡ Some (v, x) → ⊥) → adds_by v y r ≡ 0
+no_add v y (Set var value) h = refl
+no_add v y (Unset var value) h = refl
+no_add v y (Push var value) h = refl
+no_add v y (Front delim var xs) h = by_test (bytes_eq v var) _ (λ t. at_name v var (Pathed delim) h t) (λ t. ap (λ (b : Bool). cond b (count_by (bytes_eq y) xs) 0) t)
+no_add v y (Back delim var xs) h = by_test (bytes_eq v var) _ (λ t. at_name v var (Pathed delim) h t) (λ t. ap (λ (b : Bool). cond b (count_by (bytes_eq y) xs) 0) t)
+no_add v y (Remove delim var xs) h = refl
+no_add v y (Conflict names) h = refl
+no_add v y (Prereq names) h = refl
+no_add v y (Whatis text) h = refl
+
+no_push : (v : Text) (r : Record) → ((x : VariableUse) → use_by r ≡ Some (v, x) → ⊥) → push_by v r ≡ None
+no_push v (Set var value) h = refl
+no_push v (Unset var value) h = refl
+no_push v (Push var value) h = by_test (bytes_eq v var) _ (λ t. at_name v var Stacked h t) (λ t. ap (λ (b : Bool). cond b (Some value) None) t)
+no_push v (Front delim var xs) h = refl
+no_push v (Back delim var xs) h = refl
+no_push v (Remove delim var xs) h = refl
+no_push v (Conflict names) h = refl
+no_push v (Prereq names) h = refl
+no_push v (Whatis text) h = refl
+
+-- the same of several records
+
+pub no_sets : (v : Text) (rs : List Record) → list_all is_reversible rs ≡ true → ((x : VariableUse) → Uses rs v x → ⊥) → last_set v rs ≡ None
+no_sets v [] k h = refl
+no_sets v (r ∷ rs) k h =
+    let b = both_true (is_reversible r) (list_all is_reversible rs) k in
+    ap (λ (o : Option (Option Text)). option_or o (set_by v r)) (no_sets v rs b.1 (λ x u. h x (used_later (v, x) r rs u)))
+    ∙ no_set v r b.0 (λ x e. h x (used_first (v, x) r rs e))
+
+no_adds : (v y : Text) (rs : List Record) → ((x : VariableUse) → Uses rs v x → ⊥) → adds v y rs ≡ 0
+no_adds v y [] h = refl
+no_adds v y (r ∷ rs) h =
+    let a = no_add v y r (λ x e. h x (used_first (v, x) r rs e)) in
+    let i = no_adds v y rs (λ x u. h x (used_later (v, x) r rs u)) in
+    omega (arith, a, i)
+
+no_pushes : (v : Text) (rs : List Record) → ((x : VariableUse) → Uses rs v x → ⊥) → last_push v rs ≡ None
+no_pushes v [] h = refl
+no_pushes v (r ∷ rs) h =
+    ap (λ (o : Option Text). option_or o (push_by v r)) (no_pushes v rs (λ x u. h x (used_later (v, x) r rs u)))
+    ∙ no_push v r (λ x e. h x (used_first (v, x) r rs e))
+
+-- and of modules
+
+abbrev pub AreOfKind : List Module → Type 0
+AreOfKind ms = (m : Module) → IsAmong m ms → list_all is_reversible m.records ≡ true
+
+first_unused : (v : Text) (m : Module) (ms : List Module) → ((x : VariableUse) → IsAmong (v, x) (used_by_modules (m ∷ ms)) → ⊥) → (x : VariableUse) → Uses m.records v x → ⊥
+first_unused v m ms h x u = h x (among_left (v, x) (used_by m.records) (used_by_modules ms) u)
+
+rest_unused : (v : Text) (m : Module) (ms : List Module) → ((x : VariableUse) → IsAmong (v, x) (used_by_modules (m ∷ ms)) → ⊥) → (x : VariableUse) → IsAmong (v, x) (used_by_modules ms) → ⊥
+rest_unused v m ms h x u = h x (among_right (v, x) (used_by m.records) (used_by_modules ms) u)
+
+pub none_sets : (v : Text) (ms : List Module) → AreOfKind ms → ((x : VariableUse) → IsAmong (v, x) (used_by_modules ms) → ⊥) → live_set v ms ≡ None
+none_sets v [] k h = refl
+none_sets v (m ∷ ms) k h =
+    ap (λ (o : Option (Option Text)). option_or o (live_set v ms)) (no_sets v m.records (k m (inl refl)) (first_unused v m ms h))
+    ∙ none_sets v ms (λ n a. k n (inr a)) (rest_unused v m ms h)
+
+pub none_adds : (v : Text) (ms : List Module) → ((x : VariableUse) → IsAmong (v, x) (used_by_modules ms) → ⊥) → (y : Text) → live_adds v ms y ≡ 0
+none_adds v [] h y = refl
+none_adds v (m ∷ ms) h y =
+    let a = no_adds v y m.records (first_unused v m ms h) in
+    let i = none_adds v ms (rest_unused v m ms h) y in
+    omega (arith, a, i)
+
+pub none_pushes : (v : Text) (ms : List Module) → ((x : VariableUse) → IsAmong (v, x) (used_by_modules ms) → ⊥) → live_pushes v ms ≡ []
+none_pushes v [] h = refl
+none_pushes v (m ∷ ms) h =
+    ap (λ (o : Option Text). with_push m.name o (live_pushes v ms)) (no_pushes v m.records (first_unused v m ms h))
+    ∙ none_pushes v ms (rest_unused v m ms h)
+
+-- What records set or unset they use so.
+
+unset : (b : Bool) (x : Option (Option Text)) → b ≡ false → is_some (cond b x None) ≡ true → ⊥
+unset true x t h = false≢true (sym t)
+unset false x t h = false≢true h
+
+set_used : (v : Text) (r : Record) → is_reversible r ≡ true → is_some (set_by v r) ≡ true → (k : Option Text) × (use_by r ≡ Some (v, Fixed k))
+set_used v (Set var value) k h = by_test (bytes_eq v var) _
+    (λ t. (None, ap (λ (w : Text). Some (w, Fixed None)) (sym (same_text v var t))))
+    (λ t. absurd (unset (bytes_eq v var) (Some (Some value)) t h))
+set_used v (Unset var None) k h = absurd (false≢true k)
+set_used v (Unset var (Some value)) k h = by_test (bytes_eq v var) _
+    (λ t. (Some value, ap (λ (w : Text). Some (w, Fixed (Some value))) (sym (same_text v var t))))
+    (λ t. absurd (unset (bytes_eq v var) (Some None) t h))
+set_used v (Push var value) k h = absurd (false≢true h)
+set_used v (Front delim var xs) k h = absurd (false≢true h)
+set_used v (Back delim var xs) k h = absurd (false≢true h)
+set_used v (Remove delim var xs) k h = absurd (false≢true h)
+set_used v (Conflict names) k h = absurd (false≢true h)
+set_used v (Prereq names) k h = absurd (false≢true h)
+set_used v (Whatis text) k h = absurd (false≢true h)
+
+later_none : (o p : Option (Option Text)) → is_some o ≡ false → is_some (option_or o p) ≡ true → is_some p ≡ true
+later_none None p h k = k
+later_none (Some x) p h k = absurd (false≢true (sym h))
+
+pub sets_used : (v : Text) (rs : List Record) → list_all is_reversible rs ≡ true → is_some (last_set v rs) ≡ true → (k : Option Text) × Uses rs v (Fixed k)
+sets_used v [] k h = absurd (false≢true h)
+sets_used v (r ∷ rs) k h =
+    let b = both_true (is_reversible r) (list_all is_reversible rs) k in
+    by_test (is_some (last_set v rs)) _
+    (λ t. let p = sets_used v rs b.1 t in (p.0, used_later (v, Fixed p.0) r rs p.1))
+    (λ t. let p = set_used v r b.0 (later_none (last_set v rs) (set_by v r) t h) in (p.0, used_first (v, Fixed p.0) r rs p.1))

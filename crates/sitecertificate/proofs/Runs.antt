@@ -1,0 +1,140 @@
+-- Moves of certified modules, one after the other.
+use Rattle.std.proofs.Common.{◌≡◌, inl, inr, Bool, true, false, cond, ◌||◌, List, [], ◌∷◌, ◌++◌, refl, sym, ◌∙◌, subst, Some, Ok}
+use Rattle.std.specs.Prelude.{bytes_eq}
+use Rattle.std.proofs.lemmas.Option.{same_Some}
+use Rattle.envvars.specs.Texts.{Text, has}
+use Rattle.envvars.specs.Environment.{Environment}
+use Rattle.envloaded.specs.Loaded.{Entry, names_of, loaded_in}
+use Rattle.envstate.proofs.StateLemmas.{list_in_order}
+use Rattle.modulefile.specs.Moves.{Module, Move, Loads, Unloads, Fits, moved, MovesReach}
+use Rattle.reversal.specs.VariableUses.{VariableUse}
+use Rattle.reversal.specs.Live.{entries_over}
+use Rattle.reversal.specs.Runs.{without_live, live_after, Undoes}
+use Rattle.reversal.specs.Laws.{Holds, RunsReturn, MovesPreserve}
+use Rattle.sitecertificate.specs.RecordUses.{used_by_modules, IsAmong, uses_by}
+use Rattle.sitecertificate.specs.Clashes.{in_conflict}
+use Rattle.sitecertificate.specs.Certificates.{IsCertified, certificate, AgreesWith}
+use Rattle.sitecertificate.specs.Laws.{AreCertified, AreCertifiedTogether, CertifiedRunsStand, CertifiedMovesPreserve}
+use Rattle.sitecertificate.proofs.UsedLemmas.{by_cases, used_among, user_of, first_or_none}
+use Rattle.sitecertificate.proofs.OneUse.{of_kind, one_use, each_use, newest_fits, all_fit}
+use Rattle.sitecertificate.proofs.Variables.{not_named}
+use Rattle.sitecertificate.proofs.Moments.{is_start, IsOver, taken_up, laid_down}
+
+-- A module that is loaded beside live ones, and the live ones without one of them.
+
+neither : (a b : Bool) → a ≡ false → b ≡ false → (a || b) ≡ false
+neither a b h k = rw (h, k) refl
+
+newest : (ms live : List Module) (m : Module) (start old : Environment) → AgreesWith (certificate ms) start → IsOver (uses_by live) start live old → AreCertifiedTogether ms live
+    → IsCertified ms m → ((n : Module) → IsAmong n live → in_conflict m n ≡ false) → Fits (Loads m) old → AreCertifiedTogether ms (m ∷ live)
+newest ms live m start old a o t c k fits = (c, (λ n b. neither (bytes_eq m.name n.name) (in_conflict m n) (not_named m.name first.0 live absent n b) (k n b)), t)
+  where
+    first : (xs : List Entry) × (loaded_in start ≡ Some xs)
+    first = let p = list_in_order start a.loaded in (p.0, p.1)
+
+    absent : has m.name (names_of (entries_over first.0 live)) ≡ false
+    absent = subst (λ (zs : List Entry). has m.name (names_of zs) ≡ false)
+        (same_Some fits.0 (entries_over first.0 live) (sym fits.1 ∙ o.start_with_live.entries first.0 first.1)) fits.2
+
+left_at : (name : Text) (m : Module) (live : List Module) (b : Bool) (n : Module) → (IsAmong n (without_live name live) → IsAmong n live) → IsAmong n (cond b live (m ∷ without_live name live)) → IsAmong n (m ∷ live)
+left_at name m live true n h a = inr a
+left_at name m live false n h (inl e) = inl e
+left_at name m live false n h (inr a) = inr (h a)
+
+left_among : (name : Text) (live : List Module) (n : Module) → IsAmong n (without_live name live) → IsAmong n live
+left_among name [] n a = a
+left_among name (m ∷ live) n a = left_at name m live (bytes_eq name m.name) n (left_among name live n) a
+
+less_at : (ms : List Module) (name : Text) (m : Module) (live : List Module) (b : Bool) → AreCertifiedTogether ms (m ∷ live) → AreCertifiedTogether ms (without_live name live) → AreCertifiedTogether ms (cond b live (m ∷ without_live name live))
+less_at ms name m live true t h = t.2
+less_at ms name m live false t h = (t.0, (λ n a. t.1 n (left_among name live n a)), h)
+
+less_together : (ms : List Module) (name : Text) (live : List Module) → AreCertifiedTogether ms live → AreCertifiedTogether ms (without_live name live)
+less_together ms name [] t = tt
+less_together ms name (m ∷ live) t = less_at ms name m live (bytes_eq name m.name) t (less_together ms name live t.2)
+
+less_used : (name v : Text) (x : VariableUse) (live : List Module) → IsAmong (v, x) (used_by_modules (without_live name live)) → IsAmong (v, x) (used_by_modules live)
+less_used name v x live a = let p = user_of v x (without_live name live) a in used_among v x p.user live (left_among name live p.user p.there) p.uses
+
+-- what moves preserve
+pub record Stands (ms : List Module) (start : Environment) (live : List Module) (e : Environment) : Type 0 where
+  pub together : AreCertifiedTogether ms live
+  pub over : IsOver (uses_by live) start live e
+
+held : MovesPreserve → (ms live : List Module) (start e : Environment) → AgreesWith (certificate ms) start → Stands ms start live e → Holds (uses_by live) start live e
+held preserve ms live start e a s =
+    (preserve (uses_by live) start e e live [] (is_start ms live start a s.together) s.over.order s.over.start_with_live
+    (all_fit ms live (uses_by live) s.together (each_use live (one_use ms live s.together))) tt refl).0
+
+-- A load: the uses of the module are taken up before it.
+loaded : RunsReturn → MovesPreserve → (ms live : List Module) (m : Module) (start old new : Environment) → AgreesWith (certificate ms) start → Stands ms start live old
+    → IsCertified ms m → ((n : Module) → IsAmong n live → in_conflict m n ≡ false) → Fits (Loads m) old → moved (Loads m) old ≡ Ok new → Stands ms start (m ∷ live) new
+loaded runs preserve ms live m start old new a s c k fits h =
+    let t : AreCertifiedTogether ms (m ∷ live) = newest ms live m start old a s.over s.together c k fits in
+    let u = uses_by (m ∷ live) in
+    let one = each_use (m ∷ live) (one_use ms (m ∷ live) t) in
+    let begin = is_start ms (m ∷ live) start a t in
+    let o = taken_up runs u start old live begin
+    (λ v. by_cases (first_or_none v (used_by_modules live))
+    (λ f. inl (sym (one v (uses_by live v) (used_among_more v f))))
+    (λ n. inr n))
+    (of_kind ms live s.together) s.over in
+    let r = preserve u start old new live (Loads m ∷ []) begin o.order o.start_with_live (all_fit ms (m ∷ live) u t one).1
+    (newest_fits ms live m u t one, tt) (fits, (new, h, refl)) in
+    record { together = t; over = record { order = r.0.order; start_with_live = r.0.start_with_live } }
+  where
+    used_among_more : (v : Text) → IsAmong (v, uses_by live v) (used_by_modules live) → IsAmong (v, uses_by live v) (used_by_modules (m ∷ live))
+    used_among_more v f = let p = user_of v (uses_by live v) live f in used_among v (uses_by live v) p.user (m ∷ live) (inr p.there) p.uses
+
+-- An unload: the uses that only its module had are laid down after it.
+unloaded : MovesPreserve → (ms live : List Module) (m : Module) (start old new : Environment) → AgreesWith (certificate ms) start → Stands ms start live old
+    → Undoes live m → Fits (Unloads m) old → moved (Unloads m) old ≡ Ok new → Stands ms start (without_live m.name live) new
+unloaded preserve ms live m start old new a s d fits h =
+    let u = uses_by live in
+    let one = each_use live (one_use ms live s.together) in
+    let begin = is_start ms live start a s.together in
+    let r = preserve u start old new live (Unloads m ∷ []) begin s.over.order s.over.start_with_live (all_fit ms live u s.together one) (d, tt) (fits, (new, h, refl)) in
+    let t = less_together ms m.name live s.together in
+    record {
+      together = t;
+      over = laid_down u start new (without_live m.name live) begin
+          (λ v. by_cases (first_or_none v (used_by_modules (without_live m.name live)))
+          (λ f. inl (one v (uses_by (without_live m.name live) v) (less_used m.name v (uses_by (without_live m.name live) v) live f)))
+          (λ n. inr n))
+          (of_kind ms (without_live m.name live) t) (record { order = r.0.order; start_with_live = r.0.start_with_live });
+    }
+
+stand : RunsReturn → MovesPreserve → (ms live : List Module) (moves : List Move) (start old new : Environment) → AgreesWith (certificate ms) start → Stands ms start live old → AreCertified ms live moves → MovesReach moves old new
+    → Stands ms start (live_after live moves) new
+stand runs preserve ms live [] start old new a s c r = subst (Stands ms start live) (sym r) s
+stand runs preserve ms live (Loads m ∷ moves) start old new a s c r =
+    stand runs preserve ms (m ∷ live) moves start r.1.0 new a (loaded runs preserve ms live m start old r.1.0 a s c.0 c.1 r.0 r.1.1) c.2 r.1.2
+stand runs preserve ms live (Unloads m ∷ moves) start old new a s c r =
+    stand runs preserve ms (without_live m.name live) moves start r.1.0 new a (unloaded preserve ms live m start old r.1.0 a s c.0 r.0 r.1.1) c.1 r.1.2
+
+pub moves_preserve : RunsReturn → MovesPreserve → CertifiedMovesPreserve
+moves_preserve runs preserve ms start old new live moves a t o w c r =
+    let s = stand runs preserve ms live moves start old new a (record { together = t; over = record { order = o; start_with_live = w } }) c r in
+    (held preserve ms (live_after live moves) start new a s, s.together)
+
+-- runs from the start
+
+reach_parts : (done rest : List Move) (old new : Environment) → MovesReach (done ++ rest) old new → (mid : Environment) × MovesReach done old mid × MovesReach rest mid new
+reach_parts [] rest old new r = (old, refl, r)
+reach_parts (m ∷ done) rest old new r = let p = reach_parts done rest r.1.0 new r.1.2 in (p.0, (r.0, (r.1.0, r.1.1, p.1)), p.2)
+
+front : (ms live : List Module) (done rest : List Move) → AreCertified ms live (done ++ rest) → AreCertified ms live done
+front ms live [] rest c = tt
+front ms live (Loads m ∷ done) rest c = (c.0, c.1, front ms (m ∷ live) done rest c.2)
+front ms live (Unloads m ∷ done) rest c = (c.0, front ms (without_live m.name live) done rest c.1)
+
+at_start : RunsReturn → (ms : List Module) (start : Environment) → AgreesWith (certificate ms) start → Stands ms start [] start
+at_start runs ms start a =
+    let h = runs (uses_by []) start start [] (is_start ms [] start a tt) tt refl in
+    record { together = tt; over = record { order = h.order; start_with_live = h.start_with_live } }
+
+pub runs_stand : RunsReturn → MovesPreserve → CertifiedRunsStand
+runs_stand runs preserve ms start e done rest a c r =
+    let p = reach_parts done rest start e r in
+    let s = stand runs preserve ms [] done start start p.0 a (at_start runs ms start a) (front ms [] done rest c) p.1 in
+    (p.0, p.1, p.2, held preserve ms (live_after [] done) start p.0 a s)

@@ -1,0 +1,10 @@
+use Rattle.std.proofs.Common.{List, map, take}
+use Rattle.indexmap.specs.IndexSet.{insert_all}
+use Rattle.sitecertificate.specs.RecordUses.{UsedVariable}
+use Rattle.sitecertificate.specs.UseViews.{used_view}
+use Rattle.sitecertificate.specs.EachOnce.{same_used}
+use Rattle.sitecertificate.specs.Once.{HasUses}
+use Rattle.sitecertificate.proofs.once.UsesOnce.add_all.Given as goal
+
+abbrev pub invariant-loop-used : goal.invariant-loop-used
+invariant-loop-used l = (ps : List UsedVariable) → HasUses l.initial.self ps → HasUses l.self (insert_all same_used ps (map used_view (take l.used-index l.all_used)))

@@ -1,0 +1,17 @@
+use Rattle.std.proofs.Common.{◌≡◌, List, map}
+use Rattle.std.specs.Iterator.Adapters.{zip_first, zip_second}
+use Rattle.std.specs.Slice.Iter.{iter_rest}
+use Rattle.indexmap.specs.IndexSet.{insert_all}
+use Rattle.sitecertificate.specs.RecordUses.{UsedVariable}
+use Rattle.sitecertificate.specs.EachOnce.{same_used, each_once}
+use Rattle.sitecertificate.specs.Once.{HasUses}
+use Rattle.sitecertificate.specs.UsingModules.{module_of}
+use Rattle.sitecertificate.proofs.OnceLemmas.{unclashed}
+use Rattle.sitecertificate.proofs.once.unclashed_uses.Given as goal
+
+-- those so far, and those of the rest
+abbrev pub invariant-loop-candidate : goal.invariant-loop-candidate
+invariant-loop-candidate l =
+    (ps : List UsedVariable) × HasUses l.once ps
+    × (insert_all same_used ps (unclashed (map module_of (iter_rest (zip_first l.candidate-iterator))) (iter_rest (zip_second l.candidate-iterator)))
+    ≡ each_once (unclashed (map module_of l.users) l.answers))

@@ -1,0 +1,48 @@
+-- What is answered of the clashes of modules with one another (own).
+use Rattle.std.specs.Prelude.{◌≡◌, true, List, [], ◌∷◌, ◌++◌, Option, Some, None, string_bytes}
+use Rattle.envvars.specs.Texts.{Text}
+use Rattle.modulefile.specs.Moves.{Module}
+use Rattle.reversal.specs.VariableUses.{VariableUse}
+use Rattle.sitecertificate.specs.RecordUses.{IsAmong}
+use Rattle.sitecertificate.specs.Clashes as clashes
+use Rattle.sitecertificate.specs.Certificates.{is_other}
+use Rattle.sitecertificate.specs.UseViews.{use_view}
+use Rattle.sitecertificate.specs.declared.answers.Clash.{Clash}
+
+-- The module clashes with another one of these, as the answer says: in this variable, by these two uses, and the other
+-- has this name and this file.
+pub record IsClashOf (ms : List Module) (m : Module) (c : Clash) : Type 0 where
+  pub other : Module
+  pub listed : IsAmong other ms
+  pub another : is_other m other ≡ true
+  pub clash : clashes.Clash m other (string_bytes c.variable) (use_view c.own) (use_view c.theirs)
+  pub name : other.name ≡ string_bytes c.other_name
+  pub path : other.path ≡ string_bytes c.other_path
+
+-- the module clashes with no other one of these, in no variable
+abbrev pub ClashesWithNone : List Module → Module → Type 0
+ClashesWithNone ms m =
+    (n : Module) (v : Text) (x y : VariableUse) → IsAmong n ms → is_other m n ≡ true → clashes.Clash m n v x y → ⊥
+
+-- what is answered of one module among these
+abbrev pub IsAnswer : List Module → Module → Option Clash → Type 0
+IsAnswer ms m None = ClashesWithNone ms m
+IsAnswer ms m (Some c) = IsClashOf ms m c
+
+-- an answer for each of some modules among these, in their order
+abbrev pub AreAnswers : List Module → List Module → List (Option Clash) → Type 0
+AreAnswers ms [] [] = Unit {0}
+AreAnswers ms [] (a ∷ answers) = ⊥
+AreAnswers ms (m ∷ rest) [] = ⊥
+AreAnswers ms (m ∷ rest) (a ∷ answers) = IsAnswer ms m a × AreAnswers ms rest answers
+
+-- the module, where its answer is that it clashes with none
+abbrev pub without_clash : Module → Option Clash → List Module
+without_clash m None = m ∷ []
+without_clash m (Some clash) = []
+
+-- the modules whose answers are that they clash with none
+abbrev pub without_clashes : List Module → List (Option Clash) → List Module
+without_clashes [] answers = []
+without_clashes (m ∷ ms) [] = []
+without_clashes (m ∷ ms) (answer ∷ answers) = without_clash m answer ++ without_clashes ms answers

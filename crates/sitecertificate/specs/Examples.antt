@@ -1,0 +1,232 @@
+-- Worked examples of certificates (own), each of two modules: which of them are certified, by each rule in turn. And what
+-- is lost where a rule is left out.
+use Rattle.std.specs.Prelude.{◌≡◌, true, List, [], ◌∷◌, ◌++◌, codes, Some, None}
+use Rattle.envvars.specs.Texts.{Text}
+use Rattle.envvars.specs.Environment.{Environment, lookup}
+use Rattle.envvars.specs.Fields.{colon}
+use Rattle.modulefile.specs.Records.{Record, Set, Unset, Push, Front, Back, Remove, Conflict}
+use Rattle.modulefile.specs.Moves.{Module, Move, Loads, Unloads, MovesReach}
+use Rattle.reversal.specs.VariableUses.{VariableUse}
+use Rattle.reversal.specs.Starts.{IsStartWith}
+use Rattle.reversal.specs.Runs.{live_after}
+use Rattle.reversal.specs.Losses.{ThereAndBack}
+use Rattle.reversal.specs.Examples.{Lose, held, first_module, second_module, variable, crossed, add_front, push_value}
+use Rattle.sitecertificate.specs.RecordUses.{used_by, used_by_modules, modulepath, uses_by}
+use Rattle.sitecertificate.specs.Clashes.{agree_at_start}
+use Rattle.sitecertificate.specs.Certificates.{certified, AgreesWithUse, AgreesWith}
+
+-- the two modules are certified as a site that has no others
+abbrev pub BothAreCertified : Module → Module → Type 0
+BothAreCertified m n = certified (m ∷ n ∷ []) ≡ m ∷ n ∷ []
+
+-- neither of them is
+abbrev pub NeitherIsCertified : Module → Module → Type 0
+NeitherIsCertified m n = certified (m ∷ n ∷ []) ≡ []
+
+-- the second of them alone is
+abbrev pub SecondIsCertified : Module → Module → Type 0
+SecondIsCertified m n = certified (m ∷ n ∷ []) ≡ n ∷ []
+
+-- the modules m/1 and n/1 of these records
+abbrev pub first : List Record → Module
+first records = first_module records
+
+abbrev pub second : List Record → Module
+second records = second_module records
+
+-- a module of this name, with a file in this directory
+abbrev pub in_directory : Text → Text → List Record → Module
+in_directory directory name records = record { name = name; path = directory ++ name; records = records }
+
+-- records of the one variable that the examples have
+abbrev pub sets : Text → Record
+sets value = Set variable value
+
+abbrev pub unsets : Text → Record
+unsets value = Unset variable (Some value)
+
+abbrev pub semicolon_path : Record
+semicolon_path = Back 59 variable (codes "/b" ∷ [])
+
+abbrev pub conflict : Text → Record
+conflict name = Conflict (name ∷ [])
+
+-- Uses that go together. A path with one delimiter.
+abbrev pub OneDelimiter : Type 0
+OneDelimiter = BothAreCertified (first (add_front ∷ [])) (second (Back colon variable (codes "/b" ∷ []) ∷ []))
+
+-- A stack.
+abbrev pub OneStack : Type 0
+OneStack = BothAreCertified (first (push_value ∷ [])) (second (push_value ∷ []))
+
+-- Uses that clash. A path with two delimiters.
+abbrev pub TwoDelimiters : Type 0
+TwoDelimiters = NeitherIsCertified (first (add_front ∷ [])) (second (semicolon_path ∷ []))
+
+-- A path that is also a stack.
+abbrev pub PathAndStack : Type 0
+PathAndStack = NeitherIsCertified (first (add_front ∷ [])) (second (push_value ∷ []))
+
+-- A variable that both set, to whatever value.
+abbrev pub BothSet : Type 0
+BothSet = NeitherIsCertified (first (sets (codes "x") ∷ [])) (second (sets (codes "x") ∷ []))
+
+-- A variable whose one value both unset.
+abbrev pub BothUnset : Type 0
+BothUnset = NeitherIsCertified (first (unsets (codes "x") ∷ [])) (second (unsets (codes "x") ∷ []))
+
+-- Other variables clash with none.
+abbrev pub OtherVariable : Type 0
+OtherVariable =
+    BothAreCertified (first (sets (codes "x") ∷ [])) (second (Set (codes "W") (codes "x") ∷ Push (codes "X") [] ∷ []))
+
+-- Modules that exclude each other. The first is in conflict with the second.
+abbrev pub FirstInConflict : Type 0
+FirstInConflict =
+    BothAreCertified (first (conflict (codes "n/1") ∷ sets (codes "x") ∷ [])) (second (sets (codes "y") ∷ []))
+
+-- The second is in conflict with the first.
+abbrev pub SecondInConflict : Type 0
+SecondInConflict =
+    BothAreCertified (first (sets (codes "x") ∷ [])) (second (conflict (codes "m/1") ∷ sets (codes "y") ∷ []))
+
+-- A conflict with the first part of a name.
+abbrev pub ConflictByPart : Type 0
+ConflictByPart =
+    BothAreCertified (first (conflict (codes "n") ∷ sets (codes "x") ∷ [])) (second (sets (codes "y") ∷ []))
+
+-- A conflict with letters that a name begins with, which are no part of it, excludes nothing.
+abbrev pub ConflictByLetters : Type 0
+ConflictByLetters =
+    NeitherIsCertified (first (conflict (codes "n") ∷ sets (codes "x") ∷ []))
+    (in_directory (codes "/m/") (codes "nn/1") (sets (codes "y") ∷ []))
+
+-- A conflict with another module excludes nothing.
+abbrev pub ConflictWithAnother : Type 0
+ConflictWithAnother =
+    NeitherIsCertified (first (conflict (codes "o") ∷ sets (codes "x") ∷ [])) (second (sets (codes "y") ∷ []))
+
+-- Two versions of one module don't exclude each other by that.
+abbrev pub TwoVersions : Type 0
+TwoVersions =
+    NeitherIsCertified (first (sets (codes "x") ∷ [])) (in_directory (codes "/m/") (codes "m/2") (sets (codes "y") ∷ []))
+
+-- Two files of one name do.
+abbrev pub TwoFiles : Type 0
+TwoFiles =
+    BothAreCertified (first (sets (codes "x") ∷ [])) (in_directory (codes "/n/") (codes "m/1") (sets (codes "y") ∷ []))
+
+-- Modules that exclude each other may have different uses.
+abbrev pub SetAndPushed : Type 0
+SetAndPushed =
+    BothAreCertified (first (conflict (codes "n") ∷ sets (codes "x") ∷ [])) (second (push_value ∷ []))
+
+abbrev pub ExclusiveDelimiters : Type 0
+ExclusiveDelimiters =
+    BothAreCertified (first (conflict (codes "n") ∷ add_front ∷ [])) (second (semicolon_path ∷ []))
+
+-- They clash all the same where no start agrees with both: one sets the variable and the other unsets it,
+abbrev pub SetAndUnset : Type 0
+SetAndUnset =
+    NeitherIsCertified (first (conflict (codes "n") ∷ sets (codes "x") ∷ [])) (second (unsets (codes "x") ∷ []))
+
+-- or they unset two values,
+abbrev pub TwoValues : Type 0
+TwoValues =
+    NeitherIsCertified (first (conflict (codes "n") ∷ unsets (codes "x") ∷ [])) (second (unsets (codes "y") ∷ []))
+
+-- also two files of one name;
+abbrev pub TwoFilesAndValues : Type 0
+TwoFilesAndValues =
+    NeitherIsCertified (first (unsets (codes "x") ∷ []))
+    (in_directory (codes "/n/") (codes "m/1") (unsets (codes "y") ∷ []))
+
+-- but not where they unset one value.
+abbrev pub OneValue : Type 0
+OneValue =
+    BothAreCertified (first (conflict (codes "n") ∷ unsets (codes "x") ∷ [])) (second (unsets (codes "x") ∷ []))
+
+-- Modules out of step, with which no other clashes. Two uses of one variable,
+abbrev pub TwoUses : Type 0
+TwoUses = SecondIsCertified (first (sets (codes "y") ∷ push_value ∷ [])) (second (sets (codes "x") ∷ []))
+
+-- as of two delimiters,
+abbrev pub DelimitersInOne : Type 0
+DelimitersInOne = SecondIsCertified (first (add_front ∷ semicolon_path ∷ [])) (second (sets (codes "x") ∷ []))
+
+-- or of two values.
+abbrev pub ValuesInOne : Type 0
+ValuesInOne = SecondIsCertified (first (unsets (codes "x") ∷ unsets (codes "y") ∷ [])) (second (push_value ∷ []))
+
+-- MODULEPATH as a stack,
+abbrev pub ModulepathPushed : Type 0
+ModulepathPushed = SecondIsCertified (first (Push modulepath (codes "/n") ∷ [])) (second (push_value ∷ []))
+
+-- or with another delimiter;
+abbrev pub ModulepathParted : Type 0
+ModulepathParted = SecondIsCertified (first (Front 59 modulepath (codes "/n" ∷ []) ∷ [])) (second (push_value ∷ []))
+
+-- as a path with colons it is in step.
+abbrev pub ModulepathExtended : Type 0
+ModulepathExtended =
+    BothAreCertified (first (Front colon modulepath (codes "/n" ∷ []) ∷ []))
+    (second (Back colon modulepath (codes "/o" ∷ []) ∷ []))
+
+-- Nor does any clash with one that has a record of a kind that unloading doesn't undo.
+abbrev pub OneWay : Type 0
+OneWay =
+    SecondIsCertified (first (sets (codes "y") ∷ Remove colon (codes "PATH") (codes "/a" ∷ []) ∷ []))
+    (second (sets (codes "x") ∷ []))
+
+-- Why uses clash. The start agrees with all that the modules use, and accepted moves that load and unload them lose it.
+pub record LoseTogether (ms : List Module) (start : Environment) (moves : List Move) : Type 0 where
+  pub agrees : AgreesWith (used_by_modules ms) start
+  pub lose : Lose start moves
+
+-- the same of two modules of one record each, which are loaded, and then unloaded in the order of their loads
+abbrev pub LoseByRecords : Record → Record → Environment → Type 0
+LoseByRecords r s start = LoseTogether (first (r ∷ []) ∷ second (s ∷ []) ∷ []) start (crossed r s)
+
+abbrev pub LoseByDelimiters : Type 0
+LoseByDelimiters =
+    LoseByRecords (Back colon variable (codes "b" ∷ [])) (Back 59 variable (codes "c" ∷ []))
+    (held ((variable, codes "a") ∷ []))
+
+abbrev pub LoseByPathAndStack : Type 0
+LoseByPathAndStack = LoseByRecords add_front push_value (held ((variable, codes "/b") ∷ []))
+
+abbrev pub LoseBySetAndPush : Type 0
+LoseBySetAndPush = LoseByRecords (sets (codes "y")) push_value (held [])
+
+abbrev pub LoseByUnsetAndPush : Type 0
+LoseByUnsetAndPush = LoseByRecords (unsets (codes "y")) push_value (held ((variable, codes "y") ∷ []))
+
+-- The start agrees with all that the modules use, and accepted moves reach an environment that isn't the start with the
+-- live ones layered on it.
+pub record LoseBetween (ms : List Module) (start : Environment) (moves : List Move) : Type 0 where
+  pub agrees : AgreesWith (used_by_modules ms) start
+  pub end : Environment
+  pub reach : MovesReach moves start end
+  pub differs : IsStartWith (uses_by (live_after [] moves)) start (live_after [] moves) end → ⊥
+
+-- Both modules set a variable, and the unload of one takes the value of the other.
+abbrev pub LoseByBothSet : Type 0
+LoseByBothSet =
+    LoseBetween (first (sets (codes "x") ∷ []) ∷ second (sets (codes "y") ∷ []) ∷ []) (held [])
+    (Loads (first (sets (codes "x") ∷ [])) ∷ Loads (second (sets (codes "y") ∷ []))
+    ∷ Unloads (first (sets (codes "x") ∷ [])) ∷ [])
+
+-- One module with two uses of a variable: it sets it, and then pushes a value. After a load and its unload the variable
+-- has the value that was set, though it was unset in a start that agrees with both uses.
+abbrev pub SetAndPushLeaveValue : Type 0
+SetAndPushLeaveValue =
+    (owner v value pushed : Text) (start end : Environment)
+    → AgreesWith (used_by (Set v value ∷ Push v pushed ∷ [])) start
+    → ThereAndBack owner (Set v value ∷ Push v pushed ∷ []) start end
+    → (lookup start v ≡ None) × (lookup end v ≡ Some value)
+
+-- No start agrees with two uses that don't agree there.
+abbrev pub StartsAgree : Type 0
+StartsAgree =
+    (start : Environment) (v : Text) (x y : VariableUse) → AgreesWithUse start v x → AgreesWithUse start v y
+    → agree_at_start x y ≡ true

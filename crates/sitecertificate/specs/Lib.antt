@@ -1,0 +1,22 @@
+pub mod RecordUses
+pub mod Clashes
+pub mod Certificates
+pub mod Laws
+pub mod Examples
+pub mod UseViews
+-- What modules stand for, so that a caller need not name the crates below.
+pub mod Disagreements
+pub mod DisagreementViews
+pub mod Rewriting
+pub mod ClashAnswers
+pub mod EachOnce
+pub mod Users
+pub mod UserViews
+pub mod Families
+pub mod Ways
+pub mod Tables
+pub mod Conflicts
+pub mod UsingModules
+pub mod ClashingUsers
+pub mod UseKeys
+pub mod Once

@@ -1,0 +1,88 @@
+-- How the records of modules use variables (own): each by itself, and those of one module together.
+use Rattle.std.specs.Prelude.{◌≡◌, ◌⊎◌, Bool, true, false, not, ◌&&◌, ◌||◌, ◌==◌, List, [], ◌∷◌, filter_map, flat_map, bytes_eq, codes, if◌then◌else◌, Option, Some, None}
+use Rattle.std.specs.List.{list_all}
+use Rattle.std.specs.Option.{option_eq}
+use Rattle.envvars.specs.Texts.{Text}
+use Rattle.envvars.specs.Fields.{colon}
+use Rattle.modulefile.specs.Records.{Record, Set, Unset, Push, Front, Back, Remove, Conflict, Prereq, Whatis}
+use Rattle.modulefile.specs.Moves.{Module}
+use Rattle.reversal.specs.VariableUses.{VariableUse, Untouched, Fixed, Pathed, Stacked, is_reversible}
+
+-- a variable, and a use of it
+abbrev pub UsedVariable : Type 0
+UsedVariable = Text × VariableUse
+
+-- The variable that a record uses, and how: `setenv` sets it, `unsetenv` unsets the value that it gives, and the others
+-- use it as a path with a delimiter, or as a stack. None where the record names no variable, or is of a kind that
+-- unloading doesn't undo.
+abbrev pub use_by : Record → Option UsedVariable
+use_by (Set var value) = Some (var, Fixed None)
+use_by (Unset var None) = None
+use_by (Unset var (Some value)) = Some (var, Fixed (Some value))
+use_by (Push var value) = Some (var, Stacked)
+use_by (Front delim var xs) = Some (var, Pathed delim)
+use_by (Back delim var xs) = Some (var, Pathed delim)
+use_by (Remove delim var xs) = None
+use_by (Conflict names) = None
+use_by (Prereq names) = None
+use_by (Whatis text) = None
+
+-- what the records use
+abbrev pub used_by : List Record → List UsedVariable
+used_by rs = filter_map use_by rs
+
+-- what the modules use
+abbrev pub used_by_modules : List Module → List UsedVariable
+used_by_modules ms = flat_map (λ m. used_by m.records) ms
+
+-- it is one of the list
+abbrev pub IsAmong : {X : Type 0} → X → List X → Type 0
+IsAmong x [] = ⊥
+IsAmong x (y ∷ ys) = (x ≡ y) ⊎ IsAmong x ys
+
+-- some record uses the variable so
+abbrev pub Uses : List Record → Text → VariableUse → Type 0
+Uses rs v x = IsAmong (v, x) (used_by rs)
+
+-- the variable of the directories in which modules are
+abbrev pub modulepath : Text
+modulepath = codes "MODULEPATH"
+
+-- The records are in step: they use each variable in one way, and MODULEPATH as a path with colons.
+pub record AreInStep (rs : List Record) : Type 0 where
+  pub one_use : (v : Text) (x y : VariableUse) → Uses rs v x → Uses rs v y → x ≡ y
+  pub modulepath : (x : VariableUse) → Uses rs modulepath x → x ≡ Pathed colon
+
+-- A module in step: its records are of the kinds alone that unloading undoes, and they are in step.
+pub record IsInStep (m : Module) : Type 0 where
+  pub reversible : list_all is_reversible m.records ≡ true
+  pub in_step : AreInStep m.records
+
+-- The same as tests. Two uses are one.
+abbrev pub same_use : VariableUse → VariableUse → Bool
+same_use Untouched Untouched = true
+same_use (Fixed x) (Fixed y) = option_eq bytes_eq x y
+same_use (Pathed d) (Pathed k) = d == k
+same_use Stacked Stacked = true
+same_use x y = false
+
+-- they are of two variables, or are one use
+abbrev pub use_alike : UsedVariable → UsedVariable → Bool
+use_alike p q = not (bytes_eq p.0 q.0) || same_use p.1 q.1
+
+-- no two of them use one variable in two ways, and none uses MODULEPATH but as a path with colons
+abbrev pub are_in_step : List UsedVariable → Bool
+are_in_step ps = list_all (λ p. use_alike p (modulepath, Pathed colon) && list_all (use_alike p) ps) ps
+
+-- the module is in step
+abbrev pub is_in_step : Module → Bool
+is_in_step m = list_all is_reversible m.records && are_in_step (used_by m.records)
+
+-- The use of a variable by the first of the pairs that has it; untouched where none has.
+abbrev pub first_use : Text → List UsedVariable → VariableUse
+first_use v [] = Untouched
+first_use v (p ∷ ps) = if bytes_eq v p.0 then p.1 else first_use v ps
+
+-- how the modules use each variable: as the first record of one of them does that names it
+abbrev pub uses_by : List Module → Text → VariableUse
+uses_by ms v = first_use v (used_by_modules ms)

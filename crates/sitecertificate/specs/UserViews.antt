@@ -1,0 +1,9 @@
+-- The users of variables in the code, as the definitions see them (own).
+use Rattle.modules.specs.MoveViews.{module_view}
+use Rattle.sitecertificate.specs.UseViews.{used_view}
+use Rattle.sitecertificate.specs.Users.{ModuleUse}
+use Rattle.sitecertificate.specs.declared.users.User.{User}
+
+-- a user
+abbrev pub user_view : User → ModuleUse
+user_view u = record { owner = module_view u.owner.now; used = used_view u.used.now }

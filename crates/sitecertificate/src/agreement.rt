@@ -1,0 +1,137 @@
+//! Where an environment doesn't agree with a certificate.
+ghost use Rattle.std.specs.Prelude.{◌≡◌, ◌↔◌, [], Some, map, IfOk, IfErr, OnOk, IsTrue};
+ghost use Rattle.std.specs.Option.{option_map};
+ghost use Rattle.envvars.specs.declared.fault.EnvFault.TheVariants.{OutOfMemory};
+ghost use Rattle.envloaded.specs.Loaded.{loaded_in};
+ghost use Rattle.envloaded.specs.LoadedEntries.{entry_view};
+ghost use Rattle.sitecertificate.specs.RecordUses.{IsAmong};
+ghost use Rattle.sitecertificate.specs.Certificates.{AgreesWithUse, AgreesWith};
+ghost use Rattle.sitecertificate.specs.UseViews.{used_view};
+ghost use Rattle.sitecertificate.specs.Disagreements as reasons;
+ghost use Rattle.sitecertificate.specs.Disagreements.{IsDisagreement, use_named, IsJudged, IsListJudged};
+ghost use Rattle.sitecertificate.specs.DisagreementViews.{disagreement_view};
+
+use crate::disagreement::Disagreement;
+use crate::list::{are_loaded_in_order, loaded_entries};
+use crate::stacks::is_stack_in_order;
+use crate::uses::{UsedVariable, VariableUse};
+use envloaded::Loaded;
+use envpaths::is_path_in_order;
+use envvars::{Env, EnvFault};
+use std::alloc::{AllocError, Global};
+
+/// Whether an environment with these modules loaded agrees with a use of a variable. Where the texts of the loaded modules
+/// don't fit together, it agrees with each stack.
+fn agrees_with_use(
+    alloc: Global,
+    env: &Env,
+    owners: &Option<Vec<Loaded>>,
+    wanted: &UsedVariable,
+) -> Result<bool, EnvFault>
+    requires { option_map (λ v. map entry_view v.items) owners.now ≡ loaded_in env.now }
+    ensures decided { IfOk result (λ b. IsTrue b
+        ↔ AgreesWithUse env.now (used_view wanted.now).0 (used_view wanted.now).1) }
+    ensures only { IfErr result (λ e. e ≡ OutOfMemory) }
+{
+    let variable = wanted.variable.as_str();
+    match &wanted.used {
+        VariableUse::Fixed(None) => Ok(env.get(variable).is_none()),
+        VariableUse::Fixed(Some(value)) => Ok(env.get(variable) == Some(value.as_str())),
+        VariableUse::Pathed(delim) => is_path_in_order(alloc, env, variable, delim.character),
+        VariableUse::Stacked => match owners {
+            Some(owners) => is_stack_in_order(alloc, env, variable, owners.as_slice()),
+            None => Ok(true),
+        },
+    }
+}
+
+/// The reason that a use of a variable gives, where an environment doesn't agree with it.
+fn reason_for(alloc: Global, wanted: &UsedVariable) -> Result<Disagreement, AllocError>
+    ensures { IfOk result (λ reason. use_named (disagreement_view reason) ≡ Some (used_view wanted.now)) }
+{
+    let variable = String::from_str(alloc, wanted.variable.as_str())?;
+    match &wanted.used {
+        VariableUse::Fixed(None) => Ok(Disagreement::IsSet(variable)),
+        VariableUse::Fixed(Some(value)) => {
+            let value = String::from_str(alloc, value.as_str())?;
+            Ok(Disagreement::HasNotValue { variable, value })
+        }
+        VariableUse::Pathed(delim) => Ok(Disagreement::PathNotInOrder {
+            variable,
+            delim: *delim,
+        }),
+        VariableUse::Stacked => Ok(Disagreement::StackNotInOrder(variable)),
+    }
+}
+
+/// Adds the reason of a use of a variable, where the environment doesn't agree with it.
+fn judge_use(
+    alloc: Global,
+    env: &Env,
+    owners: &Option<Vec<Loaded>>,
+    wanted: &UsedVariable,
+    found: &mut Vec<Disagreement>,
+) -> Result<(), EnvFault>
+    requires { option_map (λ v. map entry_view v.items) owners.now ≡ loaded_in env.now }
+    ensures judged { OnOk result (IsJudged env.now (used_view wanted.now) (map disagreement_view found.old.items)
+        (map disagreement_view found.new.items)) }
+    ensures only { IfErr result (λ e. e ≡ OutOfMemory) }
+{
+    if agrees_with_use(alloc, env, owners, wanted)? {
+        return Ok(());
+    }
+    found.push(reason_for(alloc, wanted)?)?;
+    Ok(())
+}
+
+/// The reason of the loaded modules' texts, where they aren't in order.
+fn judge_list(alloc: Global, env: &Env) -> Result<Vec<Disagreement>, EnvFault>
+    ensures judged { IfOk result (λ found. IsListJudged env.now (map disagreement_view found.items)) }
+    ensures only { IfErr result (λ e. e ≡ OutOfMemory) }
+{
+    let mut found = Vec::new(alloc);
+    if !are_loaded_in_order(alloc, env)? {
+        found.push(Disagreement::LoadedTexts)?;
+    }
+    Ok(found)
+}
+
+/// Adds the reasons of the uses in a certificate to that of the loaded modules' texts.
+fn judge_uses(
+    alloc: Global,
+    env: &Env,
+    owners: &Option<Vec<Loaded>>,
+    certificate: &[UsedVariable],
+    list: Vec<Disagreement>,
+) -> Result<Vec<Disagreement>, EnvFault>
+    requires owners { option_map (λ v. map entry_view v.items) owners.now ≡ loaded_in env.now }
+    requires list { IsListJudged env.now (map disagreement_view list.items) }
+    ensures agrees { IfOk result (λ found. (found.items ≡ []) ↔ AgreesWith (map used_view certificate.now) env.now) }
+    ensures named { IfOk result (λ found. (d : reasons.Disagreement) → IsAmong d (map disagreement_view found.items)
+        ↔ IsDisagreement (map used_view certificate.now) env.now d) }
+    ensures only { IfErr result (λ e. e ≡ OutOfMemory) }
+{
+    let mut found = list;
+    for wanted in certificate {
+        judge_use(alloc, env, owners, wanted, &mut found)?;
+    }
+    Ok(found)
+}
+
+/// Where an environment doesn't agree with a certificate: each variable that doesn't, and why; nothing where it agrees.
+///
+/// The only error is want of memory.
+pub fn disagreements(
+    alloc: Global,
+    env: &Env,
+    certificate: &[UsedVariable],
+) -> Result<Vec<Disagreement>, EnvFault>
+    ensures agrees { IfOk result (λ found. (found.items ≡ []) ↔ AgreesWith (map used_view certificate.now) env.now) }
+    ensures named { IfOk result (λ found. (d : reasons.Disagreement) → IsAmong d (map disagreement_view found.items)
+        ↔ IsDisagreement (map used_view certificate.now) env.now d) }
+    ensures only { IfErr result (λ e. e ≡ OutOfMemory) }
+{
+    let list = judge_list(alloc, env)?;
+    let owners = loaded_entries(alloc, env)?;
+    judge_uses(alloc, env, &owners, certificate, list)
+}

@@ -1,0 +1,112 @@
+//! A clash of each of some modules with another one of them.
+ghost use Rattle.std.specs.Prelude.{◌≡◌, List, map, IfOk};
+ghost use Rattle.modulefile.specs.Moves as moves;
+ghost use Rattle.modules.specs.MoveViews.{module_view};
+ghost use Rattle.sitecertificate.specs.RecordUses.{used_by_modules};
+ghost use Rattle.sitecertificate.specs.UseViews.{used_view};
+ghost use Rattle.sitecertificate.specs.ClashAnswers.{IsAnswer, AreAnswers, without_clashes};
+ghost use Rattle.sitecertificate.specs.EachOnce.{each_once};
+ghost use Rattle.sitecertificate.specs.Users.{AreUsersOf, uses_of_modules};
+ghost use Rattle.sitecertificate.specs.UserViews.{user_view};
+ghost use Rattle.sitecertificate.specs.Tables.{users_at};
+ghost use Rattle.sitecertificate.specs.UsingModules.{module_of};
+ghost use Rattle.sitecertificate.specs.ClashingUsers.{IsClashBetween};
+
+use crate::conflicts::conflict_names;
+use crate::once::unclashed_uses;
+use crate::pairs_of_modules::{UsingModule, using_modules};
+use crate::table::VariableTable;
+use crate::users::ClashingUsers;
+use crate::uses::{UsedVariable, VariableUse};
+use modules::Module;
+use std::alloc::{AllocError, Global};
+
+/// The clash of a module with another.
+#[derive(Debug, Drop)]
+pub struct Clash {
+    /// The variable that both use.
+    pub variable: String,
+    /// The module's own use of it.
+    pub own: VariableUse,
+    /// The use of the other.
+    pub theirs: VariableUse,
+    /// The full name of the other module.
+    pub other_name: String,
+    /// The path of its file.
+    pub other_path: String,
+}
+
+/// The clash between two users of a variable.
+fn clash_between(alloc: Global, users: ClashingUsers<'_>) -> Result<Clash, AllocError>
+    ensures { IfOk result (IsClashBetween (user_view users.entry.own) (user_view users.entry.other)) }
+{
+    let ClashingUsers { own, other } = users;
+    Ok(Clash {
+        variable: String::from_str(alloc, own.used.variable.as_str())?,
+        other_name: String::from_str(alloc, other.owner.name.as_str())?,
+        other_path: String::from_str(alloc, other.owner.path.as_str())?,
+        own: own.used.used.copy(alloc)?,
+        theirs: other.used.used.copy(alloc)?,
+    })
+}
+
+/// A clash of one of the modules in a table with another.
+fn clash_of<'a>(
+    alloc: Global,
+    table: &VariableTable<'a>,
+    candidate: &'a UsingModule<'a>,
+) -> Result<Option<Clash>, AllocError>
+    ensures { IfOk result (λ answer. (ms : List moves.Module)
+        → AreUsersOf (users_at table.now) (uses_of_modules ms) → IsAnswer ms (module_of candidate.entry.now) answer) }
+{
+    let conflicts = conflict_names(alloc, candidate.owner.records.as_slice())?;
+    match table.clash_of(candidate, &conflicts) {
+        Some(users) => Ok(Some(clash_between(alloc, users)?)),
+        None => Ok(None),
+    }
+}
+
+/// A clash of each of the modules in a table with another.
+fn answers<'a>(
+    alloc: Global,
+    table: &VariableTable<'a>,
+    users: &'a [UsingModule<'a>],
+) -> Result<Vec<Option<Clash>>, AllocError>
+    ensures { IfOk result (λ found. (ms : List moves.Module)
+        → AreUsersOf (users_at table.now) (uses_of_modules ms)
+        → AreAnswers ms (map module_of users.entry.now) found.items) }
+{
+    let mut found = Vec::new(alloc);
+    for candidate in users {
+        found.push(clash_of(alloc, table, candidate)?)?;
+    }
+    Ok(found)
+}
+
+/// What is found of the clashes of some modules with one another.
+#[derive(Debug, Drop)]
+pub struct FoundClashes {
+    /// For each of the modules, in their order, a clash with another one of them; `None` where it clashes with none.
+    pub answers: Vec<Option<Clash>>,
+    /// What those use that clash with none: each use once, in the order in which they first stand.
+    pub unclashed_uses: Vec<UsedVariable>,
+}
+
+/// The clashes of modules with one another, and what those use that have none.
+///
+/// The only error is want of memory.
+pub fn clashes(alloc: Global, modules: &[Module]) -> Result<FoundClashes, AllocError>
+    ensures answers { IfOk result (λ found.
+        AreAnswers (map module_view modules.now) (map module_view modules.now) found.answers.items) }
+    ensures uses { IfOk result (λ found. map used_view found.unclashed_uses.items
+        ≡ each_once (used_by_modules (without_clashes (map module_view modules.now) found.answers.items))) }
+{
+    let users = using_modules(alloc, modules)?;
+    let table = VariableTable::of(alloc, users.as_slice())?;
+    let answers = answers(alloc, &table, users.as_slice())?;
+    let unclashed_uses = unclashed_uses(alloc, users.as_slice(), answers.as_slice())?;
+    Ok(FoundClashes {
+        answers,
+        unclashed_uses,
+    })
+}

@@ -1,0 +1,60 @@
+//! Worked examples of certificates, computed from the definitions, and why the rules are as they are.
+ghost use Rattle.sitecertificate.specs.Examples.{OneDelimiter, OneStack, TwoDelimiters, PathAndStack, BothSet, BothUnset, OtherVariable, FirstInConflict, SecondInConflict, ConflictByPart, ConflictByLetters, ConflictWithAnother, TwoVersions, TwoFiles, SetAndPushed, ExclusiveDelimiters, SetAndUnset, TwoValues, TwoFilesAndValues, OneValue, TwoUses, DelimitersInOne, ValuesInOne, ModulepathPushed, ModulepathParted, ModulepathExtended, OneWay, LoseByDelimiters, LoseByPathAndStack, LoseBySetAndPush, LoseByUnsetAndPush, LoseByBothSet, SetAndPushLeaveValue, StartsAgree};
+
+/// Two modules that don't exclude each other use one variable.
+pub fn clashes()
+    ensures one_delimiter { OneDelimiter }
+    ensures one_stack { OneStack }
+    ensures two_delimiters { TwoDelimiters }
+    ensures path_and_stack { PathAndStack }
+    ensures both_set { BothSet }
+    ensures both_unset { BothUnset }
+    ensures other_variable { OtherVariable }
+{}
+
+/// Two modules set one variable: whether they exclude each other decides.
+pub fn exclusions()
+    ensures first_in_conflict { FirstInConflict }
+    ensures second_in_conflict { SecondInConflict }
+    ensures conflict_by_part { ConflictByPart }
+    ensures conflict_by_letters { ConflictByLetters }
+    ensures conflict_with_another { ConflictWithAnother }
+    ensures two_versions { TwoVersions }
+    ensures two_files { TwoFiles }
+{}
+
+/// Two modules that exclude each other use one variable: whether a start agrees with both decides.
+pub fn exclusive_uses()
+    ensures set_and_pushed { SetAndPushed }
+    ensures delimiters { ExclusiveDelimiters }
+    ensures set_and_unset { SetAndUnset }
+    ensures two_values { TwoValues }
+    ensures two_files { TwoFilesAndValues }
+    ensures one_value { OneValue }
+{}
+
+/// Modules out of step, and one way: they aren't certified, and keep no other from being so.
+pub fn out_of_step()
+    ensures two_uses { TwoUses }
+    ensures two_delimiters { DelimitersInOne }
+    ensures two_values { ValuesInOne }
+    ensures modulepath_pushed { ModulepathPushed }
+    ensures modulepath_parted { ModulepathParted }
+    ensures modulepath_extended { ModulepathExtended }
+    ensures one_way { OneWay }
+{}
+
+/// Why uses clash: a start agrees with those of two modules, the loads and unloads of both are accepted, and the start is
+/// lost, or the value of a module that stays. One module with two uses of a variable loses it alone. And no start agrees
+/// with two uses that don't agree there.
+pub fn clashes_matter()
+    ensures delimiters { LoseByDelimiters }
+    ensures path_and_stack { LoseByPathAndStack }
+    ensures set_and_push { LoseBySetAndPush }
+    ensures unset_and_push { LoseByUnsetAndPush }
+    ensures both_set { LoseByBothSet }
+    ensures two_uses { SetAndPushLeaveValue }
+    ensures starts { StartsAgree }
+{
+    reversal::examples::uses();
+}

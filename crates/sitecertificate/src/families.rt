@@ -1,0 +1,60 @@
+//! Users of one variable whose names have one first part: a `conflict` with this part excludes all of them at once.
+ghost use Rattle.std.specs.Prelude.{◌≡◌, ◌++◌, [], ◌∷◌, map, if◌then◌else◌, is_ok, IfOk};
+ghost use Rattle.std.specs.Option.{option_map};
+ghost use Rattle.sitecertificate.specs.RecordUses.{IsAmong};
+ghost use Rattle.sitecertificate.specs.UseViews.{use_view};
+ghost use Rattle.sitecertificate.specs.Users.{ModuleUse, first_part, IsClashAmong};
+ghost use Rattle.sitecertificate.specs.UserViews.{user_view};
+
+use crate::conflicts::Seeker;
+use crate::users::{User, first_clash_among};
+use crate::uses::{VariableUse, uses_clash};
+use std::alloc::{AllocError, Global};
+
+/// Users of one variable whose names have one first part.
+#[derive(Drop)]
+pub(crate) struct Family<'a> {
+    /// The first part of their names.
+    pub(crate) root: &'a str,
+    /// The users.
+    pub(crate) users: Vec<User<'a>>,
+    ghost rooted: { (y : ModuleUse) → IsAmong y (map user_view users.items) → first_part y.owner.name ≡ root.now },
+}
+
+impl<'a> Family<'a> {
+    /// The family of one user.
+    pub(crate) fn of_one(alloc: Global, user: User<'a>) -> Result<Family<'a>, AllocError>
+        ensures { IfOk result (λ family. map user_view family.users.items ≡ user_view user.entry ∷ []) }
+    {
+        let mut users = Vec::new(alloc);
+        users.push(user)?;
+        Ok(Family {
+            root: user.root(),
+            users,
+        })
+    }
+
+    /// Adds a user whose name has the same first part.
+    pub(crate) fn push(&mut self, user: User<'a>) -> Result<(), AllocError>
+        requires { first_part (user_view user).owner.name ≡ self.old.root.now }
+        ensures { map user_view self.new.users.items ≡ (if is_ok result
+            then map user_view self.old.users.items ++ user_view user.entry ∷ []
+            else map user_view self.old.users.items) }
+    {
+        self.users.push(user)?;
+        Ok(())
+    }
+
+    /// The first user that clashes with the seeker, where all use the variable in this way. None is looked at where a
+    /// start can agree with both uses, and the seeker's conflicts exclude the whole family.
+    pub(crate) fn first_clash(&self, seeker: &Seeker<'_>, way: &VariableUse) -> Option<User<'a>>
+        requires { (y : ModuleUse) → IsAmong y (map user_view self.now.users.items) → y.used.1 ≡ use_view way.now }
+        ensures { IsClashAmong (user_view seeker.now.user) (map user_view self.now.users.items)
+            (option_map user_view result) }
+    {
+        if seeker.excludes_family(self.root) && !uses_clash(true, &seeker.user.used.used, way) {
+            return None;
+        }
+        first_clash_among(seeker.user, self.users.as_slice())
+    }
+}

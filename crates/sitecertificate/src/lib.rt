@@ -1,0 +1,29 @@
+//! Which modules of a site need no judgement: their certificate, the starts that agree with it, and where modules clash.
+//! Takes memory and touches nothing else.
+#![tactic(auto)]
+
+mod agreement;
+mod answers;
+mod conflicts;
+mod disagreement;
+mod examples;
+mod families;
+mod keys;
+pub mod laws;
+mod list;
+mod names;
+mod once;
+mod pairs;
+mod pairs_of_modules;
+mod stacks;
+mod table;
+mod users;
+mod uses;
+mod variables;
+mod ways;
+
+pub use agreement::disagreements;
+pub use answers::{Clash, FoundClashes, clashes};
+pub use disagreement::Disagreement;
+pub use laws::certified;
+pub use uses::{UsedVariable, VariableUse, first_unlike, used_by};

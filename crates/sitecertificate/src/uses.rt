@@ -1,0 +1,185 @@
+//! How the records of a module use variables: each by itself, and those of one module together.
+ghost use Rattle.std.specs.Prelude.{◌≡◌, ◌++◌, [], ◌∷◌, find, map, not, IfOk, OnOk};
+ghost use Rattle.std.specs.Option.{option_map};
+ghost use Rattle.modulefile.specs.RecordViews.{record_view};
+ghost use Rattle.sitecertificate.specs.RecordUses as uses;
+ghost use Rattle.sitecertificate.specs.Clashes as clashes;
+ghost use Rattle.sitecertificate.specs.UseViews.{use_view, used_view};
+
+use modulefile::{Delimiter, PathEdit, Record};
+use std::alloc::{AllocError, Global};
+
+/// How a record uses the variable that it names.
+#[derive(Debug, Drop)]
+pub enum VariableUse {
+    /// It sets the variable, which is unset else; or it unsets the variable, which else has this value.
+    Fixed(Option<String>),
+    /// It uses the variable as a path with this delimiter.
+    Pathed(Delimiter),
+    /// It uses the variable as a stack.
+    Stacked,
+}
+
+impl VariableUse {
+    /// A copy of the use.
+    pub fn copy(&self, alloc: Global) -> Result<VariableUse, AllocError>
+        ensures { IfOk result (λ copy. use_view copy ≡ use_view self.now) }
+    {
+        match self {
+            VariableUse::Fixed(None) => Ok(VariableUse::Fixed(None)),
+            VariableUse::Fixed(Some(value)) => {
+                let value = String::from_str(alloc, value.as_str())?;
+                Ok(VariableUse::Fixed(Some(value)))
+            }
+            VariableUse::Pathed(delim) => Ok(VariableUse::Pathed(*delim)),
+            VariableUse::Stacked => Ok(VariableUse::Stacked),
+        }
+    }
+}
+
+/// A variable, and a use of it.
+#[derive(Debug, Drop)]
+pub struct UsedVariable {
+    /// The name of the variable.
+    pub variable: String,
+    /// How it is used.
+    pub used: VariableUse,
+}
+
+/// A copy of the name of a variable, with this use.
+fn use_of(alloc: Global, variable: &str, used: VariableUse) -> Result<UsedVariable, AllocError>
+    ensures { IfOk result (λ p. used_view p ≡ (variable.now, use_view used)) }
+{
+    Ok(UsedVariable {
+        variable: String::from_str(alloc, variable)?,
+        used,
+    })
+}
+
+/// The variable that a record uses, and how; `None` where it names no variable, or where unloading doesn't undo it.
+fn use_by(alloc: Global, recorded: &Record) -> Result<Option<UsedVariable>, AllocError>
+    ensures { IfOk result (λ found. option_map used_view found ≡ uses.use_by (record_view recorded.now)) }
+{
+    match recorded {
+        Record::Set { var, value: _ } => {
+            use_of(alloc, var.as_str(), VariableUse::Fixed(None)).map(Some)
+        }
+        Record::Unset {
+            var,
+            value: Some(value),
+        } => {
+            let value = String::from_str(alloc, value.as_str())?;
+            use_of(alloc, var.as_str(), VariableUse::Fixed(Some(value))).map(Some)
+        }
+        Record::Push { var, value: _ } => {
+            use_of(alloc, var.as_str(), VariableUse::Stacked).map(Some)
+        }
+        Record::Path {
+            edit: PathEdit::Remove,
+            ..
+        } => Ok(None),
+        Record::Path { delim, var, .. } => {
+            use_of(alloc, var.as_str(), VariableUse::Pathed(*delim)).map(Some)
+        }
+        Record::Unset { value: None, .. }
+        | Record::Conflict(_)
+        | Record::Prereq(_)
+        | Record::Whatis(_) => Ok(None),
+    }
+}
+
+/// Adds the use by a record, if it has one.
+fn push_use(
+    alloc: Global,
+    used: &mut Vec<UsedVariable>,
+    recorded: &Record,
+) -> Result<(), AllocError>
+    ensures { OnOk result (map used_view used.new.items
+        ≡ map used_view used.old.items ++ uses.used_by (record_view recorded.now ∷ [])) }
+{
+    if let Some(by_record) = use_by(alloc, recorded)? {
+        used.push(by_record)?;
+    }
+    Ok(())
+}
+
+/// What the records use, in their order.
+pub fn used_by(alloc: Global, records: &[Record]) -> Result<Vec<UsedVariable>, AllocError>
+    ensures { IfOk result (λ used. map used_view used.items ≡ uses.used_by (map record_view records.now)) }
+{
+    let mut used = Vec::new(alloc);
+    for recorded in records {
+        push_use(alloc, &mut used, recorded)?;
+    }
+    Ok(used)
+}
+
+/// Whether modules that are loaded at once may use a variable in these two ways: both as a path with one delimiter, or
+/// both as a stack.
+pub fn go_together(one: &VariableUse, other: &VariableUse) -> bool
+    ensures { result ≡ clashes.go_together (use_view one.now) (use_view other.now) }
+{
+    match (one, other) {
+        (VariableUse::Pathed(one), VariableUse::Pathed(other)) => {
+            one.character == other.character
+        }
+        (VariableUse::Stacked, VariableUse::Stacked) => true,
+        _ => false,
+    }
+}
+
+/// Whether a start can agree with both uses of a variable.
+fn agree_at_start(one: &VariableUse, other: &VariableUse) -> bool
+    ensures { result ≡ clashes.agree_at_start (use_view one.now) (use_view other.now) }
+{
+    match (one, other) {
+        (VariableUse::Fixed(None), VariableUse::Fixed(None)) => true,
+        (VariableUse::Fixed(Some(one)), VariableUse::Fixed(Some(other))) => {
+            one.as_str() == other.as_str()
+        }
+        (VariableUse::Fixed(_), VariableUse::Fixed(_)) => false,
+        _ => true,
+    }
+}
+
+/// Whether two uses are one.
+fn same_use(one: &VariableUse, other: &VariableUse) -> bool
+    ensures { result ≡ uses.same_use (use_view one.now) (use_view other.now) }
+{
+    match (one, other) {
+        (VariableUse::Fixed(None), VariableUse::Fixed(None)) => true,
+        (VariableUse::Fixed(Some(one)), VariableUse::Fixed(Some(other))) => {
+            one.as_str() == other.as_str()
+        }
+        (VariableUse::Pathed(one), VariableUse::Pathed(other)) => {
+            one.character == other.character
+        }
+        (VariableUse::Stacked, VariableUse::Stacked) => true,
+        _ => false,
+    }
+}
+
+/// Whether two uses of one variable clash, by modules that exclude each other or don't.
+pub fn uses_clash(excluded: bool, one: &VariableUse, other: &VariableUse) -> bool
+    ensures { result ≡ clashes.uses_clash excluded (use_view one.now) (use_view other.now) }
+{
+    !(excluded || go_together(one, other)) || !agree_at_start(one, other)
+}
+
+/// Whether two uses are of two variables, or are one.
+fn is_alike(one: &UsedVariable, other: &UsedVariable) -> bool
+    ensures { result ≡ uses.use_alike (used_view one.now) (used_view other.now) }
+{
+    one.variable.as_str() != other.variable.as_str() || same_use(&one.used, &other.used)
+}
+
+/// The first of the uses that uses the same variable in another way.
+pub fn first_unlike<'a>(
+    one: &UsedVariable,
+    all_used: &'a [UsedVariable],
+) -> Option<&'a UsedVariable>
+    ensures { option_map (λ x. used_view x.now) result
+        ≡ find (λ other. not (uses.use_alike (used_view one.now) other)) (map used_view all_used.entry.now) }
+{
+    all_used.iter().find(|other| !is_alike(one, other))
+}

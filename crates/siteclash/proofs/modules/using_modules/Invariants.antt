@@ -1,7 +1,0 @@
-use Rattle.std.proofs.Common.{◌≡◌, map, take}
-use Rattle.certificate.specs.MoveViews.{module_view}
-use Rattle.siteclash.specs.UsingModules.{module_of}
-use Rattle.siteclash.proofs.modules.using_modules.Given as goal
-
-abbrev pub invariant-loop-module : goal.invariant-loop-module
-invariant-loop-module l = map module_of l.users.items ≡ map module_view (take l.module-index l.modules)

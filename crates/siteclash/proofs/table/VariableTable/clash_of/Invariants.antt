@@ -1,8 +1,0 @@
-use Rattle.std.proofs.Common.{◌≡◌, false, take, map}
-use Rattle.siteclash.specs.Tables.{users_at}
-use Rattle.siteclash.specs.UsingModules.{module_of}
-use Rattle.siteclash.proofs.TableLemmas.{use_of, some_clash}
-use Rattle.siteclash.proofs.table.VariableTable.clash_of.Given as goal
-
-abbrev pub invariant-loop-used : goal.invariant-loop-used
-invariant-loop-used l = some_clash (users_at l.self) (map (use_of (module_of l.candidate)) (take l.used-index l.used-items)) ≡ false

@@ -1,9 +1,0 @@
--- The users of variables in the code, as the definitions see them (own).
-use Rattle.certificate.specs.MoveViews.{module_view}
-use Rattle.certificate.specs.UseViews.{used_view}
-use Rattle.siteclash.specs.Users.{ModuleUse}
-use Rattle.siteclash.specs.declared.users.User.{User}
-
--- a user
-abbrev pub user_view : User → ModuleUse
-user_view u = record { owner = module_view u.owner.now; used = used_view u.used.now }

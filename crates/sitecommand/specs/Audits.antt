@@ -1,0 +1,142 @@
+-- What an audit writes to its two writers, and why there is none (own).
+use Rattle.std.specs.Prelude.{◌≡◌, ◌⊎◌, ℕ, Bool, true, false, List, [], ◌∷◌, ◌++◌, codes, Option, Some, None, IsSome, ◌==◌, string_bytes}
+use Rattle.std.specs.declared.alloc.Global.{Global}
+use Rattle.std.specs.declared.string.String.{String}
+use Rattle.std.specs.List.{join_with_byte, list_all, list_any}
+use Rattle.std.specs.Io.KnownBytes.{Keeps, Appends}
+use Rattle.envvars.specs.Texts.{Text}
+use Rattle.envvars.specs.Environment.{Environment, with_value}
+use Rattle.filetree.specs.Agreement.{Files, Listings, InEachPair}
+use Rattle.filetree.specs.Causes.{Applies}
+use Rattle.modules.specs.Answers.{cause_of}
+use Rattle.modules.specs.declared.refusal.Refusal.{Refusal}
+use Rattle.modules.specs.declared.refusal.Refusal.TheVariants.{BadArguments}
+use Rattle.sitelaws.specs.Sites.{Site, site_of}
+use Rattle.siteaudit.specs.Walks.{HasCause}
+use Rattle.siteaudit.specs.declared.fault.WalkFault.{WalkFault}
+use Rattle.siteaudit.specs.Audits.{IsAudit, CertificateStands, is_certified}
+use Rattle.siteaudit.specs.declared.auditing.SiteAudit.{SiteAudit}
+use Rattle.sitereport.specs.Documents.{document_text}
+use Rattle.sitereport.specs.Reports.{report_of}
+use Rattle.modulecmd.specs.Command.{standard}
+use Rattle.modulecmd.specs.Writing.{AppendsPart}
+use Rattle.sitecommand.specs.Arguments.{Wanted, wanted_of}
+use Rattle.sitecommand.specs.Faults.{is_failure, line_of, of_walk}
+use Rattle.sitecommand.specs.declared.arguments.Format.{Format}
+use Rattle.sitecommand.specs.declared.arguments.Format.TheVariants.{Lines, Document}
+use Rattle.sitecommand.specs.declared.audit_exit.AuditExit.{AuditExit}
+use Rattle.sitecommand.specs.declared.audit_exit.AuditExit.TheVariants.{AllCertified, SomeNotCertified, Reported, CutShort}
+use Rattle.sitecommand.specs.declared.audit_fault.AuditFault.{AuditFault}
+use Rattle.sitecommand.specs.declared.audit_fault.AuditFault.TheVariants.{Refused, NotADirectory, WriteFailed}
+
+-- ---- what is judged
+
+-- The environment that is judged: that at hand; where directories are given, with these as its MODULEPATH, and without
+-- counters of it.
+abbrev pub judged_env : Environment → List Text → Environment
+judged_env e [] = e
+judged_env e (dir ∷ dirs) =
+    with_value (with_value e (codes "__MODULES_SHARE_MODULEPATH") None) (codes "MODULEPATH")
+    (Some (join_with_byte 58 (dir ∷ dirs)))
+
+-- the site that is judged, over these maps
+abbrev pub judged_site : Environment → Wanted → Files → Listings → Site
+judged_site e wanted files listings = site_of standard (judged_env e wanted.directories) files listings
+
+-- the text has a colon, so that MODULEPATH can't hold it as one directory
+abbrev pub has_colon : Text → Bool
+has_colon text = list_any (λ c. c == 58) text
+
+-- A directory is at the path, and MODULEPATH can hold the path.
+pub record IsDirectory (agrees : Files → Listings → Type 0) (dir : Text) : Type 0 where
+  pub colonless : has_colon dir ≡ false
+  pub listed : InEachPair agrees (λ files listings. IsSome (listings dir))
+
+-- no directory is there, or MODULEPATH can't hold the path
+abbrev pub IsNoDirectory : (Files → Listings → Type 0) → Text → Type 0
+IsNoDirectory agrees dir =
+    (has_colon dir ≡ true) ⊎ InEachPair agrees (λ files listings. listings dir ≡ None)
+
+-- a directory is at each of the paths
+abbrev pub AreDirectories : (Files → Listings → Type 0) → List Text → Type 0
+AreDirectories agrees [] = Unit {0}
+AreDirectories agrees (dir ∷ dirs) = IsDirectory agrees dir × AreDirectories agrees dirs
+
+-- The directory is the first of these that isn't there.
+pub record IsFirstGone (agrees : Files → Listings → Type 0) (dirs : List Text) (dir : Text) : Type 0 where
+  pub before : List Text
+  pub after : List Text
+  pub order : dirs ≡ before ++ dir ∷ after
+  pub there : AreDirectories agrees before
+  pub gone : IsNoDirectory agrees dir
+
+-- The site that the arguments name was audited: each of their directories is there, what was found is an audit, and its
+-- certificate holds.
+pub record IsAudited (agrees : Files → Listings → Type 0) (e : Environment) (arguments : List Text) (wanted : Wanted)
+    (found : SiteAudit) : Type 0 where
+  pub asked : wanted_of arguments ≡ Some wanted
+  pub directories : AreDirectories agrees wanted.directories
+  pub exact : InEachPair agrees (λ files listings. IsAudit (judged_site e wanted files listings) found)
+  pub holds : InEachPair agrees (λ files listings. CertificateStands (judged_site e wanted files listings) found)
+
+-- ---- what is written
+
+-- the report, as lines or as one JSON document
+abbrev pub text_by : Format → Wanted → SiteAudit → Text
+text_by Lines wanted found = report_of wanted.selection found
+text_by Document wanted found = document_text wanted.selection found
+
+-- the same by what is asked for
+abbrev pub report_text : Wanted → SiteAudit → Text
+report_text wanted found = text_by wanted.format wanted found
+
+-- each module is certified
+abbrev pub all_certified : SiteAudit → Bool
+all_certified found = list_all (λ m. is_certified m.standing) found.modules.items
+
+-- What is written of a fault: its whole line, or else a first part of it that is not the whole.
+abbrev pub WritesFault : AuditExit → Option Text → Option Text → AuditFault → Type 0
+WritesFault AllCertified err err' fault = ⊥
+WritesFault SomeNotCertified err err' fault = ⊥
+WritesFault Reported err err' fault = Appends err err' (line_of fault)
+WritesFault CutShort err err' fault = AppendsPart err err' (line_of fault)
+
+-- What is written of an audit: the report on standard output, and nothing on standard error; or where a write failed, a
+-- first part of the report, and the line that says so. Where all is written, the exit says whether each module is certified.
+abbrev pub WritesAudit : AuditExit → Bool → Text → Option Text → Option Text → Option Text → Option Text → Type 0
+WritesAudit AllCertified all text out out' err err' = (all ≡ true) × Appends out out' text × Keeps err err'
+WritesAudit SomeNotCertified all text out out' err err' = (all ≡ false) × Appends out out' text × Keeps err err'
+WritesAudit exit all text out out' err err' = AppendsPart out out' text × WritesFault exit err err' WriteFailed
+
+-- ---- why there is none
+
+-- The cause of a fault, in the order in which all but the last are looked for: an option isn't known; a word names no
+-- directory, and it is the first; each of them is there, and the walk over the site has a cause. At any time memory is
+-- wanting, or the device has failed.
+pub data IsAuditFault (agrees : Files → Listings → Type 0) (failed : Type 0) (e : Environment) (arguments : List Text)
+    : AuditFault → Type 0 where
+  unknown_option : wanted_of arguments ≡ None → IsAuditFault agrees failed e arguments (Refused BadArguments)
+  no_directory : (wanted : Wanted) (dir : String Global) → wanted_of arguments ≡ Some wanted
+      → IsFirstGone agrees wanted.directories (string_bytes dir) → IsAuditFault agrees failed e arguments (NotADirectory dir)
+  no_walk : (wanted : Wanted) (fault : WalkFault) → wanted_of arguments ≡ Some wanted
+      → AreDirectories agrees wanted.directories → HasCause agrees failed standard (judged_env e wanted.directories) fault
+      → IsAuditFault agrees failed e arguments (of_walk fault)
+  given_up : (refusal : Refusal) → Applies (cause_of refusal) failed (λ reason. ⊥)
+      → IsAuditFault agrees failed e arguments (Refused refusal)
+
+-- What an audit writes, by how it ended: its report; or nothing on standard output, and the line that says why there is
+-- none on standard error. Fails says where the device failed, by whether the audit ended so.
+abbrev pub EndsAudit : AuditExit → (Files → Listings → Type 0) → Type 0 → (Bool → Type 0) → Environment → List Text
+    → Option Text → Option Text → Option Text → Option Text → Type 0
+EndsAudit exit agrees failed Fails e arguments out out' err err' =
+    ((wanted : Wanted) × (found : SiteAudit) × IsAudited agrees e arguments wanted found × Fails false
+    × WritesAudit exit (all_certified found) (report_text wanted found) out out' err err')
+    ⊎ ((fault : AuditFault) × IsAuditFault agrees failed e arguments fault × Fails (is_failure fault) × Keeps out out'
+    × WritesFault exit err err' fault)
+
+-- the status of the process
+abbrev pub status_of : AuditExit → ℕ
+status_of AllCertified = 0
+status_of SomeNotCertified = 1
+status_of Reported = 2
+status_of CutShort = 2

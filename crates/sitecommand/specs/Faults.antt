@@ -1,0 +1,33 @@
+-- Why there is no audit: the texts of the faults, and the line on standard error (own).
+use Rattle.std.specs.Prelude.{Bool, false, codes, string_bytes}
+use Rattle.message.specs.Messages.{Text, quoting}
+use Rattle.modules.specs.Answers as steps
+use Rattle.modules.specs.Messages as refusals
+use Rattle.siteaudit.specs.declared.fault.WalkFault.{WalkFault}
+use Rattle.siteaudit.specs.declared.fault.WalkFault.TheVariants as walks
+use Rattle.modulecmd.specs.Lines.{error_line}
+use Rattle.sitecommand.specs.declared.audit_fault.AuditFault.{AuditFault}
+use Rattle.sitecommand.specs.declared.audit_fault.AuditFault.TheVariants.{Refused, TooManyDirectories, NotADirectory, WriteFailed}
+
+-- the text of each fault
+abbrev pub message_of : AuditFault → Text
+message_of (Refused refusal) = refusals.message_of refusal
+message_of TooManyDirectories = codes "Too many directories"
+message_of (NotADirectory dir) = quoting (codes "Not a directory: '") (string_bytes dir)
+message_of WriteFailed = codes "Writing failed"
+
+-- the whole line
+abbrev pub line_of : AuditFault → Text
+line_of fault = error_line (message_of fault)
+
+-- the fault of a walk over the site
+abbrev pub of_walk : WalkFault → AuditFault
+of_walk (walks.Refused refusal) = Refused refusal
+of_walk walks.TooManyDirectories = TooManyDirectories
+
+-- the fault is by 43
+abbrev pub is_failure : AuditFault → Bool
+is_failure (Refused refusal) = steps.is_failure refusal
+is_failure TooManyDirectories = false
+is_failure (NotADirectory dir) = false
+is_failure WriteFailed = false

@@ -1,0 +1,188 @@
+//! The words of the command line: options, and directories (modaudit(1)).
+ghost use Rattle.std.specs.Prelude.{◌≡◌, ◌≤◌, ◌++◌, length, map, option_map, IfOk, OnOk, bytes_eq, string_bytes};
+ghost use Rattle.std.specs.List.{list_all, list_any, before_first, after_first, position_or_len};
+ghost use Rattle.sitecommand.specs.Arguments as spec;
+ghost use Rattle.sitecommand.specs.ArgumentViews.{wanted_view};
+
+use sitereport::Selection;
+use std::alloc::{AllocError, Global};
+
+/// How a report is written.
+#[derive(Clone, Copy, Debug, PartialEq, Eq)]
+pub(crate) enum Format {
+    /// As lines.
+    Lines,
+    /// As one JSON document.
+    Document,
+}
+
+/// What the arguments ask for.
+#[derive(Drop)]
+pub(crate) struct Wanted {
+    /// Which modules the report names.
+    pub(crate) selection: Selection,
+    /// How it is written.
+    pub(crate) format: Format,
+    /// The directories that are the MODULEPATH of the audit; where there are none, it is that of the environment.
+    pub(crate) directories: Vec<String>,
+}
+
+/// Whether the word ends the options.
+fn is_end(word: &str) -> bool
+    ensures { result ≡ spec.is_end word.now }
+{
+    word == "--"
+}
+
+/// Whether the word isn't an option that nobody knows.
+fn is_known(word: &str) -> bool
+    ensures { result ≡ spec.is_known word.now }
+{
+    word == "--quiet" || word == "--json" || !word.starts_with('-')
+}
+
+/// How many words stand before the one that ends the options; all of them, where none does.
+fn options_count(args: &[String]) -> usize
+    ensures value { result ≡ position_or_len spec.is_end (map string_bytes args.now) }
+    ensures bound { result ≤ length args.now }
+{
+    let mut count = 0;
+    let mut rest = args;
+    while let [word, after @ ..] = rest {
+        if is_end(word.as_str()) {
+            return count;
+        }
+        count += 1;
+        rest = after;
+    }
+    count
+}
+
+/// The words before the one that ends the options.
+fn options_in(args: &[String]) -> &[String]
+    ensures { map string_bytes result.now ≡ before_first spec.is_end (map string_bytes args.now) }
+{
+    &args[..options_count(args)]
+}
+
+/// The words after the one that ends the options.
+fn others_in(args: &[String]) -> &[String]
+    ensures { map string_bytes result.now ≡ after_first spec.is_end (map string_bytes args.now) }
+{
+    let count = options_count(args);
+    if count < args.len() {
+        &args[count + 1..]
+    } else {
+        &args[count..]
+    }
+}
+
+/// Whether the word is among the words.
+fn has_word(words: &[String], word: &str) -> bool
+    ensures { result ≡ list_any (λ w. bytes_eq w word.now) (map string_bytes words.now) }
+{
+    let mut rest = words;
+    while let [first, after @ ..] = rest {
+        if first.as_str() == word {
+            return true;
+        }
+        rest = after;
+    }
+    false
+}
+
+/// Which modules the report names, by the options.
+fn selection_of(options: &[String]) -> Selection
+    ensures { result ≡ spec.selection_of (map string_bytes options.now) }
+{
+    if has_word(options, "--quiet") {
+        Selection::NotCertified
+    } else {
+        Selection::Each
+    }
+}
+
+/// How it is written, by the options.
+fn format_of(options: &[String]) -> Format
+    ensures { result ≡ spec.format_of (map string_bytes options.now) }
+{
+    if has_word(options, "--json") {
+        Format::Document
+    } else {
+        Format::Lines
+    }
+}
+
+/// Adds a word, if it is no option.
+fn push_directory(directories: &mut Vec<String>, word: &String) -> Result<(), AllocError>
+    ensures { OnOk result (map string_bytes directories.new.items
+        ≡ map string_bytes directories.old.items ++ spec.directory_in (string_bytes word.now)) }
+{
+    if !word.as_str().starts_with('-') {
+        directories.push(word.clone()?)?;
+    }
+    Ok(())
+}
+
+/// Adds the words that are no options.
+fn push_directories(directories: &mut Vec<String>, words: &[String]) -> Result<(), AllocError>
+    ensures { OnOk result (map string_bytes directories.new.items
+        ≡ map string_bytes directories.old.items ++ spec.directories_in (map string_bytes words.now)) }
+{
+    for word in words {
+        push_directory(directories, word)?;
+    }
+    Ok(())
+}
+
+/// Adds all words.
+fn push_all(directories: &mut Vec<String>, words: &[String]) -> Result<(), AllocError>
+    ensures { OnOk result (map string_bytes directories.new.items
+        ≡ map string_bytes directories.old.items ++ map string_bytes words.now) }
+{
+    for word in words {
+        directories.push(word.clone()?)?;
+    }
+    Ok(())
+}
+
+/// Whether each option is known.
+fn are_known(options: &[String]) -> bool
+    ensures { result ≡ list_all spec.is_known (map string_bytes options.now) }
+{
+    let mut rest = options;
+    while let [word, after @ ..] = rest {
+        if !is_known(word.as_str()) {
+            return false;
+        }
+        rest = after;
+    }
+    true
+}
+
+/// What options and further words ask for.
+fn wanted_by(alloc: Global, options: &[String], others: &[String]) -> Result<Wanted, AllocError>
+    ensures { IfOk result (λ wanted. wanted_view wanted
+        ≡ spec.wanted_by (map string_bytes options.now) (map string_bytes others.now)) }
+{
+    let mut directories = Vec::new(alloc);
+    push_directories(&mut directories, options)?;
+    push_all(&mut directories, others)?;
+    Ok(Wanted {
+        selection: selection_of(options),
+        format: format_of(options),
+        directories,
+    })
+}
+
+/// What the arguments ask for; none, where there is an option that nobody knows.
+pub(crate) fn wanted_of(alloc: Global, args: &[String]) -> Result<Option<Wanted>, AllocError>
+    ensures { IfOk result (λ wanted.
+        option_map wanted_view wanted ≡ spec.wanted_of (map string_bytes args.now)) }
+{
+    let options = options_in(args);
+    if !are_known(options) {
+        return Ok(None);
+    }
+    Ok(Some(wanted_by(alloc, options, others_in(args))?))
+}

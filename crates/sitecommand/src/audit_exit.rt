@@ -1,0 +1,30 @@
+//! How an audit ended, and the status of its process.
+ghost use Rattle.std.specs.Prelude.{◌≡◌};
+ghost use Rattle.sitecommand.specs.Audits.{status_of};
+
+/// How an audit ended.
+#[derive(Clone, Copy, Debug, PartialEq, Eq)]
+pub enum AuditExit {
+    /// Each module is certified, and the report is written.
+    AllCertified,
+    /// A module isn't certified, and the report is written.
+    SomeNotCertified,
+    /// There is no audit, or a write failed, and the line that says why is written.
+    Reported,
+    /// The same, but the first part of that line is written, not all: writing it failed.
+    CutShort,
+}
+
+impl AuditExit {
+    /// The status of the process: 0 where each module is certified, 1 where one isn't, and 2 where there is no audit or
+    /// its report isn't written.
+    pub fn status(self) -> u8
+        ensures { result ≡ status_of self }
+    {
+        match self {
+            AuditExit::AllCertified => 0,
+            AuditExit::SomeNotCertified => 1,
+            AuditExit::Reported | AuditExit::CutShort => 2,
+        }
+    }
+}

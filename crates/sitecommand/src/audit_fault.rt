@@ -1,0 +1,133 @@
+//! Why there is no audit, with the texts of these faults, and the line on standard error.
+ghost use Rattle.std.specs.Prelude.{◌≡◌, Some, OnOk, OnErr};
+ghost use Rattle.std.specs.Io.KnownBytes.{Appends};
+ghost use Rattle.message.specs.Messages.{around, text_of};
+ghost use Rattle.modulecmd.specs.Lines.{error_line};
+ghost use Rattle.modulecmd.specs.Writing.{AppendsPart};
+ghost use Rattle.modules.specs.declared.refusal.Refusal.TheVariants as refusals;
+ghost use Rattle.modules.specs.Answers.{refused_read};
+ghost use Rattle.sitecommand.specs.declared.audit_fault.AuditFault.TheVariants.{Refused};
+ghost use Rattle.sitecommand.specs.Faults.{line_of, message_of, of_walk};
+
+use crate::writers::write_parts;
+use envvars::EnvFault;
+use filetree::TreeFault;
+use itoa::Buffer;
+use message::Message;
+use modulecmd::WriteFault;
+use modules::Refusal;
+use siteaudit::WalkFault;
+use std::alloc::{AllocError, AllocFailed};
+use std::error::Error;
+use std::fmt;
+use std::fmt::Display;
+use std::io::Write;
+
+/// Why there is no audit. Its `Display` is what follows `ERROR: ` on standard error.
+#[derive(Debug, Drop)]
+pub enum AuditFault {
+    /// The arguments are bad (56), the loaded lists don't fit together (35), the device failed (43), or memory ran out.
+    Refused(Refusal),
+    /// The site has too many directories.
+    TooManyDirectories,
+    /// This word of the arguments names no directory.
+    NotADirectory(String),
+    /// 64: a write to standard output failed.
+    WriteFailed,
+}
+
+impl AuditFault {
+    /// The text of the fault.
+    pub fn message(&self) -> Message<'_>
+        ensures { text_of result ≡ message_of self.now }
+    {
+        match self {
+            AuditFault::Refused(refusal) => refusal.message(),
+            AuditFault::TooManyDirectories => Message::of_text("Too many directories"),
+            AuditFault::NotADirectory(dir) => Message::quoting("Not a directory: '", dir.as_str()),
+            AuditFault::WriteFailed => Message::of_text("Writing failed"),
+        }
+    }
+}
+
+impl fmt::Display for AuditFault {
+    ghost output = { λ fault. Some (message_of fault) };
+
+    fn fmt<W: fmt::Write>(&self, f: &mut fmt::Formatter<W>) -> fmt::Result {
+        self.message().fmt(f)
+    }
+}
+
+impl Error for AuditFault {}
+
+impl From<WalkFault> for AuditFault {
+    ghost from_gives = { λ fault e. e ≡ of_walk fault };
+
+    fn from(fault: WalkFault) -> AuditFault {
+        match fault {
+            WalkFault::Refused(refusal) => AuditFault::Refused(refusal),
+            WalkFault::TooManyDirectories => AuditFault::TooManyDirectories,
+        }
+    }
+}
+
+impl From<TreeFault> for AuditFault {
+    ghost from_gives = { λ fault e. e ≡ Refused (refused_read fault) };
+
+    fn from(fault: TreeFault) -> AuditFault {
+        AuditFault::Refused(Refusal::from(fault))
+    }
+}
+
+impl From<EnvFault> for AuditFault {
+    ghost from_gives = { λ fault e. e ≡ Refused (refusals.Env fault) };
+
+    fn from(fault: EnvFault) -> AuditFault {
+        AuditFault::Refused(Refusal::Env(fault))
+    }
+}
+
+impl From<AllocError> for AuditFault {
+    ghost from_gives = { λ _ e. e ≡ Refused refusals.OutOfMemory };
+
+    fn from(_e: AllocError) -> AuditFault {
+        AuditFault::Refused(Refusal::OutOfMemory)
+    }
+}
+
+impl<T: Drop> From<AllocFailed<T>> for AuditFault {
+    ghost from_gives = { λ _ e. e ≡ Refused refusals.OutOfMemory };
+
+    fn from(_e: AllocFailed<T>) -> AuditFault {
+        AuditFault::Refused(Refusal::OutOfMemory)
+    }
+}
+
+/// Writes an error line of these parts: `ERROR: `, the five texts one after another, and a newline.
+fn write_line<'a, E: Write>(
+    before: &'a str,
+    left: &'a str,
+    subject: &'a str,
+    right: &'a str,
+    after: &'a str,
+    err: &mut E,
+) -> Result<(), WriteFault>
+    ensures whole { OnOk result (Appends (E.contents err.old) (E.contents err.new)
+        (error_line (around before.now (around left.now subject.now right.now) after.now))) }
+    ensures cut { OnErr result (AppendsPart (E.contents err.old) (E.contents err.new)
+        (error_line (around before.now (around left.now subject.now right.now) after.now))) }
+{
+    write_parts(err, &["ERROR: ", before, left, subject, right, after, "\n"])
+}
+
+/// Writes the line that says why there is no audit, without taking memory. It is tried once: a write that fails ends it.
+/// Then the first part of the line is written, not all.
+pub fn write_fault<E: Write>(fault: &AuditFault, err: &mut E) -> Result<(), WriteFault>
+    ensures whole { OnOk result (Appends (E.contents err.old) (E.contents err.new) (line_of fault.now)) }
+    ensures cut { OnErr result (AppendsPart (E.contents err.old) (E.contents err.new) (line_of fault.now)) }
+{
+    let mut digits = Buffer::new();
+    let message = fault.message();
+    let [before, left, subject, right, after] = message.parts(&mut digits);
+    write_line(before, left, subject, right, after, err)
+}

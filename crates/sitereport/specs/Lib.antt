@@ -1,0 +1,8 @@
+-- The definitions of the report of an audit (own), as lines and as a JSON document (RFC 8259).
+pub mod Words
+pub mod Remarks
+pub mod Reports
+pub mod Documents
+pub mod Tokens
+
+-- What an audit answers, so that a caller need not name the crates below.

@@ -1,0 +1,30 @@
+-- The report of an audit as lines (own).
+use Rattle.std.specs.Prelude.{if◌then◌else◌, List, [], ◌++◌, codes, decimal, flat_map, length, string_bytes}
+use Rattle.envvars.specs.Texts.{Text}
+use Rattle.siteaudit.specs.declared.auditing.AuditedModule.{AuditedModule}
+use Rattle.siteaudit.specs.declared.auditing.SiteAudit.{SiteAudit}
+use Rattle.sitereport.specs.declared.selection.Selection.{Selection}
+use Rattle.sitereport.specs.Words.{spelled, standing_word, reason, is_named, certified_count}
+use Rattle.sitereport.specs.Remarks.{bad_file_line, unknown_line, environment_lines}
+
+-- the line of a module: its name, its standing in one word, the reason and its path, parted by tabs
+unfoldable pub module_line : AuditedModule → Text
+module_line m =
+    spelled (string_bytes m.name) ++ (codes "\t" ++ (standing_word m.standing ++ (codes "\t"
+    ++ (spelled (reason m.standing) ++ (codes "\t" ++ (spelled (string_bytes m.path) ++ codes "\n"))))))
+
+-- the line of a module that the report names; else nothing
+abbrev pub named_line : Selection → AuditedModule → Text
+named_line selection m = if is_named selection m.standing then module_line m else []
+
+-- how many of the modules are certified
+abbrev pub count_line : List AuditedModule → Text
+count_line modules =
+    codes "# " ++ (decimal (certified_count modules) ++ (codes " certified of " ++ (decimal (length modules) ++ codes "\n")))
+
+-- The whole report: the modules that it names, the count, and the remarks.
+abbrev pub report_of : Selection → SiteAudit → Text
+report_of selection found =
+    flat_map (named_line selection) found.modules.items ++ (count_line found.modules.items
+    ++ (flat_map bad_file_line found.bad_default_files.items ++ (flat_map unknown_line found.unknown_names.items
+    ++ environment_lines found.disagreements.items)))

@@ -1,0 +1,25 @@
+-- For the contracts of private functions: the tokens of a document's parts (own).
+use Rattle.std.specs.Prelude.{◌≡◌, if◌then◌else◌, List, [], ◌∷◌, ◌++◌, flat_map}
+use Rattle.json.specs.Token.{Token, key}
+use Rattle.json.specs.Tree.{json_tokens}
+use Rattle.json.specs.Written.{Written}
+use Rattle.siteaudit.specs.declared.auditing.AuditedModule.{AuditedModule}
+use Rattle.sitereport.specs.declared.selection.Selection.{Selection}
+use Rattle.sitereport.specs.Documents.{Field, module_value}
+use Rattle.sitereport.specs.Words.{is_named}
+
+-- the tokens of a member of an object
+abbrev pub field_tokens : Field → List Token
+field_tokens (name, value) = key name ∷ json_tokens value
+
+-- those of some members
+abbrev pub fields_tokens : List Field → List Token
+fields_tokens fields = flat_map field_tokens fields
+
+-- those of a module that the report names; else none
+abbrev pub named_tokens : Selection → AuditedModule → List Token
+named_tokens selection m = if is_named selection m.standing then json_tokens (module_value m) else []
+
+-- the tokens are added, and what stood before them stays
+abbrev pub AddsTokens : Written → Written → List Token → Type 0
+AddsTokens old new tokens = (new.before ≡ old.before) × (new.tokens ≡ old.tokens ++ tokens)

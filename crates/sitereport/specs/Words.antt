@@ -1,0 +1,89 @@
+-- What is said of a module in the report of an audit (own): how it stands in one word, and why; and how texts are spelled
+-- in a line.
+use Rattle.std.specs.Prelude.{ℕ, ◌/◌, ◌%◌, ◌==◌, ◌||◌, nat_lt, Bool, true, not, if◌then◌else◌, List, [], ◌∷◌, ◌++◌, codes, count_by, flat_map, Some, None, string_bytes}
+use Rattle.std.specs.Char.{digit_char}
+use Rattle.envvars.specs.Texts.{Text}
+use Rattle.tcllist.specs.Lists.{list_text}
+use Rattle.modulefile.specs.declared.records.Record.{Record}
+use Rattle.modulefile.specs.RecordViews.{record_view}
+use Rattle.modulefile.specs.Reports.{shown_words}
+use Rattle.sitecertificate.specs.declared.uses.VariableUse.{VariableUse}
+use Rattle.sitecertificate.specs.declared.uses.VariableUse.TheVariants.{Fixed, Pathed, Stacked}
+use Rattle.sitecertificate.specs.declared.answers.Clash.{Clash}
+use Rattle.modules.specs.Messages.{message_of}
+use Rattle.siteaudit.specs.Audits.{is_certified}
+use Rattle.siteaudit.specs.declared.auditing.AuditedModule.{AuditedModule}
+use Rattle.siteaudit.specs.declared.standing.Standing.{Standing}
+use Rattle.siteaudit.specs.declared.standing.Standing.TheVariants.{Certified, Asks, OneWay, OutOfStep, Clashes, Refused}
+use Rattle.sitereport.specs.declared.selection.Selection.{Selection}
+use Rattle.sitereport.specs.declared.selection.Selection.TheVariants.{Each, NotCertified}
+
+-- ---- fields
+
+-- the escape of a character by its two hexadecimal digits
+abbrev pub hex_escape : ℕ → Text
+hex_escape b = codes "\\x" ++ digit_char (b / 16) ∷ digit_char (b % 16) ∷ []
+
+-- a byte of a field: a control character or a backslash by its escape, and else as it is
+abbrev pub spelled_byte : ℕ → Text
+spelled_byte b =
+    if b == 92 then codes "\\\\" else if b == 9 then codes "\\t" else if b == 10 then codes "\\n"
+    else if nat_lt b 32 || (b == 127) then hex_escape b else b ∷ []
+
+-- a text as a field of a line
+abbrev pub spelled : Text → Text
+spelled text = flat_map spelled_byte text
+
+-- ---- standings
+
+-- a report names a module that stands so
+abbrev pub is_named : Selection → Standing → Bool
+is_named Each standing = true
+is_named NotCertified standing = not (is_certified standing)
+
+-- how many of the modules are certified
+abbrev pub certified_count : List AuditedModule → ℕ
+certified_count modules = count_by (λ m. is_certified m.standing) modules
+
+-- the standing in one word
+abbrev pub standing_word : Standing → Text
+standing_word Certified = codes "certified"
+standing_word (Asks question) = codes "asks"
+standing_word (OneWay first) = codes "one-way"
+standing_word (OutOfStep variable one other) = codes "out-of-step"
+standing_word (Clashes clash) = codes "clashes"
+standing_word (Refused refusal) = codes "refused"
+
+-- ---- reasons
+
+-- a use of a variable
+abbrev pub use_words : VariableUse → Text
+use_words (Fixed None) = codes "set"
+use_words (Fixed (Some value)) = codes "unset of '" ++ (string_bytes value ++ codes "'")
+use_words (Pathed delim) = codes "path with '" ++ delim.character ∷ codes "'"
+use_words Stacked = codes "stack"
+
+-- a record as `show` writes it
+abbrev pub record_words : Record → Text
+record_words r = list_text (shown_words (record_view r))
+
+-- the variable, and the two ways in which a module uses it
+abbrev pub two_uses : Text → VariableUse → VariableUse → Text
+two_uses variable one other = variable ++ (codes ": " ++ (use_words one ++ (codes ", and " ++ use_words other)))
+
+-- the variable of a clash, the module's own use of it, the other's, and the other
+abbrev pub clash_words : Clash → Text
+clash_words c =
+    string_bytes c.variable ++ (codes ": " ++ (use_words c.own ++ (codes " here, " ++ (use_words c.theirs
+    ++ (codes " in " ++ (string_bytes c.other_name ++ (codes " (" ++ (string_bytes c.other_path ++ codes ")"))))))))
+
+-- Why a module stands so: of one that asks its first question, of one that is one way the record, of a refused one the
+-- refusal.
+abbrev pub reason : Standing → Text
+reason Certified = []
+reason (Asks None) = []
+reason (Asks (Some question)) = string_bytes question
+reason (OneWay first) = record_words first
+reason (OutOfStep variable one other) = two_uses (string_bytes variable) one other
+reason (Clashes clash) = clash_words clash
+reason (Refused refusal) = message_of refusal

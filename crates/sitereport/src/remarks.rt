@@ -1,0 +1,184 @@
+//! The remarks after the lines of the modules: on default files, on names, on the environment at hand.
+ghost use Rattle.std.specs.Prelude.{◌≡◌, ◌++◌, OnOk, IfOk, map, string_bytes, flat_map};
+ghost use Rattle.sitereport.specs.Remarks as spec;
+
+use crate::fields::{push_field, push_text};
+use envvars::fields::{deduplicated, slices};
+use modulefile::Delimiter;
+use siteaudit::UnknownNames;
+use sitecertificate::Disagreement;
+use std::alloc::{AllocError, Global};
+
+/// Adds a line for each default file that has a fault.
+pub(crate) fn push_bad_files(report: &mut Vec<u8>, paths: &[String]) -> Result<(), AllocError>
+    ensures { OnOk result (report.new.items ≡ report.old.items ++ flat_map spec.bad_file_line paths.now) }
+{
+    for path in paths {
+        push_bad_file(report, path.as_str())?;
+    }
+    Ok(())
+}
+
+/// Adds the line of a default file that has a fault.
+fn push_bad_file(report: &mut Vec<u8>, path: &str) -> Result<(), AllocError>
+    ensures { OnOk result (report.new.items ≡ report.old.items ++ spec.bad_file path.now) }
+{
+    push_text(report, "# bad default file: ")?;
+    push_field(report, path)?;
+    push_text(report, "\n")
+}
+
+/// Adds the names, each in quotes after a blank.
+fn push_names(report: &mut Vec<u8>, names: &[String]) -> Result<(), AllocError>
+    ensures { OnOk result (report.new.items ≡ report.old.items ++ flat_map spec.quoted_name names.now) }
+{
+    for name in names {
+        push_name(report, name.as_str())?;
+    }
+    Ok(())
+}
+
+/// Adds a name in quotes after a blank.
+fn push_name(report: &mut Vec<u8>, name: &str) -> Result<(), AllocError>
+    ensures { OnOk result (report.new.items ≡ report.old.items ++ spec.quoted name.now) }
+{
+    push_text(report, " '")?;
+    push_field(report, name)?;
+    push_text(report, "'")
+}
+
+/// The command that has the names.
+pub(crate) fn command_of(unknown: &UnknownNames) -> &'static str
+    ensures { result.now ≡ spec.command_of unknown.now }
+{
+    if unknown.is_prereq {
+        "prereq"
+    } else {
+        "conflict"
+    }
+}
+
+/// Adds the line of a command whose names mean no module of the site.
+fn push_unknown(report: &mut Vec<u8>, unknown: &UnknownNames) -> Result<(), AllocError>
+    ensures { OnOk result (report.new.items ≡ report.old.items ++ spec.unknown_line unknown.now) }
+{
+    push_text(report, "# ")?;
+    push_field(report, unknown.name.as_str())?;
+    push_text(report, " (")?;
+    push_field(report, unknown.path.as_str())?;
+    push_text(report, "): ")?;
+    push_text(report, command_of(unknown))?;
+    push_text(report, " names no module:")?;
+    push_names(report, unknown.names.as_slice())?;
+    push_text(report, "\n")
+}
+
+/// Adds a line for each command whose names mean no module of the site.
+pub(crate) fn push_unknowns(
+    report: &mut Vec<u8>,
+    unknowns: &[UnknownNames],
+) -> Result<(), AllocError>
+    ensures { OnOk result (report.new.items ≡ report.old.items ++ flat_map spec.unknown_line unknowns.now) }
+{
+    for unknown in unknowns {
+        push_unknown(report, unknown)?;
+    }
+    Ok(())
+}
+
+/// A variable, and what is said of it.
+fn said_of(alloc: Global, variable: &str, what: &str) -> Result<String, AllocError>
+    ensures { IfOk result (λ words. string_bytes words ≡ variable.now ++ what.now) }
+{
+    format!(in alloc; "{variable}{what}")
+}
+
+/// A delimiter in quotes.
+fn quoted_delimiter(alloc: Global, delim: Delimiter) -> Result<String, AllocError>
+    ensures { IfOk result (λ words. string_bytes words ≡ spec.delimiter delim) }
+{
+    let character = delim.character;
+    format!(in alloc; "'{character}'")
+}
+
+/// A variable, what is said of it, and a delimiter in quotes.
+fn said_of_path(
+    alloc: Global,
+    variable: &str,
+    what: &str,
+    delim: Delimiter,
+) -> Result<String, AllocError>
+    ensures { IfOk result (λ words. string_bytes words ≡ variable.now ++ (what.now ++ spec.delimiter delim)) }
+{
+    let quoted = quoted_delimiter(alloc, delim)?;
+    format!(in alloc; "{variable}{what}{quoted}")
+}
+
+/// Where the environment at hand doesn't agree with the certificate, in words.
+fn disagreement_words(alloc: Global, reason: &Disagreement) -> Result<String, AllocError>
+    ensures { IfOk result (λ words. string_bytes words ≡ spec.disagreement_words reason.now) }
+{
+    match reason {
+        Disagreement::LoadedTexts => {
+            String::from_str(alloc, "the loaded modules aren't in order")
+        }
+        Disagreement::IsSet(variable) => said_of(alloc, variable.as_str(), " is set"),
+        Disagreement::HasNotValue { variable, value } => {
+            format!(in alloc; "{variable} isn't '{value}'")
+        }
+        Disagreement::PathNotInOrder { variable, delim } => said_of_path(
+            alloc,
+            variable.as_str(),
+            " isn't in order as a path with ",
+            *delim,
+        ),
+        Disagreement::StackNotInOrder(variable) => {
+            said_of(alloc, variable.as_str(), " isn't in order as a stack")
+        }
+    }
+}
+
+/// The disagreements of the environment at hand, each in words.
+fn all_words(alloc: Global, reasons: &[Disagreement]) -> Result<Vec<String>, AllocError>
+    ensures { IfOk result (λ words. map string_bytes words.items ≡ map spec.disagreement_words reasons.now) }
+{
+    let mut words = Vec::new(alloc);
+    for reason in reasons {
+        words.push(disagreement_words(alloc, reason)?)?;
+    }
+    Ok(words)
+}
+
+/// Adds the line of a disagreement of the environment at hand.
+fn push_disagreement(report: &mut Vec<u8>, words: &str) -> Result<(), AllocError>
+    ensures { OnOk result (report.new.items ≡ report.old.items ++ spec.environment_line words.now) }
+{
+    push_text(report, "# environment: ")?;
+    push_field(report, words)?;
+    push_text(report, "\n")
+}
+
+/// Adds such lines.
+fn push_all_words(report: &mut Vec<u8>, words: &[&str]) -> Result<(), AllocError>
+    ensures { OnOk result (report.new.items
+        ≡ report.old.items ++ flat_map (λ text. spec.environment_line text.now) words.now) }
+{
+    for text in words {
+        push_disagreement(report, text)?;
+    }
+    Ok(())
+}
+
+/// Adds a line for each disagreement of the environment at hand; for one that comes again, none.
+pub(crate) fn push_disagreements(
+    alloc: Global,
+    report: &mut Vec<u8>,
+    reasons: &[Disagreement],
+) -> Result<(), AllocError>
+    ensures { OnOk result (report.new.items ≡ report.old.items ++ spec.environment_lines reasons.now) }
+{
+    let words = all_words(alloc, reasons)?;
+    let slices = slices(alloc, words.as_slice())?;
+    let firsts = deduplicated(alloc, slices.as_slice())?;
+    push_all_words(report, firsts.as_slice())
+}

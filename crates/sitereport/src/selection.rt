@@ -1,0 +1,55 @@
+//! Which modules a report names, and how many of them are certified.
+ghost use Rattle.std.specs.Prelude.{◌≡◌, ◌≤◌, count_by, length};
+ghost use Rattle.siteaudit.specs.Audits.{is_certified};
+ghost use Rattle.sitereport.specs.Words as spec;
+
+use siteaudit::{AuditedModule, Standing};
+
+/// Which modules a report names. It counts all of them in either case.
+#[derive(Clone, Copy, Debug, PartialEq, Eq)]
+pub enum Selection {
+    /// Each module.
+    Each,
+    /// The modules that aren't certified.
+    NotCertified,
+}
+
+impl Selection {
+    /// Whether a report names a module that stands so.
+    pub(crate) fn names(self, standing: &Standing) -> bool
+        ensures { result ≡ spec.is_named self standing.now }
+    {
+        match self {
+            Selection::Each => true,
+            Selection::NotCertified => !is_certified(standing),
+        }
+    }
+}
+
+/// Whether a module that stands so is certified.
+fn is_certified(standing: &Standing) -> bool
+    ensures { result ≡ is_certified standing.now }
+{
+    match standing {
+        Standing::Certified => true,
+        Standing::Asks(_)
+        | Standing::OneWay(_)
+        | Standing::OutOfStep { .. }
+        | Standing::Clashes(_)
+        | Standing::Refused(_) => false,
+    }
+}
+
+/// How many of the modules are certified.
+pub(crate) fn certified_count(modules: &[AuditedModule]) -> usize
+    ensures value { result ≡ spec.certified_count modules.now }
+    ensures bound { result ≤ length modules.now }
+{
+    let mut count = 0;
+    for module in modules {
+        if is_certified(&module.standing) {
+            count += 1;
+        }
+    }
+    count
+}

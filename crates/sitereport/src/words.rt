@@ -1,0 +1,93 @@
+//! What is said of a module: how it stands in one word, and why.
+ghost use Rattle.std.specs.Prelude.{◌≡◌, IfOk, string_bytes};
+ghost use Rattle.sitereport.specs.Words as spec;
+
+use modulefile::Record;
+use requests::show_report;
+use siteaudit::Standing;
+use sitecertificate::{Clash, VariableUse};
+use std::alloc::{AllocError, Global};
+use std::slice;
+
+/// How a module stands, in one word.
+pub(crate) fn standing_word(standing: &Standing) -> &'static str
+    ensures { result.now ≡ spec.standing_word standing.now }
+{
+    match standing {
+        Standing::Certified => "certified",
+        Standing::Asks(_) => "asks",
+        Standing::OneWay(_) => "one-way",
+        Standing::OutOfStep { .. } => "out-of-step",
+        Standing::Clashes(_) => "clashes",
+        Standing::Refused(_) => "refused",
+    }
+}
+
+/// A use of a variable, in words.
+pub(crate) fn use_words(alloc: Global, used: &VariableUse) -> Result<String, AllocError>
+    ensures { IfOk result (λ words. string_bytes words ≡ spec.use_words used.now) }
+{
+    match used {
+        VariableUse::Fixed(None) => String::from_str(alloc, "set"),
+        VariableUse::Fixed(Some(value)) => format!(in alloc; "unset of '{value}'"),
+        VariableUse::Pathed(delim) => {
+            let character = delim.character;
+            format!(in alloc; "path with '{character}'")
+        }
+        VariableUse::Stacked => String::from_str(alloc, "stack"),
+    }
+}
+
+/// The record as `show` writes it, without the newline.
+pub(crate) fn record_words(alloc: Global, recorded: &Record) -> Result<String, AllocError>
+    ensures { IfOk result (λ words. string_bytes words ≡ spec.record_words recorded.now) }
+{
+    let shown = show_report(alloc, "", slice::from_ref(recorded))?;
+    let end = shown.len() - 1;
+    String::from_str(alloc, &shown.as_str()[2..end])
+}
+
+/// The variable, and the two ways in which a module uses it.
+fn two_uses(
+    alloc: Global,
+    variable: &str,
+    one: &VariableUse,
+    other: &VariableUse,
+) -> Result<String, AllocError>
+    ensures { IfOk result (λ words. string_bytes words ≡ spec.two_uses variable.now one.now other.now) }
+{
+    let one = use_words(alloc, one)?;
+    let other = use_words(alloc, other)?;
+    format!(in alloc; "{variable}: {one}, and {other}")
+}
+
+/// The variable of a clash, the module's own use of it, the other's, and the other.
+fn clash_words(alloc: Global, clash: &Clash) -> Result<String, AllocError>
+    ensures { IfOk result (λ words. string_bytes words ≡ spec.clash_words clash.now) }
+{
+    let variable = &clash.variable;
+    let own = use_words(alloc, &clash.own)?;
+    let theirs = use_words(alloc, &clash.theirs)?;
+    let name = &clash.other_name;
+    let path = &clash.other_path;
+    format!(in alloc; "{variable}: {own} here, {theirs} in {name} ({path})")
+}
+
+/// Why a module stands so. For a certified one it is empty, and for one that asks where there was no memory for its
+/// question.
+pub(crate) fn reason(alloc: Global, standing: &Standing) -> Result<String, AllocError>
+    ensures { IfOk result (λ words. string_bytes words ≡ spec.reason standing.now) }
+{
+    match standing {
+        Standing::Certified | Standing::Asks(None) => Ok(String::new(alloc)),
+        Standing::Asks(Some(question)) => String::from_str(alloc, question.as_str()),
+        Standing::OneWay(recorded) => record_words(alloc, recorded),
+        Standing::OutOfStep {
+            variable,
+            one,
+            other,
+        } => two_uses(alloc, variable.as_str(), one, other),
+        Standing::Clashes(clash) => clash_words(alloc, clash),
+        Standing::Refused(refusal) => format!(in alloc; "{refusal}"),
+    }
+}

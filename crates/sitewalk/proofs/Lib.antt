@@ -1,6 +1,0 @@
-mod AmongLemmas
-mod DirectoryLemmas
-mod OutcomeLemmas
-mod ListingLemmas
-mod FailureLemmas
-mod WalkLemmas

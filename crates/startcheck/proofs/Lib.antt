@@ -1,6 +1,0 @@
-mod NotRefused
-mod LoadedAnew
-mod UnusedNames
-mod StackAnew
-mod StackRewritten
-mod Reported

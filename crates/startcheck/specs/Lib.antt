@@ -1,3 +1,0 @@
-pub mod Disagreements
-pub mod DisagreementViews
-pub mod Rewriting

@@ -1,6 +1,0 @@
-use Rattle.std.proofs.Common.{sym, ◌∙◌}
-use Rattle.tclcontrol.proofs.CommandWordLemmas.{name_at}
-use Rattle.tclcontrol.proofs.command_words.CommandWords.name.Goals as goal
-
-pub returns : goal.returns
-returns c = c.as_str.ensures.value ∙ sym (name_at c.args.self.words.now c.index-self-0.result c.args.self.not_empty)

@@ -1,0 +1,58 @@
+//! A script that a loop evaluates in each turn.
+ghost use Rattle.std.specs.Prelude.{◌≡◌, MatchResult};
+ghost use Rattle.tclscript.specs.Text.{script_of};
+ghost use Rattle.tclscript.specs.Owned.{owned_view};
+ghost use Rattle.tclchars.specs.Whole.{Reads};
+ghost use Rattle.tclchars.specs.declared.fault.TextFault.TheVariants.{OutOfMemory};
+ghost use Rattle.tclcache.specs.Kept.{BeginWith};
+ghost use Rattle.tcleval.specs.LoopBodies.{HasItsTree, IsSameBody};
+
+use std::rc::Rc;
+use tclcache::Kept;
+use tclchars::TextFault;
+use tclscript::OwnedScript;
+
+/// A script that a loop evaluates in each turn, which is parsed once.
+#[derive(Drop)]
+pub(crate) struct LoopBody<'s> {
+    /// The text of the script.
+    pub(crate) text: &'s str,
+    /// Its tree, once it was parsed.
+    parsed: Option<Rc<OwnedScript>>,
+}
+
+impl<'s> LoopBody<'s> {
+    /// The script of this text, which isn't parsed yet.
+    pub(crate) fn new(text: &'s str) -> LoopBody<'s>
+        ensures { (result.text.now ≡ text.entry.now) × HasItsTree result }
+    {
+        LoopBody { text, parsed: None }
+    }
+
+    /// The tree of the script, which is parsed or taken from the cache where it is asked for the first time.
+    ///
+    /// Errors: the fault of the text, or that memory ran out.
+    pub(crate) fn tree(&mut self, cache: &mut Kept) -> Result<Rc<OwnedScript>, TextFault>
+        requires { HasItsTree self.old }
+        ensures tree { Reads (λ tree. owned_view tree.value) result (script_of self.old.text.now) }
+        ensures kept { IsSameBody self.old self.new }
+        ensures begins { BeginWith cache.old cache.new }
+    {
+        if let Some(tree) = &self.parsed {
+            return share_tree(tree);
+        }
+        let tree = cache.script_tree(self.text)?;
+        self.parsed = Some(share_tree(&tree)?);
+        Ok(tree)
+    }
+}
+
+/// Another owner of a tree, which isn't copied.
+fn share_tree(tree: &Rc<OwnedScript>) -> Result<Rc<OwnedScript>, TextFault>
+    ensures { MatchResult result (λ copy. copy.value ≡ tree.now.value) (λ fault. fault ≡ OutOfMemory) }
+{
+    match tree.clone() {
+        Ok(copy) => Ok(copy),
+        Err(_) => Err(TextFault::OutOfMemory),
+    }
+}

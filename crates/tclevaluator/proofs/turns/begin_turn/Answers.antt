@@ -1,5 +1,0 @@
-use Rattle.tclsubstitution.proofs.Leading.{passed_on}
-use Rattle.tclevaluator.proofs.turns.begin_turn.Goals as goal
-
-pub returns-in_err-assign_items-clause-evaluates_to : goal.returns-in_err-assign_items-clause-evaluates_to
-returns-in_err-assign_items-clause-evaluates_to c = λ most remaining r k x. passed_on _ _ _ _ c.from_residual.ensures.1 (c.in_err-assign_items.ensures most remaining r k x)

@@ -1,4 +1,0 @@
-pub mod NumberLemmas
-pub mod Examples
-pub mod WholeNumbers
-pub mod Fractions

@@ -1,5 +1,0 @@
-use Rattle.tclnumber.proofs.Fractions.{is_fractional, fraction_read}
-use Rattle.tclnumber.proofs.laws.numeral_of_fraction.Goals as goal
-
-pub returns : goal.returns
-returns c = λ t. (is_fractional t, fraction_read t)

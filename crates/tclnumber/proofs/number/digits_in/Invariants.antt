@@ -1,5 +1,0 @@
-use Rattle.tclnumber.proofs.NumberLemmas.{DigitsSoFar}
-use Rattle.tclnumber.proofs.number.digits_in.Given as goal
-
-abbrev pub invariant-loop-digit : goal.invariant-loop-digit
-invariant-loop-digit l = DigitsSoFar l.base l.digits l.digit-index l.n
