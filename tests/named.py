@@ -24,15 +24,12 @@ OF_FAULTS = {"number", "message"}
 
 # What is public for the crates above alone, which CLAIMS omits.
 HELPERS = {
-    "envtable": ("escapes", "fields", "table"),
-    "pathorder": ("copies",),
-    "candidates": ("module_files", "names", "paths", "version_named", "versions"),
+    "envvars": ("escapes", "fields", "table"),
     "sitelaws": ("directories",),
 }
 
-# Around the proof of each library the gate of some kits reads the files of all crates below it, along each path of their
-# graph anew.
-MOST_PATHS = 250_000
+# A citation of a file of definitions or lemmas; what the prover makes has other homes.
+CITATION = re.compile(r"\bRattle\.(\w+)\.(specs|proofs)\.(?!declared\b|contracts\b)([A-Z]\w*)")
 
 # ARCHITECTURE is read before the first change.
 MOST_BYTES = 12_000
@@ -276,13 +273,12 @@ def check_doors():
 
 
 def check_order():
-    """A crate stands on crates before it in crates.txt, but for the exceptions that ARCHITECTURE names."""
+    """A crate lists crates before it in crates.txt alone."""
     lists = rooms.lists()
     order = list(lists)
-    pairs = [(crate, lower) for crate in order for lower in lists[crate] if lower in lists]
-    exceptions = {(crate, lower) for crate, lower in pairs if order.index(lower) > order.index(crate)}
-    named = set(re.findall(r"`(\w+)` on `(\w+)`", content("docs", "ARCHITECTURE.md")))
-    true(named == exceptions, f"ARCHITECTURE names which crates stand on one after them: {sorted(exceptions)}")
+    for crate in order:
+        later = {lower for lower in lists[crate] if lower in lists} - set(order[: order.index(crate)])
+        true(not later, f"{crate} lists no crate after it in crates.txt: {sorted(later)}")
 
 
 def check_boundaries():
@@ -299,7 +295,7 @@ def check_heads():
     """Each crate has a page, which begins with the first two lines of its root file: what it knows, and what it may
     touch."""
     for crate in rooms.lists():
-        knows, touches, _ = rooms.head(crate)
+        knows, touches = rooms.head(crate)
         head = f"# `{crate}`\n\n{knows}\n\n{touches}\n"
         true(page_of(crate).startswith(head), f"the page of {crate} begins as its root file")
 
@@ -320,20 +316,14 @@ def check_crates():
             true(crate in crates, f"{page} names a crate that is there: {crate}")
 
 
-def check_paths():
-    """The ways down the graph of crates.txt, from each crate along what it lists, are few enough to walk."""
-    lines = re.findall(r"^(\w+).*?:(.*)", content("crates.txt"), re.MULTILINE)
-    lists = {crate: set(listed.split()) for crate, listed in lines}
-
-    @functools.cache
-    def paths_from(crate):
-        return 1 + sum(paths_from(lower) for lower in lists[crate] & lists.keys())
-
-    paths = sum(map(paths_from, lists))
-    true(
-        paths <= MOST_PATHS,
-        f"crates.txt has at most {MOST_PATHS} paths, not {paths}: list no crate whose items a nearer one can hand on",
-    )
+def check_citations():
+    """A file of definitions or lemmas is cited by the crate in which it stands, so that a search by its name finds it."""
+    for path in files():
+        if path.endswith((".antt", ".rt")):
+            for crate, kind, name in CITATION.findall(content(path)):
+                file = os.path.join(CRATES, crate, kind, f"{name}.antt")
+                is_there = crate not in rooms.lists() or os.path.exists(file)
+                true(is_there, f"{path} cites a file where it stands: Rattle.{crate}.{kind}.{name}")
 
 
 def check_suites(suites):

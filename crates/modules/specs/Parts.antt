@@ -1,4 +1,4 @@
--- The parts of a step that one module has: words of private contracts, and of those that requeststep alone calls.
+-- The parts of a step that one module has: words of private contracts.
 use Rattle.std.specs.Prelude.{◌≡◌, ◌<◌, ℕ, Bool, true, List, map, Option, Some, None, Result, Ok, Err}
 use Rattle.std.specs.Option.{option_map, option_or}
 use Rattle.std.specs.declared.vec.Vec.{Vec}

@@ -1,6 +1,6 @@
 -- Default files: `.modulerc` and `.version` in the folder of a name, and the version that each names (modulefile(5);
 -- that `.modulerc` goes first is this tool's own). The results of evaluations are a parameter here, named `results`: by
--- the path and the text of a script its result, or none where its evaluation has a fault. The crate `defaultfiles`
+-- the path and the text of a script its result, or none where its evaluation has a fault. The crate `lookup`
 -- gives them by the rules of evaluation.
 use Rattle.std.specs.Prelude.{◌≡◌, Option, Some, None, Result, Ok, Err}
 use Rattle.modulename.specs.ModuleName.{Text}

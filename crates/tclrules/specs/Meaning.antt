@@ -31,7 +31,7 @@ line_at script offset = 1 + count_by (λ b. b == 10) (take offset script)
 -- For laws
 
 -- a script, and all that its outcome depends on
--- (the settings of a request are `EvaluationSettings` of requeststep)
+-- (the settings of a request are `EvaluationSettings` of modules)
 pub record Setting : Type 0 where
   pub limits : Limits
   pub script : Text
