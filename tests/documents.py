@@ -5,9 +5,9 @@
 
 import sys
 
-import named
-from harness import Failed
-from run import SUITES
+from tests import named
+from tests.harness import Failed
+from tests.run import SUITES
 
 CHECKS = {
     "the tables in the crates' pages have functions, clauses and definitions that are there": named.check_claims,

@@ -5,7 +5,7 @@ import functools
 import os
 import re
 
-from harness import HERE, Failed, true
+from tests.harness import HERE, Failed, true
 
 import rooms  # in tools/, which harness puts into the path
 
