@@ -49,13 +49,7 @@ pub fn run_changes<T: Tree>(
     let mut working = Working::over(env);
     let done = step(alloc, request, &mut working, tree, limits)?;
     let changes = working.into_changes()?;
-    Ok(Changed {
-        changes,
-        loaded: done.loaded,
-        messages: done.messages,
-        report: done.report,
-        moves: done.moves,
-    })
+    Ok(Changed { changes, done })
 }
 
 /// Runs a request as `run_changes` does, and answers the environment that results. It costs a copy of the environment
@@ -78,14 +72,14 @@ pub fn run<T: Tree>(
         RequestLooksAt (request_context_in limits request.now.shell files listings) env.now
         (action_view request.now.action) at)) }
 {
-    let changed = run_changes(alloc, request, env, tree, limits)?;
+    let Changed { changes, done } = run_changes(alloc, request, env, tree, limits)?;
     let mut after = env.copy()?;
-    after.apply(changed.changes)?;
+    after.apply(changes)?;
     Ok(Reply {
         env: after,
-        loaded: changed.loaded,
-        messages: changed.messages,
-        report: changed.report,
-        moves: changed.moves,
+        loaded: done.loaded,
+        messages: done.messages,
+        report: done.report,
+        moves: done.moves,
     })
 }
