@@ -3,7 +3,7 @@ use Rattle.std.proofs.Common.{◌≡◌, ℕ, Bool, ◌<◌, ◌≤◌, ◌+◌,
 use Rattle.envvars.specs.Texts.{Text}
 use Rattle.envvars.specs.Environment.{Environment}
 use Rattle.filetree.specs.Agreement.{FailsOnlyWhere, Files, InEachPair, Listings, Narrows}
-use Rattle.filetree.proofs.FailedPaths.{only_then_in_each, only_wider_in_each}
+use Rattle.filetree.proofs.FailedPaths.{only_more_in_each}
 use Rattle.filetree.specs.Causes.{Cause, Applies, memory, device, because}
 use Rattle.filetree.specs.Relations.{Is}
 use Rattle.requests.specs.Looked.{RequestLooksAt}
@@ -85,9 +85,8 @@ pub lines_fail : (agrees agrees' : Files → Listings → Type 0) (before mid no
 lines_fail agrees agrees' before mid now context start e all whole words lines narrows split looks first second =
     let Whole : Files → Listings → Text → Type 0 = λ files listings at. LinesLookAt (context files listings) start all at in
     let Here : Files → Listings → Text → Type 0 = λ files listings at. LineLooksAt (context files listings) e words at in
-    only_then_in_each agrees agrees' before mid now Whole narrows first
-    (only_wider_in_each agrees' mid now Here Whole
+    only_more_in_each agrees agrees' before mid now Here Whole narrows
     (λ files listings agreed at h.
-    looks files listings (narrows files listings agreed) at
+    looks files listings agreed at
     (looks_here (LineLooksAt (context files listings)) (IsLineResponse (context files listings)) e whole words lines at split h))
-    second)
+    first second

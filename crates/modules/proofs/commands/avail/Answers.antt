@@ -9,7 +9,7 @@ use Rattle.requests.specs.Steps.{nothing_done, with_report, modulepath}
 use Rattle.filetree.specs.Agreement.{InEachPair, is_device}
 use Rattle.std.proofs.lemmas.Result.{err_from_is_err_and}
 use Rattle.search.specs.Looked.{ListingLooksAt}
-use Rattle.search.proofs.FailureLemmas.{fails_then}
+use Rattle.filetree.proofs.FailedPaths.{fails_then}
 use Rattle.modules.specs.Answers.{is_failure, refused_read}
 use Rattle.modules.proofs.FailureLemmas.{read_failure}
 use Rattle.modules.proofs.commands.avail.Goals as goal

@@ -5,7 +5,7 @@ use Rattle.search.specs.Found.{Found}
 use Rattle.search.specs.Answers.{cause_of, found_view, is_failure}
 use Rattle.modules.proofs.StepLemmas.{search_stands}
 use Rattle.filetree.specs.Agreement.{InEachPair}
-use Rattle.search.proofs.FailureLemmas.{fails_then}
+use Rattle.filetree.proofs.FailedPaths.{fails_then}
 use Rattle.search.specs.Looked.{LooksAt}
 use Rattle.requests.specs.Steps.{modulepath}
 use Rattle.modules.specs.declared.refusal.Refusal.TheVariants.{Find}

@@ -9,7 +9,7 @@ use Rattle.envloaded.specs.LoadedEntries.{entry_view}
 use Rattle.requests.specs.Steps.{script_at}
 use Rattle.search.specs.Found.{FoundModule}
 use Rattle.search.specs.Answers.{found_view}
-use Rattle.search.proofs.FailureLemmas.{fails_then}
+use Rattle.filetree.proofs.FailedPaths.{fails_then}
 use Rattle.modules.specs.Answers.{is_failure}
 use Rattle.modules.specs.Parts.{ReadsEntry}
 use Rattle.modules.proofs.StepLemmas.{over_tree_refused}

@@ -3,7 +3,7 @@ use Rattle.std.proofs.lemmas.List.{take_all}
 use Rattle.std.proofs.lemmas.Result.{err_from_is_err_and}
 use Rattle.std.specs.declared.alloc.Global.{Global}
 use Rattle.filetree.specs.Agreement.{InEachPair}
-use Rattle.search.proofs.FailureLemmas.{fails_then}
+use Rattle.filetree.proofs.FailedPaths.{fails_then}
 use Rattle.sitecommand.specs.Audits.{has_colon}
 use Rattle.sitecommand.specs.Faults.{is_failure}
 use Rattle.sitecommand.specs.Looked.{DirectoriesLookAt}
