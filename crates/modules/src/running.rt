@@ -6,13 +6,12 @@ ghost use Rattle.requests.specs.RequestViews.{action_view};
 ghost use Rattle.requests.specs.Steps.{RequestStep, request_context_in};
 ghost use Rattle.requests.specs.Looked.{RequestLooksAt};
 ghost use Rattle.modules.specs.Answers.{StepAnswersOverTree, is_failure};
-ghost use Rattle.modules.specs.MemoryNumbers.{memory_numbers};
-ghost use Rattle.modules.specs.Messages.{MemoryNumberAmong};
+ghost use Rattle.modules.specs.Messages.{memory_numbers, MemoryNumberAmong};
 ghost use Rattle.modules.specs.Replies.{changed_env, changed_view, reply_view};
 
-use crate::commands::step;
 use crate::refusal::Refusal;
 use crate::reply::{Changed, Reply};
+use crate::step::step;
 use envvars::{Env, Vars, Working};
 use filetree::Tree;
 use requests::Request;

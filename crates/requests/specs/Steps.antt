@@ -45,7 +45,7 @@ request_context_in limits shell files listings = record { files = files; listing
 
 -- What a request has done so far: its moves and what they made of the environment, the messages of its files, and its
 -- report.
--- The type `Done` of requeststep has no environment: the call edits the variables that it is given.
+-- The type `Done` of modules has no environment: the call edits the variables that it is given.
 pub record Done : Type 0 where
   pub env : Environment
   pub moves : List Move
