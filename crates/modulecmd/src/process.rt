@@ -1,7 +1,7 @@
 //! What a process is given, for the programs over this library: its arguments and its environment.
 
 use crate::command_fault::CommandFault;
-use processinput::{arguments, environment_block, environment_of};
+use processinput::{arguments, environment_block};
 use std::rt::{Env, Files};
 
 /// The arguments after the program's name, and the environment of the process.
@@ -12,6 +12,6 @@ pub fn process_input<R: Env + Files + AllocGlobal>(
 ) -> Result<(Vec<String>, envvars::Env), CommandFault> {
     let arguments = arguments(rt)?;
     let block = environment_block(rt)?;
-    let env = environment_of(rt.alloc(), block.as_slice())?;
+    let env = envvars::Env::from_block(rt.alloc(), block)?;
     Ok((arguments, env))
 }
