@@ -7,7 +7,7 @@ ghost use Rattle.requests.specs.RequestViews.{reason_of, action_view, texts_of};
 
 use crate::action::{Action, Request};
 use crate::request_fault::RequestFault;
-use envvars::fields::copies;
+use message::texts::copies;
 use shelltext::Shell;
 use std::alloc::Global;
 
