@@ -7,7 +7,7 @@ ghost use Rattle.requests.specs.RequestViews.{action_view, texts_of};
 ghost use Rattle.modules.specs.Answers.{GivesOrRefuses};
 
 use crate::refusal::Refusal;
-use envvars::fields::copies;
+use message::texts::copies;
 use requests::{Action, Request};
 use shelltext::Shell;
 use std::alloc::Global;

@@ -1,7 +1,7 @@
 -- What the example host answers, by the name of the command.
 use Rattle.std.proofs.Common.{◌≡◌, ◌<◌, true, false, List, [], ◌∷◌, map, length, get_or, String, Global, refl, sym, ap, ◌∙◌, arith, Some}
 use Rattle.std.specs.Prelude.{string_bytes, codes, bytes_eq}
-use Rattle.tclchars.specs.Runs.{Text}
+use Rattle.message.specs.Messages.{Text}
 use Rattle.tclrules.specs.Oracle.{CommandWords, NewRecord, Message, Done}
 use Rattle.tclrules.specs.Recording.{message_in, named_answer, answer_of}
 

@@ -4,8 +4,8 @@ use Rattle.std.proofs.lemmas.List.{map-append}
 use Rattle.std.proofs.Math.Bool.{or-false}
 use Rattle.tclrules.specs.Oracle.{NewRecord, Message}
 use Rattle.tclrules.specs.Recording.{record_texts, message_in}
-use Rattle.tclrules.proofs.Recorded.{set_answer, put_answer}
-use Rattle.tclrules.proofs.recorder.RecorderHost.command.Goals as goal
+use Rattle.cases_tcl.proofs.Recorded.{set_answer, put_answer}
+use Rattle.cases_tcl.proofs.recorder.RecorderHost.command.Goals as goal
 
 pub returns-else-is_err-clause-answer : goal.returns-else-is_err-clause-answer
 returns-else-is_err-clause-answer c =

@@ -1,52 +1,42 @@
-//! A host in memory, as an example and for tests.
+//! A host in memory, which records what a script asks of it.
 ghost use Rattle.std.specs.Prelude.{◌≡◌, ◌++◌, ◌∷◌, [], IfOk, OnOk, OnErr, string_bytes, map};
 ghost use Rattle.std.specs.Option.{option_map};
 ghost use Rattle.tclrules.specs.Recording.{commands_of_recorder, record_texts, pair_texts, message_in};
 ghost use Rattle.tclrules.specs.Variables.{lookup};
 
-use crate::host::{Host, HostAnswer};
+use message::texts::copies;
 use std::alloc::{AllocError, Global};
+use tclrules::{Host, HostAnswer};
 
 /// Records the words of each `setenv` and the message of each `puts`, answers its mode to `mode`, refuses `conflict` by
 /// 51, and has no other command. Its environment never changes.
 #[derive(Drop)]
-pub struct Recorder {
+pub(crate) struct Recorder {
     /// Where its memory comes from.
-    pub alloc: Global,
+    pub(crate) alloc: Global,
     /// What `mode` answers.
-    pub mode: String,
+    pub(crate) mode: String,
     /// The environment variables with their values.
-    pub environment: Vec<(String, String)>,
+    pub(crate) environment: Vec<(String, String)>,
     /// The words of each command that was recorded.
-    pub records: Vec<Vec<String>>,
+    pub(crate) records: Vec<Vec<String>>,
     /// The messages.
-    pub messages: Vec<String>,
+    pub(crate) messages: Vec<String>,
     /// Whether the mode or an environment variable was asked for.
-    pub asked: bool,
+    pub(crate) asked: bool,
     /// The number by which a command was refused last.
-    pub refused: Option<u16>,
+    pub(crate) refused: Option<u16>,
 }
 
 /// The names of its commands but `puts`, which is Tcl's.
 const RESERVED: [&str; 3] = ["setenv", "mode", "conflict"];
 
 /// The names that no procedure may have.
-#[tactic(auto, unfolding(crate::specs::Recording::commands_of_recorder))]
+#[tactic(auto, unfolding(tclrules::specs::Recording::commands_of_recorder))]
 fn reserved() -> &'static [&'static str]
     ensures { map (λ n. n.now) result.now ≡ commands_of_recorder }
 {
     &RESERVED
-}
-
-/// A copy of the words.
-fn copy_words(alloc: Global, words: &[String]) -> Result<Vec<String>, AllocError>
-    ensures { IfOk result (λ v. map string_bytes v.items ≡ map string_bytes words.now) }
-{
-    let mut copies = Vec::new(alloc);
-    for word in words {
-        copies.push(String::from_str(alloc, word.as_str())?)?;
-    }
-    Ok(copies)
 }
 
 /// Adds a copy of the words to the records.
@@ -59,7 +49,7 @@ fn push_copy(
         ≡ map record_texts records.old.items ++ map string_bytes words.now ∷ []) }
     ensures err { OnErr result (records.new.items ≡ records.old.items) }
 {
-    let copy = copy_words(alloc, words)?;
+    let copy = copies(alloc, words)?;
     records.push(copy)?;
     Ok(())
 }
