@@ -1,6 +1,9 @@
-//! The texts of faults and reports: a message has parts, so that it is shown and written without taking memory.
+//! The texts of faults, and the table of refusals: a message has parts, so that it is shown without taking memory.
 //! Touches nothing but the text or writer that it is shown on, and takes no memory.
 #![tactic(auto)]
+
+mod laws;
+mod refusals;
 
 ghost use Rattle.std.specs.Prelude.{◌≡◌, Some};
 ghost use Rattle.std.specs.List.{flat_map};
@@ -8,6 +11,8 @@ ghost use Rattle.message.specs.Messages as messages;
 ghost use Rattle.message.specs.Messages.{around, text_of, subject_text};
 
 use itoa::Buffer;
+pub use laws::numbers_differ;
+pub use refusals::{NumberedMessage, RefusalKind};
 use std::fmt;
 
 /// What a message is about: what is inserted between its two texts.
