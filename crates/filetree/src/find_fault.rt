@@ -2,11 +2,11 @@
 //! since the reading of a recorded modulefile by its path, which isn't searched for, has these faults too.
 ghost use Rattle.std.specs.Prelude.{◌≡◌, Some};
 ghost use Rattle.filetree.specs.declared.find_fault.FindFault.TheVariants.{OutOfMemory};
-ghost use Rattle.message.specs.Messages.{text_of};
-ghost use Rattle.filetree.specs.Answers.{fault_of_tree, find_message, find_number};
+ghost use Rattle.message.specs.Refusals.{numbered_text};
+ghost use Rattle.filetree.specs.Answers.{fault_of_tree, refusal_of};
 
 use crate::tree::TreeFault;
-use message::Message;
+use message::{NumberedMessage, RefusalKind};
 use std::alloc::{AllocError, AllocFailed};
 use std::error::Error;
 use std::fmt;
@@ -30,45 +30,33 @@ pub enum FindFault {
 }
 
 impl FindFault {
-    /// The number of the fault, from 41 for want of memory to 46 for a module that is not UTF-8.
-    pub fn number(&self) -> u16
-        ensures { result ≡ find_number self.now }
+    /// The number of the fault, from 41 for want of memory to 46 for a module that is not UTF-8, and its text.
+    pub fn numbered(&self) -> NumberedMessage<'_>
+        ensures { numbered_text result ≡ refusal_of self.now }
     {
         match self {
-            FindFault::OutOfMemory => TreeFault::OutOfMemory.number(),
-            FindFault::NotFound(_) => 42,
-            FindFault::Device => TreeFault::Device.number(),
-            FindFault::BadName(_) => 44,
-            FindFault::BadDefaultFile(_) => 45,
-            FindFault::NotUtf8(_) => 46,
+            FindFault::OutOfMemory => RefusalKind::MemoryForSearch.plain(),
+            FindFault::NotFound(name) => RefusalKind::NotFound.naming(name.as_str()),
+            FindFault::Device => RefusalKind::Device.plain(),
+            FindFault::BadName(name) => RefusalKind::BadName.naming(name.as_str()),
+            FindFault::BadDefaultFile(path) => RefusalKind::BadDefaultFile.naming(path.as_str()),
+            FindFault::NotUtf8(path) => RefusalKind::NotUtf8.naming(path.as_str()),
         }
     }
 
-    /// The text of the fault, as the error line shows it.
-    pub fn message(&self) -> Message<'_>
-        ensures { text_of result ≡ find_message self.now }
+    /// The number of the fault, from 41 to 46.
+    pub fn number(&self) -> u16
+        ensures { result ≡ (refusal_of self.now).number }
     {
-        match self {
-            FindFault::OutOfMemory => TreeFault::OutOfMemory.message(),
-            FindFault::NotFound(name) => {
-                Message::quoting("Unable to locate a modulefile for '", name.as_str())
-            }
-            FindFault::Device => TreeFault::Device.message(),
-            FindFault::BadName(name) => Message::quoting("Bad module name '", name.as_str()),
-            FindFault::BadDefaultFile(path) => Message::quoting(
-                "Bad default file '",
-                path.as_str(),
-            ),
-            FindFault::NotUtf8(path) => Message::quoting("Not UTF-8: '", path.as_str()),
-        }
+        self.numbered().number
     }
 }
 
 impl fmt::Display for FindFault {
-    ghost output = { λ fault. Some (find_message fault) };
+    ghost output = { λ fault. Some (refusal_of fault).text };
 
     fn fmt<W: fmt::Write>(&self, f: &mut fmt::Formatter<W>) -> fmt::Result {
-        self.message().fmt(f)
+        self.numbered().message.fmt(f)
     }
 }
 
