@@ -1,10 +1,11 @@
 -- The requests and faults of the program, as the definitions see them.
-use Rattle.std.specs.Prelude.{ℕ, List, codes, map, string_bytes, String, Option, Some, None}
+use Rattle.std.specs.Prelude.{List, [], map, string_bytes, String, Option, Some, None}
 use Rattle.std.specs.Option.{option_map}
 use Rattle.std.specs.declared.alloc.Global.{Global}
 use Rattle.std.specs.declared.vec.Vec.{Vec}
 use Rattle.envvars.specs.Texts.{Text}
-use Rattle.message.specs.Messages.{quoting, out_of_memory}
+use Rattle.message.specs.Refusals.{NumberedText, about}
+use Rattle.message.specs.declared.refusals.RefusalKind.TheVariants as kinds
 use Rattle.requests.specs.declared.request_fault.RequestFault.{RequestFault}
 use Rattle.requests.specs.declared.request_fault.RequestFault.TheVariants as faults
 use Rattle.requests.specs.declared.action.Action.{Action}
@@ -38,14 +39,8 @@ reason_of faults.OutOfMemory = None
 reason_of faults.BadArguments = Some bad_arguments
 reason_of (faults.UnknownSubcommand word) = Some (unknown_subcommand (string_bytes word))
 
--- the numbers of the faults
-abbrev pub fault_number : RequestFault → ℕ
-fault_number faults.OutOfMemory = 31
-fault_number faults.BadArguments = 56
-fault_number (faults.UnknownSubcommand word) = 57
-
--- the texts of the faults
-abbrev pub fault_message : RequestFault → Text
-fault_message faults.OutOfMemory = out_of_memory
-fault_message faults.BadArguments = codes "Bad arguments"
-fault_message (faults.UnknownSubcommand word) = quoting (codes "Unknown subcommand '") (string_bytes word)
+-- the refusal that each fault is
+abbrev pub refusal_of : RequestFault → NumberedText
+refusal_of faults.OutOfMemory = about kinds.MemoryForRequest []
+refusal_of faults.BadArguments = about kinds.BadArguments []
+refusal_of (faults.UnknownSubcommand word) = about kinds.UnknownSubcommand (string_bytes word)

@@ -1,10 +1,10 @@
 //! Why words make no request, with the numbers and texts of these faults.
 ghost use Rattle.std.specs.Prelude.{◌≡◌, Some};
-ghost use Rattle.message.specs.Messages.{text_of};
+ghost use Rattle.message.specs.Refusals.{numbered_text};
 ghost use Rattle.requests.specs.declared.request_fault.RequestFault.TheVariants as faults;
-ghost use Rattle.requests.specs.RequestViews.{fault_number, fault_message};
+ghost use Rattle.requests.specs.RequestViews.{refusal_of};
 
-use message::{Message, out_of_memory};
+use message::{NumberedMessage, RefusalKind};
 use std::alloc::{AllocError, AllocFailed};
 use std::error::Error;
 use std::fmt;
@@ -22,36 +22,32 @@ pub enum RequestFault {
 }
 
 impl RequestFault {
-    /// The number of the fault.
-    pub fn number(&self) -> u16
-        ensures { result ≡ fault_number self.now }
+    /// The number of the fault and its text.
+    pub fn numbered(&self) -> NumberedMessage<'_>
+        ensures { numbered_text result ≡ refusal_of self.now }
     {
         match self {
-            RequestFault::OutOfMemory => 31,
-            RequestFault::BadArguments => 56,
-            RequestFault::UnknownSubcommand(_) => 57,
+            RequestFault::OutOfMemory => RefusalKind::MemoryForRequest.plain(),
+            RequestFault::BadArguments => RefusalKind::BadArguments.plain(),
+            RequestFault::UnknownSubcommand(word) => {
+                RefusalKind::UnknownSubcommand.naming(word.as_str())
+            }
         }
     }
 
-    /// The text of the fault.
-    pub fn message(&self) -> Message<'_>
-        ensures { text_of result ≡ fault_message self.now }
+    /// The number of the fault.
+    pub fn number(&self) -> u16
+        ensures { result ≡ (refusal_of self.now).number }
     {
-        match self {
-            RequestFault::OutOfMemory => out_of_memory(),
-            RequestFault::BadArguments => Message::of_text("Bad arguments"),
-            RequestFault::UnknownSubcommand(word) => {
-                Message::quoting("Unknown subcommand '", word.as_str())
-            }
-        }
+        self.numbered().number
     }
 }
 
 impl fmt::Display for RequestFault {
-    ghost output = { λ fault. Some (fault_message fault) };
+    ghost output = { λ fault. Some (refusal_of fault).text };
 
     fn fmt<W: fmt::Write>(&self, f: &mut fmt::Formatter<W>) -> fmt::Result {
-        self.message().fmt(f)
+        self.numbered().message.fmt(f)
     }
 }
 
