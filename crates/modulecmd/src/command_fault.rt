@@ -2,19 +2,20 @@
 ghost use Rattle.std.specs.Prelude.{◌≡◌, Some, OnOk, OnErr};
 ghost use Rattle.std.specs.Io.KnownBytes.{Appends};
 ghost use Rattle.modulecmd.specs.Writing.{AppendsPart};
-ghost use Rattle.message.specs.Messages.{around, text_of};
-ghost use Rattle.modulecmd.specs.Lines.{error_line, line_of, message_of};
+ghost use Rattle.message.specs.Messages.{around};
+ghost use Rattle.message.specs.Refusals.{numbered_text};
+ghost use Rattle.modulecmd.specs.Lines.{error_line, line_of, refusal_of};
 ghost use Rattle.modules.specs.declared.refusal.Refusal.TheVariants as refusals;
 ghost use Rattle.modulecmd.specs.declared.command_fault.CommandFault.TheVariants.{Refused, Unprinted};
-ghost use Rattle.modulecmd.specs.Command.{number_of, of_arguments, of_input};
+ghost use Rattle.modulecmd.specs.Command.{number_of, of_input};
 
 use crate::writers::{WriteFault, write_parts};
 use envvars::EnvFault;
 use filetree::FindFault;
 use itoa::Buffer;
-use message::Message;
+use message::{NumberedMessage, RefusalKind};
 use modules::Refusal;
-use processinput::{ArgumentsFault, InputFault};
+use processinput::InputFault;
 use shelltext::PrintFault;
 use std::alloc::AllocError;
 use std::error::Error;
@@ -36,6 +37,18 @@ pub enum CommandFault {
 }
 
 impl CommandFault {
+    /// The number of the refusal and its text.
+    pub fn numbered(&self) -> NumberedMessage<'_>
+        ensures { numbered_text result ≡ refusal_of self.now }
+    {
+        match self {
+            CommandFault::Refused(refusal) => refusal.numbered(),
+            CommandFault::Unprinted(fault) => fault.numbered(),
+            CommandFault::UnknownShell(word) => RefusalKind::UnknownShell.naming(word.as_str()),
+            CommandFault::WriteFailed => RefusalKind::WriteFailed.plain(),
+        }
+    }
+
     /// The number of the refusal.
     pub fn number(&self) -> u16
         ensures { result ≡ number_of self.now }
@@ -43,29 +56,17 @@ impl CommandFault {
         match self {
             CommandFault::Refused(refusal) => refusal.number(),
             CommandFault::Unprinted(fault) => fault.number(),
-            CommandFault::UnknownShell(_) => 63,
-            CommandFault::WriteFailed => 64,
-        }
-    }
-
-    /// The text of the fault.
-    pub fn message(&self) -> Message<'_>
-        ensures { text_of result ≡ message_of self.now }
-    {
-        match self {
-            CommandFault::Refused(refusal) => refusal.message(),
-            CommandFault::Unprinted(fault) => fault.message(),
-            CommandFault::UnknownShell(word) => Message::quoting("Unknown shell '", word.as_str()),
-            CommandFault::WriteFailed => Message::of_text("Writing failed"),
+            CommandFault::UnknownShell(_) => RefusalKind::UnknownShell.number(),
+            CommandFault::WriteFailed => RefusalKind::WriteFailed.number(),
         }
     }
 }
 
 impl fmt::Display for CommandFault {
-    ghost output = { λ fault. Some (message_of fault) };
+    ghost output = { λ fault. Some (refusal_of fault).text };
 
     fn fmt<W: fmt::Write>(&self, f: &mut fmt::Formatter<W>) -> fmt::Result {
-        self.message().fmt(f)
+        self.numbered().message.fmt(f)
     }
 }
 
@@ -100,17 +101,6 @@ impl From<AllocError> for CommandFault {
 
     fn from(_e: AllocError) -> CommandFault {
         CommandFault::Refused(Refusal::OutOfMemory)
-    }
-}
-
-impl From<ArgumentsFault> for CommandFault {
-    ghost from_gives = { λ fault e. e ≡ of_arguments fault };
-
-    fn from(fault: ArgumentsFault) -> CommandFault {
-        match fault {
-            ArgumentsFault::OutOfMemory => CommandFault::Refused(Refusal::OutOfMemory),
-            ArgumentsFault::NotUtf8 => CommandFault::Refused(Refusal::BadArguments),
-        }
     }
 }
 
@@ -150,7 +140,7 @@ pub fn write_refusal<E: Write>(fault: &CommandFault, err: &mut E) -> Result<(), 
     ensures cut { OnErr result (AppendsPart (E.contents err.old) (E.contents err.new) (line_of fault.now)) }
 {
     let mut digits = Buffer::new();
-    let message = fault.message();
+    let message = fault.numbered().message;
     let [before, left, word, right, after] = message.parts(&mut digits);
     write_line(before, left, word, right, after, err)
 }

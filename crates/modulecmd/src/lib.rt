@@ -31,9 +31,7 @@ pub use modules::{
     run_changes, session, verdict,
 };
 pub use process::process_input;
-pub use processinput::{
-    ArgumentsFault, InputFault, arguments, environment_block, environment_of, read_input,
-};
+pub use processinput::{InputFault, arguments, environment_block, environment_of, read_input};
 pub use requests::{Action, Request};
 pub use sessions::rehearse;
 pub use shelltext::{PrintFault, Shell, print_changes};

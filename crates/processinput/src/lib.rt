@@ -8,4 +8,4 @@ mod process;
 
 pub use block::environment_of;
 pub use input::{InputFault, read_input};
-pub use process::{ArgumentsFault, arguments, environment_block};
+pub use process::{arguments, environment_block};

@@ -13,7 +13,7 @@ use crate::writers::write_parts;
 use envvars::EnvFault;
 use filetree::TreeFault;
 use itoa::Buffer;
-use message::Message;
+use message::{Message, RefusalKind};
 use modulecmd::WriteFault;
 use modules::Refusal;
 use siteaudit::WalkFault;
@@ -42,10 +42,10 @@ impl AuditFault {
         ensures { text_of result ≡ message_of self.now }
     {
         match self {
-            AuditFault::Refused(refusal) => refusal.message(),
+            AuditFault::Refused(refusal) => refusal.numbered().message,
             AuditFault::TooManyDirectories => Message::of_text("Too many directories"),
             AuditFault::NotADirectory(dir) => Message::quoting("Not a directory: '", dir.as_str()),
-            AuditFault::WriteFailed => Message::of_text("Writing failed"),
+            AuditFault::WriteFailed => RefusalKind::WriteFailed.plain().message,
         }
     }
 }
