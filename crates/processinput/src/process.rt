@@ -32,7 +32,9 @@ pub fn arguments<R: Env + AllocGlobal>(rt: &R) -> Result<Vec<String>, InputFault
     };
     let mut arguments = Vec::new(rt.alloc());
     for argument in all.skip(1) {
-        arguments.push(argument)?;
+        if arguments.push(argument).is_err() {
+            return Err(InputFault::OutOfMemory);
+        }
     }
     Ok(arguments)
 }
