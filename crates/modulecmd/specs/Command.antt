@@ -20,7 +20,7 @@ use Rattle.filetree.specs.Causes.{Applies}
 use Rattle.modules.specs.Answers.{cause_of}
 use Rattle.modules.specs.Messages as texts
 use Rattle.modules.specs.declared.refusal.Refusal.TheVariants as refusals
-use Rattle.filetree.specs.declared.find_fault.FindFault.TheVariants as finds
+use Rattle.search.specs.declared.find_fault.FindFault.TheVariants as finds
 use Rattle.processinput.specs.declared.input.InputFault.{InputFault}
 use Rattle.processinput.specs.declared.input.InputFault.TheVariants as inputs
 use Rattle.modulecmd.specs.declared.command_fault.CommandFault.{CommandFault}

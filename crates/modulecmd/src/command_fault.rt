@@ -11,11 +11,11 @@ ghost use Rattle.modulecmd.specs.Command.{number_of, of_input};
 
 use crate::writers::{WriteFault, write_parts};
 use envvars::EnvFault;
-use filetree::FindFault;
 use itoa::Buffer;
 use message::{NumberedMessage, RefusalKind};
 use modules::Refusal;
 use processinput::InputFault;
+use search::FindFault;
 use shelltext::PrintFault;
 use std::alloc::AllocError;
 use std::error::Error;

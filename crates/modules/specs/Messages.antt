@@ -3,7 +3,7 @@ use Rattle.std.specs.Prelude.{ℕ, ◌≡◌, ◌==◌, true, List, [], string_b
 use Rattle.std.specs.List.{list_any}
 use Rattle.envvars.specs.Reasons as edits
 use Rattle.envvars.specs.Texts.{texts_in}
-use Rattle.filetree.specs.Answers as finds
+use Rattle.search.specs.Answers as finds
 use Rattle.filetree.specs.Causes.{Cause, memory, device, because}
 use Rattle.message.specs.Messages.{Text}
 use Rattle.message.specs.Refusals.{NumberedText, about}

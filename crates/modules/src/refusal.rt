@@ -9,10 +9,11 @@ ghost use Rattle.modules.specs.Messages.{number_by, number_of, refusal_of, run_m
 
 use crate::missing::MissingNames;
 use envvars::EnvFault;
-use filetree::{FindFault, TreeFault};
+use filetree::TreeFault;
 use message::{NumberedMessage, RefusalKind};
 use modulerun::RunFault;
 use requests::RequestFault;
+use search::FindFault;
 use std::alloc::{AllocError, AllocFailed};
 use std::error::Error;
 use std::fmt;

@@ -1,7 +1,7 @@
 -- Where a call of several steps failed, of the tree or of the search.
 use Rattle.std.proofs.Common.{◌≡◌, refl}
 use Rattle.filetree.specs.Agreement.{is_device}
-use Rattle.filetree.specs.Answers.{fault_of_tree}
+use Rattle.search.specs.Answers.{fault_of_tree}
 use Rattle.filetree.specs.declared.tree.TreeFault.{TreeFault}
 use Rattle.filetree.specs.declared.tree.TreeFault.TheVariants.{OutOfMemory, Device}
 use Rattle.search.specs.Answers.{is_failure}

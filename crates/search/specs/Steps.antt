@@ -7,7 +7,7 @@ use Rattle.filetree.specs.Relations.{Is, Where, ◌>>◌}
 use Rattle.search.specs.Reasons.{FindReason, not_utf8_at}
 use Rattle.search.specs.DefaultVersions.{DefaultFileResult}
 use Rattle.filetree.specs.Causes.{Cause, because}
-use Rattle.filetree.specs.declared.find_fault.FindFault.{FindFault}
+use Rattle.search.specs.declared.find_fault.FindFault.{FindFault}
 use Rattle.search.specs.Answers.{cause_of}
 use Rattle.search.specs.Found.{FoundModule, Default}
 use Rattle.search.specs.Candidates.{IsModuleAt, HasCandidates}

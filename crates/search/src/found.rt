@@ -13,10 +13,11 @@ ghost use Rattle.search.specs.Steps.{caused, because_of, module_in, module_at, D
 
 use crate::default_files::DefaultFiles;
 use crate::defaults::{NamedVersion, named_default};
+use crate::find_fault::FindFault;
 use crate::modulefile::{FileContent, read_modulefile};
 use crate::paths::path_of;
 use crate::versions::{greatest_candidate, has_version};
-use filetree::{FindFault, Tree};
+use filetree::Tree;
 use modulename::is_module_name;
 use std::alloc::{AllocError, Global};
 

@@ -1,11 +1,10 @@
-//! Why a search finds no module: the faults 41 to 46, with their numbers and messages. They stand below the search,
-//! since the reading of a recorded modulefile by its path, which isn't searched for, has these faults too.
+//! Why a search finds no module: the faults 41 to 46, which the reading of a recorded modulefile by its path has too.
 ghost use Rattle.std.specs.Prelude.{◌≡◌, Some};
-ghost use Rattle.filetree.specs.declared.find_fault.FindFault.TheVariants.{OutOfMemory};
+ghost use Rattle.search.specs.declared.find_fault.FindFault.TheVariants.{OutOfMemory};
 ghost use Rattle.message.specs.Refusals.{numbered_text};
-ghost use Rattle.filetree.specs.Answers.{fault_of_tree, refusal_of};
+ghost use Rattle.search.specs.Answers.{fault_of_tree, refusal_of};
 
-use crate::tree::TreeFault;
+use filetree::TreeFault;
 use message::{NumberedMessage, RefusalKind};
 use std::alloc::{AllocError, AllocFailed};
 use std::error::Error;
