@@ -10,9 +10,10 @@ mod listings;
 mod located;
 
 pub use evaluated::Evaluated;
-pub use filetree::{DiskTree, FindFault, MemoryTree, Seen, Tree, TreeFault};
+pub use filetree::{DiskTree, MemoryTree, Seen, Tree, TreeFault};
 pub use laws::{one_result, some_result};
 pub use listings::{Listing, available};
 pub use located::{Found, locate};
 pub use modulename::version_order;
+pub use search::FindFault;
 pub use tclrules::Limits;

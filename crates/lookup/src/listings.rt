@@ -11,8 +11,8 @@ ghost use Rattle.lookup.specs.Lines.{line_of, lines_of, Available};
 ghost use Rattle.lookup.specs.LineViews.{line_view};
 
 use crate::evaluated::Evaluated;
-use filetree::{FindFault, Tree};
-use search::ListingEntry;
+use filetree::Tree;
+use search::{FindFault, ListingEntry};
 use std::alloc::{AllocError, Global};
 use tclrules::Limits;
 

@@ -9,7 +9,8 @@ ghost use Rattle.lookup.specs.Located.{Located};
 ghost use Rattle.lookup.specs.LocatedViews.{located_module_view};
 
 use crate::evaluated::Evaluated;
-use filetree::{FindFault, Tree};
+use filetree::Tree;
+use search::FindFault;
 use std::alloc::Global;
 use tclrules::Limits;
 

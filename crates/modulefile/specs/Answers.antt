@@ -1,6 +1,8 @@
 -- What the host of a modulefile answers to its commands (modulefile(5)), as an oracle over the records so far.
 use Rattle.std.specs.Prelude.{ℕ, Bool, true, false, ◌||◌, ◌&&◌, List, [], ◌∷◌, ◌++◌, codes, bytes_eq, if◌then◌else◌, unwrap_or, Option, Some, None, Result, Ok, Err}
 use Rattle.std.specs.List.{list_any}
+use Rattle.message.specs.Refusals.{number_of}
+use Rattle.message.specs.declared.refusals.RefusalKind.TheVariants as kinds
 use Rattle.modulename.specs.ModuleName.{means}
 use Rattle.envvars.specs.Texts.{Text}
 use Rattle.envvars.specs.Names.{is_variable_name}
@@ -78,16 +80,16 @@ value_shown whatis e var default = unwrap_or (lookup e var) default
 
 -- the numbers of reasons
 abbrev pub edit_number : EnvReason → ℕ
-edit_number (bad_variable name) = 32
-edit_number (protected name) = 33
-edit_number (counter_full name) = 34
-edit_number inconsistent = 35
-edit_number (bad_stack name) = 36
-edit_number (bad_value name) = 37
+edit_number (bad_variable name) = number_of kinds.BadVariable
+edit_number (protected name) = number_of kinds.Protected
+edit_number (counter_full name) = number_of kinds.CounterFull
+edit_number inconsistent = number_of kinds.Inconsistent
+edit_number (bad_stack name) = number_of kinds.BadStack
+edit_number (bad_value name) = number_of kinds.BadValue
 
 abbrev pub record_number : RecordReason → ℕ
 record_number (bad_edit reason) = edit_number reason
-record_number (bad_module_name name) = 44
+record_number (bad_module_name name) = number_of kinds.BadName
 
 -- the names that reasons are for
 abbrev pub edit_name : EnvReason → Option Text
@@ -110,7 +112,7 @@ refusal_of reason = record { number = record_number reason; name = record_name r
 abbrev pub not_done : CallReason → OracleAnswer
 not_done unknown = Unknown false
 not_done (unsupported name) = LeftOut name false
-not_done bad_arguments = Refused 56 None false
+not_done bad_arguments = Refused (number_of kinds.BadArguments) None false
 not_done (bad_record reason) = Refused (record_number reason) (record_name reason) false
 
 -- A command that leaves a record answers the empty text, and its words are recorded, where the record has its effect.

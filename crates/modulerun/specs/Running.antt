@@ -1,6 +1,8 @@
 -- What the result of a run means by the definitions of modulefiles (own).
 use Rattle.std.specs.Prelude.{◌≡◌, map, string_bytes, Option, Some, None, IfSome, Result, Ok, Err}
 use Rattle.std.specs.Option.{option_map}
+use Rattle.message.specs.Refusals.{number_of}
+use Rattle.message.specs.declared.refusals.RefusalKind.TheVariants as kinds
 use Rattle.envvars.specs.Texts.{Text}
 use Rattle.envvars.specs.Environment.{Environment}
 use Rattle.envvars.specs.Changes.{applied, new_values_in}
@@ -64,7 +66,7 @@ eval_reason (faults.Host n) refusal = Some (refused_by n refusal)
 abbrev pub file_reason_of : RunFault → Option FileReason
 file_reason_of OutOfMemory = None
 file_reason_of (Eval fault) = eval_reason fault None
-file_reason_of BadArguments = Some (refused (unnamed 56))
+file_reason_of BadArguments = Some (refused (unnamed (number_of kinds.BadArguments)))
 file_reason_of (BadRecord fault) = option_map (λ reason. refused (refusal_of reason)) (fault_reason fault)
 
 -- The result of a call is the outcome of the text in the context, or OutOfMemory. The environment after an accepted

@@ -5,7 +5,7 @@ use Rattle.envvars.specs.Reasons.{reason_of}
 use Rattle.filetree.specs.Agreement.{Files, Listings}
 use Rattle.filetree.specs.Causes as causes
 use Rattle.filetree.specs.Causes.{Cause, Applies, memory, device, because}
-use Rattle.filetree.specs.declared.find_fault.FindFault.TheVariants as finds
+use Rattle.search.specs.declared.find_fault.FindFault.TheVariants as finds
 use Rattle.filetree.specs.declared.tree.TreeFault.{TreeFault}
 use Rattle.filetree.specs.declared.tree.TreeFault.TheVariants as trees
 use Rattle.modulefile.specs.Judgments.{bad_edit}

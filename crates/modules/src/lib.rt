@@ -23,7 +23,7 @@ mod words;
 
 pub use done::{Done, Module, Move};
 pub use envvars::{Change, Env, EnvFault};
-pub use filetree::{FindFault, Tree, TreeFault};
+pub use filetree::{Tree, TreeFault};
 pub use judged::{Verdict, are_reversible, is_reversible};
 pub use missing::MissingNames;
 pub use modulefile::RecordFault;
@@ -33,6 +33,7 @@ pub use reply::{Changed, Reply};
 pub use requests::{Action, Request};
 pub use running::{run, run_changes};
 pub use scripts::script_at;
+pub use search::FindFault;
 pub use sessions::{Outcome, respond, session};
 pub use shelltext::Shell;
 pub use tclchars::TextFault;

@@ -24,13 +24,13 @@ use crate::scripts::script_at;
 use crate::settings::EvaluationSettings;
 use envloaded::{Loaded, drop_from_list, is_loaded};
 use envvars::Vars;
-use filetree::{FindFault, Tree};
+use filetree::Tree;
 use lookup::Evaluated;
 use modulefile::Mode;
 use modulename::is_module_name;
 use modulerun::{FileContext, Ran, run_file};
 use requests::{last_meant, show_report, whatis_report};
-use search::{Found, locate};
+use search::{FindFault, Found, locate};
 use std::alloc::{AllocError, Global};
 
 /// One name of a request, with what its module's file is evaluated under.

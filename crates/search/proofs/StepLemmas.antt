@@ -5,8 +5,8 @@ use Rattle.std.proofs.lemmas.Bool.Decides.{nat_tests}
 use Rattle.modulename.specs.ModuleName.{Text}
 use Rattle.filetree.specs.Agreement.{Files, Listings}
 use Rattle.filetree.specs.Modulefiles.{FileContent, absent, no_cookie, not_utf8, script, modulefile, is_module, is_empty, path_of}
-use Rattle.filetree.specs.declared.find_fault.FindFault.{FindFault}
-use Rattle.filetree.specs.declared.find_fault.FindFault.TheVariants as faults
+use Rattle.search.specs.declared.find_fault.FindFault.{FindFault}
+use Rattle.search.specs.declared.find_fault.FindFault.TheVariants as faults
 use Rattle.filetree.specs.Relations.{Then, Where}
 use Rattle.search.specs.Reasons.{FindReason}
 use Rattle.search.specs.DefaultVersions.{DefaultFileResult}

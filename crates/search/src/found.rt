@@ -12,10 +12,11 @@ ghost use Rattle.search.specs.Steps.{module_at, DefaultIn, FoundBelow};
 
 use crate::default_files::DefaultFiles;
 use crate::defaults::{NamedVersion, named_default};
+use crate::find_fault::FindFault;
 use crate::modulefile::{FileContent, read_modulefile};
 use crate::paths::path_of;
 use crate::versions::{greatest_candidate, has_version};
-use filetree::{FindFault, Tree};
+use filetree::Tree;
 use modulename::is_module_name;
 use std::alloc::{AllocError, Global};
 

@@ -4,6 +4,7 @@
 
 mod default_files;
 mod defaults;
+mod find_fault;
 mod folders;
 mod found;
 mod laws;
@@ -18,6 +19,7 @@ mod versions;
 
 pub use default_files::{DefaultFiles, Ended};
 pub use defaults::{NamedVersion, named_default};
+pub use find_fault::FindFault;
 pub use found::{Found, directories, locate};
 pub use laws::{one_found, one_listed, rows_of_defaults};
 pub use listing_entries::ListingEntry;

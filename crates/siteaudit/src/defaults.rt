@@ -10,11 +10,11 @@ ghost use Rattle.siteaudit.specs.Folders.{FolderText, folder_view, HoldsModule, 
 
 use crate::folders::{directory_of, folder_of};
 use crate::walk::Evaluation;
-use filetree::{FindFault, Tree};
+use filetree::Tree;
 use indexmap::IndexSet;
 use lookup::Evaluated;
 use modules::Refusal;
-use search::{locate, one_found};
+use search::{FindFault, locate, one_found};
 use std::alloc::{AllocError, Global};
 use tclrules::Limits;
 

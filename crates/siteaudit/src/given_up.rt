@@ -6,9 +6,9 @@ ghost use Rattle.modules.specs.Answers.{by_search, cause_of};
 ghost use Rattle.siteaudit.specs.WalkParts.{is_given_up};
 
 use envvars::EnvFault;
-use filetree::FindFault;
 use modulerun::{Ran, RunFault};
 use modules::Refusal;
+use search::FindFault;
 use tclrules::EvalFault;
 
 /// Whether the evaluation of a text was given up: memory ran out.

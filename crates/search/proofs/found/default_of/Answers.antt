@@ -2,7 +2,7 @@ use Rattle.std.proofs.Common.{◌≡◌, ◌∙◌, true, false, map, option_map
 use Rattle.std.specs.List.{list_any}
 use Rattle.std.proofs.lemmas.Result.{err_from_is_err_and}
 use Rattle.filetree.specs.Agreement.{InEachPair, is_device}
-use Rattle.filetree.specs.Answers.{fault_of_tree}
+use Rattle.search.specs.Answers.{fault_of_tree}
 use Rattle.filetree.specs.declared.tree.TreeFault.{TreeFault}
 use Rattle.filetree.specs.declared.tree.TreeFault.TheVariants.{OutOfMemory, Device}
 use Rattle.search.specs.Reasons.{bad_default}
