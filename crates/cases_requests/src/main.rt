@@ -50,7 +50,6 @@ mod writers;
 
 use std::io;
 
-/// Answers lines about a subject.
 fn answer_about(rt: &HostRuntime, subject: &str, lines: &[String]) -> io::Result<()> {
     match subject {
         "searches" => searches::answer(rt, lines),

@@ -45,7 +45,6 @@ pub(crate) fn recorder(alloc: Global) -> Result<Recorder, AllocError> {
     })
 }
 
-/// A name and a value, as they are meant.
 fn pair(alloc: Global, name: &str, value: &str) -> Option<(String, String)> {
     Some((text_of(alloc, name)?, text_of(alloc, value)?))
 }
@@ -135,7 +134,6 @@ fn push_variable(line: &mut Line, name: &str, value: &str) {
     push_text(line, value);
 }
 
-/// Adds a fault: its number, its line and its message.
 fn push_fault(alloc: Global, line: &mut Line, fault: &EvalFault) {
     let number = fault.number();
     match fault {
@@ -150,7 +148,6 @@ fn push_fault(alloc: Global, line: &mut Line, fault: &EvalFault) {
     }
 }
 
-/// Adds the words of a record.
 fn push_record(line: &mut Line, record: &[String]) {
     line.push_str("\trecord ");
     for (index, word) in record.iter().enumerate() {
@@ -161,7 +158,6 @@ fn push_record(line: &mut Line, record: &[String]) {
     }
 }
 
-/// Adds messages.
 fn push_messages(line: &mut Line, messages: &[String]) {
     for message in messages {
         line.push_str("\tmessage ");
@@ -169,7 +165,6 @@ fn push_messages(line: &mut Line, messages: &[String]) {
     }
 }
 
-/// Adds records.
 fn push_records(line: &mut Line, records: &[Vec<String>]) {
     for record in records {
         push_record(line, record);

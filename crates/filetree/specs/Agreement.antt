@@ -1,6 +1,7 @@
 -- What the answers of a tree of files say: pairs of maps from paths to files and directories, those that agree with the
 -- answers, and where the device failed. Paths and bytes are as POSIX has them.
-use Rattle.std.specs.Prelude.{◌≡◌, ◌⊎◌, ℕ, ◌<◌, ◌≤◌, Bool, true, false, List, length, map, nat_eq, Option, Some, None, Result, Ok, Err, IsErrOf, if◌then◌else◌, string_bytes, vec_items}
+use Rattle.std.specs.Prelude.{◌≡◌, ◌⊎◌, ℕ, ◌<◌, ◌≤◌, Bool, true, false, List, length, map, nat_eq, Option, Some, None}
+use Rattle.std.specs.Prelude.{Result, Ok, Err, IsErrOf, if◌then◌else◌, string_bytes, vec_items}
 use Rattle.std.specs.declared.alloc.Global.{Global}
 use Rattle.std.specs.List.{starts_with}
 use Rattle.std.specs.Option.{option_map}
@@ -100,7 +101,8 @@ FailsWhere is_failure agrees failed old new result LooksAt =
 abbrev pub FailsOnlyAt : {T : Type 0} → (T → Files → Listings → Type 0) → (T → List ℕ → Bool) → T → T
     → (Files → Listings → List ℕ → Type 0) → Type 0
 FailsOnlyAt agrees failed old new LooksAt =
-    FailsOnlyWhere (failed old) (failed new) (λ at. InEachPair (agrees new) (λ files listings. LooksAt files listings at))
+    FailsOnlyWhere (failed old) (failed new) (λ at. InEachPair (agrees new)
+    (λ files listings. LooksAt files listings at))
 
 -- the refusal that each fault is
 abbrev pub refusal_of : TreeFault → NumberedText

@@ -16,4 +16,4 @@ mod tree;
 pub use disk::DiskTree;
 pub use laws::{contents_agree, some_pair_agrees};
 pub use memory::MemoryTree;
-pub use tree::{Seen, Tree, TreeFault};
+pub use tree::{SeenPath, Tree, TreeFault};

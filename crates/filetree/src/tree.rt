@@ -2,7 +2,8 @@
 ghost use Rattle.std.specs.Prelude.{◌≡◌, ℕ, Bool, true, false, List, None, Some, IfOk};
 ghost use Rattle.filetree.specs.declared.tree.TreeFault.TheVariants.{OutOfMemory};
 ghost use Rattle.message.specs.Refusals.{numbered_text};
-ghost use Rattle.filetree.specs.Agreement.{FailsAt, Files, Listings, InEachPair, FailsOnlyByDevice, IsSatisfiable, begins_with, file_answer, is_device, listing_answer, refusal_of, Narrows};
+ghost use Rattle.filetree.specs.Agreement.{FailsAt, Files, Listings, InEachPair, FailsOnlyByDevice, IsSatisfiable};
+ghost use Rattle.filetree.specs.Agreement.{begins_with, file_answer, is_device, listing_answer, refusal_of, Narrows};
 
 use message::{NumberedMessage, RefusalKind};
 use std::alloc::{AllocError, AllocFailed};
@@ -66,7 +67,7 @@ impl<T: Drop> From<AllocFailed<T>> for TreeFault {
 
 /// What is seen at a path.
 #[derive(Clone, Copy, Debug, PartialEq, Eq)]
-pub struct Seen {
+pub struct SeenPath {
     /// Whether a file is there that begins with the bytes that were asked for.
     pub begins: bool,
     /// Whether a directory may be there: false only where the answers so far say that none is.
@@ -125,7 +126,7 @@ pub trait Tree {
     /// What `begins_with` answers, and after that `may_list`, in one call.
     ///
     /// It fails as `read` does.
-    fn see(&mut self, path: &str, prefix: &[u8]) -> Result<Seen, TreeFault>
+    fn see(&mut self, path: &str, prefix: &[u8]) -> Result<SeenPath, TreeFault>
         ensures narrows { Narrows (agrees self.old) (agrees self.new) }
         ensures answer { IfOk result (λ seen. InEachPair (agrees self.new) (λ files listings.
             begins_with prefix.now (files path.now) ≡ seen.begins)) }
@@ -136,7 +137,7 @@ pub trait Tree {
     {
         let begins = self.begins_with(path, prefix)?;
         let may_list = self.may_list(path);
-        Ok(Seen { begins, may_list })
+        Ok(SeenPath { begins, may_list })
     }
 
     /// The names in the directory at the path, in any order, or `None` where no directory is there.

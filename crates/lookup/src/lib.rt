@@ -9,8 +9,8 @@ mod laws;
 mod listings;
 mod located;
 
-pub use evaluated::Evaluated;
-pub use filetree::{DiskTree, MemoryTree, Seen, Tree, TreeFault};
+pub use evaluated::EvaluatedDefaultFiles;
+pub use filetree::{DiskTree, MemoryTree, SeenPath, Tree, TreeFault};
 pub use laws::{one_result, some_result};
 pub use listings::{Listing, available};
 pub use located::{Found, locate};

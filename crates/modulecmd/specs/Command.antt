@@ -1,4 +1,5 @@
--- What a command line asks for and what that makes of an environment, over the files and directories of a tree (module(1)).
+-- What a command line asks for and what that makes of an environment, over the files and directories of a tree
+-- (module(1)).
 use Rattle.std.specs.Prelude.{◌≡◌, ℕ, List, [], ◌∷◌, Option, Some, None, Result, Ok, Err, string_bytes}
 use Rattle.message.specs.Refusals as table
 use Rattle.message.specs.declared.refusals.RefusalKind.TheVariants as kinds
@@ -24,7 +25,8 @@ use Rattle.search.specs.declared.find_fault.FindFault.TheVariants as finds
 use Rattle.processinput.specs.declared.input.InputFault.{InputFault}
 use Rattle.processinput.specs.declared.input.InputFault.TheVariants as inputs
 use Rattle.modulecmd.specs.declared.command_fault.CommandFault.{CommandFault}
-use Rattle.modulecmd.specs.declared.command_fault.CommandFault.TheVariants.{Refused, Unprinted, UnknownShell, WriteFailed}
+use Rattle.modulecmd.specs.declared.command_fault.CommandFault.TheVariants.{Refused, Unprinted, UnknownShell}
+use Rattle.modulecmd.specs.declared.command_fault.CommandFault.TheVariants.{WriteFailed}
 
 -- Why a command is refused, apart from want of memory, a failed device, a failed write and changes without a text.
 pub data CommandReason : Type 0 where
@@ -66,7 +68,8 @@ RequestHasEffect r e files listings o =
     (step : Result Done RequestReason) × RequestStep (request_context_in standard r.0 files listings) e r.1 step
     × (o ≡ with_shell r.0 step)
 
--- The effect of a command with these arguments, or its reason, in this environment and over these files and directories.
+-- The effect of a command with these arguments, or its reason, in this environment and over these files and
+-- directories.
 abbrev pub CommandHasResult : List Text → Environment → Files → Listings → Result CommandResult CommandReason → Type 0
 CommandHasResult arguments e files listings = Is (command_of arguments) >> (λ r. RequestHasEffect r e files listings)
 

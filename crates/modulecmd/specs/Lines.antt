@@ -6,7 +6,8 @@ use Rattle.message.specs.declared.refusals.RefusalKind.TheVariants as kinds
 use Rattle.modules.specs.Messages as requests
 use Rattle.shelltext.specs.Printing as prints
 use Rattle.modulecmd.specs.declared.command_fault.CommandFault.{CommandFault}
-use Rattle.modulecmd.specs.declared.command_fault.CommandFault.TheVariants.{Refused, Unprinted, UnknownShell, WriteFailed}
+use Rattle.modulecmd.specs.declared.command_fault.CommandFault.TheVariants.{Refused, Unprinted, UnknownShell}
+use Rattle.modulecmd.specs.declared.command_fault.CommandFault.TheVariants.{WriteFailed}
 
 -- that of its layer's fault, or its own
 abbrev pub refusal_of : CommandFault → NumberedText

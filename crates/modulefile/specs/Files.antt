@@ -7,7 +7,9 @@ use Rattle.message.specs.Refusals.{number_of}
 use Rattle.message.specs.declared.refusals.RefusalKind.TheVariants as kinds
 use Rattle.tclchars.specs.Faults as text_faults
 use Rattle.tclrules.specs.Oracle.{HostRefusal, Trace}
-use Rattle.tclrules.specs.Derivation.{Halt, OutOfMemory, BadText, TooManyCommands, TooDeep, ValueTooLong, NumberTooLarge, FractionOperand, LeftOut, Stopped, ByHost, EvaluationOutcome, Ended, Halted, World}
+use Rattle.tclrules.specs.Derivation.{Halt, OutOfMemory, BadText, TooManyCommands, TooDeep, ValueTooLong}
+use Rattle.tclrules.specs.Derivation.{NumberTooLarge, FractionOperand, LeftOut, Stopped, ByHost, EvaluationOutcome}
+use Rattle.tclrules.specs.Derivation.{Ended, Halted, World}
 use Rattle.tclrules.specs.Variables.{Variables}
 use Rattle.tclrules.specs.Plans.{Completion, Normal, Raised, Returned, Broken, Continued}
 use Rattle.tclrules.specs.Playing.{Played}

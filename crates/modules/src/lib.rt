@@ -21,7 +21,7 @@ mod step;
 mod verdicts;
 mod words;
 
-pub use done::{Done, Module, Move};
+pub use done::{Module, Move, RequestResults};
 pub use envvars::{Change, Env, EnvFault};
 pub use filetree::{Tree, TreeFault};
 pub use judged::{Verdict, are_reversible, is_reversible};
@@ -29,7 +29,7 @@ pub use missing::MissingNames;
 pub use modulefile::RecordFault;
 pub use modulerun::RunFault;
 pub use refusal::Refusal;
-pub use reply::{Changed, Reply};
+pub use reply::{Reply, RequestChanges};
 pub use requests::{Action, Request};
 pub use running::{run, run_changes};
 pub use scripts::script_at;

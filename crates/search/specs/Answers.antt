@@ -11,7 +11,7 @@ use Rattle.search.specs.declared.find_fault.FindFault.{FindFault}
 use Rattle.search.specs.declared.find_fault.FindFault.TheVariants as faults
 use Rattle.search.specs.Reasons.{FindReason, bad_name, not_found, bad_default, not_utf8_at}
 use Rattle.search.specs.Found.{FoundModule}
-use Rattle.search.specs.declared.found.Found.{Found}
+use Rattle.search.specs.declared.found.LocatedModule.{LocatedModule}
 
 -- the refusal that each fault is
 abbrev pub refusal_of : FindFault → NumberedText
@@ -51,7 +51,7 @@ abbrev pub FindAnswersOverTree : {X Y : Type 0} → (Files → Listings → Type
 FindAnswersOverTree = causes.AnswersOverTree cause_of
 
 -- the module that was found
-abbrev pub found_view : Found → FoundModule
+abbrev pub found_view : LocatedModule → FoundModule
 found_view found = record {
   name = string_bytes found.name;
   path = string_bytes found.path;

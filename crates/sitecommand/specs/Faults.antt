@@ -9,7 +9,8 @@ use Rattle.siteaudit.specs.declared.fault.WalkFault.{WalkFault}
 use Rattle.siteaudit.specs.declared.fault.WalkFault.TheVariants as walks
 use Rattle.modulecmd.specs.Lines.{error_line}
 use Rattle.sitecommand.specs.declared.audit_fault.AuditFault.{AuditFault}
-use Rattle.sitecommand.specs.declared.audit_fault.AuditFault.TheVariants.{Refused, TooManyDirectories, NotADirectory, WriteFailed}
+use Rattle.sitecommand.specs.declared.audit_fault.AuditFault.TheVariants.{Refused, TooManyDirectories, NotADirectory}
+use Rattle.sitecommand.specs.declared.audit_fault.AuditFault.TheVariants.{WriteFailed}
 
 -- the text of each fault
 abbrev pub message_of : AuditFault → Text

@@ -3,7 +3,9 @@ use Rattle.std.specs.Prelude.{ℕ, [], decimal}
 use Rattle.message.specs.Refusals.{NumberedText, about}
 use Rattle.message.specs.declared.refusals.RefusalKind.TheVariants as kinds
 use Rattle.tclchars.specs.declared.fault.TextFault.{TextFault}
-use Rattle.tclchars.specs.declared.fault.TextFault.TheVariants.{OutOfMemory, OpenBrace, OpenQuote, OpenBracket, JoinedToClose, TooDeep, BadCharacter, BadExpression, TooLong}
+use Rattle.tclchars.specs.declared.fault.TextFault.TheVariants.{OutOfMemory, OpenBrace, OpenQuote, OpenBracket}
+use Rattle.tclchars.specs.declared.fault.TextFault.TheVariants.{JoinedToClose, TooDeep, BadCharacter, BadExpression}
+use Rattle.tclchars.specs.declared.fault.TextFault.TheVariants.{TooLong}
 
 -- the longest text that is parsed, in bytes
 abbrev pub max_bytes : ℕ
