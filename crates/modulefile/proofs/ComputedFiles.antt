@@ -18,19 +18,18 @@ use Rattle.tcloperators.specs.Messages as value_messages
 use Rattle.tclvalue.specs.Characters.{white_space, split_space}
 use Rattle.tclrules.specs.Messages.{no_variable, no_command, outside_loop, cannot_unset, is_array, bad_option, no_body, no_loop_variable, cannot_redefine}
 use Rattle.tclrules.specs.Names.{unsupported_commands, core_commands}
-use Rattle.modulefile.specs.CommandNames as names
 use Rattle.tclrules.specs.Forms.{core_form}
 use Rattle.tclrules.specs.Derivation.{LeftOut}
 use Rattle.envvars.specs.Environment.{Environment, with_value}
 use Rattle.modulefile.specs.Records.{Set, Unset, Front, Back, Conflict}
-use Rattle.modulefile.specs.Calls.{call_of}
+use Rattle.modulefile.specs.Calls as calls
 use Rattle.modulefile.specs.Answers.{FileContext}
 use Rattle.modulefile.specs.Files.{Ran, FileReason, halted, refused, failed, RunsFile, play}
 use Rattle.modulefile.specs.Rows.{standard, file, loading, unloading, showing}
 use Rattle.modulefile.proofs.PlayedFiles.{played_runs}
 
 pub computed : FileContext → Text → ℕ → Option (Result Ran FileReason)
-unfolding chars digits encode braced_at scan whole_script script_with command_at word_at unexpanded_word_at braced_word_at quoted_word_at quotes_at parts_with part_at dollar_at backslash_at bracket_at index_at braced_name_at after_expansion inner_at mark_at after_white operand_at after_number after_digits is_truth quoted_at braced_text_at operands.word_at expr_at whole_at chain_at climb_at prefix_at below_at numeral list_of list_at element_at piece_of piece_at value_messages.divide_by_zero value_messages.negative_shift value_messages.not_a_list value_messages.not_numeric value_messages.not_a_boolean value_messages.not_a_whole_number value_messages.bad_index value_messages.wrong_words white_space split_space no_variable no_command outside_loop cannot_unset is_array bad_option no_body no_loop_variable cannot_redefine unsupported_commands core_commands names.supported_commands names.unsupported_commands core_form call_of
+unfolding chars digits encode braced_at scan whole_script script_with command_at word_at unexpanded_word_at braced_word_at quoted_word_at quotes_at parts_with part_at dollar_at backslash_at bracket_at index_at braced_name_at after_expansion inner_at mark_at after_white operand_at after_number after_digits is_truth quoted_at braced_text_at operands.word_at expr_at whole_at chain_at climb_at prefix_at below_at numeral list_of list_at element_at piece_of piece_at value_messages.divide_by_zero value_messages.negative_shift value_messages.not_a_list value_messages.not_numeric value_messages.not_a_boolean value_messages.not_a_whole_number value_messages.bad_index value_messages.wrong_words white_space split_space no_variable no_command outside_loop cannot_unset is_array bad_option no_body no_loop_variable cannot_redefine unsupported_commands core_commands calls.unsupported_commands calls.commands core_form calls.call_of
 computed c text steps = play standard c text steps
 
 is_played : (c : FileContext) (text : Text) (steps : ℕ) → play standard c text steps ≡ computed c text steps

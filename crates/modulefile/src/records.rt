@@ -1,5 +1,4 @@
 //! What accepted commands of modulefiles leave on record.
-use crate::call::PathEdit;
 use crate::delimiter::Delimiter;
 
 /// What a file is evaluated for.
@@ -13,6 +12,17 @@ pub enum Mode {
     Display,
     /// Its descriptions are shown, by `whatis`.
     Whatis,
+}
+
+/// Where a path command puts its elements, or that it drops them.
+#[derive(Clone, Copy, Debug, PartialEq, Eq)]
+pub enum PathEdit {
+    /// `prepend-path`
+    Front,
+    /// `append-path`
+    Back,
+    /// `remove-path`
+    Remove,
 }
 
 /// What an accepted command leaves on record: what it does, whatever the mode.
