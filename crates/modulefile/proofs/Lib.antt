@@ -1,4 +1,3 @@
-pub mod RecordLemmas
 pub mod Effected
 pub mod Moved
 pub mod Bound
