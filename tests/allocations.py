@@ -11,7 +11,7 @@ import subprocess
 import sys
 import tempfile
 
-from harness import HERE, SECONDS, Failed, refuser, refuses_each
+from tests.harness import HERE, SECONDS, Failed, refuser, refuses_each
 
 PROGRAM = os.path.abspath(sys.argv[1])
 ROWS = os.path.join(os.path.dirname(HERE), "crates", "cases_environment", "stdin")

@@ -23,10 +23,9 @@ import subprocess
 import sys
 import tempfile
 
-import runs as model
-import sentence
-import standings
-from standings import MODULEPATH, SiteModule
+from tests import runs as model
+from tests import sentence, standings
+from tests.standings import MODULEPATH, SiteModule
 
 RUNS = 300
 

@@ -17,9 +17,9 @@ import os
 import re
 import sys
 
-from harness import add_case, encoded, evaluated, examples, run_all, same
-from plain import FAMILIES, printed
-from worked import real
+from tests.harness import add_case, encoded, evaluated, examples, run_all, same
+from tests.plain import FAMILIES, printed
+from tests.worked import real
 
 MARKS = {"n": "\n", "t": "\t", "s": " ", "z": "\0"}
 FILES = {"module": (b"#%Module\n", b"\n"), "file": (b"", b""), "bytes": (b"", b"\xc3")}

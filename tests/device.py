@@ -1,7 +1,5 @@
 """What the built program does where the device fails: `Reading failed` and no change.
 
-    python3 -B tests/device.py PROGRAM
-
 Each call that opens, reads, lists or asks for what is there fails in turn, and then all from each on, by different errors.
 A failure is never taken as an absence, also where nothing is there.
 """
@@ -10,9 +8,10 @@ import errno
 import os
 import resource
 import subprocess
-import sys
 
-from harness import FOO, case, loaded, refuser, run_all, same, true
+import pytest
+
+from tests.harness import FOO, loaded, same, true
 
 # Errors that tell of no absence, and those that tell of none where the same path was seen before.
 ERRORS = (errno.EIO, errno.EACCES, errno.EMFILE, errno.ELOOP, errno.ESTALE, errno.EINVAL)
@@ -32,10 +31,10 @@ def guesses(paths):
 class Command:
     """A command whose calls can be made to fail. It does without the answers of the calls by the spare paths."""
 
-    def __init__(self, folder, words, env):
+    def __init__(self, folder, library, words, env):
         self.folder = folder
         self.words = words
-        self.env = {**env, b"LD_PRELOAD": refuser(folder.path, "failing_calls")}
+        self.env = {**env, b"LD_PRELOAD": library}
         self.spare = {OWN_ENVIRONMENT} | guesses(self.paths({}))
 
     def run(self, asked):
@@ -75,14 +74,24 @@ class Command:
         return sum(answer != self.wanted([path], ample) for path, answer in zip(paths, emulated)), len(paths)
 
 
-def refuses_each_failure(folder, words, env, errors=(*ERRORS, *BEHIND_A_LOOK)):
-    """Where a call fails the program changes nothing and says why, and it is noticed if it takes that for an absence."""
-    command = Command(folder, words, env)
-    for error in errors:
-        true(command.fails(error) > 0, f"{words} by {errno.errorcode[error]}: no call can fail")
-    noticed, calls = command.notices()
-    print(f"{' '.join(words)}: a failure taken for an absence is noticed at {noticed} of {calls} calls")
-    same(noticed, calls, f"{words}: calls at which it is noticed")
+@pytest.fixture
+def library(shim):
+    return shim("failing_calls")
+
+
+@pytest.fixture
+def refuses_each_failure(folder, library):
+    """Judges a command: where a call fails the program changes nothing and says why, and it is noticed if it takes that
+    for an absence."""
+
+    def judge(words, env, errors=(*ERRORS, *BEHIND_A_LOOK)):
+        command = Command(folder, library, words, env)
+        for error in errors:
+            true(command.fails(error) > 0, f"{words} by {errno.errorcode[error]}: no call can fail")
+        noticed, calls = command.notices()
+        same(noticed, calls, f"{words}: calls at which it is noticed")
+
+    return judge
 
 
 def versions(folder):
@@ -105,81 +114,70 @@ def three_directories(folder):
     return env
 
 
-@case
-def a_load_of_a_whole_name(folder):
+def test_a_load_of_a_whole_name(folder, refuses_each_failure):
     folder.module("foo/1.0", FOO)
-    refuses_each_failure(folder, ["sh", "load", "foo/1.0"], folder.environment(PATH="/bin"))
+    refuses_each_failure(["sh", "load", "foo/1.0"], folder.environment(PATH="/bin"))
 
 
-@case
-def a_load_of_a_default(folder):
-    refuses_each_failure(folder, ["sh", "load", "ver"], versions(folder))
+def test_a_load_of_a_default(folder, refuses_each_failure):
+    refuses_each_failure(["sh", "load", "ver"], versions(folder))
 
 
-@case
-def a_load_of_the_greatest_version(folder):
+def test_a_load_of_the_greatest_version(folder, refuses_each_failure):
     env = versions(folder)
     os.remove(folder.at("ver/.version"))
-    refuses_each_failure(folder, ["sh", "load", "ver"], env)
+    refuses_each_failure(["sh", "load", "ver"], env)
 
 
-@case
-def a_load_from_the_second_of_three_directories(folder):
+def test_a_load_from_the_second_of_three_directories(folder, refuses_each_failure):
     env = three_directories(folder)
-    refuses_each_failure(folder, ["sh", "load", "ver/1.9"], env)
-    refuses_each_failure(folder, ["sh", "load", "ver"], env)
+    refuses_each_failure(["sh", "load", "ver/1.9"], env)
+    refuses_each_failure(["sh", "load", "ver"], env)
 
 
-@case
-def a_load_from_the_last_of_three_directories(folder):
-    refuses_each_failure(folder, ["sh", "load", "late"], three_directories(folder))
+def test_a_load_from_the_last_of_three_directories(folder, refuses_each_failure):
+    refuses_each_failure(["sh", "load", "late"], three_directories(folder))
 
 
-@case
-def a_name_that_is_not_there(folder):
-    refuses_each_failure(folder, ["sh", "load", "nope"], versions(folder), ERRORS)
-    refuses_each_failure(folder, ["sh", "load", "nope"], three_directories(folder), ERRORS)
+def test_a_name_that_is_not_there(folder, refuses_each_failure):
+    refuses_each_failure(["sh", "load", "nope"], versions(folder), ERRORS)
+    refuses_each_failure(["sh", "load", "nope"], three_directories(folder), ERRORS)
 
 
-@case
-def an_unload_and_a_switch(folder):
+def test_an_unload_and_a_switch(folder, refuses_each_failure):
     folder.module("foo/1.0", FOO)
     versions(folder)
     env = loaded(folder, "foo/1.0", FOO="on", PATH="/opt/foo/bin:/bin")
-    refuses_each_failure(folder, ["sh", "unload", "foo"], env)
-    refuses_each_failure(folder, ["csh", "switch", "foo", "ver"], env)
+    refuses_each_failure(["sh", "unload", "foo"], env)
+    refuses_each_failure(["csh", "switch", "foo", "ver"], env)
 
 
-@case
-def an_unload_of_what_is_gone(folder):
+def test_an_unload_of_what_is_gone(folder, refuses_each_failure):
     """The last directory of MODULEPATH has a module of that name, and no unload looks for it there."""
     env = {**three_directories(folder), b"LOADEDMODULES": b"gone/1", b"_LMFILES_": folder.at("gone/1"), b"V": b"x"}
-    refuses_each_failure(folder, ["sh", "unload", "gone"], env, ERRORS)
+    refuses_each_failure(["sh", "unload", "gone"], env, ERRORS)
 
 
-@case
-def an_unload_of_what_is_no_modulefile_any_more(folder):
+def test_an_unload_of_what_is_no_modulefile_any_more(folder, refuses_each_failure):
     folder.file("plain/1", "setenv A 1\n")
-    refuses_each_failure(folder, ["sh", "unload", "plain"], loaded(folder, "plain/1"))
+    refuses_each_failure(["sh", "unload", "plain"], loaded(folder, "plain/1"))
 
 
-@case
-def reports(folder):
+def test_reports(folder, library, refuses_each_failure):
     """Of several directories in a row `avail` opens a later one before it looks at it."""
     env = versions(folder)
     for name in ("a", "b", "c"):
         folder.module(f"{name}/1", "")
-    true(guesses(Command(folder, ["sh", "avail"], env).paths({})), "no directory is opened without a look")
-    refuses_each_failure(folder, ["sh", "avail"], env)
-    refuses_each_failure(folder, ["sh", "show", "ver"], env)
-    refuses_each_failure(folder, ["sh", "whatis", "ver"], env)
+    true(guesses(Command(folder, library, ["sh", "avail"], env).paths({})), "no directory is opened without a look")
+    refuses_each_failure(["sh", "avail"], env)
+    refuses_each_failure(["sh", "show", "ver"], env)
+    refuses_each_failure(["sh", "whatis", "ver"], env)
 
 
-@case
-def a_file_that_changes_meanwhile(folder):
+def test_a_file_that_changes_meanwhile(folder, library):
     """Its first bytes are read by themselves, and then the whole file, which isn't taken where it begins otherwise."""
     folder.module("foo/1.0", FOO)
-    env = {**folder.environment(PATH="/bin"), b"LD_PRELOAD": refuser(folder.path, "failing_calls")}
+    env = {**folder.environment(PATH="/bin"), b"LD_PRELOAD": library}
     accepted = folder.run("sh", "load", "foo/1.0", env=env)
     same((accepted.stderr, accepted.returncode), (b"", 0), "a file that stays")
     for number, text in ((b"1", "Unable to locate a modulefile for 'foo/1.0'"), (b"2", "Reading failed")):
@@ -217,8 +215,7 @@ def huge(folder, name):
         out.truncate(HUGE)
 
 
-@case
-def files_that_are_no_modules_and_huge(folder):
+def test_files_that_are_no_modules_and_huge(folder):
     folder.module("foo/1.0", FOO)
     env = folder.environment(PATH="/bin")
     commands = (["sh", "avail"], ["sh", "load", "foo"], ["sh", "show", "foo"], ["sh", "load", "foo/1.0"])
@@ -236,9 +233,3 @@ def files_that_are_no_modules_and_huge(folder):
         text = f"ERROR: Unable to locate a modulefile for '{words[2]}'\n"
         same(found, (b"", text.encode(), 1), f"{words}, a file of 50 GB")
         true(memory < MOST, f"{words} took {memory} bytes of memory")
-
-
-if __name__ == "__main__":
-    passed, failed = run_all(sys.argv[1])
-    print(f"device: {passed} passed, {failed} failed")
-    sys.exit(1 if failed else 0)

@@ -5,9 +5,9 @@
 
 import sys
 
-import named
-from harness import Failed
-from run import SUITES
+from tests import named
+from tests.harness import Failed
+from tests.run import SUITES
 
 CHECKS = {
     "the tables in the crates' pages have functions, clauses and definitions that are there": named.check_claims,
@@ -16,11 +16,12 @@ CHECKS = {
     "a function that its crate's page doesn't name has the definition of its name": named.check_rest,
     "the lists of ARCHITECTURE are those of tools/rooms.py": named.check_rooms,
     "ARCHITECTURE is short, and its paths are whole": named.check_doors,
-    "crates stand on those before them in crates.txt, but for the exceptions of ARCHITECTURE": named.check_order,
+    "a crate lists those before it in crates.txt alone": named.check_order,
     "the crates of Tcl and of the environment list of other layers what ARCHITECTURE says": named.check_boundaries,
     "the files that pages name are there": named.check_files,
     "the crates that pages name are there": named.check_crates,
-    "the graph of crates has few paths": named.check_paths,
+    "a definition is cited where it stands": named.check_citations,
+    "the table of REFUSALS has the numbers and texts of the program's, and of the definitions": named.check_refusals,
     "the words of sources that pages name are there": named.check_words,
     "the suites that pages name are there": lambda: named.check_suites({script for script, *_ in SUITES}),
 }

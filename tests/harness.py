@@ -71,16 +71,18 @@ def evaluated(text, env):
     return {name: value for name, value in pairs if name not in OWN}
 
 
-class Failed(Exception):
+class Failed(AssertionError):
     """What a case found, where it is not what it wants."""
 
 
 def same(found, wanted, what):
+    __tracebackhide__ = True
     if found != wanted:
         raise Failed(f"{what}: found {found!r}, wanted {wanted!r}")
 
 
 def true(fact, what):
+    __tracebackhide__ = True
     if not fact:
         raise Failed(what)
 
@@ -139,6 +141,8 @@ class Folder:
         os.mkdir(self.modules)
 
     def remove(self):
+        """Removes the folder, also what its owner may not read."""
+        subprocess.run(["chmod", "-R", "u+rwx", self.path], check=True)
         shutil.rmtree(self.path)
 
     def at(self, name):

@@ -15,13 +15,10 @@ import subprocess
 import sys
 import time
 
-import runs
-from harness import FOO, NOBODY, case, encoded, loaded, run_all, same, true
-from worked import FILES
-
-sys.path.insert(1, os.path.join(os.path.dirname(os.path.abspath(__file__)), "shells"))
-
-from texts import text as text_for  # noqa: E402
+from tests import runs
+from tests.harness import FOO, NOBODY, case, encoded, loaded, run_all, same, true
+from tests.shells.texts import text as text_for
+from tests.worked import FILES
 
 SECONDS = 20
 MOST_BYTES = 1_048_576

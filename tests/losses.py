@@ -1,8 +1,6 @@
 """Why modules aren't certified: for each standing but that of a module that asks, and for each rule of clashes, a session
 of the built program in which the start is lost, or an unload takes what another loaded module has set.
 
-    python3 -B tests/losses.py PROGRAM
-
 Each row has its modulefiles, the standing of each by the rules in the crates' pages (and so by the model in
 `standings.py`, where the records stand in the row), the variables of the start, the commands, and what is there after
 them. The start agrees with all that the modules use, where any start does. What is there is typed by hand from
@@ -12,12 +10,12 @@ modulefile(5).
 import os
 import shutil
 import subprocess
-import sys
 
-from harness import SECONDS, case, run_all, same, true
+import pytest
 
-import standings
-from standings import SiteModule
+from tests import standings
+from tests.harness import SECONDS, same, true
+from tests.standings import SiteModule
 
 SH = shutil.which("dash") or "/bin/sh"
 ENV = shutil.which("env")
@@ -169,25 +167,21 @@ class Session:
         self.env = {name: value for name, value in pairs if name not in OWN}
 
 
-def loses(folder, what, row):
+each_row = pytest.mark.parametrize("row", ROWS.values(), ids=list(ROWS))
+
+
+@each_row
+def test_the_start_or_what_is_loaded_is_lost(folder, row):
     session = Session(folder, row)
     for words in row.commands:
         session.does(words)
     wanted = {name: value for name, value in {**session.start, **row.found}.items() if value is not None}
-    same(session.env, {name: session.real(value) for name, value in wanted.items()}, f"what {what} leaves")
-    true(session.env != {name: session.real(value) for name, value in session.start.items()}, f"{what} loses something")
-    for name in row.files:
-        os.remove(folder.at(name))
+    same(session.env, {name: session.real(value) for name, value in wanted.items()}, "what is left")
+    true(session.env != {name: session.real(value) for name, value in session.start.items()}, "something is lost")
 
 
-@case
-def each_row_loses_its_start_or_what_is_loaded(folder):
-    for what, row in ROWS.items():
-        loses(folder, what, row)
-
-
-# What the modulefiles of the rows leave; a refused one leaves nothing.
 def records_of(text):
+    """What the modulefiles of the rows leave; a refused one leaves nothing."""
     records = []
     for line in text.splitlines():
         kind, *words = line.split()
@@ -201,29 +195,15 @@ def records_of(text):
     return records
 
 
-@case
-def each_row_stands_as_it_says(_):
-    for what, row in ROWS.items():
-        modules = [
-            SiteModule(name, f"/m/{name}", records_of(text), fault="unset" if "$env" in text else None)
-            for name, text in row.files.items()
-        ]
-        same([standings.standing_of(module, modules) for module in modules], row.stand, f"how modules stand in {what}")
+@each_row
+def test_modules_stand_as_the_row_says(row):
+    modules = [
+        SiteModule(name, f"/m/{name}", records_of(text), fault="unset" if "$env" in text else None)
+        for name, text in row.files.items()
+    ]
+    same([standings.standing_of(module, modules) for module in modules], row.stand, "how the modules stand")
 
 
-@case
-def each_standing_has_a_row(_):
+def test_each_standing_has_a_row():
     standing = {word for row in ROWS.values() for word in row.stand}
     same(sorted(standing), ["clashes", "one-way", "out-of-step", "refused"], "the standings of the rows")
-
-
-def main():
-    if len(sys.argv) != 2:
-        sys.exit(f"{sys.argv[0]} PROGRAM")
-    passed, failed = run_all(sys.argv[1])
-    print(f"{passed} passed, {failed} failed")
-    return 1 if failed else 0
-
-
-if __name__ == "__main__":
-    sys.exit(main())

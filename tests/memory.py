@@ -3,8 +3,8 @@
 import os
 import sys
 
-from harness import FOO, case, encoded, loaded, refuser, refuses_each, run_all
-from worked import FILES
+from tests.harness import FOO, case, encoded, loaded, refuser, refuses_each, run_all
+from tests.worked import FILES
 
 
 def answers_or_refuses(folder, words, env):

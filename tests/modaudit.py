@@ -18,10 +18,9 @@ import subprocess
 import sys
 import time
 
-import certified
-import losses
-from harness import CASES, HERE, SECONDS, case, refuser, refuses_each, run_all, same, true
-from worked import FOLDER, real, write
+from tests import certified, losses
+from tests.harness import CASES, HERE, SECONDS, case, refuser, refuses_each, run_all, same, true
+from tests.worked import FOLDER, real, write
 
 sys.path += [os.path.join(os.path.dirname(HERE), "bench"), os.path.join(os.path.dirname(HERE), "tools")]
 

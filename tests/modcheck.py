@@ -12,8 +12,8 @@ import subprocess
 import sys
 import time
 
-from harness import HERE, case, refuser, refuses_each, run_all, same, true
-from worked import FILES, real, write
+from tests.harness import HERE, case, refuser, refuses_each, run_all, same, true
+from tests.worked import FILES, real, write
 
 TOP = os.path.dirname(HERE)
 SHELLS = ("sh", "bash", "ksh", "zsh", "csh", "tcsh", "fish")

@@ -20,9 +20,9 @@ import re
 import subprocess
 import sys
 
-from harness import HERE, SECONDS, add_case, examples, run_all, same, true
-from plain import FAMILIES, printed
-from worked import real, write
+from tests.harness import HERE, SECONDS, add_case, examples, run_all, same, true
+from tests.plain import FAMILIES, printed
+from tests.worked import real, write
 
 OTHER = "other/1"
 REFUSAL = re.compile(r"(\d+) (.*)")

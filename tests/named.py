@@ -5,7 +5,7 @@ import functools
 import os
 import re
 
-from harness import HERE, Failed, true
+from tests.harness import HERE, Failed, true
 
 import rooms  # in tools/, which harness puts into the path
 
@@ -20,19 +20,16 @@ FUNCTION = re.compile(r"\s*(pub )?fn (\w+)")
 CLAUSE = re.compile(r"\bensures(?: (\w+))? \{(.*?)(?=\bensures\b|\brequires\b|\Z)", re.DOTALL)
 
 # Every fault has these two, which CLAIMS says once of all.
-OF_FAULTS = {"number", "message"}
+OF_FAULTS = {"number", "numbered"}
 
 # What is public for the crates above alone, which CLAIMS omits.
 HELPERS = {
-    "envtable": ("escapes", "fields", "table"),
-    "pathorder": ("copies",),
-    "candidates": ("module_files", "names", "paths", "version_named", "versions"),
+    "envvars": ("escapes", "fields", "table"),
     "sitelaws": ("directories",),
 }
 
-# Around the proof of each library the gate of some kits reads the files of all crates below it, along each path of their
-# graph anew.
-MOST_PATHS = 250_000
+# A citation of a file of definitions or lemmas; what the prover makes has other homes.
+CITATION = re.compile(r"\bRattle\.(\w+)\.(specs|proofs)\.(?!declared\b|contracts\b)([A-Z]\w*)")
 
 # ARCHITECTURE is read before the first change.
 MOST_BYTES = 12_000
@@ -49,6 +46,15 @@ PATH = re.compile(rf"(?:{FOLDERS})/|\w+/(?:src|specs|proofs|must-fail)/")
 FILE = re.compile(r"[\w.-][\w./-]*\.(?:antt|c|edit|fish|md|py|rt|sh)")
 WORD = re.compile(r"[A-Za-z]+(?:_\w+|[a-z][A-Z]\w*)")
 CRATE = re.compile(r"tcl(?!sh$)[a-z]+|env(?!iron)[a-z]+|cases_\w+")
+
+# A row of the table in REFUSALS.md, what stands there for what a refusal names, and the rows of the program.
+REFUSAL = re.compile(r"^\| `\w+`[^|]*\| ([0-9, ]+) \| ([^|]*) \|", re.MULTILINE)
+SUBJECT = re.compile(r"\b[NX]\b")
+TABLES = {
+    "crates/message/src/refusals.rt": re.compile(r'RefusalKind::\w+ => \((\d+), "(.*)", "(.*)"\),'),
+    "crates/message/specs/Refusals.antt": re.compile(
+        r'^row_of kinds\.\w+ = row (\d+) (?:\[\]|\(codes "(.*?)"\)) (?:\[\]|\(codes "(.*)"\))$', re.MULTILINE),
+}
 
 # Crates that stand below the kit's own of crates.txt, and that no source names.
 BELOW_THE_KIT = {"fast_float"}
@@ -276,13 +282,12 @@ def check_doors():
 
 
 def check_order():
-    """A crate stands on crates before it in crates.txt, but for the exceptions that ARCHITECTURE names."""
+    """A crate lists crates before it in crates.txt alone."""
     lists = rooms.lists()
     order = list(lists)
-    pairs = [(crate, lower) for crate in order for lower in lists[crate] if lower in lists]
-    exceptions = {(crate, lower) for crate, lower in pairs if order.index(lower) > order.index(crate)}
-    named = set(re.findall(r"`(\w+)` on `(\w+)`", content("docs", "ARCHITECTURE.md")))
-    true(named == exceptions, f"ARCHITECTURE names which crates stand on one after them: {sorted(exceptions)}")
+    for crate in order:
+        later = {lower for lower in lists[crate] if lower in lists} - set(order[: order.index(crate)])
+        true(not later, f"{crate} lists no crate after it in crates.txt: {sorted(later)}")
 
 
 def check_boundaries():
@@ -299,7 +304,7 @@ def check_heads():
     """Each crate has a page, which begins with the first two lines of its root file: what it knows, and what it may
     touch."""
     for crate in rooms.lists():
-        knows, touches, _ = rooms.head(crate)
+        knows, touches = rooms.head(crate)
         head = f"# `{crate}`\n\n{knows}\n\n{touches}\n"
         true(page_of(crate).startswith(head), f"the page of {crate} begins as its root file")
 
@@ -320,20 +325,31 @@ def check_crates():
             true(crate in crates, f"{page} names a crate that is there: {crate}")
 
 
-def check_paths():
-    """The ways down the graph of crates.txt, from each crate along what it lists, are few enough to walk."""
-    lines = re.findall(r"^(\w+).*?:(.*)", content("crates.txt"), re.MULTILINE)
-    lists = {crate: set(listed.split()) for crate, listed in lines}
+def check_citations():
+    """A file of definitions or lemmas is cited by the crate in which it stands, so that a search by its name finds it."""
+    for path in files():
+        if path.endswith((".antt", ".rt")):
+            for crate, kind, name in CITATION.findall(content(path)):
+                file = os.path.join(CRATES, crate, kind, f"{name}.antt")
+                is_there = crate not in rooms.lists() or os.path.exists(file)
+                true(is_there, f"{path} cites a file where it stands: Rattle.{crate}.{kind}.{name}")
 
-    @functools.cache
-    def paths_from(crate):
-        return 1 + sum(paths_from(lower) for lower in lists[crate] & lists.keys())
 
-    paths = sum(map(paths_from, lists))
-    true(
-        paths <= MOST_PATHS,
-        f"crates.txt has at most {MOST_PATHS} paths, not {paths}: list no crate whose items a nearer one can hand on",
-    )
+def check_refusals():
+    """The table of refusals in REFUSALS.md has the numbers and texts of that of the program, and the definitions too. A
+    row whose text isn't a code span begins a message that the page tells by its words."""
+    page = {}
+    for numbers, text in REFUSAL.findall(content("docs", "REFUSALS.md")):
+        for number in numbers.split(", "):
+            page[number] = text
+    for where, pattern in TABLES.items():
+        rows = pattern.findall(content(*where.split("/")))
+        true(rows and [number for number, *_ in rows] == sorted(page, key=int), f"{where} has the numbers of the page")
+        for number, before, after in rows:
+            text = page[number]
+            is_told = not text.startswith("`")
+            shown = before + SUBJECT.search(text)[0] + after if SUBJECT.search(text) else before + after
+            true(is_told or before + after == "" or text == f"`{shown}`", f"{where} has {text} for {number}")
 
 
 def check_suites(suites):

@@ -13,7 +13,7 @@ import subprocess
 import sys
 import tempfile
 
-from harness import SECONDS, Failed, refuser, refuses_each
+from tests.harness import SECONDS, Failed, refuser, refuses_each
 
 PROGRAM = os.path.abspath(sys.argv[1])
 REQUEST, SEARCH, EVALUATION = (f"{number} Out of memory" for number in (31, 41, 11))

@@ -20,7 +20,7 @@ import subprocess
 import sys
 import tempfile
 
-from harness import SECONDS, case, run_all, same, true
+from tests.harness import SECONDS, case, run_all, same, true
 
 HERE = os.path.dirname(os.path.abspath(__file__))
 TOP = os.path.dirname(HERE)

@@ -22,7 +22,7 @@ import termios
 import textwrap
 import time
 
-from harness import HERE, SECONDS, Failed, case, run_all, same, true
+from tests.harness import HERE, SECONDS, Failed, case, run_all, same, true
 
 TOP = os.path.dirname(HERE)
 ROWS, COLUMNS = 40, 80

@@ -19,8 +19,8 @@ import subprocess
 import sys
 import tempfile
 
-import runs as model
-import sentence
+from tests import runs as model
+from tests import sentence
 
 FILES = 2000
 CONTEXTS = 20

@@ -11,7 +11,7 @@ import subprocess
 import sys
 import time
 
-from harness import FOO, NOBODY, case, encoded, loaded, refuser, run_all, same, true
+from tests.harness import FOO, NOBODY, case, encoded, loaded, refuser, run_all, same, true
 
 
 def new_lists(folder, name):

@@ -10,9 +10,9 @@ stand for the folders that a row makes. What a command prints is evaluated by sh
 import os
 import sys
 
-from harness import Failed, case, evaluated, run_all, same, true
-from plain import printed
-from worked import FILES, real, write
+from tests.harness import Failed, case, evaluated, run_all, same, true
+from tests.plain import printed
+from tests.worked import FILES, real, write
 
 # The loaded names, and the paths of their files.
 LISTS = (b"LOADEDMODULES", b"_LMFILES_")

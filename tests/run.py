@@ -1,14 +1,10 @@
 """Runs the merge gate, and then the tests outside it over the programs that the gate proved and built.
 
-    run.py [--only NAME...]
-
-With names, as `program`, `tcl/scripts.py` or `sentence`, the gate isn't run, and of the suites only these, over the
-programs that stand in build/bin.
-
 At the end stands a table of the processor time of each part, and what wasn't run and why. The last line counts what
 passed and what failed.
 """
 
+import argparse
 import os
 import re
 import shutil
@@ -16,14 +12,13 @@ import subprocess
 import sys
 import tempfile
 
-from times import Sampler, children_seconds, table
-
 HERE = os.path.dirname(os.path.abspath(__file__))
 TOP = os.path.dirname(HERE)
 BUILT = os.path.join(TOP, "build", "bin")
-sys.path.append(os.path.join(TOP, "tools"))
+sys.path += [TOP, os.path.join(TOP, "tools")]
 
 import link  # noqa: E402
+from tests.times import Sampler, children_seconds, table  # noqa: E402
 
 COUNTS = re.compile(r"(\d+) passed, (\d+) failed")
 
@@ -40,7 +35,11 @@ PROGRAMS = {
     "cases_requests": ("cases_requests", "cases_requests"),
 }
 
-# The tests outside the gate: a script, the program that it is given, and further words.
+# What the suites take of Debian beside Python: a module, and its package.
+MODULES = {"pytest": "python3-pytest", "hypothesis": "python3-hypothesis"}
+
+# The tests outside the gate. pytest runs a suite that stands alone; another is a script with the program that it is
+# given, and further words.
 SUITES = (
     ("program.py", "modulecmd"),
     ("rows.py", "modulecmd"),
@@ -54,15 +53,15 @@ SUITES = (
     ("certified.py", "modulecmd", "300", "0", "sh"),
     ("certified.py", "modulecmd", "40", "0", "tcsh"),
     ("certified.py", "modulecmd", "40", "0", "fish"),
-    ("losses.py", "modulecmd"),
+    ("losses.py",),
     ("modcheck.py", "modcheck"),
     ("modaudit.py", "modaudit"),
     ("plain.py", "modcheck"),
     ("memory.py", "modulecmd"),
     ("numbers.py", "cases_requests"),
-    ("device.py", "modulecmd"),
+    ("device.py",),
     ("hostile.py", "modulecmd"),
-    ("search.py", "cases_requests"),
+    ("search.py",),
     ("shells/run.py", "modulecmd"),
     ("pages.py", "modulecmd"),
     ("allocations.py", "cases_environment"),
@@ -82,6 +81,16 @@ SUITES = (
 def left_by_the_gate(name):
     crate, file = PROGRAMS[name]
     return os.path.join(TOP, "crates", crate, "out", file)
+
+
+def interpreter():
+    """The Python that runs the suites: the first one that has the modules which they take."""
+    found = [os.path.join(folder, "python3") for folder in os.get_exec_path()]
+    for python in filter(os.path.exists, dict.fromkeys([sys.executable, *found, "/usr/bin/python3"])):
+        done = subprocess.run([python, "-c", f"import {', '.join(MODULES)}"], capture_output=True, check=False)
+        if done.returncode == 0:
+            return python
+    sys.exit(f"no python3 has {' and '.join(MODULES)}; `make deps` installs {' and '.join(MODULES.values())}")
 
 
 def fault(passed, failed, status, reasons):
@@ -168,14 +177,15 @@ def make_object(kit, name, made):
     return done.returncode == 0
 
 
-def suite(script, program, words):
+def suite(python, script, *given):
     """Runs one suite, and gives what passed, what failed, why something wasn't run, and its processor seconds."""
-    if program and not os.path.exists(os.path.join(BUILT, program)):
-        crate = PROGRAMS[program][0]
-        print(f"FAILED: {script} needs build/bin/{program}: `python3 tools/build.py {crate}` builds it")
-        return 0, 1, [], 0.0
     before = children_seconds()
-    counts = counted([sys.executable, "-B", os.path.join(HERE, script), os.path.join(BUILT, program), *words])
+    if given:
+        program, *words = given
+        module = f"tests.{script.removesuffix('.py').replace('/', '.')}"
+        counts = counted([python, "-B", "-m", module, os.path.join(BUILT, program), *words])
+    else:
+        counts = counted([python, "-B", "-m", "pytest", "-q", f"tests/{script}"])
     return *counts, children_seconds() - before
 
 
@@ -189,18 +199,28 @@ def chosen(names):
     return [it for it in SUITES if not names or it[0] in scripts]
 
 
-def main(words):
-    if words[:1] not in ([], ["--only"]) or words == ["--only"]:
-        sys.exit("run.py [--only NAME...]")
-    suites, start, passed, failed, spent, crates = chosen(words[1:]), children_seconds(), 0, 0, {}, {}
-    not_run = []
-    if not words:
+def words():
+    parser = argparse.ArgumentParser(description=__doc__, formatter_class=argparse.RawDescriptionHelpFormatter)
+    parser.add_argument(
+        "--only",
+        nargs="+",
+        metavar="NAME",
+        default=[],
+        help="run no gate, and of the suites these alone, as `program` or `tcl/scripts`, over the programs in build/bin",
+    )
+    return parser.parse_args()
+
+
+def main(only):
+    python, suites = interpreter(), chosen(only)
+    start, passed, failed, spent, crates, not_run = children_seconds(), 0, 0, {}, {}, []
+    if not only:
         with Sampler(os.getpid()) as sampler:
             passed, failed, _ = gate()
         spent["rt ci"], crates = children_seconds() - start, sampler.crates()
-    for script, program, *more in suites:
-        suite_passed, suite_failed, reasons, seconds = suite(script, program, more)
-        spent[" ".join([script, *more])] = seconds
+    for script, *given in suites:
+        suite_passed, suite_failed, reasons, seconds = suite(python, script, *given)
+        spent[" ".join([script, *given[1:]])] = seconds
         passed += suite_passed
         failed += suite_failed
         not_run += [f"{NOT_RUN}{script}: {reason}" for reason in reasons]
@@ -211,4 +231,4 @@ def main(words):
 
 
 if __name__ == "__main__":
-    sys.exit(main(sys.argv[1:]))
+    sys.exit(main(words().only))

@@ -1,53 +1,27 @@
-"""Searches real directories by the program cases_requests, which answers lines of standard input.
-
-    search.py PROGRAM"""
+"""Searches real directories by the program cases_requests, which answers lines of standard input."""
 
 import os
-import shutil
-import subprocess
-import sys
-import tempfile
 
-from harness import NOBODY, Failed, refuser, refuses_each, same, true
+import pytest
+
+from tests.harness import NOBODY, refuses_each, same, true
 
 COOKIE = "#%Module\n"
-CASES = []
-
-
-def case(function):
-    CASES.append(function)
-    return function
 
 
 class Disk:
     """A directory, and the searches in it."""
 
-    def __init__(self, program):
-        self.path = tempfile.mkdtemp(prefix="search-")
-        os.chmod(self.path, 0o755)
-        self.program = os.path.join(self.path, "program")
-        shutil.copy(program, self.program)
-        os.chmod(self.program, 0o755)
-        self.m = os.path.join(self.path, "m")
-        os.mkdir(self.m)
+    def __init__(self, folder):
+        self.folder = folder
+        self.m = os.fsdecode(folder.modules)
 
     def file(self, name, text=COOKIE):
-        path = os.path.join(os.fsencode(self.m), os.fsencode(name))
-        os.makedirs(os.path.dirname(path), exist_ok=True)
-        with open(path, "wb") as out:
-            out.write(text if isinstance(text, bytes) else text.encode())
-        return path
+        return self.folder.file(name, text)
 
     def run(self, line, variables=None, user=None):
-        done = subprocess.run(
-            [self.program],
-            input=b"searches\n" + line.encode() + b"\n",
-            stdout=subprocess.PIPE,
-            stderr=subprocess.PIPE,
-            env={os.fsencode(k): os.fsencode(v) for k, v in (variables or {}).items()},
-            user=user,
-            timeout=60,
-        )
+        env = {os.fsencode(name): os.fsencode(value) for name, value in (variables or {}).items()}
+        done = self.folder.run(env=env, given=f"searches\n{line}\n".encode(), user=user)
         return done.stdout.decode(errors="replace"), done.stderr.decode(errors="replace"), done.returncode
 
     def answer(self, line, user=None, variables=None):
@@ -61,13 +35,18 @@ class Disk:
     def lists(self, wanted, user=None):
         same(self.answer(f"disk avail {self.m}", user)[0].replace(self.m, "M"), wanted, "avail")
 
-    def close(self):
-        subprocess.run(["chmod", "-R", "u+rwx", self.path], check=False)
-        shutil.rmtree(self.path, ignore_errors=True)
+
+@pytest.fixture(scope="session")
+def program(built):
+    return built("cases_requests")
 
 
-@case
-def versions_and_default_files(disk):
+@pytest.fixture
+def disk(folder):
+    return Disk(folder)
+
+
+def test_versions_and_default_files(disk):
     for version in ("1.9", "1.10", "1.10-rc"):
         disk.file(f"ver/{version}")
     disk.locates("ver", "ver/1.10-rc M/ver/1.10-rc")
@@ -86,8 +65,7 @@ def versions_and_default_files(disk):
     disk.lists("M: ver/1.9 ver/1.10 ver/1.10-rc")
 
 
-@case
-def default_files_that_compute(disk):
+def test_default_files_that_compute(disk):
     for version in ("1.9", "1.10"):
         disk.file(f"ver/{version}")
     # To a default file each variable of the environment is unset.
@@ -113,15 +91,13 @@ def default_files_that_compute(disk):
     disk.locates("ver/1.9", "ver/1.9 M/ver/1.9")
 
 
-@case
-def a_directory_is_named_as_it_is_spelled(disk):
+def test_a_directory_is_named_as_it_is_spelled(disk):
     disk.file("ver/1")
     same(disk.answer(f"disk locate {disk.m}/:/nowhere ver")[0], f"ver/1 {disk.m}//ver/1", "a slash at the end")
     same(disk.answer(f"disk avail /nowhere:{disk.m}/")[0], f"{disk.m}/: ver/1", "a slash at the end")
 
 
-@case
-def odd_names_are_passed_over(disk):
+def test_odd_names_are_passed_over(disk):
     for name in ("ok/1", "ok/.hidden", "ok/a b", "ok/a:b", "ok/@", "ok/x&y", "ok/x|y", "ok/x\\y", ".dir/1", "a b/1", "new\nline/1"):
         disk.file(name)
     disk.lists("M: ok/1")
@@ -129,8 +105,7 @@ def odd_names_are_passed_over(disk):
     disk.locates("ok/.hidden", "44 Bad module name 'ok/.hidden'")
 
 
-@case
-def four_levels_and_no_more(disk):
+def test_four_levels_and_no_more(disk):
     disk.file("top")
     disk.file("a/b/c/d")
     disk.file("a/b/c/e/f")
@@ -139,8 +114,7 @@ def four_levels_and_no_more(disk):
     disk.locates("a/b", "42 Unable to locate a modulefile for 'a/b'")
 
 
-@case
-def links(disk):
+def test_links(disk):
     disk.file("ver/1")
     os.symlink("1", os.path.join(disk.m, "ver", "2"))
     os.symlink("gone", os.path.join(disk.m, "ver", "3"))
@@ -154,8 +128,7 @@ def links(disk):
     disk.lists("43 Reading failed")
 
 
-@case
-def a_ring_of_links_among_versions(disk):
+def test_a_ring_of_links_among_versions(disk):
     disk.file("ver/1")
     os.symlink("0", os.path.join(disk.m, "ver", "0"))
     # Versions are read from the greatest down, so the ring below it is never followed.
@@ -167,8 +140,7 @@ def a_ring_of_links_among_versions(disk):
     disk.locates("ver", "ver/1 M/ver/1")
 
 
-@case
-def directories_and_pipes_in_place_of_files(disk):
+def test_directories_and_pipes_in_place_of_files(disk):
     disk.file("ver/1")
     os.mkdir(os.path.join(disk.m, "ver", "2"))
     os.mkfifo(os.path.join(disk.m, "ver", "3"))
@@ -181,12 +153,10 @@ def directories_and_pipes_in_place_of_files(disk):
     disk.locates("pipe", "42 Unable to locate a modulefile for 'pipe'")
 
 
-@case
-def what_may_not_be_read(disk):
+def test_what_may_not_be_read(disk):
     disk.file("ver/1")
     secret = disk.file("ver/2")
     os.chmod(secret, 0)
-    os.chmod(disk.path, 0o755)
     disk.locates("ver", "43 Reading failed", user=NOBODY)
     disk.lists("43 Reading failed", user=NOBODY)
     disk.locates("ver/1", "ver/1 M/ver/1", user=NOBODY)
@@ -200,8 +170,7 @@ def what_may_not_be_read(disk):
     disk.locates("ver", "ver/1 M/ver/1", user=NOBODY)
 
 
-@case
-def names_and_texts_that_are_not_utf8(disk):
+def test_names_and_texts_that_are_not_utf8(disk):
     disk.file("raw/1", COOKIE.encode() + b"\xff")
     disk.locates("raw", "46 Not UTF-8: 'M/raw/1'")
     disk.lists("M: raw/1")
@@ -214,8 +183,7 @@ def names_and_texts_that_are_not_utf8(disk):
     disk.lists("43 Reading failed")
 
 
-@case
-def a_directory_of_many_names(disk):
+def test_a_directory_of_many_names(disk):
     folder = os.path.join(disk.m, "many")
     os.mkdir(folder)
     for number in range(20000):
@@ -236,37 +204,17 @@ def a_directory_of_many_names(disk):
     same(said[1], f"{2 + 20001 + 4} read, {3 + 20001} listed]", "avail")
 
 
-@case
-def growths_of_memory_that_are_refused(disk):
+def is_refused(found):
+    """Whether the memory ran out in the search, or before it or after it."""
+    out, err, _ = found
+    return out.startswith("41 Out of memory [") or "OutOfMemory" in err or "ut of memory" in err
+
+
+@pytest.mark.parametrize("question", ["locate {} ver", "locate {} nope", "avail {}"])
+def test_growths_of_memory_that_are_refused(disk, shim, question):
     for version in ("1.9", "1.10"):
         disk.file(f"ver/{version}")
     disk.file("ver/.modulerc", COOKIE + "foreach v {7 8} {module-version ver/$v default}")
     disk.file("ver/.version", COOKIE + "set ModulesVersion 1.[expr {3 * 3}]")
-    shim = refuser(os.fsencode(disk.path))
-    for line in (f"disk locate {disk.m} ver", f"disk locate {disk.m} nope", f"disk avail {disk.m}"):
-        refuses_each(
-            shim,
-            lambda variables: disk.run(line, variables=variables),
-            lambda found: found[0].startswith("41 Out of memory [") or "OutOfMemory" in found[1] or "ut of memory" in found[1],
-            line,
-        )
-
-
-def main():
-    passed = failed = 0
-    for function in CASES:
-        disk = Disk(sys.argv[1])
-        try:
-            function(disk)
-            passed += 1
-        except (Failed, OSError, subprocess.SubprocessError) as problem:
-            failed += 1
-            print(f"FAILED {function.__name__}: {problem}")
-        finally:
-            disk.close()
-    print(f"search: {passed} passed, {failed} failed")
-    sys.exit(1 if failed else 0)
-
-
-if __name__ == "__main__":
-    main()
+    line = f"disk {question.format(disk.m)}"
+    refuses_each(shim("failing_malloc"), lambda variables: disk.run(line, variables=variables), is_refused, line)

@@ -21,7 +21,7 @@ import subprocess
 import sys
 import tempfile
 
-import runs as model
+from tests import runs as model
 
 RUNS = 300
 SHELLS = {"sh": [shutil.which("dash") or "/bin/sh"], "tcsh": ["tcsh", "-f"], "fish": ["fish", "--no-config"]}

@@ -14,7 +14,7 @@ import shutil
 import subprocess
 import sys
 
-from harness import HERE, SECONDS, case, evaluated, run_all, same
+from tests.harness import HERE, SECONDS, case, evaluated, run_all, same
 
 TOP = os.path.dirname(HERE)
 

@@ -7,7 +7,7 @@ A use of a variable is what `runs.py` calls a way: ("fixed", None) where a modul
 unsets this value, ("path", delimiter), or ("stack",).
 """
 
-import runs as model
+from tests import runs as model
 
 MODULEPATH = "MODULEPATH"
 COLONS = ("path", ":")

@@ -10,7 +10,7 @@ import errno
 import os
 import sys
 
-from harness import NOBODY, case, refuser, refuses_each, run_all, same, true
+from tests.harness import NOBODY, case, refuser, refuses_each, run_all, same, true
 
 FAILED, STARVED = b"Reading failed", b"Out of memory"
 

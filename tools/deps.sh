@@ -33,6 +33,9 @@ need_for() {
             ;;
         test)
             need_for build
+            # What runs the suites of tests/.
+            need python3-pytest /usr/lib/python3/dist-packages/pytest/__init__.py
+            need python3-hypothesis /usr/lib/python3/dist-packages/hypothesis/__init__.py
             need dash dash
             need bash bash
             need ksh93u+m ksh93

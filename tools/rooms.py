@@ -3,9 +3,9 @@
     rooms.py [--write]
     rooms.py --users NAME...
 
-What a crate knows is the first line of its root file, in short; the second line says what it may touch, and the third
-who uses it. With `--write` the lists on the page are replaced: its headings of the third level, up to the next of the
-second. With `--users` it prints instead which crates list these in crates.txt.
+What a crate knows is the first line of its root file, in short; the second line says what it may touch. With `--write`
+the lists on the page are replaced: its headings of the third level, up to the next of the second. With `--users` it
+prints instead which crates list these in crates.txt.
 """
 
 import os
@@ -53,13 +53,13 @@ def users(crate):
 
 
 def head(crate):
-    """What the first three lines of the crate's root file say."""
+    """What the first two lines of the crate's root file say: what it knows, and what it may touch."""
     folder = os.path.join(TOP, "crates", crate, "src")
     root = next(name for name in ("lib.rt", "main.rt") if os.path.exists(os.path.join(folder, name)))
     with open(os.path.join(folder, root), encoding="utf-8") as file:
-        lines = [line[3:].strip() for line in file.read().split("\n")[:3] if line.startswith("//!")]
-    if len(lines) != 3:
-        raise ValueError(f"{crate}/src/{root}: its first three lines say what it knows, may touch and who uses it")
+        lines = [line[3:].strip() for line in file.read().split("\n")[:2] if line.startswith("//!")]
+    if len(lines) != 2:
+        raise ValueError(f"{crate}/src/{root}: its first two lines say what it knows and may touch")
     return lines
 
 

@@ -8,10 +8,10 @@ import shutil
 import signal
 import subprocess
 
-from harness import NOBODY, SECONDS, case, encoded, same, true
-from sessions import LINES, MARKS, changed, same_environment
-from shells import OWN, content
-from texts import text, word
+from tests.harness import NOBODY, SECONDS, case, encoded, same, true
+from tests.shells.sessions import LINES, MARKS, changed, same_environment
+from tests.shells.shells import OWN, content
+from tests.shells.texts import text, word
 
 TOP = os.path.dirname(os.path.dirname(os.path.dirname(os.path.abspath(__file__))))
 

@@ -5,9 +5,9 @@ import re
 import shutil
 import subprocess
 
-from harness import case, loaded, same, true
-from sessions import REFUSAL
-from shells import SHELLS, content
+from tests.harness import case, loaded, same, true
+from tests.shells.sessions import REFUSAL
+from tests.shells.shells import SHELLS, content
 
 HERE = os.path.dirname(os.path.abspath(__file__))
 TOP = os.path.dirname(os.path.dirname(HERE))

@@ -12,18 +12,12 @@ import subprocess
 import sys
 import tempfile
 
+from tests.harness import CASES, run_all
+from tests.shells import added, product, sessions, terminal, ways
+from tests.shells.shells import ALWAYS, SHELLS
+
 HERE = os.path.dirname(os.path.abspath(__file__))
 TOP = os.path.dirname(os.path.dirname(HERE))
-sys.path.insert(0, os.path.dirname(HERE))
-
-import added  # noqa: E402
-import product  # noqa: E402
-import sessions  # noqa: E402
-import terminal  # noqa: E402
-import ways  # noqa: E402
-from harness import CASES, run_all  # noqa: E402
-from shells import ALWAYS, SHELLS  # noqa: E402
-
 
 class Prefixes:
     """Where the product is laid out: with the program, and with the one that stands in."""

@@ -2,8 +2,8 @@
 
 import os
 
-from harness import Failed, case, same, true
-from texts import StandIn, text, word
+from tests.harness import Failed, case, same, true
+from tests.shells.texts import StandIn, text, word
 
 # Every mark that stands for itself in a bare word.
 MARKS = "it's!#%&()*+,-./:<=>?@^_`|~''é€𝄞--"

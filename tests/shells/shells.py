@@ -4,7 +4,7 @@ import os
 import shutil
 import subprocess
 
-from harness import SECONDS, Failed, same
+from tests.harness import SECONDS, Failed, same
 
 # What a shell sets of its own.
 OWN = (b"_", b"PWD", b"OLDPWD", b"SHLVL", b"A__z", b"PS4", b"LINES", b"COLUMNS")

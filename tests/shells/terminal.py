@@ -9,10 +9,10 @@ import subprocess
 import termios
 import time
 
-from harness import SECONDS, Failed, case, same, true
-from sessions import Session
-from shells import content
-from ways import pages
+from tests.harness import SECONDS, Failed, case, same, true
+from tests.shells.sessions import Session
+from tests.shells.shells import content
+from tests.shells.ways import pages
 
 # How each shell is started at a terminal.
 AT_TERMINAL = {

@@ -3,10 +3,10 @@
 import os
 import shutil
 
-from harness import case, same, true
-from sessions import REFUSAL, Session, same_environment
-from shells import content
-from texts import text
+from tests.harness import case, same, true
+from tests.shells.sessions import REFUSAL, Session, same_environment
+from tests.shells.shells import content
+from tests.shells.texts import text
 
 # What the user of a shell may have set before the init file is sourced.
 ODD = {

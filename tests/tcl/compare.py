@@ -10,7 +10,7 @@ import subprocess
 import sys
 import os
 
-from grouping import PROFILE, TCLSH, grouped
+from tests.tcl.grouping import PROFILE, TCLSH, grouped
 
 HERE = os.path.dirname(os.path.abspath(__file__))
 SEED = 20261122

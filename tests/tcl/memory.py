@@ -7,9 +7,7 @@ import subprocess
 import sys
 import tempfile
 
-sys.path.insert(0, os.path.dirname(os.path.dirname(os.path.abspath(__file__))))
-
-from harness import SECONDS, Failed, refuser, refuses_each
+from tests.harness import SECONDS, Failed, refuser, refuses_each
 
 
 def digits(text):

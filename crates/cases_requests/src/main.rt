@@ -13,7 +13,7 @@
 //! lines call a part of the search: `text MODULEPATH NAME`, `read PATH`, `evaluate PATH TEXT`, `directories
 //! MODULEPATH`, `path DIR NAME` and `order LEFT RIGHT`.
 //!
-//! `requests` are calls of `modulecmd`, `modules` and `sessioncheck`, each shown after `> `. They share files and
+//! `requests` are calls of `modulecmd`, `modules` and `sessions`, each shown after `> `. They share files and
 //! directories in memory and an environment. In a text `\n`, `\t`, `\s`, `\z` and `\\` stand for a newline, a tab, a
 //! space, NUL and a backslash; words are separated by blanks, and the word `''` is empty.
 //!
@@ -50,7 +50,6 @@ mod writers;
 
 use std::io;
 
-/// Answers lines about a subject.
 fn answer_about(rt: &HostRuntime, subject: &str, lines: &[String]) -> io::Result<()> {
     match subject {
         "searches" => searches::answer(rt, lines),

@@ -27,7 +27,6 @@ pub(crate) fn text_of(alloc: Global, word: &str) -> Option<String> {
     Some(text)
 }
 
-/// Adds the text of a word.
 fn push_text(alloc: Global, texts: &mut Vec<String>, word: &str) -> Option<()> {
     texts.push(text_of(alloc, word)?).ok()
 }

@@ -21,6 +21,7 @@ mod commands;
 mod digits;
 mod escapes;
 mod lines;
+mod recorder;
 mod scripts;
 mod texts;
 mod trees;

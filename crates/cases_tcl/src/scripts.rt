@@ -9,9 +9,10 @@
 //! bars between its words; and `asked`, where a question was asked.
 use crate::escapes::{push_made_text, push_text, text_of};
 use crate::lines::Line;
+use crate::recorder::Recorder;
 use std::alloc::{AllocError, Global};
 use tcleval::evaluate;
-use tclrules::{Ending, EvalFault, Limits, Recorder};
+use tclrules::{Ending, EvalFault, Limits};
 
 /// The limits of the program.
 pub(crate) const LIMITS: Limits = Limits {
@@ -44,7 +45,6 @@ pub(crate) fn recorder(alloc: Global) -> Result<Recorder, AllocError> {
     })
 }
 
-/// A name and a value, as they are meant.
 fn pair(alloc: Global, name: &str, value: &str) -> Option<(String, String)> {
     Some((text_of(alloc, name)?, text_of(alloc, value)?))
 }
@@ -134,7 +134,6 @@ fn push_variable(line: &mut Line, name: &str, value: &str) {
     push_text(line, value);
 }
 
-/// Adds a fault: its number, its line and its message.
 fn push_fault(alloc: Global, line: &mut Line, fault: &EvalFault) {
     let number = fault.number();
     match fault {
@@ -149,7 +148,6 @@ fn push_fault(alloc: Global, line: &mut Line, fault: &EvalFault) {
     }
 }
 
-/// Adds the words of a record.
 fn push_record(line: &mut Line, record: &[String]) {
     line.push_str("\trecord ");
     for (index, word) in record.iter().enumerate() {
@@ -160,7 +158,6 @@ fn push_record(line: &mut Line, record: &[String]) {
     }
 }
 
-/// Adds messages.
 fn push_messages(line: &mut Line, messages: &[String]) {
     for message in messages {
         line.push_str("\tmessage ");
@@ -168,7 +165,6 @@ fn push_messages(line: &mut Line, messages: &[String]) {
     }
 }
 
-/// Adds records.
 fn push_records(line: &mut Line, records: &[Vec<String>]) {
     for record in records {
         push_record(line, record);

@@ -1,5 +1,6 @@
 -- The difference that the entries of a table make, and changes sorted by the names of their variables.
-use Rattle.std.proofs.Common.{◌≡◌, ◌+◌, ◌<◌, Bool, true, false, cond, not, List, [], ◌∷◌, ◌++◌, length, map, filter, subst, refl, sym, ap, ◌∙◌, append_assoc, arith, Option, Some, None, String, Global, string_bytes}
+use Rattle.std.proofs.Common.{◌≡◌, ◌+◌, ◌<◌, Bool, true, false, cond, not, List, [], ◌∷◌, length, map, filter, subst}
+use Rattle.std.proofs.Common.{refl, sym, ap, ◌∙◌, arith, Option, Some, None, String, Global, string_bytes}
 use Rattle.std.specs.Prelude.{bytes_eq}
 use Rattle.std.specs.List.{dedup, dedup_from, AllByRecursion, IsDistinct}
 use Rattle.std.specs.List.Sorted.{IsStrictlySortedBy, IsSorted, IsSortedBy, IsPermutation}
@@ -17,23 +18,24 @@ use Rattle.std.proofs.lemmas.Map.Made.{IsDistinct-keys_filter}
 use Rattle.std.proofs.lemmas.Map.Text.{is_eq-slice_cmp}
 use Rattle.indexmap.proofs.MapLemmas.{lookup_permutation}
 use Rattle.envvars.specs.Texts.{Text, has}
-use Rattle.envvars.specs.Environment.{Environment, lookup}
-use Rattle.envvars.specs.Changes.{NewValue, same_value, difference, new_value_at, new_value_of, AreChanges}
+use Rattle.envvars.specs.Environment.{Environment, lookup, with_value}
+use Rattle.envvars.specs.Changes.{NewValue, same_value, difference, new_value_at, new_value_of, AreChanges, applied}
 use Rattle.envvars.specs.Tables.{Slot, differs_from, names_of, new_values_of, written_over}
 use Rattle.envvars.specs.declared.change.Change.{Change}
 use Rattle.envvars.proofs.TextLemmas.{same_text, bytes_eq-same, bytes_eq-symmetric}
 use Rattle.envvars.proofs.EnvLemmas.{lookup-with_value}
-use Rattle.envvars.proofs.ChangeLemmas.{same_as_itself}
+use Rattle.envvars.proofs.ChangeLemmas.{same_as_itself, applied-with_value}
 use Rattle.envvars.proofs.TableLemmas.{not_written}
 use Rattle.std.proofs.lemmas.Bool.{false≢true}
 
--- one more change that may pass
-first_kept : (b : Bool) (c : NewValue) (rest : List NewValue) → cond b (c ∷ []) [] ++ rest ≡ cond b (c ∷ rest) rest
-first_kept true c rest = refl
-first_kept false c rest = refl
+-- the changes that pass
+kept_cond : (b : Bool) (c : Change) (cs : List Change) → map new_value_of (cond b (c ∷ cs) cs) ≡ cond b (new_value_of c ∷ map new_value_of cs) (map new_value_of cs)
+kept_cond true c cs = refl
+kept_cond false c cs = refl
 
-pub one_more : (p : NewValue → Bool) (done : List NewValue) (c : NewValue) (rest all : List NewValue) → done ++ filter p (c ∷ rest) ≡ all → (done ++ filter p (c ∷ [])) ++ filter p rest ≡ all
-one_more p done c rest all h = append_assoc done (filter p (c ∷ [])) (filter p rest) ∙ ap (λ (l : List NewValue). done ++ l) (first_kept (p c) c (filter p rest)) ∙ h
+pub kept_changes : (p : NewValue → Bool) (cs : List Change) → map new_value_of (filter (λ c. p (new_value_of c)) cs) ≡ filter p (map new_value_of cs)
+kept_changes p [] = refl
+kept_changes p (c ∷ cs) = kept_cond (p (new_value_of c)) c _ ∙ ap (λ (l : List NewValue). cond (p (new_value_of c)) (new_value_of c ∷ l) l) (kept_changes p cs)
 
 -- the names of entries are as far apart as their keys
 apart : (k : String Global) (es : List Slot) → AllByRecursion (λ y. string_eq k y ≡ false) (maps.keys_of es) → AllByRecursion (λ y. bytes_eq (string_bytes k) y ≡ false) (names_of es)
@@ -49,7 +51,9 @@ named_entries : (es : List Slot) → names_of es ≡ map (λ (c : NewValue). c.0
 named_entries [] = refl
 named_entries (x ∷ xs) = ap (λ (l : List Text). string_bytes x.0 ∷ l) (named_entries xs)
 
-pub distinct_changes : (e : Environment) (es : List Slot) (cs : List NewValue) → cs ≡ filter (differs_from e) (new_values_of es) → IsDistinct bytes_eq (names_of es) → IsDistinct bytes_eq (map (λ (c : NewValue). c.0) cs)
+pub distinct_changes : (e : Environment) (es : List Slot) (cs : List NewValue)
+    → cs ≡ filter (differs_from e) (new_values_of es) → IsDistinct bytes_eq (names_of es)
+    → IsDistinct bytes_eq (map (λ (c : NewValue). c.0) cs)
 distinct_changes e es cs h d =
     subst (λ (l : List NewValue). IsDistinct bytes_eq (map (λ (c : NewValue). c.0) l)) (sym h)
     (IsDistinct-keys_filter bytes_eq (differs_from e) (new_values_of es) (subst (IsDistinct bytes_eq) (named_entries es) d))
@@ -83,7 +87,9 @@ each_step e c q rest w true false h d k l =
 each_step e c q rest w false true h d k l = ap (λ (b : Bool). cond b (Some c.1) (new_value_at rest q)) h ∙ k
 each_step e c q rest w false false h d k l = k
 
-each_differs : (e : Environment) (es : List Slot) (q : Text) → IsDistinct bytes_eq (names_of es) → new_value_at (filter (differs_from e) (new_values_of es)) q ≡ difference (lookup e q) (lookup (written_over e es) q)
+each_differs : (e : Environment) (es : List Slot) (q : Text) → IsDistinct bytes_eq (names_of es)
+    → new_value_at (filter (differs_from e) (new_values_of es)) q ≡ difference (lookup e q)
+    (lookup (written_over e es) q)
 unfolding IsDistinct
 each_differs e [] q d = sym (no_difference (lookup e q))
 each_differs e (x ∷ xs) q d =
@@ -99,6 +105,16 @@ AreChanges-over e es before after b d o s = record {
   ordered = o;
   each = λ q. s q ∙ ap (λ (l : List NewValue). new_value_at l q) b ∙ each_differs e es q d;
 }
+
+-- Made one after another, changes of different variables give what the entries give.
+pub applied-entries : (e : Environment) (es : List Slot) → IsDistinct bytes_eq (names_of es) → applied (new_values_of es) e ≡ written_over e es
+unfolding IsDistinct
+applied-entries e [] d = refl
+applied-entries e (x ∷ xs) d =
+    let name = string_bytes x.0 in
+    let value = option_map string_bytes x.1 in
+    applied-with_value (new_values_of xs) e name value (ap (has name) (sym (named_entries xs)) ∙ not_among name name (names_of xs) refl d.0)
+    ∙ ap (λ (under : Environment). with_value under name value) (applied-entries e xs d.1)
 
 -- changes sorted by name
 
@@ -134,7 +150,9 @@ unfolding IsDistinct
 none_dropped [] d = refl
 none_dropped (x ∷ xs) d = none_dropped_from x xs d.0 d.1
 
-distinct_still : (before after : List Change) → IsPermutation before after → IsDistinct bytes_eq (map (λ (c : NewValue). c.0) (map new_value_of before)) → IsDistinct bytes_eq (map (λ (c : NewValue). c.0) (map new_value_of after))
+distinct_still : (before after : List Change) → IsPermutation before after
+    → IsDistinct bytes_eq (map (λ (c : NewValue). c.0) (map new_value_of before))
+    → IsDistinct bytes_eq (map (λ (c : NewValue). c.0) (map new_value_of after))
 distinct_still before after moves d =
     IsDistinct-IsPermutation bytes_eq bytes_eq-symmetric _ _ (IsPermutation-map (λ (c : NewValue). c.0) _ _ (IsPermutation-map new_value_of before after moves)) d
 

@@ -4,11 +4,13 @@ ghost use Rattle.std.specs.Prelude.{◌≡◌, ◌<◌, ◌≤◌, ◌-◌, ◌+
 ghost use Rattle.std.specs.Option.{option_map};
 ghost use Rattle.std.specs.Str.{is_utf8};
 ghost use Rattle.std.specs.FinMap as finite;
+ghost use Rattle.memchr.specs.Find.{IsFirstByte, is_byte};
 ghost use Rattle.envvars.specs.Texts.{slice_texts};
 ghost use Rattle.envvars.specs.Environment.{Environment, lookup, with_value};
 ghost use Rattle.envvars.specs.EnvironmentBlock as block_specs;
 ghost use Rattle.envvars.specs.EnvironmentBlock.{utf8_value, with_entry};
-ghost use Rattle.envvars.specs.Given.{name_in, value_in, given_over, variables_of, names_of, IsInside, IsNamed, IsFirstOf, IsChained, chain_of};
+ghost use Rattle.envvars.specs.Given.{name_in, value_in, given_over, variables_of, names_of, IsInside, IsNamed};
+ghost use Rattle.envvars.specs.Given.{IsFirstOf, IsChained, chain_of};
 
 use memchr::memchr;
 use std::alloc::{AllocError, Global};
@@ -34,7 +36,7 @@ pub(crate) struct Entry {
 
 /// The variables of a block of entries.
 #[derive(Drop)]
-pub(crate) struct Given {
+pub(crate) struct GivenVariables {
     /// The entries, each ended by NUL.
     block: Vec<u8>,
     /// The places of the entries, in the order of the block.
@@ -74,7 +76,6 @@ fn is_name(name: &[u8]) -> bool
     !name.is_empty() && text_of(name).is_some()
 }
 
-/// The name of an entry.
 fn name_in(block: &[u8], entry: Entry) -> &[u8]
     requires { IsInside block.now entry }
     ensures { result.now ≡ name_in block.now entry }
@@ -93,13 +94,13 @@ fn value_in(block: &[u8], entry: Entry) -> Option<&str>
     text_of(&block[entry.equals + 1..entry.end])
 }
 
-impl Given {
+impl GivenVariables {
     /// No variables, in no block.
-    pub(crate) fn new(alloc: Global) -> Given
+    pub(crate) fn new(alloc: Global) -> GivenVariables
         ensures chained { IsChained result }
         ensures given { variables_of result ≡ finite.empty }
     {
-        Given {
+        GivenVariables {
             block: Vec::new(alloc),
             entries: Vec::new(alloc),
             latest: Vec::new(alloc),
@@ -107,15 +108,15 @@ impl Given {
     }
 
     /// A block of which no entry is known yet.
-    fn of_block(alloc: Global, block: &[u8]) -> Result<Given, AllocError>
-        ensures block { IfOk result (λ given. given.block.items ≡ block.now) }
+    fn of_block(alloc: Global, block: Vec<u8>) -> Result<GivenVariables, AllocError>
+        ensures block { IfOk result (λ given. given.block.items ≡ block.items) }
         ensures entries { IfOk result (λ given. given.entries.items ≡ []) }
         ensures chains { IfOk result (λ given. 0 < length given.latest.items) }
         ensures chained { IfOk result IsChained }
     {
         let count = block.len() / USUAL_LENGTH + 1;
-        Ok(Given {
-            block: Vec::from_slice(alloc, block)?,
+        Ok(GivenVariables {
+            block,
             entries: Vec::with_capacity(alloc, count)?,
             latest: Vec::from_elem(alloc, None, count)?,
         })
@@ -172,18 +173,27 @@ impl Given {
         })
     }
 
-    /// The variables of a block, which is copied as it is.
-    pub(crate) fn read(alloc: Global, block: &[u8]) -> Result<Given, AllocError>
-        ensures chained { IfOk result IsChained }
-        ensures given { IfOk result (λ given. variables_of given ≡ block_specs.environment_of block.now) }
+    /// The length of what stands from `start` up to a NUL; none where no NUL ends it.
+    fn length_at(&self, start: usize) -> Option<usize>
+        requires { start ≤ length self.now.block.items }
+        ensures { IsFirstByte (is_byte 0) (drop start self.now.block.items) result }
     {
-        let mut given = Given::of_block(alloc, block)?;
+        memchr(0, &self.block[start..])
+    }
+
+    /// The variables of a block, which is kept as it is.
+    pub(crate) fn read(alloc: Global, block: Vec<u8>) -> Result<GivenVariables, AllocError>
+        ensures chained { IfOk result IsChained }
+        ensures given { IfOk result (λ given. variables_of given ≡ block_specs.environment_of block.items) }
+    {
+        let end = block.len();
+        let mut given = GivenVariables::of_block(alloc, block)?;
         let mut start = 0;
-        while let Some(length) = memchr(0, &block[start..]) {
+        while let Some(length) = given.length_at(start) {
             given.add(start, start + length)?;
             start += length + 1;
         }
-        given.add(start, block.len())?;
+        given.add(start, end)?;
         Ok(given)
     }
 
@@ -234,12 +244,12 @@ impl Given {
     }
 
     /// A copy.
-    pub(crate) fn copy(&self) -> Result<Given, AllocError>
+    pub(crate) fn copy(&self) -> Result<GivenVariables, AllocError>
         requires { IsChained self.now }
         ensures chained { IfOk result IsChained }
         ensures given { IfOk result (λ given. variables_of given ≡ variables_of self.now) }
     {
-        Ok(Given {
+        Ok(GivenVariables {
             block: self.block.clone()?,
             entries: self.entries.clone()?,
             latest: self.latest.clone()?,

@@ -1,5 +1,6 @@
 -- What the commands of the code stand for in the definitions (own).
-use Rattle.std.specs.Prelude.{◌≡◌, ℕ, Bool, true, false, List, [], ◌∷◌, ◌++◌, map, string_bytes, String, if◌then◌else◌, Option, Some, None, IfSome}
+use Rattle.std.specs.Prelude.{◌≡◌, ℕ, Bool, true, false, List, [], ◌∷◌, ◌++◌, map, string_bytes, String}
+use Rattle.std.specs.Prelude.{if◌then◌else◌, Option, Some, None, IfSome}
 use Rattle.std.specs.declared.alloc.Global.{Global}
 use Rattle.envvars.specs.Texts.{Text}
 use Rattle.modulefile.specs.Records as records
@@ -15,7 +16,9 @@ use Rattle.modulefile.specs.declared.recording.PathWords.{PathWords}
 use Rattle.modulefile.specs.declared.call_fault.CallFault.{CallFault}
 use Rattle.modulefile.specs.declared.call_fault.CallFault.TheVariants as faults
 use Rattle.modulefile.specs.Calls as calls
-use Rattle.modulefile.specs.Calls.{CallForm, CallReason, without_option, var_and_value, var_and_optional, path_form, some_words, description, getenv_form, is_loaded_form, info_form, puts_form, of_default_files, unsupported_form}
+use Rattle.modulefile.specs.Calls.{CallForm, CallReason, without_option, var_and_value, var_and_optional, path_form}
+use Rattle.modulefile.specs.Calls.{some_words, description, getenv_form, is_loaded_form, info_form, puts_form}
+use Rattle.modulefile.specs.Calls.{of_default_files, unsupported_form}
 
 -- strings as their bytes
 abbrev pub texts_of : List (String Global) → List Text

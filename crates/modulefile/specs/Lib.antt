@@ -13,5 +13,3 @@ pub mod Files
 pub mod Reports
 pub mod Rows
 pub mod Laws
-
--- What the definitions above cite, so that a caller need not name the crates below.

@@ -1,7 +1,8 @@
 //! The commands of modulefiles (modulefile(5)), read from their words.
 ghost use Rattle.std.specs.Prelude.{map, string_bytes};
 ghost use Rattle.message.specs.Answers.{Gives};
-ghost use Rattle.modulefile.specs.Calls.{without_option, getenv_form, puts_form, field_form, alone, info_form, is_loaded_form, call_of};
+ghost use Rattle.modulefile.specs.Calls.{without_option, getenv_form, puts_form, field_form, alone, info_form};
+ghost use Rattle.modulefile.specs.Calls.{is_loaded_form, call_of};
 ghost use Rattle.modulefile.specs.CallViews.{reason_of, call_view, field_view, form_view};
 
 use crate::call_fault::CallFault;

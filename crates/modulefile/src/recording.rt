@@ -5,7 +5,9 @@ ghost use Rattle.tclvalue.specs.Indexes.{after_prefix};
 ghost use Rattle.envvars.specs.Texts.{texts_in};
 ghost use Rattle.message.specs.Answers.{Gives};
 ghost use Rattle.modulefile.specs.Records.{Set, Push, Conflict, Prereq};
-ghost use Rattle.modulefile.specs.Calls.{no_option, without_option, var_and_value, var_and_optional, with_delimiter, by_next_word, by_same_word, by_option, delimited, elements_of, path_form, some_words, description};
+ghost use Rattle.modulefile.specs.Calls.{no_option, without_option, var_and_value, var_and_optional, with_delimiter};
+ghost use Rattle.modulefile.specs.Calls.{by_next_word, by_same_word, by_option, delimited, elements_of, path_form};
+ghost use Rattle.modulefile.specs.Calls.{some_words, description};
 ghost use Rattle.modulefile.specs.RecordViews.{edit_record};
 ghost use Rattle.modulefile.specs.CallViews.{reason_of, texts_of, call_view, path_words_view};
 
@@ -13,7 +15,8 @@ use crate::call::Call;
 use crate::call_fault::CallFault;
 use crate::delimiter::Delimiter;
 use crate::records::{PathEdit, Record};
-use envvars::fields::{copies, join, owned, parts, slices};
+use envvars::fields::{join, owned, parts, slices};
+use message::texts::copies;
 use std::alloc::{AllocError, Global};
 
 /// The delimiter of a path command, and its words from VAR on.

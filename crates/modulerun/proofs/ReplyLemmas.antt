@@ -1,5 +1,6 @@
 -- How the host's replies follow from what its parts say.
-use Rattle.std.proofs.Common.{◌≡◌, ◌==◌, ℕ, Bool, true, false, ◌||◌, List, [], string_bytes, String, is_none, if◌then◌else◌, Option, Some, None, IfSome, Ok, Err, refl, ap, sym, subst, ◌∙◌}
+use Rattle.std.proofs.Common.{◌≡◌, ◌==◌, ℕ, Bool, true, false, ◌||◌, List, [], string_bytes, String, is_none}
+use Rattle.std.proofs.Common.{if◌then◌else◌, Option, Some, None, IfSome, Ok, Err, refl, ap, sym, subst, ◌∙◌}
 use Rattle.std.specs.Option.{option_map}
 use Rattle.std.specs.declared.vec.Vec.{Vec}
 use Rattle.std.specs.declared.alloc.Global.{Global}
@@ -23,7 +24,8 @@ use Rattle.modulefile.specs.CallViews.{reason_of, call_view, HasReason}
 use Rattle.modulefile.specs.RecordViews.{fault_reason}
 use Rattle.modulerun.specs.RecordAnswers.{HasFault}
 use Rattle.modulefile.specs.Answers as answers
-use Rattle.modulefile.specs.Answers.{command_answer, question_answer, record_answer, not_done, variable_answer, record_name, record_number, refusal_of}
+use Rattle.modulefile.specs.Answers.{command_answer, question_answer, record_answer, not_done, variable_answer}
+use Rattle.modulefile.specs.Answers.{record_name, record_number, refusal_of}
 use Rattle.modulerun.specs.declared.command_refusal.CommandRefusal.{CommandRefusal}
 use Rattle.modulerun.specs.declared.command_refusal.CommandRefusal.TheVariants.{BadRecord}
 use Rattle.modulerun.specs.declared.context.FileContext.{FileContext}
@@ -46,7 +48,8 @@ or_false true = refl
 or_false false = refl
 
 -- a record that has its effect is added
-pub noted_reply : (s t : JournalState) (cx : FileContext) (messages : Vec (String Global) Global) (mark : Bool) (held : Option CommandRefusal) (words : List Text) (r : records.Record) (text : String Global) (e : Environment)
+pub noted_reply : (s t : JournalState) (cx : FileContext) (messages : Vec (String Global) Global) (mark : Bool)
+    (held : Option CommandRefusal) (words : List Text) (r : records.Record) (text : String Global) (e : Environment)
     → call_of words ≡ Ok (adds_record r) → string_bytes text ≡ [] → t ≡ with_command s words → effect_on s r ≡ Ok e
     → Replies (command_answer (context_with s cx) (environment_so_far s) words (call_of words)) (Done text) (trace_with s messages mark held) (trace_with t messages mark held)
 noted_reply s t cx messages mark held words r text e call empty add_command effect =
@@ -106,7 +109,9 @@ refusal_traced s messages mark held fault n some number reason h =
     )
 
 -- a record that has no effect is refused
-pub refused_reply : (s t : JournalState) (cx : FileContext) (messages : Vec (String Global) Global) (mark : Bool) (held : Option CommandRefusal) (words : List Text) (r : records.Record) (fault : RecordFault) (h : HostAnswer) (new : Trace)
+pub refused_reply : (s t : JournalState) (cx : FileContext) (messages : Vec (String Global) Global) (mark : Bool)
+    (held : Option CommandRefusal) (words : List Text) (r : records.Record) (fault : RecordFault) (h : HostAnswer)
+    (new : Trace)
     → call_of words ≡ Ok (adds_record r) → t ≡ s → IfSome (fault_reason fault) (λ reason. effect_on s r ≡ Err reason)
     → ((reason : RecordReason) → HasFault reason fault → Replies (not_done (bad_record reason)) h (trace_with t messages mark held) new)
     → Replies (command_answer (context_with s cx) (environment_so_far s) words (call_of words)) h (trace_with s messages mark held) new

@@ -5,36 +5,38 @@
 //! tree as one record, `TreeAnswer`.
 #![tactic(auto)]
 
-mod commands;
 mod done;
 mod entries;
-mod files;
 mod judged;
 mod missing;
+mod one_name;
 mod progress;
 mod refusal;
 mod reply;
-mod request_words;
 mod running;
 mod scripts;
 mod sessions;
+mod settings;
+mod step;
 mod verdicts;
+mod words;
 
-pub use done::{Done, Module, Move};
+pub use done::{Module, Move, RequestResults};
 pub use envvars::{Change, Env, EnvFault};
-pub use filetree::{FindFault, Tree, TreeFault};
+pub use filetree::{Tree, TreeFault};
 pub use judged::{Verdict, are_reversible, is_reversible};
 pub use missing::MissingNames;
 pub use modulefile::RecordFault;
 pub use modulerun::RunFault;
 pub use refusal::Refusal;
-pub use reply::{Changed, Reply};
-pub use request_words::request;
+pub use reply::{Reply, RequestChanges};
 pub use requests::{Action, Request};
 pub use running::{run, run_changes};
 pub use scripts::script_at;
+pub use search::FindFault;
 pub use sessions::{Outcome, respond, session};
 pub use shelltext::Shell;
 pub use tclchars::TextFault;
 pub use tclrules::{EvalFault, Limits};
 pub use verdicts::verdict;
+pub use words::request;

@@ -16,5 +16,3 @@ pub mod Laws
 pub mod Rows
 -- for this crate's own contracts alone
 pub mod AvailRest
-
--- What the definitions above cite, so that a caller need not name the crates below.

@@ -6,5 +6,3 @@ pub mod Requests
 pub mod Laws
 pub mod Losses
 pub mod Examples
-
--- What the definitions above cite, so that a caller need not name the crates below.

@@ -1,20 +1,21 @@
 -- The steps of the search.
-use Rattle.std.proofs.Common.{◌≡◌, true, false, List, [], ◌∷◌, length, Option, Some, None, Result, Ok, Err, inl, inr, refl, sym, ap, ◌∙◌, subst, arith}
+use Rattle.std.proofs.Common.{◌≡◌, true, false, List, [], ◌∷◌, length, Option, Some, None, Result, Ok, Err, inl, inr}
+use Rattle.std.proofs.Common.{refl, sym, ap, ◌∙◌, subst, arith}
 use Rattle.std.specs.Prelude.{◌==◌}
 use Rattle.std.proofs.lemmas.Bool.Decides.{nat_tests}
 use Rattle.modulename.specs.ModuleName.{Text}
-use Rattle.filetree.specs.Agreement.{Files, Listings, InEachPair}
-use Rattle.filetree.specs.Causes.{Cause, memory, device, because, Applies}
-use Rattle.filetree.specs.Modulefiles.{FileContent, absent, no_cookie, not_utf8, script, modulefile, is_module, is_empty, path_of}
-use Rattle.filetree.specs.declared.find_fault.FindFault.{FindFault}
-use Rattle.filetree.specs.declared.find_fault.FindFault.TheVariants as faults
+use Rattle.filetree.specs.Agreement.{Files, Listings}
+use Rattle.filetree.specs.Modulefiles.{FileContent, absent, no_cookie, not_utf8, script, modulefile, is_module}
+use Rattle.filetree.specs.Modulefiles.{is_empty, path_of}
+use Rattle.search.specs.declared.find_fault.FindFault.{FindFault}
+use Rattle.search.specs.declared.find_fault.FindFault.TheVariants as faults
 use Rattle.filetree.specs.Relations.{Then, Where}
 use Rattle.search.specs.Reasons.{FindReason}
 use Rattle.search.specs.DefaultVersions.{DefaultFileResult}
 use Rattle.search.specs.Found.{FoundModule, NamedDefault, Default, ModuleAt, FoundAlong, read}
 use Rattle.search.specs.Candidates.{IsCandidate, HasCandidates}
-use Rattle.search.specs.Answers.{FindAnswersOverTree, cause_of}
-use Rattle.search.specs.Steps.{caused, because_of, module_in, module_at, DefaultIn, OfDefault, FoundBelow}
+use Rattle.search.specs.Answers.{FindAnswersOverTree}
+use Rattle.search.specs.Steps.{module_in, module_at, DefaultIn, OfDefault, FoundBelow}
 use Rattle.search.specs.Versions.{IsGreatestOf}
 use Rattle.search.proofs.NamedLemmas.{named_is_candidate, same_value}
 
@@ -36,7 +37,8 @@ pub over_tree_weaker : {X Y : Type 0} (agrees : Files → Listings → Type 0) (
     → ((files : Files) (listings : Listings) (o : Result Y FindReason) → agrees files listings → Outcomes files listings o → Outcomes' files listings o)
     → FindAnswersOverTree agrees failed view result Outcomes → FindAnswersOverTree agrees before view result Outcomes'
 over_tree_weaker agrees failed before view (Ok x) Outcomes Outcomes' later then h = λ files listings a. then files listings (Ok (view x)) a (h files listings a)
-over_tree_weaker agrees failed before view (Err e) Outcomes Outcomes' later then h = over_tree_fault agrees failed before view view Outcomes Outcomes' e later (λ files listings r. then files listings (Err r)) h
+over_tree_weaker agrees failed before view (Err e) Outcomes Outcomes' later then h = over_tree_fault agrees failed
+    before view view Outcomes Outcomes' e later (λ files listings r. then files listings (Err r)) h
 
 -- the default candidate of a folder
 module _ (results : Text → Text → Option DefaultFileResult → Type 0) (files : Files) (listings : Listings) (dir name : Text) where
@@ -47,7 +49,8 @@ module _ (results : Text → Text → Option DefaultFileResult → Type 0) (file
   default_greatest None h none = inr (none, refl)
   default_greatest (Some v) h greatest = inl ((v, greatest.member), (Ok v, (Ok None, h, (v, greatest, refl)), refl))
 
-  pub default_bad : (v : Text) (r : FindReason) → NamedDefault results files listings dir name (Err r) → IsGreatestOf files listings dir name (Some v) → DefaultIn results files listings dir name (Err r)
+  pub default_bad : (v : Text) (r : FindReason) → NamedDefault results files listings dir name (Err r)
+      → IsGreatestOf files listings dir name (Some v) → DefaultIn results files listings dir name (Err r)
   default_bad v r h greatest = inl ((v, greatest.member), (Err r, (Err r, h, refl), refl))
 
   pub default_none : IsGreatestOf files listings dir name None → DefaultIn results files listings dir name (Ok None)
@@ -60,7 +63,9 @@ module _ (results : Text → Text → Option DefaultFileResult → Type 0) (file
       no (v, c) = let e : None ≡ Some c.entry.0 = sym nothing ∙ ap listings at ∙ c.entry.1 in absurd (cc)
 
   -- the directory gives the module of this name itself
-  pub below_first : (o : Result (Option FoundModule) FindReason) (held : FileContent) → modulefile (files (path_of dir name)) ≡ held → o ≡ module_at files dir name → (o ≡ Ok None → ⊥) → FoundBelow results files listings dir name o
+  pub below_first : (o : Result (Option FoundModule) FindReason) (held : FileContent)
+      → modulefile (files (path_of dir name)) ≡ held → o ≡ module_at files dir name → (o ≡ Ok None → ⊥)
+      → FoundBelow results files listings dir name o
   below_first o absent e h some = absurd (some (h ∙ ap (module_in name (path_of dir name)) e))
   below_first o no_cookie e h some = absurd (some (h ∙ ap (module_in name (path_of dir name)) e))
   below_first o not_utf8 e h some = inl (ap is_module e, h)
@@ -80,23 +85,6 @@ module _ (results : Text → Text → Option DefaultFileResult → Type 0) (file
   below_fault no_cookie e h r d = inr (λ k. let q : false ≡ true = sym (ap is_module e) ∙ k in absurd (cc), (Err r, d, refl))
   below_fault not_utf8 e h r d = absurd (let q = h ∙ ap (module_in name (path_of dir name)) e in cc)
   below_fault (script text) e h r d = absurd (let q = h ∙ ap (module_in name (path_of dir name)) e in cc)
-
-same_reason : {Y : Type 0} (r s : FindReason) (c d : Result Y (Cause FindReason)) → c ≡ Err (because r) → d ≡ Err (because s) → c ≡ d → r ≡ s
-same_reason r s c d h k e = cc
-
--- the answer of a call that asks no tree
-pub over_tree_caused : {X Y : Type 0} (agrees : Files → Listings → Type 0) (failed : Type 0) (view : X → Y) (r : Result X FindFault) (o : Result Y FindReason)
-    (Outcomes : Files → Listings → Result Y FindReason → Type 0)
-    → caused view r ≡ because_of o → ((files : Files) (listings : Listings) → agrees files listings → Outcomes files listings o) → FindAnswersOverTree agrees failed view r Outcomes
-over_tree_caused agrees failed view (Ok x) (Ok y) Outcomes e h = λ files listings a. subst (λ z. Outcomes files listings (Ok z)) (sym (same_value (view x) y (Ok (view x)) (Ok y) refl refl e)) (h files listings a)
-over_tree_caused agrees failed view (Ok x) (Err s) Outcomes e h = absurd (cc)
-over_tree_caused agrees failed view (Err f) (Ok y) Outcomes e h = absurd (cc)
-over_tree_caused {Y = Y} agrees failed view (Err f) (Err s) Outcomes e h = fault (cause_of f) (caused view (Err f)) (because_of (Err s)) refl refl e
-  where
-    fault : (c : Cause FindReason) (p q : Result Y (Cause FindReason)) → p ≡ Err c → q ≡ Err (because s) → p ≡ q → Applies c failed (λ r. InEachPair agrees (λ files listings. Outcomes files listings (Err r)))
-    fault memory p q k l g = tt
-    fault device p q k l g = absurd (cc)
-    fault (because r) p q k l g = λ files listings a. subst (λ z. Outcomes files listings (Err z)) (sym (same_reason r s p q k l g)) (h files listings a)
 
 -- how the search continues after one directory
 abbrev pub Continues : (Text → Text → Option DefaultFileResult → Type 0) → Files → Listings → Text → List Text → Result (Option FoundModule) FindReason → Result FoundModule FindReason → Type 0
@@ -118,7 +106,8 @@ module _ (results : Text → Text → Option DefaultFileResult → Type 0) (file
   given_read full path not_utf8 m given o e k = subst (λ x. Continues results files listings name dirs x o) e k
   given_read full path (script text) m given o e k = subst (λ x. Continues results files listings name dirs x o) e k
 
-  along_default : (v : Option Text) (given : Result (Option FoundModule) FindReason) (o : Result FoundModule FindReason) → DefaultIn results files listings dir name (Ok v) → OfDefault files dir name v given
+  along_default : (v : Option Text) (given : Result (Option FoundModule) FindReason) (o : Result FoundModule FindReason)
+      → DefaultIn results files listings dir name (Ok v) → OfDefault files dir name v given
       → Continues results files listings name dirs given o
       → Where (HasCandidates files listings dir name) (Then (Default results files listings dir name) (λ w. ModuleAt files dir (path_of name w))) (FoundAlong results files listings name dirs) o
   along_default v given o (inl (c, (Ok w, default, e))) of k =
@@ -138,7 +127,8 @@ module _ (results : Text → Text → Option DefaultFileResult → Type 0) (file
   along_fault r o (inl (c, (Err s, default, e))) k = inl (c, (Err s, default, (let q : r ≡ s = cc in k ∙ ap Err q)))
   along_fault r o (inr (none, e)) k = absurd (cc)
 
-  pub along : (given : Result (Option FoundModule) FindReason) (o : Result FoundModule FindReason) → FoundBelow results files listings dir name given → Continues results files listings name dirs given o
+  pub along : (given : Result (Option FoundModule) FindReason) (o : Result FoundModule FindReason)
+      → FoundBelow results files listings dir name given → Continues results files listings name dirs given o
       → FoundAlong results files listings name (dir ∷ dirs) o
   along given o (inl (at, e)) k = inl (at, given_read name (path_of dir name) (modulefile (files (path_of dir name))) at given o e k)
   along given o (inr (other, (Ok v, d, of))) k = inr (other, along_default v given o d of k)

@@ -1,6 +1,6 @@
 -- Default files: `.modulerc` and `.version` in the folder of a name, and the version that each names (modulefile(5);
 -- that `.modulerc` goes first is this tool's own). The results of evaluations are a parameter here, named `results`: by
--- the path and the text of a script its result, or none where its evaluation has a fault. The crate `defaultfiles`
+-- the path and the text of a script its result, or none where its evaluation has a fault. The crate `lookup`
 -- gives them by the rules of evaluation.
 use Rattle.std.specs.Prelude.{◌≡◌, Option, Some, None, Result, Ok, Err}
 use Rattle.modulename.specs.ModuleName.{Text}
@@ -8,7 +8,8 @@ use Rattle.filetree.specs.Modulefiles.{FileContent, absent, no_cookie, not_utf8,
 use Rattle.filetree.specs.Agreement.{Files}
 use Rattle.filetree.specs.Relations.{Is}
 use Rattle.search.specs.Reasons.{FindReason, bad_default}
-pub use Rattle.search.specs.DefaultVersions.{DefaultFileResult, after_prefix, version_in, default_by, last_default, VersionIn, by_command, by_variable}
+pub use Rattle.search.specs.DefaultVersions.{DefaultFileResult, after_prefix, version_in, default_by, last_default}
+pub use Rattle.search.specs.DefaultVersions.{VersionIn, by_command, by_variable}
 
 -- the version that a default file names, by the result of its evaluation; the reason is a fault of the evaluation
 abbrev pub version_named : VersionIn → Text → Option DefaultFileResult → Result (Option Text) FindReason

@@ -8,7 +8,6 @@ pub mod Ended
 -- The versions of a name, and the two default files, as the code has them.
 pub mod Versions
 pub mod DefaultFileKinds
--- What the definitions above cite, so that a caller need not name the crates below.
 -- What names mean, what is listed, and what default files say: the definitions of this crate.
 pub mod Reasons
 pub mod DefaultFiles
@@ -25,5 +24,3 @@ pub mod VersionsNamed
 pub mod Steps
 pub mod Marks
 pub mod Walks
-
--- What the definitions above cite, so that a caller need not name the crates below.

@@ -6,43 +6,29 @@ ghost use Rattle.filetree.specs.Agreement.{FailsAt, FailsWhere, InEachPair, Read
 ghost use Rattle.filetree.specs.Modulefiles.{path_of, directories};
 ghost use Rattle.filetree.specs.Relations.{Is};
 ghost use Rattle.search.specs.Found as meaning;
-ghost use Rattle.search.specs.FileContents.{file_content_view};
 ghost use Rattle.search.specs.Looked.{LooksInFolder, LooksBelow, LooksAlong, LooksAt};
 ghost use Rattle.search.specs.Answers.{FindAnswersOverTree, found_view, is_failure};
-ghost use Rattle.search.specs.Steps.{caused, because_of, module_in, module_at, DefaultIn, FoundBelow};
+ghost use Rattle.search.specs.Steps.{module_at, DefaultIn, FoundBelow};
 
 use crate::default_files::DefaultFiles;
 use crate::defaults::{NamedVersion, named_default};
+use crate::find_fault::FindFault;
 use crate::modulefile::{FileContent, read_modulefile};
 use crate::paths::path_of;
 use crate::versions::{greatest_candidate, has_version};
-use filetree::{FindFault, Tree};
+use filetree::Tree;
 use modulename::is_module_name;
 use std::alloc::{AllocError, Global};
 
 /// A module that was found.
 #[derive(Debug, Drop)]
-pub struct Found {
+pub struct LocatedModule {
     /// The module's full name, as `foo/1.0`.
     pub name: String,
     /// The path of its modulefile: the directory as MODULEPATH spells it, `/`, and the name.
     pub path: String,
     /// The text of the whole file.
     pub text: String,
-}
-
-/// The module of this full name at a path, by what the path holds; `None` where that is no module.
-///
-/// Errors: `NotUtf8` where it is a module that is not UTF-8.
-fn found_in(name: String, path: String, file: FileContent) -> Result<Option<Found>, FindFault>
-    ensures { caused (option_map found_view) result
-        ≡ because_of (module_in (string_bytes name) (string_bytes path) (file_content_view file)) }
-{
-    match file {
-        FileContent::Absent | FileContent::NoCookie => Ok(None),
-        FileContent::NotUtf8 => Err(FindFault::NotUtf8(path)),
-        FileContent::Script(text) => Ok(Some(Found { name, path, text })),
-    }
 }
 
 /// The module of this full name below a directory, or `None` where its path holds no module.
@@ -53,7 +39,7 @@ fn module_at<T: Tree>(
     tree: &mut T,
     dir: &str,
     name: &str,
-) -> Result<Option<Found>, FindFault>
+) -> Result<Option<LocatedModule>, FindFault>
     ensures reads { ReadsOn T.agrees T.failures tree.old tree.new }
     ensures over_tree { FindAnswersOverTree (T.agrees tree.new) (T.failures tree.old < T.failures tree.new)
         (option_map found_view) result
@@ -63,7 +49,14 @@ fn module_at<T: Tree>(
 {
     let path = path_of(alloc, dir, name)?;
     let file = read_modulefile(tree, &path)?;
-    found_in(String::from_str(alloc, name)?, path, file)
+    match file {
+        FileContent::Absent | FileContent::NoCookie => Ok(None),
+        FileContent::NotUtf8 => Err(FindFault::NotUtf8(path)),
+        FileContent::Script(text) => {
+            let name = String::from_str(alloc, name)?;
+            Ok(Some(LocatedModule { name, path, text }))
+        }
+    }
 }
 
 /// The default candidate of a name, in whose folder are these entries; `None` where none of them is a candidate.
@@ -132,7 +125,7 @@ fn module_below<T: Tree, D: DefaultFiles>(
     default_files: &D,
     dir: &str,
     name: &str,
-) -> Result<Option<Found>, FindFault>
+) -> Result<Option<LocatedModule>, FindFault>
     ensures reads { ReadsOn T.agrees T.failures tree.old tree.new }
     ensures over_tree { FindAnswersOverTree (T.agrees tree.new) (T.failures tree.old < T.failures tree.new)
         (option_map found_view) result
@@ -173,7 +166,7 @@ fn module_along<T: Tree, D: DefaultFiles>(
     default_files: &D,
     dirs: &[&str],
     name: &str,
-) -> Result<Found, FindFault>
+) -> Result<LocatedModule, FindFault>
     ensures reads { ReadsOn T.agrees T.failures tree.old tree.new }
     ensures over_tree { FindAnswersOverTree (T.agrees tree.new)
         (T.failures tree.old < T.failures tree.new) found_view result
@@ -204,7 +197,7 @@ pub fn locate<T: Tree, D: DefaultFiles>(
     default_files: &D,
     modulepath: &str,
     name: &str,
-) -> Result<Found, FindFault>
+) -> Result<LocatedModule, FindFault>
     ensures reads { ReadsOn T.agrees T.failures tree.old tree.new }
     ensures over_tree { FindAnswersOverTree (T.agrees tree.new)
         (T.failures tree.old < T.failures tree.new) found_view result

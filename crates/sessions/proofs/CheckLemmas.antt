@@ -5,7 +5,7 @@ use Rattle.envvars.specs.Texts.{Text}
 use Rattle.envvars.specs.Environment.{Environment}
 use Rattle.envvars.specs.Fields.{without_repeats}
 use Rattle.filetree.specs.Agreement.{FailsOnlyWhere, Files, Listings, InEachPair, Narrows}
-use Rattle.filetree.proofs.FailedPaths.{only_then_in_each, only_wider_in_each}
+use Rattle.filetree.proofs.FailedPaths.{only_more_in_each, only_wider_in_each}
 use Rattle.shelltext.specs.declared.shell.Shell.{Shell}
 use Rattle.shelltext.specs.declared.shell.Shell.TheVariants.{Sh}
 use Rattle.tclrules.specs.declared.limits.Limits.{Limits}
@@ -18,14 +18,14 @@ use Rattle.sessions.specs.Judgments.{AreJudgments, NamesLookAt, count_failed_jud
 use Rattle.sessions.specs.Lines.{lines_in}
 use Rattle.sessions.specs.Parts.{loaded_in}
 use Rattle.sessions.specs.Sessions.{LineSession, LinesLookAt}
-use Rattle.sessions.specs.declared.checking.Findings.{Findings}
+use Rattle.sessions.specs.declared.checking.CheckFindings.{CheckFindings}
 use Rattle.sessions.proofs.JudgmentLemmas.{counts, judgments_narrowed, names_of_responses}
 
 failed_before : (before mid now a : ℕ) → before + a ≤ mid → mid < now → before < now
 failed_before before mid now a h k = omega arith
 
 pub checked : (agrees agrees' : Files → Listings → Type 0) (before mid now : ℕ) (limits : Limits) (shell : Shell) (e from : Environment) (text : Text)
-    (lines : List (List Text)) (names : List Text) (f : Findings)
+    (lines : List (List Text)) (names : List Text) (f : CheckFindings)
     → Narrows agrees agrees' → before + count_failed f.outcomes.items ≤ mid → mid + count_failed_judgments f.judgments.items ≤ now → from ≡ e → lines ≡ lines_in text
     → InEachPair agrees (λ files listings. LineSession (request_context_in limits shell files listings) from lines (responses from f.outcomes.items))
     → InEachPair agrees (λ files listings. f.env ≡ end_environment from (responses from f.outcomes.items))
@@ -65,16 +65,19 @@ looks_by_names s from e lines lines' names outcomes at same made ran named h =
     inr (responses e outcomes, subst Q same (subst P made ran), subst N (named ∙ ap without_repeats (sym (names_of_responses e outcomes))) h)
 
 -- where the device has failed after the lines
-pub lines_fail : (agrees : Files → Listings → Type 0) (before now : List ℕ → Bool) (limits : Limits) (shell : Shell) (from e : Environment) (text : Text) (lines : List (List Text)) → from ≡ e → lines ≡ lines_in text
+pub check_fails_in_lines : (agrees : Files → Listings → Type 0) (before now : List ℕ → Bool) (limits : Limits)
+    (shell : Shell) (from e : Environment) (text : Text) (lines : List (List Text)) → from ≡ e → lines ≡ lines_in text
     → FailsOnlyWhere before now (λ at. InEachPair agrees (λ files listings. LinesLookAt (request_context_in limits shell files listings) from lines at))
     → FailsOnlyWhere before now (λ at. InEachPair agrees (λ files listings. CheckLooksAt (request_context_in limits shell files listings) e (lines_in text) at))
-lines_fail agrees before now limits shell from e text lines same made =
+check_fails_in_lines agrees before now limits shell from e text lines same made =
     let Here : Files → Listings → Text → Type 0 = λ files listings at. LinesLookAt (request_context_in limits shell files listings) from lines at in
     let Whole : Files → Listings → Text → Type 0 = λ files listings at. CheckLooksAt (request_context_in limits shell files listings) e (lines_in text) at in
     only_wider_in_each agrees before now Here Whole (λ files listings agreed at h. looks_by_lines (request_context_in limits shell files listings) from e lines (lines_in text) at same made h)
 
 -- and after the verdicts on what they loaded
-pub check_fails : (agrees agrees' : Files → Listings → Type 0) (before mid now : List ℕ → Bool) (limits : Limits) (shell : Shell) (from e : Environment) (text : Text) (lines : List (List Text)) (names : List Text) (outcomes : List Outcome)
+pub check_fails : (agrees agrees' : Files → Listings → Type 0) (before mid now : List ℕ → Bool) (limits : Limits)
+    (shell : Shell) (from e : Environment) (text : Text) (lines : List (List Text)) (names : List Text)
+    (outcomes : List Outcome)
     → Narrows agrees agrees' → from ≡ e → lines ≡ lines_in text
     → InEachPair agrees (λ files listings. LineSession (request_context_in limits shell files listings) from lines (responses from outcomes)) → names ≡ without_repeats (flat_map loaded_in outcomes)
     → FailsOnlyWhere before mid (λ at. InEachPair agrees (λ files listings. LinesLookAt (request_context_in limits shell files listings) from lines at))
@@ -83,8 +86,7 @@ pub check_fails : (agrees agrees' : Files → Listings → Type 0) (before mid n
 check_fails agrees agrees' before mid now limits shell from e text lines names outcomes narrows same made ran named first second =
     let Here : Files → Listings → Text → Type 0 = λ files listings at. NamesLookAt (request_context_in limits Sh files listings) e names at in
     let Whole : Files → Listings → Text → Type 0 = λ files listings at. CheckLooksAt (request_context_in limits shell files listings) e (lines_in text) at in
-    only_then_in_each agrees agrees' before mid now Whole narrows (lines_fail agrees before mid limits shell from e text lines same made first)
-    (only_wider_in_each agrees' mid now Here Whole
+    only_more_in_each agrees agrees' before mid now Here Whole narrows
     (λ files listings agreed at h.
-    looks_by_names (request_context_in limits shell files listings) from e lines (lines_in text) names outcomes at same made (ran files listings (narrows files listings agreed)) named h)
-    second)
+    looks_by_names (request_context_in limits shell files listings) from e lines (lines_in text) names outcomes at same made (ran files listings agreed) named h)
+    (check_fails_in_lines agrees before mid limits shell from e text lines same made first) second

@@ -8,5 +8,3 @@ pub mod Findings
 pub mod Mentions
 pub mod Folders
 pub mod Parts
-
--- What an audit is made of, so that a caller need not name the crates below.

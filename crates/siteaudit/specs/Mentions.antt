@@ -1,12 +1,13 @@
 -- The names that records mention, and which of them are unknown: for this crate's own contracts alone.
-use Rattle.std.specs.Prelude.{Bool, true, false, List, [], ◌∷◌, ◌++◌, map, flat_map, if◌then◌else◌, Option, Some, None, Result, Ok, Err, string_bytes}
+use Rattle.std.specs.Prelude.{Bool, true, false, List, [], ◌∷◌, ◌++◌, map, flat_map, if◌then◌else◌, Option, Some, None}
+use Rattle.std.specs.Prelude.{Result, Ok, Err, string_bytes}
 use Rattle.std.specs.List.{list_any}
 use Rattle.std.specs.declared.alloc.Global.{Global}
 use Rattle.std.specs.declared.string.String.{String}
 use Rattle.modulename.specs.ModuleName.{means}
 use Rattle.envvars.specs.Texts.{Text, has}
 use Rattle.modulefile.specs.RecordViews.{record_view}
-use Rattle.modulerun.specs.declared.run.Ran.{Ran}
+use Rattle.modulerun.specs.declared.run.FileRun.{FileRun}
 use Rattle.modulefile.specs.Records.{Record, conflicts_of, prereqs_of}
 use Rattle.modules.specs.declared.refusal.Refusal.{Refusal}
 use Rattle.sitelaws.specs.Sites.{SiteModule}
@@ -41,7 +42,7 @@ abbrev pub unknown_in : (Text → Bool) → SiteModule → Record → List Menti
 unknown_in known m r = unknown_each known m (conflicts_of r) ++ unknown_group known m (prereqs_of r)
 
 -- what the records of an evaluation mention
-abbrev pub unknown_after : (Text → Bool) → SiteModule → Result Ran Refusal → List Mention
+abbrev pub unknown_after : (Text → Bool) → SiteModule → Result FileRun Refusal → List Mention
 unknown_after known m (Ok ran) = flat_map (unknown_in known m) (map record_view ran.records.items)
 unknown_after known m (Err refusal) = []
 

@@ -1,5 +1,6 @@
 //! Names in the conflicts and prereqs of modules that mean no module of the site.
-ghost use Rattle.std.specs.Prelude.{◌≡◌, ◌||◌, ◌∷◌, [], ◌++◌, Bool, true, false, not, flat_map, map, string_bytes, IfOk, OnOk};
+ghost use Rattle.std.specs.Prelude.{◌≡◌, ◌||◌, ◌∷◌, [], ◌++◌, Bool, true, false, not, flat_map, map, string_bytes};
+ghost use Rattle.std.specs.Prelude.{IfOk, OnOk};
 ghost use Rattle.std.specs.List.{list_any};
 ghost use Rattle.modulename.specs.ModuleName.{means};
 ghost use Rattle.envvars.specs.Texts.{Text};
@@ -11,8 +12,8 @@ ghost use Rattle.siteaudit.specs.Mentions.{is_known, known_in, unknown_by, unkno
 use crate::auditing::UnknownNames;
 use crate::folders::folder_of;
 use crate::walk::Evaluation;
-use envvars::fields::copies;
 use indexmap::IndexSet;
+use message::texts::copies;
 use modulefile::Record;
 use std::alloc::{AllocError, Global};
 use std::slice;

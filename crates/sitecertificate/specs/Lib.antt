@@ -4,7 +4,6 @@ pub mod Certificates
 pub mod Laws
 pub mod Examples
 pub mod UseViews
--- What modules stand for, so that a caller need not name the crates below.
 pub mod Disagreements
 pub mod DisagreementViews
 pub mod Rewriting

@@ -4,5 +4,3 @@ pub mod Remarks
 pub mod Reports
 pub mod Documents
 pub mod Tokens
-
--- What an audit answers, so that a caller need not name the crates below.

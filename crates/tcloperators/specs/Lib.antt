@@ -7,5 +7,3 @@ pub mod Operators
 pub mod Values
 -- for private contracts of this crate alone
 pub mod Views
-
--- The numbers and lists that values are read as, so that a caller need not name the crates below.

@@ -18,5 +18,3 @@ pub mod Meaning
 pub mod Promise
 pub mod Simulates
 pub mod Shown
-
--- What the definitions above cite, so that a caller need not name the crates below.

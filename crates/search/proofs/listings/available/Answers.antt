@@ -1,13 +1,14 @@
 use Rattle.std.proofs.lemmas.List.{drop_all}
 use Rattle.std.proofs.lemmas.Result.{err_from_is_err_and}
-use Rattle.std.proofs.Common.{◌≡◌, ℕ, true, Bor, List, [], ◌∷◌, ◌++◌, Option, get_or, map, refl, sym, ap, ◌∙◌, subst, append-nil, string_bytes, vec_items, arith}
+use Rattle.std.proofs.Common.{◌≡◌, ℕ, true, Bor, List, [], ◌∷◌, ◌++◌, Option, get_or, map, refl, sym, ap, ◌∙◌, subst}
+use Rattle.std.proofs.Common.{append-nil, string_bytes, vec_items, arith}
 use Rattle.modulename.specs.ModuleName.{Text}
 use Rattle.filetree.specs.Agreement.{Files, Listings, InEachPair, is_device}
 use Rattle.filetree.specs.Modulefiles.{directories}
 use Rattle.search.specs.DefaultVersions.{DefaultFileResult}
 use Rattle.search.specs.Listed.{Listing, IsListing, AreListings}
 use Rattle.search.specs.Looked.{LooksForListing, ListingLooksAt}
-use Rattle.search.proofs.CandidateFailures.{fails_then}
+use Rattle.filetree.proofs.FailedPaths.{fails_then}
 use Rattle.search.proofs.VersionLemmas.{has, first_of}
 use Rattle.search.specs.ListingEntries.{listing_entry_view}
 use Rattle.search.specs.Listings.{listing_view}

@@ -3,7 +3,7 @@ use Rattle.std.proofs.lemmas.Result.{err_from_is_err_and}
 use Rattle.envvars.specs.Texts.{texts_in}
 use Rattle.std.specs.Option.{option_map}
 use Rattle.filetree.specs.Agreement.{InEachPair}
-use Rattle.search.proofs.FailureLemmas.{fails_then}
+use Rattle.filetree.proofs.FailedPaths.{fails_then}
 use Rattle.modules.specs.Answers.{is_failure}
 use Rattle.siteaudit.specs.Folders.{IsBadIn, SearchLooksAt, SearchesLookAt, folder_view}
 use Rattle.siteaudit.proofs.AmongLemmas.{among_at, among_map}
@@ -36,7 +36,13 @@ returns-in_err-found-clause-failed g c =
     rw (p.1, p.2) (fails_then fails fails (g.T.Tree.failed c.args.tree.now) (g.T.Tree.failed c.loop-folder.tree) (g.T.Tree.failed c.bad_default_file.new.tree)
     (λ at. InEachPair agrees (λ files listings. SearchLooksAt limits files listings (folder_view folder) at))
     (λ at. InEachPair agrees (λ files listings. SearchesLookAt limits files listings (map folder_view folders) at)) c.loop-folder.invariant.unfailed refl
-    (λ at h files listings a. (folder_view folder, among_map folder_view folder folders (among_at folders c.loop-folder.folder-index folder c.loop-folder-test.true c.folder-item.is), h files listings a))
+    (λ at h files listings a. (
+      folder_view folder,
+      among_map folder_view folder folders
+          (among_at folders c.loop-folder.folder-index folder c.loop-folder-test.true c.folder-item.is),
+      h files listings
+          a,
+    ))
     c.in_err-found.ensures.failed)
 
 pub returns-in_err-push_found-clause-failed : goal.returns-in_err-push_found-clause-failed

@@ -1,4 +1,5 @@
-use Rattle.std.proofs.Common.{◌≡◌, ◌<◌, ◌≤◌, List, [], ◌∷◌, Some, None, map, length, slice_get, option_map, add-one, string_bytes, String, Global, refl, sym, ap, ◌∙◌, subst, arith}
+use Rattle.std.proofs.Common.{◌≡◌, ◌<◌, ◌≤◌, List, [], ◌∷◌, Some, None, map, length, slice_get, option_map, add-one}
+use Rattle.std.proofs.Common.{string_bytes, String, Global, refl, sym, ap, ◌∙◌, subst, arith}
 use Rattle.envvars.specs.Texts.{Text}
 use Rattle.filetree.specs.Agreement.{InEachPair}
 use Rattle.filetree.specs.Modulefiles.{directories}
@@ -9,7 +10,7 @@ use Rattle.siteaudit.specs.LookedAtWalk.{DirectoryLooksAt, WalkLooksAt}
 use Rattle.siteaudit.specs.Walks.{IsWalk, most_directories}
 use Rattle.std.proofs.lemmas.List.{length-map}
 use Rattle.std.proofs.lemmas.Result.{err_from_is_err_and}
-use Rattle.search.proofs.FailureLemmas.{fails_then}
+use Rattle.filetree.proofs.FailedPaths.{fails_then}
 use Rattle.modules.specs.Answers.{is_failure}
 use Rattle.siteaudit.proofs.AmongSites.{place_below, place_gone}
 use Rattle.siteaudit.proofs.DirectoryLemmas.{is_alone}
@@ -70,7 +71,11 @@ loop-evaluations-preserved g c =
     let same : length dirs ≡ length c.loop-evaluations.dirs.keys = length-map c.loop-evaluations.dirs.keys string_bytes in
     let below : place < length dirs = place_below dir dirs place at in
     record {
-      reads = record { narrows = λ files listings k. c.loop-evaluations.invariant.reads.narrows files listings (c.walk_directory.ensures.reads.narrows files listings k); counts_failures = omega arith };
+      reads = record {
+        narrows = λ files listings k. c.loop-evaluations.invariant.reads.narrows files listings
+            (c.walk_directory.ensures.reads.narrows files listings k);
+        counts_failures = omega arith;
+      };
       unfailed = c.in_ok-walk_directory.ensures.failed ∙ c.loop-evaluations.invariant.unfailed;
       within = omega (arith, c.len.ensures.len);
       walked = λ files listings k.

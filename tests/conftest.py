@@ -1,0 +1,119 @@
+"""What pytest gives the suites: the built programs, folders of modulefiles, and libraries that make calls fail.
+
+    python3 -B -m pytest tests/rows.py -k counters
+
+At the end stands what wasn't run and why, and then how many cases passed and how many failed. A case that compares rows
+counts as that many.
+"""
+
+import collections
+import os
+import sys
+import tempfile
+
+import pytest
+
+from tests.harness import Folder, refuser
+
+sys.dont_write_bytecode = True
+
+# How many of the wrong rows of a case are shown.
+SHOWN = 20
+
+
+def pytest_addoption(parser):
+    parser.addoption("--program-dir", default="build/bin", help="the folder of the built programs (%(default)s)")
+
+
+@pytest.fixture(scope="session")
+def built(pytestconfig):
+    """Gives the path of the built program of a name."""
+
+    def path_of(name):
+        path = pytestconfig.rootpath / pytestconfig.getoption("program_dir") / name
+        if not path.is_file():
+            pytest.fail(f"there is no {path}; CONTRIBUTING.md says what builds it (Tests alone)", pytrace=False)
+        return str(path)
+
+    return path_of
+
+
+@pytest.fixture(scope="session")
+def program(built):
+    """The program under test. A suite of another one has a fixture of this name."""
+    return built("modulecmd")
+
+
+@pytest.fixture
+def folder(program):
+    """A folder of modulefiles, with a copy of the program under test."""
+    made = Folder(program)
+    yield made
+    made.remove()
+
+
+@pytest.fixture(scope="session")
+def shim():
+    """Gives the path of a library that goes before the C library's, built from the C file of this name."""
+    with tempfile.TemporaryDirectory(prefix="modulecmd-shims-") as place:
+        os.chmod(place, 0o755)
+        yield lambda name: refuser(os.fsencode(place), name)
+
+
+@pytest.fixture
+def judge_rows(record_property):
+    """Judges a case that compares rows: takes how many there were, and what is said of each wrong one."""
+
+    def judge(count, wrong):
+        record_property("rows", count)
+        record_property("wrong", len(wrong))
+        assert count, "no row was compared"
+        if wrong:
+            pytest.fail("\n".join([*wrong[:SHOWN], f"{len(wrong)} of {count} rows are wrong"]), pytrace=False)
+
+    return judge
+
+
+@pytest.fixture
+def note(record_property):
+    """Has a line stand in the report, also where the case passes."""
+    return lambda text: record_property("note", text)
+
+
+def rows_of(report):
+    """How many rows a report is about, and how many of them are wrong. A case without rows is one."""
+    told = dict(report.user_properties) if getattr(report, "when", "") == "call" else {}
+    return told.get("rows", 1), max(told.get("wrong", 0), report.failed)
+
+
+def notes(stats):
+    """What cases say of themselves, and how many rows they compared."""
+    for report in [*stats.get("passed", []), *stats.get("failed", [])]:
+        for kind, text in report.user_properties:
+            if kind == "note":
+                yield f"{report.nodeid}: {text}"
+            elif kind == "rows":
+                yield f"{report.nodeid}: {text} rows compared"
+
+
+def not_run(stats):
+    """Why cases weren't run, each reason with their number."""
+    reasons = collections.Counter(report.longrepr[2].removeprefix("Skipped: ") for report in stats.get("skipped", []))
+    return [f"not run: {reason} (cases: {count})" for reason, count in reasons.items()]
+
+
+def counts(stats):
+    """How many cases and rows passed and failed."""
+    judged = [rows_of(report) for kind in ("passed", "failed", "error") for report in stats.get(kind, [])]
+    wrong = sum(wrong for _, wrong in judged)
+    return f"{sum(rows for rows, _ in judged) - wrong} passed, {wrong} failed"
+
+
+@pytest.hookimpl(tryfirst=True, hookwrapper=True)
+def pytest_sessionfinish(session):
+    """Below pytest's own summary stands ours, with the counts at its end."""
+    yield
+    reporter = session.config.pluginmanager.get_plugin("terminalreporter")
+    reporter.ensure_newline()
+    for line in [*notes(reporter.stats), *not_run(reporter.stats), counts(reporter.stats)]:
+        reporter.write_line(line)
