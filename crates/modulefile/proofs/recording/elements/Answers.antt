@@ -1,7 +1,7 @@
 use Rattle.std.proofs.Common.{string_bytes, ap, ◌∙◌, ◌++◌, ◌+◌, drop}
 use Rattle.envpaths.specs.PathTexts.{split_elements}
-use Rattle.modulerun.proofs.ListLemmas.{split_next, cut_on}
-use Rattle.modulerun.proofs.recording.elements.Goals as goal
+use Rattle.modulefile.proofs.CutLemmas.{split_next, cut_on}
+use Rattle.modulefile.proofs.recording.elements.Goals as goal
 
 pub loop-value-preserved : goal.loop-value-preserved
 loop-value-preserved c =
