@@ -1,5 +1,6 @@
 -- Lists of texts in which some text is sought.
-use Rattle.std.proofs.Common.{◌≡◌, ◌≤◌, Bool, true, ◌||◌, List, [], ◌∷◌, length, map, string_bytes, String, refl, ap, arith}
+use Rattle.std.proofs.Common.{◌≡◌, ◌≤◌, Bool, true, ◌||◌, List, [], ◌∷◌, length, map, string_bytes, String, refl, ap}
+use Rattle.std.proofs.Common.{arith}
 use Rattle.std.specs.declared.alloc.Global.{Global}
 use Rattle.std.specs.List.{list_any}
 use Rattle.envvars.specs.Texts.{Text}

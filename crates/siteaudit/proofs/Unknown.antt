@@ -14,14 +14,16 @@ use Rattle.modulefile.specs.Records.{Record, conflicts_of, prereqs_of, conflict_
 use Rattle.requests.specs.Reasons.{RequestReason}
 use Rattle.modules.specs.declared.refusal.Refusal.{Refusal}
 use Rattle.sitecertificate.specs.RecordUses.{IsAmong}
-use Rattle.sitecertificate.proofs.UsedLemmas.{by_test, by_cases, among_left, among_right, among_either, cons_later, cons_first, cons_either}
+use Rattle.sitecertificate.proofs.UsedLemmas.{by_test, by_cases, among_left, among_right, among_either, cons_later}
+use Rattle.sitecertificate.proofs.UsedLemmas.{cons_first, cons_either}
 use Rattle.sitecertificate.proofs.Exact.{any_some, some_any}
 use Rattle.sitelaws.specs.Sites.{Site, SiteModule, EvaluatesTo, IsOfSite, Evaluated, AreEvaluated}
 use Rattle.siteaudit.specs.declared.walk.Evaluation.{Evaluation}
 use Rattle.siteaudit.specs.Walks.{IsOutcome, AreEvaluations}
 use Rattle.siteaudit.specs.Audits.{Mention, AreMentioned, IsUnknown}
 use Rattle.siteaudit.specs.Findings.{evaluated_file}
-use Rattle.siteaudit.specs.Mentions.{is_known, unknown_by, unknown_each, unknown_group, unknown_in, unknown_after, unknown_of}
+use Rattle.siteaudit.specs.Mentions.{is_known, unknown_by, unknown_each, unknown_group, unknown_in, unknown_after}
+use Rattle.siteaudit.specs.Mentions.{unknown_of}
 use Rattle.siteaudit.proofs.Evaluations.{one_outcome, same_file, outcome_of, of_site, is_evaluated}
 
 -- ---- members of parts
