@@ -46,7 +46,7 @@ SUITES = (
     ("modulefiles.py", "modulecmd"),
     ("commands.py", "modulecmd"),
     ("sites.py", "modulecmd"),
-    ("documents.py", ""),
+    ("documents.py",),
     ("sentence.py", "modulecmd", "300", "0", "sh"),
     ("sentence.py", "modulecmd", "40", "0", "tcsh"),
     ("sentence.py", "modulecmd", "40", "0", "fish"),
