@@ -63,7 +63,7 @@ SUITES = (
     ("hostile.py", "modulecmd"),
     ("search.py",),
     ("shells/run.py", "modulecmd"),
-    ("pages.py", "modulecmd"),
+    ("pages.py",),
     ("allocations.py", "cases_environment"),
     ("systems.py", "cases_environment"),
     ("tcl/compare.py", "cases_tcl"),
