@@ -43,9 +43,9 @@ MODULES = {"pytest": "python3-pytest", "hypothesis": "python3-hypothesis"}
 SUITES = (
     ("program.py", "modulecmd"),
     ("rows.py", "modulecmd"),
-    ("modulefiles.py", "modulecmd"),
-    ("commands.py", "modulecmd"),
-    ("sites.py", "modulecmd"),
+    ("modulefiles.py",),
+    ("commands.py",),
+    ("sites.py",),
     ("documents.py",),
     ("sentence.py", "modulecmd", "300", "0", "sh"),
     ("sentence.py", "modulecmd", "40", "0", "tcsh"),
