@@ -54,7 +54,7 @@ SUITES = (
     ("certified.py", "modulecmd", "40", "0", "tcsh"),
     ("certified.py", "modulecmd", "40", "0", "fish"),
     ("losses.py",),
-    ("modcheck.py", "modcheck"),
+    ("modcheck.py",),
     ("modaudit.py", "modaudit"),
     ("plain.py", "modcheck"),
     ("memory.py",),
