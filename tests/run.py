@@ -71,7 +71,7 @@ SUITES = (
     ("tcl/scripts.py",),
     ("tcl/commands.py",),
     ("tcl/memory.py",),
-    ("package.py", "modulecmd"),
+    ("package.py",),
     ("costs.py",),
     ("runs.py", ""),
     ("certified.py", ""),
