@@ -1,7 +1,5 @@
 """Commands one by one, over real folders: what each writes, and where a session of them leaves the variables.
 
-    python3 -B tests/commands.py PROGRAM
-
 The examples stand in commands.txt, each after a title, `# TITLE`; what they expect is typed by hand from the rules of
 the program. Each also finds the files of those before it, since the last `new`. `module PATH TEXT` puts a modulefile,
 whose first line is the cookie; `file PATH TEXT` and `bytes PATH TEXT` a file of this text, or of it and after it a byte
@@ -15,9 +13,10 @@ variables are what the shell makes of them. `vars NAME=VALUE...` are the variabl
 
 import os
 import re
-import sys
 
-from tests.harness import add_case, encoded, evaluated, examples, run_all, same
+import pytest
+
+from tests.harness import encoded, evaluated, examples, same
 from tests.plain import FAMILIES, printed
 from tests.worked import real
 
@@ -95,7 +94,18 @@ def is_file(line):
     return line.partition(" ")[0] in FILES
 
 
-def follow(folder, lines):
+def whole():
+    """The examples, each with the files of those before it."""
+    files = []
+    for title, lines in examples("commands.txt"):
+        if lines[0] == "new":
+            files, lines = [], lines[1:]
+        yield pytest.param([*files, *lines], id=title)
+        files += filter(is_file, lines)
+
+
+@pytest.mark.parametrize("lines", whole())
+def test_commands(lines, folder):
     """The program does what the lines of an example say."""
     session, rest = Session(folder), list(lines)
     while rest:
@@ -107,26 +117,3 @@ def follow(folder, lines):
         while not STATUS.fullmatch(rest[0]):
             wrote.append(rest.pop(0))
         session.writes(line.removeprefix("> "), wrote, int(STATUS.fullmatch(rest.pop(0))[1]))
-
-
-def add_examples():
-    """Makes a case of each example."""
-    files = []
-    for title, lines in examples("commands.txt"):
-        if lines[0] == "new":
-            files, lines = [], lines[1:]
-        add_case(title, follow, [*files, *lines])
-        files += filter(is_file, lines)
-
-
-def main():
-    if len(sys.argv) != 2:
-        sys.exit(f"{sys.argv[0]} PROGRAM")
-    add_examples()
-    passed, failed = run_all(sys.argv[1])
-    print(f"{passed} passed, {failed} failed")
-    return 1 if failed else 0
-
-
-if __name__ == "__main__":
-    sys.exit(main())

@@ -47,16 +47,6 @@ def examples(name):
             yield title.removeprefix("# "), lines
 
 
-def add_case(title, function, *given):
-    """Adds a function of a folder and of what is given to the cases."""
-
-    def follow(folder):
-        function(folder, *given)
-
-    follow.__name__ = title
-    case(follow)
-
-
 def evaluated(text, env):
     """The variables after sh, which had these, evaluated a text."""
     done = subprocess.run(

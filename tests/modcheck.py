@@ -1,7 +1,5 @@
 """What the built program `modcheck` says of lists of requests and of the modules that they load, over real folders.
 
-    python3 -B tests/modcheck.py PROGRAM
-
 The expected texts are typed by hand from the rules of the program. In them, and in the modulefiles, `/m`, `/n` and `/o`
 stand for the folders that a case makes.
 """
@@ -9,10 +7,11 @@ stand for the folders that a case makes.
 import os
 import re
 import subprocess
-import sys
 import time
 
-from tests.harness import HERE, case, refuser, refuses_each, run_all, same, true
+import pytest
+
+from tests.harness import HERE, refuses_each, same, true
 from tests.worked import FILES, real, write
 
 TOP = os.path.dirname(HERE)
@@ -50,6 +49,11 @@ class Check:
         done = self.folder.run(*words, env=self.env, **streams)
         same(done.stderr, ERROR.format(text).encode(), f"standard error of {words}")
         same((done.stdout, done.returncode), (b"", 1), f"standard output and status of {words}")
+
+
+@pytest.fixture(scope="session")
+def program(built):
+    return built("modcheck")
 
 
 # Verdicts.
@@ -90,28 +94,21 @@ VERDICTS = (
 )
 
 
-@case
-def the_verdict_on_each_kind_of_file(folder):
-    for home in (None, "/home/u"):
-        for number, (text, verdict) in enumerate(VERDICTS):
-            write(folder, f"/m/v/{number}", text)
-            check = Check(folder, **({"HOME": home} if home else {}))
-            lines = [f"{one} accepted" for one in (1, 2)]
-            done = check.run(f"load v/{number}\nunload v\n")
-            same(done.stderr.decode().splitlines()[2:], [f"v/{number}: {verdict}"], f"the verdict on {text!r}")
-            same(done.stderr.decode().splitlines()[:2], lines, f"the requests of {text!r}")
-            os.remove(real(folder, f"/m/v/{number}"))
+@pytest.mark.parametrize("text, verdict", VERDICTS, ids=[text for text, _ in VERDICTS])
+def test_the_verdict_on(text, verdict, folder):
+    for variables in ({}, {"HOME": "/home/u"}):
+        done = Check(folder, files={"/m/v/1": text}, **variables).run("load v/1\nunload v\n")
+        lines = ["1 accepted", "2 accepted", f"v/1: {verdict}"]
+        same(done.stderr.decode().splitlines(), lines, f"standard error with {variables}")
 
 
-@case
-def a_file_that_is_plain(folder):
+def test_a_file_that_is_plain(folder):
     check = Check(folder, PATH="/usr/bin:/bin")
     for shell in SHELLS:
         check.says("load foo\nunload foo\n", ["1 accepted", "2 accepted", "foo/1.0: Plain"], shell=shell)
 
 
-@case
-def a_file_that_asks_and_one_that_is_not_there(folder):
+def test_a_file_that_asks_and_one_that_is_not_there(folder):
     lines = [
         "1 accepted",
         "2 accepted",
@@ -121,15 +118,13 @@ def a_file_that_asks_and_one_that_is_not_there(folder):
     Check(folder).says("load w\nunload w\nload nope\n", lines, out="X='1'; export X;\n", status=1)
 
 
-@case
-def a_file_whose_directory_another_module_adds(folder):
+def test_a_file_whose_directory_another_module_adds(folder):
     lines = [*(f"{number} accepted" for number in range(1, 5)), "mp/1: Plain"]
     lines.append("ver/1.10-rc: Unable to locate a modulefile for 'ver/1.10-rc'")
     Check(folder).says("load mp\nload ver\nunload mp\nunload ver\n", lines)
 
 
-@case
-def verdicts_in_the_first_environment(folder):
+def test_verdicts_in_the_first_environment(folder):
     files = {
         "/m/reads/1": "prepend-path P $env(FOO)\n",
         "/m/typed/1": "if {[module-info specified] ne {typed/1}} {setenv T 1}\n",
@@ -152,8 +147,7 @@ def verdicts_in_the_first_environment(folder):
     Check(folder).says("load gcc mpi\npurge\n", lines)
 
 
-@case
-def each_module_once_in_the_order_of_its_first_load(folder):
+def test_each_module_once_in_the_order_of_its_first_load(folder):
     given = "load foo y\nunload foo\nload y foo\nswitch y z\nload y nope\nload c\nlist\npurge\n"
     lines = [
         *(f"{number} accepted" for number in range(1, 5)),
@@ -170,8 +164,7 @@ def each_module_once_in_the_order_of_its_first_load(folder):
 # Requests.
 
 
-@case
-def blanks_and_lines_without_words(folder):
+def test_blanks_and_lines_without_words(folder):
     check = Check(folder, PATH="/usr/bin:/bin")
     lines = ["1 accepted", "2 accepted", "foo/1.0: Plain"]
     for given in (
@@ -184,8 +177,7 @@ def blanks_and_lines_without_words(folder):
         check.says(given, [])
 
 
-@case
-def other_characters_belong_to_words(folder):
+def test_other_characters_belong_to_words(folder):
     check = Check(folder)
     for mark in "\r\v\f":
         check.says(f"load foo{mark}\n", [f"1 refused: Bad module name 'foo{mark}'"], status=1)
@@ -196,8 +188,7 @@ def other_characters_belong_to_words(folder):
         check.says(f"load {name}\n", [f"1 refused: {said} '{name}'"], status=1)
 
 
-@case
-def lines_that_are_no_request(folder):
+def test_lines_that_are_no_request(folder):
     given = "nope x\nload\nlist x\nswitch\nswitch a b c\npurge x\nhelp\nsh load foo\n#load foo\nload foo\n"
     lines = [
         "1 refused: Unknown subcommand 'nope'",
@@ -213,21 +204,18 @@ def lines_that_are_no_request(folder):
     true(done.stdout.startswith(b"FOO='on'; export FOO;\n"), "the last one is done")
 
 
-@case
-def every_subcommand(folder):
+def test_every_subcommand(folder):
     given = "add foo\nlist\navail\navail f\nshow foo w\ndisplay foo\nwhatis foo\nswap foo x\nrm x\npurge\n"
     lines = [*(f"{number} accepted" for number in range(1, 11)), "foo/1.0: Plain", "x/1: Plain"]
     Check(folder, PATH="/bin").says(given, lines)
 
 
-@case
-def messages_are_not_written(folder):
+def test_messages_are_not_written(folder):
     check = Check(folder, files={"/m/says/1": "puts stderr hello\n"})
     check.says("load says\nshow says\nunload says\n", [*(f"{n} accepted" for n in (1, 2, 3)), "says/1: Plain"])
 
 
-@case
-def refusals_of_requests(folder):
+def test_refusals_of_requests(folder):
     files = {
         "/m/two/1": 'error "a\\nb"\n',
         "/m/late/1": "setenv A 1\nexit\n",
@@ -268,8 +256,7 @@ def refusals_of_requests(folder):
     check.says("load x/1\nlist\n", ["1 refused: Reading failed", "2 accepted"], status=1)
 
 
-@case
-def the_text_of_all_requests_for_each_family(folder):
+def test_the_text_of_all_requests_for_each_family(folder):
     check = Check(folder, PATH="/bin")
     given = "load foo\nload y\nunload foo\n"
     lines = [*(f"{number} accepted" for number in (1, 2, 3)), "foo/1.0: Plain", "y/1: Plain"]
@@ -355,14 +342,12 @@ WHOLE = (
 )
 
 
-@case
-def whole_checks(folder):
-    for variables, shell, given, out, lines, status in WHOLE:
-        Check(folder, files=WHOLE_FILES, **variables).says(given, lines, out, status, shell)
+@pytest.mark.parametrize("variables, shell, given, out, lines, status", WHOLE, ids=[" ".join(it[1:3]) for it in WHOLE])
+def test_a_whole_check(variables, shell, given, out, lines, status, folder):
+    Check(folder, files=WHOLE_FILES, **variables).says(given, lines, out, status, shell)
 
 
-@case
-def only_the_last_state_has_to_be_said(folder):
+def test_only_the_last_state_has_to_be_said(folder):
     check = Check(folder)
     for shell in ("csh", "tcsh"):
         check.says("load nl\nunload nl\n", ["1 accepted", "2 accepted", "nl/1: Plain"], shell=shell)
@@ -373,8 +358,7 @@ def only_the_last_state_has_to_be_said(folder):
 # Faults of the whole call.
 
 
-@case
-def arguments_that_are_no_shell(folder):
+def test_arguments_that_are_no_shell(folder):
     check = Check(folder)
     for words in ((), ("sh", "load"), ("nope", "x"), ("sh", ""), ("sh", "sh"), (b"\xff",), ("sh", b"\xff")):
         check.refuses("Bad arguments", words=words, given=b"load foo\n")
@@ -382,8 +366,7 @@ def arguments_that_are_no_shell(folder):
         check.refuses(f"Unknown shell '{word}'", words=[word], given=b"load foo\n")
 
 
-@case
-def arguments_go_before_the_input(folder):
+def test_arguments_go_before_the_input(folder):
     check = Check(folder)
     directory = os.open(folder.path, os.O_RDONLY)
     check.refuses("Bad arguments", words=(), stdin=directory)
@@ -393,8 +376,7 @@ def arguments_go_before_the_input(folder):
     os.close(directory)
 
 
-@case
-def inputs_that_are_too_long(folder):
+def test_inputs_that_are_too_long(folder):
     check = Check(folder, PATH="/bin")
     request = "load foo\nunload foo\n"
     lines = ["1 accepted", "2 accepted", "foo/1.0: Plain"]
@@ -409,16 +391,14 @@ def inputs_that_are_too_long(folder):
         check.refuses("Bad arguments", stdin=endless)
 
 
-@case
-def inputs_that_are_not_utf8(folder):
+def test_inputs_that_are_not_utf8(folder):
     check = Check(folder)
     for odd in (b"\xff", b"\xe9\n", b"\xc3", b"\xed\xa0\x80\n", b"\xc0\xaf\n", b"\xf4\x90\x80\x80\n"):
         check.refuses("Bad arguments", given=odd)
         check.refuses("Bad arguments", given=b"load foo\nload " + odd)
 
 
-@case
-def a_standard_output_that_takes_nothing(folder):
+def test_a_standard_output_that_takes_nothing(folder):
     check = Check(folder)
     lines = b"1 accepted\nw/1: Asked\n"
     with open("/dev/full", "wb", buffering=0) as full:
@@ -432,8 +412,7 @@ def a_standard_output_that_takes_nothing(folder):
             same((done.stderr, done.returncode), (b"1 accepted\n2 accepted\nfoo/1.0: Plain\n", 0), "without a text")
 
 
-@case
-def a_standard_error_that_takes_nothing(folder):
+def test_a_standard_error_that_takes_nothing(folder):
     check = Check(folder)
     with open("/dev/full", "wb", buffering=0) as full:
         for streams in ({"stderr": full}, {"close": (2,)}):
@@ -444,8 +423,7 @@ def a_standard_error_that_takes_nothing(folder):
             same((done.stdout, done.returncode), (b"", 0), "nothing to write")
 
 
-@case
-def streams_that_fail_at_each_byte(folder):
+def test_streams_that_fail_at_each_byte(folder):
     check = Check(folder)
     given = "load w\nunload w\nload nope\n"
     out = b"X='1'; export X;\n"
@@ -461,8 +439,7 @@ def streams_that_fail_at_each_byte(folder):
             same((other[0], done.returncode), (other[1], 1), f"the other stream, and the status, at {most} bytes")
 
 
-@case
-def nothing_is_printed_before_the_input_ends(folder):
+def test_nothing_is_printed_before_the_input_ends(folder):
     check = Check(folder, PATH="/bin")
     both = os.pipe()
     running = subprocess.Popen(
@@ -512,35 +489,29 @@ def lost_on_the_way(check, said, is_once, done):
     return (bool(found[5]), out, status) == (is_first, wanted, 0 if is_first and is_second else 1)
 
 
-def answers_or_loses(check, shim, said, more):
+def answers_or_loses(check, library, said):
     plain = (b"", b"1 accepted\n2 accepted\nfoo/1.0: Plain\n", 0)
-
     is_once = False
 
     def run(asked):
         nonlocal is_once
         is_once = b"FAIL_AT" in asked
-        env = {**check.env, **asked, **(more if asked else {})}
-        done = check.folder.run("sh", env=env, given=b"load foo\nunload foo\n")
+        done = check.folder.run("sh", env={**check.env, **asked}, given=b"load foo\nunload foo\n")
         return done.stdout, done.stderr, done.returncode
 
     def is_lost(done):
         return done != plain and lost_on_the_way(check, said, is_once, done)
 
     same(run({}), plain, "what is said without a loss")
-    refuses_each(shim, run, is_lost, said)
+    refuses_each(library, run, is_lost, said)
 
 
-@case
-def memory_that_is_refused(folder):
-    check = Check(folder, PATH="/usr/bin:/bin")
-    answers_or_loses(check, refuser(folder.path), b"Out of memory", {})
+def test_memory_that_is_refused(folder, shim):
+    answers_or_loses(Check(folder, PATH="/usr/bin:/bin"), shim("failing_malloc"), b"Out of memory")
 
 
-@case
-def reads_that_fail(folder):
-    check = Check(folder, PATH="/usr/bin:/bin")
-    answers_or_loses(check, refuser(folder.path, "failing_calls"), b"Reading failed", {})
+def test_reads_that_fail(folder, shim):
+    answers_or_loses(Check(folder, PATH="/usr/bin:/bin"), shim("failing_calls"), b"Reading failed")
 
 
 # What users are told.
@@ -551,22 +522,25 @@ def content(*names):
         return file.read()
 
 
-def prints_as_shown(check, command, lines, prefix):
-    """A command that users can copy, run by sh with both programs in the place of those below a prefix, prints this."""
-    home = os.path.join(check.folder.path, b"bin")
-    os.makedirs(home, exist_ok=True)
+@pytest.fixture
+def prints_as_shown(folder, built):
+    """Judges a command that users can copy: run by sh with both programs in the place of those below a prefix, it prints
+    these lines."""
+    home = os.path.join(os.fsdecode(folder.path), "bin")
+    os.mkdir(home)
     for name in ("modcheck", "modulecmd"):
-        place = os.path.join(home, name.encode())
-        if not os.path.lexists(place):
-            os.symlink(os.path.join(os.path.dirname(os.path.abspath(sys.argv[1])), name), place)
-    command = command.replace(prefix, os.fsdecode(home))
-    env = {**check.env, b"PATH": os.environb[b"PATH"]}
-    done = subprocess.run(["sh", "-c", command], env=env, capture_output=True, check=False)
-    same(done.stderr + done.stdout, lines.encode(), f"what {command!r} prints")
+        os.symlink(built(name), os.path.join(home, name))
+
+    def judge(check, command, lines, prefix):
+        command = command.replace(prefix, home)
+        env = {**check.env, b"PATH": os.environb[b"PATH"]}
+        done = subprocess.run(["sh", "-c", command], env=env, capture_output=True, check=False)
+        same(done.stderr + done.stdout, lines.encode(), f"what {command!r} prints")
+
+    return judge
 
 
-@case
-def the_example_of_the_readme(folder):
+def test_the_example_of_the_readme(folder, prints_as_shown):
     part = content("README.md").split("## Check before you log in")[1].split("\n## ")[0]
     block = re.findall(r"```sh\n(.*?)```", part, re.DOTALL)[0]
     prints_as_shown(Check(folder), block, "1 accepted\n2 accepted\nfoo/1.0: Plain\n", "/opt/modulecmd/bin")
@@ -579,8 +553,7 @@ def blocks_of_the_page():
     return [block.replace("\\(aq", "'").replace("\\e", "\\").replace("\\-", "-") for block in blocks]
 
 
-@case
-def the_examples_of_the_page(folder):
+def test_the_examples_of_the_page(folder, prints_as_shown):
     """A block that begins with the cookie is the modulefile of the name in front of it; in others commands stand behind
     `$ `, a line that a pipe ends goes on, and what is printed stands below."""
     page = content("man", "modcheck.1").split(".Sh EXAMPLES\n")[1]
@@ -596,15 +569,3 @@ def the_examples_of_the_page(folder):
     for part in commands:
         command, lines = re.fullmatch(r"((?:[^\n]*\|\n)*[^\n]*\n)(.*)", part, re.DOTALL).groups()
         prints_as_shown(check, command, lines, "@prefix@/bin")
-
-
-def main():
-    if len(sys.argv) != 2:
-        sys.exit(f"{sys.argv[0]} PROGRAM")
-    passed, failed = run_all(sys.argv[1])
-    print(f"{passed} passed, {failed} failed")
-    return 1 if failed else 0
-
-
-if __name__ == "__main__":
-    sys.exit(main())

@@ -1,10 +1,7 @@
 """The packages, installed as on a machine without the toolchain.
 
-    package.py PROGRAM
-
-makes the packages over the programs that stand beside PROGRAM. What takes root runs by chroot in a folder of copies of
-shells and utilities, which is also the root that dpkg is told: nothing outside of the folder is touched. Without root
-these cases aren't run.
+What takes root runs by chroot in a folder of copies of shells and utilities, which is also the root that dpkg is told:
+nothing outside of the folder is touched. Without root these cases aren't run.
 """
 
 import contextlib
@@ -20,9 +17,10 @@ import subprocess
 import sys
 import tempfile
 
-from tests.harness import SECONDS, case, run_all, same, true
+import pytest
 
-HERE = os.path.dirname(os.path.abspath(__file__))
+from tests.harness import HERE, SECONDS, same, true
+
 TOP = os.path.dirname(HERE)
 
 # Where the product stands: of an archive, and of Debian's package, with its site's file.
@@ -155,9 +153,9 @@ def goes_well(words, **how):
 
 
 class Packages:
-    """The packages of this version, and of one that comes after it."""
+    """The packages of this version, and of one that comes after it, in a folder."""
 
-    def make(self, room):
+    def __init__(self, room):
         self.room = room
         self.version = read(os.path.join(TOP, "VERSION")).decode().strip()
         self.later = f"{self.version}.1"
@@ -170,19 +168,18 @@ class Packages:
     def debian(self, version):
         return os.path.join(self.room, f"modulecmd_{version}_amd64.deb")
 
+    @contextlib.contextmanager
+    def unpacked(self, version):
+        """The folder that an archive holds."""
+        with tempfile.TemporaryDirectory(prefix="modulecmd-archive-") as room:
+            goes_well(["tar", "-xzf", self.archive(version), "-C", room])
+            (name,) = os.listdir(room)
+            yield os.path.join(room, name)
+
 
 def make(into, version):
     """Makes the packages of a version in a folder."""
     goes_well([sys.executable, "-B", os.path.join(TOP, "tools", "package.py"), into, version])
-
-
-@contextlib.contextmanager
-def unpacked(version):
-    """The folder that an archive holds."""
-    with tempfile.TemporaryDirectory(prefix="modulecmd-archive-") as room:
-        goes_well(["tar", "-xzf", PACKAGES.archive(version), "-C", room])
-        (name,) = os.listdir(room)
-        yield os.path.join(room, name)
 
 
 def copy(path, root):
@@ -198,7 +195,7 @@ def copy(path, root):
 class Machine:
     """A folder that is a root: shells, utilities, start-up files of a system and a modulefile, and nothing else."""
 
-    def lay_out(self, root):
+    def __init__(self, root):
         self.root = root
         for name in FOLDERS:
             os.makedirs(os.path.join(root, name))
@@ -282,28 +279,38 @@ class Machine:
                 self.dpkg("-P", "modulecmd")
 
 
-PACKAGES, MACHINE = Packages(), Machine()
+@pytest.fixture(scope="module")
+def room():
+    with tempfile.TemporaryDirectory(prefix="modulecmd-package-") as made:
+        os.chmod(made, 0o755)
+        yield made
+
+
+@pytest.fixture(scope="module")
+def packages(room):
+    return Packages(room)
+
+
+@pytest.fixture(scope="module")
+def machine(room):
+    return Machine(os.path.join(room, "machine"))
+
 
 # What some cases take.
-IS_ROOT = os.geteuid() == 0
 HAS_DPKG = shutil.which("dpkg") is not None and shutil.which("dpkg-deb") is not None
+needs_root = pytest.mark.skipif(os.geteuid() != 0, reason="it takes root")
+needs_dpkg = pytest.mark.skipif(not HAS_DPKG, reason="it takes dpkg")
+needs_lintian = pytest.mark.skipif(not shutil.which("lintian"), reason="it takes lintian")
 
 
-def case_where(*facts):
-    """Adds a case where all of this is so."""
-    return lambda function: case(function) if all(facts) else function
-
-
-@case
-def the_same_tree_gives_the_same_packages(folder):
+def test_the_same_tree_gives_the_same_packages(folder, packages):
     place = folder.path.decode()
-    make(place, PACKAGES.version)
-    for path in (PACKAGES.archive(PACKAGES.version), *[PACKAGES.debian(PACKAGES.version)] * HAS_DPKG):
+    make(place, packages.version)
+    for path in (packages.archive(packages.version), *[packages.debian(packages.version)] * HAS_DPKG):
         true(read(path) == read(os.path.join(place, os.path.basename(path))), f"{os.path.basename(path)} is the same")
 
 
-@case
-def an_archive_is_installed_by_a_shell_and_few_utilities(folder):
+def test_an_archive_is_installed_by_a_shell_and_few_utilities(folder, packages):
     place = folder.path.decode()
     tools, prefix = os.path.join(place, "bin"), os.path.join(place, "a place")
     os.mkdir(tools)
@@ -312,7 +319,7 @@ def an_archive_is_installed_by_a_shell_and_few_utilities(folder):
     own, env = os.path.join(prefix, "etc/modulespath"), {"PATH": tools, "MODULEPATH": os.path.join(place, "m")}
     folder.module("foo/1.0", "setenv FOO on\n")
     line = f". '{prefix}/init/sh'; module load foo; echo $FOO; module unload foo; echo ${{FOO-gone}}"
-    with unpacked(PACKAGES.version) as archive:
+    with packages.unpacked(packages.version) as archive:
         install = ["/bin/sh", os.path.join(archive, "install.sh")]
         goes_well([*install, prefix], env=env)
         same(goes_well(["/bin/sh", "-c", line], env=env), "on\ngone\n", "a load and an unload")
@@ -324,10 +331,9 @@ def an_archive_is_installed_by_a_shell_and_few_utilities(folder):
     same(left, [own], "what uninstalling leaves")
 
 
-@case
-def an_install_under_a_closed_umask_is_open_to_all(folder):
+def test_an_install_under_a_closed_umask_is_open_to_all(folder, packages):
     prefix = os.path.join(folder.path.decode(), "new", "prefix")
-    with unpacked(PACKAGES.version) as archive:
+    with packages.unpacked(packages.version) as archive:
         for mask in (0o077, 0o027, 0o002):
             same(install(archive, prefix, umask=mask)[1:], ("", 0), f"an install under {mask:o}")
             closed = {path: f"{mode:o}" for path, (mode, _) in looks(prefix).items() if mode not in (0o755, 0o644)}
@@ -335,12 +341,11 @@ def an_install_under_a_closed_umask_is_open_to_all(folder):
             shutil.rmtree(os.path.dirname(prefix))
 
 
-@case
-def an_exported_cdpath_leads_no_install_astray(folder):
+def test_an_exported_cdpath_leads_no_install_astray(folder, packages):
     """Elsewhere there are folders that are called as those of the archive, and hold nothing."""
     place = folder.path.decode()
     prefix, elsewhere, stage = (os.path.join(place, name) for name in ("prefix", "elsewhere", "stage"))
-    with unpacked(PACKAGES.version) as archive:
+    with packages.unpacked(packages.version) as archive:
         os.makedirs(os.path.join(elsewhere, "tools"))
         os.mkdir(os.path.join(elsewhere, os.path.basename(archive)))
         env = {**os.environ, "CDPATH": elsewhere}
@@ -358,11 +363,11 @@ def an_exported_cdpath_leads_no_install_astray(folder):
     same_looks(looks(elsewhere), empty, "what is made elsewhere")
 
 
-def installed(folder):
+def installed(folder, packages):
     """A folder with a product below it that has the site's own file, the prefix, and how the folder looks."""
     place = os.path.join(folder.path.decode(), "place")
     prefix = os.path.join(place, "prefix")
-    with unpacked(PACKAGES.version) as archive:
+    with packages.unpacked(packages.version) as archive:
         goes_well(["sh", os.path.join(archive, "install.sh"), prefix])
     write(os.path.join(prefix, "etc", "modulespath"), "/site\n")
     return place, prefix, looks(place)
@@ -374,12 +379,11 @@ def refuses(archive, prefix, said, **how):
     true(status == 1 and not out and said in err, f"an install that says {said!r}: found {(out, err, status)}")
 
 
-@case
-def an_install_that_lacks_a_file_changes_nothing(folder):
+def test_an_install_that_lacks_a_file_changes_nothing(folder, packages):
     """A later version is installed over another one, and where there is none. A folder is no file either."""
-    place, prefix, before = installed(folder)
+    place, prefix, before = installed(folder, packages)
     for name, is_folder in itertools.product(NEEDED, (False, True)):
-        with unpacked(PACKAGES.later) as archive:
+        with packages.unpacked(packages.later) as archive:
             os.remove(os.path.join(archive, name))
             if is_folder:
                 os.mkdir(os.path.join(archive, name))
@@ -388,11 +392,10 @@ def an_install_that_lacks_a_file_changes_nothing(folder):
         same_looks(looks(place), before, f"what an install without {name} changes")
 
 
-@case
-def an_install_that_finds_no_room_changes_nothing(folder):
+def test_an_install_that_finds_no_room_changes_nothing(folder, packages):
     """No file takes more bytes than these: a text is too long, and then a program. A folder stands in a file's place."""
-    place, prefix, before = installed(folder)
-    with unpacked(PACKAGES.later) as archive:
+    place, prefix, before = installed(folder, packages)
+    with packages.unpacked(packages.later) as archive:
         for most in (1000, 100_000):
 
             def limit(most=most):
@@ -409,9 +412,8 @@ def an_install_that_finds_no_room_changes_nothing(folder):
         same_looks(looks(place), before, "what an install over a folder changes")
 
 
-@case
-def relative_paths_begin_where_the_caller_stands(folder):
-    with unpacked(PACKAGES.version) as archive:
+def test_relative_paths_begin_where_the_caller_stands(packages):
+    with packages.unpacked(packages.version) as archive:
         near, name = os.path.split(archive)
         before = looks(archive)
         same(install(name, "/p", cwd=near, env={**os.environ, "DESTDIR": "one"})[1:], ("", 0), "install.sh")
@@ -427,31 +429,30 @@ def relative_paths_begin_where_the_caller_stands(folder):
         same([os.listdir(f"{near}/{stage}") for stage in ("one", "two")], [[], []], "what is left")
 
 
-@case
-def install_sh_refuses_what_it_cannot_do(folder):
-    with unpacked(PACKAGES.version) as archive:
+def test_install_sh_refuses_what_it_cannot_do(packages):
+    with packages.unpacked(packages.version) as archive:
         for words in (["relative"], ["/a'b"], ["/"], [""], ["--nope"], ["/a", "/b"]):
             out, err, status = run(["/bin/sh", os.path.join(archive, "install.sh"), *words])
             true(status != 0 and err and not out, f"install.sh {words}: found {(out, err, status)}")
 
 
-@case
-def shellcheck_has_nothing_to_say_of_install_sh(folder):
+def test_shellcheck_has_nothing_to_say_of_install_sh():
     same(run(["shellcheck", os.path.join(TOP, "package", "install.sh")]), ("", "", 0), "shellcheck")
 
 
-@case_where(HAS_DPKG, shutil.which("lintian"))
-def lintian_finds_no_errors(folder):
-    out, err, status = run(["lintian", "--allow-root", "--fail-on", "error", PACKAGES.debian(PACKAGES.version)])
+@needs_dpkg
+@needs_lintian
+def test_lintian_finds_no_errors(packages):
+    out, err, status = run(["lintian", "--allow-root", "--fail-on", "error", packages.debian(packages.version)])
     same(status, 0, f"lintian: {out}{err}")
 
 
-@case_where(IS_ROOT)
-def the_program_runs_alone_in_an_empty_root(folder):
+@needs_root
+def test_the_program_runs_alone_in_an_empty_root(folder, packages):
     alone = os.path.join(folder.path.decode(), "alone")
     os.makedirs(os.path.join(alone, "m/foo"))
     write(os.path.join(alone, "m/foo/1.0"), FOO)
-    with unpacked(PACKAGES.version) as archive:
+    with packages.unpacked(packages.version) as archive:
         shutil.copy(os.path.join(archive, "bin/modulecmd"), alone)
     env = {"MODULEPATH": "/m", "PATH": "/usr/bin:/bin"}
     out, err, status = run(["/modulecmd", "sh", "load", "foo"], alone, env=env)
@@ -460,55 +461,58 @@ def the_program_runs_alone_in_an_empty_root(folder):
     same([line for line in out.splitlines() if line.startswith(("FOO", "PATH"))], wanted, "what it prints")
 
 
-@case_where(IS_ROOT)
-def shells_log_in_by_the_links_of_an_archive(folder):
-    with MACHINE.is_as_before(), unpacked(PACKAGES.version) as archive:
-        shutil.copytree(archive, f"{MACHINE.root}/tmp/archive")
-        _, err, status = MACHINE.run(["sh", "/tmp/archive/install.sh", PREFIX])
+@needs_root
+def test_shells_log_in_by_the_links_of_an_archive(packages, machine):
+    with machine.is_as_before(), packages.unpacked(packages.version) as archive:
+        shutil.copytree(archive, f"{machine.root}/tmp/archive")
+        _, err, status = machine.run(["sh", "/tmp/archive/install.sh", PREFIX])
         same((err, status), ("", 0), "install.sh")
         for place, aim in LINKS.items():
-            os.symlink(f"{PREFIX}/init/{aim}", MACHINE.root + place)
-        MACHINE.write("/etc/zsh/zshrc", f". {PREFIX}/init/zsh\n")
-        MACHINE.log_in(*LOGINS)
+            os.symlink(f"{PREFIX}/init/{aim}", machine.root + place)
+        machine.write("/etc/zsh/zshrc", f". {PREFIX}/init/zsh\n")
+        machine.log_in(*LOGINS)
         for place in (*LINKS, "/etc/zsh/zshrc"):
-            os.remove(MACHINE.root + place)
-        _, err, status = MACHINE.run(["sh", "/tmp/archive/install.sh", "--uninstall", PREFIX])
+            os.remove(machine.root + place)
+        _, err, status = machine.run(["sh", "/tmp/archive/install.sh", "--uninstall", PREFIX])
         same((err, status), ("", 0), "install.sh --uninstall")
-        shutil.rmtree(f"{MACHINE.root}/tmp/archive")
+        shutil.rmtree(f"{machine.root}/tmp/archive")
 
 
-@case_where(IS_ROOT, HAS_DPKG)
-def shells_log_in_by_the_links_of_debian_s_package(folder):
-    with MACHINE.has(PACKAGES.debian(PACKAGES.version)):
-        MACHINE.log_in("sh", "bash", "tcsh", "fish")
-        MACHINE.write("/etc/zsh/zshrc", f". {DEBIAN}/init/zsh\n")
-        MACHINE.log_in("zsh")
-        os.remove(f"{MACHINE.root}/etc/zsh/zshrc")
-        out, err, _ = MACHINE.run(["modcheck", "sh"], input="load foo\nunload foo\n")
+@needs_root
+@needs_dpkg
+def test_shells_log_in_by_the_links_of_debian_s_package(packages, machine):
+    with machine.has(packages.debian(packages.version)):
+        machine.log_in("sh", "bash", "tcsh", "fish")
+        machine.write("/etc/zsh/zshrc", f". {DEBIAN}/init/zsh\n")
+        machine.log_in("zsh")
+        os.remove(f"{machine.root}/etc/zsh/zshrc")
+        out, err, _ = machine.run(["modcheck", "sh"], input="load foo\nunload foo\n")
         true("foo/1.0: Plain" in out + err, f"modcheck: found {out}{err}")
-        out, err, _ = MACHINE.run(["modaudit"])
+        out, err, _ = machine.run(["modaudit"])
         true("foo/1.0\tcertified" in out, f"modaudit: found {out}{err}")
 
 
-@case_where(IS_ROOT, HAS_DPKG)
-def removing_debian_s_package_keeps_the_site_s_file_and_purging_takes_it(folder):
+@needs_root
+@needs_dpkg
+def test_removing_debian_s_package_keeps_the_site_s_file_and_purging_takes_it(packages, machine):
     env = {"PATH": "/usr/bin:/bin", "HOME": "/root"}
-    before = MACHINE.listing()
-    with MACHINE.has(PACKAGES.debian(PACKAGES.version)):
-        MACHINE.write(OWN, "/modules\n")
-        same(MACHINE.run(LOGINS["bash"], env=env), (SHOWN, "", 0), "a login by the site's directories")
-        MACHINE.dpkg("-r", "modulecmd")
-        same(MACHINE.listing() - before, {os.path.dirname(OWN), OWN}, "what removing leaves")
+    before = machine.listing()
+    with machine.has(packages.debian(packages.version)):
+        machine.write(OWN, "/modules\n")
+        same(machine.run(LOGINS["bash"], env=env), (SHOWN, "", 0), "a login by the site's directories")
+        machine.dpkg("-r", "modulecmd")
+        same(machine.listing() - before, {os.path.dirname(OWN), OWN}, "what removing leaves")
 
 
-@case_where(IS_ROOT, HAS_DPKG)
-def debian_s_package_is_refused_beside_others_of_its_kind(folder):
+@needs_root
+@needs_dpkg
+def test_debian_s_package_is_refused_beside_others_of_its_kind(packages, machine):
     for other in ("environment-modules", "lmod"):
-        with MACHINE.is_as_before():
-            MACHINE.write("/var/lib/dpkg/status", INSTALLED.format(name=other))
-            said = MACHINE.dpkg("-i", PACKAGES.debian(PACKAGES.version), status=1)
+        with machine.is_as_before():
+            machine.write("/var/lib/dpkg/status", INSTALLED.format(name=other))
+            said = machine.dpkg("-i", packages.debian(packages.version), status=1)
             true(f"modulecmd conflicts with {other}" in said, f"beside {other}: {said}")
-    MACHINE.write("/var/lib/dpkg/status", "")
+    machine.write("/var/lib/dpkg/status", "")
 
 
 @contextlib.contextmanager
@@ -532,46 +536,25 @@ def session(root, env):
         same(shell.stdout.read(), "", "what the session says at its end")
 
 
-@case_where(IS_ROOT, HAS_DPKG)
-def an_upgrade_keeps_the_site_s_file_and_sessions_go_on(folder):
-    with MACHINE.has(PACKAGES.debian(PACKAGES.version)):
-        MACHINE.write(OWN, "# ours\n/modules\n")
-        with session(MACHINE.root, {"PATH": "/usr/bin:/bin", "HOME": "/root"}) as answer:
+@needs_root
+@needs_dpkg
+def test_an_upgrade_keeps_the_site_s_file_and_sessions_go_on(packages, machine):
+    with machine.has(packages.debian(packages.version)):
+        machine.write(OWN, "# ours\n/modules\n")
+        with session(machine.root, {"PATH": "/usr/bin:/bin", "HOME": "/root"}) as answer:
             same(answer("module load foo; echo $FOO $PATH"), "on /opt/foo/bin:/usr/bin:/bin\n", "a load")
-            MACHINE.dpkg("-i", PACKAGES.debian(PACKAGES.later))
-            true(PACKAGES.later in answer("module --version"), "the later version is there")
+            machine.dpkg("-i", packages.debian(packages.later))
+            true(packages.later in answer("module --version"), "the later version is there")
             same(answer("module unload foo; echo $PATH ${FOO-gone}"), "/usr/bin:/bin gone\n", "an unload")
             same(answer("module load foo; echo $FOO"), "on\n", "another load")
-        same(read(MACHINE.root + OWN), b"# ours\n/modules\n", "the site's file")
+        same(read(machine.root + OWN), b"# ours\n/modules\n", "the site's file")
 
 
-@case_where(IS_ROOT, HAS_DPKG)
-def the_variables_of_a_session_of_the_first_version_are_read(folder):
+@needs_root
+@needs_dpkg
+def test_the_variables_of_a_session_of_the_first_version_are_read(packages, machine):
     env = {"PATH": "/opt/foo/bin:/usr/bin:/bin", "MODULEPATH": "/modules", "FOO": "on"}
     env.update(LOADEDMODULES="foo/1.0", _LMFILES_="/modules/foo/1.0")
     line = f". {DEBIAN}/init/bash; module unload foo; echo $PATH ${{FOO-gone}} ${{LOADEDMODULES-none}}"
-    with MACHINE.has(PACKAGES.debian(PACKAGES.later)):
-        same(MACHINE.run(["bash", "-c", line], env=env), ("/usr/bin:/bin gone none\n", "", 0), "an unload")
-
-
-def main():
-    for fact, what in ((IS_ROOT, "root"), (HAS_DPKG, "dpkg"), (shutil.which("lintian"), "lintian")):
-        if not fact:
-            print(f"not run: what takes {what}")
-    with tempfile.TemporaryDirectory(prefix="modulecmd-package-") as room:
-        os.chmod(room, 0o755)
-        try:
-            PACKAGES.make(room)
-            if IS_ROOT:
-                MACHINE.lay_out(os.path.join(room, "machine"))
-        except Exception as found:
-            print(f"FAILED: there are no packages, or no root to install them in: {found}")
-            print("package: 0 passed, 1 failed")
-            return 1
-        passed, failed = run_all(sys.argv[1])
-    print(f"package: {passed} passed, {failed} failed")
-    return 1 if failed else 0
-
-
-if __name__ == "__main__":
-    sys.exit(main())
+    with machine.has(packages.debian(packages.later)):
+        same(machine.run(["bash", "-c", line], env=env), ("/usr/bin:/bin gone none\n", "", 0), "an unload")
