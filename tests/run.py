@@ -60,7 +60,7 @@ SUITES = (
     ("memory.py", "modulecmd"),
     ("numbers.py", "cases_requests"),
     ("device.py",),
-    ("hostile.py", "modulecmd"),
+    ("hostile.py",),
     ("search.py",),
     ("shells/run.py", "modulecmd"),
     ("pages.py", "modulecmd"),
