@@ -7,290 +7,183 @@ is of a certified module and each unload of one that the session loaded. After e
 shell are those that a model makes (`sentence.py`, `runs.py`), in which what is loaded stands over the start as its file
 means; and after the last one `env -0` writes what it wrote at the start.
 
-    python3 -B tests/certified.py PROGRAM [RUNS [SEED [SHELL]]]
+The program `modaudit` has to say the same of each site: how its modules stand, in which order, their certificate, and that
+the start agrees with it.
 
-The program `modaudit`, which stands beside it, has to say the same of each site: how its modules stand, in which order,
-their certificate, and that the start agrees with it.
-
-Runs are numbered from SEED on (0); SHELL is sh, tcsh or fish. Without a program (a folder in its place) the model alone
-is run, and besides with clauses of the definition left out, each of which has to lose a start or what is loaded.
+The model alone is run too, and besides with clauses of the definition left out, each of which has to lose a start or what
+is loaded.
 """
 
 import json
-import os
-import random
 import subprocess
-import sys
-import tempfile
+
+import pytest
+from hypothesis import Phase, find, given, reject, settings
+from hypothesis import strategies as st
 
 from tests import runs as model
 from tests import sentence, standings
+from tests.harness import same, true
+from tests.properties import SPELLINGS, examples, several
+from tests.sentence import Lost
 from tests.standings import MODULEPATH, SiteModule
 
-RUNS = 300
-
-# How many sites the model alone goes through, and how many at most until a clause that is left out loses something.
-MODEL_SITES = 1500
+# How many sites the model alone goes through until a clause that is left out loses something, at most.
 MOST_SITES = 20_000
-
-VARIABLES = ["A", "B", "C", "D", "E_1"]
-QUESTIONS = ["module-info mode load\n", "if {[is-loaded nothing]} {}\n", "info exists env(HOME)\n", "module-info shell\n"]
-TRIES = 40
-
-
-class NoStart(Exception):
-    """No start was found that agrees with a certificate."""
-
-
-class Lost(Exception):
-    """The environment isn't in order, or what is loaded doesn't stand over the start."""
-
-
-# Sites.
-
-
-class Module(sentence.Module):
-    """A modulefile that may ask, or may be refused by its own `exit`."""
-
-    def __init__(self, rng, records, asks, fault):
-        super().__init__(rng, records)
-        self.asks = asks
-        self.fault = fault
-        self.text += rng.choice(QUESTIONS) if asks else ""
-        self.text += "exit\n" if fault else ""
-
-
-def some_use(rng, words):
-    paths = [("path", rng.choice(["b", ";", " ", ":"])), ("path", ":"), ("path", ":")]
-    return rng.choice([("fixed", None), ("fixed", rng.choice(words)), *paths, ("stack",), ("stack",)])
-
-
-class Tree(sentence.Tree):
-    """Directories of modulefiles: how most of them use each variable, and of which folders the modules exclude each other,
-    is decided once for all."""
-
-    def __init__(self, rng, names, words, top):
-        self.words = words
-        self.modules, self.defaults = {}, {}
-        self.dirs = [os.path.join(top, name) for name in ("one", "two", "three", "four")]
-        self.names = sentence.ALONE + [f"{at}/{version}" for at, its in sentence.FOLDERS.items() for version in its]
-        self.ways = {name: some_use(rng, words) for name in names}
-        self.strays = rng.choice([0.0, 0.05, 0.2])
-        self.exclusive = {folder: rng.choice(["", "each", "some"]) for folder in sentence.FOLDERS}
-        for directory in self.dirs:
-            for name in self.names:
-                if rng.random() < 0.3:
-                    self.modules[f"{directory}/{name}"] = self.module(rng, name)
-            for folder, versions in sentence.FOLDERS.items():
-                if rng.random() < 0.3:
-                    file_name = rng.choice([".version", ".modulerc"])
-                    self.defaults[f"{directory}/{folder}"] = (file_name, folder, rng.choice(versions))
-
-    def module(self, rng, name):
-        records = [self.record(rng, name) for _ in range(rng.randint(0, 3))]
-        records += self.conflicts(rng, name)
-        if rng.random() < 0.2:
-            records.append(self.directory(rng))
-        if rng.random() < 0.06:
-            variable = rng.choice(sorted(self.ways))
-            records.append(rng.choice([("unsetenv", variable, None), ("remove-path", ":", variable, ["/opt/b"])]))
-        rng.shuffle(records)
-        asks, fault = rng.random() < 0.06, rng.random() < 0.04
-        return Module(rng, records, asks, "Stopped by the modulefile" if fault else None)
-
-    def record(self, rng, name):
-        """A record of a variable: mostly of one that modules of this name may set beside others."""
-        is_exclusive = bool(self.exclusive.get(name.rpartition("/")[0]))
-        shared = [one for one, use in sorted(self.ways.items()) if is_exclusive or use[0] != "fixed"]
-        variable = rng.choice(shared if shared and rng.random() < 0.8 else sorted(self.ways))
-        use = some_use(rng, self.words) if rng.random() < self.strays else self.ways[variable]
-        return sentence.some_record(rng, variable, use, self.dirs)
-
-    def conflicts(self, rng, name):
-        folder = name.rpartition("/")[0]
-        way = self.exclusive.get(folder)
-        if way == "each" or (way == "some" and rng.random() < 0.6):
-            versions = [f"{folder}/{version}" for version in sentence.FOLDERS[folder]]
-            return [("conflict", rng.choice([[folder], versions, versions[:1]]))]
-        if rng.random() < 0.15:
-            others = ["m", "k", "z", "z/1", "n", "w", "w_1", "m/1", "c", "a"]
-            return [(rng.choice(["conflict", "conflict", "prereq"]), [rng.choice(others) for _ in range(rng.randint(1, 2))])]
-        return []
-
-    def directory(self, rng):
-        """A directory that a module adds; rarely otherwise than as a path with colons."""
-        added = rng.choice(self.dirs)
-        if rng.random() < 0.06:
-            return ("pushenv", MODULEPATH, added)
-        delim = ";" if rng.random() < 0.06 else ":"
-        return (rng.choice(["prepend-path", "append-path"]), delim, MODULEPATH, [added])
-
-    def modules_in(self, directory):
-        """The modules of a directory, in the order of their names."""
-        names = [name for name in self.names if f"{directory}/{name}" in self.modules]
-        return [self.site_module(name, f"{directory}/{name}") for name in names]
-
-    def site_module(self, name, path):
-        module = self.modules[path]
-        return SiteModule(name, path, module.records, module.asks, module.fault)
-
-
-# Starts.
-
-
-def put_value(rng, env, name, use, site):
-    """Gives a variable what a use of it may find."""
-    if use[0] == "fixed":
-        model.put(env, name, use[1])
-    elif use[0] == "path":
-        held = [rng.choice(site.tree.dirs) for _ in range(rng.randint(1, 2))] if name == MODULEPATH else None
-        held = held or (sentence.elements(rng, use[1], 0) if rng.random() < 0.7 else [])
-        model.write_path(env, name, use[1], held, {x: rng.choice([1, 1, 2, 3, model.MOST - 1]) for x in held})
-    elif site.olds and rng.random() < 0.4:
-        owners = rng.sample(site.olds, rng.randint(1, len(site.olds)))
-        items = [(owner, rng.choice(site.words)) for owner in owners] + [(None, rng.choice(site.words))] * rng.randint(0, 1)
-        model.write_stack(env, name, items)
-        model.put(env, name, items[0][1])
-    elif rng.random() < 0.5:
-        model.put(env, name, rng.choice(site.words))
-
-
-def put_anything(rng, env, name, words):
-    """Gives a variable that no certified module uses whatever it may have."""
-    if rng.random() < 0.6:
-        env[name] = rng.choice(words)
-    if rng.random() < 0.2:
-        env[model.SHARE + name] = rng.choice(["", "::", "x:2", "/opt/b:02:/opt/b:3"])
-    if rng.random() < 0.1:
-        env[model.STACK + name] = rng.choice(["no stack", "x&1", ""])
 
 
 class Site:
     """A tree, a MODULEPATH where its site begins, and what is certified there."""
 
-    def __init__(self, rng, names, words, top):
-        self.words = words
-        self.tree = Tree(rng, names, words, top)
-        self.modulepath = ":".join(rng.sample(self.tree.dirs, rng.randint(1, 3)))
-        self.modules = standings.site_modules(self.modulepath, self.tree.modules_in)
+    def __init__(self, tree, modulepath):
+        self.tree = tree
+        self.modulepath = modulepath
+        self.modules = standings.site_modules(modulepath, self.modules_in)
         self.certified = standings.certified(self.modules)
         self.uses = standings.certificate(self.modules)
-        self.olds = []
 
-    def some_start(self, rng):
-        """An environment that agrees with the certificate. Its MODULEPATH may lead elsewhere too."""
-        env = {"HOME": "/home/x y", "OTHER": rng.choice(self.words), "__MODULES_ELSE": "x"}
-        groups = rng.choice([[], [["g"]], [["a", "q"], ["old"]]])
-        self.olds = [name for name in [*model.OLD, "m/1", "n"] if rng.random() < 0.2]
-        entries = [(name, "/o/" + name, rng.choice([[], ["c"], ["m/10", "d"], ["k"]]), groups) for name in self.olds]
-        model.write_loaded(env, entries)
-        for name in [*self.tree.ways, MODULEPATH]:
-            env = self.with_variable(rng, env, name)
-        return env
+    def modules_in(self, directory):
+        """The modules of a directory, in the order of their names."""
+        paths = [(name, f"{directory}/{name}") for name in sentence.NAMES]
+        return [self.site_module(name, path) for name, path in paths if path in self.tree.modules]
 
-    def with_variable(self, rng, env, name):
-        uses = [use for its, use in self.uses if its == name]
-        for _ in range(TRIES):
-            made = dict(env)
-            if uses:
-                put_value(rng, made, name, rng.choice(uses), self)
-            elif name == MODULEPATH:
-                made[name] = ":".join([*rng.sample(self.tree.dirs, rng.randint(1, 4)), *rng.choice([[], [""], ["/none"]])])
-            else:
-                put_anything(rng, made, name, self.words)
-            if all(standings.agrees_with_use(made, name, use) for use in uses):
-                return made
-        raise NoStart
+    def site_module(self, name, path):
+        module = self.tree.modules[path]
+        return SiteModule(name, path, module.records, module.asks, module.fault)
+
+
+# Random sites: most modules use a variable in one way, and those of some folders exclude each other.
+
+
+ODD_LINES = [
+    ("asks", "module-info mode load"),
+    ("asks", "if {[is-loaded nothing]} {}"),
+    ("asks", "info exists env(HOME)"),
+    ("asks", "module-info shell"),
+    *[("exits",)] * 3,
+]
+OTHERS = ("m", "k", "z", "z/1", "n", "w", "w_1", "m/1", "c", "a")
+
+
+def odd_lines(variables):
+    """What keeps a module from being certified."""
+    unset = [("unsetenv", name, None) for name in variables]
+    return st.sampled_from(ODD_LINES + unset + [("remove-path", ":", name, ["/opt/b"]) for name in variables])
+
+
+def added_directories(dirs):
+    """Records that add a directory; rarely otherwise than as a path with colons."""
+    kinds = ("prepend-path", "append-path")
+    added = [(kind, ":", MODULEPATH, [one]) for one in dirs for kind in kinds]
+    odd = [(kind, ";", MODULEPATH, [one]) for one in dirs[:1] for kind in kinds]
+    return st.sampled_from(added * 2 + odd + [("pushenv", MODULEPATH, one) for one in dirs[:1]])
+
+
+def conflicts(folder):
+    """Conflicts of a module with others of its folder."""
+    versions = [f"{folder}/{version}" for version in sentence.FOLDERS[folder]]
+    return st.sampled_from([("conflict", [folder]), ("conflict", versions), ("conflict", versions[:1])])
+
+
+@st.composite
+def lines(draw, dirs, kinds):
+    """A line of a modulefile in a folder, for each of which there are kinds of records."""
+    path = draw(sentence.places(dirs))
+    return path, draw(kinds[sentence.folder_of(path)]), draw(SPELLINGS)
+
+
+@st.composite
+def sites(draw, shell, dirs):
+    """A site, in which modules that may be loaded at once mostly don't set or unset one variable."""
+    variables = sentence.variables(shell)
+    ways = [(name, draw(sentence.ways(shell))) for name in variables]
+    strays = draw(st.lists(st.tuples(st.sampled_from(variables), sentence.ways(shell)), max_size=2))
+    exclusive = {folder: draw(st.sampled_from(["", "some", "all", "first"])) for folder in sentence.FOLDERS}
+    found = {(name, way): sentence.records(name, way, dirs) for name, way in ways + strays}
+    every = [*found.values(), added_directories(dirs), odd_lines(variables), sentence.QUIET]
+    shared = [found[name, way] for name, way in ways if way[0] != "fixed"] * 4
+    shared += [*every, model.needs(OTHERS, ("conflict", "conflict", "prereq"))]
+    kinds = {"": st.one_of(*shared)}
+    for folder, way in exclusive.items():
+        kinds[folder] = st.one_of(*every, *[conflicts(folder)] * 4 * (way == "some")) if way else kinds[""]
+    first = {folder: [f"{folder}/{versions[0]}"] for folder, versions in sentence.FOLDERS.items()}
+    in_all = {folder: {"all": [folder], "first": first[folder]}.get(way) for folder, way in exclusive.items()}
+    tree = draw(sentence.trees(dirs, lines(dirs, kinds), in_all))
+    start = draw(st.lists(st.sampled_from(dirs), min_size=1, max_size=3, unique=True))
+    return Site(tree, ":".join(start))
+
+
+# Starts.
+
+CONFLICTS = st.sampled_from([[], ["c"], ["m/10", "d"], ["k"]])
+OLD = (*model.OLD, "m/1", "n")
+ODD_SHARES, ODD_STACKS = [None] * 12 + ["", "::", "x:2", "/opt/b:02:/opt/b:3"], [None] * 27 + ["no stack", "x&1", ""]
+
+
+@st.composite
+def anything(draw, name, shell, dirs):
+    """A variable that no certified module uses has whatever it may have."""
+    if name == MODULEPATH:
+        return {name: ":".join(draw(st.lists(st.sampled_from([*dirs, *dirs, "", "/none"]), min_size=1, max_size=5)))}
+    words = sentence.startable(shell)
+    found = {
+        name: draw(st.sampled_from([None] * len(words) + [*words])),
+        model.SHARE + name: draw(st.sampled_from(ODD_SHARES)),
+        model.STACK + name: draw(st.sampled_from(ODD_STACKS)),
+    }
+    return {key: value for key, value in found.items() if value is not None}
+
+
+@st.composite
+def starts(draw, site, shell):
+    """An environment that agrees with the certificate. Its MODULEPATH may lead elsewhere too."""
+    env = {"HOME": "/home/x y", "OTHER": draw(st.sampled_from(sentence.startable(shell))), "__MODULES_ELSE": "x"}
+    entries = draw(model.old_entries(OLD, CONFLICTS, sentence.GROUPS))
+    model.write_loaded(env, entries)
+    owners = tuple(entry[0] for entry in entries)
+    for name in [*sentence.variables(shell), MODULEPATH]:
+        its = [use for used, use in site.uses if used == name]
+        if not its:
+            env.update(draw(anything(name, shell, site.tree.dirs)))
+            continue
+        found = draw(sentence.held(name, draw(st.sampled_from(its)), owners, shell, site.tree.dirs))
+        env.update(fitting(env, name, its, [found, *({name: use[1]} for use in its if use[0] == "fixed" and use[1]), {}]))
+    return sentence.in_a_shell(env, shell)
+
+
+def fitting(env, name, its, ways):
+    """The first of these that agrees with all uses of a variable."""
+    for found in ways:
+        if all(standings.agrees_with_use({**env, **found}, name, use) for use in its):
+            return found
+    return reject()
 
 
 # Sessions.
 
 
-class Step(sentence.Step):
-    """One command, and the moves that it makes."""
+class Session(sentence.Session):
+    """A session over a site: it loads what is certified, and unloads what it has loaded."""
 
-    def __init__(self, tree, env):
-        super().__init__(tree, env)
-        self.moves = []
+    def __init__(self, site, *given):
+        super().__init__(*given)
+        self.site = site
+        self.places = {(module.name, module.path): module for module in site.certified}
 
-    def edited(self, kind, name, path):
-        module = super().edited(kind, name, path)
-        if module.fault:
-            raise sentence.Refusal(module.fault)
-        self.moves.append((kind, name, path))
-        return module
+    def __repr__(self):
+        return f"{super().__repr__()}, the site of {self.site.modulepath}"
 
-
-class Run:
-    """A site, a start that agrees with its certificate, and commands with what each has to do."""
-
-    def __init__(self, number, top, shell):
-        rng = random.Random(number)
-        self.shell = shell
-        names = [*VARIABLES, *(["PATH", "LANG"] if shell == "sh" else [])]
-        # What a start holds has a text, so that it can be given back.
-        words = [word for word in sentence.WORDS if shell != "tcsh" or "\n" not in word]
-        self.site, self.env = some_site(rng, names, words, os.path.join(top, "tree"))
-        self.env = self.start = dict(self.env, PWD=top)
-        if shell != "sh":
-            self.start.update(PATH=os.environ["PATH"], LANG="C.UTF-8")
-        if not standings.agrees(self.start, self.site.uses):
-            raise AssertionError(f"run {number} doesn't begin in agreement")
-        self.places = {(module.name, module.path): module for module in self.site.certified}
-        self.first = model.loaded_in(self.start)
-        self.commands = []
-        self.fill(rng)
-
-    @property
-    def tree(self):
-        return self.site.tree
-
-    def fill(self, rng):
-        wanted, tries = rng.randint(5, 20), 0
-        others = [name for name in self.tree.names if rng.random() < 0.15]
-        names = sorted({name for name, _ in self.places}) * 3 + others
-        while names and len(self.commands) < wanted and tries < 300:
-            tries += 1
-            self.take(sentence.some_command(rng, names, not self.first))
-        left = [module.name for module in reversed(self.live())]
-        for name in left:
-            if rng.random() < 0.5:
-                self.take(["unload", name])
-        left = [module.name for module in reversed(self.live())]
-        self.take(["unload", *left] if left else ["unload", "nope"])
-        if self.env != self.start:
-            raise Lost("the last unload doesn't leave the start")
-
-    def live(self):
-        """The modules that this session loaded and that are loaded still, oldest first."""
-        entries = model.loaded_in(self.env)[len(self.first) :]
-        return [self.places[name, path] for name, path, _, _ in entries]
-
-    def take(self, words):
-        """Adds a command, but one that loads what isn't certified or unloads what was there at the start."""
-        step = Step(self.tree, self.env)
-        try:
-            step.make(words)
-        except sentence.Refusal as refusal:
-            self.commands.append((words, self.env, f"ERROR: {refusal}\n", 1))
-            return
-        mine = {(name, path) for name, path, *_ in model.loaded_in(self.env)[len(self.first) :]}
-        for kind, name, path in step.moves:
-            if (kind == "load" and (name, path) not in self.places) or (kind == "unload" and (name, path) not in mine):
-                return
-            mine.add((name, path))
-        before, self.env = self.env, step.env
-        unsaid = sentence.Run.unsaid(self, before)
-        if unsaid:
-            self.env = before
-            self.commands.append((words, before, f"ERROR: Value of '{unsaid}' can't be said in this shell\n", 1))
-            return
-        self.stands(words)
-        self.commands.append((words, self.env, step.said, 0))
+    def is_fit(self, before, step):
+        mine = {(name, path) for name, path, *_ in model.loaded_in(before)[len(self.old) :]}
+        for kind, *place in step.moves:
+            if tuple(place) not in (self.places if kind == "load" else mine):
+                return False
+            mine.add(tuple(place))
+        return True
 
     def stands(self, words):
-        live = self.live()
-        uses = {} if not live else truly(standings.uses_by, live)
+        live = [self.places[place] for place in self.live()]
+        uses = truly(standings.uses_by, live) if live else {}
         if not model.in_order(uses, self.env):
             raise Lost(f"the environment isn't in order after {words}")
         if not model.stands(uses, self.start, [(one.name, one.path, one.records) for one in live], self.env):
@@ -308,14 +201,15 @@ def truly(function, *arguments):
         standings.WITHOUT = kept
 
 
-def some_site(rng, names, words, top):
-    """A site, and a start that agrees with its certificate."""
-    while True:
-        site = Site(rng, names, words, top)
-        try:
-            return site, site.some_start(rng)
-        except NoStart:
-            pass
+@st.composite
+def sessions(draw, shell, top, folders=("one", "two", "three", "four")):
+    site = draw(sites(shell, tuple(f"{top}/tree/{name}" for name in folders)))
+    start = {**draw(starts(site, shell)), "PWD": top}
+    sure = sorted({module.name for module in site.certified})
+    sure += [name.rpartition("/")[0] or name for name in sure]
+    names = st.sampled_from(sure * 12 + site.tree.names() + sentence.ODD_NAMES)
+    words = draw(several(sentence.commands(names, not model.loaded_in(start)), 32))
+    return Session(site, shell, site.tree, start, words, draw(sentence.ENDS))
 
 
 # The program that judges sites.
@@ -367,78 +261,67 @@ def disagrees(found, site, env):
     return None if said == wanted else f"the disagreements: {said!r}, by the model {wanted!r}"
 
 
-def audited(program, run):
-    """What modaudit says otherwise than the model of the site of a run, and of its start, or none."""
-    program = os.path.join(os.path.dirname(program), "modaudit")
-    try:
-        found = differs(audit_of(program, run.site, {}), run.site)
-        return found or disagrees(audit_of(program, run.site, run.start), run.site, run.start)
-    except Lost as lost:
-        return str(lost)
+def audited(program, session):
+    """modaudit says the same as the model of the site of a session, and of its start."""
+    site, start = session.site, session.start
+    same(differs(audit_of(program, site, {}), site), None, "what differs from the model")
+    same(disagrees(audit_of(program, site, start), site, start), None, "what differs of the start")
 
 
 # All of it.
 
 
-def in_a_shell(program, count, seed, shell):
-    """Runs sessions, and gives how many of them failed."""
-    program = os.path.abspath(program)
-    failed = refused = accepted = modules = sure = 0
-    for number in range(seed, seed + count):
-        with tempfile.TemporaryDirectory(prefix="certified-") as top:
-            top = os.path.realpath(top)
-            run = Run(number, top, shell)
-            run.tree.write()
-            found = audited(program, run) or sentence.lost(run, program, top)
-            accepted += sum(1 for one in run.commands if one[3] == 0)
-            refused += sum(1 for one in run.commands if one[3] == 1)
-            modules += len(run.site.modules)
-            sure += len(run.site.certified)
-            if found:
-                failed += 1
-                print(f"FAILED: run {number}: {found}", flush=True)
-    print(f"{count} sites of {modules} modules, {sure} of them certified; {accepted} accepted commands, {refused} refused")
-    return failed
+def begun(session):
+    """A session whose start agrees with the certificate."""
+    true(standings.agrees(session.start, session.site.uses), "the start agrees with the certificate")
+    return session
 
 
-def loses_by(number):
-    """What the model loses in a run, or none."""
+def tried(programs, top, shell, data):
+    session = begun(data.draw(sessions(shell, sentence.emptied(top))))
+    session.tree.write()
+    audited(programs["modaudit"], session)
+    sentence.follows(programs["modulecmd"], session, str(top))
+
+
+@pytest.fixture(scope="module")
+def programs(built):
+    return {name: built(name) for name in ("modulecmd", "modaudit")}
+
+
+@examples(300)
+@given(data=st.data())
+def test_sessions_in_sh(programs, tmp_path, data):
+    tried(programs, tmp_path / "top", "sh", data)
+
+
+@pytest.mark.parametrize("shell", ["tcsh", "fish"])
+@examples(40)
+@given(data=st.data())
+def test_sessions_in_other_shells(programs, tmp_path, shell, data):
+    tried(programs, tmp_path / "top", shell, data)
+
+
+# The model alone.
+
+
+@examples(500)
+@given(sessions("sh", "/t"))
+def test_the_model_loses_nothing(session):
+    begun(session).follow()
+
+
+def loss_of(session):
     try:
-        Run(number, "/t", "sh")
+        begun(session).follow()
     except Lost as lost:
         return str(lost)
     return None
 
 
-def loses_without(clause, most):
-    """The first run in which the model loses something, a clause of the definition being left out, and what; or none."""
-    standings.WITHOUT = clause
-    try:
-        return next(((number, lost) for number in range(most) if (lost := loses_by(number))), None)
-    finally:
-        standings.WITHOUT = ""
-
-
-def over_the_model(sites):
-    """Gives how many checks there were, and how many of them failed."""
-    found = loses_without("", sites)
-    print(f"FAILED: run {found[0]}: {found[1]}" if found else f"ok: {sites} sites, and nothing is lost")
-    failed = bool(found)
-    for clause in standings.CLAUSES:
-        found = loses_without(clause, MOST_SITES)
-        failed += not found
-        print(f"ok: without {clause}, run {found[0]}: {found[1]}" if found else f"FAILED: nothing is lost without {clause}")
-    return 1 + len(standings.CLAUSES), failed
-
-
-def main(program, count=RUNS, seed=0, shell="sh"):
-    if os.path.isdir(program):
-        count, failed = over_the_model(MODEL_SITES)
-    else:
-        failed = in_a_shell(program, int(count), int(seed), shell)
-    print(f"{int(count) - failed} passed, {failed} failed")
-    return 1 if failed else 0
-
-
-if __name__ == "__main__":
-    sys.exit(main(*sys.argv[1:]))
+@pytest.mark.parametrize("clause", standings.CLAUSES)
+def test_each_clause_is_needed(clause, monkeypatch, note):
+    monkeypatch.setattr(standings, "WITHOUT", clause)
+    dense = sessions("sh", "/t", ("one",))
+    found = find(dense, loss_of, settings=settings(max_examples=MOST_SITES, phases=[Phase.generate]))
+    note(f"without it {loss_of(found)}")

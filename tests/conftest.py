@@ -3,16 +3,21 @@
     python3 -B -m pytest tests/rows.py -k counters
 
 At the end stands what wasn't run and why, and then how many cases passed and how many failed. A case that compares rows
-counts as that many.
+counts as that many, and a property that holds as many as it had examples.
 """
 
 import collections
+import functools
+import itertools
 import os
 import sys
 import tempfile
 
 import pytest
+from hypothesis import HealthCheck, settings
+from hypothesis.configuration import set_hypothesis_home_dir
 
+from tests import properties
 from tests.harness import Folder, refuser
 
 sys.dont_write_bytecode = True
@@ -23,6 +28,26 @@ SHOWN = 20
 
 def pytest_addoption(parser):
     parser.addoption("--program-dir", default="build/bin", help="the folder of the built programs (%(default)s)")
+    parser.addoption("--examples", type=int, help="how many examples each property has, in place of its own number")
+
+
+def pytest_configure(config):
+    """Properties have the same examples in each run, but with `--hypothesis-seed`. What hypothesis keeps on the disk isn't
+    left there. Examples share the fixtures of their property."""
+    properties.CHOSEN = config.getoption("examples")
+    room = tempfile.TemporaryDirectory(prefix="modulecmd-hypothesis-")
+    config.add_cleanup(room.cleanup)
+    set_hypothesis_home_dir(room.name)
+    settings.register_profile(
+        "suites",
+        database=None,
+        deadline=None,
+        derandomize=config.getoption("--hypothesis-seed") is None,
+        print_blob=True,
+        report_multiple_bugs=False,
+        suppress_health_check=[HealthCheck.function_scoped_fixture, HealthCheck.too_slow],
+    )
+    settings.load_profile("suites")
 
 
 @pytest.fixture(scope="session")
@@ -78,6 +103,27 @@ def judge_rows(record_property):
 def note(record_property):
     """Has a line stand in the report, also where the case passes."""
     return lambda text: record_property("note", text)
+
+
+@pytest.hookimpl(hookwrapper=True)
+def pytest_pyfunc_call(pyfuncitem):
+    """Counts the examples of a property that holds."""
+    handle = getattr(pyfuncitem.obj, "hypothesis", None)
+    if handle is None:
+        yield
+        return
+    inner, tried = handle.inner_test, itertools.count()
+
+    @functools.wraps(inner)
+    def counting(*arguments, **named):
+        inner(*arguments, **named)
+        next(tried)
+
+    handle.inner_test = counting
+    outcome = yield
+    handle.inner_test = inner
+    if outcome.excinfo is None:
+        pyfuncitem.user_properties.append(("rows", next(tried)))
 
 
 def rows_of(report):

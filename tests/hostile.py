@@ -1,28 +1,33 @@
 """What the built program does with hostile folders, files, names, variables and scripts.
 
-    python3 -B tests/hostile.py PROGRAM
-
 The expected texts are typed by hand from the rules of the program. Whatever is there, a command ends in time: by status
 0, or by status 1 with one line `ERROR: ` and nothing on standard output.
 """
 
 import os
-import random
 import re
 import resource
 import socket
 import subprocess
-import sys
-import time
+
+import pytest
+from hypothesis import given
+from hypothesis import strategies as st
 
 from tests import runs
-from tests.harness import FOO, NOBODY, case, encoded, loaded, run_all, same, true
+from tests.harness import FOO, NOBODY, encoded, loaded, same, true
+from tests.properties import examples, several
 from tests.shells.texts import text as text_for
 from tests.worked import FILES
 
 SECONDS = 20
 MOST_BYTES = 1_048_576
 COOKIE = b"#%Module\n"
+
+
+@pytest.fixture(autouse=True, scope="module")
+def no_core_files():
+    resource.setrlimit(resource.RLIMIT_CORE, (0, resource.getrlimit(resource.RLIMIT_CORE)[1]))
 
 
 def within(folder, words, env, cwd=None, user=None):
@@ -84,8 +89,7 @@ def reports(folder, words, text, env, cwd=None):
 # Links.
 
 
-@case
-def a_ring_of_links_in_modulepath(folder):
+def test_a_ring_of_links_in_modulepath(folder):
     ring = os.path.join(folder.path, b"ring")
     os.symlink(b"gnir", ring)
     os.symlink(b"ring", os.path.join(folder.path, b"gnir"))
@@ -98,8 +102,7 @@ def a_ring_of_links_in_modulepath(folder):
     folder.accepts(["sh", "load", "foo/1"], b"A='b'; export A;\n" + names + paths, env=env)
 
 
-@case
-def a_ring_of_links_among_versions(folder):
+def test_a_ring_of_links_among_versions(folder):
     folder.module("d/1", "setenv A b\n")
     os.symlink("3", folder.at("d/2"))
     os.symlink("2", folder.at("d/3"))
@@ -109,16 +112,14 @@ def a_ring_of_links_among_versions(folder):
     loads(folder, "d/1", "d/1", folder.at("d/1"), folder.environment(A="b"))
 
 
-@case
-def a_ring_of_links_as_default_file(folder):
+def test_a_ring_of_links_as_default_file(folder):
     folder.module("d/1", "")
     os.symlink(".modulerc", folder.at("d/.modulerc"))
     folder.refuses(["sh", "load", "d"], "Reading failed")
     loads(folder, "d/1", "d/1", folder.at("d/1"), folder.environment())
 
 
-@case
-def a_folder_that_links_to_itself(folder):
+def test_a_folder_that_links_to_itself(folder):
     folder.module("loop/a", "")
     os.symlink(".", folder.at("loop/loop"))
     text = folder.modules + b":\nloop/a\nloop/loop/a\nloop/loop/loop/a\n"
@@ -127,8 +128,7 @@ def a_folder_that_links_to_itself(folder):
     loads(folder, "loop/loop", "loop/loop/a", folder.modules + b"/loop/loop/a", folder.environment())
 
 
-@case
-def dangling_links(folder):
+def test_dangling_links(folder):
     os.symlink("nothing", folder.at("d/2"))
     os.symlink("nothing", folder.at("d/.modulerc"))
     folder.refuses(["sh", "load", "d"], "Unable to locate a modulefile for 'd'")
@@ -141,8 +141,7 @@ def dangling_links(folder):
 # Other things than files and folders.
 
 
-@case
-def a_folder_where_a_file_should_be(folder):
+def test_a_folder_where_a_file_should_be(folder):
     folder.module("d/1/x", "setenv A b\n")
     folder.module("e/9/y", "")
     os.makedirs(folder.at("f/1"))
@@ -158,8 +157,7 @@ def a_folder_where_a_file_should_be(folder):
     folder.refuses(["sh", "unload", "d"], b"No file at '" + folder.at("d/1") + b"'", env=held)
 
 
-@case
-def a_file_where_a_folder_should_be(folder):
+def test_a_file_where_a_folder_should_be(folder):
     path = folder.module("foo/1", FOO)
     for name in ("foo/1/x", "foo/1/x/y"):
         folder.refuses(["sh", "load", name], f"Unable to locate a modulefile for '{name}'")
@@ -168,8 +166,7 @@ def a_file_where_a_folder_should_be(folder):
     reports(folder, ["sh", "avail"], "", env)
 
 
-@case
-def things_that_would_not_end(folder):
+def test_things_that_would_not_end(folder):
     os.mkfifo(folder.at("d/9"))
     os.symlink("/dev/zero", folder.at("d/8"))
     os.symlink("/dev/tty", folder.at("d/7"))
@@ -197,8 +194,7 @@ def things_that_would_not_end(folder):
 # What may not be read.
 
 
-@case
-def files_and_folders_that_may_not_be_read(folder):
+def test_files_and_folders_that_may_not_be_read(folder):
     folder.module("d/1", "")
     os.chmod(folder.module("d/2", ""), 0)
     folder.module("e/1", "")
@@ -226,8 +222,7 @@ def files_and_folders_that_may_not_be_read(folder):
 # Names.
 
 
-@case
-def names_as_long_as_the_system_takes(folder):
+def test_names_as_long_as_the_system_takes(folder):
     name = "a" * 255
     deep = "/".join(["b" * 255] * 4)
     folder.module(name, "")
@@ -243,8 +238,7 @@ def names_as_long_as_the_system_takes(folder):
     folder.refuses(["sh", "load", long], f"Bad module name '{long}'")
 
 
-@case
-def paths_longer_than_the_system_takes(folder):
+def test_paths_longer_than_the_system_takes(folder):
     folder.module("foo/1", "")
     long = b"/x" * 2500
     for env in (path_of(long), path_of(long, folder.modules)):
@@ -255,8 +249,7 @@ def paths_longer_than_the_system_takes(folder):
     loads(folder, "foo", "foo/1", long + b"/foo/1", path_of(long))
 
 
-@case
-def ill_spelled_names_of_each_request(folder):
+def test_ill_spelled_names_of_each_request(folder):
     folder.module("foo/1", "")
     names = ["..", "../foo", "foo/..", "foo/../foo/1", "/foo", "foo/", "foo//1", "/", "//", ".", "./foo", "foo/."]
     names += ["", " ", "\n", "foo\n", "a b", "foo:foo", "foo&x", "a|b", "a\\b", "foo@1", "a/b/c/d/e", "\t", "foo\r"]
@@ -270,8 +263,7 @@ def ill_spelled_names_of_each_request(folder):
         same((done.stdout, done.returncode), (b"", 0), f"avail {name!r}")
 
 
-@case
-def odd_names_that_are_well_spelled(folder):
+def test_odd_names_that_are_well_spelled(folder):
     names = ["it's/$(x)", "-f/--help", "*/?", '"q"/{}', "a;b/#c", "é/€𝄞", "x/\u00a0", "x/\u2028", "\x01/\x7f"]
     for name in [*names, "%/!", "~/^"]:
         folder.module(name, "")
@@ -281,8 +273,7 @@ def odd_names_that_are_well_spelled(folder):
         folder.refuses(["sh", "load", missing], f"Unable to locate a modulefile for '{missing}'")
 
 
-@case
-def a_module_named_like_an_option(folder):
+def test_a_module_named_like_an_option(folder):
     folder.module("-f", "")
     folder.module("foo/--force", "")
     loads(folder, "-f", "-f", folder.at("-f"), folder.environment())
@@ -300,8 +291,7 @@ def a_module_named_like_an_option(folder):
     folder.refuses(["sh", "load", "c/1"], "Bad arguments")
 
 
-@case
-def words_that_are_not_utf8(folder):
+def test_words_that_are_not_utf8(folder):
     folder.module("foo/1", "")
     for words in (
         [b"sh", b"load", b"\xff"],
@@ -316,8 +306,7 @@ def words_that_are_not_utf8(folder):
         folder.refuses(words, "Bad arguments")
 
 
-@case
-def entries_of_folders_that_are_passed_over(folder):
+def test_entries_of_folders_that_are_passed_over(folder):
     folder.module("d/1", "setenv A b\n")
     for name in ("9 9", "9:9", "9&9", "9|9", "9\\9", "9@9", ".9", "9\n", "9\t"):
         folder.module("d/" + name, "error x\n")
@@ -327,8 +316,7 @@ def entries_of_folders_that_are_passed_over(folder):
     reports(folder, ["sh", "avail"], folder.modules + b":\nd/1\n", folder.environment())
 
 
-@case
-def entries_that_are_not_utf8(folder):
+def test_entries_that_are_not_utf8(folder):
     folder.module("d/1", "")
     folder.module(b"d/\xff", b"")
     folder.refuses(["sh", "load", "d"], "Reading failed")
@@ -339,8 +327,7 @@ def entries_that_are_not_utf8(folder):
 # MODULEPATH.
 
 
-@case
-def no_modulepath(folder):
+def test_no_modulepath(folder):
     for env in ({}, encoded({"MODULEPATH": ""}), encoded({"MODULEPATH": ":::"}), encoded({"MODULEPATH": b"\xff"})):
         folder.refuses(["sh", "load", "foo"], "Unable to locate a modulefile for 'foo'", env=env)
         folder.refuses(["sh", "show", "foo"], "Unable to locate a modulefile for 'foo'", env=env)
@@ -350,8 +337,7 @@ def no_modulepath(folder):
         reports(folder, ["sh", "unload", "foo"], "", env)
 
 
-@case
-def repeated_entries(folder):
+def test_repeated_entries(folder):
     folder.module("foo/1", "")
     env = path_of(folder.modules, folder.modules, folder.modules + b"/", folder.modules)
     loads(folder, "foo", "foo/1", folder.at("foo/1"), env)
@@ -361,8 +347,7 @@ def repeated_entries(folder):
     loads(folder, "foo", "foo/1", folder.modules + b"//foo/1", path_of(folder.modules + b"/"))
 
 
-@case
-def relative_entries(folder):
+def test_relative_entries(folder):
     folder.module("foo/1", "setenv A b\n")
     env = encoded({"MODULEPATH": "m", "A": "b"})
     loads(folder, "foo", "foo/1", b"m/foo/1", env, cwd=folder.path)
@@ -376,8 +361,7 @@ def relative_entries(folder):
     same((done.stdout, done.stderr), (b"", b"ERROR: No file at 'm/foo/1'\n"), "an unload elsewhere")
 
 
-@case
-def a_modulepath_of_many_folders(folder):
+def test_a_modulepath_of_many_folders(folder):
     folder.module("foo/1", "")
     entries = [b"/nowhere/%d" % number for number in range(5000)]
     loads(folder, "foo", "foo/1", folder.at("foo/1"), path_of(*entries, folder.modules))
@@ -387,8 +371,7 @@ def a_modulepath_of_many_folders(folder):
 # Large files and folders.
 
 
-@case
-def files_that_are_too_large(folder):
+def test_files_that_are_too_large(folder):
     folder.module("big/1", b"#" * 2_000_000 + b"\n")
     folder.refuses(["sh", "load", "big"], "Text is too long")
     folder.refuses(["sh", "show", "big/1"], "Text is too long")
@@ -404,8 +387,7 @@ def files_that_are_too_large(folder):
     reports(folder, ["sh", "avail"], text, folder.environment())
 
 
-@case
-def a_file_of_many_commands(folder):
+def test_a_file_of_many_commands(folder):
     count = 30_000
     folder.module("many/1", "".join(f"setenv A{number} {number}\n" for number in range(count)))
     done = within(folder, ["sh", "load", "many"], folder.environment())
@@ -416,8 +398,7 @@ def a_file_of_many_commands(folder):
     loads(folder, "full", "full/1", folder.at("full/1"), folder.environment())
 
 
-@case
-def commands_of_many_words(folder):
+def test_commands_of_many_words(folder):
     many = 300_000
     words = '{*}[string repeat "b " %d]' % many
     folder.module("a/1", "")
@@ -446,8 +427,7 @@ def commands_of_many_words(folder):
     reports(folder, ["sh", "show", "c"], folder.at("c/1") + b":\nappend-path P b" + b":b" * (many - 1) + b"\n", held)
 
 
-@case
-def variables_of_many_parts(folder):
+def test_variables_of_many_parts(folder):
     folder.module("a/1", "")
     folder.module("x/1", "prepend-path P b\n")
     base = loaded(folder, "x/1", "a/1")
@@ -471,8 +451,7 @@ def variables_of_many_parts(folder):
         same(done.stderr, f"ERROR: {said}\n".encode() if said else b"", f"standard error of {words} with a long {name}")
 
 
-@case
-def ten_thousand_versions(folder):
+def test_ten_thousand_versions(folder):
     for number in range(10_000):
         folder.module(f"many/{number}", "")
     loads(folder, "many", "many/9999", folder.at("many/9999"), folder.environment())
@@ -482,8 +461,7 @@ def ten_thousand_versions(folder):
     reports(folder, ["sh", "avail", "many/999"], text, folder.environment())
 
 
-@case
-def folders_deeper_than_names(folder):
+def test_folders_deeper_than_names(folder):
     folder.module("a/b/c/d", "")
     folder.module("e/f/g/h/i", "")
     folder.module("/".join("p" * 60), "")
@@ -494,8 +472,7 @@ def folders_deeper_than_names(folder):
     folder.refuses(["sh", "load", "e/f/g/h/i"], "Bad module name 'e/f/g/h/i'")
 
 
-@case
-def many_names_in_one_command(folder):
+def test_many_names_in_one_command(folder):
     count = 300
     names = [f"m{number}/1" for number in range(count)]
     for name in names:
@@ -520,8 +497,7 @@ def many_names_in_one_command(folder):
 # Default files.
 
 
-@case
-def default_files_without_end(folder):
+def test_default_files_without_end(folder):
     folder.module("d/1", "")
     folder.module("d/2", "")
     path = folder.at("d/.modulerc")
@@ -562,8 +538,7 @@ def default_files_without_end(folder):
 # Scripts.
 
 
-@case
-def scripts_that_nest(folder):
+def test_scripts_that_nest(folder):
     deep = "set s {}\nfor {set i 0} {$i < 300} {incr i} {set s [list if 1 $s]}\n"
     rows = (
         ("[" * 100, "Missing close-bracket at byte 108"),
@@ -597,8 +572,7 @@ def scripts_that_nest(folder):
     loads(folder, "nest/b", "nest/b", folder.at("nest/b"), folder.environment(A="1"))
 
 
-@case
-def files_in_other_writings(folder):
+def test_files_in_other_writings(folder):
     folder.file("crlf/1", b"#%Module1.0\r\nsetenv A b\r\nprepend-path P /x\r\n")
     more = b"P='/x'; export P;\n"
     loads(folder, "crlf", "crlf/1", folder.at("crlf/1"), folder.environment(A="b"), more=more)
@@ -626,50 +600,65 @@ set env(HOME) a(b) ::x module module-info mode getenv é puts stderr""".split()
 PIECES += ["\n", "\n", " ", " ", "\\\n"]
 
 
-@case
-def files_of_junk(folder):
-    rng = random.Random(15)
-    for number in range(250):
-        text = "".join(rng.choice(PIECES) + rng.choice(["", " ", " "]) for _ in range(rng.randrange(1, 60)))
-        folder.module("junk/1", text)
-        word = rng.choice(["load", "show", "whatis", "load"])
-        ends_well(folder, ["sh", word, "junk"], folder.environment(), f"{word} of {text!r}, {number}")
-    for number in range(50):
-        text = bytes(rng.randrange(1, 256) for _ in range(rng.randrange(1, 200)))
-        folder.module("junk/1", text)
-        done = ends_well(folder, ["sh", "load", "junk"], folder.environment(), f"a load of {text!r}, {number}")
-        try:
-            text.decode()
-        except UnicodeDecodeError:
-            same(done.stderr, b"ERROR: Not UTF-8: '" + folder.at("junk/1") + b"'\n", f"a load of {text!r}")
+JUNK = several(st.sampled_from([piece + end for piece in PIECES for end in (" ", "")]), 60).map("".join)
+RANDOM_BYTES = several(st.integers(1, 255), 120).map(bytes)
+
+
+@examples(250)
+@given(text=JUNK, word=st.sampled_from(["load", "show", "whatis"]))
+def test_files_of_junk(folder, text, word):
+    folder.module("junk/1", text)
+    ends_well(folder, ["sh", word, "junk"], folder.environment(), f"{word} of {text!r}")
+
+
+@examples(50)
+@given(text=RANDOM_BYTES)
+def test_files_of_random_bytes(folder, text):
+    folder.module("junk/1", text)
+    done = ends_well(folder, ["sh", "load", "junk"], folder.environment(), f"a load of {text!r}")
+    try:
+        text.decode()
+    except UnicodeDecodeError:
+        same(done.stderr, b"ERROR: Not UTF-8: '" + folder.at("junk/1") + b"'\n", f"a load of {text!r}")
 
 
 FIELDS = [*": :: & | \\ \\: a/1 b/1 /x /m/a/1 2 01 4294967296 a/1&b é .".split(), "", "x y"]
 REQUESTS = [["load", "b"], ["unload", "a"], ["load", "b", "a"], ["switch", "a", "b"], ["purge"], ["list"], ["avail"]]
 
 
-@case
-def variables_of_junk(folder):
+NAMES = ["LOADEDMODULES", "_LMFILES_", "__MODULES_LMCONFLICT", "__MODULES_LMPREREQ", "P", "__MODULES_SHARE_P", "CC"]
+NAMES += ["__MODULES_PUSHENV_CC", "MODULEPATH", "A"]
+VALUES = st.lists(st.sampled_from(FIELDS), max_size=5).map("".join)
+
+
+@pytest.fixture
+def two_modules(folder):
     folder.module("a/1", "prepend-path P /x\npushenv CC v\nsetenv A b\nconflict q\nprereq b\n")
     folder.module("b/1", "append-path P /x /y\n")
-    rng = random.Random(16)
-    names = ["LOADEDMODULES", "_LMFILES_", "__MODULES_LMCONFLICT", "__MODULES_LMPREREQ", "P", "__MODULES_SHARE_P", "CC"]
-    names += ["__MODULES_PUSHENV_CC", "MODULEPATH", "A"]
-    for number in range(250):
-        env = folder.environment()
-        for name in names:
-            if rng.random() < 0.5:
-                env[name.encode()] = "".join(rng.choice(FIELDS) for _ in range(rng.randrange(6))).encode()
-        if rng.random() < 0.5:
-            env[b"LOADEDMODULES"], env[b"_LMFILES_"] = b"a/1:b/1", folder.at("a/1") + b":" + folder.at("b/1")
-        words = rng.choice(REQUESTS)
-        ends_well(folder, [rng.choice(["sh", "csh", "fish"]), *words], env, f"{words} in {env}, {number}")
+    return folder
+
+
+@examples(250)
+@given(
+    variables=st.dictionaries(st.sampled_from(NAMES), VALUES, max_size=len(NAMES)),
+    are_loaded=st.booleans(),
+    shell=st.sampled_from(["sh", "csh", "fish"]),
+    words=st.sampled_from(REQUESTS),
+)
+def test_variables_of_junk(two_modules, variables, are_loaded, shell, words):
+    env = {**two_modules.environment(), **encoded(variables)}
+    if are_loaded:
+        env[b"LOADEDMODULES"], env[b"_LMFILES_"] = b"a/1:b/1", two_modules.at("a/1") + b":" + two_modules.at("b/1")
+    ends_well(two_modules, [shell, *words], env, f"{words} in {env}")
+
+
+def test_variables_that_are_not_utf8(two_modules):
     for text in (b"\xff", b"a/1:\xff", bytes(range(1, 256))):
-        for name in names:
-            env = folder.environment()
-            env[name.encode()] = text
-            ends_well(folder, ["sh", "load", "b"], env, f"a load with {name} as {text!r}")
-    done = within(folder, ["sh", "load", "b/1"], {b"MODULEPATH": folder.modules, b"": b"x", b"P": b"\xff"})
+        for name in NAMES:
+            env = {**two_modules.environment(), name.encode(): text}
+            ends_well(two_modules, ["sh", "load", "b"], env, f"a load with {name} as {text!r}")
+    env = {b"MODULEPATH": two_modules.modules, b"": b"x", b"P": b"\xff"}
+    done = within(two_modules, ["sh", "load", "b/1"], env)
     same((done.stderr, done.returncode), (b"", 0), "a load beside odd entries")
 
 
@@ -749,8 +738,7 @@ def meaning(name, path, whole, start):
     return text_for("sh", {key: after.get(key) for key in {*start, *after} if start.get(key) != after.get(key)})
 
 
-@case
-def beginnings_of_files(folder):
+def test_beginnings_of_files(folder):
     """Every beginning of every worked file, the whole file with them."""
     counts = {"accepted": 0, "refused": 0}
     for number, text in enumerate(FILES.values()):
@@ -770,10 +758,3 @@ def beginnings_of_files(folder):
     same(len(FILES), 23, "the files")
     true(min(counts.values()) > 100, f"the counts {counts}")
 
-
-if __name__ == "__main__":
-    resource.setrlimit(resource.RLIMIT_CORE, (0, 0))
-    start = time.time()
-    passed, failed = run_all(sys.argv[1])
-    print(f"hostile: {passed} passed, {failed} failed in {time.time() - start:.0f} s")
-    sys.exit(1 if failed else 0)

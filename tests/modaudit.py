@@ -1,7 +1,5 @@
 """What the built program `modaudit` says of sites, over real folders.
 
-    python3 -B tests/modaudit.py PROGRAM
-
 The rows are typed by hand from the rules in the crates' pages (sites, certificates); random sites are compared with the
 model in `standings.py`, which shares nothing with the program. In rows and modulefiles `/m`, `/n` and `/o` stand for the
 folders that a case makes.
@@ -15,19 +13,17 @@ import re
 import select
 import shutil
 import subprocess
-import sys
 import time
 
-from tests import certified, losses
-from tests.harness import CASES, HERE, SECONDS, case, refuser, refuses_each, run_all, same, true
+import pytest
+from hypothesis import given
+from hypothesis import strategies as st
+from instructions import instructions
+
+from tests import certified, losses, sentence
+from tests.harness import HERE, SECONDS, refuses_each, same, true
+from tests.properties import examples
 from tests.worked import FOLDER, real, write
-
-sys.path += [os.path.join(os.path.dirname(HERE), "bench"), os.path.join(os.path.dirname(HERE), "tools")]
-
-from instructions import instructions  # noqa: E402
-
-# The cases of `losses.py` are a suite of their own.
-CASES.clear()
 
 TOP = os.path.dirname(HERE)
 ERROR = "ERROR: {}\n"
@@ -36,11 +32,13 @@ WRITING_FAILED = ERROR.format("Writing failed").encode()
 # How many directories a site may have (modaudit(1), Too many directories).
 MOST_DIRECTORIES = 65_536
 
-# How many random sites are compared with the model.
-SITES = 150
-
 # How many instructions a site of twice as many modules may cost, as a multiple, where all grows with their number.
 TWICE = 2.3
+
+
+@pytest.fixture(scope="session")
+def program(built):
+    return built("modaudit")
 
 
 class Site:
@@ -264,48 +262,37 @@ def lines_of(files, rows, remarks=()):
     return [*lines, f"# {sure} certified of {len(rows)}", *remarks]
 
 
-@case
-def the_standing_of_each_row(folder):
-    for what, (files, *rows) in ROWS.items():
-        site = Site(folder, files)
-        try:
-            site.says(lines_of(files, *rows))
-        except Exception:
-            print(f"(in the row: {what})")
-            raise
-        site.clear()
+each_row = pytest.mark.parametrize("files, rows, remarks", [(*row, ())[:3] for row in ROWS.values()], ids=ROWS)
 
 
-@case
-def each_standing_has_a_row(_):
+@each_row
+def test_the_standing_of_each_row(folder, files, rows, remarks):
+    Site(folder, files).says(lines_of(files, rows, remarks))
+
+
+def test_each_standing_has_a_row():
     words = {word for _, rows, *_ in ROWS.values() for _, word, _ in rows}
     same(sorted(words), ["asks", "certified", "clashes", "one-way", "out-of-step", "refused"], "the standings of the rows")
 
 
-@case
-def quiet_leaves_certified_modules_out(folder):
-    for files, *rows in ROWS.values():
-        site = Site(folder, files)
-        lines = lines_of(files, *rows)
-        site.says([line for line in lines if "\tcertified\t" not in line], "--quiet")
-        site.clear()
+@each_row
+def test_quiet_leaves_certified_modules_out(folder, files, rows, remarks):
+    lines = lines_of(files, rows, remarks)
+    Site(folder, files).says([line for line in lines if "\tcertified\t" not in line], "--quiet")
 
 
-@case
-def what_is_lost_stands_so(folder):
+@pytest.mark.parametrize("row", losses.ROWS.values(), ids=losses.ROWS)
+def test_what_is_lost_stands_so(folder, row):
     """Each module of the sessions that lose something (`losses.py`) stands as it is said there."""
-    for what, row in losses.ROWS.items():
-        site = Site(folder, {f"/m/{name}": text for name, text in row.files.items()})
-        found = {module["name"]: module["standing"] for module in site.document()["modules"]}
-        same(found, dict(zip(row.files, row.stand)), f"how modules stand in {what}")
-        site.clear()
+    site = Site(folder, {f"/m/{name}": text for name, text in row.files.items()})
+    found = {module["name"]: module["standing"] for module in site.document()["modules"]}
+    same(found, dict(zip(row.files, row.stand)), "how modules stand")
 
 
 # Two files of one name.
 
 
-@case
-def two_files_of_one_name(folder):
+def test_two_files_of_one_name(folder):
     files = {"/m/a/1": "setenv V x\n", "/n/a/1": "unsetenv V y\n"}
     lines = [
         "a/1\tclashes\tV: set here, unset of 'y' in a/1 (/n/a/1)\t/m/a/1",
@@ -320,8 +307,7 @@ def two_files_of_one_name(folder):
 # Remarks.
 
 
-@case
-def remarks_on_default_files_and_names(folder):
+def test_remarks_on_default_files_and_names(folder):
     files = {
         "/m/a/1": "",
         "/m/a/.version": "nope\n",
@@ -346,8 +332,7 @@ def remarks_on_default_files_and_names(folder):
     Site(folder, files).says(lines, status=1)
 
 
-@case
-def remarks_on_the_environment_at_hand(folder):
+def test_remarks_on_the_environment_at_hand(folder):
     files = {
         "/m/a/1": "setenv V x\nunsetenv W y\nappend-path P /b\nappend-path -d , Q /b\npushenv S z\n",
         "/m/b/1": "setenv N x\nnope\n",
@@ -420,18 +405,15 @@ STARTS = [
 ]
 
 
-@case
-def starts_that_agree_and_that_do_not(folder):
-    for text, variables, reasons in STARTS:
-        site = Site(folder, {"/m/a/1": text + "\n"}, **variables)
-        remarks = [f"# environment: {reason}" for reason in reasons]
-        names = ["# a/1 (/m/a/1): conflict names no module: 'z'"] if text == "conflict z" else []
-        site.says(["a/1\tcertified\t\t/m/a/1", "# 1 certified of 1", *names, *remarks])
-        site.clear()
+@pytest.mark.parametrize("text, variables, reasons", STARTS, ids=[f"{text} over {start}" for text, start, _ in STARTS])
+def test_starts_that_agree_and_that_do_not(folder, text, variables, reasons):
+    remarks = [f"# environment: {reason}" for reason in reasons]
+    names = ["# a/1 (/m/a/1): conflict names no module: 'z'"] if text == "conflict z" else []
+    site = Site(folder, {"/m/a/1": text + "\n"}, **variables)
+    site.says(["a/1\tcertified\t\t/m/a/1", "# 1 certified of 1", *names, *remarks])
 
 
-@case
-def starts_that_no_module_can_be_evaluated_over(folder):
+def test_starts_that_no_module_can_be_evaluated_over(folder):
     """A text that is no stack refuses the modules that push onto it; one that is no list of modules, the whole audit."""
     for text in ("x&1:x&0", "1", ""):
         site = Site(folder, {"/m/a/1": "pushenv V z\n", "/m/b/1": "setenv W z\n"}, V="1", __MODULES_PUSHENV_V=text, **LOADED)
@@ -444,8 +426,7 @@ def starts_that_no_module_can_be_evaluated_over(folder):
 # Texts.
 
 
-@case
-def control_characters_in_paths_and_reasons(folder):
+def test_control_characters_in_paths_and_reasons(folder):
     directory = os.path.join(os.fsdecode(folder.path), "a\tb\nc\\d\x01\x7f\u00e9")
     os.makedirs(os.path.join(directory, "a"))
     with open(os.path.join(directory, "a", "1"), "w", encoding="utf-8") as file:
@@ -458,8 +439,7 @@ def control_characters_in_paths_and_reasons(folder):
     same((found["path"], found["refusal"]), (f"{directory}/a/1", "x\ny\tz\\ \r (line 2)"), "the document")
 
 
-@case
-def each_control_character(folder):
+def test_each_control_character(folder):
     """All that a path can hold: 1 to 31 and 127. The space and `~` are none. The document has the path as it is."""
     controls = "".join(map(chr, [*range(1, 32), 127]))
     spelled = "".join("\\t" if c == "\t" else "\\n" if c == "\n" else f"\\x{ord(c):02x}" for c in controls)
@@ -472,8 +452,7 @@ def each_control_character(folder):
     same(json.loads(folder.run("--json", directory).stdout)["modules"][0]["path"], f"{directory}/a/1", "the document")
 
 
-@case
-def the_document_says_the_same(folder):
+def test_the_document_says_the_same(folder):
     files = {
         "/m/a/1": "setenv V x\nunsetenv W y\nappend-path -d , P /b\npushenv S z\nconflict q\n",
         "/m/a/.version": "nope\n",
@@ -541,8 +520,7 @@ def the_document_says_the_same(folder):
 # Arguments.
 
 
-@case
-def directories_in_place_of_modulepath(folder):
+def test_directories_in_place_of_modulepath(folder):
     files = {"/m/a/1": "", "/n/b/1": "", "/o/c/1": ""}
     site = Site(folder, files, "/o")
     at = [os.fsdecode(os.path.join(folder.path, name)) for name in (b"m", b"n")]
@@ -560,8 +538,7 @@ def directories_in_place_of_modulepath(folder):
     site.says(["# 0 certified of 0"])
 
 
-@case
-def arguments_that_are_refused(folder):
+def test_arguments_that_are_refused(folder):
     site = Site(folder, {"/m/a/1": ""})
     for words in (("-",), ("--nope",), ("-q",), ("/m", "--nope"), ("--quiet=1",), (b"\xff",), ("--help",)):
         site.refuses("Bad arguments", *words)
@@ -575,8 +552,7 @@ def arguments_that_are_refused(folder):
 # Faults.
 
 
-@case
-def faults_of_a_whole_audit(folder):
+def test_faults_of_a_whole_audit(folder):
     site = Site(folder, {"/m/a/1": ""}, LOADEDMODULES="x")
     site.refuses("Loaded modules are inconsistent")
     del site.env[b"LOADEDMODULES"]
@@ -587,8 +563,7 @@ def faults_of_a_whole_audit(folder):
     os.remove(path)
 
 
-@case
-def faults_in_their_order(folder):
+def test_faults_in_their_order(folder):
     site = Site(folder, {"/m/a/1": ""}, LOADEDMODULES="x")
     m, gone, none = (os.fsdecode(real(folder, f"/m{end}")) for end in ("", "/gone", "/none"))
     site.refuses("Bad arguments", gone, "--nope")
@@ -600,8 +575,7 @@ def faults_in_their_order(folder):
     site.refuses("Reading failed", m)
 
 
-@case
-def the_most_directories_of_a_site(folder):
+def test_the_most_directories_of_a_site(folder):
     def site(count):
         added = ":".join(f"/x{number}" for number in range(1, count))
         return Site(folder, {"/m/a/1": f"append-path MODULEPATH {added}\n"})
@@ -610,8 +584,7 @@ def the_most_directories_of_a_site(folder):
     site(MOST_DIRECTORIES + 1).refuses("Too many directories")
 
 
-@case
-def a_standard_output_that_takes_nothing(folder):
+def test_a_standard_output_that_takes_nothing(folder):
     site = Site(folder, {"/m/a/1": "", "/m/b/1": "getenv HOME\n"})
     with open("/dev/full", "wb", buffering=0) as full:
         for streams in ({"stdout": full}, {"close": (1,)}):
@@ -622,8 +595,7 @@ def a_standard_output_that_takes_nothing(folder):
         same(site.run("--nope", stderr=full).returncode, 2, "a standard error that takes nothing")
 
 
-@case
-def a_standard_output_that_fails_at_each_byte(folder):
+def test_a_standard_output_that_fails_at_each_byte(folder):
     site = Site(folder, {"/m/a/1": "", "/m/b/1": "getenv HOME\n"})
     path = os.path.join(folder.path, b"taken")
     text = site.run().stdout
@@ -660,32 +632,23 @@ def answers_or_loses(folder, shim, said):
         refuses_each(shim, run, is_lost_by(said), said)
 
 
-@case
-def memory_that_is_refused(folder):
-    answers_or_loses(folder, refuser(folder.path), b"Out of memory")
+def test_memory_that_is_refused(folder, shim):
+    answers_or_loses(folder, shim("failing_malloc"), b"Out of memory")
 
 
-@case
-def reads_that_fail(folder):
-    answers_or_loses(folder, refuser(folder.path, "failing_calls"), b"Reading failed")
+def test_reads_that_fail(folder, shim):
+    answers_or_loses(folder, shim("failing_calls"), b"Reading failed")
 
 
 # The model.
 
 
-@case
-def random_sites_by_the_model(folder):
-    program = os.fsdecode(folder.program)
-    for number in range(SITES):
-        top = os.path.join(os.fsdecode(folder.path), f"site-{number}")
-        os.mkdir(top)
-        run = certified.Run(number, top, "sh")
-        run.tree.write()
-        found = certified.audit_of(program, run.site, {})
-        same(certified.differs(found, run.site), None, f"what differs from the model in site {number}")
-        found = certified.audit_of(program, run.site, run.start)
-        same(certified.disagrees(found, run.site, run.start), None, f"what differs of the start of site {number}")
-        shutil.rmtree(top)
+@examples(150)
+@given(data=st.data())
+def test_random_sites_by_the_model(program, tmp_path, data):
+    session = certified.begun(data.draw(certified.sessions("sh", sentence.emptied(tmp_path / "top"))))
+    session.tree.write()
+    certified.audited(program, session)
 
 
 # Large sites.
@@ -707,8 +670,7 @@ def large_site(folder, count):
             folder.module(f"{package}/{version}", text)
 
 
-@case
-def a_site_of_two_thousand_modules(folder):
+def test_a_site_of_two_thousand_modules(folder):
     large_site(folder, 2000)
     done = folder.run()
     lines = done.stdout.decode().splitlines()
@@ -721,8 +683,7 @@ def a_site_of_two_thousand_modules(folder):
     same(len(lines), 6, "the lines")
 
 
-@case
-def a_family_of_two_thousand_versions(folder):
+def test_a_family_of_two_thousand_versions(folder):
     """All set one variable: none clashes where they exclude each other, and each does where they don't."""
     for conflict, certified_ones in (("conflict m\n", 2000), ("", 0)):
         for number in range(2000):
@@ -731,22 +692,20 @@ def a_family_of_two_thousand_versions(folder):
         same((len(lines), lines[-1]), (2001, f"# {certified_ones} certified of 2000"), f"what is said with {conflict!r}")
 
 
-@case
-def twice_as_many_modules_cost_twice_as_much(folder):
+def test_twice_as_many_modules_cost_twice_as_much(folder, note):
     program, place = os.fsdecode(folder.program), os.fsdecode(folder.path)
     counts = []
     for count in (500, 1000):
         large_site(folder, count)
         counts.append(instructions(place, [program], folder.environment()))
-    print(f"500 modules: {counts[0]:,} instructions; 1,000: {counts[1]:,}")
+    note(f"500 modules: {counts[0]:,} instructions; 1,000: {counts[1]:,}")
     true(counts[1] <= TWICE * counts[0], f"1,000 modules take {counts[1]:,} instructions, and 500 {counts[0]:,}")
 
 
 # Sites as they are written.
 
 
-@case
-def the_modulefiles_of_sites(folder):
+def test_the_modulefiles_of_sites(folder):
     for name in sorted(os.listdir(os.path.join(HERE, "sites"))):
         for version in os.listdir(os.path.join(HERE, "sites", name)):
             with open(os.path.join(HERE, "sites", name, version), "rb") as file:
@@ -803,8 +762,7 @@ def on_a_terminal(folder, *words, env=None):
     return text, running.wait(SECONDS)
 
 
-@case
-def a_line_of_progress_on_a_terminal(folder):
+def test_a_line_of_progress_on_a_terminal(folder):
     folder.module("a/1", "")
     same(on_a_terminal(folder), (b"", 0), "an audit that takes no second")
     same(on_a_terminal(folder, "--nope"), (b"ERROR: Bad arguments\r\n", 2), "a fault")
@@ -835,8 +793,7 @@ def content(*names):
         return file.read()
 
 
-@case
-def the_example_of_the_page(folder):
+def test_the_example_of_the_page(folder):
     """A block that begins with the cookie is the modulefile of the name in front of it; in the other a command stands
     behind `$ `, and what it prints below it."""
     page = content("man", "modaudit.1").split(".Sh EXAMPLES\n")[1].split(".Sh ")[0]
@@ -852,15 +809,3 @@ def the_example_of_the_page(folder):
     same(command, "$ '@prefix@/bin/modaudit' /m", "the command")
     done = folder.run(folder.modules, env={})
     same(done.stdout + done.stderr, FOLDER.sub(lambda found: os.path.join(folder.path, found[1]), lines.encode()), "what it prints")
-
-
-def main():
-    if len(sys.argv) != 2:
-        sys.exit(f"{sys.argv[0]} PROGRAM")
-    passed, failed = run_all(sys.argv[1])
-    print(f"{passed} passed, {failed} failed")
-    return 1 if failed else 0
-
-
-if __name__ == "__main__":
-    sys.exit(main())

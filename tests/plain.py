@@ -6,30 +6,31 @@ same records mean it (by the model of `runs.py`), or the file is refused. One th
 be undone. For one that is `Asked` a list has, for each kind of question, another environment, shell, typed name or mode
 in which its answer is another, so that the file leaves something else there.
 
-    python3 -B tests/plain.py MODCHECK [FILES [SEED]]
-
-`modulecmd` stands beside the program. Many files are judged in one run, and loaded or unloaded by one command; a
-command that is refused is tried again file by file.
+An example has some 25 files and 20 such environments. Its files are judged in one run, and loaded or unloaded by one
+command; a command that is refused is tried again file by file.
 """
 
+import collections
+import operator
 import os
-import random
 import re
+import shutil
 import subprocess
-import sys
-import tempfile
+
+from hypothesis import given
+from hypothesis import strategies as st
 
 from tests import runs as model
 from tests import sentence
+from tests.harness import true
+from tests.properties import SPELLINGS, Spelling, examples, several
 
-FILES = 2000
-CONTEXTS = 20
-JUDGED_AT_ONCE = 250
-RUN_AT_ONCE = 25
 SECONDS = 120
 
-# At most this part of the evaluations may be refused, so that enough are compared.
+# At most this part of the evaluations may be refused, so that enough are compared; and at least this part of the files
+# has each verdict.
 MOST_REFUSED = 0.15
+LEAST_JUDGED = 0.04
 
 FAMILIES = {"sh": "sh", "bash": "sh", "ksh": "sh", "zsh": "sh", "csh": "csh", "tcsh": "csh", "fish": "fish"}
 LINES = {
@@ -78,6 +79,14 @@ QUESTIONS = {
 # Files of these kinds are run alone: they see what is loaded before them.
 ALONE = ("whether any module is loaded",)
 
+# Questions whose answers go into a path variable of the file's own, which OWN stands for.
+ANSWERS = [
+    *[(kind, f"append-path -d , OWN x{value}\n") for kind, (values, _) in QUESTIONS.items() for value in values],
+    *[(kind, f"if {{{one}}} {{prepend-path OWN x}}\n") for kind, (_, conditions) in QUESTIONS.items() for one in conditions],
+    *[("what it has set", "setenv OWN_set 1\nprepend-path OWN x$env(OWN_set)\n")] * 3,
+    *[("what it has set", "setenv OWN_set 1\nprepend-path OWN x[getenv OWN_set]\n")] * 3,
+]
+
 # What is evaluated and asks nothing, though it looks so, or isn't evaluated at all.
 QUIET = (
     "if {0} {getenv HOME}\n",
@@ -111,61 +120,22 @@ class Piece:
         self.text, self.records, self.asks = text, list(records), list(asks)
 
 
-def one_way_record(rng):
-    if rng.random() < 0.5:
-        return ("unsetenv", rng.choice("AL"), None), None
-    name = rng.choice("PQR")
-    delim = WAYS[name][1]
-    held = sentence.elements(rng, delim, 1)
-    words = ["remove-path", *sentence.option(rng, delim), name, *sentence.values(rng, held, delim)]
-    return ("remove-path", delim, name, held), words
+def piece_of(kind, drawn, number, own):
+    """A piece of what was drawn: an answer, what asks nothing, or a record and how it is spelled."""
+    if kind == "answer":
+        question, text = drawn
+        return Piece(text.replace("OWN", own), asks=[(question, own)])
+    if kind == "quiet":
+        return Piece(drawn)
+    spelling = Spelling(number)
+    words = ["module-whatis", "some", "text"] if drawn[0] == "whatis" else sentence.words_of(spelling, drawn)
+    return Piece(sentence.command(spelling, words), [drawn])
 
 
-def some_record(rng, may_ask, is_one_way):
-    """A record with the words of a command that leaves it."""
-    if is_one_way and rng.random() < 0.5:
-        record, words = one_way_record(rng)
-        return record, words or ["unsetenv", record[1]]
-    kind = rng.random()
-    if kind < 0.08:
-        return ("whatis",), ["module-whatis", "some", "text"]
-    if kind < 0.16:
-        record = ("conflict", [rng.choice(["c", "d/2"])])
-        return record, sentence.words_of(rng, record)
-    if kind < 0.24 and not may_ask:
-        record = ("prereq", rng.choice([["base"], ["nope", "base/1"]]))
-        return record, sentence.words_of(rng, record)
-    while True:
-        name = rng.choice(sorted(WAYS))
-        record = sentence.some_record(rng, name, WAYS[name], [])
-        if "\n" not in str(record[2]):
-            return record, sentence.words_of(rng, record)
-
-
-def record_piece(rng, may_ask, is_one_way):
-    record, words = some_record(rng, may_ask, is_one_way)
-    return Piece(sentence.command(rng, words), [record])
-
-
-def question_piece(rng, own):
-    """A question whose answer goes into a path variable of the file's own."""
-    if rng.random() < 0.15:
-        asked = rng.choice([f"$env({own}_set)", f"[getenv {own}_set]"])
-        return Piece(f"setenv {own}_set 1\nprepend-path {own} x{asked}\n", asks=[("what it has set", own)])
-    kind = rng.choice(sorted(QUESTIONS))
-    values, conditions = QUESTIONS[kind]
-    if rng.random() < 0.5:
-        text = f"append-path -d , {own} x{rng.choice(values)}\n"
-    else:
-        text = f"if {{{rng.choice(conditions)}}} {{prepend-path {own} x}}\n"
-    return Piece(text, asks=[(kind, own)])
-
-
-def wrapped(rng, piece, label):
+def wrapped(way, piece, label):
     """The piece in a procedure, a loop, a condition or a catch; in loops it is done twice."""
     body = piece.text
     needs_env = "env(" in body and "::env(" not in body
-    way = rng.randrange(9)
     if way in (0, 1):
         front = "global env\n" if needs_env else ""
         call = f"p{label} a b" if way else f"p{label}"
@@ -190,28 +160,18 @@ def wrapped(rng, piece, label):
 class File:
     """A modulefile: its text, what it leaves, and what it asks."""
 
-    def __init__(self, number, seed, top):
-        rng = random.Random(f"{seed} {number}")
-        self.number = number
+    def __init__(self, number, drawn, top):
+        parts, end = drawn
         self.folder = f"f{number:05}"
         self.name = f"{self.folder}/1"
         self.path = f"{top}/{self.name}"
-        may_ask, is_one_way = rng.random() < 0.45, rng.random() < 0.5
         pieces = []
-        for place in range(rng.randint(1, 5)):
-            kind = rng.random()
-            if may_ask and kind < 0.5:
-                piece = question_piece(rng, f"V{number}_{place}")
-            elif kind < 0.65:
-                piece = Piece(rng.choice(QUIET))
-            else:
-                piece = record_piece(rng, may_ask, is_one_way)
-            for depth in range(rng.choice([0, 0, 1, 1, 2, 3])):
-                piece = wrapped(rng, piece, f"{place}_{depth}")
+        for place, (*part, wraps) in enumerate(parts):
+            piece, ways = piece_of(*part, f"V{number}_{place}"), Spelling(wraps)
+            for depth in range(ways.choose([0, 0, 1, 1, 2, 3])):
+                piece = wrapped(8 - ways.choose(range(9)), piece, f"{place}_{depth}")
             pieces.append(piece)
-        if rng.random() < 0.2:
-            pieces.append(Piece(rng.choice(["return\ngetenv HOME\n", "if {1} {return}\nmodule-info mode\n"])))
-        self.text = "#%Module\n" + "".join(piece.text for piece in pieces)
+        self.text = "#%Module\n" + "".join(piece.text for piece in pieces) + end
         self.records = [record for piece in pieces for record in piece.records]
         self.asks = [ask for piece in pieces for ask in piece.asks]
         self.is_one_way = any(not undone(record) for record in self.records)
@@ -225,17 +185,46 @@ class File:
             file.write(self.text)
 
 
-def undone(record):
-    return record[0] != "remove-path" and not (record[0] == "unsetenv" and record[2] is None)
+VALUES = tuple(one for one in sentence.WORDS if "\n" not in one)
+ENDS = st.sampled_from([*[""] * 8, "return\ngetenv HOME\n", "if {1} {return}\nmodule-info mode\n"])
+
+
+def some_records(may_ask, is_one_way):
+    """Records. A file that asks needs no module, since questions are asked where none is loaded."""
+    kinds = [model.records(name, way, VALUES, sentence.ELEMENTS) for name, way in WAYS.items()]
+    kinds.append(st.sampled_from([("whatis",), ("conflict", ["c"]), ("conflict", ["d/2"])]))
+    if not may_ask:
+        kinds.append(st.sampled_from([("prereq", ["base"]), ("prereq", ["nope", "base/1"])]))
+    if is_one_way:
+        unset = st.sampled_from([("unsetenv", name, None) for name in "AL"])
+        paths = [(WAYS[name][1], name) for name in "PQR"]
+        removed = [("remove-path", *path, one) for path in paths for one in model.elements(path[0], sentence.ELEMENTS)]
+        kinds += [unset, st.sampled_from(removed)] * (len(kinds) // 2)
+    return st.one_of(*kinds)
+
+
+def some_files(may_ask, is_one_way):
+    record = st.tuples(st.just("record"), some_records(may_ask, is_one_way), SPELLINGS, SPELLINGS)
+    quiet = st.tuples(st.just("quiet"), st.sampled_from(QUIET), st.just(0), SPELLINGS)
+    answer = st.tuples(st.just("answer"), st.sampled_from(ANSWERS), st.just(0), SPELLINGS)
+    parts = [record, quiet, record] + [answer, answer] * may_ask
+    return st.tuples(st.lists(st.one_of(*parts), min_size=1, max_size=5), ENDS)
+
+
+FILES = several(st.one_of(*(some_files(asks, one_way) for asks in (False, True) for one_way in (False, True))), 48)
 
 
 # The programs.
 
 
+def undone(record):
+    return record[0] != "remove-path" and not (record[0] == "unsetenv" and record[2] is None)
+
+
 class Programs:
-    def __init__(self, modcheck, top):
-        self.modcheck = os.path.abspath(modcheck)
-        self.modulecmd = os.path.join(os.path.dirname(self.modcheck), "modulecmd")
+    def __init__(self, modcheck, modulecmd, top):
+        self.modcheck = modcheck
+        self.modulecmd = modulecmd
         self.top = top
 
     def run(self, program, words, env, given=""):
@@ -298,53 +287,85 @@ def difference(old, new):
 
 # Files that asked nothing.
 
-
-def some_path(rng, env, name, delim):
-    if rng.random() < 0.25:
-        return
-    held = sentence.elements(rng, delim, 0)
-    env[name] = delim.join(held)
-    kind = rng.random()
-    if kind < 0.4:
-        pairs = [(x, rng.choice([1, 2, 3, 7])) for x in held if rng.random() < 0.7]
-        env[model.SHARE + name] = ":".join(f"{model.escaped(x)}:{count}" for x, count in pairs)
-    elif kind < 0.5:
-        env[model.SHARE + name] = rng.choice(["", "::", "x:2", "/opt/b:02:/opt/b:3", "\\", ":5"])
-    elif kind < 0.51 and held:
-        env[model.SHARE + name] = f"{model.escaped(held[0])}:{model.MOST}"
+WORD = st.sampled_from(sentence.WORDS[:11])
+MAYBE = st.sampled_from([*[None] * 6, *sentence.WORDS[:11]])
+ODD_SHARES = ["", "::", "x:2", "/opt/b:02:/opt/b:3", "\\", ":5"]
+OUTSIDE = {"HOME": "/home/x y", "NOPE": "there", "OTHER": "it's", "LANG": "C.UTF-8"}
+STACKS = st.lists(st.tuples(st.integers(0, 30), WORD), max_size=3, unique_by=operator.itemgetter(0))
+NO_STACK = st.sampled_from([*[False] * 49, True])
 
 
-def some_stack(rng, env, name, files):
-    if rng.random() < 0.7:
-        env[name] = rng.choice(sentence.WORDS[:11])
-    if rng.random() < 0.4:
-        owners = rng.sample(["old/1", *(file.name for file in files)], rng.randint(1, min(4, len(files) + 1)))
-        items = [(owner, rng.choice(sentence.WORDS[:11])) for owner in owners]
-        model.write_stack(env, name, items + [(None, "below")] * rng.randint(0, 1))
-    elif rng.random() < 0.02:
-        env[model.STACK + name] = "no stack"
+def path_held(name, held, spelling):
+    """A path of these elements, or none, with counters of any kind."""
+    if held is None:
+        return {}
+    env = {name: WAYS[name][1].join(held)}
+    way = spelling.choose(["none"] * 7 + ["counted"] * 6 + ["odd"] * 2)
+    if way == "counted":
+        counts = [(one, spelling.choose([None, 1, 2, 3, 7])) for one in held]
+        env[model.SHARE + name] = ":".join(f"{model.escaped(one)}:{count}" for one, count in counts if count)
+    elif way == "odd":
+        full = f"{model.escaped(held[0])}:{model.MOST}" if held else ""
+        env[model.SHARE + name] = spelling.choose([*ODD_SHARES, full])
+    return env
 
 
-def some_environment(rng, files, is_unload, top):
-    """An environment in which base/1 is loaded, for an unload the files too; nothing says that it is in order."""
-    env = {"MODULEPATH": top}
-    for name, value in (("HOME", "/home/x y"), ("NOPE", "there"), ("OTHER", "it's"), ("LANG", "C.UTF-8")):
-        if rng.random() < 0.5:
-            env[name] = value
+class Context:
+    """An environment, a shell and a mode for files, with the name that is typed for each. Nothing says that the
+    environment is in order."""
+
+    def __init__(self, shell, is_unload, env, stacks, numbers):
+        self.shell, self.is_unload, self.env, self.stacks, self.numbers = shell, is_unload, env, stacks, numbers
+
+    def __repr__(self):
+        return f"Context{(self.shell, self.is_unload, self.env, self.stacks, self.numbers)}"
+
+    def over(self, files, top):
+        """This context of files: base/1 is loaded, for an unload the files too, in another order."""
+        others, turn, typed = self.numbers
+        env = dict(self.env, MODULEPATH=top)
+        owners = ["old/1", *(file.name for file in files)]
+        for name, (pushed, has_bottom) in self.stacks.items():
+            items = {owners[at % len(owners)]: value for at, value in pushed}
+            model.write_stack(env, name, [*items.items(), *[(None, "below")] * has_bottom] if items else [])
+        entries = [("base/1", f"{top}/base/1", [], [])]
+        entries += [(name, f"/o/{name}", [], []) for at, name in enumerate(("other/1", "old/1")) if others >> at & 1]
+        if self.is_unload:
+            entries += [model.entry_of((file.name, file.path, file.records)) for file in files]
+        turn %= len(entries)
+        model.write_loaded(env, entries[turn:] + entries[:turn])
+        names = {file.name: [file.name, file.folder][typed >> at % 24 & 1] for at, file in enumerate(files)}
+        return Evaluation(self, env, names)
+
+
+@st.composite
+def contexts(draw):
+    env = {}
+    there = draw(st.integers(0, 15))
+    env.update((name, value) for at, (name, value) in enumerate(OUTSIDE.items()) if there >> at & 1)
+    stacks = {}
     for name, way in WAYS.items():
         if way[0] == "path":
-            some_path(rng, env, name, way[1])
-        elif way[0] == "stack":
-            some_stack(rng, env, name, files)
-        elif rng.random() < 0.6:
-            env[name] = rng.choice(sentence.WORDS[:11])
-    entries = [("base/1", f"{top}/base/1", [], [])]
-    entries += [(name, f"/o/{name}", [], []) for name in ("other/1", "old/1") if rng.random() < 0.5]
-    if is_unload:
-        entries += [model.entry_of((file.name, file.path, file.records)) for file in files]
-    rng.shuffle(entries)
-    model.write_loaded(env, entries)
-    return env
+            env.update(path_held(name, draw(PATHS[way[1]]), Spelling(draw(SPELLINGS))))
+            continue
+        value = draw(MAYBE)
+        if value is not None:
+            env[name] = value
+        if way[0] == "stack":
+            stacks[name] = (draw(STACKS), draw(st.booleans()))
+            env.update({model.STACK + name: "no stack"} if draw(NO_STACK) else {})
+    numbers = (draw(st.integers(0, 3)), draw(st.integers(0, 30)), draw(SPELLINGS))
+    return Context(draw(st.sampled_from(sorted(FAMILIES))), draw(st.booleans()), env, stacks, numbers)
+
+
+PATHS = {delim: st.sampled_from([None, [], *model.elements(delim, sentence.ELEMENTS)]) for delim in (":", ";")}
+
+
+@st.composite
+def batches(draw):
+    """Files, and the places where they are evaluated. (Hypothesis writes out what is given to a property each time, so that
+    no long strategy may be.)"""
+    return draw(FILES), draw(several(contexts(), 40))
 
 
 def wanted(env, files, is_unload):
@@ -361,14 +382,11 @@ def wanted(env, files, is_unload):
     return made
 
 
-class Context:
-    """An environment, a shell and a mode for a batch of files, with the name that is typed for each."""
+class Evaluation:
+    """A load or an unload of files in an environment."""
 
-    def __init__(self, rng, files, top):
-        self.shell = rng.choice(sorted(FAMILIES))
-        self.is_unload = rng.random() < 0.5
-        self.env = some_environment(rng, files, self.is_unload, top)
-        self.typed = {file.name: rng.choice([file.name, file.folder]) for file in files}
+    def __init__(self, context, env, typed):
+        self.shell, self.is_unload, self.env, self.typed = context.shell, context.is_unload, env, typed
 
     def refused(self, programs, files):
         """How many of the files are refused here. The others leave their records."""
@@ -391,30 +409,16 @@ class Context:
         return 0
 
 
-def leave_the_same(programs, files, rng):
-    """Each file in each of its contexts. Gives how many evaluations there were, and how many of them were refused."""
-    count = refused = 0
-    for _ in range(CONTEXTS):
-        rng.shuffle(files)
-        for at in range(0, len(files), RUN_AT_ONCE):
-            batch = files[at : at + RUN_AT_ONCE]
-            refused += Context(rng, batch, programs.top).refused(programs, batch)
-            count += len(batch)
-    return count, refused
-
-
 def show_what_stays(programs, files):
     """Each file shows a record that can't be undone."""
-    for at in range(0, len(files), RUN_AT_ONCE):
-        batch = files[at : at + RUN_AT_ONCE]
-        words = ["sh", "show", *(file.name for file in batch)]
-        out, err, status = programs.run(programs.modulecmd, words, {"MODULEPATH": programs.top})
-        if (out, status) != ("", 0):
-            raise Wrong(f"{words} ended with {status}, {out!r}, {err!r}")
-        for file in batch:
-            lines = err.split(f"{file.path}:\n")[1].split(f"{programs.top}/")[0].splitlines()
-            if not any(re.fullmatch(r"unsetenv \w+|remove-path .*", line) for line in lines):
-                raise Wrong(f"{file.name} is one way, and shows only {lines}")
+    words = ["sh", "show", *(file.name for file in files)]
+    out, err, status = programs.run(programs.modulecmd, words, {"MODULEPATH": programs.top})
+    if (out, status) != ("", 0):
+        raise Wrong(f"{words} ended with {status}, {out!r}, {err!r}")
+    for file in files:
+        lines = err.split(f"{file.path}:\n")[1].split(f"{programs.top}/")[0].splitlines()
+        if not any(re.fullmatch(r"unsetenv \w+|remove-path .*", line) for line in lines):
+            raise Wrong(f"{file.name} is one way, and shows only {lines}")
 
 
 # Files that asked.
@@ -463,9 +467,8 @@ def differ_elsewhere(programs, files):
     count = 0
     for kind in ELSEWHERE:
         asking = [file for file in files if any(ask[0] == kind for ask in file.asks)]
-        size = 1 if kind in ALONE else RUN_AT_ONCE
-        for at in range(0, len(asking), size):
-            for file in same_answers(programs, kind, asking[at : at + size]):
+        for some in [[file] for file in asking] if kind in ALONE else [asking] if asking else []:
+            for file in same_answers(programs, kind, some):
                 raise Wrong(f"{file.name} asks for {kind}, and leaves the same elsewhere: {file.text}")
         count += len(asking)
     return count
@@ -476,53 +479,52 @@ def differ_elsewhere(programs, files):
 
 def judge(programs, files):
     """Each verdict is the one that the file's making tells."""
-    env = judging_environment(programs.top)
-    for at in range(0, len(files), JUDGED_AT_ONCE):
-        batch = files[at : at + JUDGED_AT_ONCE]
-        found = programs.judged(batch, env)
-        for file in batch:
-            if found.get(file.name) != file.verdict():
-                raise Wrong(f"{file.name} is judged {found.get(file.name)}, and not {file.verdict()}: {file.text}")
+    found = programs.judged(files, judging_environment(programs.top))
+    for file in files:
+        if found.get(file.name) != file.verdict():
+            raise Wrong(f"{file.name} is judged {found.get(file.name)}, and not {file.verdict()}: {file.text}")
 
 
-def of_verdict(files, *verdicts):
-    return [file for file in files if file.verdict() in verdicts]
+def written(drawn, top):
+    """Modulefiles in an empty folder, with one that others need."""
+    shutil.rmtree(top, ignore_errors=True)
+    os.makedirs(f"{top}/base")
+    with open(f"{top}/base/1", "w", encoding="utf-8") as file:
+        file.write("#%Module\n")
+    files = [File(number, one, top) for number, one in enumerate(drawn)]
+    for file in files:
+        file.write()
+    return files
 
 
-def tried(programs, files, seed):
+def tried(programs, files, places):
+    """Judges files, and evaluates them in these places. Gives how many there were of each kind."""
     judge(programs, files)
-    numbers = {verdict: len(of_verdict(files, verdict)) for verdict in ("Plain", "Asked", "OneWay")}
-    print(f"{len(files)} files: {', '.join(f'{count} {verdict}' for verdict, count in numbers.items())}")
-    if min(numbers.values()) * 25 < len(files):
-        raise Wrong("too few files of a verdict")
-    show_what_stays(programs, of_verdict(files, "OneWay"))
-    kinds = differ_elsewhere(programs, of_verdict(files, "Asked"))
-    print(f"{kinds} kinds of questions of files, each with another answer elsewhere")
-    quiet = of_verdict(files, "Plain", "OneWay")
-    count, refused = leave_the_same(programs, quiet, random.Random(seed))
-    print(f"{count} evaluations of files that asked nothing, {refused} of them refused")
-    if refused > count * MOST_REFUSED:
-        raise Wrong("too many are refused")
+    told = collections.Counter(file.verdict() for file in files)
+    by_verdict = {verdict: [file for file in files if file.verdict() == verdict] for verdict in ("Plain", "Asked", "OneWay")}
+    if by_verdict["OneWay"]:
+        show_what_stays(programs, by_verdict["OneWay"])
+    told["questions"] = differ_elsewhere(programs, by_verdict["Asked"])
+    quiet = by_verdict["Plain"] + by_verdict["OneWay"]
+    for place in places if quiet else ():
+        told["refused"] += place.over(quiet, programs.top).refused(programs, quiet)
+        told["evaluated"] += len(quiet)
+    return told
 
 
-def main(program, count=FILES, seed=0):
-    with tempfile.TemporaryDirectory(prefix="plain-") as top:
-        top = os.path.realpath(top)
-        programs = Programs(program, top)
-        files = [File(number, seed, top) for number in range(int(count))]
-        for file in files:
-            file.write()
-        os.makedirs(f"{top}/base")
-        with open(f"{top}/base/1", "w", encoding="utf-8") as file:
-            file.write("#%Module\n")
-        try:
-            tried(programs, files, int(seed))
-        except Wrong as wrong:
-            print(f"FAILED: {wrong}\n0 passed, 1 failed")
-            return 1
-    print("1 passed, 0 failed")
-    return 0
+def test_plain_files_leave_the_same_everywhere(built, tmp_path, judge_rows, note):
+    programs = Programs(built("modcheck"), built("modulecmd"), str(tmp_path / "top"))
+    told = collections.Counter()
 
+    @examples(100)
+    @given(batches())
+    def law(batch):
+        drawn, places = batch
+        told.update(tried(programs, written(drawn, programs.top), places))
 
-if __name__ == "__main__":
-    sys.exit(main(*sys.argv[1:]))
+    law()
+    note(", ".join(f"{count} {kind}" for kind, count in told.items()))
+    verdicts = [told[verdict] for verdict in ("Plain", "Asked", "OneWay")]
+    true(min(verdicts) >= sum(verdicts) * LEAST_JUDGED, "there are files of each verdict")
+    true(told["refused"] <= told["evaluated"] * MOST_REFUSED, "most evaluations are accepted")
+    judge_rows(sum(verdicts), [])

@@ -8,12 +8,18 @@ module is live. Then
 
 - the same with wrong definitions, each of which has to lose a law;
 - for each premise, runs that break it alone: some of them have to lose the start.
-
-    python3 -B tests/runs.py [RUNS [SEED]]
 """
 
-import random
-import sys
+import functools
+import itertools
+import operator
+
+import pytest
+from hypothesis import Phase, find, given, settings
+from hypothesis import strategies as st
+
+from tests.harness import same, true
+from tests.properties import examples, several
 
 MOST = 4294967295
 SHARE, STACK = "__MODULES_SHARE_", "__MODULES_PUSHENV_"
@@ -21,13 +27,13 @@ NAMES, FILES = "LOADEDMODULES", "_LMFILES_"
 CONFLICTS, PREREQS = "__MODULES_LMCONFLICT", "__MODULES_LMPREREQ"
 LISTS = (NAMES, FILES, CONFLICTS, PREREQS)
 
-# What edits get wrong, in the runs that have to lose a law; and whether what is in order is judged by these words too.
-WRONG, EVERYWHERE = "", False
+# What edits get wrong, in the runs that have to lose a law. What is in order is judged rightly in them too.
+WRONG = ""
 EDITING = False
 
 
 def is_wrong(how):
-    return WRONG == how and (EDITING or EVERYWHERE)
+    return WRONG == how and EDITING
 
 
 class Refused(Exception):
@@ -403,76 +409,131 @@ def stands(ways, start, live, env):
 
 # Random starts, modules and runs.
 
-ELEMENTS = ["", "a", "b", "a:b", "a;b", "x\\y", "\\", ":", "/opt/é", "&", "b\\:", "2"]
-VALUES = ["", "v", "a:b\\c'd", "&x", "\\", ":", "w"]
-VARIABLES = ["A", "B", "C", "D", "E_1"]
-NEW = ["m/1", "m/2", "n", "k/9", "z/1/x"]
-OLD = ["a/1", "old", "q/2"]
+ELEMENTS = ("", "a", "b", "a:b", "a;b", "x\\y", "\\", ":", "/opt/é", "&", "b\\:", "2")
+VALUES = ("", "v", "a:b\\c'd", "&x", "\\", ":", "w")
+VARIABLES = ("A", "B", "C", "D", "E_1")
+NEW = ("m/1", "m/2", "n", "k/9", "z/1/x")
+OLD = ("a/1", "old", "q/2")
+
+WAYS = st.sampled_from(
+    [None] * 8
+    + [("stack",), ("fixed", None)] * 7
+    + [("fixed", value) for value in VALUES]
+    + [("path", delim) for delim in ":;b "] * 2
+)
+OLD_CONFLICTS = st.sampled_from([[], ["c"], ["c", "d"]])
+OLD_GROUPS = st.sampled_from([[], [["g"]], [["g", "h"], ["g", "g"]]])
+COUNTS = st.sampled_from(list(itertools.product([1, 2, 3, MOST - 2], repeat=3)))
 
 
-def elements(rng, delim, least):
-    free = [x for x in ELEMENTS if delim not in x]
-    return [rng.choice(free) for _ in range(rng.randint(least, 3))]
+@functools.cache
+def elements(delim, free=ELEMENTS):
+    """Lists of one to three elements of a path with this delimiter: of each number about as many, the shortest first."""
+    alone = [[one] for one in free if delim not in one]
+    pairs = [one + other for one in alone for other in alone]
+    return alone * len(alone) ** 2 + pairs * len(alone) + [pair + one for pair in pairs for one in alone]
 
 
-def some_way(rng):
-    return rng.choice([("fixed", None), ("fixed", rng.choice(VALUES)), ("path", rng.choice(":;b ")), ("stack",)])
-
-
-def some_record(rng, name, way):
+@functools.cache
+def records(name, way, values=VALUES, free=ELEMENTS):
+    """Records that use a variable in this way."""
+    if way == ("fixed", None):
+        return st.sampled_from([("setenv", name, value) for value in values])
     if way[0] == "fixed":
-        return ("setenv", name, rng.choice(VALUES)) if way[1] is None else ("unsetenv", name, way[1])
+        return st.just(("unsetenv", name, way[1]))
     if way[0] == "stack":
-        return "pushenv", name, rng.choice(VALUES)
-    return rng.choice(["prepend-path", "append-path"]), way[1], name, elements(rng, way[1], 1)
+        return st.sampled_from([("pushenv", name, value) for value in values])
+    kinds = ("prepend-path", "append-path")
+    return st.sampled_from([(kind, way[1], name, added) for added in elements(way[1], free) for kind in kinds])
 
 
-def some_module(rng, ways, name):
-    records = []
-    for _ in range(rng.randint(0, 4)):
-        if ways and rng.random() < 0.8:
-            variable = rng.choice(sorted(ways))
-            records.append(some_record(rng, variable, ways[variable]))
-        else:
-            records.append((rng.choice(["conflict", "prereq"]), [rng.choice(["c", "d/1"]) for _ in range(rng.randint(1, 3))]))
-    return name, "/m/" + name, records
+@functools.cache
+def needs(names, kinds=("conflict", "prereq")):
+    """Conflicts and groups of needs of some of these names."""
+    return st.tuples(st.sampled_from(kinds), st.lists(st.sampled_from(names), min_size=1, max_size=3))
 
 
-def some_start(rng, ways):
+@functools.cache
+def old_entries(names, conflicts=OLD_CONFLICTS, groups=OLD_GROUPS):
+    """Entries of modules that were loaded before, in any order, each at a path of its own."""
+    parts = st.tuples(st.sampled_from(names), conflicts, groups)
+    return st.lists(st.builds(old_entry, parts), max_size=3, unique_by=operator.itemgetter(0))
+
+
+def old_entry(parts):
+    name, conflicts, groups = parts
+    return name, f"/o/{name}", conflicts, groups
+
+
+@functools.cache
+def held(name, way, owners, values=VALUES, free=ELEMENTS):
+    """The variables, in order, that a start has of one that is used in this way."""
+    if way[0] == "fixed":
+        return st.just({} if way[1] is None else {name: way[1]})
+    if way[0] == "path":
+        some = elements(way[1], free)
+        return st.builds(path_held, st.just(name), st.just(way[1]), st.sampled_from([[]] * (len(some) // 2) + some), COUNTS)
+    value = st.sampled_from(values)
+    bottom = st.lists(st.tuples(st.none(), value), max_size=1)
+    pushed = st.just([])
+    if owners:
+        pushed = st.lists(st.tuples(st.sampled_from(owners), value), max_size=2, unique_by=operator.itemgetter(0))
+    return st.builds(stack_held, st.just(name), pushed, bottom)
+
+
+def path_held(name, delim, some, counts):
     env = {}
-    entries = [(n, "/o/" + n, rng.choice([[], ["c"], ["c", "d"]]), rng.choice([[], [["g"]], [["g", "h"], ["g", "g"]]])) for n in OLD if rng.random() < 0.4]
-    rng.shuffle(entries)
-    write_loaded(env, entries)
-    for name in VARIABLES:
-        way = ways.get(name, ("none",))
-        if way[0] == "path" and rng.random() < 0.7:
-            held = elements(rng, way[1], 0)
-            write_path(env, name, way[1], held, {x: rng.choice([1, 1, 2, 3, MOST - 2]) for x in held})
-        elif way[0] == "stack" and entries and rng.random() < 0.5:
-            owners = rng.sample([e[0] for e in entries], rng.randint(1, len(entries)))
-            items = [(owner, rng.choice(VALUES)) for owner in owners] + [(None, rng.choice(VALUES))] * rng.randint(0, 1)
-            write_stack(env, name, items)
-            put(env, name, items[0][1])
-        elif way[0] == "fixed":
-            put(env, name, way[1])
-        elif rng.random() < 0.5:
-            put(env, name, rng.choice(VALUES) if way[0] != "path" else None)
-        if way[0] in ("none", "fixed", "stack") and rng.random() < 0.2:
-            put(env, SHARE + name, rng.choice(["junk", "a:2", ":"]))
-        if way[0] in ("none", "fixed", "path") and rng.random() < 0.2:
-            put(env, STACK + name, rng.choice(["junk", "a/1&x", "&"]))
-    for name in ("__MODULES_ELSE", SHARE + "9", "odd name", "HOME"):
-        if rng.random() < 0.2:
-            put(env, name, rng.choice(VALUES))
+    write_path(env, name, delim, some, dict(zip(some, counts)))
     return env
 
 
-def some_moves(rng, modules, count):
-    """Loads and unloads that may be refused, and then an unload of all, in any order."""
-    moves = [(rng.choice(["load", "unload"]), rng.choice(modules)) for _ in range(count)]
-    last = list(modules)
-    rng.shuffle(last)
-    return moves + [("unload", module) for module in last]
+def stack_held(name, pushed, bottom):
+    """A stack where a module has pushed, and else a value alone or nothing."""
+    env = {name: value for _, value in (pushed + bottom)[:1]}
+    write_stack(env, name, pushed + bottom if pushed else [])
+    return env
+
+
+# What no module of a run uses may have any spelling.
+SHARES, STACKS = (None, "junk", "a:2", ":"), (None, "junk", "a/1&x", "&")
+ODD = st.sampled_from([(None, None)] * 16 + list(itertools.product(SHARES, STACKS)))
+ODD_VALUES = st.sampled_from([*[None] * 7, *VALUES])
+OTHERS = st.dictionaries(
+    st.sampled_from(["__MODULES_ELSE", SHARE + "9", "odd name", "HOME"]), st.sampled_from(VALUES), max_size=2
+)
+
+
+@st.composite
+def starts(draw, ways):
+    env = draw(OTHERS)
+    entries = draw(old_entries(OLD))
+    write_loaded(env, entries)
+    owners = tuple(entry[0] for entry in entries)
+    for name in VARIABLES:
+        if name in ways:
+            env.update(draw(held(name, ways[name], owners)))
+        else:
+            put(env, name, draw(ODD_VALUES))
+        share, stack = draw(ODD)
+        if ways.get(name, ("none",))[0] != "path":
+            put(env, SHARE + name, share)
+        if ways.get(name, ("none",))[0] != "stack":
+            put(env, STACK + name, stack)
+    return env
+
+
+MOVES = several(st.sampled_from([(kind, name) for kind in ("load", "load", "unload") for name in NEW]), 28)
+
+
+@st.composite
+def random_runs(draw):
+    """Ways, a start, and loads and unloads that may be refused, and then an unload of all, in any order."""
+    ways = {name: way for name in VARIABLES if (way := draw(WAYS)) is not None}
+    start = draw(starts(ways))
+    lines = st.lists(st.one_of(*(records(name, way) for name, way in ways.items()), needs(("c", "d/1"))), max_size=4)
+    modules = {name: (name, f"/m/{name}", draw(lines)) for name in NEW}
+    moves = draw(MOVES) + [("unload", name) for name in draw(st.permutations(NEW))]
+    return ways, start, [(kind, modules[name]) for kind, name in moves]
 
 
 def run(ways, start, moves):
@@ -501,23 +562,29 @@ def run(ways, start, moves):
     return ("an unload was refused", accepted) if live else (None, accepted)
 
 
-def random_run(rng):
-    ways = {name: some_way(rng) for name in VARIABLES if rng.random() < 0.7}
-    start = some_start(rng, ways)
-    if not is_start(ways, start):
-        return "no start", 0
-    modules = [some_module(rng, ways, name) for name in NEW]
-    return run(ways, start, some_moves(rng, modules, 12))
+@examples(2000)
+@given(random_runs())
+def test_runs_keep_the_laws(run_of):
+    ways, start, moves = run_of
+    true(is_start(ways, start), "the start is in order")
+    same(run(ways, start, moves)[0], None, "the law that is lost")
 
 
-def random_runs(runs, seed):
-    rng, lost, moves = random.Random(seed), {}, 0
-    for _ in range(runs):
-        law, accepted = random_run(rng)
-        moves += accepted
-        if law:
-            lost[law] = lost.get(law, 0) + 1
-    return lost, moves
+WRONGS = [
+    "counters written for 1",
+    "a pop that restores the bottom always",
+    "an empty text left for an unset path",
+    "a stack popped from the top",
+    "a repeated push that leaves two items",
+    "entries in name order",
+]
+
+
+@pytest.mark.parametrize("wrong", WRONGS)
+def test_wrong_edits_lose_a_law(wrong, monkeypatch, note):
+    monkeypatch.setattr("tests.runs.WRONG", wrong)
+    lost = find(random_runs(), lambda found: run(*found)[0], settings=settings(max_examples=500, phases=[Phase.generate]))
+    note(f"{run(*lost)[0]} is lost")
 
 
 # Worked examples: each breaks one premise, and loses the start.
@@ -588,7 +655,7 @@ def module(place, *records):
     return place + (list(records),)
 
 
-def examples():
+def worked_examples():
     """A name, the premise that is broken, ways, a start and moves."""
     add_a = module(M1, ("prepend-path", ":", "P", ["/a"]))
     add_b = module(M1, ("prepend-path", ":", "P", ["/b"]))
@@ -623,57 +690,13 @@ def examples():
     ]
 
 
-def show_examples():
-    """The worked examples; how many are as they should be, and how many aren't."""
-    counts = [0, 0]
-    for name, premise, ways, start, moves in examples():
-        broken, lost = premises(ways, start, moves), loses(start, moves)
-        if premise == "alone":
-            lost = not lost and loses_standing(ways, start, moves)
-        right = broken == {premise} and lost
-        counts[not right] += 1
-        what = "standing" if premise == "alone" else "the start"
-        told = f"{premise}: {name}: breaks {', '.join(sorted(broken))}; {what} {'is lost' if lost else 'stays'}"
-        print(f"{'ok' if right else 'FAILED'}: {told}")
-    return counts
-
-
-WRONGS = [
-    "counters written for 1",
-    "a pop that restores the bottom always",
-    "an empty text left for an unset path",
-    "a stack popped from the top",
-    "a repeated push that leaves two items",
-    "entries in name order",
-]
-
-
-def show_wrong(runs, seed):
-    """The laws that each wrong definition loses; how many lose one, and how many none."""
-    global WRONG, EVERYWHERE
-    counts = [0, 0]
-    for WRONG in WRONGS:
-        EVERYWHERE = False
-        lost, _ = random_runs(runs, seed)
-        EVERYWHERE = True
-        too, _ = random_runs(runs, seed)
-        counts[not lost] += 1
-        print(f"{'ok' if lost else 'FAILED'}: edits with {WRONG} lose {lost or 'nothing'}")
-        print(f"    where what is in order is judged so too: {too or 'nothing'}")
-    WRONG = ""
-    return counts
-
-
-def main():
-    numbers = [int(word) for word in sys.argv[1:] if word.isdigit()]
-    runs, seed = (numbers + [5000, 1][len(numbers) :])[:2]
-    lost, moves = random_runs(runs, seed)
-    print(f"{'FAILED' if lost else 'ok'}: {runs} runs, {moves} accepted moves, lost {lost or 'nothing'}")
-    counts = [[not lost, bool(lost)], show_wrong(max(runs // 20, 500), seed), show_examples()]
-    passed, failed = (sum(each) for each in zip(*counts))
-    print(f"{passed} passed, {failed} failed")
-    return 1 if failed else 0
-
-
-if __name__ == "__main__":
-    sys.exit(main())
+@pytest.mark.parametrize(
+    "premise, ways, start, moves",
+    [pytest.param(*rest, id=f"{rest[0]}: {name}") for name, *rest in worked_examples()],
+)
+def test_a_premise_is_needed(premise, ways, start, moves):
+    same(premises(ways, start, moves), {premise}, "the premises that the run breaks")
+    if premise == "alone":
+        true(not loses(start, moves) and loses_standing(ways, start, moves), "the standing is lost, and the start stays")
+    else:
+        true(loses(start, moves), "the start is lost")

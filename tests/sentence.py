@@ -6,24 +6,24 @@ the exported variables of the shell are those that a model makes (`runs.py` has 
 refusals stand here, from the rules in the crates' pages), standard error and the status too; and after the last one
 `env -0` writes what it wrote at the start, but for the order of its entries.
 
-    python3 -B tests/sentence.py PROGRAM [RUNS [SEED [SHELL]]]
-
-Runs are numbered from SEED on (0); a run that fails is named by its number, so `PROGRAM 1 NUMBER` makes it again.
-SHELL is sh, tcsh or fish. In the latter two PATH and LANG stay, since these shells change what they hold, and in tcsh a change
-whose value has a newline is refused.
+In tcsh and fish PATH and LANG stay, since these shells change what they hold, and in tcsh a change whose value has a newline
+is refused.
 """
 
+import functools
 import os
-import random
 import re
 import shutil
 import subprocess
-import sys
-import tempfile
+
+import pytest
+from hypothesis import given
+from hypothesis import strategies as st
 
 from tests import runs as model
+from tests.harness import same, true
+from tests.properties import SPELLINGS, Spelling, examples, several
 
-RUNS = 300
 SHELLS = {"sh": [shutil.which("dash") or "/bin/sh"], "tcsh": ["tcsh", "-f"], "fish": ["fish", "--no-config"]}
 ENV = shutil.which("env")
 SECONDS = 120
@@ -31,10 +31,11 @@ SECONDS = 120
 # The names of new modules: a folder of versions, a name of one part, a deep one. Those of old ones are model.OLD.
 FOLDERS = {"m": ["1", "2", "10", "1.9", "1.10", "1.10-rc"], "k": ["9", "10", "9a"], "z/1": ["x", "y"]}
 ALONE = ["n", "w_1"]
+NAMES = [*ALONE, *(f"{folder}/{version}" for folder, versions in FOLDERS.items() for version in versions)]
 WORDS = ["v", "", "a b", "it's", "$HOME", "a:b\\c'd", "&x", "\\", "!", "`x`", '"', "{", "}", "[x]", "é", "two\nlines"]
 WORDS += ["\t", "*", "#", "~"]
-ELEMENTS = ["", "/opt/a/bin", "/opt/b", "a b", "x\\y", "\\", "&", "é", "it's", "2", "$x", "{", "a:b", "a;b", ";", "b\\:"]
-ELEMENTS += ["*"]
+ELEMENTS = ("", "/opt/a/bin", "/opt/b", "a b", "x\\y", "\\", "&", "é", "it's", "2", "$x", "{", "a:b", "a;b", ";", "b\\:")
+ELEMENTS += ("*",)
 PLAIN = re.compile(r"[A-Za-z0-9_/.,+=-]+")
 
 
@@ -42,74 +43,82 @@ class Refusal(Exception):
     """The text behind `ERROR: `."""
 
 
+class Lost(Exception):
+    """The environment isn't in order, or what is loaded doesn't stand over the start."""
+
+
 # Modulefiles.
 
 
-def word(rng, text):
+def word(spelling, text):
     """A word of a script that is this text."""
-    if PLAIN.fullmatch(text) and rng.random() < 0.8:
-        return text
-    if not set(text) & set("{}\\") and rng.random() < 0.6:
-        return "{" + text + "}"
-    if text == "":
-        return '""'
     marks = {"\n": "\\n", "\t": "\\t"}
-    return "".join(marks.get(c, c if c.isalnum() or not c.isascii() else "\\" + c) for c in text)
+    marked = "".join(marks.get(c, c if c.isalnum() or not c.isascii() else "\\" + c) for c in text)
+    plain = [text] * 5 if PLAIN.fullmatch(text) else []
+    braced = [] if set(text) & set("{}\\") else ["{" + text + "}"] * 2
+    return spelling.choose([*plain, *braced, marked or '""'])
 
 
-def values(rng, elements, delim):
+def values(spelling, elements, delim):
     """The values of a path command that has these elements: each holds one or more of them."""
-    parts = [[elements[0]]]
+    found = elements[:1]
     for element in elements[1:]:
-        if rng.random() < 0.5:
-            parts[-1].append(element)
-        else:
-            parts.append([element])
-    return [delim.join(part) for part in parts]
+        found = spelling.choose([[*found, element], [*found[:-1], found[-1] + delim + element]])
+    return found
 
 
-def option(rng, delim):
-    if delim == ":" and rng.random() < 0.8:
-        return []
-    return rng.choice([["-d", delim], ["--delim", delim], ["--delim=" + delim]])
+def option(spelling, delim):
+    ways = [["-d", delim], ["--delim", delim], ["--delim=" + delim]]
+    return spelling.choose([*[[]] * 12, *ways] if delim == ":" else ways)
 
 
-def words_of(rng, record):
+def words_of(spelling, record):
     """The words of a command that means this record."""
     kind, *rest = record
     if kind in ("prepend-path", "append-path", "remove-path"):
         delim, name, elements = rest
-        return [kind, *option(rng, delim), name, *values(rng, elements, delim)]
+        return [kind, *option(spelling, delim), name, *values(spelling, elements, delim)]
     if kind in ("conflict", "prereq"):
         return [kind, *rest[0]]
     return [kind, *[one for one in rest if one is not None]]
 
 
-def command(rng, words):
+def command(spelling, words):
     """Lines of a script that run a command of these words, plain or by way of Tcl."""
-    text = [word(rng, one) for one in words]
-    way = rng.randrange(8)
-    if way == 0:
+    way = spelling.choose(["plain", "plain", "plain", "plain", "last", "foreach", "proc", "if"])
+    text = [word(spelling, one) for one in words]
+    if way == "last":
         return f"set last {text[-1]}\n{' '.join(text[:-1])} $last\n"
-    if way == 1:
+    if way == "foreach":
         return f"foreach one [list {' '.join(text[1:])}] {{lappend all $one}}\n{text[0]} {{*}}$all\nunset all\n"
-    if way == 2:
+    if way == "proc":
         return f"proc make args {{{text[0]} {{*}}$args}}\nmake {' '.join(text[1:])}\n"
-    if way == 3:
+    if way == "if":
         body = f"{' '.join(text[:-1])} [lindex [list {text[-1]}] end]"
         return f"if {{[string length {text[-1]}] >= 0}} {{\n    {body}\n}}\n"
     return " ".join(text) + "\n"
 
 
 class Module:
-    """A modulefile: what it records, what it says, and its text."""
+    """A modulefile: what it records, what it says, and its text. Each record comes with how it is spelled."""
 
-    def __init__(self, rng, records):
-        self.records = records
-        self.said = "".join(f"said {rng.randrange(9)}\n" for _ in range(rng.choice([0, 0, 0, 1, 2])))
-        lines = [command(rng, words_of(rng, record)) for record in records]
-        lines += [f"puts stderr {{{line}}}\n" for line in self.said.splitlines()]
-        self.text = "#%Module\n" + "".join(lines)
+    def __init__(self, lines):
+        self.records = [record for record, _ in lines if record[0] not in OTHER_LINES]
+        self.said = "".join(f"{record[1]}\n" for record, _ in lines if record[0] == "says")
+        self.asks = any(record[0] == "asks" for record, _ in lines)
+        self.fault = "Stopped by the modulefile" if any(record[0] == "exits" for record, _ in lines) else None
+        self.text = "#%Module\n" + "".join(text_of(record, Spelling(number)) for record, number in lines)
+        self.text += "exit\n" if self.fault else ""
+
+
+# Lines that record nothing, and how they are written. A modulefile exits at its end.
+OTHER_LINES = {"says": "puts stderr {{{}}}\n", "asks": "{}\n", "exits": "", "nothing": ""}
+
+
+def text_of(record, spelling):
+    if record[0] in OTHER_LINES:
+        return OTHER_LINES[record[0]].format(*record[1:])
+    return command(spelling, words_of(spelling, record))
 
 
 # Search.
@@ -140,33 +149,20 @@ def version_key(text):
 
 
 class Tree:
-    """Directories of modulefiles, and the default files of their folders."""
+    """Directories of modulefiles by their paths, and the default files of their folders."""
 
-    def __init__(self, rng, ways, top):
-        self.modules = {}
-        self.defaults = {}
-        self.dirs = [os.path.join(top, name) for name in ("one", "two", "three")]
-        self.names = ALONE + [f"{folder}/{version}" for folder, versions in FOLDERS.items() for version in versions]
-        for directory in self.dirs:
-            for name in self.names:
-                if rng.random() < 0.45:
-                    self.modules[f"{directory}/{name}"] = Module(rng, self.records(rng, ways))
-            for folder, versions in FOLDERS.items():
-                if rng.random() < 0.3:
-                    file_name = rng.choice([".version", ".modulerc"])
-                    self.defaults[f"{directory}/{folder}"] = (file_name, folder, rng.choice(versions))
+    def __init__(self, dirs, modules, defaults):
+        self.dirs = dirs
+        self.modules = modules
+        self.defaults = defaults
 
-    def records(self, rng, ways):
-        records = []
-        for _ in range(rng.randint(0, 4)):
-            name = rng.choice(sorted(ways))
-            if rng.random() < 0.85:
-                records.append(some_record(rng, name, ways[name], self.dirs))
-            else:
-                names = ["c", "d/1", "m", "m/10", "k", "n", "z", "z/1", "z/1/x", "w_1", "a", "q/2"]
-                kind = rng.choice(["conflict", "prereq"])
-                records.append((kind, [rng.choice(names) for _ in range(rng.randint(1, 3))]))
-        return records
+    def __repr__(self):
+        return f"modulefiles {({path: module.text for path, module in self.modules.items()})}, default files {self.defaults}"
+
+    def names(self):
+        """The names of modules that are there, with those of their folders as often."""
+        there = sorted({name for directory in self.dirs for name in NAMES if f"{directory}/{name}" in self.modules})
+        return there + [name.rpartition("/")[0] or name for name in there]
 
     def write(self):
         for path, module in self.modules.items():
@@ -199,6 +195,44 @@ class Tree:
         return None
 
 
+NEEDED = ("c", "d/1", "m", "m/10", "k", "n", "z", "z/1", "z/1/x", "w_1", "a", "q/2")
+
+# What says nothing of the environment may stand in a modulefile too, and nothing where it has no other line.
+QUIET = st.sampled_from([("nothing",), ("says", "said 1"), ("says", "said 2")])
+
+
+@functools.cache
+def default_files(dirs):
+    """A few default files by their folders."""
+    folders = st.sampled_from([f"{directory}/{folder}" for directory in dirs for folder in FOLDERS])
+    named = st.tuples(folders, st.sampled_from([".version", ".modulerc"]), st.integers(0, 5))
+    return st.lists(named, max_size=6)
+
+
+def folder_of(path):
+    """The folder of a modulefile, or none."""
+    return next((folder for folder in FOLDERS if path.rpartition("/")[0].endswith(f"/{folder}")), "")
+
+
+@functools.cache
+def places(dirs):
+    return st.sampled_from([f"{directory}/{name}" for name in NAMES for directory in dirs])
+
+
+@st.composite
+def trees(draw, dirs, lines, conflicts=None):
+    """A tree in these directories, drawn line by line: each has its place, its record and how that is spelled. All
+    modules of some folders have a conflict."""
+    modules, defaults = {}, {}
+    for path, *line in draw(several(lines, 64)):
+        shared = (conflicts or {}).get(folder_of(path))
+        modules.setdefault(path, [(("conflict", shared), 0)] if shared else []).append(line)
+    for path, name, at in draw(default_files(dirs)):
+        folder = folder_of(f"{path}/")
+        defaults[path] = (name, folder, FOLDERS[folder][at % len(FOLDERS[folder])])
+    return Tree(dirs, {path: Module(its) for path, its in modules.items()}, defaults)
+
+
 # Requests.
 
 
@@ -223,7 +257,10 @@ class Step:
         self.start = model.loaded_in(env)
         self.env = dict(env)
         self.said = ""
-        self.loads = []
+        self.moves = []
+
+    def loads(self):
+        return [(name, path) for kind, name, path in self.moves if kind == "load"]
 
     def names(self):
         return [entry[0] for entry in model.loaded_in(self.env)]
@@ -237,6 +274,9 @@ class Step:
                 said = {"a counter is full": "Counter of '{}' is full", "no stack": "Bad stack of '{}'"}[str(refused)]
                 raise Refusal(said.format(model.named(record))) from refused
         self.said += module.said
+        if module.fault:
+            raise Refusal(module.fault)
+        self.moves.append((kind, name, path))
         return module
 
     def load(self, name):
@@ -264,7 +304,6 @@ class Step:
             if not holds(group, loaded):
                 raise Refusal(f"Missing one of '{' '.join(group)}'")
         model.write_loaded(self.env, entries + [entry])
-        self.loads.append((name, path))
 
     def unload(self, name):
         needs_name(name)
@@ -305,71 +344,86 @@ class Step:
 
 # Random ways, starts and commands.
 
+GROUPS = st.sampled_from([[], [["g"]], [["a", "q"], ["old"]]])
+CONFLICTS = st.sampled_from([[], ["c"], ["m/10", "d"]])
+ODD_NAMES = ["z", "m/7", "nope", "m//1", ".m", "k/9/1", "", "a&b"]
 
-def elements(rng, delim, least):
-    free = [x for x in ELEMENTS if delim not in x]
-    return [rng.choice(free) for _ in range(rng.randint(least, 3))]
+
+@functools.cache
+def startable(shell):
+    """What a start may hold: it has a text, so that it can be given back."""
+    return tuple(one for one in WORDS if shell != "tcsh" or "\n" not in one)
 
 
-def some_record(rng, name, way, dirs):
+def in_a_shell(env, shell):
+    """The environment with what the shell needs."""
+    return env if shell == "sh" else {**env, "PATH": os.environ["PATH"], "LANG": "C.UTF-8"}
+
+
+@functools.cache
+def ways(shell):
+    """How all modules use a variable."""
+    fixed = [("fixed", None)] * 20 + [("fixed", value) for value in startable(shell)]
+    return st.sampled_from([("stack",)] * 20 + [("path", ":")] * 20 + [("path", delim) for delim in "b; :"] * 5 + fixed)
+
+
+def variables(shell):
+    return ["A", "B", "C", "D", "E_1", *(["PATH", "LANG"] if shell == "sh" else [])]
+
+
+def records(name, way, dirs):
     if name == "MODULEPATH":
-        return rng.choice(["prepend-path", "append-path"]), ":", name, [rng.choice(dirs)]
-    if way[0] == "fixed":
-        return ("setenv", name, rng.choice(WORDS)) if way[1] is None else ("unsetenv", name, way[1])
-    if way[0] == "stack":
-        return "pushenv", name, rng.choice(WORDS)
-    return rng.choice(["prepend-path", "append-path"]), way[1], name, elements(rng, way[1], 1)
+        kinds = ("prepend-path", "append-path")
+        return st.sampled_from([(kind, ":", name, [directory]) for directory in dirs for kind in kinds])
+    return model.records(name, way, tuple(WORDS), ELEMENTS)
 
 
-def some_ways(rng, names, words):
-    ways = {}
-    for name in names:
-        fixed = [("fixed", None), ("fixed", rng.choice(words))]
-        paths = [("path", rng.choice(["b", ";", " ", ":"])), ("path", ":")]
-        ways[name] = rng.choice([*fixed, *paths, ("stack",)])
-    ways["MODULEPATH"] = ("path", ":")
-    return ways
+@functools.cache
+def held(name, way, owners, shell, dirs):
+    """The variables that a start has of one that is used in this way. A MODULEPATH has one or two directories."""
+    if name != "MODULEPATH":
+        return model.held(name, way, owners, startable(shell), ELEMENTS)
+    some = [[one] for one in dirs] * 3 + [[one, other] for one in dirs for other in dirs]
+    return st.builds(model.path_held, st.just(name), st.just(":"), st.sampled_from(some), model.COUNTS)
 
 
-def some_start(rng, ways, dirs, words):
+@st.composite
+def starts(draw, ways_of, dirs, shell):
     """An environment in order, with modules that were loaded before or without."""
-    env = {"HOME": "/home/x y", "OTHER": rng.choice(words), "__MODULES_ELSE": "x"}
-    groups = rng.choice([[], [["g"]], [["a", "q"], ["old"]]])
-    olds = [name for name in model.OLD if rng.random() < 0.3]
-    entries = [(name, "/o/" + name, rng.choice([[], ["c"], ["m/10", "d"]]), groups) for name in olds]
+    env = {"HOME": "/home/x y", "OTHER": draw(st.sampled_from(startable(shell))), "__MODULES_ELSE": "x"}
+    entries = draw(model.old_entries(model.OLD, CONFLICTS, GROUPS))
     model.write_loaded(env, entries)
-    for name, way in ways.items():
-        held = [rng.choice(dirs) for _ in range(rng.randint(1, 2))] if name == "MODULEPATH" else None
-        if way[0] == "path" and (held or rng.random() < 0.7):
-            held = held or elements(rng, way[1], 0)
-            model.write_path(env, name, way[1], held, {x: rng.choice([1, 1, 2, 3, model.MOST - 1]) for x in held})
-        elif way[0] == "stack" and olds and rng.random() < 0.5:
-            owners = rng.sample(olds, rng.randint(1, len(olds)))
-            items = [(owner, rng.choice(words)) for owner in owners] + [(None, rng.choice(words))] * rng.randint(0, 1)
-            model.write_stack(env, name, items)
-            model.put(env, name, items[0][1])
-        elif way[0] == "stack" and rng.random() < 0.5:
-            model.put(env, name, rng.choice(words))
-        elif way[0] == "fixed":
-            model.put(env, name, way[1])
-    return env
+    owners = tuple(entry[0] for entry in entries)
+    for name, way in ways_of.items():
+        env.update(draw(held(name, way, owners, shell, dirs)))
+    return in_a_shell(env, shell)
 
 
-def some_command(rng, names, may_purge):
-    def name():
-        if rng.random() < 0.08:
-            return rng.choice(["z", "m/7", "nope", "m//1", ".m", "k/9/1", "", "a&b"])
-        one = rng.choice(names)
-        return one if rng.random() < 0.5 else one.rpartition("/")[0] or one
+ENDS = st.integers(0, 255)
+# The words of commands with how many names stand behind them.
+LOADS = [("load", 1), ("load", 1), ("add", 1), ("load", 2), ("add", 3)]
+UNLOADS = [("unload", 1), ("rm", 1), ("unload", 2)]
+SWITCHES = [("switch", 1), ("swap", 1), ("switch", 2), ("swap", 2)]
+KINDS = LOADS * 8 + UNLOADS * 6 + SWITCHES * 4 + [("purge", 0)] * 6
 
-    kind = rng.random()
-    if kind < 0.5:
-        return [rng.choice(["load", "load", "add"]), *[name() for _ in range(rng.choice([1, 1, 2, 3]))]]
-    if kind < 0.72:
-        return [rng.choice(["unload", "unload", "rm"]), *[name() for _ in range(rng.choice([1, 1, 2]))]]
-    if kind < 0.93 or not may_purge:
-        return [rng.choice(["switch", "swap"]), *[name() for _ in range(rng.choice([1, 2]))]]
-    return ["purge"]
+
+@st.composite
+def commands(draw, names, may_purge):
+    """A command over modules of these names."""
+    word, count = draw(st.sampled_from(KINDS if may_purge else KINDS[:-6]))
+    return [word, *(draw(names) for _ in range(count))]
+
+
+@st.composite
+def sessions(draw, shell, top):
+    dirs = tuple(f"{top}/tree/{name}" for name in ("one", "two", "three"))
+    ways_of = {name: draw(ways(shell)) for name in variables(shell)} | {"MODULEPATH": ("path", ":")}
+    kinds = [QUIET, *(records(name, way, dirs) for name, way in ways_of.items()), model.needs(NEEDED)]
+    tree = draw(trees(dirs, st.tuples(places(dirs), st.one_of(*kinds), SPELLINGS)))
+    start = {**draw(starts(ways_of, dirs, shell)), "PWD": top}
+    names = st.sampled_from(tree.names() * 2 + ODD_NAMES)
+    words = draw(several(commands(names, not model.loaded_in(start)), 28))
+    return Reversible(ways_of, shell, tree, start, words, draw(ENDS))
 
 
 def is_apart(tree, modules):
@@ -379,61 +433,50 @@ def is_apart(tree, modules):
     return all(not one & other for at, one in enumerate(fixed) for other in fixed[at + 1 :])
 
 
-class Run:
-    """A tree, a start, and commands with what each has to do."""
+class Session:
+    """A tree, a start, and commands, with what each that is taken has to do. The bits of the ends say which of the modules
+    that are left are unloaded one by one."""
 
-    def __init__(self, number, top, shell):
-        rng = random.Random(number)
+    def __init__(self, shell, tree, start, words, ends):
         self.shell = shell
-        names = ["A", "B", "C", "D", "E_1", *(["PATH", "LANG"] if shell == "sh" else [])]
-        # What a start holds has a text, so that it can be given back.
-        words = [word for word in WORDS if shell != "tcsh" or "\n" not in word]
-        self.ways = some_ways(rng, names, words)
-        self.tree = Tree(rng, self.ways, os.path.join(top, "tree"))
-        self.env = self.start = dict(some_start(rng, self.ways, self.tree.dirs, words), PWD=top)
-        if shell != "sh":
-            self.start.update(PATH=os.environ["PATH"], LANG="C.UTF-8")
-        self.old = {entry[0] for entry in model.loaded_in(self.start)}
-        if not model.is_start(self.ways, self.start):
-            raise AssertionError(f"run {number} doesn't begin in order")
+        self.tree = tree
+        self.start = self.env = start
+        self.words = words
+        self.ends = ends
+        self.old = model.loaded_in(start)
         self.commands = []
-        places = [(path, one) for path in self.tree.modules for one in self.tree.dirs if path.startswith(one + "/")]
-        there = sorted({path[len(directory) + 1 :] for path, directory in places})
-        wanted = rng.randint(5, 20)
-        tries = 0
-        while len(self.commands) < wanted and tries < 400:
-            tries += 1
-            self.take(some_command(rng, there, not self.old))
-        for one in reversed(self.live()):
-            if rng.random() < 0.7:
-                self.take(["unload", one[0]])
-        left = [name for name, _ in reversed(self.live())]
-        if left:
-            self.take(["unload", *left])
+
+    def __repr__(self):
+        return f"{self.words} from {self.start} with {self.tree}"
+
+    def follow(self):
+        for words in self.words:
+            self.take(words)
+        for at, (name, _) in enumerate(reversed(self.live())):
+            if self.ends >> at & 1:
+                self.take(["unload", name])
+        if self.live():
+            self.take(["unload", *(name for name, _ in reversed(self.live()))])
         if self.env != self.start:
-            raise AssertionError(f"run {number}: the model loses the start")
+            raise Lost("the last unload doesn't leave the start")
 
     def live(self):
-        return [(entry[0], entry[1]) for entry in model.loaded_in(self.env) if entry[0] not in self.old]
+        """The names and paths of the modules that this session loaded and that are loaded still, oldest first."""
+        return [(name, path) for name, path, *_ in model.loaded_in(self.env)[len(self.old) :]]
 
     def take(self, words):
-        """Adds a command, but one with which the modules would no longer be apart."""
-        step = Step(self.tree, self.env)
+        """Adds a command, but one that doesn't fit."""
+        before, step = self.env, Step(self.tree, self.env)
         try:
             step.make(words)
         except Refusal as refusal:
-            self.commands.append((words, self.env, f"ERROR: {refusal}\n", 1))
+            self.commands.append((words, before, f"ERROR: {refusal}\n", 1))
             return
-        self.check(step, words)
-
-    def check(self, step, words):
-        before, self.env = self.env, step.env
-        live = [(name, path, self.tree.modules[path].records) for name, path in self.live()]
-        if not is_apart(self.tree, {*step.loads, *self.live()}):
+        self.env = step.env
+        if not self.is_fit(before, step):
             self.env = before
             return
-        if not model.in_order(self.ways, self.env) or not model.stands(self.ways, self.start, live, self.env):
-            raise AssertionError(f"the model loses its order at {words}")
+        self.stands(words)
         unsaid = self.unsaid(before)
         if unsaid:
             self.env = before
@@ -445,6 +488,23 @@ class Run:
         """The first variable whose new value the shell has no text for, or none."""
         changed = [name for name, value in self.env.items() if before.get(name) != value]
         return min([name for name in changed if "\n" in self.env[name]], default=None) if self.shell == "tcsh" else None
+
+
+class Reversible(Session):
+    """A session of modules that unloading undoes, and that use each variable in one way."""
+
+    def __init__(self, ways_of, *given):
+        super().__init__(*given)
+        self.ways = ways_of
+
+    def is_fit(self, before, step):
+        """The modules that are loaded stay apart."""
+        return is_apart(self.tree, {*step.loads(), *self.live()})
+
+    def stands(self, words):
+        live = [(name, path, self.tree.modules[path].records) for name, path in self.live()]
+        if not model.in_order(self.ways, self.env) or not model.stands(self.ways, self.start, live, self.env):
+            raise Lost(f"the model loses its order at {words}")
 
 
 # The shell.
@@ -532,24 +592,34 @@ def lost(run, program, top):
     return None
 
 
-def main(program, count=RUNS, seed=0, shell="sh"):
-    program = os.path.abspath(program)
-    failed = refused = accepted = 0
-    for number in range(int(seed), int(seed) + int(count)):
-        with tempfile.TemporaryDirectory(prefix="sentence-") as top:
-            top = os.path.realpath(top)
-            run = Run(number, top, shell)
-            run.tree.write()
-            found = lost(run, program, top)
-            accepted += sum(1 for one in run.commands if one[3] == 0)
-            refused += sum(1 for one in run.commands if one[3] == 1)
-            if found:
-                failed += 1
-                print(f"FAILED: run {number}: {found}", flush=True)
-    print(f"{int(count)} runs: {accepted} accepted commands, {refused} refused ones")
-    print(f"{int(count) - failed} passed, {failed} failed")
-    return 1 if failed else 0
+def emptied(top):
+    """The path of an empty folder."""
+    shutil.rmtree(top, ignore_errors=True)
+    os.mkdir(top)
+    return str(top)
 
 
-if __name__ == "__main__":
-    sys.exit(main(*sys.argv[1:]))
+def follows(program, session, top):
+    """A session of the program is as the model has it."""
+    session.follow()
+    session.tree.write()
+    same(lost(session, program, top), None, "what is lost")
+
+
+def tried(program, top, shell, data):
+    session = data.draw(sessions(shell, emptied(top)))
+    true(model.is_start(session.ways, session.start), "the start is in order")
+    follows(program, session, str(top))
+
+
+@examples(300)
+@given(data=st.data())
+def test_sessions_in_sh(program, tmp_path, data):
+    tried(program, tmp_path / "top", "sh", data)
+
+
+@pytest.mark.parametrize("shell", ["tcsh", "fish"])
+@examples(40)
+@given(data=st.data())
+def test_sessions_in_other_shells(program, tmp_path, shell, data):
+    tried(program, tmp_path / "top", shell, data)
