@@ -3,12 +3,13 @@
     python3 -B tests/commands.py PROGRAM
 
 The examples stand in commands.txt, each after a title, `# TITLE`; what they expect is typed by hand from the rules of
-the program. Each also finds the files of those before it, since the last `new`. `from NAME=VALUE...` are the variables
-at first. examples.py says how texts and files are written.
+the program. Each also finds the files of those before it, since the last `new`. `from NAME=VALUE...` are the
+variables at first. examples.py says how texts and files are written.
 
-`> run WORD...` runs the program with these arguments, and with each where a part is `{a,b}`. Below stands what it writes
-to standard output, each line of standard error after `! `, where a backslash ends a line that no newline ends, and its
-status. After `> go WORD...` the variables are what the shell makes of them. `vars NAME=VALUE...` are the variables then.
+`> run WORD...` runs the program with these arguments, and with each where a part is `{a,b}`. Below stands what it
+writes to standard output, each line of standard error after `! `, where a backslash ends a line that no newline ends,
+and its status. After `> go WORD...` the variables are what the shell makes of them. `vars NAME=VALUE...` are the
+variables then.
 """
 
 import os

@@ -1,13 +1,14 @@
 """How the examples in text files say texts, files and commands.
 
-In a text `\\n`, `\\t`, `\\r`, `\\v`, `\\f`, `\\s`, `\\z` and `\\xHH` stand for a newline, a tab, a carriage return, a vertical
-tab, a form feed, a space, NUL and a byte; any other character after a backslash is itself. A text may have parts with
-`·` between them, and a part `×TIMES` after it, as `[×200·]×200`. What a program writes stands as it is, but for the
-signs `␀` to `␟` of control characters and `␤` of a newline.
+In a text `\\n`, `\\t`, `\\r`, `\\v`, `\\f`, `\\s`, `\\z` and `\\xHH` stand for a newline, a tab, a carriage return, a
+vertical tab, a form feed, a space, NUL and a byte; any other character after a backslash is itself. A text may have
+parts with `·` between them, and a part `×TIMES` after it, as `[×200·]×200`. What a program writes stands as it is,
+but for the signs `␀` to `␟` of control characters and `␤` of a newline.
 
-`module PATH TEXT` puts a modulefile, whose first line is the cookie, `file PATH TEXT` a file of this text alone, `folder
-PATH` an empty folder and `link PATH TARGET` a symbolic link. `remove PATH` takes a file, a link or an empty folder away.
-A path with alternatives, as `/m/{a,b}/1`, stands for each of them. `/m`, `/n` and `/o` stand for folders.
+`module PATH TEXT` puts a modulefile, whose first line is the cookie, `file PATH TEXT` a file of this text alone,
+`folder PATH` an empty folder and `link PATH TARGET` a symbolic link. `remove PATH` takes a file, a link or an empty
+folder away. A path with alternatives, as `/m/{a,b}/1`, stands for each of them. `/m`, `/n` and `/o` stand for
+folders.
 """
 
 import itertools

@@ -1,5 +1,5 @@
-"""What the built program does where a case needs more than files, variables and words: other users, devices and sockets,
-streams that fail, and the time that large cases take. The other cases stand in commands.txt and modulefiles.txt.
+"""What the built program does where a case needs more than files, variables and words: other users, devices, streams
+that fail, and the time that large cases take. The other cases stand in commands.txt and modulefiles.txt.
 
 The expected texts are typed by hand from the rules of the program, and never taken from what it wrote.
 """
