@@ -1,31 +1,28 @@
 """What the public calls of envstate do where memory is refused: what they do with ample memory, or want of memory alone.
 
-    allocations.py PROGRAM      PROGRAM is cases_environment, built
-
-Each paragraph of its rows about variables is run by itself. Where memory runs out in an edit, the program looks whether
-the variables are those before it, and ends; an answer that is another is printed.
+Each paragraph of the rows of cases_environment about variables is run by itself. Where memory runs out in an edit, the
+program looks whether the variables are those before it, and ends; an answer that is another is printed.
 """
 
 import os
 import subprocess
-import sys
-import tempfile
 
-from tests.harness import HERE, SECONDS, Failed, refuser, refuses_each
+import pytest
 
-PROGRAM = os.path.abspath(sys.argv[1])
+from tests.harness import HERE, SECONDS, refuses_each
+
 ROWS = os.path.join(os.path.dirname(HERE), "crates", "cases_environment", "stdin")
 
 # The first line of the paragraphs.
 SUBJECT = "variables\n"
 
 
-def run(paragraph, asked):
-    """What is printed of a paragraph, the fault that the program ends with, and its status."""
-    done = subprocess.run(
-        [PROGRAM], input=paragraph.encode(), env=asked, capture_output=True, timeout=SECONDS, check=False
-    )
-    return done.stdout, done.stderr, done.returncode
+def paragraphs():
+    """The paragraphs about variables, each with the line behind the first one as its title."""
+    with open(ROWS, encoding="utf-8") as rows:
+        for paragraph in rows.read().split("\n\n"):
+            if paragraph.startswith(SUBJECT):
+                yield pytest.param(paragraph, id=paragraph.split("\n")[1])
 
 
 def cut_short(ample):
@@ -35,29 +32,18 @@ def cut_short(ample):
     return lambda found: found[0] in beginnings and b"OutOfMemory" in found[1] and found[2] != 0
 
 
-def paragraphs():
-    with open(ROWS, encoding="utf-8") as rows:
-        return [paragraph for paragraph in rows.read().split("\n\n") if paragraph.startswith(SUBJECT)]
+@pytest.fixture(scope="session")
+def program(built):
+    return built("cases_environment")
 
 
-def main():
-    passed = 0
-    failed = 0
-    with tempfile.TemporaryDirectory(prefix="envstate-") as folder:
-        shim = refuser(os.fsencode(folder))
-        for paragraph in paragraphs():
-            name = paragraph.split("\n")[1]
-            try:
-                is_refused = cut_short(run(paragraph, {}))
-                refuses_each(shim, lambda asked, text=paragraph: run(text, asked), is_refused, name)
-                passed += 1
-                print(f"ok: {name}")
-            except Failed as found:
-                failed += 1
-                print(f"FAILED: {found}")
-    print(f"allocations: {passed} passed, {failed} failed")
-    return 1 if failed or not passed else 0
+@pytest.mark.parametrize("paragraph", paragraphs())
+def test_growths_of_memory_that_are_refused(paragraph, program, shim):
+    def run(asked):
+        """What is printed of the paragraph, the fault that the program ends with, and its status."""
+        done = subprocess.run(
+            [program], input=paragraph.encode(), env=asked, capture_output=True, timeout=SECONDS, check=False
+        )
+        return done.stdout, done.stderr, done.returncode
 
-
-if __name__ == "__main__":
-    sys.exit(main())
+    refuses_each(shim("failing_malloc"), run, cut_short(run({})), paragraph.split("\n")[1])

@@ -1,7 +1,5 @@
 """Commands one by one, over real folders: what each writes, and where a session of them leaves the variables.
 
-    python3 -B tests/commands.py PROGRAM
-
 The examples stand in commands.txt, each after a title, `# TITLE`; what they expect is typed by hand from the rules of
 the program. Each also finds the files of those before it, since the last `new`. `from NAME=VALUE...` are the
 variables at first. examples.py says how texts and files are written.
@@ -14,10 +12,11 @@ variables then.
 
 import os
 import re
-import sys
+
+import pytest
 
 from tests.examples import each, is_put, put, real, words, written
-from tests.harness import add_case, encoded, evaluated, examples, run_all, same
+from tests.harness import encoded, evaluated, examples, same
 from tests.plain import FAMILIES, printed
 
 STATUS = re.compile(r"= (\d)")
@@ -70,7 +69,18 @@ class Session:
             same(evaluated(text, before), encoded(self.env), "the variables in sh")
 
 
-def follow(folder, lines):
+def whole():
+    """The examples, each with the files of those before it."""
+    files = []
+    for title, lines in examples("commands.txt"):
+        if lines[0] == "new":
+            files, lines = [], lines[1:]
+        yield pytest.param([*files, *lines], id=title)
+        files += filter(is_put, lines)
+
+
+@pytest.mark.parametrize("lines", whole())
+def test_commands(lines, folder):
     """The program does what the lines of an example say."""
     session, rest = Session(folder), list(lines)
     while rest:
@@ -84,26 +94,3 @@ def follow(folder, lines):
         status = int(STATUS.fullmatch(rest.pop(0))[1])
         for command in each(line.removeprefix("> ")):
             session.writes(command, wrote, status)
-
-
-def add_examples():
-    """Makes a case of each example."""
-    files = []
-    for title, lines in examples("commands.txt"):
-        if lines[0] == "new":
-            files, lines = [], lines[1:]
-        add_case(title, follow, [*files, *lines])
-        files += filter(is_put, lines)
-
-
-def main():
-    if len(sys.argv) != 2:
-        sys.exit(f"{sys.argv[0]} PROGRAM")
-    add_examples()
-    passed, failed = run_all(sys.argv[1])
-    print(f"{passed} passed, {failed} failed")
-    return 1 if failed else 0
-
-
-if __name__ == "__main__":
-    sys.exit(main())

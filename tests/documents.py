@@ -1,12 +1,8 @@
-"""What the pages name is there: functions, clauses, words, files, crates and suites. Their tables are in order.
+"""What the pages name is there: functions, clauses, words, files, crates and suites. Their tables are in order."""
 
-    python3 -B tests/documents.py
-"""
-
-import sys
+import pytest
 
 from tests import named
-from tests.harness import Failed
 from tests.run import SUITES
 
 CHECKS = {
@@ -26,18 +22,6 @@ CHECKS = {
 }
 
 
-def main():
-    failed = 0
-    for what, check in CHECKS.items():
-        try:
-            check()
-            print(f"ok: {what}")
-        except Failed as found:
-            failed += 1
-            print(f"FAILED: {what}: {found}")
-    print(f"{len(CHECKS) - failed} passed, {failed} failed")
-    return 1 if failed else 0
-
-
-if __name__ == "__main__":
-    sys.exit(main())
+@pytest.mark.parametrize("check", CHECKS.values(), ids=list(CHECKS))
+def test_the_pages(check):
+    check()

@@ -1,20 +1,25 @@
 """What the built program does where memory is refused: what it does with ample memory, or `Out of memory` alone."""
 
 import os
-import sys
 
-from tests.harness import FOO, case, encoded, loaded, refuser, refuses_each, run_all
+import pytest
+
+from tests.harness import FOO, encoded, loaded, refuses_each
 from tests.worked import FILES
 
 
-def answers_or_refuses(folder, words, env):
-    """The program answers as with ample memory, or changes nothing and says why."""
+@pytest.fixture
+def answers_or_refuses(folder, shim):
+    """Judges a command: the program answers as with ample memory, or changes nothing and says why."""
 
-    def run(asked):
-        done = folder.run(*words, env={**env, **asked})
-        return done.stdout, done.stderr, done.returncode
+    def judge(words, env):
+        def run(asked):
+            done = folder.run(*words, env={**env, **asked})
+            return done.stdout, done.stderr, done.returncode
 
-    refuses_each(refuser(folder.path), run, (b"", b"ERROR: Out of memory\n", 1).__eq__, words)
+        refuses_each(shim("failing_malloc"), run, (b"", b"ERROR: Out of memory\n", 1).__eq__, words)
+
+    return judge
 
 
 # What a file of many kinds of commands says.
@@ -33,60 +38,54 @@ if {![is-loaded]} {conflict [lindex [split [module-info name] /] 0]x}
 """
 
 
-@case
-def a_load_with_too_little_memory(folder):
+def test_a_load_with_too_little_memory(folder, answers_or_refuses):
     folder.module("foo/1.0", FOO)
     for shell in ("sh", "csh", "fish"):
-        answers_or_refuses(folder, [shell, "load", "foo"], folder.environment(PATH="/usr/bin:/bin"))
+        answers_or_refuses([shell, "load", "foo"], folder.environment(PATH="/usr/bin:/bin"))
 
 
-@case
-def a_load_of_a_loaded_module_with_too_little_memory(folder):
+def test_a_load_of_a_loaded_module_with_too_little_memory(folder, answers_or_refuses):
     folder.module("foo/1.0", FOO)
-    answers_or_refuses(folder, ["sh", "load", "foo/1.0"], loaded(folder, "foo/1.0"))
+    answers_or_refuses(["sh", "load", "foo/1.0"], loaded(folder, "foo/1.0"))
 
 
-@case
-def an_unload_with_too_little_memory(folder):
+def test_an_unload_with_too_little_memory(folder, answers_or_refuses):
     folder.module("foo/1.0", FOO)
     folder.module("bar/1", FOO)
     env = loaded(folder, "foo/1.0", "bar/1", FOO="on", PATH="/opt/foo/bin:/usr/bin:/bin")
-    answers_or_refuses(folder, ["sh", "unload", "foo"], env)
+    answers_or_refuses(["sh", "unload", "foo"], env)
 
 
-@case
-def a_stack_with_too_little_memory(folder):
+def test_a_stack_with_too_little_memory(folder, answers_or_refuses):
     folder.module("a/1", "pushenv CC gcc\n")
     folder.module("b/1", "pushenv CC clang\n")
-    answers_or_refuses(folder, ["sh", "load", "a"], folder.environment(CC="cc"))
+    answers_or_refuses(["sh", "load", "a"], folder.environment(CC="cc"))
     one = loaded(folder, "a/1", CC="gcc", __MODULES_PUSHENV_CC="a/1&gcc:&cc")
-    answers_or_refuses(folder, ["sh", "load", "b"], one)
+    answers_or_refuses(["sh", "load", "b"], one)
     both = loaded(folder, "a/1", "b/1", CC="clang", __MODULES_PUSHENV_CC="b/1&clang:a/1&gcc:&cc")
-    answers_or_refuses(folder, ["sh", "unload", "a"], both)
+    answers_or_refuses(["sh", "unload", "a"], both)
     rest = loaded(folder, "b/1", CC="clang", __MODULES_PUSHENV_CC="b/1&clang:&cc")
-    answers_or_refuses(folder, ["sh", "unload", "b"], rest)
+    answers_or_refuses(["sh", "unload", "b"], rest)
 
 
-@case
-def two_modules_with_too_little_memory(folder):
+def test_two_modules_with_too_little_memory(folder, answers_or_refuses):
     folder.module("gcc/9", "setenv GCC 9\n")
     folder.module("gcc/10", "setenv GCC 10\n")
     folder.module("mpi/1", "prereq gcc\nsetenv MPI 1\n")
-    answers_or_refuses(folder, ["sh", "load", "gcc/9", "mpi"], folder.environment())
+    answers_or_refuses(["sh", "load", "gcc/9", "mpi"], folder.environment())
     env = loaded(folder, "gcc/9", "mpi/1", GCC="9", MPI="1", __MODULES_LMPREREQ="mpi/1&gcc")
     for words in (["switch", "gcc/10"], ["unload", "gcc", "mpi"], ["purge"], ["unload", "gcc"], ["list"]):
-        answers_or_refuses(folder, ["sh", *words], env)
+        answers_or_refuses(["sh", *words], env)
 
 
-@case
-def a_search_with_too_little_memory(folder):
+def test_a_search_with_too_little_memory(folder, answers_or_refuses):
     for version in ("1.9", "1.10", "1.10-rc"):
         folder.module(f"ver/{version}", f"setenv V {version}\nmodule-whatis {{version {version}}}\n")
     folder.file("ver/.version", '#%Module\nset ModulesVersion "1.9"\n')
     folder.file("other/.modulerc", "#%Module\nerror x\n")
     folder.module("other/1", "")
     for words in (["load", "ver"], ["avail"], ["show", "ver"], ["whatis", "ver", "ver/1.10"], ["load", "other"]):
-        answers_or_refuses(folder, ["sh", *words], folder.environment())
+        answers_or_refuses(["sh", *words], folder.environment())
 
 
 def worked(folder, modulepath="m"):
@@ -99,51 +98,46 @@ def worked(folder, modulepath="m"):
     return {b"MODULEPATH": os.path.join(folder.path, modulepath.encode())}
 
 
-@case
-def the_worked_unload_with_too_little_memory(folder):
+def test_the_worked_unload_with_too_little_memory(folder, answers_or_refuses):
     env = worked(folder)
     lists = {b"LOADEDMODULES": b"foo/1.0", b"_LMFILES_": folder.path + b"/m/foo/1.0"}
     env = {**env, **lists, b"FOO": b"on", b"PATH": b"/opt/foo/bin:/usr/bin:/bin"}
     text = b"unset FOO;\nunset LOADEDMODULES;\nPATH='/usr/bin:/bin'; export PATH;\nunset _LMFILES_;\n"
     for name in ("foo/1.0", "foo"):
         folder.accepts(["sh", "unload", name], text, env=env)
-        answers_or_refuses(folder, ["sh", "unload", name], env)
+        answers_or_refuses(["sh", "unload", name], env)
 
 
-@case
-def the_worked_needs_with_too_little_memory(folder):
+def test_the_worked_needs_with_too_little_memory(folder, answers_or_refuses):
     env = worked(folder)
-    answers_or_refuses(folder, ["sh", "load", "gcc", "mpi"], env)
+    answers_or_refuses(["sh", "load", "gcc", "mpi"], env)
     folder.refuses(["sh", "load", "mpi"], "Missing one of 'gcc'", env=env)
-    answers_or_refuses(folder, ["sh", "load", "mpi"], env)
+    answers_or_refuses(["sh", "load", "mpi"], env)
     paths = folder.path + b"/m/gcc/9:" + folder.path + b"/m/mpi/1"
     lists = {b"LOADEDMODULES": b"gcc/9:mpi/1", b"_LMFILES_": paths, b"__MODULES_LMPREREQ": b"mpi/1&gcc"}
     env = {**env, **lists, b"GCC": b"9", b"MPI": b"1"}
     folder.refuses(["sh", "unload", "gcc"], "Still needed by 'mpi/1'", env=env)
     for words in (["unload", "gcc"], ["unload", "gcc", "mpi"]):
-        answers_or_refuses(folder, ["sh", *words], env)
+        answers_or_refuses(["sh", *words], env)
 
 
-@case
-def the_worked_default_file_with_too_little_memory(folder):
+def test_the_worked_default_file_with_too_little_memory(folder, answers_or_refuses):
     env = worked(folder, "n")
     for report in (b"ver/1.9\n", b"ver/1.9(default)\n"):
         report = folder.path + b"/n:\n" + report + b"ver/1.10\nver/1.10-rc\n"
         folder.answers(["sh", "avail"], b"", report, 0, env=env)
         for words in (["load", "ver"], ["avail"]):
-            answers_or_refuses(folder, ["sh", *words], env)
+            answers_or_refuses(["sh", *words], env)
         with open(folder.path + b"/n/ver/.version", "wb") as file:
             file.write(b'#%Module\nset ModulesVersion "1.9"\n')
 
 
-@case
-def many_kinds_of_commands_with_too_little_memory(folder):
+def test_many_kinds_of_commands_with_too_little_memory(folder, answers_or_refuses):
     folder.module("many/1", MANY)
-    answers_or_refuses(folder, ["sh", "load", "many"], folder.environment(HOME="/home/me", LANG="C"))
+    answers_or_refuses(["sh", "load", "many"], folder.environment(HOME="/home/me", LANG="C"))
 
 
-@case
-def refusals_with_too_little_memory(folder):
+def test_refusals_with_too_little_memory(folder, answers_or_refuses):
     folder.module("foo/1.0", FOO)
     folder.module("left/1", "puts hello\n")
     folder.module("mark/1", "catch {setenv A $b} m\nerror $m\n")
@@ -161,11 +155,5 @@ def refusals_with_too_little_memory(folder):
         ["csh", "load", "line/1"],
         ["sh", "frobnicate"],
     ):
-        answers_or_refuses(folder, words, folder.environment())
-    answers_or_refuses(folder, ["sh", "load", "foo/1.0"], encoded({"LOADEDMODULES": "foo/1.0"}))
-
-
-if __name__ == "__main__":
-    passed, failed = run_all(sys.argv[1])
-    print(f"memory: {passed} passed, {failed} failed")
-    sys.exit(1 if failed else 0)
+        answers_or_refuses(words, folder.environment())
+    answers_or_refuses(["sh", "load", "foo/1.0"], encoded({"LOADEDMODULES": "foo/1.0"}))

@@ -1,7 +1,5 @@
 """Modulefiles one by one: what the program says and changes where each is loaded, unloaded, switched, shown, described.
 
-    python3 -B tests/modulefiles.py PROGRAM
-
 The examples stand in modulefiles.txt, each after a title, `# TITLE`; what they expect is typed by hand from the rules
 of the program. At first no variable is set, no module is loaded, and the file has its cookie alone. `set NAME VALUE`
 sets a variable, `loaded NAME...` the loaded modules, `in SHELL MODULE TYPED` the shell, the module and the name that is
@@ -12,7 +10,7 @@ switches from an empty module to it and back. An unload finds the module loaded,
 the variables that the one before it made. `> load of TEXT` is a load where the file has this text alone, and nothing
 goes on from it. Below stands `ok`, `says` before each message, what is shown, and each variable that changes, but for
 the two lists of loaded modules; or the number of a refusal and its text. `ok, asked` is a file of the verdict `Asked`,
-`ok` one of another, and `ok, no load` one whose load is refused, by modcheck, which stands beside the program.
+`ok` one of another, and `ok, no load` one whose load is refused, by modcheck.
 examples.py says how that text is written, and a newline in a message and in a value.
 """
 
@@ -20,10 +18,11 @@ import copy
 import os
 import re
 import subprocess
-import sys
+
+import pytest
 
 from tests.examples import meant, written
-from tests.harness import HERE, SECONDS, add_case, examples, run_all, same, true
+from tests.harness import HERE, SECONDS, examples, same, true
 from tests.plain import FAMILIES, printed
 from tests.worked import real, write
 
@@ -85,8 +84,9 @@ def changed(line):
 class Example:
     """A module, and the variables and the loaded modules that the next command finds."""
 
-    def __init__(self, folder):
+    def __init__(self, folder, checker):
         self.folder = folder
+        self.checker = checker
         self.shell, self.module, self.typed = "sh", "m/1", "m/1"
         self.text = ""
         self.loaded = []
@@ -172,10 +172,9 @@ class Example:
 
     def verdict(self):
         """The verdict of modcheck on the file; None where its load is refused."""
-        checker = os.path.join(os.path.dirname(os.path.abspath(sys.argv[1])), "modcheck")
         _, before, _ = self.words("load")
         done = subprocess.run(
-            [checker, self.shell],
+            [self.checker, self.shell],
             input=f"load {self.typed}\n".encode(),
             env=self.env(before),
             capture_output=True,
@@ -188,9 +187,10 @@ class Example:
         return None if refused else last.removeprefix(f"{self.module}: ")
 
 
-def follow(folder, lines):
+@pytest.mark.parametrize("lines", [pytest.param(lines, id=title) for title, lines in examples("modulefiles.txt")])
+def test_modulefiles(lines, folder, built):
     """The program answers each command of an example as its lines say."""
-    example, rest = Example(folder), list(lines)
+    example, rest = Example(folder, built("modcheck")), list(lines)
     while rest:
         line = rest.pop(0)
         if not line.startswith("> "):
@@ -201,17 +201,3 @@ def follow(folder, lines):
             answer.append(rest.pop(0))
         command, of, text = line.removeprefix("> ").partition(" of ")
         (example.aside(text) if of else example).answers(command, answer)
-
-
-def main():
-    if len(sys.argv) != 2:
-        sys.exit(f"{sys.argv[0]} PROGRAM")
-    for title, lines in examples("modulefiles.txt"):
-        add_case(title, follow, lines)
-    passed, failed = run_all(sys.argv[1])
-    print(f"{passed} passed, {failed} failed")
-    return 1 if failed else 0
-
-
-if __name__ == "__main__":
-    sys.exit(main())

@@ -1,21 +1,17 @@
 """The number of the refusal where memory is refused within a request, and nothing is changed: 31 for the request itself,
 41 where files are searched for or read, 11 where they are evaluated.
 
-    python3 -B tests/numbers.py PROGRAM      PROGRAM is cases_requests, built
-
-Each growth of memory is refused in turn. Until the request is asked for, and after it, the program itself may be refused.
-The program asks each request of `run` and of a session too. A growth is refused within one of the three, so that they
+Each growth of memory is refused in turn. Until the request is asked for, and after it, the program cases_requests itself
+may be refused. It asks each request of `run` and of a session too. A growth is refused within one of the three, so that they
 answer otherwise then is passed over; with ample memory it is not.
 """
 
-import os
 import subprocess
-import sys
-import tempfile
 
-from tests.harness import SECONDS, Failed, refuser, refuses_each
+import pytest
 
-PROGRAM = os.path.abspath(sys.argv[1])
+from tests.harness import SECONDS, refuses_each, same
+
 REQUEST, SEARCH, EVALUATION = (f"{number} Out of memory" for number in (31, 41, 11))
 NUMBERS = {REQUEST, SEARCH, EVALUATION}
 OTHERS = ("run answers otherwise", "session answers otherwise")
@@ -49,11 +45,11 @@ REQUESTS = (
 )
 
 
-def answers(there, words, asked):
+def answers(program, there, words, asked):
     """What the request answers and what the variables are then, None where the program had no memory to say so."""
     text = f"requests\n{there}ask {words}\nvars\n"
     done = subprocess.run(
-        [PROGRAM], input=text.encode(), env=asked, capture_output=True, timeout=SECONDS, check=False
+        [program], input=text.encode(), env=asked, capture_output=True, timeout=SECONDS, check=False
     )
     found = done.stdout.decode().split("> ")
     answer = next((part for part in found if part.startswith(f"ask {words}\n")), None)
@@ -69,38 +65,38 @@ def numbers_of(words):
     return {"list": {REQUEST}, "avail": {REQUEST, SEARCH}}.get(words, NUMBERS)
 
 
-def judged(there, words):
-    """Whether what is found is refused for want of memory, and leaves the variables."""
-    left = answers(there, words, {})[1]
-    return lambda found: found is None or (found[0] in numbers_of(words) and found[1] == left)
+@pytest.fixture(scope="session")
+def program(built):
+    return built("cases_requests")
 
 
-def main():
-    passed = 0
-    failed = 0
-    seen = set()
-    with tempfile.TemporaryDirectory(prefix="numbers-") as folder:
-        shim = refuser(os.fsencode(folder))
-        for there, words in REQUESTS:
-
-            def run(asked, there=there, words=words):
-                found = answers(there, words, asked)
-                if found is not None and found[0] in NUMBERS:
-                    seen.add(found[0])
-                return found
-
-            try:
-                refuses_each(shim, run, judged(there, words), words)
-                passed += 1
-                print(f"ok: {words}")
-            except Failed as found:
-                failed += 1
-                print(f"FAILED: {found}")
-            sys.stdout.flush()
-    print("refused by " + ", ".join(sorted(seen)))
-    print(f"numbers: {passed} passed, {failed} failed")
-    return 1 if failed or seen != NUMBERS else 0
+@pytest.fixture(scope="module")
+def met():
+    """The numbers by which each request was refused, by its words."""
+    return {}
 
 
-if __name__ == "__main__":
-    sys.exit(main())
+@pytest.mark.parametrize("there, words", [pytest.param(*request, id=request[1]) for request in REQUESTS])
+def test_the_number_of(there, words, program, shim, met):
+    """What is found is refused for want of memory, and leaves the variables."""
+    left = answers(program, there, words, {})[1]
+    met[words] = set()
+
+    def run(asked):
+        found = answers(program, there, words, asked)
+        if found is not None:
+            met[words] |= NUMBERS & {found[0]}
+        return found
+
+    def is_refused(found):
+        return found is None or (found[0] in numbers_of(words) and found[1] == left)
+
+    refuses_each(shim("failing_malloc"), run, is_refused, words)
+
+
+def test_requests_are_refused_by_each_number(met, note):
+    if len(met) < len(REQUESTS):
+        pytest.skip("not each request was asked for")
+    found = set().union(*met.values())
+    note(f"refused by {', '.join(sorted(found))}")
+    same(found, NUMBERS, "the numbers of the requests")

@@ -1,13 +1,11 @@
 """The sessions that README and docs/USERS.md show, typed at a terminal over the installed product, and the commands by
 which docs/SITES.md looks at the modulefiles of a site.
 
-    python3 -B tests/pages.py PROGRAM
-
-modcheck and modaudit stand beside the program. A block `console` is a session: commands stand behind `$ `, and below each what the
-terminal shows. All blocks of a page are typed into one bash, in their order, with the modulefiles of tests/sites at the
-place that the pages name.
+A block `console` is a session: commands stand behind `$ `, and below each what the terminal shows. All blocks of a page
+are typed into one bash, in their order, with the modulefiles of tests/sites at the place that the pages name.
 """
 
+import contextlib
 import fcntl
 import os
 import pty
@@ -17,12 +15,13 @@ import shutil
 import signal
 import struct
 import subprocess
-import sys
 import termios
 import textwrap
 import time
 
-from tests.harness import HERE, SECONDS, Failed, case, run_all, same, true
+import pytest
+
+from tests.harness import HERE, SECONDS, Failed, same, true
 
 TOP = os.path.dirname(HERE)
 ROWS, COLUMNS = 40, 80
@@ -96,10 +95,22 @@ def blocks(text, language):
     return [textwrap.dedent(block) for _, block in found]
 
 
+@pytest.fixture
+def install(built):
+    """Installs the product below a prefix."""
+
+    def below(prefix):
+        programs = [built(name) for name in ("modulecmd", "modcheck", "modaudit")]
+        command = ["sh", os.path.join(TOP, "tools", "product.sh"), "install", "", prefix, *programs]
+        subprocess.run(command, stdout=subprocess.DEVNULL, check=True)
+
+    return below
+
+
 class Typed:
     """A bash at a terminal of its own, which has the functions of the product."""
 
-    def __init__(self, folder):
+    def __init__(self, folder, install):
         self.places = {place: os.fsdecode(folder.path) + place for place in (PRODUCT, MODULES, HOME)}
         install(self.places[PRODUCT])
         shutil.copytree(os.path.join(HERE, "sites"), self.places[MODULES])
@@ -152,39 +163,20 @@ class Typed:
             self.running.wait()
 
 
-def install(prefix):
-    programs = [os.path.join(os.path.dirname(os.path.abspath(sys.argv[1])), name) for name in ("modulecmd", "modcheck", "modaudit")]
-    command = ["sh", os.path.join(TOP, "tools", "product.sh"), "install", "", prefix, *programs]
-    subprocess.run(command, stdout=subprocess.DEVNULL, check=True)
-
-
-def runs_as_shown(folder, *names):
+@pytest.mark.parametrize("names", [("README.md",), ("docs", "USERS.md")], ids=["the readme", "the page for users"])
+def test_the_sessions_of(names, folder, install):
     """Each command of a page shows what stands below it."""
     sessions = blocks(content(*names), "console")
     true(sessions, f"{names} shows a session")
-    typed = Typed(folder)
-    try:
+    with contextlib.closing(Typed(folder, install)) as typed:
         for block in sessions:
             true(block.startswith("$ "), f"a session begins with a command: {block!r}")
             for part in re.split(r"^\$ ", block, flags=re.MULTILINE)[1:]:
                 command, _, wanted = part.partition("\n")
                 same(typed.types(command), wanted, f"what {command!r} shows")
-    finally:
-        typed.close()
 
 
-@case
-def the_sessions_of_the_readme(folder):
-    runs_as_shown(folder, "README.md")
-
-
-@case
-def the_sessions_of_the_page_for_users(folder):
-    runs_as_shown(folder, "docs", "USERS.md")
-
-
-@case
-def the_commands_of_the_page_for_sites(folder):
+def test_the_commands_of_the_page_for_sites(folder, install):
     home = os.fsdecode(folder.path) + "/home"
     install(os.path.join(home, "modulecmd"))
     shutil.copytree(os.path.join(HERE, "sites"), os.fsdecode(folder.modules), dirs_exist_ok=True)
@@ -215,20 +207,7 @@ def the_commands_of_the_page_for_sites(folder):
     same(found[len(wanted) :], short, "what the check prints of names without versions")
 
 
-@case
-def the_pages_are_no_longer_than_they_may_be(folder):
+def test_the_pages_are_no_longer_than_they_may_be():
     for names, most in ((("README.md",), 9_000), (("docs", "SITES.md"), 12_000), (("docs", "USERS.md"), 4_000)):
         length = len(content(*names).encode())
         true(length <= most, f"{names} has {length} bytes, of {most}")
-
-
-def main():
-    if len(sys.argv) != 2:
-        sys.exit(f"{sys.argv[0]} PROGRAM")
-    passed, failed = run_all(sys.argv[1])
-    print(f"{passed} passed, {failed} failed")
-    return 1 if failed else 0
-
-
-if __name__ == "__main__":
-    sys.exit(main())

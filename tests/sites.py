@@ -1,20 +1,17 @@
 """Modulefiles in the styles of sites (the folder sites), and in the forms of the generators of Spack and EasyBuild (the
 folder generated), loaded, shown and unloaded by the built program.
 
-    python3 -B tests/sites.py PROGRAM
-
 The expected values are typed by hand from modulefile(5) and the rules of the program; those of the generated forms are
 what Environment Modules 5.2 makes of the same loads. What a command prints is evaluated by sh, and the next command
-starts from there. The verdicts are those of modcheck, which stands beside the program.
+starts from there. The verdicts are those of modcheck.
 """
 
 import os
 import re
 import shutil
 import subprocess
-import sys
 
-from tests.harness import HERE, SECONDS, case, evaluated, run_all, same
+from tests.harness import HERE, SECONDS, evaluated, same
 
 TOP = os.path.dirname(HERE)
 
@@ -83,9 +80,8 @@ class Site:
         report = b"".join(f"{name}: {line}\n".encode() for line in lines)
         self.folder.answers(["sh", "whatis", name], b"", report, 0, env=self.env)
 
-    def judges(self, *names):
+    def judges(self, checker, *names):
         """What modcheck says of these modules, loaded one after another."""
-        checker = os.path.join(os.path.dirname(os.path.abspath(sys.argv[1])), "modcheck")
         lines = "".join(f"load {name}\n" for name in names).encode()
         done = subprocess.run(
             [checker, "sh"], env=self.env, input=lines, capture_output=True, timeout=SECONDS, check=False
@@ -95,8 +91,7 @@ class Site:
         return dict(line.split(": ", 1) for line in said[len(names) :])
 
 
-@case
-def a_compiler(folder):
+def test_a_compiler(folder):
     site = Site(folder)
     site.loads("gcc/13.2.0", **GCC)
     site.refuses("load clang", "Conflict with 'gcc/13.2.0'")
@@ -120,8 +115,7 @@ def a_compiler(folder):
     )
 
 
-@case
-def a_compiler_over_that_of_the_user(folder):
+def test_a_compiler_over_that_of_the_user(folder):
     site = Site(folder, CC="cc")
     site.loads(
         "clang/17",
@@ -149,8 +143,7 @@ MPI = {
 }
 
 
-@case
-def a_library_that_needs_a_compiler(folder):
+def test_a_library_that_needs_a_compiler(folder):
     site = Site(folder)
     site.refuses("load openmpi", "Missing one of 'gcc clang'")
     site.loads("gcc/13.2.0", **GCC)
@@ -176,8 +169,7 @@ def a_library_that_needs_a_compiler(folder):
     )
 
 
-@case
-def a_library_whose_directories_a_procedure_adds(folder):
+def test_a_library_whose_directories_a_procedure_adds(folder):
     site = Site(folder)
     site.loads("gcc/13.2.0", **GCC)
     site.refuses("load hdf5", "Missing one of 'openmpi'")
@@ -203,8 +195,7 @@ def a_library_whose_directories_a_procedure_adds(folder):
     )
 
 
-@case
-def a_program_with_license_servers(folder):
+def test_a_program_with_license_servers(folder):
     site = Site(folder, LM_LICENSE_FILE="1700@old", SOLVER_HOME="/home/u/solver", SOLVER_OPTIONS="quiet")
     site.loads(
         "solver/2024",
@@ -229,8 +220,7 @@ def a_program_with_license_servers(folder):
     )
 
 
-@case
-def paths_that_are_computed_from_the_version(folder):
+def test_paths_that_are_computed_from_the_version(folder):
     site = Site(folder)
     effects = {
         "PYTHON_VERSION": "3.11",
@@ -249,8 +239,7 @@ def paths_that_are_computed_from_the_version(folder):
     site.is_back(PYTHONHOME=None)
 
 
-@case
-def a_file_that_speaks(folder):
+def test_a_file_that_speaks(folder):
     site = Site(folder)
     site.loads("greeting/1", said="Loading greeting/1\n", GREETING="hello")
     site.unloads("greeting", said="Unloading greeting/1\n")
@@ -259,8 +248,7 @@ def a_file_that_speaks(folder):
     site.shows("greeting/1", "setenv GREETING hello")
 
 
-@case
-def directories_of_several_architectures(folder):
+def test_directories_of_several_architectures(folder):
     root = "/opt/toolbox/5.0"
     libraries = f"{root}/x86_64/lib:{root}/x86_64/lib64:{root}/noarch/lib"
     site = Site(folder, CPATH="/home/u/include")
@@ -283,8 +271,7 @@ def directories_of_several_architectures(folder):
     site.is_back()
 
 
-@case
-def a_start_file_for_each_shell(folder):
+def test_a_start_file_for_each_shell(folder):
     site = Site(folder)
     site.loads("profile/1", PROFILE_INIT="/opt/profile/etc/init.sh", PROFILE_KIND="b")
     site.unloads("profile")
@@ -294,8 +281,7 @@ def a_start_file_for_each_shell(folder):
         site.shows("profile/1", *lines, shell=shell)
 
 
-@case
-def directories_of_the_user(folder):
+def test_directories_of_the_user(folder):
     site = Site(folder, HOME="/home/u", MAIL_CHECK="60")
     paths = {"WORK_CACHE": "/home/u/.cache/work", "WORK_TMP": "/tmp/work", "MAIL_CHECK": None}
     site.loads("workdir/1", WORK_DEPTH="4", **paths)
@@ -308,8 +294,7 @@ def directories_of_the_user(folder):
     Site(folder).refuses("load workdir", "Stopped by the modulefile")
 
 
-@case
-def plugins_for_the_compiler_that_is_loaded(folder):
+def test_plugins_for_the_compiler_that_is_loaded(folder):
     site = Site(folder)
     site.refuses("load plugins", "Stopped by the modulefile")
     site.loads("gcc/13.2.0", **GCC)
@@ -335,8 +320,7 @@ def loads_all(site, *names):
         site.env = site.accepts(f"load {name}", "")
 
 
-@case
-def files_of_spack_that_name_what_they_need(folder):
+def test_files_of_spack_that_name_what_they_need(folder, built):
     site = Site(folder, of="generated/spack")
     site.refuses("load hdf5", f"Missing one of '{RUNTIME}'")
     loads_all(site, RUNTIME, ZLIB)
@@ -358,11 +342,10 @@ def files_of_spack_that_name_what_they_need(folder):
     site.describes(HDF5, "Files of arrays and tables in folders of their own, written from many processes.")
     site.env = site.accepts("purge", "")
     site.is_back()
-    same(site.judges(*SPACK), dict.fromkeys(SPACK, "Plain"), "the verdicts")
+    same(site.judges(built("modcheck"), *SPACK), dict.fromkeys(SPACK, "Plain"), "the verdicts")
 
 
-@case
-def files_of_spack_that_load_others(folder):
+def test_files_of_spack_that_load_others(folder):
     """The default of Spack is refused; an older form is accepted where what it needs is there."""
     site = Site(folder, of="generated/spack")
     loads_all(site, *SPACK)
@@ -374,8 +357,7 @@ def files_of_spack_that_load_others(folder):
     site.refuses("load netcdf-c", "'module' is left out")
 
 
-@case
-def files_of_spack_that_hide_a_version(folder):
+def test_files_of_spack_that_hide_a_version(folder):
     site = Site(folder, of="generated/spack")
     path = folder.file("zlib-ng/.modulerc", f"#%Module4.7\nmodule-hide --soft --hidden-loaded {ZLIB}\n")
     loads_all(site, RUNTIME)
@@ -388,8 +370,7 @@ ZLIB_OF_CORE = "zlib/1.2.13-GCCcore-12.3.0"
 BINUTILS = "binutils/2.40-GCCcore-12.3.0"
 
 
-@case
-def files_of_easybuild_that_load_what_is_not_there(folder):
+def test_files_of_easybuild_that_load_what_is_not_there(folder):
     """They are accepted while what they need is loaded, at the load and at the unload."""
     site = Site(folder, of="generated/easybuild")
     site.refuses("load zlib", "'module' is left out")
@@ -424,8 +405,7 @@ def files_of_easybuild_that_load_what_is_not_there(folder):
     site.is_back()
 
 
-@case
-def files_of_easybuild_that_always_load(folder):
+def test_files_of_easybuild_that_always_load(folder):
     site = Site(folder, of="generated/easybuild")
     loads_all(site, "GCCcore")
     site.refuses("load bzip2", "'depends-on' is left out")
@@ -442,8 +422,7 @@ def hook_of_the_guide():
     return made["module_write_hook"]
 
 
-@case
-def files_of_easybuild_through_the_hook_of_the_guide(folder):
+def test_files_of_easybuild_through_the_hook_of_the_guide(folder, built):
     site = Site(folder, of="generated/easybuild")
     hook = hook_of_the_guide()
     bzip2 = "bzip2/1.0.8-GCCcore-12.3.0"
@@ -460,16 +439,4 @@ def files_of_easybuild_through_the_hook_of_the_guide(folder):
     site.env = site.accepts("purge", "")
     site.is_back()
     names = (CORE, ZLIB_OF_CORE, BINUTILS, bzip2)
-    same(site.judges(*names), dict.fromkeys(names, "Plain"), "the verdicts")
-
-
-def main():
-    if len(sys.argv) != 2:
-        sys.exit(f"{sys.argv[0]} PROGRAM")
-    passed, failed = run_all(sys.argv[1])
-    print(f"{passed} passed, {failed} failed")
-    return 1 if failed else 0
-
-
-if __name__ == "__main__":
-    sys.exit(main())
+    same(site.judges(built("modcheck"), *names), dict.fromkeys(names, "Plain"), "the verdicts")

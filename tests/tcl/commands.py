@@ -4,9 +4,10 @@ Where the profile differs from Tcl 8.6 the answer stands here, with its rule."""
 
 import os
 import subprocess
-import sys
 
-HERE = os.path.dirname(os.path.abspath(__file__))
+from tests.harness import SECONDS, same
+from tests.tcl.answers import HERE, tclsh
+
 CRATE = os.path.join(HERE, "..", "..", "crates", "cases_tcl")
 LIMIT = 64
 
@@ -76,30 +77,18 @@ def by_the_profile(row, answer):
     return answer
 
 
-def main():
+def test_the_rows_of_commands(tmp_path, judge_rows, note):
     rows, expected = rows_of("command ")
-    asked = "".join(("" if row in SPARED else row) + "\n" for row in rows)
-    path = os.path.join(CRATE, "out", "rows.tcl")
-    os.makedirs(os.path.dirname(path), exist_ok=True)
-    with open(path, "w", encoding="utf-8") as file:
-        file.write(asked)
-    run = subprocess.run(
-        ["tclsh", os.path.join(HERE, "commands.tcl"), path],
-        capture_output=True, text=True, check=True, timeout=60,
-    )
-    answers = run.stdout.split("\n")[:-1]
-    if not rows or len(rows) != len(answers):
-        sys.exit(f"{len(rows)} rows, {len(answers)} answers of tclsh")
-    wrong = 0
+    asked = tmp_path / "rows.tcl"
+    asked.write_text("".join(("" if row in SPARED else row) + "\n" for row in rows), encoding="utf-8")
+    words = [*tclsh("commands.tcl"), asked]
+    done = subprocess.run(words, capture_output=True, encoding="utf-8", check=True, timeout=SECONDS)
+    answers = done.stdout.split("\n")[:-1]
+    same(len(answers), len(rows), "the number of answers of tclsh")
+    wrong = []
     for row, answer, told in zip(rows, answers, expected):
         meant = by_the_profile(row, answer)
         if meant != told:
-            wrong += 1
-            print(f"{row}: tclsh {answer!r}, so {meant!r}, but expected is {told!r}")
-    print(f"{len(DIFFERENCES)} differ by the profile's own rules")
-    print(f"{len(rows) - wrong} passed, {wrong} failed")
-    sys.exit(1 if wrong else 0)
-
-
-if __name__ == "__main__":
-    main()
+            wrong.append(f"{row}: tclsh {answer!r}, so {meant!r}, but expected is {told!r}")
+    note(f"{len(DIFFERENCES)} differ by the profile's own rules")
+    judge_rows(len(rows), wrong)
