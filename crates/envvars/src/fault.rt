@@ -25,7 +25,7 @@ pub enum EnvFault {
 }
 
 impl EnvFault {
-    ghost use Rattle.std.specs.Prelude.{◌≡◌, Some};
+    ghost use Rattle.std.specs.Prelude.{◌≡◌};
     ghost use Rattle.message.specs.Messages.{text_of};
     ghost use Rattle.envvars.specs.Reasons.{message_of, number_of, bad_variable, bad_value, HasReason};
 
@@ -85,6 +85,9 @@ impl EnvFault {
 }
 
 impl fmt::Display for EnvFault {
+    ghost use Rattle.std.specs.Prelude.{Some};
+    ghost use Rattle.envvars.specs.Reasons.{message_of};
+
     ghost output = { λ fault. Some (message_of fault) };
 
     fn fmt<W: fmt::Write>(&self, f: &mut fmt::Formatter<W>) -> fmt::Result {
@@ -95,6 +98,7 @@ impl fmt::Display for EnvFault {
 impl Error for EnvFault {}
 
 impl From<AllocError> for EnvFault {
+    ghost use Rattle.std.specs.Prelude.{◌≡◌};
     ghost use Rattle.envvars.specs.declared.fault.EnvFault.TheVariants.{OutOfMemory};
 
     ghost from_gives = { λ _ e. e ≡ OutOfMemory };
@@ -105,6 +109,9 @@ impl From<AllocError> for EnvFault {
 }
 
 impl<T: Drop> From<AllocFailed<T>> for EnvFault {
+    ghost use Rattle.std.specs.Prelude.{◌≡◌};
+    ghost use Rattle.envvars.specs.declared.fault.EnvFault.TheVariants.{OutOfMemory};
+
     ghost from_gives = { λ _ e. e ≡ OutOfMemory };
 
     fn from(_refused: AllocFailed<T>) -> EnvFault {

@@ -96,6 +96,7 @@ impl From<AllocError> for RunFault {
 }
 
 impl From<EnvFault> for RunFault {
+    ghost use Rattle.std.specs.Prelude.{◌≡◌};
     ghost use Rattle.modulerun.specs.Refusals.{fault_of_edit};
 
     ghost from_gives = { λ fault e. e ≡ fault_of_edit fault };

@@ -7,7 +7,7 @@ use Rattle.tclrules.specs.Simulates.{point}
 use Rattle.tclrules.specs.Variables.{State}
 use Rattle.tclrules.specs.Plans as plans
 use Rattle.tclrules.specs.Words as pieces
-use Rattle.tclrules.specs.Plans.{Next, sized, given}
+use Rattle.tclrules.specs.Plans.{Next, sized}
 use Rattle.tclrules.specs.Rules.{rule, called, turn}
 use Rattle.tclforms.specs.Views.{pair_texts, form_view}
 use Rattle.tclsubstitution.specs.Machine.{range_text}
@@ -22,6 +22,7 @@ use Rattle.std.proofs.lemmas.List.{drop_all}
 use Rattle.tclscript.specs.declared.tree.Word.{out-Word}
 use Rattle.tclscript.specs.declared.piece.ByteRange.{ByteRange}
 use Rattle.tclchars.specs.Numerals.{numeral}
+use Rattle.tclrules.specs.Plans.{given}
 use Rattle.tclrules.specs.Words.{expanded}
 use Rattle.tclrules.specs.Expressions.{normal}
 use Rattle.tclrules.proofs.Leading.{stay, continue_with, starve, count_on, count_over, run_on, run_halts, run_tail}
