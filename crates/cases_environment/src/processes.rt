@@ -2,13 +2,14 @@
 
 use crate::shown::starved;
 use crate::texts::{bytes_of, first_word};
-use processinput::{arguments, environment_block, environment_of};
+use envstate::Env;
+use processinput::{arguments, environment_block};
 use std::alloc::{AllocError, Global};
 use std::env;
 
 /// The value of a variable of entries, of which the first of several counts.
-fn value_text(alloc: Global, entries: &[u8], name: &str) -> Result<String, AllocError> {
-    let env = starved(environment_of(alloc, entries))?;
+fn value_text(alloc: Global, entries: Vec<u8>, name: &str) -> Result<String, AllocError> {
+    let env = starved(Env::from_block(alloc, entries))?;
     match env.get(name) {
         Some(value) => format!(in alloc; "'{value}'"),
         None => String::from_str(alloc, "unset"),
@@ -25,7 +26,7 @@ fn is_own_path(rt: &HostRuntime, given: &str) -> bool {
 
 /// Whether this process is given the PATH that it has.
 fn has_own_path(rt: &HostRuntime) -> Result<bool, AllocError> {
-    let given = starved(environment_of(rt.alloc(), &environment_block(rt)?))?;
+    let given = starved(Env::from_block(rt.alloc(), environment_block(rt)?))?;
     Ok(match given.get("PATH") {
         Some(path) => is_own_path(rt, path),
         None => false,
@@ -43,7 +44,7 @@ pub(crate) fn answer(rt: &HostRuntime, line: &str) -> Result<String, AllocError>
     let (kind, rest) = first_word(line);
     match kind {
         "own" => String::from_str(rt.alloc(), own_text(rt)?),
-        "value" => value_text(rt.alloc(), &environment_block(rt)?, rest),
-        _ => value_text(rt.alloc(), &bytes_of(rt.alloc(), b'\\', rest)?, "A"),
+        "value" => value_text(rt.alloc(), environment_block(rt)?, rest),
+        _ => value_text(rt.alloc(), bytes_of(rt.alloc(), b'\\', rest)?, "A"),
     }
 }

@@ -86,14 +86,14 @@ pub(crate) fn shown_done(
 /// What a request changes, and what it has done.
 pub(crate) fn shown_changed(alloc: Global, changed: &Changed) -> Result<String, AllocError> {
     let mut text = differences(alloc, changed.changes.as_slice())?;
-    let loaded = changed.loaded.as_slice();
-    let done = shown_done(
+    let done = &changed.done;
+    let shown = shown_done(
         alloc,
-        loaded,
-        changed.messages.as_slice(),
-        changed.report.as_str(),
+        done.loaded.as_slice(),
+        done.messages.as_slice(),
+        done.report.as_str(),
     )?;
-    text.push_str(done.as_str())?;
+    text.push_str(shown.as_str())?;
     Ok(text)
 }
 

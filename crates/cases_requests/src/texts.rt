@@ -1,6 +1,6 @@
 //! Texts of lines: what escapes in them mean, their words, and limits.
 use anyhow::Result;
-use modulecmd::{Env, environment_of};
+use modulecmd::Env;
 use std::alloc::{AllocError, Global};
 use tclrules::Limits;
 
@@ -46,7 +46,7 @@ pub(crate) fn environment(alloc: Global, line: &str) -> Result<Env> {
         block.extend_from_slice(entry.as_bytes())?;
         block.push(0)?;
     }
-    Ok(environment_of(alloc, block.as_slice())?)
+    Ok(Env::from_block(alloc, block)?)
 }
 
 /// The character that this one means after a backslash.

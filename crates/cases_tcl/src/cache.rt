@@ -3,11 +3,11 @@
 //! that isn't cached.
 use crate::escapes::text_of;
 use crate::lines::Line;
+use crate::recorder::Recorder;
 use crate::scripts::{LIMITS, recorder};
 use std::alloc::Global;
 use tclcache::Kept;
 use tcleval::evaluate_with;
-use tclrules::Recorder;
 
 /// Whether a script is evaluated, and not refused.
 fn is_evaluated(alloc: Global, cache: &mut Kept, script: &str, mut host: Recorder) -> bool {

@@ -3,6 +3,7 @@
 //! expression without brackets. A value has at most 64 bytes.
 //!
 //! The answer is `ok RESULT`, `raised MESSAGE`, or `halted` with what halts.
+use crate::recorder::Recorder;
 use crate::scripts::recorder;
 use std::alloc::{AllocError, Global};
 use tclcommands::{
@@ -10,7 +11,7 @@ use tclcommands::{
 };
 use tclexpr::{OwnedExpr, own_expr};
 use tclforms::{Form, Simple, core_form};
-use tclrules::{EvalFault, Host, Limits, Recorder};
+use tclrules::{EvalFault, Host, Limits};
 use tclsubstitution::{Control, Step, Stop, SubstitutionContext, advance};
 use tclvalue::elements;
 use tclvariables::{Local, Variables};

@@ -18,6 +18,7 @@ mod cache;
 mod commands;
 mod escapes;
 mod lines;
+mod recorder;
 mod scripts;
 mod texts;
 mod trees;

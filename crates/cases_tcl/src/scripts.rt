@@ -9,9 +9,10 @@
 //! bars between its words; and `asked`, where a question was asked.
 use crate::escapes::{push_made_text, push_text, push_texts, text_of};
 use crate::lines::Line;
+use crate::recorder::Recorder;
 use std::alloc::{AllocError, Global};
 use tcleval::evaluate;
-use tclrules::{Ending, EvalFault, Limits, Recorder};
+use tclrules::{Ending, EvalFault, Limits};
 
 /// The limits of the program.
 pub(crate) const LIMITS: Limits = Limits {

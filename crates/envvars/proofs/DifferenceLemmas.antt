@@ -1,5 +1,5 @@
 -- The difference that the entries of a table make, and changes sorted by the names of their variables.
-use Rattle.std.proofs.Common.{◌≡◌, ◌+◌, ◌<◌, Bool, true, false, cond, not, List, [], ◌∷◌, ◌++◌, length, map, filter, subst, refl, sym, ap, ◌∙◌, append_assoc, arith, Option, Some, None, String, Global, string_bytes}
+use Rattle.std.proofs.Common.{◌≡◌, ◌+◌, ◌<◌, Bool, true, false, cond, not, List, [], ◌∷◌, length, map, filter, subst, refl, sym, ap, ◌∙◌, arith, Option, Some, None, String, Global, string_bytes}
 use Rattle.std.specs.Prelude.{bytes_eq}
 use Rattle.std.specs.List.{dedup, dedup_from, AllByRecursion, IsDistinct}
 use Rattle.std.specs.List.Sorted.{IsStrictlySortedBy, IsSorted, IsSortedBy, IsPermutation}
@@ -17,23 +17,24 @@ use Rattle.std.proofs.lemmas.Map.Made.{IsDistinct-keys_filter}
 use Rattle.std.proofs.lemmas.Map.Text.{is_eq-slice_cmp}
 use Rattle.indexmap.proofs.MapLemmas.{lookup_permutation}
 use Rattle.envvars.specs.Texts.{Text, has}
-use Rattle.envvars.specs.Environment.{Environment, lookup}
-use Rattle.envvars.specs.Changes.{NewValue, same_value, difference, new_value_at, new_value_of, AreChanges}
+use Rattle.envvars.specs.Environment.{Environment, lookup, with_value}
+use Rattle.envvars.specs.Changes.{NewValue, same_value, difference, new_value_at, new_value_of, AreChanges, applied}
 use Rattle.envvars.specs.Tables.{Slot, differs_from, names_of, new_values_of, written_over}
 use Rattle.envvars.specs.declared.change.Change.{Change}
 use Rattle.envvars.proofs.TextLemmas.{same_text, bytes_eq-same, bytes_eq-symmetric}
 use Rattle.envvars.proofs.EnvLemmas.{lookup-with_value}
-use Rattle.envvars.proofs.ChangeLemmas.{same_as_itself}
+use Rattle.envvars.proofs.ChangeLemmas.{same_as_itself, applied-with_value}
 use Rattle.envvars.proofs.TableLemmas.{not_written}
 use Rattle.std.proofs.lemmas.Bool.{false≢true}
 
--- one more change that may pass
-first_kept : (b : Bool) (c : NewValue) (rest : List NewValue) → cond b (c ∷ []) [] ++ rest ≡ cond b (c ∷ rest) rest
-first_kept true c rest = refl
-first_kept false c rest = refl
+-- the changes that pass
+kept_cond : (b : Bool) (c : Change) (cs : List Change) → map new_value_of (cond b (c ∷ cs) cs) ≡ cond b (new_value_of c ∷ map new_value_of cs) (map new_value_of cs)
+kept_cond true c cs = refl
+kept_cond false c cs = refl
 
-pub one_more : (p : NewValue → Bool) (done : List NewValue) (c : NewValue) (rest all : List NewValue) → done ++ filter p (c ∷ rest) ≡ all → (done ++ filter p (c ∷ [])) ++ filter p rest ≡ all
-one_more p done c rest all h = append_assoc done (filter p (c ∷ [])) (filter p rest) ∙ ap (λ (l : List NewValue). done ++ l) (first_kept (p c) c (filter p rest)) ∙ h
+pub kept_changes : (p : NewValue → Bool) (cs : List Change) → map new_value_of (filter (λ c. p (new_value_of c)) cs) ≡ filter p (map new_value_of cs)
+kept_changes p [] = refl
+kept_changes p (c ∷ cs) = kept_cond (p (new_value_of c)) c _ ∙ ap (λ (l : List NewValue). cond (p (new_value_of c)) (new_value_of c ∷ l) l) (kept_changes p cs)
 
 -- the names of entries are as far apart as their keys
 apart : (k : String Global) (es : List Slot) → AllByRecursion (λ y. string_eq k y ≡ false) (maps.keys_of es) → AllByRecursion (λ y. bytes_eq (string_bytes k) y ≡ false) (names_of es)
@@ -99,6 +100,16 @@ AreChanges-over e es before after b d o s = record {
   ordered = o;
   each = λ q. s q ∙ ap (λ (l : List NewValue). new_value_at l q) b ∙ each_differs e es q d;
 }
+
+-- Made one after another, changes of different variables give what the entries give.
+pub applied-entries : (e : Environment) (es : List Slot) → IsDistinct bytes_eq (names_of es) → applied (new_values_of es) e ≡ written_over e es
+unfolding IsDistinct
+applied-entries e [] d = refl
+applied-entries e (x ∷ xs) d =
+    let name = string_bytes x.0 in
+    let value = option_map string_bytes x.1 in
+    applied-with_value (new_values_of xs) e name value (ap (has name) (sym (named_entries xs)) ∙ not_among name name (names_of xs) refl d.0)
+    ∙ ap (λ (under : Environment). with_value under name value) (applied-entries e xs d.1)
 
 -- changes sorted by name
 

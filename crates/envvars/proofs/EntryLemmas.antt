@@ -1,5 +1,5 @@
 -- The variable that an entry gives.
-use Rattle.std.proofs.Common.{Option, Some, None, ◌≡◌, ℕ, suc, ◌+◌, ◌-◌, ◌<◌, Bool, true, false, List, [], ◌∷◌, length, take, drop, refl, sym, ap, ◌∙◌, subst, inl, inr, arith}
+use Rattle.std.proofs.Common.{Option, Some, None, ◌≡◌, ℕ, suc, ◌+◌, ◌-◌, ◌<◌, Bool, true, false, List, [], ◌∷◌, length, take, drop, refl, sym, ap, ◌∙◌, inl, inr, arith}
 use Rattle.std.proofs.lemmas.Bool.{cases_Bool, false≢true}
 use Rattle.std.proofs.lemmas.Bool.Decides.{nat_tests}
 use Rattle.std.proofs.lemmas.List.{take_all, take-take, drop-take, drop-drop, length-drop, length-take-le}
@@ -143,20 +143,16 @@ first_entry xs n h =
 
 -- a block of which the entries before `start` are read
 module _ (block : Text) (start : ℕ) (within : start ≤ length block) where
-  rest_is : take (length block - start) (drop start block) ≡ drop start block
-  rest_is = take_all (length block - start) (drop start block) (omega (arith, length-drop start block))
+  pub next_within : (n : ℕ) → IsFirstByte (is_byte 0) (drop start block) (Some n) → start + n < length block
+  next_within n h = omega (arith, length-drop start block, within, h.0.high)
 
-  pub next_within : (n : ℕ) → IsFirstByte (is_byte 0) (take (length block - start) (drop start block)) (Some n) → start + n < length block
-  next_within n h = let size : length (take (length block - start) (drop start block)) ≡ length block - start = ap length rest_is ∙ length-drop start block in omega (arith, size, within, h.0.high)
-
-  pub next_entry : (n : ℕ) → IsFirstByte (is_byte 0) (take (length block - start) (drop start block)) (Some n)
+  pub next_entry : (n : ℕ) → IsFirstByte (is_byte 0) (drop start block) (Some n)
       → with_entry (take ((start + n) - start) (drop start block)) (environment_of (drop (start + (n + 1)) block)) ≡ environment_of (drop start block)
   next_entry n h =
-      let found = subst (λ (t : Text). IsFirstByte (is_byte 0) t (Some n)) rest_is h in
       let same : (start + n) - start ≡ n = omega arith in
       ap (λ (k : ℕ). with_entry (take k (drop start block)) (environment_of (drop (start + (n + 1)) block))) same
       ∙ ap (λ (t : Text). with_entry (take n (drop start block)) (environment_of t)) (sym (drop-drop (n + 1) start block))
-      ∙ first_entry (drop start block) n found
+      ∙ first_entry (drop start block) n h
 
-  pub end_entry : IsFirstByte (is_byte 0) (take (length block - start) (drop start block)) None → with_entry (take (length block - start) (drop start block)) finite.empty ≡ environment_of (drop start block)
-  end_entry h = ap (λ (t : Text). with_entry t finite.empty) rest_is ∙ last_entry (drop start block) (subst (λ (t : Text). IsFirstByte (is_byte 0) t None) rest_is h)
+  pub end_entry : IsFirstByte (is_byte 0) (drop start block) None → with_entry (take (length block - start) (drop start block)) finite.empty ≡ environment_of (drop start block)
+  end_entry h = ap (λ (t : Text). with_entry t finite.empty) (take_all (length block - start) (drop start block) (omega (arith, length-drop start block))) ∙ last_entry (drop start block) h

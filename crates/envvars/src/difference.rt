@@ -1,5 +1,5 @@
 //! The difference of two environments, as a list of changes that turns the first into the second.
-ghost use Rattle.std.specs.Prelude.{◌≡◌, ◌++◌, [], ◌∷◌, not, false, map, filter, bytes_eq, string_bytes, IfOk, IfErr, OnOk};
+ghost use Rattle.std.specs.Prelude.{◌≡◌, not, false, map, filter, bytes_eq, IfOk, IfErr, OnOk};
 ghost use Rattle.std.specs.Ordering.{nat_cmp};
 ghost use Rattle.std.specs.Cmp.Lexicographic.{slice_cmp};
 ghost use Rattle.std.specs.List.{IsDistinct};
@@ -72,46 +72,23 @@ pub(crate) fn changes_among<B: Vars, V: Vars>(
     changes_to(alloc, new, names.as_slice())
 }
 
-/// Appends a change that gives its variable another value than it has in `old`.
-fn push_difference<B: Vars>(
-    changes: &mut Vec<Change>,
-    old: &B,
-    change: Change,
-) -> Result<(), AllocError>
-    ensures { OnOk result (new_values_in changes.new ≡ new_values_in changes.old
-        ++ filter (differs_from (B.vars old.now)) (new_value_of change ∷ [])) }
-{
-    let Change { name, value } = &change;
-    if differs(old, name.as_str(), value.as_deref()) {
-        changes.push(change)?;
-    }
-    Ok(())
-}
-
-/// Appends the changes to the values of a table's entries that aren't those in `old`.
-fn push_differences<B: Vars>(
-    changes: &mut Vec<Change>,
-    old: &B,
-    table: Table,
-) -> Result<(), AllocError>
-    ensures { OnOk result (new_values_in changes.new ≡ new_values_in changes.old
-        ++ filter (differs_from (B.vars old.now)) (new_values_of table.entries)) }
-{
-    for (name, value) in table {
-        push_difference(changes, old, Change { name, value })?;
-    }
-    Ok(())
-}
-
-/// The changes to the values of a table's entries that aren't those in `old`.
-fn differences<B: Vars>(alloc: Global, old: &B, table: Table) -> Result<Vec<Change>, AllocError>
-    ensures changes { IfOk result (λ v. new_values_in v
-        ≡ filter (differs_from (B.vars old.now)) (new_values_of table.entries)) }
+/// The entries of a table as changes, each of another variable, in no certain order.
+pub(crate) fn edits(alloc: Global, table: Table) -> Result<Vec<Change>, AllocError>
+    ensures edits { IfOk result (λ v. new_values_in v ≡ new_values_of table.entries) }
     ensures distinct { OnOk result (IsDistinct bytes_eq (names_of table.entries)) }
 {
-    let mut changes = Vec::with_capacity(alloc, table.len())?;
-    push_differences(&mut changes, old, table)?;
-    Ok(changes)
+    let mut edits = Vec::with_capacity(alloc, table.len())?;
+    for (name, value) in table {
+        edits.push(Change { name, value })?;
+    }
+    Ok(edits)
+}
+
+/// Retains the changes that give their variables other values than those in `old`.
+fn keep_differences<B: Vars>(changes: &mut Vec<Change>, old: &B)
+    ensures { new_values_in changes.new ≡ filter (differs_from (B.vars old.now)) (new_values_in changes.old) }
+{
+    changes.retain(|change| differs(old, change.name.as_str(), change.value.as_deref()));
 }
 
 /// Sorts changes of different variables by the bytes of their names.
@@ -132,7 +109,8 @@ pub(crate) fn changes_over<B: Vars>(
     ensures { IfOk result (λ v. AreChanges (B.vars old.now) (written_over (B.vars old.now) table.entries)
         (new_values_in v)) }
 {
-    let mut changes = differences(alloc, old, table)?;
+    let mut changes = edits(alloc, table)?;
+    keep_differences(&mut changes, old);
     sort_by_name(&mut changes);
     Ok(changes)
 }

@@ -70,9 +70,10 @@ impl Env {
 
     /// The environment of a block of entries `NAME=VALUE`, each ended by NUL (environ(7)). An entry without `=`, or
     /// without a name in UTF-8 before it, is passed over. Of several entries for one name the first counts, and its
-    /// variable is unset where the value isn't UTF-8. The only error is `OutOfMemory`.
-    pub fn from_block(alloc: Global, block: &[u8]) -> Result<Self, EnvFault>
-        ensures ok { IfOk result (λ env. env ≡ environment_of block.now) }
+    /// variable is unset where the value isn't UTF-8. The block is kept, and no value is copied. The only error is
+    /// `OutOfMemory`.
+    pub fn from_block(alloc: Global, block: Vec<u8>) -> Result<Self, EnvFault>
+        ensures ok { IfOk result (λ env. env ≡ environment_of block.items) }
         ensures only { IfErr result (λ e. e ≡ OutOfMemory) }
     {
         Ok(Env {

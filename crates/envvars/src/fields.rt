@@ -117,14 +117,3 @@ pub fn owned(alloc: Global, texts: &[&str]) -> Result<Vec<String>, AllocError>
     }
     Ok(owned)
 }
-
-/// Copies of the texts.
-pub fn copies(alloc: Global, texts: &[String]) -> Result<Vec<String>, AllocError>
-    ensures { IfOk result (λ v. texts_in v ≡ map string_bytes texts.now) }
-{
-    let mut copies = Vec::with_capacity(alloc, texts.len())?;
-    for text in texts {
-        copies.push(String::from_str(alloc, text.as_str())?)?;
-    }
-    Ok(copies)
-}

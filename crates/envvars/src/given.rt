@@ -4,6 +4,7 @@ ghost use Rattle.std.specs.Prelude.{◌≡◌, ◌<◌, ◌≤◌, ◌-◌, ◌+
 ghost use Rattle.std.specs.Option.{option_map};
 ghost use Rattle.std.specs.Str.{is_utf8};
 ghost use Rattle.std.specs.FinMap as finite;
+ghost use Rattle.memchr.specs.Find.{IsFirstByte, is_byte};
 ghost use Rattle.envvars.specs.Texts.{slice_texts};
 ghost use Rattle.envvars.specs.Environment.{Environment, lookup, with_value};
 ghost use Rattle.envvars.specs.EnvironmentBlock as block_specs;
@@ -107,15 +108,15 @@ impl Given {
     }
 
     /// A block of which no entry is known yet.
-    fn of_block(alloc: Global, block: &[u8]) -> Result<Given, AllocError>
-        ensures block { IfOk result (λ given. given.block.items ≡ block.now) }
+    fn of_block(alloc: Global, block: Vec<u8>) -> Result<Given, AllocError>
+        ensures block { IfOk result (λ given. given.block.items ≡ block.items) }
         ensures entries { IfOk result (λ given. given.entries.items ≡ []) }
         ensures chains { IfOk result (λ given. 0 < length given.latest.items) }
         ensures chained { IfOk result IsChained }
     {
         let count = block.len() / USUAL_LENGTH + 1;
         Ok(Given {
-            block: Vec::from_slice(alloc, block)?,
+            block,
             entries: Vec::with_capacity(alloc, count)?,
             latest: Vec::from_elem(alloc, None, count)?,
         })
@@ -172,18 +173,27 @@ impl Given {
         })
     }
 
-    /// The variables of a block, which is copied as it is.
-    pub(crate) fn read(alloc: Global, block: &[u8]) -> Result<Given, AllocError>
-        ensures chained { IfOk result IsChained }
-        ensures given { IfOk result (λ given. variables_of given ≡ block_specs.environment_of block.now) }
+    /// The length of what stands from `start` up to a NUL; none where no NUL ends it.
+    fn length_at(&self, start: usize) -> Option<usize>
+        requires { start ≤ length self.now.block.items }
+        ensures { IsFirstByte (is_byte 0) (drop start self.now.block.items) result }
     {
+        memchr(0, &self.block[start..])
+    }
+
+    /// The variables of a block, which is kept as it is.
+    pub(crate) fn read(alloc: Global, block: Vec<u8>) -> Result<Given, AllocError>
+        ensures chained { IfOk result IsChained }
+        ensures given { IfOk result (λ given. variables_of given ≡ block_specs.environment_of block.items) }
+    {
+        let end = block.len();
         let mut given = Given::of_block(alloc, block)?;
         let mut start = 0;
-        while let Some(length) = memchr(0, &block[start..]) {
+        while let Some(length) = given.length_at(start) {
             given.add(start, start + length)?;
             start += length + 1;
         }
-        given.add(start, block.len())?;
+        given.add(start, end)?;
         Ok(given)
     }
 

@@ -1,10 +1,10 @@
 //! A working environment: edits over an environment that stays unchanged.
 ghost use Rattle.std.specs.Prelude.{◌≡◌, IfOk, IfErr};
-ghost use Rattle.envvars.specs.Changes.{AreChanges, new_values_in};
+ghost use Rattle.envvars.specs.Changes.{AreChanges, applied, new_values_in};
 ghost use Rattle.envvars.specs.declared.fault.EnvFault.TheVariants.{OutOfMemory};
 
 use crate::change::Change;
-use crate::difference::changes_over;
+use crate::difference::{changes_over, edits};
 use crate::env::Env;
 use crate::fault::EnvFault;
 use crate::table::{Table, found, make_changes, write_entry, write_value};
@@ -81,6 +81,20 @@ impl<'a, B: Vars> Working<'a, B> {
             alloc,
         } = self;
         Ok(changes_over(alloc, old, touched)?)
+    }
+
+    /// Each name that was edited, once, with its value now, in no certain order: made in the environment below, these
+    /// changes give this one. The only error is `OutOfMemory`.
+    pub fn into_edits(self) -> Result<Vec<Change>, EnvFault>
+        ensures ok { IfOk result (λ v. applied (new_values_in v) self.entry.old ≡ self.entry.new) }
+        ensures only { IfErr result (λ e. e ≡ OutOfMemory) }
+    {
+        let Working {
+            old: _old,
+            touched,
+            alloc,
+        } = self;
+        Ok(edits(alloc, touched)?)
     }
 }
 

@@ -1,8 +1,9 @@
 //! The host of a default file: it does the commands that Tcl hasn't (modulefile(5)).
-ghost use Rattle.std.specs.Prelude.{◌≡◌, ◌++◌, ◌∷◌, [], map, string_bytes, IfOk, OnOk, OnErr};
+ghost use Rattle.std.specs.Prelude.{◌≡◌, ◌++◌, ◌∷◌, [], map, string_bytes, OnOk, OnErr};
 ghost use Rattle.lookup.specs.CommandAnswers.{texts_of_words};
 
 use crate::command_answers::{CommandAnswer, command_answer};
+use message::texts::copies;
 use modulefile::command_names;
 use std::alloc::{AllocError, Global};
 use tclrules::{Host, HostAnswer};
@@ -20,17 +21,6 @@ pub(crate) struct DefaultHost {
     pub(crate) refused: Option<u16>,
 }
 
-/// Copies the words of a command.
-fn copy_words(alloc: Global, words: &[String]) -> Result<Vec<String>, AllocError>
-    ensures { IfOk result (λ copies. map string_bytes copies.items ≡ map string_bytes words.now) }
-{
-    let mut copies = Vec::new(alloc);
-    for word in words {
-        copies.push(String::from_str(alloc, word.as_str())?)?;
-    }
-    Ok(copies)
-}
-
 impl DefaultHost {
     /// Adds a `module-version` command by its words.
     fn add_command(&mut self, words: &[String]) -> Result<(), AllocError>
@@ -40,8 +30,8 @@ impl DefaultHost {
         ensures asked { self.new.asked ≡ self.old.asked }
         ensures refused { self.new.refused ≡ self.old.refused }
     {
-        let copies = copy_words(self.alloc, words)?;
-        self.commands.push(copies)?;
+        let words = copies(self.alloc, words)?;
+        self.commands.push(words)?;
         Ok(())
     }
 }

@@ -1,6 +1,8 @@
 //! The texts of faults and reports: a message has parts, so that it is shown and written without taking memory.
-//! Touches nothing but the text or writer that it is shown on, and takes no memory.
+//! Touches nothing but the text or writer that it is shown on, and takes no memory; `texts` copies lists of texts.
 #![tactic(auto)]
+
+pub mod texts;
 
 ghost use Rattle.std.specs.Prelude.{◌≡◌, Some};
 ghost use Rattle.std.specs.List.{flat_map};

@@ -5,7 +5,7 @@
 
 mod progress_line;
 
-use modulecmd::{CommandFault, DiskTree, process_input, write_refusal};
+use modulecmd::{CommandFault, DiskTree, ProcessInput, process_input, write_refusal};
 use progress_line::ProgressLine;
 use sitecommand::{AuditExit, run_audit};
 use std::process::ExitCode;
@@ -18,7 +18,7 @@ fn refused(rt: &HostRuntime, fault: &CommandFault) -> ExitCode {
 
 /// Audits a site, and ends with the status of the audit.
 fn main(rt: HostRuntime) -> ExitCode {
-    let (arguments, env) = match process_input(&rt) {
+    let ProcessInput { arguments, env } = match process_input(&rt) {
         Ok(given) => given,
         Err(fault) => return refused(&rt, &fault),
     };

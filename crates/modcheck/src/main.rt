@@ -3,7 +3,7 @@
 //! Nothing stands above it; it has no clause, so it has little code.
 #![tactic(auto)]
 
-use modulecmd::{DiskTree, modcheck, process_input, write_refusal};
+use modulecmd::{DiskTree, ProcessInput, modcheck, process_input, write_refusal};
 use std::process::ExitCode;
 
 /// Checks standard input, and ends with the status of the check.
@@ -11,7 +11,7 @@ fn main(rt: HostRuntime) -> ExitCode {
     let mut input = rt.stdin();
     let mut out = rt.stdout();
     let mut err = rt.stderr();
-    let (arguments, env) = match process_input(&rt) {
+    let ProcessInput { arguments, env } = match process_input(&rt) {
         Ok(given) => given,
         Err(fault) => {
             let _ = write_refusal(&fault, &mut err);

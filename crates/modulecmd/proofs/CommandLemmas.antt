@@ -20,6 +20,7 @@ use Rattle.filetree.specs.Causes.{Cause, memory, device, because, Applies}
 use Rattle.modules.specs.Answers.{cause_of}
 use Rattle.modules.specs.Messages.{memory_number, number_by}
 use Rattle.modules.specs.Replies.{changed_env, changed_view}
+use Rattle.modules.proofs.StepLemmas.{stands_as}
 use Rattle.modulecmd.specs.declared.command_fault.CommandFault.{CommandFault}
 use Rattle.modulecmd.specs.declared.command_fault.CommandFault.TheVariants.{Refused, Unprinted, UnknownShell, WriteFailed}
 use Rattle.modulecmd.specs.Command as command
@@ -36,17 +37,12 @@ pub makes_none : (arguments : List Text) (e : Environment) (files : Files) (list
     → command_of arguments ≡ Err reason → CommandHasResult arguments e files listings (Err reason)
 makes_none arguments e files listings reason made = (Err reason, sym made, refl)
 
-pub stands_so : (c : Cause RequestReason) (Is Is' : RequestReason → Type 0) (failed failed' : Type 0) → ((r : RequestReason) → Is r → Is' r) → (failed → failed') → Applies c failed Is → Applies c failed' Is'
-stands_so memory Is Is' failed failed' more fails h = tt
-stands_so device Is Is' failed failed' more fails h = fails h
-stands_so (because r) Is Is' failed failed' more fails h = more r h
-
 -- the cause of a fault, where each reason gives another
 pub caused_otherwise : (fault : CommandFault) (Is Is' : CommandReason → Type 0) (Lacks Lacks' : Text → Type 0) (failed failed' : Type 0)
     → ((r : CommandReason) → Is r → Is' r) → ((name : Text) → Lacks name → Lacks' name) → (failed → failed')
     → IsCausedBy fault Is Lacks failed → IsCausedBy fault Is' Lacks' failed'
 caused_otherwise (Refused refusal) Is Is' Lacks Lacks' failed failed' more lacks fails h =
-    stands_so (cause_of refusal) (λ r. Is (command.refused_for r)) (λ r. Is' (command.refused_for r)) failed failed' (λ r. more (command.refused_for r)) fails h
+    stands_as (cause_of refusal) failed failed' (λ r. Is (command.refused_for r)) (λ r. Is' (command.refused_for r)) fails (λ r. more (command.refused_for r)) h
 caused_otherwise (UnknownShell word) Is Is' Lacks Lacks' failed failed' more lacks fails h = more _ h
 caused_otherwise (Unprinted prints.OutOfMemory) Is Is' Lacks Lacks' failed failed' more lacks fails h = tt
 caused_otherwise (Unprinted (prints.NotSayable name)) Is Is' Lacks Lacks' failed failed' more lacks fails h = lacks _ h

@@ -34,7 +34,7 @@ flat_map_map f g (x ∷ xs) = ap (λ zs. f (g x) ++ zs) (flat_map_map f g xs)
 
 -- what the program writes is the text for standard error
 pub words_are_standard_error : (e : Environment) (a : Prepared) → words_of a ≡ standard_error_text (effect_in e a).1
-words_are_standard_error e a = ap (λ zs. zs ++ string_bytes a.changed.report) (flat_map_map (λ message. message) string_bytes a.changed.messages.items)
+words_are_standard_error e a = ap (λ zs. zs ++ string_bytes a.changed.done.report) (flat_map_map (λ message. message) string_bytes a.changed.done.messages.items)
 
 -- the end of a command whose answer was written
 pub answered : (exit : Exit) (agrees : Files → Listings → Type 0) (failed : Type 0) (e : Environment) (Does : ResultRelation) (a : Prepared) (out out' err err' : Option Text)

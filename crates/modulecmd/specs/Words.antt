@@ -14,5 +14,5 @@ effect_in e answer = (answer.shell, changed_view e answer.changed)
 -- what is to go to standard error: the messages of modulefiles, and then the report
 abbrev pub words_of : Prepared → Text
 words_of answer =
-    flat_map (λ message. string_bytes message) answer.changed.messages.items
-    ++ string_bytes answer.changed.report
+    flat_map (λ message. string_bytes message) answer.changed.done.messages.items
+    ++ string_bytes answer.changed.done.report

@@ -116,8 +116,8 @@ pub fn run_command<T: Tree, W: Write, E: Write>(
 {
     match answer_of(alloc, args, &env, tree) {
         Ok(answer) => finish(
-            answer.changed.messages.as_slice(),
-            answer.changed.report.as_str(),
+            answer.changed.done.messages.as_slice(),
+            answer.changed.done.report.as_str(),
             answer.text.as_str(),
             out,
             err,

@@ -2,16 +2,15 @@
 ghost use Rattle.std.specs.Prelude.{◌≡◌, Some, OnOk, OnErr};
 ghost use Rattle.std.specs.Io.KnownBytes.{Appends};
 ghost use Rattle.modulecmd.specs.Writing.{AppendsPart};
-ghost use Rattle.message.specs.Messages.{around, text_of};
-ghost use Rattle.modulecmd.specs.Lines.{error_line, line_of, message_of};
+ghost use Rattle.message.specs.Messages.{text_of};
+ghost use Rattle.modulecmd.specs.Lines.{line_of, message_of};
 ghost use Rattle.modules.specs.declared.refusal.Refusal.TheVariants as refusals;
 ghost use Rattle.modulecmd.specs.declared.command_fault.CommandFault.TheVariants.{Refused, Unprinted};
 ghost use Rattle.modulecmd.specs.Command.{number_of, of_arguments, of_input};
 
-use crate::writers::{WriteFault, write_parts};
+use crate::writers::{WriteFault, write_error};
 use envvars::EnvFault;
 use filetree::FindFault;
-use itoa::Buffer;
 use message::Message;
 use modules::Refusal;
 use processinput::{ArgumentsFault, InputFault};
@@ -126,31 +125,11 @@ impl From<InputFault> for CommandFault {
     }
 }
 
-/// Writes an error line of these parts: `ERROR: `, the five texts one after another, and a newline.
-fn write_line<'a, E: Write>(
-    before: &'a str,
-    left: &'a str,
-    word: &'a str,
-    right: &'a str,
-    after: &'a str,
-    err: &mut E,
-) -> Result<(), WriteFault>
-    ensures whole { OnOk result (Appends (E.contents err.old) (E.contents err.new)
-        (error_line (around before.now (around left.now word.now right.now) after.now))) }
-    ensures cut { OnErr result (AppendsPart (E.contents err.old) (E.contents err.new)
-        (error_line (around before.now (around left.now word.now right.now) after.now))) }
-{
-    write_parts(err, &["ERROR: ", before, left, word, right, after, "\n"])
-}
-
 /// Writes the line that says why a command is refused, without taking memory. It is tried once: a write that fails ends
 /// it. Then the first part of the line is written, not all.
 pub fn write_refusal<E: Write>(fault: &CommandFault, err: &mut E) -> Result<(), WriteFault>
     ensures whole { OnOk result (Appends (E.contents err.old) (E.contents err.new) (line_of fault.now)) }
     ensures cut { OnErr result (AppendsPart (E.contents err.old) (E.contents err.new) (line_of fault.now)) }
 {
-    let mut digits = Buffer::new();
-    let message = fault.message();
-    let [before, left, word, right, after] = message.parts(&mut digits);
-    write_line(before, left, word, right, after, err)
+    write_error(&fault.message(), err)
 }

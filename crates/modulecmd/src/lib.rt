@@ -30,13 +30,11 @@ pub use modules::{
     Changed, Done, MissingNames, Module, Move, Outcome, Refusal, Reply, Verdict, request, run,
     run_changes, session, verdict,
 };
-pub use process::process_input;
-pub use processinput::{
-    ArgumentsFault, InputFault, arguments, environment_block, environment_of, read_input,
-};
+pub use process::{ProcessInput, process_input};
+pub use processinput::{ArgumentsFault, InputFault, arguments, environment_block, read_input};
 pub use requests::{Action, Request};
 pub use sessions::rehearse;
 pub use shelltext::{PrintFault, Shell, print_changes};
 pub use tclchars::TextFault;
 pub use tclrules::{EvalFault, Limits};
-pub use writers::WriteFault;
+pub use writers::{WriteFault, write_bytes, write_error};

@@ -1,9 +1,13 @@
-//! Writes bytes until a write fails, and without memory.
+//! Writes bytes and error lines until a write fails, and without memory.
 ghost use Rattle.std.specs.Prelude.{OnOk, OnErr, string_bytes};
 ghost use Rattle.std.specs.List.{flat_map};
 ghost use Rattle.std.specs.Io.KnownBytes.{Appends};
+ghost use Rattle.message.specs.Messages.{around, text_of};
+ghost use Rattle.modulecmd.specs.Lines.{error_line};
 ghost use Rattle.modulecmd.specs.Writing.{AppendsPart};
 
+use itoa::Buffer;
+use message::Message;
 use std::io::Write;
 
 /// A write failed.
@@ -29,7 +33,7 @@ pub fn write_bytes<W: Write>(to: &mut W, bytes: &[u8]) -> Result<(), WriteFault>
 
 /// Writes the parts one after another, without memory, until a write fails. Then the first part of them is written, not
 /// all.
-pub fn write_parts<W: Write>(to: &mut W, parts: &[&str]) -> Result<(), WriteFault>
+fn write_parts<W: Write>(to: &mut W, parts: &[&str]) -> Result<(), WriteFault>
     ensures whole { OnOk result (Appends (W.contents to.old) (W.contents to.new)
         (flat_map (λ part. part.now) parts.now)) }
     ensures cut { OnErr result (AppendsPart (W.contents to.old) (W.contents to.new)
@@ -42,7 +46,7 @@ pub fn write_parts<W: Write>(to: &mut W, parts: &[&str]) -> Result<(), WriteFaul
 }
 
 /// Writes the texts one after another, as `write_parts` does.
-pub fn write_texts<W: Write>(to: &mut W, texts: &[String]) -> Result<(), WriteFault>
+pub(crate) fn write_texts<W: Write>(to: &mut W, texts: &[String]) -> Result<(), WriteFault>
     ensures whole { OnOk result (Appends (W.contents to.old) (W.contents to.new)
         (flat_map (λ text. string_bytes text) texts.now)) }
     ensures cut { OnErr result (AppendsPart (W.contents to.old) (W.contents to.new)
@@ -52,4 +56,34 @@ pub fn write_texts<W: Write>(to: &mut W, texts: &[String]) -> Result<(), WriteFa
         write_bytes(to, text.as_str().as_bytes())?;
     }
     Ok(())
+}
+
+/// Writes an error line of these parts: `ERROR: `, the five texts one after another, and a newline.
+fn write_line<'a, E: Write>(
+    before: &'a str,
+    left: &'a str,
+    subject: &'a str,
+    right: &'a str,
+    after: &'a str,
+    err: &mut E,
+) -> Result<(), WriteFault>
+    ensures whole { OnOk result (Appends (E.contents err.old) (E.contents err.new)
+        (error_line (around before.now (around left.now subject.now right.now) after.now))) }
+    ensures cut { OnErr result (AppendsPart (E.contents err.old) (E.contents err.new)
+        (error_line (around before.now (around left.now subject.now right.now) after.now))) }
+{
+    write_parts(err, &["ERROR: ", before, left, subject, right, after, "\n"])
+}
+
+/// Writes the error line of a message, without taking memory. It is tried once: a write that fails ends it. Then the
+/// first part of the line is written, not all.
+pub fn write_error<E: Write>(message: &Message<'_>, err: &mut E) -> Result<(), WriteFault>
+    ensures whole { OnOk result (Appends (E.contents err.old) (E.contents err.new)
+        (error_line (text_of message.now))) }
+    ensures cut { OnErr result (AppendsPart (E.contents err.old) (E.contents err.new)
+        (error_line (text_of message.now))) }
+{
+    let mut digits = Buffer::new();
+    let [before, left, subject, right, after] = message.parts(&mut digits);
+    write_line(before, left, subject, right, after, err)
 }

@@ -3,7 +3,7 @@
 //! Nothing stands above it; it has no clause, so it has little code.
 #![tactic(auto)]
 
-use modulecmd::{DiskTree, modulecmd, process_input, write_refusal};
+use modulecmd::{DiskTree, ProcessInput, modulecmd, process_input, write_refusal};
 use std::mem::forget;
 use std::process::ExitCode;
 
@@ -11,7 +11,7 @@ use std::process::ExitCode;
 fn main(rt: HostRuntime) -> ExitCode {
     let mut out = rt.stdout();
     let mut err = rt.stderr();
-    let (arguments, env) = match process_input(&rt) {
+    let ProcessInput { arguments, env } = match process_input(&rt) {
         Ok(given) => given,
         Err(fault) => {
             let _ = write_refusal(&fault, &mut err);

@@ -3,8 +3,7 @@ use Rattle.std.proofs.Common.{◌≡◌, List, [], ◌∷◌, ◌++◌, map, Res
 use Rattle.std.proofs.lemmas.List.{map_push}
 use Rattle.envvars.specs.Texts.{Text}
 use Rattle.envvars.specs.Environment.{Environment}
-use Rattle.envvars.specs.Changes.{NewValue, AreChanges, applied}
-use Rattle.envvars.proofs.ChangeLemmas.{applied-changes}
+use Rattle.envvars.specs.Changes.{NewValue, applied}
 use Rattle.modulefile.specs.Records as records
 use Rattle.modulefile.specs.Effects as effects
 use Rattle.modulefile.specs.Effects.{effect, effects}
@@ -69,7 +68,7 @@ records_kept entries rs e = seen entries ∙ ap (λ xs. map record_view xs) (sym
 
 -- what the records of a file make is what they changed
 pub made_by : (mode : Mode) (module_name : Text) (before now : Environment) (entries : List AcceptedCommand) (rs : List Record) (cs : List NewValue)
-    → IsJournal (mode_view mode) module_name before now entries → rs ≡ map (λ (entry : AcceptedCommand). entry.recorded) entries → AreChanges before now cs
+    → IsJournal (mode_view mode) module_name before now entries → rs ≡ map (λ (entry : AcceptedCommand). entry.recorded) entries → applied cs before ≡ now
     → effects (mode_view mode) module_name (map record_view rs) before ≡ Ok (applied cs before)
 made_by mode module_name before now entries rs cs k e h =
-    ap (λ xs. effects (mode_view mode) module_name xs before) (sym (records_kept entries rs e)) ∙ k.1 ∙ ap (λ x. Ok x) (sym (applied-changes before now cs h))
+    ap (λ xs. effects (mode_view mode) module_name xs before) (sym (records_kept entries rs e)) ∙ k.1 ∙ ap (λ x. Ok x) (sym h)

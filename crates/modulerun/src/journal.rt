@@ -180,7 +180,7 @@ impl<'a, V: Vars> Journal<'a, V> {
             working,
         } = self;
         let records = records_of(alloc, entries)?;
-        let changes = working.into_changes()?;
+        let changes = working.into_edits()?;
         Ok(FinishedFile { records, changes })
     }
 }

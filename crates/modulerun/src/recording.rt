@@ -7,7 +7,8 @@ ghost use Rattle.modulefile.specs.Calls.{elements_of, description};
 ghost use Rattle.modulefile.specs.CallViews.{edit_record};
 ghost use Rattle.modulefile.specs.RecordViews.{record_view};
 
-use envvars::fields::{copies, copy, join, owned, parts, slices};
+use envvars::fields::{copy, join, owned, parts, slices};
+use message::texts::copies;
 use modulefile::{Delimiter, PathEdit, Record};
 use std::alloc::{AllocError, Global};
 

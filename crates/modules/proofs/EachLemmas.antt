@@ -31,11 +31,11 @@ module _ {X : Type 0} (view : X → Text) (Does : Text → Done → Result Done 
 
   -- and where they look
   module _ (Looks : Text → Done → Text → Type 0) (at : Text) where
-    pub looks_first : Looks (view x) d at → EachLooksAt Does Looks (map view (drop i xs)) d at
-    looks_first h = subst (λ names. EachLooksAt Does Looks names d at) (sym (split_at view xs i x below is)) (inl h)
+    pub each_looks_here : Looks (view x) d at → EachLooksAt Does Looks (map view (drop i xs)) d at
+    each_looks_here h = subst (λ names. EachLooksAt Does Looks names d at) (sym (split_at view xs i x below is)) (inl h)
 
-    pub looks_on : (mid : Done) → Does (view x) d (Ok mid) → EachLooksAt Does Looks (map view (drop (i + 1) xs)) mid at → EachLooksAt Does Looks (map view (drop i xs)) d at
-    looks_on mid h k = subst (λ names. EachLooksAt Does Looks names d at) (sym (split_at view xs i x below is)) (inr (mid, h, k))
+    pub each_looks_on : (mid : Done) → Does (view x) d (Ok mid) → EachLooksAt Does Looks (map view (drop (i + 1) xs)) mid at → EachLooksAt Does Looks (map view (drop i xs)) d at
+    each_looks_on mid h k = subst (λ names. EachLooksAt Does Looks names d at) (sym (split_at view xs i x below is)) (inr (mid, h, k))
 
 some_name : (k : ℕ) → nat_eq (suc k) 0 ≡ true → ⊥
 some_name k h = grind (arith, nat_tests)

@@ -8,6 +8,5 @@ pub mod ListedLemmas
 pub mod TreeAnswers
 pub mod EachLemmas
 pub mod SwitchLemmas
-pub mod RequestNumbers
 pub mod RunLemmas
 pub mod SessionLemmas

@@ -3,7 +3,8 @@ use Rattle.std.proofs.Common.{◌≡◌, ℕ, true, [], ◌∷◌, Result, Ok, E
 use Rattle.std.specs.Prelude.{◌==◌}
 use Rattle.std.specs.List.{list_any}
 use Rattle.modulerun.specs.declared.run_fault.RunFault.TheVariants.{OutOfMemory, Eval, BadArguments, BadRecord}
-use Rattle.modules.specs.Messages.{MemoryNumberAmong, memory_number}
+use Rattle.requests.specs.Requests.{RequestedAction, load, unload, switch, purge, list, avail, show, whatis}
+use Rattle.modules.specs.Messages.{MemoryNumberAmong, memory_number, memory_numbers}
 use Rattle.modules.specs.declared.refusal.Refusal.{Refusal}
 use Rattle.modules.specs.declared.refusal.Refusal.TheVariants as refusals
 
@@ -28,3 +29,14 @@ of_three (refusals.NotAModulefile path) P evaluation own search = own
 pub wants_any : {X : Type 0} (r : Result X Refusal) → IfErr r (MemoryNumberAmong (11 ∷ 31 ∷ 41 ∷ []))
 wants_any (Ok x) = tt
 wants_any (Err refusal) = of_three refusal (λ n. list_any (λ m. m == n) (11 ∷ 31 ∷ 41 ∷ []) ≡ true) refl refl refl
+
+-- each request can want memory of its own
+pub own_number : (asked : RequestedAction) → list_any (λ n. n == 31) (memory_numbers asked) ≡ true
+own_number (load names) = refl
+own_number (unload names) = refl
+own_number (switch old new) = refl
+own_number purge = refl
+own_number list = refl
+own_number (avail texts) = refl
+own_number (show names) = refl
+own_number (whatis names) = refl

@@ -14,7 +14,7 @@ use Rattle.requests.specs.Sessions.{Response, Session, IsResponse, env_after, in
 use Rattle.requests.specs.Steps.{RequestContext, RequestStep}
 use Rattle.filetree.specs.Agreement.{FailsOnlyWhere, Files, Listings, InEachPair, Narrows}
 use Rattle.filetree.specs.Causes.{Cause, Applies, memory, device, because}
-use Rattle.filetree.proofs.FailedPaths.{only_then_in_each, only_wider_in_each}
+use Rattle.filetree.proofs.FailedPaths.{only_more_in_each}
 use Rattle.shelltext.specs.declared.shell.Shell.{Shell}
 use Rattle.modules.specs.Answers.{cause_of}
 use Rattle.modules.specs.Messages.{memory_number, number_by, number_of}
@@ -170,9 +170,8 @@ pub session_fails : (agrees agrees' : Files → Listings → Type 0) (before mid
 session_fails agrees agrees' before mid now context start e all whole r rs narrows split looks first second =
     let Whole : Files → Listings → Text → Type 0 = λ files listings at. (shell : Shell) → SessionLooksAt (context files listings shell) start all at in
     let Here : Files → Listings → Text → Type 0 = λ files listings at. (shell : Shell) → OwnLooksAt (context files listings shell) e r at in
-    only_then_in_each agrees agrees' before mid now Whole narrows first
-    (only_wider_in_each agrees' mid now Here Whole
+    only_more_in_each agrees agrees' before mid now Here Whole narrows
     (λ files listings agreed at h shell.
-    looks files listings (narrows files listings agreed) shell at
+    looks files listings agreed shell at
     (looks_here (OwnLooksAt (context files listings shell)) (IsOwnResponse (context files listings shell)) e whole r rs at split (h shell)))
-    second)
+    first second

@@ -13,7 +13,7 @@ use Rattle.tclrules.specs.Oracle.{Trace}
 use Rattle.filetree.specs.Relations.{If}
 use Rattle.modulefile.specs.Records.{Record}
 use Rattle.modulefile.specs.Judgments.{RecordReason, bad_edit, record_reason}
-use Rattle.modulefile.specs.Effects.{load, unload, display, whatis, effects, and_then, permitted, edit_outcome}
+use Rattle.modulefile.specs.Effects.{Mode, load, unload, display, whatis, effects, and_then, permitted, edit_outcome}
 use Rattle.modulefile.specs.Moves.{Module, Loads, Unloads, entry_moved}
 use Rattle.modulefile.specs.Results.{◌>>=◌}
 use Rattle.modulefile.specs.Calls.{CallReason}
@@ -26,12 +26,12 @@ use Rattle.requests.specs.Conditions.{load_objection}
 use Rattle.requests.specs.Steps.{Done, with_move, continued, joins}
 use Rattle.modules.specs.declared.refusal.Refusal.{Refusal}
 use Rattle.modules.specs.Answers.{GivesOrRefuses, StepAnswersOverTree, by_reason, by_search, cause_of}
-use Rattle.modules.specs.declared.files.ReportKind.{ReportKind}
-use Rattle.modules.specs.declared.files.ReportKind.TheVariants.{Show, Whatis}
+use Rattle.modules.specs.declared.one_name.ReportKind.{ReportKind}
+use Rattle.modules.specs.declared.one_name.ReportKind.TheVariants.{Show, Whatis}
 use Rattle.modules.specs.Parts.{added, objection, report_mode}
 
 -- a cause of one step is a cause of the whole
-pub stands_as : (c : Cause RequestReason) (failed before : Type 0) (P Q : RequestReason → Type 0) → (failed → before) → ((r : RequestReason) → P r → Q r) → Applies c failed P → Applies c before Q
+pub stands_as : {R : Type 0} (c : Cause R) (failed before : Type 0) (P Q : R → Type 0) → (failed → before) → ((r : R) → P r → Q r) → Applies c failed P → Applies c before Q
 stands_as memory failed before P Q later then h = tt
 stands_as device failed before P Q later then h = later h
 stands_as (because r) failed before P Q later then h = then r h
@@ -122,22 +122,16 @@ finished c text (Halted halt) trace ran h = absurd (cc)
 pub run_made : (limits : Limits) (c : FileContext) (text : Text) (ran : Ran) → RefusedAs file_refused (RunsFile limits c text) (Ok ran) → effects c.mode c.name ran.records c.before ≡ Ok ran.env
 run_made limits c text ran h = let k = run_ended (RunsFile limits c text) ran h in finished c text k.0 k.1.trace ran k.3
 
--- in the modes of reports nothing changes
-shown_same : (owner : Text) (rs : List Record) (e d : Environment) → effects display owner rs e ≡ Ok d → d ≡ e
-shown_same owner [] e d h = cc
-shown_same owner (r ∷ rs) e d h = by_reason_of (record_reason r) (shown_same owner rs e d) h
-  where
-    by_reason_of : (o : Option RecordReason) → (effects display owner rs e ≡ Ok d → d ≡ e) → and_then (permitted o (Ok e)) (effects display owner rs) ≡ Ok d → d ≡ e
-    by_reason_of None more k = more k
-    by_reason_of (Some reason) more k = absurd (cc)
+permitted_same : (mode : Mode) (owner : Text) (rs : List Record) (e d : Environment) (o : Option RecordReason) → (effects mode owner rs e ≡ Ok d → d ≡ e) → and_then (permitted o (Ok e)) (effects mode owner rs) ≡ Ok d → d ≡ e
+permitted_same mode owner rs e d None more k = more k
+permitted_same mode owner rs e d (Some reason) more k = absurd (cc)
 
-described_same : (owner : Text) (rs : List Record) (e d : Environment) → effects whatis owner rs e ≡ Ok d → d ≡ e
-described_same owner [] e d h = cc
-described_same owner (r ∷ rs) e d h = by_reason_of (record_reason r) (described_same owner rs e d) h
-  where
-    by_reason_of : (o : Option RecordReason) → (effects whatis owner rs e ≡ Ok d → d ≡ e) → and_then (permitted o (Ok e)) (effects whatis owner rs) ≡ Ok d → d ≡ e
-    by_reason_of None more k = more k
-    by_reason_of (Some reason) more k = absurd (cc)
+-- a report changes nothing
+pub report_same : (report_kind : ReportKind) (owner : Text) (rs : List Record) (e d : Environment) → effects (report_mode report_kind) owner rs e ≡ Ok d → d ≡ e
+report_same Show owner [] e d h = cc
+report_same Show owner (r ∷ rs) e d h = permitted_same display owner rs e d (record_reason r) (report_same Show owner rs e d) h
+report_same Whatis owner [] e d h = cc
+report_same Whatis owner (r ∷ rs) e d h = permitted_same whatis owner rs e d (record_reason r) (report_same Whatis owner rs e d) h
 
 -- ---- moves
 
@@ -193,8 +187,3 @@ judged (Some s) p e x r h = let q : r ≡ s = cc in subst (λ z. Err r ≡ unles
 pub objection_same : (n m : Text) (cs ds : List Text) (gs hs : List (List Text)) (xs : List Entry) → n ≡ m → cs ≡ ds → gs ≡ hs → objection n cs gs xs ≡ objection m ds hs xs
 objection_same n m cs ds gs hs xs a b e =
     ap (λ y. objection y cs gs xs) a ∙ (ap (λ y. objection m y gs xs) b ∙ ap (λ y. objection m ds y xs) e)
-
--- a report changes nothing
-pub topic_same : (report_kind : ReportKind) (owner : Text) (rs : List Record) (e d : Environment) → effects (report_mode report_kind) owner rs e ≡ Ok d → d ≡ e
-topic_same Show owner rs e d h = shown_same owner rs e d h
-topic_same Whatis owner rs e d h = described_same owner rs e d h

@@ -4,7 +4,7 @@ use Rattle.envvars.specs.Texts.{Text}
 use Rattle.filetree.specs.Agreement.{Files, Listings, InEachPair, ReadsOn}
 use Rattle.filetree.specs.Causes.{Applies}
 use Rattle.requests.specs.Reasons.{RequestReason}
-use Rattle.search.proofs.FailureLemmas.{fails_then, fails_last}
+use Rattle.filetree.proofs.FailedPaths.{fails_then, fails_last}
 use Rattle.modules.specs.declared.refusal.Refusal.{Refusal}
 use Rattle.modules.specs.declared.refusal.Refusal.TheVariants.{OutOfMemory}
 use Rattle.modules.specs.Answers.{GivesOrRefuses, cause_of, is_failure}

@@ -13,8 +13,6 @@ use Rattle.search.specs.Answers.{cause_of as find_cause}
 use Rattle.modulerun.specs.Running.{file_reason_of}
 use Rattle.search.specs.Reasons as search
 use Rattle.requests.specs.Reasons.{RequestReason, bad_arguments, unknown_subcommand, missed, file_gone, not_a_modulefile, file_refused, conflict_with, prereq_missing, still_needed_by, refused_edit}
-use Rattle.requests.specs.declared.request_fault.RequestFault.{RequestFault}
-use Rattle.requests.specs.declared.request_fault.RequestFault.TheVariants as requests
 use Rattle.modules.specs.declared.refusal.Refusal.{Refusal}
 use Rattle.modules.specs.declared.refusal.Refusal.TheVariants as refusals
 
@@ -69,9 +67,3 @@ StepAnswersOverTree = causes.AnswersOverTree cause_of
 abbrev pub refused_read : TreeFault → Refusal
 refused_read trees.OutOfMemory = refusals.Find finds.OutOfMemory
 refused_read trees.Device = refusals.Find finds.Device
-
--- words that make no request, as a refusal
-abbrev pub refused_words : RequestFault → Refusal
-refused_words requests.OutOfMemory = refusals.OutOfMemory
-refused_words requests.BadArguments = refusals.BadArguments
-refused_words (requests.UnknownSubcommand word) = refusals.UnknownSubcommand word

@@ -5,10 +5,7 @@ pub mod Answers
 pub mod Spaced
 pub mod Messages
 pub mod Verdicts
--- For private contracts of this crate alone.
-pub mod Parts
-pub mod MemoryNumbers
-pub mod RequestParts
--- The answers of requests and sessions, as the definitions see them.
 pub mod Replies
 pub mod Responses
+-- for this crate's own contracts alone
+pub mod Parts

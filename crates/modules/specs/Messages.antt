@@ -1,5 +1,5 @@
 -- The number and the text of each refusal (own): those of its layer's fault, or its own.
-use Rattle.std.specs.Prelude.{ℕ, ◌≡◌, ◌==◌, true, List, codes, string_bytes}
+use Rattle.std.specs.Prelude.{ℕ, ◌≡◌, ◌==◌, true, List, [], ◌∷◌, codes, string_bytes}
 use Rattle.std.specs.List.{list_any}
 use Rattle.envvars.specs.Reasons as edits
 use Rattle.envvars.specs.Texts.{texts_in}
@@ -10,6 +10,7 @@ use Rattle.modulerun.specs.Messages as runs
 use Rattle.modulerun.specs.declared.run_fault.RunFault.{RunFault}
 use Rattle.modulerun.specs.declared.run_fault.RunFault.TheVariants as faults
 use Rattle.requests.specs.Reasons.{RequestReason, reason_number}
+use Rattle.requests.specs.Requests.{RequestedAction, load, unload, switch, purge, list, avail, show, whatis}
 use Rattle.modules.specs.Answers.{cause_of}
 use Rattle.modules.specs.Spaced.{spaced}
 use Rattle.modules.specs.declared.refusal.Refusal.{Refusal}
@@ -45,6 +46,18 @@ memory_number (refusals.NotAModulefile path) = 31
 -- where the refusal is want of memory, its number is one of these
 abbrev pub MemoryNumberAmong : List ℕ → Refusal → Type 0
 MemoryNumberAmong numbers refusal = list_any (λ n. n == memory_number refusal) numbers ≡ true
+
+-- The numbers that want of memory can have in a request: 31 in each; 41 where files are searched for or read; 11 where
+-- they are evaluated.
+abbrev pub memory_numbers : RequestedAction → List ℕ
+memory_numbers (load names) = 11 ∷ 31 ∷ 41 ∷ []
+memory_numbers (unload names) = 11 ∷ 31 ∷ 41 ∷ []
+memory_numbers (switch old new) = 11 ∷ 31 ∷ 41 ∷ []
+memory_numbers purge = 11 ∷ 31 ∷ 41 ∷ []
+memory_numbers list = 31 ∷ []
+memory_numbers (avail texts) = 31 ∷ 41 ∷ []
+memory_numbers (show names) = 11 ∷ 31 ∷ 41 ∷ []
+memory_numbers (whatis names) = 11 ∷ 31 ∷ 41 ∷ []
 
 -- the number of a refusal is that of its cause
 abbrev pub number_of : Refusal → ℕ

@@ -1,5 +1,5 @@
--- The parts of a step that one module has: words of private contracts.
-use Rattle.std.specs.Prelude.{◌≡◌, ◌<◌, ℕ, Bool, true, List, map, Option, Some, None, Result, Ok, Err}
+-- The parts of a step, name by name, for the contracts of this crate's private functions.
+use Rattle.std.specs.Prelude.{◌≡◌, ◌<◌, ℕ, Bool, true, false, List, map, Option, Some, None, Result, Ok, Err}
 use Rattle.std.specs.Option.{option_map, option_or}
 use Rattle.std.specs.declared.vec.Vec.{Vec}
 use Rattle.std.specs.declared.alloc.Global.{Global}
@@ -23,14 +23,18 @@ use Rattle.search.specs.Reasons.{bad_name}
 use Rattle.requests.specs.Reasons.{RequestReason, missed, conflict_with, prereq_missing, file_refused, refused_edit}
 use Rattle.requests.specs.Refusals.{refused_as, unless, RefusedAs}
 use Rattle.requests.specs.Conditions.{recorded_conflict, own_conflict, missing_group, load_objection}
-use Rattle.requests.specs.Steps.{Done, entries_of, script_at, last_meant, continued, module_of, with_report, shown_text, described_text}
+use Rattle.requests.specs.Looked.{LoadLooksAt, UnloadLooksAt, ShowLooksAt, EachLooksAt}
+use Rattle.requests.specs.Steps.{RequestContext, Done, entries_of, script_at, last_meant, continued, module_of}
+use Rattle.requests.specs.Steps.{with_report, shown_text, described_text, LoadsName, UnloadsName, ShowsName}
 use Rattle.requests.specs.Verdicts.{Verdict, verdict_of}
 use Rattle.modules.specs.Answers.{StepAnswersOverTree, is_failure}
 use Rattle.modules.specs.declared.refusal.Refusal.{Refusal}
 use Rattle.modules.specs.declared.progress.Progress.{Progress}
-use Rattle.modules.specs.declared.files.NameRequest.{NameRequest}
-use Rattle.modules.specs.declared.files.ReportKind.{ReportKind}
-use Rattle.modules.specs.declared.files.ReportKind.TheVariants.{Show, Whatis}
+use Rattle.modules.specs.declared.one_name.NameRequest.{NameRequest}
+use Rattle.modules.specs.declared.one_name.ReportKind.{ReportKind}
+use Rattle.modules.specs.declared.one_name.ReportKind.TheVariants.{Show, Whatis}
+use Rattle.modules.specs.declared.step.NameAction.{NameAction}
+use Rattle.modules.specs.declared.step.NameAction.TheVariants.{Load, Unload, ReportOn}
 
 -- the entries of a list of loaded modules
 abbrev pub entries_view : Vec Loaded Global → List Entry
@@ -139,8 +143,25 @@ ReportsFound name_request report_kind m xs d =
     >> (λ ran. Is (Ok (with_report d ran.messages (report_text report_kind m ran.records))))
 
 -- the file of the module is evaluated for loading, and shows the verdict
-abbrev pub JudgesFound : NameRequest → search.FoundModule → List Entry → Environment → Result Verdict RequestReason → Type 0
+abbrev pub JudgesFound : NameRequest → search.FoundModule → List Entry → Environment
+    → Result Verdict RequestReason → Type 0
 JudgesFound name_request m xs e =
     RefusedAs file_refused
     (RunsFile name_request.settings.limits (file_context name_request modes.load m.name m.path xs e) m.text)
     >> (λ ran. Is (Ok (verdict_of ran)))
+
+-- the step for one name
+abbrev pub NameActionStep : NameAction → RequestContext → Text → Done → Result Done RequestReason → Type 0
+NameActionStep Load s = LoadsName s false
+NameActionStep Unload s = UnloadsName s false
+NameActionStep (ReportOn report_kind) s = ShowsName s (report_mode report_kind) (report_text report_kind)
+
+-- the paths that the step for one name looks at
+abbrev pub NameActionLooksAt : NameAction → RequestContext → Text → Done → Text → Type 0
+NameActionLooksAt Load s = LoadLooksAt s
+NameActionLooksAt Unload s = UnloadLooksAt
+NameActionLooksAt (ReportOn report_kind) s = ShowLooksAt s
+
+-- the paths that the steps for all names look at
+abbrev pub EachActionLooksAt : NameAction → RequestContext → List Text → Done → Text → Type 0
+EachActionLooksAt name_action s = EachLooksAt (NameActionStep name_action s) (NameActionLooksAt name_action s)

@@ -4,6 +4,7 @@ use Rattle.envvars.specs.Environment.{Environment}
 use Rattle.envvars.specs.Texts.{texts_in}
 use Rattle.envvars.specs.Changes.{applied, new_values_in}
 use Rattle.modules.specs.MoveViews.{moves_of}
+use Rattle.modules.specs.Views.{done_view}
 use Rattle.modules.specs.declared.reply.Changed.{Changed}
 use Rattle.modules.specs.declared.reply.Reply.{Reply}
 use Rattle.requests.specs.Steps.{Done}
@@ -14,13 +15,7 @@ changed_env e changed = applied (new_values_in changed.changes) e
 
 -- what was done, with the environment that its changes make
 abbrev pub changed_view : Environment → Changed → Done
-changed_view e changed =
-    record {
-      env = changed_env e changed;
-      moves = moves_of changed.moves;
-      messages = texts_in changed.messages;
-      report = string_bytes changed.report;
-    }
+changed_view e changed = done_view changed.done (changed_env e changed)
 
 -- what was done, with the environment that results
 abbrev pub reply_view : Reply → Done

@@ -5,7 +5,7 @@ use Rattle.envvars.specs.Environment.{Environment}
 use Rattle.filetree.specs.Agreement.{Files, Listings}
 use Rattle.requests.specs.Steps as steps
 use Rattle.requests.specs.Steps.{RequestContext, request_context_in}
-use Rattle.modules.specs.declared.done.EvaluationSettings.{EvaluationSettings}
+use Rattle.modules.specs.declared.settings.EvaluationSettings.{EvaluationSettings}
 use Rattle.modules.specs.declared.done.Done.{Done}
 use Rattle.modules.specs.MoveViews.{moves_of}
 

@@ -1,23 +1,12 @@
-//! What a request has done, and what its files are evaluated under.
-ghost use Rattle.std.specs.Prelude.{◌≡◌};
+//! What a request has done: it grows, by one file after another.
+ghost use Rattle.std.specs.Prelude.{◌≡◌, ◌++◌, [], ◌∷◌, OnOk, OnErr};
 ghost use Rattle.envvars.specs.Texts.{texts_in};
 ghost use Rattle.modulefile.specs.Moves.{loaded_names};
-ghost use Rattle.modules.specs.MoveViews.{moves_of};
+ghost use Rattle.modules.specs.MoveViews.{move_view, moves_of};
 
 use modulefile::Record;
-use shelltext::Shell;
+use std::alloc::{AllocError, Global};
 use std::snapshot::Snapshot;
-use tclrules::Limits;
-
-/// The limits on the evaluation of each file, and the shell that reads what is printed.
-/// (`Setting` of tclrules is a script with all that it depends on.)
-#[derive(Clone, Copy, Debug)]
-pub struct EvaluationSettings {
-    /// How many commands, how deep and how many bytes in a value.
-    pub limits: Limits,
-    /// The shell, which modulefiles can ask for.
-    pub shell: Shell,
-}
 
 /// A module with the records that its file made.
 #[derive(Debug, Drop)]
@@ -51,4 +40,64 @@ pub struct Done {
     /// Its moves, which contracts alone can see: a snapshot takes no memory.
     pub moves: Vec<Snapshot<Move>>,
     pub ghost named: { texts_in loaded ≡ loaded_names (moves_of moves) },
+}
+
+/// Adds the name of the module that the move loads, if it loads one.
+fn push_loaded(names: &mut Vec<String>, new_move: Move) -> Result<(), AllocError>
+    ensures added { OnOk result (texts_in names.new ≡ texts_in names.old ++ loaded_names (move_view new_move ∷ [])) }
+    ensures unchanged { OnErr result (names.new.items ≡ names.old.items) }
+{
+    match new_move {
+        Move::Loads(module) => Ok(names.push(module.name)?),
+        Move::Unloads(_) => Ok(()),
+    }
+}
+
+impl Done {
+    ghost use Rattle.envvars.specs.Environment.{Environment};
+    ghost use Rattle.requests.specs.Steps.{nothing_done, with_move, with_report};
+    ghost use Rattle.modules.specs.Views.{done_view};
+
+    /// Nothing done yet.
+    pub(crate) fn new(alloc: Global) -> Done
+        ensures { (env : Environment) → done_view result env ≡ nothing_done env }
+    {
+        Done {
+            loaded: Vec::new(alloc),
+            messages: Vec::new(alloc),
+            report: String::new(alloc),
+            moves: Vec::new(alloc),
+        }
+    }
+
+    /// Adds a move, with the messages of its file.
+    pub(crate) fn continue_with(
+        &mut self,
+        new_move: Move,
+        mut messages: Vec<String>,
+    ) -> Result<(), AllocError>
+        ensures { OnOk result ((old new : Environment) → done_view self.new new
+            ≡ with_move (done_view self.old old) (move_view new_move) (texts_in messages) new) }
+    {
+        self.messages.append(&mut messages)?;
+        self.moves.push(Snapshot::of(&new_move))?;
+        if let Err(refused) = push_loaded(&mut self.loaded, new_move) {
+            self.moves.pop();
+            return Err(refused);
+        }
+        Ok(())
+    }
+
+    /// Adds to the report, with the messages of a file.
+    pub(crate) fn report_on(
+        &mut self,
+        mut messages: Vec<String>,
+        text: &str,
+    ) -> Result<(), AllocError>
+        ensures { OnOk result ((env : Environment) → done_view self.new env
+            ≡ with_report (done_view self.old env) (texts_in messages) text.now) }
+    {
+        self.messages.append(&mut messages)?;
+        self.report.push_str(text)
+    }
 }

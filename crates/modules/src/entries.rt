@@ -20,13 +20,14 @@ use crate::missing::MissingNames;
 use crate::refusal::Refusal;
 use envloaded::{Loaded, add_to_list, loaded};
 use envvars::Vars;
-use envvars::fields::{copies, deduplicated, owned, slices};
+use envvars::fields::{deduplicated, owned, slices};
+use message::texts::copies;
 use modulefile::Record;
 use requests::{missing_group, own_conflict, recorded_conflict};
 use std::alloc::{AllocError, Global};
 
 /// The loaded modules, in load order; 35 where the loaded lists don't fit together.
-pub fn entries_of<V: Vars>(alloc: Global, env: &V) -> Result<Vec<Loaded>, Refusal>
+pub(crate) fn entries_of<V: Vars>(alloc: Global, env: &V) -> Result<Vec<Loaded>, Refusal>
     ensures given { GivesOrRefuses entries_view result (Is (entries_of (V.vars env.now))) }
     ensures out_of_memory { IfErr result (MemoryNumberAmong (31 ∷ [])) }
 {
@@ -34,7 +35,7 @@ pub fn entries_of<V: Vars>(alloc: Global, env: &V) -> Result<Vec<Loaded>, Refusa
 }
 
 /// MODULEPATH, or the empty text where it is unset.
-pub fn modulepath<V: Vars>(env: &V) -> &str
+pub(crate) fn modulepath<V: Vars>(env: &V) -> &str
     ensures { result.now ≡ modulepath (V.vars env.now) }
 {
     match env.get("MODULEPATH") {
@@ -44,7 +45,7 @@ pub fn modulepath<V: Vars>(env: &V) -> &str
 }
 
 /// The full names of the loaded modules, in load order.
-pub fn names_of(alloc: Global, entries: &[Loaded]) -> Result<Vec<String>, AllocError>
+pub(crate) fn names_of(alloc: Global, entries: &[Loaded]) -> Result<Vec<String>, AllocError>
     ensures { IfOk result (λ v. texts_in v ≡ names_of (map entry_view entries.now)) }
 {
     let mut names = Vec::new(alloc);

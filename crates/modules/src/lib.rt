@@ -5,20 +5,21 @@
 //! tree as one record, `TreeAnswer`.
 #![tactic(auto)]
 
-mod commands;
 mod done;
 mod entries;
-mod files;
 mod judged;
 mod missing;
+mod one_name;
 mod progress;
 mod refusal;
 mod reply;
-mod request_words;
 mod running;
 mod scripts;
 mod sessions;
+mod settings;
+mod step;
 mod verdicts;
+mod words;
 
 pub use done::{Done, Module, Move};
 pub use envvars::{Change, Env, EnvFault};
@@ -29,7 +30,6 @@ pub use modulefile::RecordFault;
 pub use modulerun::RunFault;
 pub use refusal::Refusal;
 pub use reply::{Changed, Reply};
-pub use request_words::request;
 pub use requests::{Action, Request};
 pub use running::{run, run_changes};
 pub use scripts::script_at;
@@ -38,3 +38,4 @@ pub use shelltext::Shell;
 pub use tclchars::TextFault;
 pub use tclrules::{EvalFault, Limits};
 pub use verdicts::verdict;
+pub use words::request;

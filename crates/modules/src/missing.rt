@@ -3,7 +3,8 @@ ghost use Rattle.std.specs.Prelude.{◌≡◌, string_bytes};
 ghost use Rattle.envvars.specs.Texts.{texts_in};
 ghost use Rattle.modules.specs.Spaced.{spaced};
 
-use envvars::fields::{copies, join, slices};
+use envvars::fields::{join, slices};
+use message::texts::copies;
 use std::alloc::{AllocError, Global};
 
 /// The alternatives of a prereq, of which none is loaded, and their text.

@@ -4,7 +4,7 @@ ghost use Rattle.message.specs.Messages.{text_of};
 ghost use Rattle.modules.specs.declared.refusal.Refusal.TheVariants as refusals;
 ghost use Rattle.modulerun.specs.Running.{file_reason_of};
 ghost use Rattle.requests.specs.Reasons.{file_refused};
-ghost use Rattle.modules.specs.Answers.{by_reason, refused_read, refused_words};
+ghost use Rattle.modules.specs.Answers.{by_reason, refused_read};
 ghost use Rattle.modules.specs.Messages.{number_by, number_of, message_of, run_memory_number};
 
 use crate::missing::MissingNames;
@@ -12,7 +12,6 @@ use envvars::EnvFault;
 use filetree::{FindFault, TreeFault};
 use message::{Message, out_of_memory};
 use modulerun::RunFault;
-use requests::RequestFault;
 use std::alloc::{AllocError, AllocFailed};
 use std::error::Error;
 use std::fmt;
@@ -146,18 +145,6 @@ impl From<EnvFault> for Refusal {
 
     fn from(fault: EnvFault) -> Refusal {
         Refusal::Env(fault)
-    }
-}
-
-impl From<RequestFault> for Refusal {
-    ghost from_gives = { λ fault e. e ≡ refused_words fault };
-
-    fn from(fault: RequestFault) -> Refusal {
-        match fault {
-            RequestFault::OutOfMemory => Refusal::OutOfMemory,
-            RequestFault::BadArguments => Refusal::BadArguments,
-            RequestFault::UnknownSubcommand(word) => Refusal::UnknownSubcommand(word),
-        }
     }
 }
 

@@ -4,7 +4,7 @@ ghost use Rattle.envvars.specs.Texts.{texts_in};
 ghost use Rattle.modulefile.specs.Moves.{loaded_names};
 ghost use Rattle.modules.specs.MoveViews.{moves_of};
 
-use crate::done::Move;
+use crate::done::{Done, Move};
 use envvars::{Change, Env};
 use std::snapshot::Snapshot;
 
@@ -13,15 +13,8 @@ use std::snapshot::Snapshot;
 pub struct Changed {
     /// Each variable that has another value now, or is now set or unset: once, in the order of bytes.
     pub changes: Vec<Change>,
-    /// The full names of the modules that the request loaded, in order.
-    pub loaded: Vec<String>,
-    /// The messages of its files.
-    pub messages: Vec<String>,
-    /// Its report.
-    pub report: String,
-    /// Its moves, which contracts alone can see: a snapshot takes no memory.
-    pub moves: Vec<Snapshot<Move>>,
-    pub ghost named: { texts_in loaded ≡ loaded_names (moves_of moves) },
+    /// What the request did besides.
+    pub done: Done,
 }
 
 /// The environment that results of an accepted request, and what the request did besides.

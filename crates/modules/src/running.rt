@@ -6,13 +6,12 @@ ghost use Rattle.requests.specs.RequestViews.{action_view};
 ghost use Rattle.requests.specs.Steps.{RequestStep, request_context_in};
 ghost use Rattle.requests.specs.Looked.{RequestLooksAt};
 ghost use Rattle.modules.specs.Answers.{StepAnswersOverTree, is_failure};
-ghost use Rattle.modules.specs.MemoryNumbers.{memory_numbers};
-ghost use Rattle.modules.specs.Messages.{MemoryNumberAmong};
+ghost use Rattle.modules.specs.Messages.{memory_numbers, MemoryNumberAmong};
 ghost use Rattle.modules.specs.Replies.{changed_env, changed_view, reply_view};
 
-use crate::commands::step;
 use crate::refusal::Refusal;
 use crate::reply::{Changed, Reply};
+use crate::step::step;
 use envvars::{Env, Vars, Working};
 use filetree::Tree;
 use requests::Request;
@@ -49,13 +48,7 @@ pub fn run_changes<T: Tree>(
     let mut working = Working::over(env);
     let done = step(alloc, request, &mut working, tree, limits)?;
     let changes = working.into_changes()?;
-    Ok(Changed {
-        changes,
-        loaded: done.loaded,
-        messages: done.messages,
-        report: done.report,
-        moves: done.moves,
-    })
+    Ok(Changed { changes, done })
 }
 
 /// Runs a request as `run_changes` does, and answers the environment that results. It costs a copy of the environment
@@ -78,14 +71,14 @@ pub fn run<T: Tree>(
         RequestLooksAt (request_context_in limits request.now.shell files listings) env.now
         (action_view request.now.action) at)) }
 {
-    let changed = run_changes(alloc, request, env, tree, limits)?;
+    let Changed { changes, done } = run_changes(alloc, request, env, tree, limits)?;
     let mut after = env.copy()?;
-    after.apply(changed.changes)?;
+    after.apply(changes)?;
     Ok(Reply {
         env: after,
-        loaded: changed.loaded,
-        messages: changed.messages,
-        report: changed.report,
-        moves: changed.moves,
+        loaded: done.loaded,
+        messages: done.messages,
+        report: done.report,
+        moves: done.moves,
     })
 }

@@ -13,6 +13,7 @@ ghost use Rattle.modules.specs.Responses.{response_of, responses, has_failed, co
 
 use crate::done::Done;
 use crate::refusal::Refusal;
+use crate::reply::Changed;
 use crate::running::run_changes;
 use envvars::{Env, Vars};
 use filetree::Tree;
@@ -48,14 +49,9 @@ fn change<T: Tree>(
         RequestLooksAt (request_context_in limits request.now.shell files listings) env.old
         (action_view request.now.action) at)) }
 {
-    let changed = run_changes(alloc, request, env, tree, limits)?;
-    env.apply(changed.changes)?;
-    Ok(Done {
-        loaded: changed.loaded,
-        messages: changed.messages,
-        report: changed.report,
-        moves: changed.moves,
-    })
+    let Changed { changes, done } = run_changes(alloc, request, env, tree, limits)?;
+    env.apply(changes)?;
+    Ok(done)
 }
 
 /// Runs a request and answers its outcome. Where it is accepted its changes are made; where it is refused the

@@ -10,11 +10,11 @@ ghost use Rattle.modules.specs.Messages.{MemoryNumberAmong};
 ghost use Rattle.modules.specs.Parts.{TreeAnswer, JudgesFound};
 ghost use Rattle.modules.specs.Verdicts.{verdict_view, in_sh, PlainVerdictHolds};
 
-use crate::done::EvaluationSettings;
 use crate::entries::entries_of;
-use crate::files::{ModuleFile, NameRequest, evaluate, find_module};
 use crate::judged::{Verdict, verdict_on};
+use crate::one_name::{ModuleFile, NameRequest, evaluate, find_module};
 use crate::refusal::Refusal;
+use crate::settings::EvaluationSettings;
 use envloaded::Loaded;
 use envvars::{Env, Vars, Working};
 use filetree::Tree;

@@ -75,13 +75,9 @@ pub fn arguments<R: Env + AllocGlobal>(rt: &R) -> Result<Vec<String>, ArgumentsF
         }
         Err(_) => return Err(ArgumentsFault::NotUtf8),
     };
-    let mut arguments = Vec::new(rt.alloc());
-    for argument in all.skip(1) {
-        if arguments.push(argument).is_err() {
-            return Err(ArgumentsFault::OutOfMemory);
-        }
-    }
-    Ok(arguments)
+    all.skip(1)
+        .collect(rt.alloc())
+        .map_err(|_| ArgumentsFault::OutOfMemory)
 }
 
 /// The environment as the system has it (environ(7)): entry after entry, each ended by NUL.

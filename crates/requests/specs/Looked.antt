@@ -39,21 +39,21 @@ pub record ShowLooksAt (s : RequestContext) (typed : Text) (d : Done) (at : Text
   pub read : Ok entries ≡ entries_of d.env
   pub searched : SearchLooksAt s d.env typed at
 
--- one step, and then another in what the first one results in
-abbrev pub LooksInTurn : (Text → Type 0) → (Result Done RequestReason → Type 0) → (Done → Text → Type 0) → Text → Type 0
-LooksInTurn First Does Second at = First at ⊎ ((mid : Done) × Does (Ok mid) × Second mid at)
+-- the first of two, or the second in what the first one comes to
+abbrev pub LooksInTurn : {M : Type 0} → (Text → Type 0) → (M → Type 0) → (M → Text → Type 0) → Text → Type 0
+LooksInTurn {M} First Comes Second at = First at ⊎ ((mid : M) × Comes mid × Second mid at)
 
 -- for each name in turn
 abbrev pub EachLooksAt : (Text → Done → Result Done RequestReason → Type 0) → (Text → Done → Text → Type 0)
     → List Text → Done → Text → Type 0
 EachLooksAt Does Looks [] d at = ⊥
 EachLooksAt Does Looks (name ∷ names) d at =
-    LooksInTurn (Looks name d) (Does name d) (EachLooksAt Does Looks names) at
+    LooksInTurn (Looks name d) (λ mid. Does name d (Ok mid)) (EachLooksAt Does Looks names) at
 
 -- to switch: for the old name, and then for the new one
 abbrev pub SwitchLooksAt : RequestContext → Text → Text → Done → Text → Type 0
 SwitchLooksAt s old new d =
-    LooksInTurn (UnloadLooksAt old d) (UnloadsName s true old d) (LoadLooksAt s new)
+    LooksInTurn (UnloadLooksAt old d) (λ mid. UnloadsName s true old d (Ok mid)) (LoadLooksAt s new)
 
 -- for all loaded modules, the last loaded first
 pub record PurgeLooksAt (s : RequestContext) (e : Environment) (at : Text) : Type 0 where
@@ -80,7 +80,7 @@ abbrev pub OneLooksAt : {R : Type 0} → (Environment → R → Text → Type 0)
     → Environment → List R → Text → Type 0
 OneLooksAt Looks Has e [] at = ⊥
 OneLooksAt Looks Has e (r ∷ rs) at =
-    Looks e r at ⊎ ((o : Response) × Has e r o × OneLooksAt Looks Has (env_after e o) rs at)
+    LooksInTurn (Looks e r) (Has e r) (λ o. OneLooksAt Looks Has (env_after e o) rs) at
 
 -- a request in its own shell: where it looks, and a response that it has
 abbrev pub OwnLooksAt : RequestContext → Environment → Request → Text → Type 0

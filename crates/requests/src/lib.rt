@@ -1,5 +1,5 @@
-//! Requests (module(1)): what one is and makes of an environment, with laws; its words, conditions and reports.
-//! Takes memory for the words of a request and the text of a report, and touches nothing else.
+//! Requests (module(1)): what one is and makes of an environment, with laws; its conditions and reports.
+//! Takes memory for the text of a report, and touches nothing else.
 #![tactic(auto)]
 
 mod action;
@@ -8,11 +8,9 @@ mod conditions;
 mod laws;
 mod lines;
 mod list;
-mod request_fault;
 mod rows;
 mod show;
 mod whatis;
-mod words;
 
 pub use action::{Action, Request};
 pub use avail::avail_report;
@@ -22,8 +20,6 @@ pub use laws::{
     session_returns, sessions, some_outcome, verdicts,
 };
 pub use list::list_report;
-pub use request_fault::RequestFault;
 pub use rows::{condition_rows, report_rows, request_rows};
 pub use show::show_report;
 pub use whatis::whatis_report;
-pub use words::request;

@@ -1,6 +1,5 @@
 pub mod VersionNamedLemmas
 pub mod VersionLemmas
-pub mod CandidateFailures
 pub mod NameLemmas
 pub mod PartLemmas
 pub mod UnderLemmas
@@ -8,7 +7,6 @@ pub mod OneFound
 pub mod OneListing
 pub mod NamedLemmas
 pub mod StepLemmas
-pub mod FailureLemmas
 pub mod LookLemmas
 pub mod DefaultLemmas
 pub mod RowLemmas

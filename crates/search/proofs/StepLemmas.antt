@@ -3,8 +3,7 @@ use Rattle.std.proofs.Common.{◌≡◌, true, false, List, [], ◌∷◌, lengt
 use Rattle.std.specs.Prelude.{◌==◌}
 use Rattle.std.proofs.lemmas.Bool.Decides.{nat_tests}
 use Rattle.modulename.specs.ModuleName.{Text}
-use Rattle.filetree.specs.Agreement.{Files, Listings, InEachPair}
-use Rattle.filetree.specs.Causes.{Cause, memory, device, because, Applies}
+use Rattle.filetree.specs.Agreement.{Files, Listings}
 use Rattle.filetree.specs.Modulefiles.{FileContent, absent, no_cookie, not_utf8, script, modulefile, is_module, is_empty, path_of}
 use Rattle.filetree.specs.declared.find_fault.FindFault.{FindFault}
 use Rattle.filetree.specs.declared.find_fault.FindFault.TheVariants as faults
@@ -13,8 +12,8 @@ use Rattle.search.specs.Reasons.{FindReason}
 use Rattle.search.specs.DefaultVersions.{DefaultFileResult}
 use Rattle.search.specs.Found.{FoundModule, NamedDefault, Default, ModuleAt, FoundAlong, read}
 use Rattle.search.specs.Candidates.{IsCandidate, HasCandidates}
-use Rattle.search.specs.Answers.{FindAnswersOverTree, cause_of}
-use Rattle.search.specs.Steps.{caused, because_of, module_in, module_at, DefaultIn, OfDefault, FoundBelow}
+use Rattle.search.specs.Answers.{FindAnswersOverTree}
+use Rattle.search.specs.Steps.{module_in, module_at, DefaultIn, OfDefault, FoundBelow}
 use Rattle.search.specs.Versions.{IsGreatestOf}
 use Rattle.search.proofs.NamedLemmas.{named_is_candidate, same_value}
 
@@ -80,23 +79,6 @@ module _ (results : Text → Text → Option DefaultFileResult → Type 0) (file
   below_fault no_cookie e h r d = inr (λ k. let q : false ≡ true = sym (ap is_module e) ∙ k in absurd (cc), (Err r, d, refl))
   below_fault not_utf8 e h r d = absurd (let q = h ∙ ap (module_in name (path_of dir name)) e in cc)
   below_fault (script text) e h r d = absurd (let q = h ∙ ap (module_in name (path_of dir name)) e in cc)
-
-same_reason : {Y : Type 0} (r s : FindReason) (c d : Result Y (Cause FindReason)) → c ≡ Err (because r) → d ≡ Err (because s) → c ≡ d → r ≡ s
-same_reason r s c d h k e = cc
-
--- the answer of a call that asks no tree
-pub over_tree_caused : {X Y : Type 0} (agrees : Files → Listings → Type 0) (failed : Type 0) (view : X → Y) (r : Result X FindFault) (o : Result Y FindReason)
-    (Outcomes : Files → Listings → Result Y FindReason → Type 0)
-    → caused view r ≡ because_of o → ((files : Files) (listings : Listings) → agrees files listings → Outcomes files listings o) → FindAnswersOverTree agrees failed view r Outcomes
-over_tree_caused agrees failed view (Ok x) (Ok y) Outcomes e h = λ files listings a. subst (λ z. Outcomes files listings (Ok z)) (sym (same_value (view x) y (Ok (view x)) (Ok y) refl refl e)) (h files listings a)
-over_tree_caused agrees failed view (Ok x) (Err s) Outcomes e h = absurd (cc)
-over_tree_caused agrees failed view (Err f) (Ok y) Outcomes e h = absurd (cc)
-over_tree_caused {Y = Y} agrees failed view (Err f) (Err s) Outcomes e h = fault (cause_of f) (caused view (Err f)) (because_of (Err s)) refl refl e
-  where
-    fault : (c : Cause FindReason) (p q : Result Y (Cause FindReason)) → p ≡ Err c → q ≡ Err (because s) → p ≡ q → Applies c failed (λ r. InEachPair agrees (λ files listings. Outcomes files listings (Err r)))
-    fault memory p q k l g = tt
-    fault device p q k l g = absurd (cc)
-    fault (because r) p q k l g = λ files listings a. subst (λ z. Outcomes files listings (Err z)) (sym (same_reason r s p q k l g)) (h files listings a)
 
 -- how the search continues after one directory
 abbrev pub Continues : (Text → Text → Option DefaultFileResult → Type 0) → Files → Listings → Text → List Text → Result (Option FoundModule) FindReason → Result FoundModule FindReason → Type 0

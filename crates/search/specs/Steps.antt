@@ -6,21 +6,8 @@ use Rattle.filetree.specs.Modulefiles.{FileContent, absent, no_cookie, not_utf8,
 use Rattle.filetree.specs.Relations.{Is, Where, ◌>>◌}
 use Rattle.search.specs.Reasons.{FindReason, not_utf8_at}
 use Rattle.search.specs.DefaultVersions.{DefaultFileResult}
-use Rattle.filetree.specs.Causes.{Cause, because}
-use Rattle.filetree.specs.declared.find_fault.FindFault.{FindFault}
-use Rattle.search.specs.Answers.{cause_of}
 use Rattle.search.specs.Found.{FoundModule, Default}
 use Rattle.search.specs.Candidates.{IsModuleAt, HasCandidates}
-
--- a call's result, by its value or the cause of its fault
-abbrev pub caused : {X Y : Type 0} → (X → Y) → Result X FindFault → Result Y (Cause FindReason)
-caused view (Ok x) = Ok (view x)
-caused view (Err e) = Err (cause_of e)
-
--- a definition's outcome, with its reason as a cause
-abbrev pub because_of : {Y : Type 0} → Result Y FindReason → Result Y (Cause FindReason)
-because_of (Ok y) = Ok y
-because_of (Err r) = Err (because r)
 
 -- the module of this full name that a path holds, if it holds one
 abbrev pub module_in : Text → Text → FileContent → Result (Option FoundModule) FindReason

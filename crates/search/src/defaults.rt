@@ -12,7 +12,7 @@ ghost use Rattle.std.specs.Option.{option_map};
 ghost use Rattle.search.specs.Ended.{ended_view};
 
 use crate::default_files::{DefaultFiles, Ended};
-use crate::module_files::{holds_module, is_module_in};
+use crate::module_files::is_module_in;
 use crate::modulefile::{FileContent, read_modulefile};
 use crate::paths::{has, path_in_folder};
 use crate::version_named::DefaultFile;
@@ -71,9 +71,6 @@ fn version_named_by<T: Tree, D: DefaultFiles>(
         at ≡ default_file dir.now name.now (file_name file)) }
 {
     let path = path_in_folder(alloc, dir, name, file.file_name())?;
-    if !holds_module(tree, &path)? {
-        return Ok(NamedVersion::Nothing);
-    }
     match read_modulefile(tree, &path)? {
         FileContent::Absent | FileContent::NoCookie => Ok(NamedVersion::Nothing),
         FileContent::NotUtf8 => Ok(NamedVersion::BadFile(path)),

@@ -6,10 +6,9 @@ ghost use Rattle.filetree.specs.Agreement.{FailsAt, FailsWhere, InEachPair, Read
 ghost use Rattle.filetree.specs.Modulefiles.{path_of, directories};
 ghost use Rattle.filetree.specs.Relations.{Is};
 ghost use Rattle.search.specs.Found as meaning;
-ghost use Rattle.search.specs.FileContents.{file_content_view};
 ghost use Rattle.search.specs.Looked.{LooksInFolder, LooksBelow, LooksAlong, LooksAt};
 ghost use Rattle.search.specs.Answers.{FindAnswersOverTree, found_view, is_failure};
-ghost use Rattle.search.specs.Steps.{caused, because_of, module_in, module_at, DefaultIn, FoundBelow};
+ghost use Rattle.search.specs.Steps.{module_at, DefaultIn, FoundBelow};
 
 use crate::default_files::DefaultFiles;
 use crate::defaults::{NamedVersion, named_default};
@@ -31,20 +30,6 @@ pub struct Found {
     pub text: String,
 }
 
-/// The module of this full name at a path, by what the path holds; `None` where that is no module.
-///
-/// Errors: `NotUtf8` where it is a module that is not UTF-8.
-fn found_in(name: String, path: String, file: FileContent) -> Result<Option<Found>, FindFault>
-    ensures { caused (option_map found_view) result
-        ≡ because_of (module_in (string_bytes name) (string_bytes path) (file_content_view file)) }
-{
-    match file {
-        FileContent::Absent | FileContent::NoCookie => Ok(None),
-        FileContent::NotUtf8 => Err(FindFault::NotUtf8(path)),
-        FileContent::Script(text) => Ok(Some(Found { name, path, text })),
-    }
-}
-
 /// The module of this full name below a directory, or `None` where its path holds no module.
 ///
 /// Errors: `NotUtf8` where the module is not UTF-8; what the tree answers at that path; want of memory.
@@ -63,7 +48,14 @@ fn module_at<T: Tree>(
 {
     let path = path_of(alloc, dir, name)?;
     let file = read_modulefile(tree, &path)?;
-    found_in(String::from_str(alloc, name)?, path, file)
+    match file {
+        FileContent::Absent | FileContent::NoCookie => Ok(None),
+        FileContent::NotUtf8 => Err(FindFault::NotUtf8(path)),
+        FileContent::Script(text) => {
+            let name = String::from_str(alloc, name)?;
+            Ok(Some(Found { name, path, text }))
+        }
+    }
 }
 
 /// The default candidate of a name, in whose folder are these entries; `None` where none of them is a candidate.

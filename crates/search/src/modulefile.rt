@@ -1,5 +1,5 @@
 //! What a path holds as a modulefile: the cookie `#%Module`, UTF-8, and the text (modulefile(5)).
-ghost use Rattle.std.specs.Prelude.{◌≡◌, false, IfOk, None, Some};
+ghost use Rattle.std.specs.Prelude.{◌≡◌, false, true, IfOk, None, Some};
 ghost use Rattle.filetree.specs.Agreement.{FailsAt, InEachPair, FailsOnlyByDevice, Narrows, begins_with, is_device};
 ghost use Rattle.filetree.specs.Modulefiles.{cookie, modulefile};
 ghost use Rattle.search.specs.FileContents.{file_content_view};
@@ -20,13 +20,11 @@ pub enum FileContent {
     Script(String),
 }
 
-/// What the bytes of a whole file are as a modulefile.
+/// What the bytes of a whole file are as a modulefile, where they begin with the cookie.
 fn modulefile_of(bytes: Vec<u8>) -> FileContent
-    ensures { file_content_view result ≡ modulefile (Some bytes.items) }
+    ensures { begins_with cookie (Some bytes.items) ≡ true
+        → file_content_view result ≡ modulefile (Some bytes.items) }
 {
-    if !bytes.as_slice().starts_with(COOKIE) {
-        return FileContent::NoCookie;
-    }
     match String::from_utf8(bytes) {
         Ok(text) => FileContent::Script(text),
         Err(_) => FileContent::NotUtf8,

@@ -5,7 +5,7 @@ use Rattle.envvars.specs.Texts.{Text}
 use Rattle.envvars.specs.Environment.{Environment}
 use Rattle.envvars.specs.Fields.{without_repeats}
 use Rattle.filetree.specs.Agreement.{FailsOnlyWhere, Files, Listings, InEachPair, Narrows}
-use Rattle.filetree.proofs.FailedPaths.{only_then_in_each, only_wider_in_each}
+use Rattle.filetree.proofs.FailedPaths.{only_more_in_each, only_wider_in_each}
 use Rattle.shelltext.specs.declared.shell.Shell.{Shell}
 use Rattle.shelltext.specs.declared.shell.Shell.TheVariants.{Sh}
 use Rattle.tclrules.specs.declared.limits.Limits.{Limits}
@@ -65,10 +65,10 @@ looks_by_names s from e lines lines' names outcomes at same made ran named h =
     inr (responses e outcomes, subst Q same (subst P made ran), subst N (named ∙ ap without_repeats (sym (names_of_responses e outcomes))) h)
 
 -- where the device has failed after the lines
-pub lines_fail : (agrees : Files → Listings → Type 0) (before now : List ℕ → Bool) (limits : Limits) (shell : Shell) (from e : Environment) (text : Text) (lines : List (List Text)) → from ≡ e → lines ≡ lines_in text
+pub check_fails_in_lines : (agrees : Files → Listings → Type 0) (before now : List ℕ → Bool) (limits : Limits) (shell : Shell) (from e : Environment) (text : Text) (lines : List (List Text)) → from ≡ e → lines ≡ lines_in text
     → FailsOnlyWhere before now (λ at. InEachPair agrees (λ files listings. LinesLookAt (request_context_in limits shell files listings) from lines at))
     → FailsOnlyWhere before now (λ at. InEachPair agrees (λ files listings. CheckLooksAt (request_context_in limits shell files listings) e (lines_in text) at))
-lines_fail agrees before now limits shell from e text lines same made =
+check_fails_in_lines agrees before now limits shell from e text lines same made =
     let Here : Files → Listings → Text → Type 0 = λ files listings at. LinesLookAt (request_context_in limits shell files listings) from lines at in
     let Whole : Files → Listings → Text → Type 0 = λ files listings at. CheckLooksAt (request_context_in limits shell files listings) e (lines_in text) at in
     only_wider_in_each agrees before now Here Whole (λ files listings agreed at h. looks_by_lines (request_context_in limits shell files listings) from e lines (lines_in text) at same made h)
@@ -83,8 +83,7 @@ pub check_fails : (agrees agrees' : Files → Listings → Type 0) (before mid n
 check_fails agrees agrees' before mid now limits shell from e text lines names outcomes narrows same made ran named first second =
     let Here : Files → Listings → Text → Type 0 = λ files listings at. NamesLookAt (request_context_in limits Sh files listings) e names at in
     let Whole : Files → Listings → Text → Type 0 = λ files listings at. CheckLooksAt (request_context_in limits shell files listings) e (lines_in text) at in
-    only_then_in_each agrees agrees' before mid now Whole narrows (lines_fail agrees before mid limits shell from e text lines same made first)
-    (only_wider_in_each agrees' mid now Here Whole
+    only_more_in_each agrees agrees' before mid now Here Whole narrows
     (λ files listings agreed at h.
-    looks_by_names (request_context_in limits shell files listings) from e lines (lines_in text) names outcomes at same made (ran files listings (narrows files listings agreed)) named h)
-    second)
+    looks_by_names (request_context_in limits shell files listings) from e lines (lines_in text) names outcomes at same made (ran files listings agreed) named h)
+    (check_fails_in_lines agrees before mid limits shell from e text lines same made first) second

@@ -5,7 +5,7 @@ use Rattle.std.specs.List.{Any, flat_map}
 use Rattle.envvars.specs.Texts.{Text, slice_texts, texts_in}
 use Rattle.envvars.specs.Environment.{Environment}
 use Rattle.filetree.specs.Agreement.{FailsOnlyWhere, Files, Listings, InEachPair, Narrows}
-use Rattle.filetree.proofs.FailedPaths.{only_then_in_each, only_wider_in_each}
+use Rattle.filetree.proofs.FailedPaths.{only_more_in_each}
 use Rattle.filetree.specs.Causes.{Cause, Applies, memory, device, because}
 use Rattle.requests.specs.Looked.{SearchLooksAt}
 use Rattle.modulefile.specs.Moves.{Move, Loads, Unloads, loaded_names}
@@ -129,8 +129,8 @@ pub names_fail : (agrees agrees' : Files → Listings → Type 0) (before mid no
 names_fail agrees agrees' before mid now limits e names i d narrows below first second =
     let Whole : Files → Listings → Text → Type 0 = λ files listings at. NamesLookAt (in_sh limits files listings) e (slice_texts names) at in
     let Here : Files → Listings → Text → Type 0 = λ files listings at. SearchLooksAt (in_sh limits files listings) e (get_or names i d).now at in
-    only_then_in_each agrees agrees' before mid now Whole narrows first
-    (only_wider_in_each agrees' mid now Here Whole (λ files listings agreed at h. named_at names i d (λ n. SearchLooksAt (in_sh limits files listings) e n at) below h) second)
+    only_more_in_each agrees agrees' before mid now Here Whole narrows
+    (λ files listings agreed at h. named_at names i d (λ n. SearchLooksAt (in_sh limits files listings) e n at) below h) first second
 
 -- a judgment of a name that was copied
 pub judged_name : (agrees : Files → Listings → Type 0) (failed failed' : Type 0) (limits : Limits) (e : Environment) (name : Text) (j : Judgment)

@@ -3,7 +3,7 @@ use Rattle.std.proofs.Common.{◌≡◌, ℕ, Bool, ◌<◌, ◌≤◌, ◌+◌,
 use Rattle.envvars.specs.Texts.{Text}
 use Rattle.envvars.specs.Environment.{Environment}
 use Rattle.filetree.specs.Agreement.{FailsOnlyWhere, Files, InEachPair, Listings, Narrows}
-use Rattle.filetree.proofs.FailedPaths.{only_then_in_each, only_wider_in_each}
+use Rattle.filetree.proofs.FailedPaths.{only_more_in_each}
 use Rattle.filetree.specs.Causes.{Cause, Applies, memory, device, because}
 use Rattle.filetree.specs.Relations.{Is}
 use Rattle.requests.specs.Looked.{RequestLooksAt}
@@ -17,6 +17,7 @@ use Rattle.modules.specs.Answers.{cause_of}
 use Rattle.modules.specs.Messages.{memory_number, number_by}
 use Rattle.modules.specs.declared.refusal.Refusal.{Refusal}
 use Rattle.modules.proofs.SessionLemmas.{looks_here, memory_is_cause, refused_counts}
+use Rattle.modules.proofs.StepLemmas.{stands_as}
 use Rattle.modules.specs.Responses.{by_cause, count_failed, response_of}
 use Rattle.modules.specs.declared.sessions.Outcome.TheVariants.{Refused}
 use Rattle.sessions.specs.Sessions.{IsLineResponse, LineLooksAt, LineSession, LinesLookAt}
@@ -46,16 +47,11 @@ pub none_responds : (s : RequestContext) (e : Environment) (words : List Text) (
     → Applies (cause_of refusal) ⊥ (λ r. Is (request_of words) (Err r)) → IsLineResponse s e words (response_of e (Refused refusal))
 none_responds s e words refusal h = by_cause_responds s e words (memory_number refusal) (cause_of refusal) (memory_is_cause refusal) h
 
-more_applies : (c : Cause RequestReason) (failed : Type 0) (Is : RequestReason → Type 0) → Applies c ⊥ Is → Applies c failed Is
-more_applies memory failed Is h = tt
-more_applies device failed Is h = absurd h
-more_applies (because r) failed Is h = h
-
 same_number : (n : ℕ) → n ≤ n
 same_number n = omega arith
 
 pub none_counts : (failures : ℕ) (refusal : Refusal) (Is : RequestReason → Type 0) → Applies (cause_of refusal) ⊥ Is → failures + count_failed (Refused refusal ∷ []) ≤ failures
-none_counts failures refusal Is h = refused_counts failures failures refusal Is (same_number failures) (more_applies (cause_of refusal) (failures < failures) Is h)
+none_counts failures refusal Is h = refused_counts failures failures refusal Is (same_number failures) (stands_as (cause_of refusal) ⊥ (failures < failures) Is Is (λ x. absurd x) (λ r k. k) h)
 
 -- what the rest of the lines has as responses, the whole has after those so far
 pub lines_taken : (s : RequestContext) (start e new : Environment) (words : List Text) (lines all : List (List Text)) (sofar grown : List Response) (o : Response)
@@ -85,9 +81,8 @@ pub lines_fail : (agrees agrees' : Files → Listings → Type 0) (before mid no
 lines_fail agrees agrees' before mid now context start e all whole words lines narrows split looks first second =
     let Whole : Files → Listings → Text → Type 0 = λ files listings at. LinesLookAt (context files listings) start all at in
     let Here : Files → Listings → Text → Type 0 = λ files listings at. LineLooksAt (context files listings) e words at in
-    only_then_in_each agrees agrees' before mid now Whole narrows first
-    (only_wider_in_each agrees' mid now Here Whole
+    only_more_in_each agrees agrees' before mid now Here Whole narrows
     (λ files listings agreed at h.
-    looks files listings (narrows files listings agreed) at
+    looks files listings agreed at
     (looks_here (LineLooksAt (context files listings)) (IsLineResponse (context files listings)) e whole words lines at split h))
-    second)
+    first second

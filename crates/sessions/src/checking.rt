@@ -63,7 +63,8 @@ fn judge_loaded<T: Tree>(
         (without_repeats (flat_map loaded_in outcomes.now)) judgments.items) }
     ensures failures { IfOk result (λ judgments.
         T.failures tree.old + count_failed_judgments judgments.items ≤ T.failures tree.new) }
-    ensures failed { FailsOnlyAt T.agrees T.failed tree.old tree.new (λ files listings at. NamesLookAt (in_sh limits files listings) env.now
+    ensures failed { FailsOnlyAt T.agrees T.failed tree.old tree.new (λ files listings at.
+        NamesLookAt (in_sh limits files listings) env.now
         (without_repeats (flat_map loaded_in outcomes.now)) at) }
 {
     let names = names_loaded(alloc, outcomes)?;

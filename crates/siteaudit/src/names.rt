@@ -11,8 +11,8 @@ ghost use Rattle.siteaudit.specs.Mentions.{is_known, known_in, unknown_by, unkno
 use crate::auditing::UnknownNames;
 use crate::folders::folder_of;
 use crate::walk::Evaluation;
-use envvars::fields::copies;
 use indexmap::IndexSet;
+use message::texts::copies;
 use modulefile::Record;
 use std::alloc::{AllocError, Global};
 use std::slice;

@@ -1,11 +1,11 @@
 -- Directories that are judged one after another, and the faults of words that name none.
-use Rattle.std.proofs.Common.{◌≡◌, ◌⊎◌, ℕ, zero, suc, add-one, ◌+◌, ◌<◌, ◌≤◌, Bool, true, false, List, [], ◌∷◌, ◌++◌, length, get_or, map, take, string_bytes, String, refl, sym, ap, ◌∙◌, subst, inl, inr, arith}
+use Rattle.std.proofs.Common.{◌≡◌, ℕ, zero, suc, ◌+◌, ◌<◌, ◌≤◌, Bool, false, List, [], ◌∷◌, ◌++◌, length, get_or, map, take, string_bytes, String, refl, sym, ap, ◌∙◌, subst, inl, inr, arith}
 use Rattle.std.proofs.lemmas.List.{take_more, map-append}
 use Rattle.std.specs.declared.alloc.Global.{Global}
 use Rattle.requests.specs.Reasons.{RequestReason}
 use Rattle.modules.specs.Answers.{cause_of}
 use Rattle.envvars.specs.Texts.{Text}
-use Rattle.filetree.specs.Agreement.{FailsIf, Files, Listings, InEachPair, Narrows, ReadsOn}
+use Rattle.filetree.specs.Agreement.{FailsIf, Files, Listings, InEachPair, Narrows}
 use Rattle.filetree.specs.Causes.{Cause, Applies, memory, device, because}
 use Rattle.modules.proofs.FailureLemmas.{unfailed}
 use Rattle.siteaudit.specs.Looked as walks
@@ -17,14 +17,6 @@ use Rattle.sitecommand.specs.Looked.{AreThere, DirectoriesLookAt}
 use Rattle.sitecommand.specs.Steps.{IsGivenUp, NamesNoDirectory, IsDirectoryFault, AreDirectoriesFault}
 use Rattle.sitecommand.specs.declared.audit_fault.AuditFault.{AuditFault}
 use Rattle.sitecommand.specs.declared.audit_fault.AuditFault.TheVariants.{Refused, TooManyDirectories, NotADirectory, WriteFailed}
-
--- ---- readings of a tree
-
-pub reads_more : {T : Type 0} (agrees : T → Files → Listings → Type 0) (failures : T → ℕ) (a b c : T) → ReadsOn agrees failures a b → ReadsOn agrees failures b c → ReadsOn agrees failures a c
-reads_more agrees failures a b c p q = record {
-  narrows = λ files listings agreed. p.narrows files listings (q.narrows files listings agreed);
-  counts_failures = omega (arith, p.counts_failures, q.counts_failures);
-}
 
 -- what failed in a later part failed in the whole
 pub fails_later : (a b c : ℕ) → a ≤ b → b < c → a < c

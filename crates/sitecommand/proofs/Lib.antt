@@ -1,3 +1,2 @@
-pub mod WriterLemmas
 pub mod DirectoryLemmas
 pub mod AuditLemmas

@@ -1,20 +1,17 @@
 //! Why there is no audit, with the texts of these faults, and the line on standard error.
 ghost use Rattle.std.specs.Prelude.{◌≡◌, Some, OnOk, OnErr};
 ghost use Rattle.std.specs.Io.KnownBytes.{Appends};
-ghost use Rattle.message.specs.Messages.{around, text_of};
-ghost use Rattle.modulecmd.specs.Lines.{error_line};
+ghost use Rattle.message.specs.Messages.{text_of};
 ghost use Rattle.modulecmd.specs.Writing.{AppendsPart};
 ghost use Rattle.modules.specs.declared.refusal.Refusal.TheVariants as refusals;
 ghost use Rattle.modules.specs.Answers.{refused_read};
 ghost use Rattle.sitecommand.specs.declared.audit_fault.AuditFault.TheVariants.{Refused};
 ghost use Rattle.sitecommand.specs.Faults.{line_of, message_of, of_walk};
 
-use crate::writers::write_parts;
 use envvars::EnvFault;
 use filetree::TreeFault;
-use itoa::Buffer;
 use message::Message;
-use modulecmd::WriteFault;
+use modulecmd::{WriteFault, write_error};
 use modules::Refusal;
 use siteaudit::WalkFault;
 use std::alloc::{AllocError, AllocFailed};
@@ -103,31 +100,11 @@ impl<T: Drop> From<AllocFailed<T>> for AuditFault {
     }
 }
 
-/// Writes an error line of these parts: `ERROR: `, the five texts one after another, and a newline.
-fn write_line<'a, E: Write>(
-    before: &'a str,
-    left: &'a str,
-    subject: &'a str,
-    right: &'a str,
-    after: &'a str,
-    err: &mut E,
-) -> Result<(), WriteFault>
-    ensures whole { OnOk result (Appends (E.contents err.old) (E.contents err.new)
-        (error_line (around before.now (around left.now subject.now right.now) after.now))) }
-    ensures cut { OnErr result (AppendsPart (E.contents err.old) (E.contents err.new)
-        (error_line (around before.now (around left.now subject.now right.now) after.now))) }
-{
-    write_parts(err, &["ERROR: ", before, left, subject, right, after, "\n"])
-}
-
 /// Writes the line that says why there is no audit, without taking memory. It is tried once: a write that fails ends it.
 /// Then the first part of the line is written, not all.
 pub fn write_fault<E: Write>(fault: &AuditFault, err: &mut E) -> Result<(), WriteFault>
     ensures whole { OnOk result (Appends (E.contents err.old) (E.contents err.new) (line_of fault.now)) }
     ensures cut { OnErr result (AppendsPart (E.contents err.old) (E.contents err.new) (line_of fault.now)) }
 {
-    let mut digits = Buffer::new();
-    let message = fault.message();
-    let [before, left, subject, right, after] = message.parts(&mut digits);
-    write_line(before, left, subject, right, after, err)
+    write_error(&fault.message(), err)
 }

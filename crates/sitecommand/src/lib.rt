@@ -7,7 +7,6 @@ mod audit_exit;
 mod audit_fault;
 mod directories;
 mod running;
-mod writers;
 
 pub use audit_exit::AuditExit;
 pub use audit_fault::{AuditFault, write_fault};

@@ -6,8 +6,8 @@ ghost use Rattle.tclrules.specs.Forms.{Put};
 ghost use Rattle.tclrules.specs.Rules.{form, replied};
 ghost use Rattle.tclcommands.specs.Continuations.{ContinuesWithAnswer, ContinuesWithResult, command_name};
 
-use crate::copies::with_copies;
 use crate::value::Value;
+use message::texts::with_copies;
 use std::alloc::{AllocError, Global};
 use tclforms::no_command;
 use tclrules::{EvalFault, Host, HostAnswer};

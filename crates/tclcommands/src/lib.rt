@@ -5,7 +5,6 @@
 mod command_words;
 mod commands;
 mod completion;
-mod copies;
 mod defining;
 mod global_names;
 mod host_commands;

@@ -12,9 +12,9 @@ ghost use Rattle.tclvariables.specs.Contents.{IsListText, HoldsList};
 ghost use Rattle.tclcommands.specs.Continuations.{append_at, ContinuesWithText, ContinuesWithinLimit};
 ghost use Rattle.tclvariables.specs.Locations.{scalar_view};
 
-use crate::copies::with_copies;
 use crate::value::{Value, value_or};
 use crate::writing::{put_at, take_text};
+use message::texts::with_copies;
 use std::alloc::{AllocError, Global};
 use tclchars::MAX_BYTES;
 use tcloperators::{ValueFault, elements};

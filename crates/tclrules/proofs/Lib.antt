@@ -6,6 +6,5 @@ pub mod Seen
 pub mod Totals
 pub mod Shrinking
 pub mod FileEnds
-pub mod Recorded
 pub mod Leading
 pub mod Plenty

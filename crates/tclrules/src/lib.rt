@@ -6,7 +6,6 @@ mod host;
 mod laws;
 mod limits;
 mod outcome;
-mod recorder;
 mod rows;
 
 pub use host::{Host, HostAnswer};
@@ -15,5 +14,4 @@ pub use laws::{
 };
 pub use limits::Limits;
 pub use outcome::{Ending, EvalFault};
-pub use recorder::Recorder;
 pub use rows::worked_rows;

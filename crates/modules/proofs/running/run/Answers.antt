@@ -1,6 +1,6 @@
 use Rattle.std.proofs.lemmas.Result.{err_from_is_err_and}
 use Rattle.requests.specs.RequestViews.{action_view}
-use Rattle.modules.proofs.RequestNumbers.{own_number}
+use Rattle.modules.proofs.MemoryNumberLemmas.{own_number}
 use Rattle.modules.proofs.running.run.Goals as goal
 
 pub returns-in_err-after-clause-out_of_memory : goal.returns-in_err-after-clause-out_of_memory

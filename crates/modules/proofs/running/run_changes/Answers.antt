@@ -5,7 +5,7 @@ use Rattle.envvars.specs.Changes.{new_values_in}
 use Rattle.requests.specs.RequestViews.{action_view}
 use Rattle.requests.specs.Steps.{RequestStep, request_context_in}
 use Rattle.modules.specs.Views.{done_view}
-use Rattle.modules.proofs.RequestNumbers.{own_number}
+use Rattle.modules.proofs.MemoryNumberLemmas.{own_number}
 use Rattle.modules.proofs.RunLemmas.{left_of, exact_of}
 use Rattle.modules.proofs.running.run_changes.Goals as goal
 

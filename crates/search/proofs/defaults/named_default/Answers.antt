@@ -6,7 +6,7 @@ use Rattle.search.specs.Looked.{LooksAtDefaultFile, LooksForNamed}
 use Rattle.search.specs.DefaultFileKinds.{file_name, says}
 use Rattle.search.specs.VersionsNamed.{named_version_view, NamedBy}
 use Rattle.search.specs.declared.version_named.DefaultFile.TheVariants.{Modulerc, Version}
-use Rattle.search.proofs.CandidateFailures.{fails_then, fails_last}
+use Rattle.filetree.proofs.FailedPaths.{fails_then, fails_last}
 use Rattle.search.proofs.NamedLemmas.{modulerc_names_no_candidate, named_second}
 use Rattle.search.proofs.defaults.named_default.Goals as goal
 

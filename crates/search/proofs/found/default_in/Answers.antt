@@ -3,7 +3,7 @@ use Rattle.filetree.specs.Agreement.{InEachPair}
 use Rattle.filetree.specs.Modulefiles.{path_of}
 use Rattle.search.specs.Looked.{LooksInFolder}
 use Rattle.search.specs.Answers.{is_failure}
-use Rattle.search.proofs.CandidateFailures.{fails_last}
+use Rattle.filetree.proofs.FailedPaths.{fails_last}
 use Rattle.search.proofs.found.default_in.Goals as goal
 
 pub returns-clause-failed : goal.returns-clause-failed

@@ -3,6 +3,8 @@ use Rattle.std.specs.List.{list_any}
 use Rattle.std.proofs.lemmas.Result.{err_from_is_err_and}
 use Rattle.filetree.specs.Agreement.{InEachPair, is_device}
 use Rattle.filetree.specs.Answers.{fault_of_tree}
+use Rattle.filetree.specs.declared.tree.TreeFault.{TreeFault}
+use Rattle.filetree.specs.declared.tree.TreeFault.TheVariants.{OutOfMemory, Device}
 use Rattle.search.specs.Reasons.{bad_default}
 use Rattle.search.specs.Found.{NamedDefault}
 use Rattle.search.specs.Looked.{LooksForNamed, LooksInFolder}
@@ -11,10 +13,14 @@ use Rattle.search.specs.Answers.{is_failure}
 use Rattle.search.specs.VersionsNamed.{named_version_view}
 use Rattle.search.specs.Versions.{IsGreatestOf, is_version}
 use Rattle.search.proofs.StepLemmas.{default_named, default_greatest, default_bad, default_none}
-use Rattle.search.proofs.CandidateFailures.{fails_then}
-use Rattle.search.proofs.FailureLemmas.{same_failure}
+use Rattle.filetree.proofs.FailedPaths.{fails_then}
 use Rattle.search.proofs.VersionLemmas.{no_candidates, some_version}
 use Rattle.search.proofs.found.default_of.Goals as goal
+
+-- a failure of the tree is one of the search
+same_failure : (fault : TreeFault) → is_device fault ≡ is_failure (fault_of_tree fault)
+same_failure OutOfMemory = refl
+same_failure Device = refl
 
 pub returns-in-Version-clause-over_tree : goal.returns-in-Version-clause-over_tree
 returns-in-Version-clause-over_tree g c = λ files listings agree.

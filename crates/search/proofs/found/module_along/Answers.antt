@@ -5,7 +5,7 @@ use Rattle.search.specs.Found.{FoundAlong}
 use Rattle.search.specs.Looked.{LooksBelow, LooksAlong}
 use Rattle.search.specs.Answers.{found_view, is_failure}
 use Rattle.search.specs.Steps.{FoundBelow}
-use Rattle.search.proofs.CandidateFailures.{fails_then}
+use Rattle.filetree.proofs.FailedPaths.{fails_then}
 use Rattle.search.proofs.LookLemmas.{looks_here, looks_after}
 use Rattle.search.proofs.StepLemmas.{over_tree_fault, Continues, along_rest}
 use Rattle.search.proofs.VersionLemmas.{first_of}

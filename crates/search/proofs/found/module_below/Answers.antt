@@ -7,7 +7,7 @@ use Rattle.filetree.specs.Relations.{Is}
 use Rattle.search.specs.Looked.{LooksInFolder, LooksBelow}
 use Rattle.search.specs.Answers.{found_view, is_failure}
 use Rattle.search.specs.Steps.{module_at, DefaultIn, FoundBelow}
-use Rattle.search.proofs.CandidateFailures.{fails_then, fails_last}
+use Rattle.filetree.proofs.FailedPaths.{fails_then, fails_last}
 use Rattle.search.proofs.LookLemmas.{not_at, default_looked}
 use Rattle.search.proofs.StepLemmas.{over_tree_fault, over_tree_weaker, below_first, below_default, below_fault}
 use Rattle.search.proofs.found.module_below.Goals as goal

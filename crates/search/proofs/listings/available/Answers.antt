@@ -7,7 +7,7 @@ use Rattle.filetree.specs.Modulefiles.{directories}
 use Rattle.search.specs.DefaultVersions.{DefaultFileResult}
 use Rattle.search.specs.Listed.{Listing, IsListing, AreListings}
 use Rattle.search.specs.Looked.{LooksForListing, ListingLooksAt}
-use Rattle.search.proofs.CandidateFailures.{fails_then}
+use Rattle.filetree.proofs.FailedPaths.{fails_then}
 use Rattle.search.proofs.VersionLemmas.{has, first_of}
 use Rattle.search.specs.ListingEntries.{listing_entry_view}
 use Rattle.search.specs.Listings.{listing_view}

@@ -2,7 +2,7 @@ use Rattle.std.proofs.Common.{map, None, refl, ap, ◌∙◌, ◌++◌}
 use Rattle.std.proofs.lemmas.Result.{err_from_is_err_and}
 use Rattle.filetree.specs.Agreement.{InEachPair, is_device}
 use Rattle.search.specs.Looked.{LooksForListing}
-use Rattle.search.proofs.CandidateFailures.{fails_then}
+use Rattle.filetree.proofs.FailedPaths.{fails_then}
 use Rattle.search.specs.Walks.{LooksFromFolder}
 use Rattle.search.specs.ListingEntries.{listing_entry_view}
 use Rattle.search.proofs.ListingLemmas.{listing_is}

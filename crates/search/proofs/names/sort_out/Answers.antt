@@ -4,7 +4,7 @@ use Rattle.std.proofs.lemmas.List.{map-append}
 use Rattle.std.proofs.lemmas.Result.{err_from_is_err_and}
 use Rattle.filetree.specs.Agreement.{is_device}
 use Rattle.filetree.specs.Modulefiles.{path_of}
-use Rattle.search.proofs.CandidateFailures.{fails_then}
+use Rattle.filetree.proofs.FailedPaths.{fails_then}
 use Rattle.search.proofs.VersionLemmas.{has}
 use Rattle.search.specs.BelowFolder.{is_module_below, LooksAmong, AreAmong, HasAllFolders}
 use Rattle.search.proofs.NameLemmas.{has_middle, filter_more, more_among, more_others}

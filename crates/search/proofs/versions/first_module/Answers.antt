@@ -3,7 +3,7 @@ use Rattle.std.proofs.lemmas.Result.{err_from_is_err_and}
 use Rattle.filetree.specs.Agreement.{InEachPair, is_device}
 use Rattle.filetree.specs.Modulefiles.{path_of}
 use Rattle.search.specs.Versions.{is_module_in, LooksFromGreatest}
-use Rattle.search.proofs.CandidateFailures.{fails_then}
+use Rattle.filetree.proofs.FailedPaths.{fails_then}
 use Rattle.search.proofs.VersionLemmas.{first_of, find_later, looks_first, looks_later}
 use Rattle.search.proofs.versions.first_module.Goals as goal
 

@@ -3,7 +3,7 @@ use Rattle.std.proofs.lemmas.Result.{IfOk-weaker}
 use Rattle.filetree.specs.Agreement.{InEachPair, is_device}
 use Rattle.search.specs.Candidates.{LooksForGreatest}
 use Rattle.search.specs.Versions.{is_module_in, IsGreatestOf, LooksFromGreatest}
-use Rattle.search.proofs.CandidateFailures.{fails_last}
+use Rattle.filetree.proofs.FailedPaths.{fails_last}
 use Rattle.search.proofs.VersionLemmas.{greatest_is, greatest_looked}
 use Rattle.search.proofs.versions.greatest_candidate.Goals as goal
 

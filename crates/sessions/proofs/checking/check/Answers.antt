@@ -3,7 +3,7 @@ use Rattle.std.specs.List.{flat_map}
 use Rattle.envvars.specs.Fields.{without_repeats}
 use Rattle.envvars.specs.Texts.{texts_in}
 use Rattle.sessions.specs.Parts.{loaded_in}
-use Rattle.sessions.proofs.CheckLemmas.{check_fails, checked, lines_fail}
+use Rattle.sessions.proofs.CheckLemmas.{check_fails, check_fails_in_lines, checked}
 use Rattle.sessions.proofs.checking.check.Goals as goal
 
 pub returns-clause-checked : goal.returns-clause-checked
@@ -20,7 +20,7 @@ returns-clause-checked g c =
 
 pub returns-in_err-outcomes-clause-failed : goal.returns-in_err-outcomes-clause-failed
 returns-in_err-outcomes-clause-failed g c =
-    lines_fail _ _ _ c.args.limits c.args.shell c.in-Ok.after c.args.env.now c.args.text.now (map texts_in c.as_slice.result.now) c.in-Ok.ensures.ok
+    check_fails_in_lines _ _ _ c.args.limits c.args.shell c.in-Ok.after c.args.env.now c.args.text.now (map texts_in c.as_slice.result.now) c.in-Ok.ensures.ok
     (ap (map texts_in) c.as_slice.ensures.value ∙ c.in_ok-lines.ensures) c.run_lines.ensures.failed
 
 pub returns-in_err-judgments-clause-failed : goal.returns-in_err-judgments-clause-failed

@@ -1,7 +1,7 @@
 use Rattle.std.proofs.Common.{refl, inl, ◌∙◌}
 use Rattle.std.proofs.lemmas.Result.{err_from_is_err_and}
 use Rattle.filetree.specs.Agreement.{InEachPair}
-use Rattle.search.proofs.FailureLemmas.{fails_then}
+use Rattle.filetree.proofs.FailedPaths.{fails_then}
 use Rattle.modules.specs.Answers as steps
 use Rattle.siteaudit.specs.LookedAtWalk.{WalkLooksAt}
 use Rattle.sitelaws.specs.Sites.{site_of}

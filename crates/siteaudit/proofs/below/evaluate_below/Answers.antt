@@ -4,7 +4,7 @@ use Rattle.filetree.specs.Agreement.{InEachPair}
 use Rattle.filetree.specs.Modulefiles.{directories}
 use Rattle.search.specs.ListingEntries.{name_of}
 use Rattle.search.specs.declared.listing_entries.ListingEntry.{ListingEntry}
-use Rattle.search.proofs.FailureLemmas.{fails_then}
+use Rattle.filetree.proofs.FailedPaths.{fails_then}
 use Rattle.modules.specs.Answers.{is_failure}
 use Rattle.sitelaws.specs.Sites.{site_of, AreNamesBelow, module_below}
 use Rattle.siteaudit.specs.declared.walk.Evaluation.{Evaluation}

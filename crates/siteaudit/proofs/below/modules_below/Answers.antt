@@ -6,7 +6,7 @@ use Rattle.filetree.specs.Modulefiles.{directories}
 use Rattle.lookup.specs.DefaultFileResults.{HasResult}
 use Rattle.search.specs.ListingEntries.{listing_entry_view}
 use Rattle.search.specs.Looked.{ListingLooksAt}
-use Rattle.search.proofs.FailureLemmas.{fails_then}
+use Rattle.filetree.proofs.FailedPaths.{fails_then}
 use Rattle.modules.specs.Answers.{is_failure, refused_read}
 use Rattle.modules.proofs.FailureLemmas.{read_failure}
 use Rattle.sitelaws.specs.Sites.{site_of, AreNamesBelow}

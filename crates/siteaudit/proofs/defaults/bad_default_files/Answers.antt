@@ -2,7 +2,7 @@ use Rattle.std.proofs.Common.{map, refl}
 use Rattle.std.specs.Prelude.{◌↔◌}
 use Rattle.std.proofs.lemmas.Result.{IfOk-weaker}
 use Rattle.filetree.specs.Agreement.{InEachPair}
-use Rattle.search.proofs.FailureLemmas.{fails_last}
+use Rattle.filetree.proofs.FailedPaths.{fails_last}
 use Rattle.modules.specs.Answers.{is_failure}
 use Rattle.sitecertificate.specs.RecordUses.{IsAmong}
 use Rattle.siteaudit.specs.Folders.{FolderText, folder_view, HoldsOneOf, SearchesLookAt, EvaluatedLookAt}

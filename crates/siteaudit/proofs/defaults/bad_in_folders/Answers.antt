@@ -3,7 +3,7 @@ use Rattle.std.proofs.lemmas.Result.{err_from_is_err_and}
 use Rattle.envvars.specs.Texts.{texts_in}
 use Rattle.std.specs.Option.{option_map}
 use Rattle.filetree.specs.Agreement.{InEachPair}
-use Rattle.search.proofs.FailureLemmas.{fails_then}
+use Rattle.filetree.proofs.FailedPaths.{fails_then}
 use Rattle.modules.specs.Answers.{is_failure}
 use Rattle.siteaudit.specs.Folders.{IsBadIn, SearchLooksAt, SearchesLookAt, folder_view}
 use Rattle.siteaudit.proofs.AmongLemmas.{among_at, among_map}

@@ -9,7 +9,7 @@ use Rattle.siteaudit.specs.LookedAtWalk.{DirectoryLooksAt, WalkLooksAt}
 use Rattle.siteaudit.specs.Walks.{IsWalk, most_directories}
 use Rattle.std.proofs.lemmas.List.{length-map}
 use Rattle.std.proofs.lemmas.Result.{err_from_is_err_and}
-use Rattle.search.proofs.FailureLemmas.{fails_then}
+use Rattle.filetree.proofs.FailedPaths.{fails_then}
 use Rattle.modules.specs.Answers.{is_failure}
 use Rattle.siteaudit.proofs.AmongSites.{place_below, place_gone}
 use Rattle.siteaudit.proofs.DirectoryLemmas.{is_alone}

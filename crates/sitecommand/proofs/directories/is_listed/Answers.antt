@@ -1,7 +1,7 @@
 use Rattle.std.proofs.Common.{◌≡◌, refl}
 use Rattle.std.proofs.lemmas.Result.{err_from_is_err_and}
 use Rattle.filetree.specs.Agreement.{is_device}
-use Rattle.search.proofs.FailureLemmas.{fails_then}
+use Rattle.filetree.proofs.FailedPaths.{fails_then}
 use Rattle.modules.specs.Answers as steps
 use Rattle.modules.specs.Answers.{refused_read}
 use Rattle.modules.proofs.FailureLemmas.{read_failure}

@@ -3,16 +3,17 @@ use Rattle.std.proofs.lemmas.List.{take_all}
 use Rattle.std.proofs.lemmas.Result.{err_from_is_err_and}
 use Rattle.std.specs.declared.alloc.Global.{Global}
 use Rattle.filetree.specs.Agreement.{InEachPair}
-use Rattle.search.proofs.FailureLemmas.{fails_then}
+use Rattle.filetree.proofs.FailedPaths.{fails_then}
 use Rattle.sitecommand.specs.Audits.{has_colon}
 use Rattle.sitecommand.specs.Faults.{is_failure}
 use Rattle.sitecommand.specs.Looked.{DirectoriesLookAt}
-use Rattle.sitecommand.proofs.DirectoryLemmas.{reads_more, fails_later, directory_more, fault_among, looks_in_turn}
+use Rattle.modules.proofs.TreeAnswers.{reads_both}
+use Rattle.sitecommand.proofs.DirectoryLemmas.{fails_later, directory_more, fault_among, looks_in_turn}
 use Rattle.sitecommand.proofs.directories.judge_directories.Goals as goal
 
 pub loop-dir-preserved : goal.loop-dir-preserved
 loop-dir-preserved g c = record {
-  reads = reads_more g.T.Tree.agrees g.T.Tree.failures c.args.tree.now c.loop-dir.tree c.judge_directory.new.tree c.loop-dir.invariant.reads c.in_ok-judge_directory.ensures.reads;
+  reads = reads_both c.args.tree.now c.loop-dir.tree c.judge_directory.new.tree c.loop-dir.invariant.reads c.in_ok-judge_directory.ensures.reads;
   unfailed = c.in_ok-judge_directory.ensures.failed ∙ c.loop-dir.invariant.unfailed;
   there = directory_more (g.T.Tree.agrees c.loop-dir.tree) (g.T.Tree.agrees c.judge_directory.new.tree) c.args.dirs.now c.loop-dir.dir-index c.dir-item.result c.loop-dir-test.true c.dir-item.is
       c.in_ok-judge_directory.ensures.reads.narrows c.loop-dir.invariant.there (rw c.as_str.ensures.value at c.in_ok-judge_directory.ensures.there);
@@ -20,7 +21,7 @@ loop-dir-preserved g c = record {
 
 pub returns-in_err-judge_directory-clause-reads : goal.returns-in_err-judge_directory-clause-reads
 returns-in_err-judge_directory-clause-reads g c =
-    reads_more g.T.Tree.agrees g.T.Tree.failures c.args.tree.now c.loop-dir.tree c.judge_directory.new.tree c.loop-dir.invariant.reads c.in_err-judge_directory.ensures.reads
+    reads_both c.args.tree.now c.loop-dir.tree c.judge_directory.new.tree c.loop-dir.invariant.reads c.in_err-judge_directory.ensures.reads
 
 pub returns-in_err-judge_directory-clause-cause : goal.returns-in_err-judge_directory-clause-cause
 returns-in_err-judge_directory-clause-cause g c =

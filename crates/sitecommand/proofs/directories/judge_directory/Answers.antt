@@ -1,6 +1,6 @@
 use Rattle.std.proofs.Common.{◌<◌, ◌≡◌, true, false, refl, sym, ◌∙◌, subst, inl, inr}
 use Rattle.std.proofs.lemmas.Result.{err_from_is_err_and}
-use Rattle.search.proofs.FailureLemmas.{fails_then}
+use Rattle.filetree.proofs.FailedPaths.{fails_then}
 use Rattle.sitecommand.specs.Audits.{has_colon}
 use Rattle.sitecommand.specs.Faults.{is_failure}
 use Rattle.sitecommand.specs.Steps.{IsListing}

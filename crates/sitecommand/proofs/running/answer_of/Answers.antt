@@ -2,7 +2,7 @@ use Rattle.std.proofs.Common.{◌<◌, Option, map, option_map, string_bytes, St
 use Rattle.std.proofs.lemmas.Result.{err_from_is_err_and}
 use Rattle.std.specs.declared.alloc.Global.{Global}
 use Rattle.filetree.specs.Agreement.{InEachPair}
-use Rattle.search.proofs.FailureLemmas.{fails_last}
+use Rattle.filetree.proofs.FailedPaths.{fails_last}
 use Rattle.modules.specs.declared.refusal.Refusal.TheVariants.{OutOfMemory}
 use Rattle.sitecommand.specs.ArgumentViews.{wanted_view}
 use Rattle.sitecommand.specs.Audits.{IsAuditFault, unknown_option, given_up}

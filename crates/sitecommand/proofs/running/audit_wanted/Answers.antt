@@ -2,7 +2,7 @@ use Rattle.std.proofs.Common.{◌<◌, map, string_bytes, String, refl, ◌∙�
 use Rattle.std.proofs.lemmas.Result.{err_from_is_err_and}
 use Rattle.std.specs.declared.alloc.Global.{Global}
 use Rattle.filetree.specs.Agreement.{InEachPair}
-use Rattle.search.proofs.FailureLemmas.{fails_then}
+use Rattle.filetree.proofs.FailedPaths.{fails_then}
 use Rattle.siteaudit.specs.Looked as audits
 use Rattle.modulecmd.specs.Command.{standard}
 use Rattle.sitecommand.specs.ArgumentViews.{wanted_view}

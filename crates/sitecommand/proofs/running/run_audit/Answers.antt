@@ -3,7 +3,7 @@ use Rattle.std.specs.declared.alloc.Global.{Global}
 use Rattle.filetree.specs.Agreement.{FailsIf, InEachPair}
 use Rattle.sitecommand.specs.Looked.{AuditCommandLooksAt}
 use Rattle.sitecommand.proofs.AuditLemmas.{answered}
-use Rattle.sitecommand.proofs.WriterLemmas.{keeps_same}
+use Rattle.modulecmd.proofs.WriterLemmas.{keeps_same}
 use Rattle.sitecommand.proofs.running.run_audit.Goals as goal
 
 pub returns-in-Ok-clause-ended : goal.returns-in-Ok-clause-ended

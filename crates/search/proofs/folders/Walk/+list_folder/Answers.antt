@@ -2,7 +2,7 @@ use Rattle.std.proofs.lemmas.List.{take_all}
 use Rattle.std.proofs.Common.{◌≡◌, ◌≤◌, ◌++◌, ◌∷◌, [], length, map, option_map, string_bytes, take, Some, None, refl, sym, ap, ◌∙◌, append_assoc, append-nil, subst, arith, rules}
 use Rattle.std.proofs.lemmas.Result.{err_from_is_err_and}
 use Rattle.filetree.specs.Agreement.{InEachPair, is_device, listing_answer}
-use Rattle.search.proofs.CandidateFailures.{fails_then}
+use Rattle.filetree.proofs.FailedPaths.{fails_then}
 use Rattle.search.proofs.VersionLemmas.{has}
 use Rattle.search.specs.ListingEntries.{listing_entry_view}
 use Rattle.search.specs.BelowFolder.{folder_path, names_in, parts_of, IsUnder, IsInside, AreAmong, HasAllFolders}

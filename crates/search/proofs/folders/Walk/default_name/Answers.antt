@@ -6,7 +6,7 @@ use Rattle.search.specs.Reasons.{bad_default}
 use Rattle.search.specs.Found.{NamedDefault}
 use Rattle.search.specs.Looked.{LooksForNamed}
 use Rattle.search.specs.VersionsNamed.{named_version_view}
-use Rattle.search.proofs.CandidateFailures.{fails_then}
+use Rattle.filetree.proofs.FailedPaths.{fails_then}
 use Rattle.search.specs.Walks.{IsDefaultOf, LooksForDefault}
 use Rattle.search.proofs.DefaultLemmas.{default_candidate, default_nothing}
 use Rattle.search.proofs.folders.Walk.default_name.Goals as goal

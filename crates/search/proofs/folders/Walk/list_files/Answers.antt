@@ -1,7 +1,7 @@
 use Rattle.std.proofs.Common.{map, vec_len, option_map, string_bytes, refl, sym, subst}
 use Rattle.std.proofs.lemmas.Result.{err_from_is_err_and}
 use Rattle.filetree.specs.Agreement.{InEachPair, is_device}
-use Rattle.search.proofs.CandidateFailures.{fails_then}
+use Rattle.filetree.proofs.FailedPaths.{fails_then}
 use Rattle.search.specs.ListingEntries.{listing_entry_of}
 use Rattle.search.specs.BelowFolder.{LooksAmong}
 use Rattle.search.specs.Walks.{IsDefaultOf, LooksForDefault, LooksFromFolder}

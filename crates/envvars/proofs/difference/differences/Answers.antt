@@ -1,5 +1,0 @@
-use Rattle.envvars.proofs.DifferenceLemmas.{distinct_names}
-use Rattle.envvars.proofs.difference.differences.Goals as goal
-
-pub returns-clause-distinct : goal.returns-clause-distinct
-returns-clause-distinct g c = distinct_names c.args.table.entries c.len.ensures.unique
