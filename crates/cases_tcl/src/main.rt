@@ -8,6 +8,7 @@
 //! - `command`: a command that evaluates no script, over variables that all these lines share (`commands.rt`).
 //! - `script`: a script and its result (`scripts.rt`).
 //! - `cached`: a script, and which texts are cached after its evaluation (`cache.rt`).
+//! - `names`: the faults by their names and numbers, and what a host may answer (`names.rt`).
 //! - `#`: a heading, which is its own answer.
 //!
 //! Texts stand as they are, but for the escapes of `escapes.rt`; of several, each blank is `\s`. Each answer is a line.
@@ -18,6 +19,7 @@ mod cache;
 mod commands;
 mod escapes;
 mod lines;
+mod names;
 mod recorder;
 mod scripts;
 mod texts;
@@ -37,6 +39,7 @@ fn answer(alloc: Global, state: &mut State, line: &str) -> Option<String> {
         "command" => commands::answer(alloc, state, rest).ok(),
         "script" => scripts::answer(alloc, rest),
         "cached" => cache::answer(alloc, rest),
+        "names" => names::answer(alloc, rest),
         "#" => String::from_str(alloc, line).ok(),
         _ => None,
     }

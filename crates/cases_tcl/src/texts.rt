@@ -16,9 +16,8 @@ use crate::trees::{fault, owned, tree};
 use std::alloc::{AllocError, Global};
 use tcltext::{
     ByteRange, Command, Expr, Numeral, Operand, Part, Script, TextFault, Word, WordContent,
-    glob_match, parse_expr, parse_list, parse_script, push_braced_text, read_number,
+    glob_match, parse_expr, parse_list, parse_script, push_braced_text, read_number, write_list,
 };
-use tclvalue::list_text;
 
 /// The byte offset of a fault, where it has one.
 fn offset_of(fault: &TextFault) -> Option<usize> {
@@ -184,11 +183,12 @@ fn shown_expression(alloc: Global, expression: &Expr<&str>) -> Option<String> {
 
 /// The list of the texts of a call.
 fn written(alloc: Global, words: &str) -> Option<String> {
-    shown(
-        alloc,
-        "ok",
-        &list_text(alloc, &texts_of(alloc, words)?).ok()?,
-    )
+    let texts = texts_of(alloc, words)?;
+    let mut elements = Vec::new(alloc);
+    for text in &texts {
+        elements.push(text.as_str()).ok()?;
+    }
+    shown(alloc, "ok", &write_list(alloc, &elements).ok()?)
 }
 
 /// The class of a number, and a whole number itself.
