@@ -20,7 +20,7 @@ FUNCTION = re.compile(r"\s*(pub )?fn (\w+)")
 CLAUSE = re.compile(r"\bensures(?: (\w+))? \{(.*?)(?=\bensures\b|\brequires\b|\Z)", re.DOTALL)
 
 # Every fault has these two, which CLAIMS says once of all.
-OF_FAULTS = {"number", "message"}
+OF_FAULTS = {"number", "numbered"}
 
 # What is public for the crates above alone, which CLAIMS omits.
 HELPERS = {
@@ -46,6 +46,15 @@ PATH = re.compile(rf"(?:{FOLDERS})/|\w+/(?:src|specs|proofs|must-fail)/")
 FILE = re.compile(r"[\w.-][\w./-]*\.(?:antt|c|edit|fish|md|py|rt|sh)")
 WORD = re.compile(r"[A-Za-z]+(?:_\w+|[a-z][A-Z]\w*)")
 CRATE = re.compile(r"tcl(?!sh$)[a-z]+|env(?!iron)[a-z]+|cases_\w+")
+
+# A row of the table in REFUSALS.md, what stands there for what a refusal names, and the rows of the program.
+REFUSAL = re.compile(r"^\| `\w+`[^|]*\| ([0-9, ]+) \| ([^|]*) \|", re.MULTILINE)
+SUBJECT = re.compile(r"\b[NX]\b")
+TABLES = {
+    "crates/message/src/refusals.rt": re.compile(r'RefusalKind::\w+ => \((\d+), "(.*)", "(.*)"\),'),
+    "crates/message/specs/Refusals.antt": re.compile(
+        r'^row_of kinds\.\w+ = row (\d+) (?:\[\]|\(codes "(.*?)"\)) (?:\[\]|\(codes "(.*)"\))$', re.MULTILINE),
+}
 
 # Crates that stand below the kit's own of crates.txt, and that no source names.
 BELOW_THE_KIT = {"fast_float"}
@@ -324,6 +333,23 @@ def check_citations():
                 file = os.path.join(CRATES, crate, kind, f"{name}.antt")
                 is_there = crate not in rooms.lists() or os.path.exists(file)
                 true(is_there, f"{path} cites a file where it stands: Rattle.{crate}.{kind}.{name}")
+
+
+def check_refusals():
+    """The table of refusals in REFUSALS.md has the numbers and texts of that of the program, and the definitions too. A
+    row whose text isn't a code span begins a message that the page tells by its words."""
+    page = {}
+    for numbers, text in REFUSAL.findall(content("docs", "REFUSALS.md")):
+        for number in numbers.split(", "):
+            page[number] = text
+    for where, pattern in TABLES.items():
+        rows = pattern.findall(content(*where.split("/")))
+        true(rows and [number for number, *_ in rows] == sorted(page, key=int), f"{where} has the numbers of the page")
+        for number, before, after in rows:
+            text = page[number]
+            is_told = not text.startswith("`")
+            shown = before + SUBJECT.search(text)[0] + after if SUBJECT.search(text) else before + after
+            true(is_told or before + after == "" or text == f"`{shown}`", f"{where} has {text} for {number}")
 
 
 def check_suites(suites):

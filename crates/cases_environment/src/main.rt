@@ -42,7 +42,6 @@ mod variables;
 
 use std::io;
 
-/// Answers lines about a subject.
 fn answer_about(rt: &HostRuntime, subject: &str, lines: &[String]) -> io::Result<()> {
     match subject {
         "variables" => variables::answer(rt, lines),

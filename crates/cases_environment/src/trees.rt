@@ -27,7 +27,6 @@ pub(crate) fn begins_text(
     }
 }
 
-/// Each name in brackets.
 fn bracketed(alloc: Global, names: &[String]) -> Result<String, AllocError> {
     let mut text = String::new(alloc);
     for name in names {

@@ -4,7 +4,7 @@ use crate::edits::edit;
 use crate::queries::answer_query;
 use crate::shown::{listed, shown, starved};
 use crate::texts::words;
-use envstate::{Env, EnvFault, Vars, Working, changes};
+use envstate::{Env, EnvFault, Vars, WorkingCopy, changes};
 use std::alloc::Global;
 use std::io;
 
@@ -126,9 +126,9 @@ fn changed(alloc: Global, env: &mut Env, words: &[String]) -> Result<(bool, Stri
 
 /// An environment, and a working one over the same start.
 #[derive(Drop)]
-struct Both<'a> {
+struct BothVariables<'a> {
     env: Env,
-    working: Working<'a>,
+    working: WorkingCopy<'a>,
 }
 
 /// The answer where both environments say the same.
@@ -143,7 +143,7 @@ fn agreed(alloc: Global, answer: String, is_same: bool) -> Result<String, EnvFau
 /// Whether the working environment answers to a call as the other one did.
 fn is_same(
     alloc: Global,
-    working: &mut Working<'_>,
+    working: &mut WorkingCopy<'_>,
     words: &[String],
     is_edit: bool,
     answer: &str,
@@ -155,36 +155,37 @@ fn is_same(
 }
 
 /// The answer of both environments to a call.
-fn answer_to(alloc: Global, both: &mut Both<'_>, call: &str) -> Result<String, EnvFault> {
+fn answer_to(alloc: Global, both: &mut BothVariables<'_>, call: &str) -> Result<String, EnvFault> {
     let words = words(alloc, b'^', call)?;
     let (is_edit, answer) = changed(alloc, &mut both.env, &words)?;
     let is_same = is_same(alloc, &mut both.working, &words, is_edit, &answer)?;
     agreed(alloc, answer, is_same)
 }
 
-/// What an environment says to have changed.
 fn changes_between(alloc: Global, old: &Env, env: &Env) -> Result<String, EnvFault> {
     Ok(listed(alloc, &changes(alloc, old, env)?)?)
 }
 
-/// What a working environment says to have changed.
-fn changes_in(alloc: Global, working: Working<'_>) -> Result<String, EnvFault> {
+fn changes_in(alloc: Global, working: WorkingCopy<'_>) -> Result<String, EnvFault> {
     Ok(listed(alloc, &working.into_changes()?)?)
 }
 
 /// What has changed, where a working environment says the same.
-fn agreed_changes(alloc: Global, found: String, working: Working<'_>) -> Result<String, EnvFault> {
+fn agreed_changes(
+    alloc: Global,
+    found: String,
+    working: WorkingCopy<'_>,
+) -> Result<String, EnvFault> {
     let is_same = changes_in(alloc, working)? == found;
     agreed(alloc, found, is_same)
 }
 
 /// What has changed, where both environments say the same.
-fn differences(alloc: Global, old: &Env, both: Both<'_>) -> Result<String, EnvFault> {
-    let Both { env, working } = both;
+fn differences(alloc: Global, old: &Env, both: BothVariables<'_>) -> Result<String, EnvFault> {
+    let BothVariables { env, working } = both;
     agreed_changes(alloc, changes_between(alloc, old, &env)?, working)
 }
 
-/// Prints a call and its answer.
 fn print(rt: &HostRuntime, call: &str, answer: &str) -> io::Result<()> {
     if answer.is_empty() {
         println!(rt; "{call} =>")
@@ -194,7 +195,11 @@ fn print(rt: &HostRuntime, call: &str, answer: &str) -> io::Result<()> {
 }
 
 /// Answers calls, each by a line.
-fn print_answers(rt: &HostRuntime, both: &mut Both<'_>, calls: &[String]) -> io::Result<()> {
+fn print_answers(
+    rt: &HostRuntime,
+    both: &mut BothVariables<'_>,
+    calls: &[String],
+) -> io::Result<()> {
     for call in calls {
         print(rt, call, &starved(answer_to(rt.alloc(), both, call))?)?;
     }
@@ -203,9 +208,9 @@ fn print_answers(rt: &HostRuntime, both: &mut Both<'_>, calls: &[String]) -> io:
 
 /// Answers calls over a start, and prints what they have changed.
 fn answer_over(rt: &HostRuntime, old: &Env, calls: &[String]) -> io::Result<()> {
-    let mut both = Both {
+    let mut both = BothVariables {
         env: starved(old.copy())?,
-        working: Working::over(old),
+        working: WorkingCopy::over(old),
     };
     print_answers(rt, &mut both, calls)?;
     print(rt, "changes", &starved(differences(rt.alloc(), old, both))?)

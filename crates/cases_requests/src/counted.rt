@@ -40,16 +40,16 @@ impl Counts {
 
 /// A tree, with how often it was read and listed. The counts stand apart from the tree, which no counting touches.
 #[derive(Drop)]
-pub struct Counted<'a, T> {
+pub struct CountedTree<'a, T> {
     pub alloc: Global,
     pub tree: &'a mut T,
     pub counts: Counts,
 }
 
-impl<'a, T> Counted<'a, T> {
+impl<'a, T> CountedTree<'a, T> {
     /// A tree of which nothing was asked yet.
-    pub fn over(alloc: Global, tree: &'a mut T) -> Counted<'a, T> {
-        Counted {
+    pub fn over(alloc: Global, tree: &'a mut T) -> CountedTree<'a, T> {
+        CountedTree {
             alloc,
             tree,
             counts: Counts::new(alloc),
@@ -57,7 +57,7 @@ impl<'a, T> Counted<'a, T> {
     }
 }
 
-impl<T: Tree> Tree for Counted<'_, T> {
+impl<T: Tree> Tree for CountedTree<'_, T> {
     ghost failures = { λ t. T.failures t.tree.now };
 
     ghost failed = { λ t. T.failed t.tree.now };

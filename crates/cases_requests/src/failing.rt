@@ -35,15 +35,15 @@ impl Calls {
 
 /// A tree over another, of which one `read` or `entries` fails.
 #[derive(Drop)]
-pub(crate) struct Failing<'a, T> {
+pub(crate) struct FailingTree<'a, T> {
     tree: &'a mut T,
     calls: Calls,
 }
 
-impl<'a, T> Failing<'a, T> {
+impl<'a, T> FailingTree<'a, T> {
     /// A tree that answers so many calls before it fails.
-    pub(crate) fn after(answered: u64, fault: TreeFault, tree: &'a mut T) -> Failing<'a, T> {
-        Failing {
+    pub(crate) fn after(answered: u64, fault: TreeFault, tree: &'a mut T) -> FailingTree<'a, T> {
+        FailingTree {
             tree,
             calls: Calls {
                 answered,
@@ -59,7 +59,7 @@ impl<'a, T> Failing<'a, T> {
     }
 }
 
-impl<T: Tree> Tree for Failing<'_, T> {
+impl<T: Tree> Tree for FailingTree<'_, T> {
     ghost failures = { λ t. T.failures t.tree.now + (if t.calls.has_failed then 1 else 0) };
 
     ghost agrees = { λ t files folders. T.agrees t.tree.now files folders };

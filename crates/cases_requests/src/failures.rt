@@ -1,5 +1,5 @@
 //! Requests and verdicts where one read after another fails.
-use crate::failing::Failing;
+use crate::failing::FailingTree;
 use crate::rehearsed::request_of;
 use crate::shown::{shown_changed, shown_done, shown_outcome, shown_refusal, shown_verdict};
 use crate::texts::{first_word, push_all};
@@ -23,7 +23,6 @@ enum Call {
 /// The calls that a request is given to.
 const OF_REQUESTS: [Call; 3] = [Call::Run, Call::RunChanges, Call::Session];
 
-/// The name of a call.
 fn name_of(call: Call) -> &'static str {
     match call {
         Call::Run => "run",
@@ -102,7 +101,7 @@ impl Question<'_> {
         let mut last = String::new(self.alloc);
         push_all(&mut text, &[name_of(call), "\n"])?;
         for answered in 0..MOST {
-            let mut failing = Failing::after(answered, fault, tree);
+            let mut failing = FailingTree::after(answered, fault, tree);
             let answer = self.by(call, &mut failing)?;
             if !failing.has_failed() {
                 push_all(&mut text, &["then\n", answer.as_str()])?;
@@ -128,7 +127,6 @@ impl Question<'_> {
     }
 }
 
-/// The fault of this name.
 fn fault_of(name: &str) -> TreeFault {
     match name {
         "memory" => TreeFault::OutOfMemory,

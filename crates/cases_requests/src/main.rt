@@ -53,7 +53,6 @@ mod writers;
 
 use std::io;
 
-/// Answers lines about a subject.
 fn answer_about(rt: &HostRuntime, subject: &str, lines: &[String]) -> io::Result<()> {
     match subject {
         "searches" => searches::answer(rt, lines),

@@ -3,8 +3,10 @@
 use crate::texts::push_all;
 use crate::trees::file_text;
 use filetree::MemoryTree;
-use lookup::{Evaluated, Limits, version_order};
-use search::{DefaultFiles, Ended, FileContent, directories, locate, path_of, read_modulefile};
+use lookup::{EvaluatedDefaultFiles, Limits, version_order};
+use search::{
+    DefaultFileEnding, DefaultFiles, FileContent, directories, locate, path_of, read_modulefile,
+};
 use std::alloc::{AllocError, Global};
 use std::cmp::Ordering;
 
@@ -25,7 +27,13 @@ fn text_found(
     modulepath: &str,
     name: &str,
 ) -> Result<String, AllocError> {
-    match locate(alloc, tree, &Evaluated { limits }, modulepath, name) {
+    match locate(
+        alloc,
+        tree,
+        &EvaluatedDefaultFiles { limits },
+        modulepath,
+        name,
+    ) {
         Ok(found) => in_one_line(alloc, &found.text),
         Err(fault) => format!(in alloc; "{fault}"),
     }
@@ -46,7 +54,7 @@ fn read_text(alloc: Global, tree: &mut MemoryTree, path: &str) -> Result<String,
 }
 
 /// The words of each command in brackets, and then the version.
-fn ended_text(alloc: Global, ended: &Ended) -> Result<String, AllocError> {
+fn ended_text(alloc: Global, ended: &DefaultFileEnding) -> Result<String, AllocError> {
     let mut text = String::new(alloc);
     for words in &ended.commands {
         text.push('[')?;
@@ -72,7 +80,7 @@ fn evaluated_text(
     let Ok(script) = String::from_utf8(file_text(alloc, text)?) else {
         return String::from_str(alloc, "not UTF-8");
     };
-    let default_files = Evaluated { limits };
+    let default_files = EvaluatedDefaultFiles { limits };
     match default_files.evaluate(alloc, path, &script)? {
         None => String::from_str(alloc, "fault"),
         Some(ended) => ended_text(alloc, &ended),

@@ -4,14 +4,14 @@ use filetree::{Tree, TreeFault};
 
 /// A tree that has no memory for the file at one path.
 #[derive(Drop)]
-pub(crate) struct Poor<T> {
+pub(crate) struct PoorTree<T> {
     /// The tree that answers everything else.
     pub(crate) tree: T,
     /// The path of that file; none where it is empty.
     pub(crate) path: String,
 }
 
-impl<T: Tree> Tree for Poor<T> {
+impl<T: Tree> Tree for PoorTree<T> {
     ghost failures = { λ t. T.failures t.tree };
 
     ghost agrees = { λ t files folders. T.agrees t.tree files folders };

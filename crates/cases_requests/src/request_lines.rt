@@ -1,19 +1,20 @@
 //! Lines about requests, sessions, verdicts and writers, over one tree and one environment.
 use crate::calls::difference;
 use crate::failures::shown_failures;
-use crate::poor::Poor;
+use crate::poor::PoorTree;
 use crate::rehearsed::{request_of, requests_for_sh, shown_rehearsal};
 use crate::shown::{
     differences, exit_name, shown_changed, shown_outcome, shown_refusal, shown_verdict, text_of,
     variables,
 };
 use crate::texts::{STANDARD, environment, first_word, limits_of, meant, number, words};
-use crate::writers::{Limited, kind};
+use crate::writers::{LimitedWriter, kind};
 use anyhow::Result;
 use envvars::changes;
 use filetree::{MemoryTree, Tree};
 use modulecmd::{
-    Changed, Env, Exit, Limits, Outcome, Refusal, Shell, run_changes, run_command, session, verdict,
+    Env, Exit, Limits, Outcome, Refusal, RequestChanges, Shell, run_changes, run_command, session,
+    verdict,
 };
 use std::alloc::Global;
 use std::io;
@@ -25,7 +26,7 @@ const COOKIE: &str = "#%Module\n";
 #[derive(Drop)]
 struct Session {
     alloc: Global,
-    tree: Poor<MemoryTree>,
+    tree: PoorTree<MemoryTree>,
     env: Env,
     limits: Limits,
 }
@@ -65,7 +66,12 @@ fn shown_session<T: Tree>(alloc: Global, line: &str, env: &Env, tree: &mut T) ->
 }
 
 /// How a command ended, and what its writers hold.
-fn shown_exit(alloc: Global, exit: Exit, out: &Limited, err: &Limited) -> Result<String> {
+fn shown_exit(
+    alloc: Global,
+    exit: Exit,
+    out: &LimitedWriter,
+    err: &LimitedWriter,
+) -> Result<String> {
     let out = text_of(&out.held);
     let err = text_of(&err.held);
     let how = exit_name(exit);
@@ -78,7 +84,7 @@ impl Session {
     fn new(alloc: Global) -> Session {
         Session {
             alloc,
-            tree: Poor {
+            tree: PoorTree {
                 tree: MemoryTree::new(alloc),
                 path: String::new(alloc),
             },
@@ -87,7 +93,6 @@ impl Session {
         }
     }
 
-    /// The answer to a line.
     fn answer(&mut self, line: &str) -> Result<String> {
         let (verb, rest) = first_word(line);
         match verb {
@@ -151,7 +156,6 @@ impl Session {
         Ok(String::new(self.alloc))
     }
 
-    /// Sets the environment.
     fn begin(&mut self, rest: &str) -> Result<String> {
         self.env = environment(self.alloc, rest)?;
         Ok(String::new(self.alloc))
@@ -163,8 +167,7 @@ impl Session {
         Ok(String::new(self.alloc))
     }
 
-    /// What a request for sh changes.
-    fn changed(&mut self, rest: &str) -> Result<Changed, Refusal> {
+    fn changed(&mut self, rest: &str) -> Result<RequestChanges, Refusal> {
         let request = request_of(self.alloc, Shell::Sh, rest)?;
         run_changes(self.alloc, &request, &self.env, &mut self.tree, self.limits)
     }
@@ -231,8 +234,8 @@ impl Session {
         let (name, rest) = first_word(rest);
         let args = words(self.alloc, rest)?;
         let env = self.env.copy()?;
-        let mut out = Limited::new(self.alloc, number(out_room), kind(name));
-        let mut err = Limited::new(self.alloc, number(err_room), kind(name));
+        let mut out = LimitedWriter::new(self.alloc, number(out_room), kind(name));
+        let mut err = LimitedWriter::new(self.alloc, number(err_room), kind(name));
         let exit = run_command(self.alloc, &args, env, &mut self.tree, &mut out, &mut err);
         shown_exit(self.alloc, exit, &out, &err)
     }

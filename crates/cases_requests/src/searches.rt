@@ -1,6 +1,6 @@
 //! Lines about searches over a tree, with how often it was read and listed.
 
-use crate::counted::{Counted, Counts};
+use crate::counted::{CountedTree, Counts};
 use crate::texts::{STANDARD, first_word, limits_of, push_all};
 use crate::{parts, trees};
 use filetree::MemoryTree;
@@ -109,7 +109,7 @@ fn searched<T: Tree>(
         ("whole", Some((kind, rest))) => (true, kind, rest),
         _ => (false, kind, rest),
     };
-    let mut tree = Counted::over(alloc, tree);
+    let mut tree = CountedTree::over(alloc, tree);
     match found_text(alloc, &mut tree, limits, kind, rest)? {
         Some(answer) => counted_text(alloc, &answer, is_whole, &tree.counts).map(Some),
         None => Ok(None),

@@ -1,7 +1,7 @@
 //! Answers of calls, as they are shown.
 use crate::texts::push_all;
 use anyhow::Result;
-use modulecmd::{Change, Changed, Env, Exit, Outcome, Refusal, Verdict};
+use modulecmd::{Change, Env, Exit, Outcome, Refusal, RequestChanges, Verdict};
 use std::alloc::{AllocError, Global};
 
 /// What was written.
@@ -18,7 +18,6 @@ pub(crate) fn exit_name(exit: Exit) -> &'static str {
     }
 }
 
-/// A verdict, as a line.
 fn verdict_line(verdict: Verdict) -> &'static str {
     match verdict {
         Verdict::Plain => "Plain\n",
@@ -36,7 +35,6 @@ fn push_marked(out: &mut String, mark: &str, text: &str) -> Result<(), AllocErro
     Ok(())
 }
 
-/// Adds messages.
 fn push_messages(out: &mut String, messages: &[String]) -> Result<(), AllocError> {
     for message in messages {
         push_marked(out, "message ", message)?;
@@ -84,7 +82,7 @@ pub(crate) fn shown_done(
 }
 
 /// What a request changes, and what it has done.
-pub(crate) fn shown_changed(alloc: Global, changed: &Changed) -> Result<String, AllocError> {
+pub(crate) fn shown_changed(alloc: Global, changed: &RequestChanges) -> Result<String, AllocError> {
     let mut text = differences(alloc, changed.changes.as_slice())?;
     let done = &changed.done;
     let shown = shown_done(

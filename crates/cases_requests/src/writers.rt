@@ -7,7 +7,7 @@ use std::io::{ErrorKind, Write};
 
 /// A writer that takes at most three bytes at a time, and fails once it is full.
 #[derive(Drop)]
-pub(crate) struct Limited {
+pub(crate) struct LimitedWriter {
     /// What was written.
     pub(crate) held: Vec<u8>,
     /// How many bytes it takes.
@@ -16,10 +16,10 @@ pub(crate) struct Limited {
     fails_with: ErrorKind,
 }
 
-impl Limited {
+impl LimitedWriter {
     /// An empty writer.
-    pub(crate) fn new(alloc: Global, room: u64, fails_with: ErrorKind) -> Limited {
-        Limited {
+    pub(crate) fn new(alloc: Global, room: u64, fails_with: ErrorKind) -> LimitedWriter {
+        LimitedWriter {
             held: Vec::new(alloc),
             room,
             fails_with,
@@ -27,7 +27,7 @@ impl Limited {
     }
 }
 
-impl Write for Limited {
+impl Write for LimitedWriter {
     ghost contents = { λ w. Some w.held.items };
 
     fn write(&mut self, buf: &[u8]) -> io::Result<usize> {

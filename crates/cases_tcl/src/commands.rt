@@ -10,7 +10,7 @@ use tclcommands::{
     Value, append, consult, define, exists, get, global, increase, list_append, put, set, unset,
 };
 use tclexpr::{OwnedExpr, own_expr};
-use tclforms::{Form, Simple, core_form};
+use tclforms::{Form, SimpleForm, core_form};
 use tclrules::{EvalFault, Host, Limits};
 use tclsubstitution::{Control, Step, Stop, SubstitutionContext, advance};
 use tclvalue::elements;
@@ -54,23 +54,29 @@ impl State {
 }
 
 /// The value of a command that evaluates no script, by its form.
-fn performed<'a>(alloc: Global, state: &mut State, form: Simple<'a>) -> Result<Value<'a>, Stop> {
+fn performed<'a>(
+    alloc: Global,
+    state: &mut State,
+    form: SimpleForm<'a>,
+) -> Result<Value<'a>, Stop> {
     let variables = &mut state.variables;
     let host = &mut state.host;
     match form {
-        Simple::Get(name) => get(alloc, variables, host, name),
-        Simple::Set(name, value) => set(alloc, variables, LIMIT, name, value),
-        Simple::Unset(missing, names) => unset(alloc, variables, missing, names),
-        Simple::Append(name, values) => append(alloc, variables, LIMIT, name, values),
-        Simple::ListAppend(name, values) => list_append(alloc, variables, LIMIT, name, values),
-        Simple::Increase(name, increases) => increase(alloc, variables, LIMIT, name, increases),
-        Simple::Define(name, list, body) => define(alloc, variables, name, list, body),
-        Simple::Exists(name) => exists(alloc, variables, host, name),
-        Simple::Global(names) => global(alloc, variables, names),
-        Simple::Put(words) => put(alloc, variables, host, words),
-        Simple::Return(_) | Simple::Break | Simple::Continue | Simple::Exit | Simple::Error(_) => {
-            Err(Stop::Fault(EvalFault::Stopped))
-        }
+        SimpleForm::Get(name) => get(alloc, variables, host, name),
+        SimpleForm::Set(name, value) => set(alloc, variables, LIMIT, name, value),
+        SimpleForm::Unset(missing, names) => unset(alloc, variables, missing, names),
+        SimpleForm::Append(name, values) => append(alloc, variables, LIMIT, name, values),
+        SimpleForm::ListAppend(name, values) => list_append(alloc, variables, LIMIT, name, values),
+        SimpleForm::Increase(name, increases) => increase(alloc, variables, LIMIT, name, increases),
+        SimpleForm::Define(name, list, body) => define(alloc, variables, name, list, body),
+        SimpleForm::Exists(name) => exists(alloc, variables, host, name),
+        SimpleForm::Global(names) => global(alloc, variables, names),
+        SimpleForm::Put(words) => put(alloc, variables, host, words),
+        SimpleForm::Return(_)
+        | SimpleForm::Break
+        | SimpleForm::Continue
+        | SimpleForm::Exit
+        | SimpleForm::Error(_) => { Err(Stop::Fault(EvalFault::Stopped)) }
     }
 }
 
@@ -103,7 +109,6 @@ fn expression_value(alloc: Global, state: &mut State, owned: &OwnedExpr) -> Resu
     done(advance(context, &mut state.host, &mut stack, control))
 }
 
-/// The value of an expression in a text.
 fn value(alloc: Global, state: &mut State, text: &str) -> Result<String, Stop> {
     match own_expr(alloc, String::from_str(alloc, text)?) {
         Ok(owned) => expression_value(alloc, state, &owned),
@@ -131,10 +136,10 @@ fn simple_form<'a>(
     alloc: Global,
     name: &str,
     words: &'a [String],
-) -> Result<Option<Simple<'a>>, Stop> {
+) -> Result<Option<SimpleForm<'a>>, Stop> {
     let form = core_form(alloc, name, words)?;
     match &form {
-        Some(Form::Simple(simple)) => Ok(Some(*simple)),
+        Some(Form::SimpleForm(simple)) => Ok(Some(*simple)),
         Some(_) => Err(Stop::Fault(EvalFault::Stopped)),
         None => Ok(None),
     }

@@ -39,7 +39,6 @@ fn reserved() -> &'static [&'static str]
     &RESERVED
 }
 
-/// Adds a copy of the words to the records.
 fn push_copy(
     records: &mut Vec<Vec<String>>,
     alloc: Global,
@@ -54,7 +53,6 @@ fn push_copy(
     Ok(())
 }
 
-/// The text with an ending.
 fn joined(alloc: Global, text: &str, ending: &str) -> Result<String, AllocError>
     ensures { IfOk result (λ t. string_bytes t ≡ text.now ++ ending.now) }
 {

@@ -45,7 +45,6 @@ pub(crate) fn recorder(alloc: Global) -> Result<Recorder, AllocError> {
     })
 }
 
-/// A name and a value, as they are meant.
 fn pair(alloc: Global, name: &str, value: &str) -> Option<(String, String)> {
     Some((text_of(alloc, name)?, text_of(alloc, value)?))
 }
@@ -135,7 +134,6 @@ fn push_variable(line: &mut Line, name: &str, value: &str) {
     push_text(line, value);
 }
 
-/// Adds a fault: its number, its line and its message.
 fn push_fault(alloc: Global, line: &mut Line, fault: &EvalFault) {
     let number = fault.number();
     match fault {
@@ -150,13 +148,11 @@ fn push_fault(alloc: Global, line: &mut Line, fault: &EvalFault) {
     }
 }
 
-/// Adds the words of a record.
 fn push_record(line: &mut Line, record: &[String]) {
     line.push_str("\trecord ");
     push_texts(line, record);
 }
 
-/// Adds messages.
 fn push_messages(line: &mut Line, messages: &[String]) {
     for message in messages {
         line.push_str("\tmessage ");
@@ -164,7 +160,6 @@ fn push_messages(line: &mut Line, messages: &[String]) {
     }
 }
 
-/// Adds records.
 fn push_records(line: &mut Line, records: &[Vec<String>]) {
     for record in records {
         push_record(line, record);

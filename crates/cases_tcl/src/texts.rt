@@ -41,7 +41,6 @@ fn shown_fault(alloc: Global, fault: TextFault) -> Option<String> {
     }
 }
 
-/// The elements of a list.
 fn shown_list(alloc: Global, elements: &[String]) -> Option<String> {
     let mut line = Line::new(alloc);
     line.push_str("ok ");
@@ -104,7 +103,6 @@ fn push_command(alloc: Global, line: &mut Line, command: &Command<&str>) {
     }
 }
 
-/// The commands of a script.
 fn shown_script(alloc: Global, script: &Script<&str>) -> Option<String> {
     let mut line = Line::new(alloc);
     line.push_str("ok ");

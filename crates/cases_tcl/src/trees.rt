@@ -43,7 +43,6 @@ fn shown_expression<P: Debug>(alloc: Global, expression: &Expr<P>) -> Option<Str
     format!(in alloc; "ok {expression:?}").ok()
 }
 
-/// The tree of a script, or its fault.
 fn script_tree(alloc: Global, text: &str) -> Option<String> {
     match parse_script(alloc, text) {
         Ok(script) => shown_words(alloc, &script),
@@ -51,7 +50,6 @@ fn script_tree(alloc: Global, text: &str) -> Option<String> {
     }
 }
 
-/// The tree of an expression, or its fault.
 fn expression_tree(alloc: Global, text: &str) -> Option<String> {
     match parse_expr(alloc, text) {
         Ok(expression) => shown_expression(alloc, &expression),

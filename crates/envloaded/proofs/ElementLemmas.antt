@@ -1,5 +1,6 @@
 -- A text of elements that grows by one after another.
-use Rattle.std.proofs.Common.{◌≡◌, ◌<◌, List, [], ◌∷◌, ◌++◌, refl, sym, ap, ◌∙◌, append-nil, append_assoc, length, arith, Option, Some}
+use Rattle.std.proofs.Common.{◌≡◌, ◌<◌, List, [], ◌∷◌, ◌++◌, refl, sym, ap, ◌∙◌, append-nil, append_assoc, length}
+use Rattle.std.proofs.Common.{arith, Option, Some}
 use Rattle.std.proofs.lemmas.List.Concat.{flat_map-append}
 use Rattle.envvars.specs.Texts.{Text}
 use Rattle.envvars.specs.Fields.{colon, ampersand, joined, text_of_elements, without_repeats}
@@ -14,7 +15,9 @@ one_more_element (y ∷ ys) x =
     let f : Text → Text = λ (z : Text). colon ∷ z in
     let now : joined (y ∷ ys) ≡ y ++ after_separators colon ys = join-cons colon y ys in
     let later : joined (y ∷ (ys ++ x ∷ [])) ≡ y ++ after_separators colon (ys ++ x ∷ []) = join-cons colon y (ys ++ x ∷ []) in
-    let parted : after_separators colon (ys ++ x ∷ []) ≡ after_separators colon ys ++ (colon ∷ x) = flat_map-append f ys (x ∷ []) ∙ ap (λ (t : Text). after_separators colon ys ++ (colon ∷ t)) (append-nil x) in
+    let parted : after_separators colon (ys ++ x ∷ []) ≡ after_separators colon ys
+    ++ (colon ∷ x) = flat_map-append f ys (x ∷ []) ∙ ap (λ (t : Text). after_separators colon ys ++ (colon ∷ t))
+    (append-nil x) in
     ap Some (ap (λ (t : Text). (t ++ colon ∷ []) ++ x) now
     ∙ append_assoc (y ++ after_separators colon ys) (colon ∷ []) x
     ∙ append_assoc y (after_separators colon ys) (colon ∷ x)

@@ -1,5 +1,6 @@
 -- A loaded list that is written is read as it was.
-use Rattle.std.proofs.Common.{◌≡◌, ℕ, suc, Bool, true, false, cond, not, ◌&&◌, List, [], ◌∷◌, ◌++◌, refl, sym, ap, ◌∙◌, arith, length, nat_eq, Option, Some, None, map}
+use Rattle.std.proofs.Common.{◌≡◌, ℕ, suc, Bool, true, false, cond, not, ◌&&◌, List, [], ◌∷◌, ◌++◌, refl, sym, ap, ◌∙◌}
+use Rattle.std.proofs.Common.{arith, length, nat_eq, Option, Some, None, map}
 use Rattle.std.specs.Prelude.{bytes_eq, if◌then◌else◌}
 use Rattle.std.specs.List.{slice_split, join_with_byte, list_all, list_any, AllByRecursion}
 use Rattle.std.proofs.lemmas.Bool.{false≢true}
@@ -8,8 +9,13 @@ use Rattle.modulename.specs.ModuleName.{is_module_name}
 use Rattle.envvars.specs.Texts.{Text, has}
 use Rattle.envvars.specs.Fields.{without, are_distinct, fields, joined, text_of_elements, without_repeats, elements_in}
 use Rattle.envvars.specs.Environment.{Environment, lookup}
-use Rattle.envloaded.specs.LoadedTexts.{names_variable, files_variable, conflicts_variable, prereqs_variable, is_empty, are_consistent, parts_of, is_element_of, later_parts, first_element, words_in, names_among, conflicts_among, names_of_group, has_names, prereqs_among, element_of, group_text}
-use Rattle.envloaded.specs.Loaded.{Entry, names_of, entries_from, entries_in, loaded_in, names_text, files_text, conflict_elements, conflicts_text, has_groups, prereq_elements, prereqs_text, with_loaded, is_path, is_group, is_entry, IsLoadedList}
+use Rattle.envloaded.specs.LoadedTexts.{names_variable, files_variable, conflicts_variable, prereqs_variable, is_empty}
+use Rattle.envloaded.specs.LoadedTexts.{are_consistent, parts_of, is_element_of, later_parts, first_element, words_in}
+use Rattle.envloaded.specs.LoadedTexts.{names_among, conflicts_among, names_of_group, has_names, prereqs_among}
+use Rattle.envloaded.specs.LoadedTexts.{element_of, group_text}
+use Rattle.envloaded.specs.Loaded.{Entry, names_of, entries_from, entries_in, loaded_in, names_text, files_text}
+use Rattle.envloaded.specs.Loaded.{conflict_elements, conflicts_text, has_groups, prereq_elements, prereqs_text}
+use Rattle.envloaded.specs.Loaded.{with_loaded, is_path, is_group, is_entry, IsLoadedList}
 use Rattle.envvars.proofs.TextLemmas.{bytes_eq-same, bytes_eq-symmetric, or_left, or_right}
 use Rattle.envvars.proofs.EnvLemmas.{lookup-with_value}
 use Rattle.envvars.proofs.FieldLemmas.{without-absent}
@@ -235,7 +241,9 @@ no_conflicts n [] h f = refl
 no_conflicts n (x ∷ xs) h f =
     let k = both_true (is_entry x) (list_all is_entry xs) h in
     at (has_names x.conflicts)
-    (first_other n x.name (element_of x.name x.conflicts) (conflict_elements xs) x.conflicts (element_parts x.name x.conflicts (good x k.0).name (names_words x.conflicts (good x k.0).conflicts)) (or_left (bytes_eq n x.name) (has n (names_of xs)) f))
+    (first_other n x.name (element_of x.name x.conflicts) (conflict_elements xs) x.conflicts
+    (element_parts x.name x.conflicts (good x k.0).name (names_words x.conflicts (good x k.0).conflicts))
+    (or_left (bytes_eq n x.name) (has n (names_of xs)) f))
     (no_conflicts n xs k.1 (or_right (bytes_eq n x.name) (has n (names_of xs)) f))
   where
     at : (b : Bool) → first_element n (element_of x.name x.conflicts ∷ conflict_elements xs) ≡ first_element n (conflict_elements xs) → first_element n (conflict_elements xs) ≡ None
@@ -248,7 +256,9 @@ no_prereqs n [] h f = refl
 no_prereqs n (x ∷ xs) h f =
     let k = both_true (is_entry x) (list_all is_entry xs) h in
     at (has_groups x.prereqs)
-    (first_other n x.name (element_of x.name (map group_text x.prereqs)) (prereq_elements xs) (map group_text x.prereqs) (element_parts x.name (map group_text x.prereqs) (good x k.0).name (groups_words x.prereqs (good x k.0).prereqs)) (or_left (bytes_eq n x.name) (has n (names_of xs)) f))
+    (first_other n x.name (element_of x.name (map group_text x.prereqs)) (prereq_elements xs) (map group_text x.prereqs)
+    (element_parts x.name (map group_text x.prereqs) (good x k.0).name
+    (groups_words x.prereqs (good x k.0).prereqs)) (or_left (bytes_eq n x.name) (has n (names_of xs)) f))
     (no_prereqs n xs k.1 (or_right (bytes_eq n x.name) (has n (names_of xs)) f))
   where
     at : (b : Bool) → first_element n (element_of x.name (map group_text x.prereqs) ∷ prereq_elements xs) ≡ first_element n (prereq_elements xs) → first_element n (prereq_elements xs) ≡ None
@@ -278,7 +288,9 @@ found_here x xs h k f = (conflicts (has_names x.conflicts) refl, prereqs (has_gr
         ap words_in (first_same x.name (element_of x.name x.conflicts) (conflict_elements xs) x.conflicts p (of_names x.name x.conflicts e)) ∙ ap later_parts p
     conflicts false e = ap words_in (no_conflicts x.name xs k f) ∙ sym (no_words x.conflicts e)
 
-    prereqs : (b : Bool) → has_groups x.prereqs ≡ b → words_in (first_element x.name (cond b (element_of x.name (map group_text x.prereqs) ∷ prereq_elements xs) (prereq_elements xs))) ≡ map group_text x.prereqs
+    prereqs : (b : Bool) → has_groups x.prereqs ≡ b → words_in
+        (first_element x.name (cond b (element_of x.name (map group_text x.prereqs) ∷ prereq_elements xs)
+        (prereq_elements xs))) ≡ map group_text x.prereqs
     prereqs true e =
         let p = element_parts x.name (map group_text x.prereqs) (good x h).name (groups_words x.prereqs (good x h).prereqs) in
         ap words_in (first_same x.name (element_of x.name (map group_text x.prereqs)) (prereq_elements xs) (map group_text x.prereqs) p (of_groups x.name x.prereqs e)) ∙ ap later_parts p
@@ -291,22 +303,31 @@ found_behind x y xs h f g = (conflicts (has_names x.conflicts), prereqs (has_gro
   where
     conflicts : (b : Bool) → words_in (first_element y.name (cond b (element_of x.name x.conflicts ∷ conflict_elements xs) (conflict_elements xs))) ≡ y.conflicts
     conflicts true =
-        ap words_in (first_other y.name x.name (element_of x.name x.conflicts) (conflict_elements xs) x.conflicts (element_parts x.name x.conflicts (good x h).name (names_words x.conflicts (good x h).conflicts)) f) ∙ g.0
+        ap words_in (first_other y.name x.name (element_of x.name x.conflicts) (conflict_elements xs) x.conflicts
+        (element_parts x.name x.conflicts (good x h).name (names_words x.conflicts (good x h).conflicts)) f) ∙ g.0
     conflicts false = g.0
 
     prereqs : (b : Bool) → words_in (first_element y.name (cond b (element_of x.name (map group_text x.prereqs) ∷ prereq_elements xs) (prereq_elements xs))) ≡ map group_text y.prereqs
     prereqs true =
-        ap words_in (first_other y.name x.name (element_of x.name (map group_text x.prereqs)) (prereq_elements xs) (map group_text x.prereqs) (element_parts x.name (map group_text x.prereqs) (good x h).name (groups_words x.prereqs (good x h).prereqs)) f) ∙ g.1
+        ap words_in (first_other y.name x.name (element_of x.name (map group_text x.prereqs)) (prereq_elements xs)
+        (map group_text x.prereqs) (element_parts x.name (map group_text x.prereqs) (good x h).name
+        (groups_words x.prereqs (good x h).prereqs)) f) ∙ g.1
     prereqs false = g.1
 
 all_behind : (x : Entry) (xs ys : List Entry) → is_entry x ≡ true → has x.name (names_of ys) ≡ false
     → AllByRecursion (IsFound (λ n. first_element n (conflict_elements xs)) (λ n. first_element n (prereq_elements xs))) ys
     → AllByRecursion (IsFound (λ n. first_element n (conflict_elements (x ∷ xs))) (λ n. first_element n (prereq_elements (x ∷ xs)))) ys
 all_behind x xs [] h f g = g
-all_behind x xs (y ∷ ys) h f g =
-    (found_behind x y xs h (bytes_eq-symmetric y.name x.name ∙ or_left (bytes_eq x.name y.name) (has x.name (names_of ys)) f) g.0, all_behind x xs ys h (or_right (bytes_eq x.name y.name) (has x.name (names_of ys)) f) g.1)
+all_behind x xs (y ∷ ys) h f g = (
+  found_behind x y xs h (bytes_eq-symmetric y.name x.name
+      ∙ or_left (bytes_eq x.name y.name) (has x.name (names_of ys)) f) g.0,
+  all_behind x xs ys h
+      (or_right (bytes_eq x.name y.name) (has x.name (names_of ys)) f) g.1,
+)
 
-all_found : (xs : List Entry) → list_all is_entry xs ≡ true → are_distinct (names_of xs) ≡ true → AllByRecursion (IsFound (λ n. first_element n (conflict_elements xs)) (λ n. first_element n (prereq_elements xs))) xs
+all_found : (xs : List Entry) → list_all is_entry xs ≡ true → are_distinct (names_of xs) ≡ true
+    → AllByRecursion (IsFound (λ n. first_element n (conflict_elements xs)) (λ n. first_element n (prereq_elements xs)))
+    xs
 all_found [] h d = tt
 all_found (x ∷ xs) h d =
     let k = both_true (is_entry x) (list_all is_entry xs) h in
@@ -352,7 +373,8 @@ same_length m n h = grind (arith, nat_tests)
 
 fits : (xs : List Entry) → IsLoadedList xs → are_consistent (names_of xs) (map (λ x. x.path) xs) ≡ true
 fits xs l =
-    and_both (nat_eq (length (names_of xs)) (length (map (λ x. x.path) xs)) && list_all is_module_name (names_of xs) && list_all (λ p. not (is_empty p)) (map (λ x. x.path) xs)) (are_distinct (names_of xs))
+    and_both (nat_eq (length (names_of xs)) (length (map (λ x. x.path) xs)) && list_all is_module_name (names_of xs) &&
+    list_all (λ p. not (is_empty p)) (map (λ x. x.path) xs)) (are_distinct (names_of xs))
     (and_both (nat_eq (length (names_of xs)) (length (map (λ x. x.path) xs)) && list_all is_module_name (names_of xs)) (list_all (λ p. not (is_empty p)) (map (λ x. x.path) xs))
     (and_both (nat_eq (length (names_of xs)) (length (map (λ x. x.path) xs))) (list_all is_module_name (names_of xs)) (same_length _ _ (as_many xs)) (good_names xs l.each))
     (files_there (map (λ x. x.path) xs) (good_files xs l.each))) l.names
@@ -374,7 +396,9 @@ entries_again xs l =
     ∙ ap (λ (k : List Text). read_from (names_of xs) k (elements_in (conflicts_text xs)) (elements_in (prereqs_text xs))) p
     ∙ ap (λ (k : List Text). read_from (names_of xs) (map (λ x. x.path) xs) k (elements_in (prereqs_text xs))) c
     ∙ ap (read_from (names_of xs) (map (λ x. x.path) xs) (conflict_elements xs)) r
-    ∙ read_fit (are_consistent (names_of xs) (map (λ x. x.path) xs)) (entries_from (λ n. first_element n (conflict_elements xs)) (λ n. first_element n (prereq_elements xs)) (names_of xs) (map (λ x. x.path) xs)) xs (fits xs l)
+    ∙ read_fit (are_consistent (names_of xs) (map (λ x. x.path) xs))
+    (entries_from (λ n. first_element n (conflict_elements xs)) (λ n. first_element n (prereq_elements xs))
+    (names_of xs) (map (λ x. x.path) xs)) xs (fits xs l)
     (from_found (λ n. first_element n (conflict_elements xs)) (λ n. first_element n (prereq_elements xs)) xs l.each l.conflicts (all_found xs l.each l.names))
 
 -- the four variables are four

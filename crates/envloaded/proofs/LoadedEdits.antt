@@ -1,5 +1,6 @@
 -- What edits of the loaded list leave in an environment.
-use Rattle.std.proofs.Common.{◌≡◌, Bool, true, false, cond, not, ◌&&◌, List, [], ◌∷◌, ◌++◌, refl, sym, ap, ◌∙◌, Some, Result, Ok, Err}
+use Rattle.std.proofs.Common.{◌≡◌, Bool, true, false, cond, not, ◌&&◌, List, [], ◌∷◌, ◌++◌, refl, sym, ap, ◌∙◌, Some}
+use Rattle.std.proofs.Common.{Result, Ok, Err}
 use Rattle.std.specs.Prelude.{filter, bytes_eq, if◌then◌else◌}
 use Rattle.std.specs.List.{list_all}
 use Rattle.std.proofs.lemmas.Bool.{false≢true}
@@ -8,7 +9,9 @@ use Rattle.envvars.specs.Texts.{Text, has}
 use Rattle.envvars.specs.Environment.{Environment, lookup}
 use Rattle.envvars.specs.Fields.{are_distinct, without_repeats}
 use Rattle.envloaded.specs.LoadedTexts.{names_variable, files_variable, conflicts_variable, prereqs_variable}
-use Rattle.envloaded.specs.Loaded.{Entry, names_of, loaded_in, with_loaded, is_path, is_group, is_entry, IsLoadedList, can_be_added, with_conflicts_once, added_to, added_loaded, without_entry, dropped_from, dropped_loaded}
+use Rattle.envloaded.specs.Loaded.{Entry, names_of, loaded_in, with_loaded, is_path, is_group, is_entry, IsLoadedList}
+use Rattle.envloaded.specs.Loaded.{can_be_added, with_conflicts_once, added_to, added_loaded, without_entry}
+use Rattle.envloaded.specs.Loaded.{dropped_from, dropped_loaded}
 use Rattle.envvars.specs.Reasons.{EnvReason, inconsistent}
 use Rattle.envvars.proofs.TextLemmas.{bytes_eq-symmetric, or_left, or_right}
 use Rattle.envvars.proofs.EnvLemmas.{lookup-with_value}
@@ -103,12 +106,14 @@ dropped_if : (b : Bool) (old new next : Environment) → (if b then accepted nex
 dropped_if true old new next h t = let e : next ≡ new = cc in ap loaded_in e
 dropped_if false old new next h t = absurd (false≢true t)
 
-pub loaded_after_drop : (old new : Environment) (name : Text) (xs : List Entry) → loaded_in old ≡ Some xs → has name (names_of xs) ≡ true → dropped_loaded old name ≡ Ok new → loaded_in new ≡ Some (without_entry name xs)
+pub loaded_after_drop : (old new : Environment) (name : Text) (xs : List Entry) → loaded_in old ≡ Some xs
+    → has name (names_of xs) ≡ true → dropped_loaded old name ≡ Ok new → loaded_in new ≡ Some (without_entry name xs)
 loaded_after_drop old new name xs l t h =
     sym (dropped_if (has name (names_of xs)) old new (with_loaded old (without_entry name xs)) (sym (ap (dropped_from old name) l) ∙ h) t)
     ∙ loaded_again old (without_entry name xs) (list_less name xs (loaded_readable old xs l))
 
 -- every other variable stays
-pub others_stay : (e : Environment) (xs : List Entry) (q : Text) → bytes_eq q names_variable ≡ false → bytes_eq q files_variable ≡ false → bytes_eq q conflicts_variable ≡ false → bytes_eq q prereqs_variable ≡ false
+pub others_stay : (e : Environment) (xs : List Entry) (q : Text) → bytes_eq q names_variable ≡ false
+    → bytes_eq q files_variable ≡ false → bytes_eq q conflicts_variable ≡ false → bytes_eq q prereqs_variable ≡ false
     → lookup (with_loaded e xs) q ≡ lookup e q
 others_stay e xs q n f c p = simp (lookup-with_value, n, f, c, p)

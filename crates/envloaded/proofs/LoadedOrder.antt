@@ -1,10 +1,13 @@
 -- Edits leave the loaded list in order.
-use Rattle.std.proofs.Common.{◌≡◌, Bool, true, false, cond, List, [], ◌∷◌, ◌++◌, refl, sym, ap, ◌∙◌, subst, Option, Some, None, Result, Ok, Err}
+use Rattle.std.proofs.Common.{◌≡◌, Bool, true, false, cond, List, [], ◌∷◌, ◌++◌, refl, sym, ap, ◌∙◌, subst, Option}
+use Rattle.std.proofs.Common.{Some, None, Result, Ok, Err}
 use Rattle.std.specs.Prelude.{bytes_eq, if◌then◌else◌}
 use Rattle.envvars.specs.Texts.{Text, has}
 use Rattle.envvars.specs.Environment.{Environment, lookup, with_value}
 use Rattle.envloaded.specs.LoadedTexts.{names_variable, files_variable, conflicts_variable, prereqs_variable}
-use Rattle.envloaded.specs.Loaded.{Entry, names_of, names_text, files_text, conflicts_text, prereqs_text, loaded_in, with_loaded, IsLoadedList, AreLoadedInOrder, can_be_added, with_conflicts_once, added_to, added_loaded, without_entry, dropped_from, dropped_loaded}
+use Rattle.envloaded.specs.Loaded.{Entry, names_of, names_text, files_text, conflicts_text, prereqs_text, loaded_in}
+use Rattle.envloaded.specs.Loaded.{with_loaded, IsLoadedList, AreLoadedInOrder, can_be_added, with_conflicts_once}
+use Rattle.envloaded.specs.Loaded.{added_to, added_loaded, without_entry, dropped_from, dropped_loaded}
 use Rattle.envvars.specs.Reasons.{EnvReason, inconsistent}
 use Rattle.envvars.proofs.EnvLemmas.{lookup-with_value, same_environment}
 use Rattle.envloaded.proofs.LoadedReadable.{loaded_readable}
@@ -22,7 +25,9 @@ chosen_twice false false false true p q r s o = refl
 chosen_twice false false false false p q r s o = refl
 
 looked : (e : Environment) (xs : List Entry) (n : Text)
-    → lookup (with_loaded e xs) n ≡ chosen (bytes_eq n prereqs_variable) (bytes_eq n conflicts_variable) (bytes_eq n files_variable) (bytes_eq n names_variable) (prereqs_text xs) (conflicts_text xs) (files_text xs) (names_text xs) (lookup e n)
+    → lookup (with_loaded e xs) n ≡ chosen (bytes_eq n prereqs_variable) (bytes_eq n conflicts_variable)
+    (bytes_eq n files_variable) (bytes_eq n names_variable) (prereqs_text xs) (conflicts_text xs) (files_text xs)
+    (names_text xs) (lookup e n)
 looked e xs n =
     let named = with_value e names_variable (names_text xs) in
     let filed = with_value named files_variable (files_text xs) in
@@ -37,8 +42,11 @@ looked e xs n =
 written_twice : (e : Environment) (xs : List Entry) → with_loaded (with_loaded e xs) xs ≡ with_loaded e xs
 written_twice e xs = same_environment _ _ (λ n.
     looked (with_loaded e xs) xs n
-    ∙ ap (chosen (bytes_eq n prereqs_variable) (bytes_eq n conflicts_variable) (bytes_eq n files_variable) (bytes_eq n names_variable) (prereqs_text xs) (conflicts_text xs) (files_text xs) (names_text xs)) (looked e xs n)
-    ∙ chosen_twice (bytes_eq n prereqs_variable) (bytes_eq n conflicts_variable) (bytes_eq n files_variable) (bytes_eq n names_variable) (prereqs_text xs) (conflicts_text xs) (files_text xs) (names_text xs) (lookup e n)
+    ∙ ap (chosen (bytes_eq n prereqs_variable) (bytes_eq n conflicts_variable) (bytes_eq n files_variable)
+    (bytes_eq n names_variable) (prereqs_text xs) (conflicts_text xs) (files_text xs) (names_text xs))
+    (looked e xs n)
+    ∙ chosen_twice (bytes_eq n prereqs_variable) (bytes_eq n conflicts_variable) (bytes_eq n files_variable)
+    (bytes_eq n names_variable) (prereqs_text xs) (conflicts_text xs) (files_text xs) (names_text xs) (lookup e n)
     ∙ sym (looked e xs n))
 
 in_order : (e new : Environment) (xs : List Entry) → IsLoadedList xs → new ≡ with_loaded e xs → AreLoadedInOrder new

@@ -1,5 +1,6 @@
 -- A loaded list that was read can be written.
-use Rattle.std.proofs.Common.{◌≡◌, ℕ, Bool, true, false, cond, not, ◌&&◌, List, [], ◌∷◌, refl, ap, ◌∙◌, subst, arith, length, nat_eq, Option, Some, None}
+use Rattle.std.proofs.Common.{◌≡◌, ℕ, Bool, true, false, cond, not, ◌&&◌, List, [], ◌∷◌, refl, ap, ◌∙◌, subst, arith}
+use Rattle.std.proofs.Common.{length, nat_eq, Option, Some, None}
 use Rattle.std.specs.Prelude.{filter, bytes_eq, if◌then◌else◌}
 use Rattle.std.specs.List.{slice_split, onto_first, list_all, list_any}
 use Rattle.std.proofs.lemmas.Bool.Decides.{nat_tests}
@@ -7,8 +8,11 @@ use Rattle.modulename.specs.ModuleName.{is_module_name}
 use Rattle.envvars.specs.Texts.{Text, has}
 use Rattle.envvars.specs.Fields.{without, are_distinct, without_repeats, elements_in}
 use Rattle.envvars.specs.Environment.{Environment, lookup}
-use Rattle.envloaded.specs.LoadedTexts.{names_variable, files_variable, conflicts_variable, prereqs_variable, is_empty, are_consistent, words_in, names_among, conflicts_among, names_of_group, has_names, prereqs_among}
-use Rattle.envloaded.specs.Loaded.{Entry, names_of, entries_from, first_in, loaded_in, is_path, is_group, is_entry, IsLoadedList}
+use Rattle.envloaded.specs.LoadedTexts.{names_variable, files_variable, conflicts_variable, prereqs_variable, is_empty}
+use Rattle.envloaded.specs.LoadedTexts.{are_consistent, words_in, names_among, conflicts_among, names_of_group}
+use Rattle.envloaded.specs.LoadedTexts.{has_names, prereqs_among}
+use Rattle.envloaded.specs.Loaded.{Entry, names_of, entries_from, first_in, loaded_in, is_path, is_group, is_entry}
+use Rattle.envloaded.specs.Loaded.{IsLoadedList}
 use Rattle.envvars.proofs.TextLemmas.{has-without, bytes_eq-same}
 use Rattle.envvars.proofs.FieldLemmas.{distinct-filter}
 use Rattle.envvars.proofs.EditLemmas.{both_true, and_both}
@@ -61,7 +65,9 @@ groups_pass [] = refl
 groups_pass (w ∷ ws) = at (has_names (names_of_group w)) refl (groups_pass ws)
   where
     at : (b : Bool) → has_names (names_of_group w) ≡ b → list_all is_group (prereqs_among ws) ≡ true → list_all is_group (cond b (names_of_group w ∷ prereqs_among ws) (prereqs_among ws)) ≡ true
-    at true e r = and_both (is_group (names_of_group w)) (list_all is_group (prereqs_among ws)) (and_both (has_names (names_of_group w)) (list_all is_module_name (names_of_group w)) e (names_pass (slice_split (λ b. nat_eq b 124) w))) r
+    at true e r = and_both (is_group (names_of_group w)) (list_all is_group (prereqs_among ws))
+        (and_both (has_names (names_of_group w)) (list_all is_module_name (names_of_group w)) e
+        (names_pass (slice_split (λ b. nat_eq b 124) w))) r
     at false e r = r
 
 -- none stands twice among the firsts
@@ -76,7 +82,9 @@ distinct_firsts (x ∷ xs) =
 path_good : (p : Text) → not (is_empty p) ≡ true → lacks 58 p ≡ true → is_path p ≡ true
 path_good p h k = and_both (not (is_empty p)) (not (list_any (λ b. nat_eq b 58) p)) h (rw (lacks_any p k) refl)
 
-entries_good : (f g : Text → Option Text) (names files : List Text) → list_all is_module_name names ≡ true → list_all (λ p. not (is_empty p)) files ≡ true → all_lack 58 files ≡ true → list_all is_entry (entries_from f g names files) ≡ true
+entries_good : (f g : Text → Option Text) (names files : List Text) → list_all is_module_name names ≡ true
+    → list_all (λ p. not (is_empty p)) files ≡ true → all_lack 58 files ≡ true
+    → list_all is_entry (entries_from f g names files) ≡ true
 entries_good f g [] files h k l = refl
 entries_good f g (n ∷ names) [] h k l = refl
 entries_good f g (n ∷ names) (p ∷ files) h k l =
@@ -99,7 +107,9 @@ conflicts_once : (f g : Text → Option Text) (names files : List Text) → list
 conflicts_once f g [] files = refl
 conflicts_once f g (n ∷ names) [] = refl
 conflicts_once f g (n ∷ names) (p ∷ files) =
-    and_both (are_distinct (conflicts_among (words_in (f n)))) (list_all (λ x. are_distinct x.conflicts) (entries_from f g names files)) (distinct_firsts (names_among (words_in (f n)))) (conflicts_once f g names files)
+    and_both (are_distinct (conflicts_among (words_in (f n))))
+    (list_all (λ x. are_distinct x.conflicts) (entries_from f g names files))
+    (distinct_firsts (names_among (words_in (f n)))) (conflicts_once f g names files)
 
 same_count : (m n : ℕ) → nat_eq m n ≡ true → m ≡ n
 same_count m n h = grind (arith, nat_tests)
@@ -122,4 +132,6 @@ read_if false xs ys h k = cc
 pub loaded_readable : (e : Environment) (xs : List Entry) → loaded_in e ≡ Some xs → IsLoadedList xs
 loaded_readable e xs h =
     read_if (are_consistent (elements_in (lookup e names_variable)) (elements_in (lookup e files_variable))) _ xs h
-    (λ t. read_list (first_in (lookup e conflicts_variable)) (first_in (lookup e prereqs_variable)) (elements_in (lookup e names_variable)) (elements_in (lookup e files_variable)) t (elements_lack (lookup e files_variable)))
+    (λ t. read_list (first_in (lookup e conflicts_variable)) (first_in (lookup e prereqs_variable))
+    (elements_in (lookup e names_variable)) (elements_in (lookup e files_variable)) t
+    (elements_lack (lookup e files_variable)))

@@ -1,5 +1,7 @@
 -- Reading the loaded texts.
-use Rattle.std.proofs.Common.{◌≡◌, ℕ, suc, Bool, true, false, cond, not, ◌+◌, ◌&&◌, ◌<◌, ◌≤◌, List, [], ◌∷◌, ◌++◌, refl, sym, ap, ◌∙◌, arith, length, append_assoc, append-nil, get_or, Bor, nat_eq, Option, Some, None, Result, Ok, Err, map, Vec, Global, drop as cut}
+use Rattle.std.proofs.Common.{◌≡◌, ℕ, suc, Bool, true, false, cond, not, ◌+◌, ◌&&◌, ◌<◌, ◌≤◌, List, [], ◌∷◌, ◌++◌, refl}
+use Rattle.std.proofs.Common.{sym, ap, ◌∙◌, arith, length, append_assoc, append-nil, get_or, Bor, nat_eq, Option, Some}
+use Rattle.std.proofs.Common.{None, Result, Ok, Err, map, Vec, Global, drop as cut}
 use Rattle.std.specs.Prelude.{filter, bytes_eq, if◌then◌else◌}
 use Rattle.std.specs.List.{onto_first, slice_split, list_all, position_or_len}
 use Rattle.std.specs.Option.{option_or, option_map, option_copied, is_some}
@@ -16,7 +18,9 @@ use Rattle.indexmap.specs.IndexMap.{IndexMap, get_by}
 use Rattle.modulename.specs.ModuleName.{is_module_name}
 use Rattle.envvars.specs.Texts.{Text, slice_texts, texts_in}
 use Rattle.envvars.specs.Fields.{are_distinct, without_repeats, elements_in}
-use Rattle.envloaded.specs.LoadedTexts.{names_variable, files_variable, conflicts_variable, prereqs_variable, is_empty, are_consistent, parts_of, is_element_of, later_parts, first_element, words_in, has_names, names_of_group, conflicts_among, prereqs_among}
+use Rattle.envloaded.specs.LoadedTexts.{names_variable, files_variable, conflicts_variable, prereqs_variable, is_empty}
+use Rattle.envloaded.specs.LoadedTexts.{are_consistent, parts_of, is_element_of, later_parts, first_element, words_in}
+use Rattle.envloaded.specs.LoadedTexts.{has_names, names_of_group, conflicts_among, prereqs_among}
 use Rattle.envloaded.specs.LoadedEntries.{element_in}
 use Rattle.envloaded.specs.Loaded.{Entry, entries_from, first_in, loaded_in}
 use Rattle.envvars.specs.Environment.{Environment, lookup}
@@ -101,10 +105,14 @@ some_names (n ∷ ns) names e h = rw (← e) refl
 pub words-is : (o : Option (Bor Text)) (x : Bor Text) (ws : List Text) → o ≡ Some x → ws ≡ later_parts (parts_of x.now) → ws ≡ words_in (option_map (λ t. t.now) o)
 words-is o x ws e h = rw e h
 
-pub conflicts-from : (ns words names : List (Bor Text)) (ws : List Text) → slice_texts words ≡ ws → names ≡ filter (λ x. is_module_name x.now) words → slice_texts ns ≡ without_repeats (slice_texts names) → slice_texts ns ≡ conflicts_among ws
+pub conflicts-from : (ns words names : List (Bor Text)) (ws : List Text) → slice_texts words ≡ ws
+    → names ≡ filter (λ x. is_module_name x.now) words → slice_texts ns ≡ without_repeats (slice_texts names)
+    → slice_texts ns ≡ conflicts_among ws
 conflicts-from ns words names ws e h k = k ∙ ap without_repeats (ap slice_texts h ∙ slice_texts-filter is_module_name words ∙ ap (filter is_module_name) e)
 
-pub group-from : (alternatives names : List (Bor Text)) (word : Text) → slice_texts alternatives ≡ slice_split (λ b. nat_eq b 124) word → names ≡ filter (λ x. is_module_name x.now) alternatives → slice_texts names ≡ names_of_group word
+pub group-from : (alternatives names : List (Bor Text)) (word : Text)
+    → slice_texts alternatives ≡ slice_split (λ b. nat_eq b 124) word
+    → names ≡ filter (λ x. is_module_name x.now) alternatives → slice_texts names ≡ names_of_group word
 group-from alternatives names word e h = ap slice_texts h ∙ slice_texts-filter is_module_name alternatives ∙ ap (filter is_module_name) e
 
 -- the groups of the words
@@ -168,13 +176,17 @@ first_at m n element x y s h name =
 
 pub none_at : {S : Type 0} (m : IndexMap (Bor Text) (Bor Text) S) (element : Bor Text) → IsSplitOnceResult 38 element.now None
     → (name : Text) → element_in m name ≡ option_or (element_in m name) (if is_element_of name (parts_of element.now) then Some element.now else None)
-none_at m element s name = sym (or_none (element_in m name)) ∙ ap (λ (t : Bool). option_or (element_in m name) (if t then Some element.now else None)) (sym (ap (is_element_of name) (no_parts element.now s)))
+none_at m element s name = sym (or_none (element_in m name))
+    ∙ ap (λ (t : Bool). option_or (element_in m name) (if t then Some element.now else None))
+    (sym (ap (is_element_of name) (no_parts element.now s)))
 
 pub absent : {A : Type 0} (o : Option (Bor A)) (b : Bool) → is_some o ≡ not b → b ≡ true → option_copied o ≡ None
 absent None b e h = refl
 absent (Some x) b e h = cc
 
-pub nothing_first : {S : Type 0} (m : IndexMap (Bor Text) (Bor Text) S) (name : Text) (fs : List (Bor Text)) → m.entries ≡ [] → option_or (element_in m name) (first_element name (slice_texts fs)) ≡ first_element name (slice_texts fs)
+pub nothing_first : {S : Type 0} (m : IndexMap (Bor Text) (Bor Text) S) (name : Text) (fs : List (Bor Text))
+    → m.entries ≡ [] → option_or (element_in m name) (first_element name (slice_texts fs)) ≡ first_element name
+    (slice_texts fs)
 nothing_first m name fs e = rw e refl
 
 pub all_first : (o : Option Text) (name : Text) (xs : List (Bor Text)) (i : ℕ) (all : Option Text) → length xs ≤ i → option_or o (first_element name (slice_texts (cut i xs))) ≡ all → o ≡ all
@@ -183,7 +195,8 @@ all_first o name xs i all l h = sym (or_none o) ∙ sym (at_drop_all (λ (ys : L
 pub no_group : (gs : List (List Text)) (word : Text) → has_names (names_of_group word) ≡ false → gs ≡ gs ++ filter has_names (names_of_group word ∷ [])
 no_group gs word h = rw (h, append-nil) refl
 
-pub one_group : (gs : List (List Text)) (word : Text) (group : List Text) → group ≡ names_of_group word → has_names (names_of_group word) ≡ true → gs ++ group ∷ [] ≡ gs ++ filter has_names (names_of_group word ∷ [])
+pub one_group : (gs : List (List Text)) (word : Text) (group : List Text) → group ≡ names_of_group word
+    → has_names (names_of_group word) ≡ true → gs ++ group ∷ [] ≡ gs ++ filter has_names (names_of_group word ∷ [])
 one_group gs word group e h = rw (h, e) refl
 
 pub zero_is : (b : Bool) (n : ℕ) → b ≡ nat_eq n 0 → b ≡ true → n ≡ 0
@@ -227,5 +240,7 @@ read_is e names files cs ps b entries n f c p t y l =
     let fit : are_consistent (elements_in (lookup e names_variable)) (elements_in (lookup e files_variable)) ≡ true = rw (← n, ← f) (sym t ∙ y) in
     let same : entries_from (first_in (lookup e conflicts_variable)) (first_in (lookup e prereqs_variable)) (elements_in (lookup e names_variable)) (elements_in (lookup e files_variable)) ≡ entries =
     rw (← n, ← f) (sym (l ∙ same_entries _ _ _ _ (slice_texts names) (slice_texts files) (λ x. ap (first_element x) c) (λ x. ap (first_element x) p))) in
-    ap (λ (t : Bool). if t then Some (entries_from (first_in (lookup e conflicts_variable)) (first_in (lookup e prereqs_variable)) (elements_in (lookup e names_variable)) (elements_in (lookup e files_variable))) else None) fit
+    ap (λ (t : Bool). if t then Some (entries_from (first_in (lookup e conflicts_variable))
+    (first_in (lookup e prereqs_variable)) (elements_in (lookup e names_variable))
+    (elements_in (lookup e files_variable))) else None) fit
     ∙ ap Some same

@@ -1,5 +1,7 @@
 -- Edits of the loaded list, and the texts that it is written as.
-use Rattle.std.proofs.Common.{◌≡◌, ℕ, Bool, true, false, cond, not, ◌+◌, ◌||◌, ◌&&◌, ◌<◌, ◌≤◌, ◌-◌, List, [], ◌∷◌, ◌++◌, refl, sym, ap, ◌∙◌, arith, length, take, get_or, take_all, Option, Some, Result, Ok, Err, string_bytes, map, Global, drop as cut}
+use Rattle.std.proofs.Common.{◌≡◌, ℕ, Bool, true, false, cond, not, ◌+◌, ◌||◌, ◌&&◌, ◌<◌, ◌≤◌, ◌-◌, List, [], ◌∷◌, ◌++◌}
+use Rattle.std.proofs.Common.{refl, sym, ap, ◌∙◌, arith, length, take, get_or, take_all, Option, Some, Result, Ok, Err}
+use Rattle.std.proofs.Common.{string_bytes, map, Global, drop as cut}
 use Rattle.std.specs.Prelude.{filter, flat_map, bytes_eq}
 use Rattle.std.specs.List.{list_all, list_any}
 use Rattle.std.specs.declared.string.String.{String}
@@ -12,7 +14,9 @@ use Rattle.envvars.specs.Fields.{ampersand, text_of_elements}
 use Rattle.envvars.proofs.FieldLemmas.{after_separators}
 use Rattle.envloaded.specs.LoadedTexts.{has_names, element_of, group_text}
 use Rattle.envloaded.specs.ElementTexts.{before_element, with_elements}
-use Rattle.envloaded.specs.Loaded.{Entry, names_of, conflict_elements, conflicts_text, prereq_elements, has_groups, with_loaded, is_group, can_be_added, without_entry, dropped_from, added_to, with_conflicts_once, entry_named}
+use Rattle.envloaded.specs.Loaded.{Entry, names_of, conflict_elements, conflicts_text, prereq_elements, has_groups}
+use Rattle.envloaded.specs.Loaded.{with_loaded, is_group, can_be_added, without_entry, dropped_from, added_to}
+use Rattle.envloaded.specs.Loaded.{with_conflicts_once, entry_named}
 use Rattle.envloaded.specs.LoadedEntries.{entry_view}
 use Rattle.envloaded.proofs.ElementLemmas.{elements_more, element_written}
 use Rattle.envvars.specs.Reasons.{inconsistent}
@@ -65,7 +69,8 @@ conflicts-append [] ys = refl
 conflicts-append (x ∷ xs) ys = at (has_names x.conflicts) (conflicts-append xs ys)
   where
     at : (b : Bool) → conflict_elements (xs ++ ys) ≡ conflict_elements xs ++ conflict_elements ys
-        → cond b (element_of x.name x.conflicts ∷ conflict_elements (xs ++ ys)) (conflict_elements (xs ++ ys)) ≡ cond b (element_of x.name x.conflicts ∷ conflict_elements xs) (conflict_elements xs) ++ conflict_elements ys
+        → cond b (element_of x.name x.conflicts ∷ conflict_elements (xs ++ ys)) (conflict_elements (xs ++ ys)) ≡ cond b
+        (element_of x.name x.conflicts ∷ conflict_elements xs) (conflict_elements xs) ++ conflict_elements ys
     at true e = ap (λ (l : List Text). element_of x.name x.conflicts ∷ l) e
     at false e = e
 
@@ -74,7 +79,9 @@ prereqs-append [] ys = refl
 prereqs-append (x ∷ xs) ys = at (has_groups x.prereqs) (prereqs-append xs ys)
   where
     at : (b : Bool) → prereq_elements (xs ++ ys) ≡ prereq_elements xs ++ prereq_elements ys
-        → cond b (element_of x.name (map group_text x.prereqs) ∷ prereq_elements (xs ++ ys)) (prereq_elements (xs ++ ys)) ≡ cond b (element_of x.name (map group_text x.prereqs) ∷ prereq_elements xs) (prereq_elements xs) ++ prereq_elements ys
+        → cond b (element_of x.name (map group_text x.prereqs) ∷ prereq_elements (xs ++ ys))
+        (prereq_elements (xs ++ ys)) ≡ cond b (element_of x.name (map group_text x.prereqs) ∷ prereq_elements xs)
+        (prereq_elements xs) ++ prereq_elements ys
     at true e = ap (λ (l : List Text). element_of x.name (map group_text x.prereqs) ∷ l) e
     at false e = e
 
@@ -115,13 +122,15 @@ words_are x =
     ap (λ (b : Bool). b && list_all (λ group. is_group (texts_in group)) x.prereqs.items) (sym (list_all-map is_module_name string_bytes x.conflicts.items))
     ∙ ap (λ (b : Bool). list_all is_module_name (texts_in x.conflicts) && b) (sym (list_all-map is_group texts_in x.prereqs.items))
 
-pub added_is : (e : Environment) (x : Entry) (entries : List Entry) (b : Bool) → b ≡ can_be_added entries x → b ≡ true → added_to e x (Some entries) ≡ Ok (with_loaded e (entries ++ with_conflicts_once x ∷ []))
+pub added_is : (e : Environment) (x : Entry) (entries : List Entry) (b : Bool) → b ≡ can_be_added entries x → b ≡ true
+    → added_to e x (Some entries) ≡ Ok (with_loaded e (entries ++ with_conflicts_once x ∷ []))
 added_is e x entries b k t = rw (sym k ∙ t) refl
 
 pub not_added_is : (e : Environment) (x : Entry) (entries : List Entry) (b : Bool) → b ≡ can_be_added entries x → b ≡ false → added_to e x (Some entries) ≡ Err inconsistent
 not_added_is e x entries b k t = rw (sym k ∙ t) refl
 
-pub dropped_is : (e : Environment) (name : Text) (entries : List Entry) (b : Bool) → b ≡ has name (names_of entries) → b ≡ true → dropped_from e name (Some entries) ≡ Ok (with_loaded e (without_entry name entries))
+pub dropped_is : (e : Environment) (name : Text) (entries : List Entry) (b : Bool) → b ≡ has name (names_of entries)
+    → b ≡ true → dropped_from e name (Some entries) ≡ Ok (with_loaded e (without_entry name entries))
 dropped_is e name entries b k t = rw (sym k ∙ t) refl
 
 pub not_dropped_is : (e : Environment) (name : Text) (entries : List Entry) (b : Bool) → b ≡ has name (names_of entries) → b ≡ false → dropped_from e name (Some entries) ≡ Ok e
@@ -133,7 +142,9 @@ same_without name entries b k t = sym (without_absent name entries (sym k ∙ t)
   where
     without_absent : (name : Text) (xs : List Entry) → has name (names_of xs) ≡ false → without_entry name xs ≡ xs
     without_absent name [] h = refl
-    without_absent name (x ∷ xs) h = rw (or_left (bytes_eq name x.name) (has name (names_of xs)) h) (ap (λ (l : List Entry). x ∷ l) (without_absent name xs (or_right (bytes_eq name x.name) (has name (names_of xs)) h)))
+    without_absent name (x ∷ xs) h = rw (or_left (bytes_eq name x.name) (has name (names_of xs)) h)
+        (ap (λ (l : List Entry). x ∷ l) (without_absent name xs
+        (or_right (bytes_eq name x.name) (has name (names_of xs)) h)))
 
 -- what holds in any case
 pub on_any : {P : Type 0} (r : Result (Unit {0}) EnvFault) → P → OnOk r P
@@ -161,7 +172,8 @@ with_one false t x h = cc
 pub conflicts_written : (t : Option Text) (x : Entry) (names : List (String Global)) (begun named written : Text) → 0 < length names → map string_bytes names ≡ x.conflicts
     → begun ≡ before_element t → named ≡ begun ++ x.name → written ≡ named ++ flat_map (λ word. ampersand ∷ string_bytes word) names → Some written ≡ with_elements t (conflict_elements (x ∷ []))
 conflicts_written t x names begun named written some are h k m =
-    let words : flat_map (λ word. ampersand ∷ string_bytes word) names ≡ after_separators ampersand x.conflicts = sym (map-flattened (λ (w : Text). ampersand ∷ w) string_bytes names) ∙ ap (after_separators ampersand) are in
+    let words : flat_map (λ word. ampersand ∷ string_bytes word) names ≡ after_separators ampersand x.conflicts = sym
+    (map-flattened (λ (w : Text). ampersand ∷ w) string_bytes names) ∙ ap (after_separators ampersand) are in
     let there : has_names x.conflicts ≡ true = ap has_names (sym are) ∙ names_there names some in
     ap Some (m ∙ ap (λ (w : Text). named ++ w) words ∙ ap (λ (n : Text). n ++ after_separators ampersand x.conflicts) (k ∙ ap (λ (b : Text). b ++ x.name) h)
     ∙ element_written (before_element t) x.name x.conflicts)

@@ -1,12 +1,15 @@
 -- The list of loaded modules, in load order, how it is read from four variables and written to them, and its edits
 -- (module(1), ENVIRONMENT: LOADEDMODULES, _LMFILES_, __MODULES_LMCONFLICT, __MODULES_LMPREREQ).
 use Rattle.std.specs.Option.{option_map}
-use Rattle.std.specs.Prelude.{◌≡◌, Bool, true, false, not, ◌&&◌, ◌==◌, List, [], ◌∷◌, ◌++◌, map, filter, bytes_eq, if◌then◌else◌, Option, Some, None, Result, Ok, Err}
+use Rattle.std.specs.Prelude.{◌≡◌, Bool, true, false, not, ◌&&◌, ◌==◌, List, [], ◌∷◌, ◌++◌, map, filter, bytes_eq}
+use Rattle.std.specs.Prelude.{if◌then◌else◌, Option, Some, None, Result, Ok, Err}
 use Rattle.std.specs.List.{list_any, list_all}
 use Rattle.modulename.specs.ModuleName.{is_module_name}
 use Rattle.envvars.specs.Texts.{Text, has}
 use Rattle.envvars.specs.Fields.{colon, text_of_elements, without_repeats, elements_in, are_distinct}
-use Rattle.envloaded.specs.LoadedTexts.{names_variable, files_variable, conflicts_variable, prereqs_variable, is_empty, are_consistent, first_element, words_in, conflicts_among, prereqs_among, has_names, element_of, group_text}
+use Rattle.envloaded.specs.LoadedTexts.{names_variable, files_variable, conflicts_variable, prereqs_variable, is_empty}
+use Rattle.envloaded.specs.LoadedTexts.{are_consistent, first_element, words_in, conflicts_among, prereqs_among}
+use Rattle.envloaded.specs.LoadedTexts.{has_names, element_of, group_text}
 use Rattle.envvars.specs.Environment.{Environment, lookup}
 use Rattle.envvars.specs.Changes.{NewValue, applied}
 use Rattle.envvars.specs.Reasons.{EnvReason, inconsistent}

@@ -3,7 +3,8 @@ use Rattle.std.specs.Prelude.{◌≡◌, ◌++◌, [], ◌∷◌, List, Some, Ok
 use Rattle.envvars.specs.Texts.{Text, has}
 use Rattle.envvars.specs.Environment.{Environment, lookup}
 use Rattle.envloaded.specs.LoadedTexts.{names_variable, files_variable, conflicts_variable, prereqs_variable}
-use Rattle.envloaded.specs.Loaded.{Entry, IsLoadedList, AreLoadedInOrder, names_of, loaded_in, with_loaded, with_conflicts_once, without_entry, added_loaded, dropped_loaded}
+use Rattle.envloaded.specs.Loaded.{Entry, IsLoadedList, AreLoadedInOrder, names_of, loaded_in, with_loaded}
+use Rattle.envloaded.specs.Loaded.{with_conflicts_once, without_entry, added_loaded, dropped_loaded}
 
 -- The four texts that a list is written as are read as that list.
 abbrev pub TextsAreReadAgain : Type 0

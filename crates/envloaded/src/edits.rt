@@ -1,6 +1,7 @@
 //! Adding a module to the loaded ones, and dropping one.
 ghost use Rattle.std.specs.Prelude.{◌≡◌, ◌++◌, [], ◌∷◌, Some, map, OnOk, OnErr, IfErr};
-ghost use Rattle.envloaded.specs.Loaded.{with_loaded, with_conflicts_once, added_to, added_loaded, without_entry, dropped_from, dropped_loaded};
+ghost use Rattle.envloaded.specs.Loaded.{with_loaded, with_conflicts_once, added_to, added_loaded, without_entry};
+ghost use Rattle.envloaded.specs.Loaded.{dropped_from, dropped_loaded};
 ghost use Rattle.envloaded.specs.LoadedEntries.{entry_view};
 ghost use Rattle.envvars.specs.Reasons.{Edits};
 ghost use Rattle.envvars.specs.declared.fault.EnvFault.TheVariants.{OutOfMemory};

@@ -1,6 +1,7 @@
 //! Laws of the list of loaded modules. Each is a function that does nothing: its contract is the law, about the
 //! definitions alone.
-ghost use Rattle.envloaded.specs.LoadedLaws.{TextsAreReadAgain, ReadIsWritable, AddMakes, DropMakes, WritingLeaves, AddOrders, DropOrders, DropPreservesOrder};
+ghost use Rattle.envloaded.specs.LoadedLaws.{TextsAreReadAgain, ReadIsWritable, AddMakes, DropMakes, WritingLeaves};
+ghost use Rattle.envloaded.specs.LoadedLaws.{AddOrders, DropOrders, DropPreservesOrder};
 
 /// The four texts that a list is written as are read as that list, and a list that is read from four texts can be
 /// written.

@@ -1,10 +1,12 @@
 //! Reading the list of loaded modules from its four variables.
-ghost use Rattle.std.specs.Prelude.{◌≡◌, ◌==◌, ◌&&◌, ◌++◌, [], ◌∷◌, not, length, map, filter, bytes_eq, if◌then◌else◌, OnOk, IfOk};
+ghost use Rattle.std.specs.Prelude.{◌≡◌, ◌==◌, ◌&&◌, ◌++◌, [], ◌∷◌, not, length, map, filter, bytes_eq, if◌then◌else◌};
+ghost use Rattle.std.specs.Prelude.{OnOk, IfOk};
 ghost use Rattle.std.specs.List.{list_all};
 ghost use Rattle.std.specs.Option.{option_map, option_or};
 ghost use Rattle.modulename.specs.ModuleName.{is_module_name};
 ghost use Rattle.envvars.specs.Texts.{Text, slice_texts, texts_in};
-ghost use Rattle.envloaded.specs.LoadedTexts.{are_consistent, parts_of, is_element_of, first_element, words_in, conflicts_among, prereqs_among, names_of_group, has_names};
+ghost use Rattle.envloaded.specs.LoadedTexts.{are_consistent, parts_of, is_element_of, first_element, words_in};
+ghost use Rattle.envloaded.specs.LoadedTexts.{conflicts_among, prereqs_among, names_of_group, has_names};
 ghost use Rattle.envloaded.specs.LoadedEntries.{element_in, GivesList, GivesOrInconsistent, groups_in, entry_view};
 ghost use Rattle.envloaded.specs.Loaded.{entry_from, entries_from, loaded_in, entry_named, conflicts_in, prereqs_in};
 
@@ -163,7 +165,6 @@ fn groups_among(alloc: Global, words: &[&str]) -> Result<Vec<Vec<String>>, Alloc
     Ok(groups)
 }
 
-/// The prereqs in an element.
 fn prereq_groups(alloc: Global, element: Option<&str>) -> Result<Vec<Vec<String>>, AllocError>
     ensures { IfOk result (λ v. groups_in v ≡ prereqs_among (words_in (option_map (λ t. t.now) element.entry))) }
 {

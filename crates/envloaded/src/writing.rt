@@ -7,7 +7,9 @@ ghost use Rattle.envvars.specs.Changes.{new_value_of};
 ghost use Rattle.envvars.specs.Fields.{ampersand, without_repeats};
 ghost use Rattle.envloaded.specs.LoadedTexts.{element_of, group_text};
 ghost use Rattle.envloaded.specs.ElementTexts.{before_element, with_elements};
-ghost use Rattle.envloaded.specs.Loaded.{names_of, names_text, files_text, conflict_elements, conflicts_text, prereq_elements, prereqs_text, loaded_changes, is_path, is_group, is_entry, can_be_added, with_conflicts_once};
+ghost use Rattle.envloaded.specs.Loaded.{names_of, names_text, files_text, conflict_elements, conflicts_text};
+ghost use Rattle.envloaded.specs.Loaded.{prereq_elements, prereqs_text, loaded_changes, is_path, is_group, is_entry};
+ghost use Rattle.envloaded.specs.Loaded.{can_be_added, with_conflicts_once};
 ghost use Rattle.envloaded.specs.LoadedEntries.{entry_view};
 ghost use Rattle.envvars.specs.Texts.{has, texts_in};
 
@@ -225,7 +227,6 @@ pub fn can_be_added(list: &[Loaded], entry: &Loaded) -> bool
     is_entry(entry) && !is_loaded(list, entry.name.as_str())
 }
 
-/// The names, each once.
 fn once(alloc: Global, names: Vec<String>) -> Result<Vec<String>, AllocError>
     ensures { IfOk result (λ v. texts_in v ≡ without_repeats (texts_in names)) }
 {

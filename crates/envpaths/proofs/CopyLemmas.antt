@@ -1,5 +1,6 @@
 -- Values of variables that are compared, and copies of variables.
-use Rattle.std.proofs.Common.{◌≡◌, Bool, true, false, cond, ◌&&◌, refl, sym, ap, ◌∙◌, subst, codes, Option, Some, None, IsTrue}
+use Rattle.std.proofs.Common.{◌≡◌, Bool, true, false, cond, ◌&&◌, refl, sym, ap, ◌∙◌, subst, codes, Option, Some, None}
+use Rattle.std.proofs.Common.{IsTrue}
 use Rattle.std.specs.Prelude.{bytes_eq}
 use Rattle.std.specs.FinMap as finite
 use Rattle.envvars.specs.Texts.{Text}

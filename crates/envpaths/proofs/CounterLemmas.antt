@@ -1,5 +1,6 @@
 -- Counters and their decimals.
-use Rattle.std.proofs.Common.{◌≡◌, ℕ, ◌+◌, ◌%◌, ◌^◌, ◌<◌, ◌≤◌, Bool, true, false, ◌&&◌, ◌⊎◌, ◌≢◌, inl, inr, [], ◌∷◌, ◌++◌, refl, sym, ap, ◌∙◌, subst, arith, leb, Option, Some, None, Result, Ok, Err, get_or}
+use Rattle.std.proofs.Common.{◌≡◌, ℕ, ◌+◌, ◌%◌, ◌^◌, ◌<◌, ◌≤◌, Bool, true, false, ◌&&◌, ◌⊎◌, ◌≢◌, inl, inr, [], ◌∷◌}
+use Rattle.std.proofs.Common.{◌++◌, refl, sym, ap, ◌∙◌, subst, arith, leb, Option, Some, None, Result, Ok, Err, get_or}
 use Rattle.std.specs.Prelude.{decimal, bytes_eq, if◌then◌else◌}
 use Rattle.std.proofs.Math.ListN.{length}
 use Rattle.std.specs.Result.{OkIff}
@@ -7,7 +8,8 @@ use Rattle.std.specs.Str.Parse.{digits_value, AllDigits, ParsesUnsigned}
 use Rattle.std.proofs.lemmas.Bool.{cases_lt, false≢true}
 use Rattle.std.proofs.lemmas.Str.Parse.{IsNumeralModel, numerals_by_value, tells_digits, parse_plain, digit_at}
 use Rattle.std.proofs.lemmas.Bool.Decides.{nat_tests}
-use Rattle.std.proofs.lemmas.Fmt.{decimal_by_steps, decimal_is_IsNumeral, decimal_digit, decimal_nonempty, first_decimal, decimal-digits_value}
+use Rattle.std.proofs.lemmas.Fmt.{decimal_by_steps, decimal_is_IsNumeral, decimal_digit, decimal_nonempty}
+use Rattle.std.proofs.lemmas.Fmt.{first_decimal, decimal-digits_value}
 use Rattle.envvars.specs.Texts.{Text}
 use Rattle.envvars.specs.Escapes.{is_special, escaped}
 use Rattle.envvars.proofs.TextLemmas.{same_text, bytes_eq-same}
@@ -32,7 +34,13 @@ counter_of-decimal n low high =
 spelled_at : (t : Text) (m n : ℕ) (a b c : Bool) → leb 1 m ≡ a → leb m largest_counter ≡ b → bytes_eq t (decimal m) ≡ c → (if (a && b) && c then Some m else None) ≡ Some n → SpellsCounter t n
 spelled_at t m n true true true e f g h =
     let same : m ≡ n = cc in
-    record { low = (let l : leb 1 m ≡ true = e in grind (arith, nat_tests)); high = (let l : leb m largest_counter ≡ true = f in grind (arith, nat_tests)); spelled = same_text t (decimal m) g ∙ ap decimal same }
+    record {
+      low = (let l : leb 1 m ≡ true = e in grind (arith, nat_tests));
+      high =
+          (let l : leb m largest_counter ≡ true = f in grind (arith, nat_tests));
+      spelled = same_text t (decimal m) g
+          ∙ ap decimal same;
+    }
 spelled_at t m n true true false e f g h = cc
 spelled_at t m n true false c e f g h = cc
 spelled_at t m n false b c e f g h = cc
@@ -106,7 +114,8 @@ parsed t r v true p e h q =
     let d : t ≡ decimal (digits_value 10 t) = sym (decimal-digits_value digits t k.0.0 k.0.1 (no_zero t begun) (omega arith)) in
     sym (counter_of-SpellsCounter t v (record { low = positive_at v t (d ∙ ap decimal (sym same)) begun (cases_lt v 10); high = omega arith; spelled = d ∙ ap decimal (sym same) }))
 
-pub not_parsed : {E : Type 0} (t : Text) (r : Result ℕ E) (x : E) (b : Bool) → ParsesUnsigned 32 10 t r → b ≡ (leb 49 (get_or t 0 0) && leb (get_or t 0 0) 57) → b ≡ true → r ≡ Err x → None ≡ counter_of t
+pub not_parsed : {E : Type 0} (t : Text) (r : Result ℕ E) (x : E) (b : Bool) → ParsesUnsigned 32 10 t r
+    → b ≡ (leb 49 (get_or t 0 0) && leb (get_or t 0 0) 57) → b ≡ true → r ≡ Err x → None ≡ counter_of t
 not_parsed t r x false p e h q = absurd (false≢true h)
 not_parsed t r x true p e h q =
     let begun : (leb 49 (get_or t 0 0) && leb (get_or t 0 0) 57) ≡ true = sym e in

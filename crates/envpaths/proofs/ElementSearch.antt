@@ -1,5 +1,7 @@
 -- An element is one of a text's exactly where it stands between two delimiters, once the text has one at each end.
-use Rattle.std.proofs.Common.{◌≡◌, ℕ, ◌<◌, ◌≤◌, Bool, true, false, cond, not, ◌||◌, List, [], ◌∷◌, ◌++◌, refl, sym, ap, ◌∙◌, subst, arith, eqb, Some, None, append_assoc, length-append, take-append-drop, take as front_of, drop as cut}
+use Rattle.std.proofs.Common.{◌≡◌, ℕ, ◌<◌, ◌≤◌, Bool, true, false, cond, not, ◌||◌, List, [], ◌∷◌, ◌++◌, refl, sym, ap}
+use Rattle.std.proofs.Common.{◌∙◌, subst, arith, eqb, Some, None, append_assoc, length-append, take-append-drop}
+use Rattle.std.proofs.Common.{take as front_of, drop as cut}
 use Rattle.std.specs.Prelude.{bytes_eq}
 use Rattle.std.specs.List.{onto_first, join_with_byte}
 use Rattle.std.specs.Bool.{MatchBool}
@@ -125,7 +127,8 @@ not_found d x t lacks s =
     (ap (cut (length s.front)) s.is ∙ drop_at s.front (d ∷ (x ++ d ∷ s.rest)) (length s.front) refl ∙ ap (λ (l : Text). d ∷ l) (sym (append_assoc x (d ∷ []) s.rest)))
 
 by_search : (d : ℕ) (x t : Text) (b h : Bool) → h ≡ has x (split_elements d t) → HasNoDelimiter d x
-    → MatchBool b ((i : ℕ) × (j : ℕ) × FindsText (d ∷ (x ++ d ∷ [])) (d ∷ (t ++ d ∷ [])) (Some (i, j)) × (i ≤ j) × (j ≤ length (d ∷ (t ++ d ∷ [])))) (FindsText (d ∷ (x ++ d ∷ [])) (d ∷ (t ++ d ∷ [])) None) → b ≡ h
+    → MatchBool b ((i : ℕ) × (j : ℕ) × FindsText (d ∷ (x ++ d ∷ [])) (d ∷ (t ++ d ∷ [])) (Some (i, j)) × (i ≤ j)
+    × (j ≤ length (d ∷ (t ++ d ∷ [])))) (FindsText (d ∷ (x ++ d ∷ [])) (d ∷ (t ++ d ∷ [])) None) → b ≡ h
 by_search d x t true true e n m = refl
 by_search d x t false false e n m = refl
 by_search d x t true false e n m = absurd (false≢true (e ∙ stands_has d x t n (found d x t m.0 (cut m.1 (d ∷ (t ++ d ∷ []))) m.2.1.split)))
@@ -166,11 +169,14 @@ left_over_any x z (f ∷ fs) bs ts rs l e g h =
     let all : ts ++ z ∷ [] ≡ fs ++ x ∷ bs = cc in
     left_over x z fs bs ts rs kept all h
 
-pub without-cut_out : (d : ℕ) (x t front back r needle text kept : Text) (there : Bool) → HasNoDelimiter d x → needle ≡ d ∷ (x ++ d ∷ []) → text ≡ d ∷ (t ++ d ∷ []) → SplitsAroundMatch (FindsText needle) text front back
+pub without-cut_out : (d : ℕ) (x t front back r needle text kept : Text) (there : Bool) → HasNoDelimiter d x
+    → needle ≡ d ∷ (x ++ d ∷ []) → text ≡ d ∷ (t ++ d ∷ []) → SplitsAroundMatch (FindsText needle) text front back
     → kept ≡ front ++ d ∷ back → kept ≡ d ∷ (r ++ d ∷ []) → there ≡ has x (split_elements d r) → there ≡ false → split_elements d r ≡ without x (split_elements d t)
 without-cut_out d x t front back r needle text kept there n e f m k g h a =
     let split : text ≡ front ++ (d ∷ (x ++ d ∷ back))
-    = sym (take-append-drop m.0 text) ∙ ap (λ (l : Text). front_of m.0 text ++ l) (m.2.1.split ∙ ap (λ (l : Text). l ++ cut m.1 text) e ∙ ap (λ (l : Text). d ∷ l) (append_assoc x (d ∷ []) (cut m.1 text)))
+    = sym (take-append-drop m.0 text) ∙ ap (λ (l : Text). front_of m.0 text ++ l)
+    (m.2.1.split ∙ ap (λ (l : Text). l ++ cut m.1 text) e
+    ∙ ap (λ (l : Text). d ∷ l) (append_assoc x (d ∷ []) (cut m.1 text)))
     ∙ ap (λ (l : Text). l ++ (d ∷ (x ++ d ∷ cut m.1 text))) (sym m.3) ∙ ap (λ (l : Text). front ++ (d ∷ (x ++ d ∷ l))) (sym m.4) in
     sym (left_over_any x [] (split_elements d front) (split_elements d back) (split_elements d t) (split_elements d r) (some_parts d front)
     (sym (split_elements-append d front back) ∙ ap (split_elements d) (sym k ∙ g) ∙ split_elements-surrounded d r)

@@ -30,7 +30,9 @@ unfolding digits
 six = refl
 
 -- a counter text from before the escapes is read as it was meant, and written with them
-pub seven : pairs_text (add_all (state_of 58 (Some (codes "x" ++ 92 ∷ codes "y")) (Some (codes "x" ++ 92 ∷ codes "y:2"))) ((codes "x" ++ 92 ∷ codes "y") ∷ []) Front) ≡ Some (codes "x" ++ 92 ∷ 92 ∷ codes "y:3")
+pub seven : pairs_text (add_all (state_of 58 (Some (codes "x" ++ 92 ∷ codes "y"))
+    (Some (codes "x" ++ 92 ∷ codes "y:2"))) ((codes "x" ++ 92 ∷ codes "y") ∷ []) Front) ≡ Some
+    (codes "x" ++ 92 ∷ 92 ∷ codes "y:3")
 unfolding digits
 seven = refl
 

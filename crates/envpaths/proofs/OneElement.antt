@@ -1,5 +1,6 @@
 -- One new element beside others, where no counter is written.
-use Rattle.std.proofs.Common.{◌≡◌, ◌≢◌, ℕ, ◌+◌, ◌-◌, ◌<◌, ◌≤◌, Bool, true, false, cond, eqb, ◌||◌, List, [], ◌∷◌, refl, sym, ap, ◌∙◌, subst, arith, leb, Option, Some, None, Bor, get_or, string_bytes}
+use Rattle.std.proofs.Common.{◌≡◌, ◌≢◌, ℕ, ◌+◌, ◌-◌, ◌<◌, ◌≤◌, Bool, true, false, cond, eqb, ◌||◌, List, [], ◌∷◌, refl}
+use Rattle.std.proofs.Common.{sym, ap, ◌∙◌, subst, arith, leb, Option, Some, None, Bor, get_or, string_bytes}
 use Rattle.std.specs.Prelude.{filter, bytes_eq, if◌then◌else◌}
 use Rattle.std.specs.Option.{option_map}
 use Rattle.std.specs.List.{join_with_byte}
@@ -11,7 +12,8 @@ use Rattle.envvars.specs.Texts.{Text, has, slice_texts}
 use Rattle.envvars.specs.Fields.{text_of_elements, without, without_repeats}
 use Rattle.envvars.proofs.TextLemmas.{same_text}
 use Rattle.envpaths.specs.Paths.{PathState, put_at, one_higher, one_lower, add, add_all, drop, drop_all}
-use Rattle.envpaths.specs.PathTexts.{split_elements, state_from, state_of, elements_text, is_lone_empty, counter_fields, pairs_text}
+use Rattle.envpaths.specs.PathTexts.{split_elements, state_from, state_of, elements_text, is_lone_empty, counter_fields}
+use Rattle.envpaths.specs.PathTexts.{pairs_text}
 use Rattle.envpaths.specs.PathEdits.{AreTexts, IsWritten}
 use Rattle.envpaths.specs.declared.path.PathTexts.{PathTexts}
 use Rattle.envpaths.specs.declared.adding.End.{End}
@@ -42,7 +44,9 @@ neither true b e f = absurd (false≢true (sym e))
 none_written : (s : PathState) → ((x : Text) → s.counter x ≤ 1) → is_lone_empty s.elements ≡ false → pairs_text s ≡ None
 none_written s h l =
     ap (λ (ws : List Text). text_of_elements (counter_fields s ws))
-    (none_passes (λ x. leb 2 (s.counter x) || is_lone_empty s.elements) (without_repeats s.elements) (λ x. neither (leb 2 (s.counter x)) (is_lone_empty s.elements) (let k : s.counter x ≤ 1 = h x in grind (arith, nat_tests)) l))
+    (none_passes (λ x. leb 2 (s.counter x) || is_lone_empty s.elements) (without_repeats s.elements)
+    (λ x. neither (leb 2 (s.counter x)) (is_lone_empty s.elements)
+    (let k : s.counter x ≤ 1 = h x in grind (arith, nat_tests)) l))
 
 -- the list with the new element
 
@@ -137,7 +141,8 @@ text_of : (d : ℕ) (r : Text) (ys : List Text) → Parts d r ys → Some r ≡ 
 text_of d r [] p = let l : 0 < length {A = Text} [] = p.some in absurd (omega arith)
 text_of d r (y ∷ ys) p = ap Some (sym p.joined)
 
-shrunk_texts : (texts : PathTexts) (d : ℕ) (r x : Text) (xs rest : List Text) → Parts d r rest → length r ≢ 0 → option_map string_bytes texts.elements ≡ Some r → option_map string_bytes texts.counters ≡ None
+shrunk_texts : (texts : PathTexts) (d : ℕ) (r x : Text) (xs rest : List Text) → Parts d r rest → length r ≢ 0
+    → option_map string_bytes texts.elements ≡ Some r → option_map string_bytes texts.counters ≡ None
     → AreTexts texts d (shrunk xs rest x)
 shrunk_texts texts d r x xs rest p l e c = record {
   elements = e ∙ text_of d r rest p;
@@ -151,10 +156,13 @@ counted_once false = refl
 dropped_once : (xs : List Text) (x : Text) → drop (state_from xs []) x ≡ shrunk xs (without x xs) x
 dropped_once xs x = ap (λ (b : Bool). record { elements = cond b (without x xs) xs; counter = one_lower (state_from xs []).counter x }) (counted_once (has x xs))
 
-pub one_less_texts : (texts : PathTexts) (d : ℕ) (o p : Option Text) (xs : List Text) (t x r : Text) (empty none : Bool) → o ≡ Some t → p ≡ None → xs ≡ x ∷ [] → empty ≡ eqb (length t) 0 → empty ≡ false
+pub one_less_texts : (texts : PathTexts) (d : ℕ) (o p : Option Text) (xs : List Text) (t x r : Text) (empty none : Bool)
+    → o ≡ Some t → p ≡ None → xs ≡ x ∷ [] → empty ≡ eqb (length t) 0 → empty ≡ false
     → split_elements d r ≡ without x (split_elements d t) → none ≡ eqb (length r) 0 → none ≡ false → option_map string_bytes texts.elements ≡ Some r → option_map string_bytes texts.counters ≡ None
     → AreTexts texts d (drop_all (state_of d o p) xs)
 one_less_texts texts d o p xs t x r empty none e f g k i w h j b c =
     subst (AreTexts texts d)
-    (ap (λ (rest : List Text). shrunk (split_elements d t) rest x) w ∙ sym (dropped_once (split_elements d t) x) ∙ ap (λ (s : PathState). drop_all s (x ∷ [])) (sym (nonempty_state d t (not_empty (length t) empty k i))) ∙ rw (e, f, g) refl)
+    (ap (λ (rest : List Text). shrunk (split_elements d t) rest x) w ∙ sym (dropped_once (split_elements d t) x)
+    ∙ ap (λ (s : PathState). drop_all s (x ∷ [])) (sym (nonempty_state d t (not_empty (length t) empty k i)))
+    ∙ rw (e, f, g) refl)
     (shrunk_texts texts d r x (split_elements d t) (split_elements d r) (parts_of d r) (not_empty (length r) none h j) b c)

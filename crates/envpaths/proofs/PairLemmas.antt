@@ -1,5 +1,6 @@
 -- The texts of a path variable.
-use Rattle.std.proofs.Common.{◌≡◌, ℕ, ◌<◌, ◌≤◌, Bool, true, false, cond, ◌&&◌, ◌≢◌, eqb, suc, List, [], ◌∷◌, refl, sym, ap, arith, Option, Some, None, get_or}
+use Rattle.std.proofs.Common.{◌≡◌, ℕ, ◌<◌, ◌≤◌, Bool, true, false, cond, ◌&&◌, ◌≢◌, eqb, suc, List, [], ◌∷◌, refl, sym}
+use Rattle.std.proofs.Common.{ap, arith, Option, Some, None, get_or}
 use Rattle.std.specs.Option.{option_or}
 use Rattle.std.specs.List.{onto_first}
 use Rattle.std.specs.Bool.{MatchBool}
@@ -18,7 +19,9 @@ or_assoc None b c = refl
 
 -- a text without a backslash has the same fields, escapes or not
 
-plain_at : (a b : Bool) (k : ℕ) (c : ℕ) (fs gs hs : List Text) → b ≡ false → fs ≡ gs → cond a ([] ∷ fs) (cond (b && is_special k) (onto_first k hs) (onto_first c fs)) ≡ cond a ([] ∷ gs) (onto_first c gs)
+plain_at : (a b : Bool) (k : ℕ) (c : ℕ) (fs gs hs : List Text) → b ≡ false → fs ≡ gs
+    → cond a ([] ∷ fs) (cond (b && is_special k) (onto_first k hs) (onto_first c fs)) ≡ cond a ([] ∷ gs)
+    (onto_first c gs)
 plain_at true b k c fs gs hs e h = ap (λ (l : List Text). [] ∷ l) h
 plain_at false true k c fs gs hs e h = absurd (false≢true (sym e))
 plain_at false false k c fs gs hs e h = ap (onto_first c) h

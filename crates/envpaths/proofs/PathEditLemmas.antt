@@ -1,5 +1,6 @@
 -- Edits of path variables, put together from their parts.
-use Rattle.std.proofs.Common.{◌≡◌, Bool, true, false, ℕ, List, refl, sym, ap, ◌∙◌, subst, Option, Some, None, Result, Ok, Err, string_bytes}
+use Rattle.std.proofs.Common.{◌≡◌, Bool, true, false, ℕ, List, refl, sym, ap, ◌∙◌, subst, Option, Some, None, Result}
+use Rattle.std.proofs.Common.{Ok, Err, string_bytes}
 use Rattle.std.specs.Prelude.{if◌then◌else◌}
 use Rattle.std.specs.Option.{option_map, IfSome}
 use Rattle.std.specs.Result.{OnOk, OnErr, IfErr}
@@ -8,7 +9,8 @@ use Rattle.envvars.specs.Names.{share_name}
 use Rattle.envvars.specs.Environment.{Environment, lookup, with_value}
 use Rattle.envpaths.specs.Paths.{PathState, add_all, drop_all}
 use Rattle.envpaths.specs.PathTexts.{state_of, elements_text}
-use Rattle.envpaths.specs.PathVariables.{path_in, with_path, path_reason, counters_fit, written_path, added_path, dropped_path}
+use Rattle.envpaths.specs.PathVariables.{path_in, with_path, path_reason, counters_fit, written_path, added_path}
+use Rattle.envpaths.specs.PathVariables.{dropped_path}
 use Rattle.envpaths.specs.PathEdits.{AreTexts, IsFull}
 use Rattle.envvars.specs.Reasons.{EnvReason, reason_of, counter_full, unless, Edits}
 use Rattle.envvars.specs.declared.fault.EnvFault.{EnvFault}
@@ -35,16 +37,19 @@ if_fits old name delim s b = if b then Ok (with_path old name delim s) else Err 
 abbrev accepted : Environment → Result Environment EnvReason
 accepted e = Ok e
 
-pub add_edits : (r : Result (Unit {0}) EnvFault) (old new : Environment) (name : Text) (delim : ℕ) (xs : List Text) (end : End) (texts : PathTexts) (s : PathState) → path_reason name delim xs ≡ None → s ≡ path_in old name delim
+pub add_edits : (r : Result (Unit {0}) EnvFault) (old new : Environment) (name : Text) (delim : ℕ) (xs : List Text)
+    (end : End) (texts : PathTexts) (s : PathState) → path_reason name delim xs ≡ None → s ≡ path_in old name delim
     → counters_fit (add_all s xs end) ≡ true → AreTexts texts delim (add_all s xs end)
-    → OnOk r (new ≡ with_value (with_value old name (option_map string_bytes texts.elements)) (share_name name) (option_map string_bytes texts.counters)) → OnErr r (new ≡ old) → IfErr r (λ e. e ≡ OutOfMemory)
+    → OnOk r (new ≡ with_value (with_value old name (option_map string_bytes texts.elements)) (share_name name)
+    (option_map string_bytes texts.counters)) → OnErr r (new ≡ old) → IfErr r (λ e. e ≡ OutOfMemory)
     → Edits r old new (added_path old name delim xs end)
 add_edits (Ok u) old new name delim xs end texts s p e f a ok err only =
     ap (λ o. unless o (written_path old name delim (add_all (path_in old name delim) xs end))) p ∙ ap (λ (t : PathState). written_path old name delim (add_all t xs end)) (sym e)
     ∙ ap (λ (b : Bool). if_fits old name delim (add_all s xs end) b) f ∙ ap accepted (written old new name delim texts (add_all s xs end) a ok)
 add_edits (Err e) old new name delim xs end texts s p q f a ok err only = (err, no_cause e _ only)
 
-pub add_refused : (e : EnvFault) (old : Environment) (name : Text) (delim : ℕ) (xs : List Text) (end : End) (s : PathState) → path_reason name delim xs ≡ None → s ≡ path_in old name delim → IsFull e name (add_all s xs end)
+pub add_refused : (e : EnvFault) (old : Environment) (name : Text) (delim : ℕ) (xs : List Text) (end : End)
+    (s : PathState) → path_reason name delim xs ≡ None → s ≡ path_in old name delim → IsFull e name (add_all s xs end)
     → (old ≡ old) × IfSome (reason_of e) (λ r. added_path old name delim xs end ≡ Err r)
 add_refused e old name delim xs end s p q f = (refl, each (reason_of e) f)
   where
@@ -54,8 +59,11 @@ add_refused e old name delim xs end s p q f = (refl, each (reason_of e) f)
         ap (λ o. unless o (written_path old name delim (add_all (path_in old name delim) xs end))) p ∙ ap (λ (t : PathState). written_path old name delim (add_all t xs end)) (sym q)
         ∙ ap (λ (b : Bool). if_fits old name delim (add_all s xs end) b) h.1 ∙ ap Err (sym h.0)
 
-pub drop_edits : (r : Result (Unit {0}) EnvFault) (old new : Environment) (name : Text) (delim : ℕ) (xs : List Text) (texts : PathTexts) (s : PathState) → path_reason name delim xs ≡ None → s ≡ path_in old name delim → AreTexts texts delim (drop_all s xs)
-    → OnOk r (new ≡ with_value (with_value old name (option_map string_bytes texts.elements)) (share_name name) (option_map string_bytes texts.counters)) → OnErr r (new ≡ old) → IfErr r (λ e. e ≡ OutOfMemory)
+pub drop_edits : (r : Result (Unit {0}) EnvFault) (old new : Environment) (name : Text) (delim : ℕ) (xs : List Text)
+    (texts : PathTexts) (s : PathState) → path_reason name delim xs ≡ None → s ≡ path_in old name delim
+    → AreTexts texts delim (drop_all s xs)
+    → OnOk r (new ≡ with_value (with_value old name (option_map string_bytes texts.elements)) (share_name name)
+    (option_map string_bytes texts.counters)) → OnErr r (new ≡ old) → IfErr r (λ e. e ≡ OutOfMemory)
     → Edits r old new (dropped_path old name delim xs)
 drop_edits (Ok u) old new name delim xs texts s p e a ok err only =
     ap (λ o. unless o (accepted (with_path old name delim (drop_all (path_in old name delim) xs)))) p ∙ ap (λ (t : PathState). accepted (with_path old name delim (drop_all t xs))) (sym e)

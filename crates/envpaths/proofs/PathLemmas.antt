@@ -1,12 +1,14 @@
 -- What adds and drops keep.
-use Rattle.std.proofs.Common.{◌≡◌, ℕ, ◌+◌, ◌-◌, ◌<◌, ◌≤◌, Bool, true, false, cond, not, ◌||◌, ◌&&◌, List, [], ◌∷◌, ◌++◌, refl, sym, ap, ◌∙◌, subst, arith, ltb, leb, append-nil}
+use Rattle.std.proofs.Common.{◌≡◌, ℕ, ◌+◌, ◌-◌, ◌<◌, ◌≤◌, Bool, true, false, cond, not, ◌||◌, ◌&&◌, List, [], ◌∷◌, ◌++◌}
+use Rattle.std.proofs.Common.{refl, sym, ap, ◌∙◌, subst, arith, ltb, leb, append-nil}
 use Rattle.std.specs.Prelude.{filter, count_by, bytes_eq, if◌then◌else◌}
 use Rattle.std.proofs.lemmas.Bool.Decides.{nat_tests}
 use Rattle.std.proofs.lemmas.List.Elements.{filter-append}
 use Rattle.std.proofs.lemmas.List.Sums.{sum_by-cons}
 use Rattle.envvars.specs.Texts.{Text, has}
 use Rattle.envvars.specs.Fields.{without}
-use Rattle.envpaths.specs.Paths.{PathState, IsPathState, put_at, one_higher, one_lower, add, drop, add_front, add_back, add_all, drop_all}
+use Rattle.envpaths.specs.Paths.{PathState, IsPathState, put_at, one_higher, one_lower, add, drop, add_front, add_back}
+use Rattle.envpaths.specs.Paths.{add_all, drop_all}
 use Rattle.envpaths.specs.PathRuns.{PathChange, after, adds, drops, live, EachDropUndoes, IsPathStartWith}
 use Rattle.envpaths.specs.PathRuns.PathChange.{Add, Drop}
 use Rattle.envpaths.specs.declared.adding.End.{End}
@@ -96,7 +98,9 @@ gone g n m k f s l q = grind (arith, nat_tests)
 kept_add : (start : PathState) (live : Text → ℕ) (now : PathState) (x : Text) (end : End) → IsPathState start → Kept start live now → Kept start (one_higher live x) (add now x end)
 kept_add start live now x end is k = record {
   valid = IsPathState-add now x end k.valid;
-  order = order_add (λ y. has y start.elements) now.elements x end (has x now.elements) (λ q. absent (has x now.elements) (has x start.elements) (now.counter x) (start.counter x) (live x) (k.valid x) (is x) (k.counters x) q) ∙ k.order;
+  order = order_add (λ y. has y start.elements) now.elements x end (has x now.elements)
+      (λ q. absent (has x now.elements) (has x start.elements) (now.counter x) (start.counter x) (live x) (k.valid x)
+      (is x) (k.counters x) q) ∙ k.order;
   counters = λ y. let e : now.counter y ≡ start.counter y + live y = k.counters y in omega arith;
 }
 
@@ -107,7 +111,8 @@ take_one false n m k e h = omega arith
 kept_drop : (start : PathState) (live : Text → ℕ) (now : PathState) (x : Text) → IsPathState start → Kept start live now → 0 < live x → Kept start (one_lower live x) (drop now x)
 kept_drop start live now x is k l = record {
   valid = IsPathState-drop now x k.valid;
-  order = order_drop (λ y. has y start.elements) now.elements x (leb (now.counter x) 1) (λ q. gone (has x start.elements) (now.counter x) (start.counter x) (live x) (is x) (k.counters x) l q) ∙ k.order;
+  order = order_drop (λ y. has y start.elements) now.elements x (leb (now.counter x) 1)
+      (λ q. gone (has x start.elements) (now.counter x) (start.counter x) (live x) (is x) (k.counters x) l q) ∙ k.order;
   counters = λ y. take_one (bytes_eq y x) (now.counter y) (start.counter y) (live y) (k.counters y) (λ b. subst (λ (t : Text). 0 < live t) (sym (same_text y x b)) l);
 }
 
@@ -115,21 +120,27 @@ count_cons : (x y : Text) (xs : List Text) → count_by (bytes_eq y) (x ∷ xs) 
 count_cons x y xs = sum_by-cons (λ z. cond (bytes_eq y z) 1 0) x xs
 
 -- several at once
-kept_add_front : (start : PathState) (live : Text → ℕ) (now : PathState) (xs : List Text) → IsPathState start → Kept start live now → Kept start (λ y. live y + count_by (bytes_eq y) xs) (add_front now xs)
+kept_add_front : (start : PathState) (live : Text → ℕ) (now : PathState) (xs : List Text) → IsPathState start
+    → Kept start live now → Kept start (λ y. live y + count_by (bytes_eq y) xs) (add_front now xs)
 kept_add_front start live now [] is k = kept_more start live _ now (λ y. omega arith) k
 kept_add_front start live now (x ∷ xs) is k =
     kept_more start (one_higher (λ y. live y + count_by (bytes_eq y) xs) x) _ _ (λ y. omega (arith, count_cons x y xs)) (kept_add start _ _ x Front is (kept_add_front start live now xs is k))
 
-kept_add_back : (start : PathState) (live : Text → ℕ) (now : PathState) (xs : List Text) → IsPathState start → Kept start live now → Kept start (λ y. live y + count_by (bytes_eq y) xs) (add_back now xs)
+kept_add_back : (start : PathState) (live : Text → ℕ) (now : PathState) (xs : List Text) → IsPathState start
+    → Kept start live now → Kept start (λ y. live y + count_by (bytes_eq y) xs) (add_back now xs)
 kept_add_back start live now [] is k = kept_more start live _ now (λ y. omega arith) k
 kept_add_back start live now (x ∷ xs) is k =
-    kept_more start (λ y. one_higher live x y + count_by (bytes_eq y) xs) _ _ (λ y. omega (arith, count_cons x y xs)) (kept_add_back start (one_higher live x) (add now x Back) xs is (kept_add start live now x Back is k))
+    kept_more start (λ y. one_higher live x y + count_by (bytes_eq y) xs) _ _ (λ y. omega (arith, count_cons x y xs))
+    (kept_add_back start (one_higher live x) (add now x Back) xs is (kept_add start live now x Back is k))
 
-kept_add_all : (start : PathState) (live : Text → ℕ) (now : PathState) (xs : List Text) (end : End) → IsPathState start → Kept start live now → Kept start (λ y. live y + count_by (bytes_eq y) xs) (add_all now xs end)
+kept_add_all : (start : PathState) (live : Text → ℕ) (now : PathState) (xs : List Text) (end : End) → IsPathState start
+    → Kept start live now → Kept start (λ y. live y + count_by (bytes_eq y) xs) (add_all now xs end)
 kept_add_all start live now xs Front is k = kept_add_front start live now xs is k
 kept_add_all start live now xs Back is k = kept_add_back start live now xs is k
 
-kept_drop_all : (start : PathState) (live : Text → ℕ) (now : PathState) (xs : List Text) → IsPathState start → Kept start live now → ((y : Text) → count_by (bytes_eq y) xs ≤ live y) → Kept start (λ y. live y - count_by (bytes_eq y) xs) (drop_all now xs)
+kept_drop_all : (start : PathState) (live : Text → ℕ) (now : PathState) (xs : List Text) → IsPathState start
+    → Kept start live now → ((y : Text) → count_by (bytes_eq y) xs ≤ live y)
+    → Kept start (λ y. live y - count_by (bytes_eq y) xs) (drop_all now xs)
 kept_drop_all start live now [] is k h = kept_more start live _ now (λ y. omega arith) k
 kept_drop_all start live now (x ∷ xs) is k h =
     kept_more start (λ y. one_lower live x y - count_by (bytes_eq y) xs) _ _ (λ y. omega (arith, count_cons x y xs))
@@ -159,7 +170,10 @@ either_test h g n m k e f s = grind (arith, nat_tests)
 
 pub IsPathStartWith-after : (start : PathState) (edits : List PathChange) → IsPathState start → EachDropUndoes edits → IsPathStartWith start (live edits) (after edits start)
 IsPathStartWith-after start edits is each =
-    let k : Kept start (live edits) (after edits start) = kept_more start (λ x. 0 + adds edits x - drops edits x) (live edits) (after edits start) (λ x. omega arith) (kept_after start (λ _. 0) start edits is (nothing_live start is) (λ done rest e x. let b : drops done x ≤ adds done x = each done rest e x in omega arith)) in
+    let k : Kept start (live edits) (after edits start) = kept_more start (λ x. 0 + adds edits x - drops edits x)
+    (live edits) (after edits start) (λ x. omega arith)
+    (kept_after start (λ _. 0) start edits is (nothing_live start is)
+    (λ done rest e x. let b : drops done x ≤ adds done x = each done rest e x in omega arith)) in
     record {
       order = k.order;
       inside = λ x. either_test _ _ _ _ _ (k.valid x) (is x) (k.counters x);
@@ -202,7 +216,9 @@ stands_from start now live is k = record {
 pub IsPathStartWith-start : (start : PathState) → IsPathState start → IsPathStartWith start (λ _. 0) start
 IsPathStartWith-start start is = stands_from start start (λ _. 0) is (nothing_live start is)
 
-pub IsPathStartWith-add_all : (start now : PathState) (live : Text → ℕ) (xs : List Text) (end : End) → IsPathState start → IsPathStartWith start live now → IsPathStartWith start (λ x. live x + count_by (bytes_eq x) xs) (add_all now xs end)
+pub IsPathStartWith-add_all : (start now : PathState) (live : Text → ℕ) (xs : List Text) (end : End) → IsPathState start
+    → IsPathStartWith start live now → IsPathStartWith start (λ x. live x + count_by (bytes_eq x) xs)
+    (add_all now xs end)
 IsPathStartWith-add_all start now live xs end is s = stands_from start (add_all now xs end) _ is (kept_add_all start live now xs end is (kept_from start now live is s))
 
 pub IsPathStartWith-drop_all : (start now : PathState) (live : Text → ℕ) (xs : List Text) → IsPathState start → IsPathStartWith start live now → ((x : Text) → count_by (bytes_eq x) xs ≤ live x)

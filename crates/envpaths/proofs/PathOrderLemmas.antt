@@ -1,5 +1,6 @@
 -- What edits of path variables leave in an environment.
-use Rattle.std.proofs.Common.{◌≡◌, ℕ, ◌-◌, ◌≤◌, Bool, true, false, cond, not, ◌||◌, ◌&&◌, List, [], ◌∷◌, ◌++◌, refl, sym, ap, ◌∙◌, subst, arith, ltb, leb, eqb, Option, Some, None, Result, Ok, Err}
+use Rattle.std.proofs.Common.{◌≡◌, ℕ, ◌-◌, ◌≤◌, Bool, true, false, cond, not, ◌||◌, ◌&&◌, List, [], ◌∷◌, ◌++◌, refl}
+use Rattle.std.proofs.Common.{sym, ap, ◌∙◌, subst, arith, ltb, leb, eqb, Option, Some, None, Result, Ok, Err}
 use Rattle.std.specs.Prelude.{bytes_eq, if◌then◌else◌}
 use Rattle.std.specs.List.{list_all, list_any, AllByRecursion}
 use Rattle.std.proofs.Math.ListN.{length}
@@ -10,9 +11,11 @@ use Rattle.std.specs.Option.{option_or}
 use Rattle.envvars.specs.Names.{share_name, name_reason}
 use Rattle.envvars.specs.Environment.{Environment, lookup, with_value}
 use Rattle.envvars.specs.Fields.{without}
-use Rattle.envpaths.specs.Paths.{PathState, IsPathState, CountersFit, largest_counter, put_at, add, drop, add_front, add_back, add_all, drop_all}
+use Rattle.envpaths.specs.Paths.{PathState, IsPathState, CountersFit, largest_counter, put_at, add, drop, add_front}
+use Rattle.envpaths.specs.Paths.{add_back, add_all, drop_all}
 use Rattle.envpaths.specs.PathTexts.{is_delimiter, HasNoDelimiter, IsWritable, state_of, elements_text, pairs_text}
-use Rattle.envpaths.specs.PathVariables.{path_in, with_path, is_element, counters_fit, path_reason, added_path, dropped_path, written_path}
+use Rattle.envpaths.specs.PathVariables.{path_in, with_path, is_element, counters_fit, path_reason, added_path}
+use Rattle.envpaths.specs.PathVariables.{dropped_path, written_path}
 use Rattle.envpaths.specs.PathOrder.{IsPathInOrder, LeavesPath}
 use Rattle.envvars.specs.Reasons.{EnvReason, unless, counter_full, bad_value}
 use Rattle.envpaths.specs.declared.adding.End.{End}
@@ -91,7 +94,8 @@ fits_at n false e k = let l : ltb 0 n ≡ false = sym e in grind (arith, nat_tes
 fits_each : (s : PathState) → IsPathState s → counters_fit s ≡ true → CountersFit s
 fits_each s is f x = fits_at (s.counter x) (has x s.elements) (is x) (λ h. passes_each (λ y. leb (s.counter y) largest_counter) x s.elements f h)
 
-pub IsWritable-add_all : (d : ℕ) (s : PathState) (xs : List Text) (end : End) → IsWritable d s → list_all (is_element d) xs ≡ true → counters_fit (add_all s xs end) ≡ true → IsWritable d (add_all s xs end)
+pub IsWritable-add_all : (d : ℕ) (s : PathState) (xs : List Text) (end : End) → IsWritable d s
+    → list_all (is_element d) xs ≡ true → counters_fit (add_all s xs end) ≡ true → IsWritable d (add_all s xs end)
 IsWritable-add_all d s xs end w e f =
     let sound = sound_all d s xs end e (record { valid = w.valid; no_delimiter = w.no_delimiter }) in
     record { valid = sound.valid; fit = fits_each (add_all s xs end) sound.valid f; no_delimiter = sound.no_delimiter }
@@ -194,7 +198,8 @@ leaves old new name d s a = record {
   others = λ q h k. ap (λ (e : Environment). lookup e q) a.written ∙ lookup-others old name d s q h k;
 }
 
-pub LeavesPath-added : (old new : Environment) (name : Text) (d : ℕ) (xs : List Text) (end : End) → added_path old name d xs end ≡ Ok new → LeavesPath old new name d (add_all (path_in old name d) xs end)
+pub LeavesPath-added : (old new : Environment) (name : Text) (d : ℕ) (xs : List Text) (end : End)
+    → added_path old name d xs end ≡ Ok new → LeavesPath old new name d (add_all (path_in old name d) xs end)
 LeavesPath-added old new name d xs end h = leaves old new name d _ (add_accepts old new name d xs end h)
 
 pub LeavesPath-dropped : (old new : Environment) (name : Text) (d : ℕ) (xs : List Text) → dropped_path old name d xs ≡ Ok new → LeavesPath old new name d (drop_all (path_in old name d) xs)

@@ -1,5 +1,7 @@
 -- Path states, edited by a table of counters.
-use Rattle.std.proofs.Common.{◌≡◌, ℕ, ◌+◌, ◌-◌, ◌%◌, suc, ◌<◌, ◌≤◌, Bool, true, false, cond, not, ◌||◌, ◌&&◌, List, [], ◌∷◌, ◌++◌, refl, sym, ap, ◌∙◌, subst, arith, leb, Option, Some, None, Result, Bor, take, get_or, take_all, append_assoc, reverse, drop as cut}
+use Rattle.std.proofs.Common.{◌≡◌, ℕ, ◌+◌, ◌-◌, ◌%◌, suc, ◌<◌, ◌≤◌, Bool, true, false, cond, not, ◌||◌, ◌&&◌, List, []}
+use Rattle.std.proofs.Common.{◌∷◌, ◌++◌, refl, sym, ap, ◌∙◌, subst, arith, leb, Option, Some, None, Result, Bor, take}
+use Rattle.std.proofs.Common.{get_or, take_all, append_assoc, reverse, drop as cut}
 use Rattle.std.specs.Prelude.{filter, bytes_eq, unwrap_or, is_some, if◌then◌else◌}
 use Rattle.std.specs.List.{list_all}
 use Rattle.std.specs.HashMap.{UpdatesBy}
@@ -21,7 +23,8 @@ use Rattle.envpaths.specs.PathVariables.{counters_fit}
 use Rattle.envpaths.specs.PathEdits.{IsFull}
 use Rattle.envvars.specs.Reasons.{EnvReason, reason_of, counter_full}
 use Rattle.envvars.specs.declared.fault.EnvFault.{EnvFault}
-use Rattle.envpaths.specs.Tables.{CounterTable, counter_in, count_in, one_for_each, overwritten_by, state_from_table, HasCountersOf, HaveSameElements, raised, lowered, with_new_element, kept}
+use Rattle.envpaths.specs.Tables.{CounterTable, counter_in, count_in, one_for_each, overwritten_by, state_from_table}
+use Rattle.envpaths.specs.Tables.{HasCountersOf, HaveSameElements, raised, lowered, with_new_element, kept}
 use Rattle.envpaths.specs.declared.adding.End.{End}
 use Rattle.envpaths.specs.declared.adding.End.TheVariants.{Front, Back}
 use Rattle.envvars.proofs.TextLemmas.{same_text, bytes_eq-same, bytes_eq-symmetric}
@@ -72,7 +75,8 @@ noted_at true o k j c e h = rw (h refl, ← e) refl
 noted_at false None k j c e h = refl
 noted_at false (Some i) k j c e h = refl
 
-pub noted : (m n : CounterTable) (x number : Text) (k j : ℕ) → Some k ≡ counter_of number → Some j ≡ m x → ((y : Text) → n y ≡ cond (bytes_eq y x) (Some k) (m y)) → (y : Text) → n y ≡ overwritten_by ((x, number) ∷ []) m y
+pub noted : (m n : CounterTable) (x number : Text) (k j : ℕ) → Some k ≡ counter_of number → Some j ≡ m x
+    → ((y : Text) → n y ≡ cond (bytes_eq y x) (Some k) (m y)) → (y : Text) → n y ≡ overwritten_by ((x, number) ∷ []) m y
 noted m n x number k j e f g y = g y ∙ noted_at (bytes_eq y x) (m y) k j (counter_of number) e (λ b. ap m (same_text y x b) ∙ sym f)
 
 -- pairs from the last to the first
@@ -80,7 +84,9 @@ noted m n x number k j e f g y = g y ∙ noted_at (bytes_eq y x) (m y) k j (coun
 counter_in_pairs-push : (x : Text) (ps : List (Text × Text)) (p : Text × Text) → counter_in_pairs x (ps ++ p ∷ []) ≡ option_or (counter_in_pairs x ps) (counter_in_pairs x (p ∷ []))
 counter_in_pairs-push x [] p = refl
 counter_in_pairs-push x (q ∷ qs) p =
-    ap (option_or (if bytes_eq x q.0 then counter_of q.1 else None)) (counter_in_pairs-push x qs p) ∙ sym (or_assoc (if bytes_eq x q.0 then counter_of q.1 else None) (counter_in_pairs x qs) (counter_in_pairs x (p ∷ [])))
+    ap (option_or (if bytes_eq x q.0 then counter_of q.1 else None)) (counter_in_pairs-push x qs p)
+    ∙ sym (or_assoc (if bytes_eq x q.0 then counter_of q.1 else None) (counter_in_pairs x qs)
+    (counter_in_pairs x (p ∷ [])))
 
 over_at : (a b : Option ℕ) (o : Option ℕ) → option_map (λ k. unwrap_or a k) (option_map (λ k. unwrap_or b k) o) ≡ option_map (λ k. unwrap_or (option_or a b) k) o
 over_at a b None = refl
@@ -93,11 +99,16 @@ paired-push (x ∷ []) e n h = absurd (omega arith)
 paired-push (x ∷ y ∷ ys) e n h = ap (λ (l : List (Text × Text)). (x, y) ∷ l) (paired-push ys e n (omega arith))
 
 pub note_turn : (m n : CounterTable) (rest before : List (Bor Text)) (x number : Bor Text) (all : CounterTable) → rest ≡ before ++ x ∷ number ∷ [] → length (slice_texts before) % 2 ≡ 0
-    → ((y : Text) → n y ≡ overwritten_by ((x.now, number.now) ∷ []) m y) → ((y : Text) → overwritten_by (paired (slice_texts rest)) m y ≡ all y) → (y : Text) → overwritten_by (paired (slice_texts before)) n y ≡ all y
+    → ((y : Text) → n y ≡ overwritten_by ((x.now, number.now) ∷ []) m y)
+    → ((y : Text) → overwritten_by (paired (slice_texts rest)) m y ≡ all y) → (y : Text)
+    → overwritten_by (paired (slice_texts before)) n y ≡ all y
 note_turn m n rest before x number all w v f h y =
     ap (option_map (λ k. unwrap_or (counter_in_pairs y (paired (slice_texts before))) k)) (f y)
     ∙ over_at (counter_in_pairs y (paired (slice_texts before))) (counter_in_pairs y ((x.now, number.now) ∷ [])) (m y)
-    ∙ ap (λ c. option_map (λ k. unwrap_or c k) (m y)) (sym (ap (counter_in_pairs y) (ap (λ (zs : List (Bor Text)). paired (slice_texts zs)) w ∙ ap paired (map-append (λ z. z.now) before (x ∷ number ∷ [])) ∙ paired-push (slice_texts before) x.now number.now v)
+    ∙ ap (λ c. option_map (λ k. unwrap_or c k) (m y)) (sym
+    (ap (counter_in_pairs y) (ap (λ (zs : List (Bor Text)). paired (slice_texts zs)) w
+    ∙ ap paired (map-append (λ z. z.now) before (x ∷ number ∷ []))
+    ∙ paired-push (slice_texts before) x.now number.now v)
     ∙ counter_in_pairs-push y (paired (slice_texts before)) (x.now, number.now)))
     ∙ h y
 
@@ -117,7 +128,9 @@ empty_at true false c d e h = refl
 empty_at false true c d e h = absurd (false≢true e)
 empty_at false false c d e h = refl
 
-same_state_of : (delim : ℕ) (t : Option Text) (xs : List Text) (ps : List (Text × Text)) (table : CounterTable) → xs ≡ elements_of delim t ps → ((x : Text) → table x ≡ overwritten_by ps (one_for_each xs) x) → state_from_table xs table ≡ state_from_pairs delim t ps
+same_state_of : (delim : ℕ) (t : Option Text) (xs : List Text) (ps : List (Text × Text)) (table : CounterTable)
+    → xs ≡ elements_of delim t ps → ((x : Text) → table x ≡ overwritten_by ps (one_for_each xs) x)
+    → state_from_table xs table ≡ state_from_pairs delim t ps
 same_state_of delim t xs ps table e f =
     same_state _ _ e (λ x. ap (λ o. unwrap_or o 0) (f x) ∙ counts_as (has x xs) (counter_in_pairs x ps) ∙ ap (λ (zs : List Text). if has x zs then unwrap_or (counter_in_pairs x ps) 1 else 0) e)
   where
@@ -126,22 +139,31 @@ same_state_of delim t xs ps table e f =
     counts_as false c = refl
 
 -- the elements and the counters that were read are the state
-pub read_state : (delim : ℕ) (t : Option Text) (xs ys : List (Bor Text)) (ps : List (Text × Text)) (old table : CounterTable) → slice_texts xs ≡ elements_of delim t ps → ys ≡ xs → ((x : Text) → old x ≡ one_for_each (slice_texts ys) x)
+pub read_state : (delim : ℕ) (t : Option Text) (xs ys : List (Bor Text)) (ps : List (Text × Text))
+    (old table : CounterTable) → slice_texts xs ≡ elements_of delim t ps → ys ≡ xs
+    → ((x : Text) → old x ≡ one_for_each (slice_texts ys) x)
     → ((x : Text) → table x ≡ overwritten_by ps old x) → state_from_table (slice_texts xs) table ≡ state_from_pairs delim t ps
 read_state delim t xs ys ps old table e s o f =
     same_state_of delim t (slice_texts xs) ps table e (λ x. f x ∙ ap (option_map (λ k. unwrap_or (counter_in_pairs x ps) k)) (o x ∙ ap (λ (zs : List (Bor Text)). one_for_each (slice_texts zs) x) s))
 
-pub read_table : (xs ys : List (Bor Text)) (ps : List (Text × Text)) (old table : CounterTable) → ys ≡ xs → ((x : Text) → old x ≡ one_for_each (slice_texts ys) x) → ((x : Text) → table x ≡ overwritten_by ps old x) → HasCountersOf (slice_texts xs) table
+pub read_table : (xs ys : List (Bor Text)) (ps : List (Text × Text)) (old table : CounterTable) → ys ≡ xs
+    → ((x : Text) → old x ≡ one_for_each (slice_texts ys) x) → ((x : Text) → table x ≡ overwritten_by ps old x)
+    → HasCountersOf (slice_texts xs) table
 read_table xs ys ps old table s o f x =
-    ap is_some (f x ∙ ap (option_map (λ k. unwrap_or (counter_in_pairs x ps) k)) (o x ∙ ap (λ (zs : List (Bor Text)). one_for_each (slice_texts zs) x) s)) ∙ kept_is (has x (slice_texts xs)) (counter_in_pairs x ps)
+    ap is_some (f x ∙ ap (option_map (λ k. unwrap_or (counter_in_pairs x ps) k))
+    (o x ∙ ap (λ (zs : List (Bor Text)). one_for_each (slice_texts zs) x) s))
+    ∙ kept_is (has x (slice_texts xs)) (counter_in_pairs x ps)
   where
     kept_is : (h : Bool) (c : Option ℕ) → is_some (option_map (λ k. unwrap_or c k) (if h then Some 1 else None)) ≡ h
     kept_is true c = refl
     kept_is false c = refl
 
 -- the pairs are those of the text
-pub read_again : {P E : Type 0} (r : Result P E) (F : P → PathState) (delim : ℕ) (t u v : Option Text) (ps : List (Text × Text)) → ps ≡ pairs_of u → v ≡ u → IfOk r (λ p. F p ≡ state_from_pairs delim t ps) → IfOk r (λ p. F p ≡ state_of delim t v)
-read_again r F delim t u v ps e f h = subst (λ (o : Option Text). IfOk r (λ p. F p ≡ state_of delim t o)) (sym f) (subst (λ (qs : List (Text × Text)). IfOk r (λ p. F p ≡ state_from_pairs delim t qs)) e h)
+pub read_again : {P E : Type 0} (r : Result P E) (F : P → PathState) (delim : ℕ) (t u v : Option Text)
+    (ps : List (Text × Text)) → ps ≡ pairs_of u → v ≡ u → IfOk r (λ p. F p ≡ state_from_pairs delim t ps)
+    → IfOk r (λ p. F p ≡ state_of delim t v)
+read_again r F delim t u v ps e f h = subst (λ (o : Option Text). IfOk r (λ p. F p ≡ state_of delim t o)) (sym f)
+    (subst (λ (qs : List (Text × Text)). IfOk r (λ p. F p ≡ state_from_pairs delim t qs)) e h)
 
 -- a map of the code as a table
 
@@ -150,7 +172,8 @@ pub counter_given : {S : Type 0} (m n : IndexMap (Bor Text) ℕ S) (x : Text) (k
     → (y : Text) → counter_in n y ≡ cond (bytes_eq y x) (Some k) (counter_in m y)
 counter_given m n x k u y = hash_map_updates_str x m n (Some k) u y ∙ ap (λ (b : Bool). cond b (Some k) (counter_in m y)) (bytes_eq-symmetric x y)
 
-pub counter_raised : {S : Type 0} (m n : IndexMap (Bor Text) ℕ S) (x : Text) (k : ℕ) → k ≡ count_in (counter_in m) x → UpdatesBy (λ y z. bytes_eq y.now z.now) (λ z. bytes_eq x z.now) m n (Some (k + 1))
+pub counter_raised : {S : Type 0} (m n : IndexMap (Bor Text) ℕ S) (x : Text) (k : ℕ) → k ≡ count_in (counter_in m) x
+    → UpdatesBy (λ y z. bytes_eq y.now z.now) (λ z. bytes_eq x z.now) m n (Some (k + 1))
     → (y : Text) → counter_in n y ≡ raised (counter_in m) x y
 counter_raised m n x k e u y =
     hash_map_updates_str x m n (Some (k + 1)) u y ∙ ap (λ (b : Bool). cond b (Some (k + 1)) (counter_in m y)) (bytes_eq-symmetric x y)
@@ -167,7 +190,8 @@ counter_dropped m n x k e l u y =
     ∙ lowered_to (bytes_eq y x) (counter_in m y) None (if leb (count_in (counter_in m) x) 1 then None else Some (count_in (counter_in m) x - 1))
     (sym (ap (λ c. if leb c 1 then None else Some (c - 1)) (sym e) ∙ ap (λ (b : Bool). if b then None else Some (k - 1)) one))
 
-pub counter_lowered : {S : Type 0} (m n : IndexMap (Bor Text) ℕ S) (x : Text) (k : ℕ) → k ≡ count_in (counter_in m) x → 1 < k → UpdatesBy (λ y z. bytes_eq y.now z.now) (λ z. bytes_eq x z.now) m n (Some (k - 1))
+pub counter_lowered : {S : Type 0} (m n : IndexMap (Bor Text) ℕ S) (x : Text) (k : ℕ) → k ≡ count_in (counter_in m) x
+    → 1 < k → UpdatesBy (λ y z. bytes_eq y.now z.now) (λ z. bytes_eq x z.now) m n (Some (k - 1))
     → (y : Text) → counter_in n y ≡ lowered (counter_in m) x y
 counter_lowered m n x k e l u y =
     let more : leb k 1 ≡ false = grind (arith, nat_tests) in
@@ -185,7 +209,8 @@ raised_count : (b : Bool) (o p : Option ℕ) → (b ≡ true → p ≡ o) → un
 raised_count true o p e = ap (λ (z : Option ℕ). unwrap_or z 0 + 1) (e refl)
 raised_count false o p e = omega arith
 
-pub add-state_from_table : (xs : List Text) (table : CounterTable) (x : Text) (end : End) → HasCountersOf xs table → add (state_from_table xs table) x end ≡ state_from_table (grown xs table x end) (raised table x)
+pub add-state_from_table : (xs : List Text) (table : CounterTable) (x : Text) (end : End) → HasCountersOf xs table
+    → add (state_from_table xs table) x end ≡ state_from_table (grown xs table x end) (raised table x)
 add-state_from_table xs table x end h = same_state _ _
     (ap (λ (b : Bool). if b then xs else put_at xs x end) (sym (h x)))
     (λ y. raised_count (bytes_eq y x) (table x) (table y) (λ b. ap table (same_text y x b)))
@@ -219,7 +244,9 @@ Adds-raised m n xs ys x end k e g l = record {
   still_fits = λ y. subst (λ o. unwrap_or o 0 ≤ largest_counter) (sym (e y)) (raised_small (bytes_eq y x) (count_in m x) largest_counter (m y) l (k.still_fits y));
 }
 
-pub added_state : (m n : CounterTable) (xs ys : List Text) (x : Text) (end : End) → Adds m xs → ((y : Text) → n y ≡ raised m x y) → ys ≡ grown xs m x end → state_from_table ys n ≡ add (state_from_table xs m) x end
+pub added_state : (m n : CounterTable) (xs ys : List Text) (x : Text) (end : End) → Adds m xs
+    → ((y : Text) → n y ≡ raised m x y) → ys ≡ grown xs m x end
+    → state_from_table ys n ≡ add (state_from_table xs m) x end
 added_state m n xs ys x end k e g = ap (λ (zs : List Text). state_from_table zs n) g ∙ same_stated (grown xs m x end) (raised m x) n e ∙ sym (add-state_from_table xs m x end k.fits_to)
 
 -- a state with a counter past the largest
@@ -249,7 +276,8 @@ IsOver-add_front : (s : PathState) (xs : List Text) → IsOver s → IsOver (add
 IsOver-add_front s [] o = o
 IsOver-add_front s (x ∷ xs) o = IsOver-add (add_front s xs) x Front (IsOver-add_front s xs o)
 
-not_all : (p : Text → Bool) (x y : Text) (ys : List Text) (b h : Bool) → bytes_eq x y ≡ b → has x ys ≡ h → (b || h) ≡ true → p x ≡ false → (h ≡ true → list_all p ys ≡ false) → (p y && list_all p ys) ≡ false
+not_all : (p : Text → Bool) (x y : Text) (ys : List Text) (b h : Bool) → bytes_eq x y ≡ b → has x ys ≡ h
+    → (b || h) ≡ true → p x ≡ false → (h ≡ true → list_all p ys ≡ false) → (p y && list_all p ys) ≡ false
 not_all p x y ys true h e f g q k = ap (λ (c : Bool). c && list_all p ys) (ap p (sym (same_text x y e)) ∙ q)
 not_all p x y ys false true e f g q k = ap (λ (c : Bool). p y && c) (k refl) ∙ and_false (p y)
   where
@@ -294,12 +322,16 @@ pub add_front-push : (s : PathState) (xs : List Text) (x : Text) → add_front s
 add_front-push s [] x = refl
 add_front-push s (y ∷ ys) x = ap (λ (t : PathState). add t y Front) (add_front-push s ys x)
 
-pub full_front : (m : CounterTable) (xs : List Text) (x : Text) (before : List Text) → Adds m xs → largest_counter ≤ count_in m x → counters_fit (add_front (state_from_table xs m) (before ++ x ∷ [])) ≡ false
-full_front m xs x before k l = over_fails _ (subst IsOver (sym (add_front-push (state_from_table xs m) before x)) (IsOver-add_front (add (state_from_table xs m) x Front) before (full_add m xs x Front k l)))
+pub full_front : (m : CounterTable) (xs : List Text) (x : Text) (before : List Text) → Adds m xs
+    → largest_counter ≤ count_in m x → counters_fit (add_front (state_from_table xs m) (before ++ x ∷ [])) ≡ false
+full_front m xs x before k l = over_fails _ (subst IsOver (sym (add_front-push (state_from_table xs m) before x))
+    (IsOver-add_front (add (state_from_table xs m) x Front) before (full_add m xs x Front k l)))
 
 -- the turns of the loops
 
-pub back_turn : (m n : CounterTable) (xs ys : List Text) (more : List (Bor Text)) (i : ℕ) (d : Bor Text) (all : PathState) → i < length more → Adds m xs × (add_back (state_from_table xs m) (slice_texts (cut i more)) ≡ all)
+pub back_turn : (m n : CounterTable) (xs ys : List Text) (more : List (Bor Text)) (i : ℕ) (d : Bor Text)
+    (all : PathState) → i < length more → Adds m xs × (add_back (state_from_table xs m) (slice_texts (cut i more)) ≡
+    all)
     → ((y : Text) → n y ≡ raised m (get_or more i d).now y) → ys ≡ with_new_element xs m (get_or more i d).now → count_in m (get_or more i d).now < largest_counter
     → Adds n ys × (add_back (state_from_table ys n) (slice_texts (cut (i + 1) more)) ≡ all)
 back_turn m n xs ys more i d all l k e g s = (
@@ -312,30 +344,39 @@ pub back_done : (s all : PathState) (more : List (Bor Text)) (i : ℕ) → lengt
 back_done s all more i l h = sym (at_drop_all (λ (zs : List (Bor Text)). add_back s (slice_texts zs)) more i l) ∙ h
 
 -- a refusal for a full counter is one for the whole
-pub full_for : (e : EnvFault) (name : Text) (n : ℕ) (s : PathState) → IfSome (reason_of e) (λ r. (r ≡ counter_full name) × (largest_counter ≤ n)) → (largest_counter ≤ n → counters_fit s ≡ false) → IsFull e name s
+pub full_for : (e : EnvFault) (name : Text) (n : ℕ) (s : PathState)
+    → IfSome (reason_of e) (λ r. (r ≡ counter_full name) × (largest_counter ≤ n))
+    → (largest_counter ≤ n → counters_fit s ≡ false) → IsFull e name s
 full_for e name n s h f = each (reason_of e) h
   where
     each : (o : Option EnvReason) → IfSome o (λ r. (r ≡ counter_full name) × (largest_counter ≤ n)) → IfSome o (λ r. (r ≡ counter_full name) × (counters_fit s ≡ false))
     each None h = h
     each (Some r) h = (h.0, f h.1)
 
-pub back_full : (e : EnvFault) (name : Text) (m : CounterTable) (xs : List Text) (more : List (Bor Text)) (i : ℕ) (d : Bor Text) (all : PathState) → i < length more → Adds m xs × (add_back (state_from_table xs m) (slice_texts (cut i more)) ≡ all)
+pub back_full : (e : EnvFault) (name : Text) (m : CounterTable) (xs : List Text) (more : List (Bor Text)) (i : ℕ)
+    (d : Bor Text) (all : PathState) → i < length more → Adds m xs
+    × (add_back (state_from_table xs m) (slice_texts (cut i more)) ≡ all)
     → IfSome (reason_of e) (λ r. (r ≡ counter_full name) × (largest_counter ≤ count_in m (get_or more i d).now)) → IsFull e name all
 back_full e name m xs more i d all l k h =
     full_for e name (count_in m (get_or more i d).now) all h
-    (λ o. ap counters_fit (sym k.1 ∙ ap (λ (zs : List (Bor Text)). add_back (state_from_table xs m) (slice_texts zs)) (drop_more more i d l)) ∙ full_back m xs (get_or more i d).now (slice_texts (cut (i + 1) more)) k.0 o)
+    (λ o. ap counters_fit (sym k.1 ∙ ap (λ (zs : List (Bor Text)). add_back (state_from_table xs m) (slice_texts zs))
+    (drop_more more i d l)) ∙ full_back m xs (get_or more i d).now (slice_texts (cut (i + 1) more)) k.0 o)
 
 slice_texts-append : (xs ys : List (Bor Text)) → slice_texts (xs ++ ys) ≡ slice_texts xs ++ slice_texts ys
 slice_texts-append xs ys = map-append (λ x. x.now) xs ys
 
 slice_texts-reverse : (xs : List (Bor Text)) → slice_texts (reverse xs) ≡ reverse (slice_texts xs)
 slice_texts-reverse [] = refl
-slice_texts-reverse (x ∷ xs) = ap slice_texts (reverse-append (x ∷ []) xs) ∙ slice_texts-append (reverse xs) (x ∷ []) ∙ ap (λ (l : List Text). l ++ x.now ∷ []) (slice_texts-reverse xs) ∙ sym (reverse-append (x.now ∷ []) (slice_texts xs))
+slice_texts-reverse (x ∷ xs) = ap slice_texts (reverse-append (x ∷ []) xs) ∙ slice_texts-append (reverse xs) (x ∷ [])
+    ∙ ap (λ (l : List Text). l ++ x.now ∷ []) (slice_texts-reverse xs)
+    ∙ sym (reverse-append (x.now ∷ []) (slice_texts xs))
 
 reverse-front : (xs : List Text) (x : Text) (ys : List Text) → reverse (xs ++ x ∷ []) ++ ys ≡ x ∷ (reverse xs ++ ys)
 reverse-front xs x ys = ap (λ (l : List Text). l ++ ys) (reverse-append xs (x ∷ []))
 
-grown_front : (front xs : List Text) (m : CounterTable) (x : Text) (b : Bool) → is_some (m x) ≡ b → reverse (if b then front else front ++ x ∷ []) ++ xs ≡ (if b then reverse front ++ xs else x ∷ (reverse front ++ xs))
+grown_front : (front xs : List Text) (m : CounterTable) (x : Text) (b : Bool) → is_some (m x) ≡ b
+    → reverse (if b then front else front ++ x ∷ []) ++ xs ≡
+    (if b then reverse front ++ xs else x ∷ (reverse front ++ xs))
 grown_front front xs m x true e = refl
 grown_front front xs m x false e = reverse-front front x xs
 
@@ -351,10 +392,14 @@ front_turn m n front ys xs rest before x all w k e g s =
           ∙ ap (add_front (state_from_table (reverse front ++ xs) m)) (sym (ap slice_texts w ∙ slice_texts-append before (x ∷ []))) ∙ k.1,
     )
 
-pub front_full : (e : EnvFault) (name : Text) (m : CounterTable) (xs : List Text) (rest before : List (Bor Text)) (x : Bor Text) (all : PathState) → rest ≡ before ++ x ∷ [] → Adds m xs × (add_front (state_from_table xs m) (slice_texts rest) ≡ all)
+pub front_full : (e : EnvFault) (name : Text) (m : CounterTable) (xs : List Text) (rest before : List (Bor Text))
+    (x : Bor Text) (all : PathState) → rest ≡ before ++ x ∷ [] → Adds m xs
+    × (add_front (state_from_table xs m) (slice_texts rest) ≡ all)
     → IfSome (reason_of e) (λ r. (r ≡ counter_full name) × (largest_counter ≤ count_in m x.now)) → IsFull e name all
 front_full e name m xs rest before x all w k h =
-    full_for e name (count_in m x.now) all h (λ o. ap counters_fit (sym k.1) ∙ ap (λ (l : List Text). counters_fit (add_front (state_from_table xs m) l)) (ap slice_texts w ∙ slice_texts-append before (x ∷ [])) ∙ full_front m xs x.now (slice_texts before) k.0 o)
+    full_for e name (count_in m x.now) all h (λ o. ap counters_fit (sym k.1) ∙ ap
+    (λ (l : List Text). counters_fit (add_front (state_from_table xs m) l))
+    (ap slice_texts w ∙ slice_texts-append before (x ∷ [])) ∙ full_front m xs x.now (slice_texts before) k.0 o)
 
 -- the elements in front, turned round, and the others behind them
 pub front_done : (m : CounterTable) (front turned elements done : List (Bor Text)) (rest : List (Bor Text)) (all : PathState) → length rest < 1 → turned ≡ reverse front → done ≡ turned ++ elements
@@ -379,7 +424,9 @@ filter_agree : (p q : Text → Bool) (xs : List Text) → ((x : Text) → p x �
 filter_agree p q [] e = refl
 filter_agree p q (x ∷ xs) e = ap (λ (b : Bool). cond b (x ∷ filter p xs) (filter p xs)) (e x) ∙ ap (λ (l : List Text). cond (q x) (x ∷ l) l) (filter_agree p q xs e)
 
-filter_both_at : (p : Text → Bool) (x y : Text) (ys : List Text) (a : Bool) → p y ≡ a → filter (λ z. not (bytes_eq z x)) (cond a (y ∷ ys) ys) ≡ cond (not (bytes_eq y x) && a) (y ∷ without x ys) (without x ys)
+filter_both_at : (p : Text → Bool) (x y : Text) (ys : List Text) (a : Bool) → p y ≡ a
+    → filter (λ z. not (bytes_eq z x)) (cond a (y ∷ ys) ys) ≡ cond (not (bytes_eq y x) && a) (y ∷ without x ys)
+    (without x ys)
 filter_both_at p x y ys true e = cases (bytes_eq y x)
   where
     cases : (b : Bool) → cond (not b) (y ∷ without x ys) (without x ys) ≡ cond (not b && true) (y ∷ without x ys) (without x ys)
@@ -416,9 +463,11 @@ drop_elements xs table x true e =
     without-filter (λ y. is_some (table y)) x xs
     ∙ filter_agree _ _ xs (λ y. still_last (bytes_eq y x) (leb (count_in table x) 1) (count_in table x - 1) (table y) e)
 drop_elements xs table x false e =
-    filter_agree _ _ xs (λ y. still_more (bytes_eq y x) (leb (count_in table x) 1) (count_in table x - 1) (table y) e (λ b. ap (λ (t : Text). is_some (table t)) (same_text y x b) ∙ some_more (table x) e))
+    filter_agree _ _ xs (λ y. still_more (bytes_eq y x) (leb (count_in table x) 1) (count_in table x - 1) (table y) e
+    (λ b. ap (λ (t : Text). is_some (table t)) (same_text y x b) ∙ some_more (table x) e))
 
-lowered_count : (b c : Bool) (o p : Option ℕ) → leb (unwrap_or o 0) 1 ≡ c → (b ≡ true → p ≡ o) → unwrap_or p 0 - (if b then 1 else 0) ≡ unwrap_or (cond b (if c then None else Some (unwrap_or o 0 - 1)) p) 0
+lowered_count : (b c : Bool) (o p : Option ℕ) → leb (unwrap_or o 0) 1 ≡ c → (b ≡ true → p ≡ o)
+    → unwrap_or p 0 - (if b then 1 else 0) ≡ unwrap_or (cond b (if c then None else Some (unwrap_or o 0 - 1)) p) 0
 lowered_count true true o p e h = ap (λ (z : Option ℕ). unwrap_or z 0 - 1) (h refl) ∙ last (unwrap_or o 0) e
   where
     last : (n : ℕ) → leb n 1 ≡ true → n - 1 ≡ 0
@@ -439,7 +488,8 @@ dropped_state xs m n x e = kept_same xs (lowered m x) n e ∙ sym (drop-state_fr
 
 -- one more element is dropped
 pub drops_turn : (m n : CounterTable) (less : List (Bor Text)) (i : ℕ) (d : Bor Text) (all : List Text → PathState) → i < length less → ((y : Text) → n y ≡ lowered m (get_or less i d).now y)
-    → ((xs : List Text) → drop_all (state_from_table (kept xs m) m) (slice_texts (cut i less)) ≡ all xs) → (xs : List Text) → drop_all (state_from_table (kept xs n) n) (slice_texts (cut (i + 1) less)) ≡ all xs
+    → ((xs : List Text) → drop_all (state_from_table (kept xs m) m) (slice_texts (cut i less)) ≡ all xs)
+    → (xs : List Text) → drop_all (state_from_table (kept xs n) n) (slice_texts (cut (i + 1) less)) ≡ all xs
 drops_turn m n less i d all l e h xs =
     ap (λ (s : PathState). drop_all s (slice_texts (cut (i + 1) less))) (dropped_state xs m n (get_or less i d).now e)
     ∙ ap (λ (zs : List (Bor Text)). drop_all (state_from_table (kept xs m) m) (slice_texts zs)) (sym (drop_more less i d l)) ∙ h xs
@@ -458,7 +508,9 @@ pub kept_all : (xs : List Text) (table : CounterTable) → HasCountersOf xs tabl
 kept_all xs table h = filter_every (λ x. is_some (table x)) xs (λ y e. h y ∙ e)
 
 -- every element has kept its counter, or was taken out
-pub taken_out : (xs ys less : List Text) (m n : CounterTable) → HasCountersOf xs m → ((zs : List Text) → state_from_table (kept zs n) n ≡ drop_all (state_from_table (kept zs m) m) less) → ys ≡ kept xs n
+pub taken_out : (xs ys less : List Text) (m n : CounterTable) → HasCountersOf xs m
+    → ((zs : List Text) → state_from_table (kept zs n) n ≡ drop_all (state_from_table (kept zs m) m) less)
+    → ys ≡ kept xs n
     → state_from_table ys n ≡ drop_all (state_from_table xs m) less
 taken_out xs ys less m n t h k = ap (λ (l : List Text). state_from_table l n) k ∙ h xs ∙ ap (λ (l : List Text). drop_all (state_from_table l m) less) (kept_all xs m t)
 
@@ -476,7 +528,8 @@ lowered_at true (Some c) w k e l h =
 pub lowered_same : (m n : CounterTable) (x : Text) (k : ℕ) → k ≡ count_in m x → 1 < k → ((y : Text) → n y ≡ lowered m x y) → HaveSameElements m n
 lowered_same m n x k e l h y = ap is_some (h y) ∙ lowered_at (bytes_eq y x) (m x) (m y) k e l (λ b. ap m (same_text y x b))
 
-pub small_read : (xs : List Text) (table : CounterTable) (delim : ℕ) (t : Option Text) (ps : List (Text × Text)) → state_from_table xs table ≡ state_from_pairs delim t ps → (x : Text) → count_in table x ≤ largest_counter
+pub small_read : (xs : List Text) (table : CounterTable) (delim : ℕ) (t : Option Text) (ps : List (Text × Text))
+    → state_from_table xs table ≡ state_from_pairs delim t ps → (x : Text) → count_in table x ≤ largest_counter
 small_read xs table delim t ps e x = subst (λ (s : PathState). s.counter x ≤ largest_counter) (sym e) ((IsWritable-state_from_pairs delim t ps).fit x)
 
 -- no pair is left
@@ -524,7 +577,9 @@ two_longer (x ∷ xs) y z = ap suc (two_longer xs y z)
 pub notes_turn : (m n : CounterTable) (rest : List (Bor Text)) (k : ℕ) (d e : Bor Text) (all : CounterTable) → 2 ≤ length rest
     → (length (slice_texts rest) % 2 ≡ 0) × ((y : Text) → overwritten_by (paired (slice_texts rest)) m y ≡ all y) × (length rest ≤ k)
     → ((y : Text) → n y ≡ overwritten_by (((get_or rest (length rest - 2) d).now, (get_or rest (length rest - 1) e).now) ∷ []) m y)
-    → (length (slice_texts (take (length rest - 2) rest)) % 2 ≡ 0) × ((y : Text) → overwritten_by (paired (slice_texts (take (length rest - 2) rest))) n y ≡ all y) × (length (take (length rest - 2) rest) ≤ k)
+    → (length (slice_texts (take (length rest - 2) rest)) % 2 ≡ 0)
+    × ((y : Text) → overwritten_by (paired (slice_texts (take (length rest - 2) rest))) n y ≡ all y)
+    × (length (take (length rest - 2) rest) ≤ k)
 notes_turn m n rest k d e all l h f =
     let before = take (length rest - 2) rest in
     let w : rest ≡ before ++ get_or rest (length rest - 2) d ∷ get_or rest (length rest - 1) e ∷ [] = two_cut rest d e l in

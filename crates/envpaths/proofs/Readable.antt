@@ -1,5 +1,6 @@
 -- What any two texts are read as can be written.
-use Rattle.std.proofs.Common.{◌≡◌, ℕ, ◌<◌, ◌≤◌, Bool, true, false, cond, List, [], ◌∷◌, refl, arith, ltb, eqb, Option, Some, None}
+use Rattle.std.proofs.Common.{◌≡◌, ℕ, ◌<◌, ◌≤◌, Bool, true, false, cond, List, [], ◌∷◌, refl, arith, ltb, eqb, Option}
+use Rattle.std.proofs.Common.{Some, None}
 use Rattle.std.specs.Prelude.{bytes_eq, unwrap_or, is_some, if◌then◌else◌}
 use Rattle.std.specs.Option.{option_or}
 use Rattle.std.specs.List.{onto_first, AllByRecursion}
@@ -7,7 +8,8 @@ use Rattle.std.proofs.lemmas.Bool.Decides.{nat_tests}
 use Rattle.envvars.specs.Texts.{Text, has}
 use Rattle.envpaths.specs.Paths.{largest_counter}
 use Rattle.envpaths.specs.Counters.{counter_of}
-use Rattle.envpaths.specs.PathTexts.{split_elements, counter_in_pairs, pairs_of, elements_of, state_from_pairs, state_of, HasNoDelimiter, IsWritable}
+use Rattle.envpaths.specs.PathTexts.{split_elements, counter_in_pairs, pairs_of, elements_of, state_from_pairs}
+use Rattle.envpaths.specs.PathTexts.{state_of, HasNoDelimiter, IsWritable}
 use Rattle.envpaths.proofs.CounterLemmas.{SpellsCounter-counter_of}
 
 unparted_onto : (d b : ℕ) (parts : List Text) → eqb b d ≡ false → AllByRecursion (HasNoDelimiter d) parts → AllByRecursion (HasNoDelimiter d) (onto_first b parts)

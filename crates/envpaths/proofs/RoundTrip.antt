@@ -1,5 +1,6 @@
 -- A state is read as it was written.
-use Rattle.std.proofs.Common.{◌≡◌, ℕ, ◌<◌, ◌≤◌, Bool, true, false, cond, not, ◌||◌, ◌&&◌, List, [], ◌∷◌, ◌++◌, map, refl, sym, ap, ◌∙◌, arith, ltb, leb, eqb, Option, Some, None}
+use Rattle.std.proofs.Common.{◌≡◌, ℕ, ◌<◌, ◌≤◌, Bool, true, false, cond, not, ◌||◌, ◌&&◌, List, [], ◌∷◌, ◌++◌, map}
+use Rattle.std.proofs.Common.{refl, sym, ap, ◌∙◌, arith, ltb, leb, eqb, Option, Some, None}
 use Rattle.std.specs.Prelude.{filter, flat_map, bytes_eq, unwrap_or, is_some, decimal, if◌then◌else◌}
 use Rattle.std.specs.Option.{option_or}
 use Rattle.std.specs.List.{list_any, onto_first, join_with_byte, AllByRecursion}
@@ -12,7 +13,9 @@ use Rattle.envvars.specs.Escapes.{escaped}
 use Rattle.envvars.proofs.EscapeLemmas.{fields-escaped}
 use Rattle.envpaths.specs.Paths.{PathState, largest_counter}
 use Rattle.envpaths.specs.Counters.{counter_of}
-use Rattle.envpaths.specs.PathTexts.{split_elements, paired, counter_in_pairs, pairs_of, elements_of, state_of, elements_text, is_lone_empty, written, counter_fields, pairs_text, HasNoDelimiter, IsWritable}
+use Rattle.envpaths.specs.PathTexts.{split_elements, paired, counter_in_pairs, pairs_of, elements_of, state_of}
+use Rattle.envpaths.specs.PathTexts.{elements_text, is_lone_empty, written, counter_fields, pairs_text, HasNoDelimiter}
+use Rattle.envpaths.specs.PathTexts.{IsWritable}
 use Rattle.envvars.proofs.TextLemmas.{same_text, has-without, or_left, or_right}
 use Rattle.envpaths.proofs.PathLemmas.{same_state}
 use Rattle.envpaths.proofs.CounterLemmas.{counter_of-decimal, escaped-decimal}
@@ -40,7 +43,9 @@ pub split_elements-joined : (d : ℕ) (x : Text) (xs : List Text) → AllByRecur
 split_elements-joined d x [] h = split_alone d x h.0
 split_elements-joined d x (y ∷ ys) h = split_front d x (join_with_byte d (y ∷ ys)) h.0 ∙ ap (λ (l : List Text). x ∷ l) (split_elements-joined d y ys h.1)
 
-pub elements-text : (d : ℕ) (xs : List Text) (pairs : List (Text × Text)) → AllByRecursion (HasNoDelimiter d) xs → (is_lone_empty xs ≡ true → is_some (counter_in_pairs [] pairs) ≡ true) → elements_of d (elements_text d xs) pairs ≡ xs
+pub elements-text : (d : ℕ) (xs : List Text) (pairs : List (Text × Text)) → AllByRecursion (HasNoDelimiter d) xs
+    → (is_lone_empty xs ≡ true → is_some (counter_in_pairs [] pairs) ≡ true)
+    → elements_of d (elements_text d xs) pairs ≡ xs
 elements-text d [] pairs h l = refl
 elements-text d ([] ∷ []) pairs h l = rw (l refl) refl
 elements-text d ([] ∷ y ∷ ys) pairs h l = split_elements-joined d [] (y ∷ ys) h
@@ -99,7 +104,8 @@ counted_one : (b h : Bool) (o q : Option ℕ) (n : ℕ) → (b ≡ true → o �
 counted_one true h o q n e k = rw (e refl) refl
 counted_one false h o q n e k = k
 
-counter_in_pairs-written : (s : PathState) (x : Text) (ws : List Text) → 0 < s.counter x → s.counter x ≤ largest_counter → counter_in_pairs x (map (pair_of s) ws) ≡ cond (has x ws) (Some (s.counter x)) None
+counter_in_pairs-written : (s : PathState) (x : Text) (ws : List Text) → 0 < s.counter x → s.counter x ≤ largest_counter
+    → counter_in_pairs x (map (pair_of s) ws) ≡ cond (has x ws) (Some (s.counter x)) None
 counter_in_pairs-written s x [] l fit = refl
 counter_in_pairs-written s x (w ∷ ws) l fit =
     counted_one (bytes_eq x w) (has x ws) (counter_of (decimal (s.counter w))) (counter_in_pairs x (map (pair_of s) ws)) (s.counter x)
@@ -140,4 +146,6 @@ state_of-written delim s w =
     (λ lone. let there : has [] s.elements ≡ true = lone_has s.elements lone in
     let l : 0 < s.counter [] = counted_there (has [] s.elements) (s.counter []) (w.valid []) there in
     found_empty _ (s.counter []) (has [] s.elements) (leb 2 (s.counter [])) (is_lone_empty s.elements) (found [] l) lone there) in
-    same_state _ _ (rw pairs elements) (λ x. rw (pairs, elements) (again (has x s.elements) (leb 2 (s.counter x)) (is_lone_empty s.elements) (s.counter x) (counter_in_pairs x (map (pair_of s) (written s))) (w.valid x) refl (found x)))
+    same_state _ _ (rw pairs elements) (λ x. rw (pairs, elements)
+    (again (has x s.elements) (leb 2 (s.counter x)) (is_lone_empty s.elements) (s.counter x)
+    (counter_in_pairs x (map (pair_of s) (written s))) (w.valid x) refl (found x)))

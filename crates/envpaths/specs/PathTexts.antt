@@ -1,6 +1,7 @@
 -- The two texts of a path variable: which state is read from them, and as which texts a state is written (module(1),
 -- __MODULES_SHARE_<VAR>; modulefile(5), prepend-path).
-use Rattle.std.specs.Prelude.{◌≡◌, ℕ, Bool, false, ◌&&◌, ◌||◌, List, [], ◌∷◌, length, filter, flat_map, bytes_eq, nat_le, ◌==◌, if◌then◌else◌, Option, Some, None, is_some, unwrap_or, decimal}
+use Rattle.std.specs.Prelude.{◌≡◌, ℕ, Bool, false, ◌&&◌, ◌||◌, List, [], ◌∷◌, length, filter, flat_map, bytes_eq}
+use Rattle.std.specs.Prelude.{nat_le, ◌==◌, if◌then◌else◌, Option, Some, None, is_some, unwrap_or, decimal}
 use Rattle.std.specs.List.{slice_split, join_with_byte, list_any, AllByRecursion}
 use Rattle.std.specs.Option.{option_or}
 use Rattle.envvars.specs.Texts.{Text, has}

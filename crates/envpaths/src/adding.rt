@@ -3,7 +3,8 @@ ghost use Rattle.std.specs.Prelude.{◌≡◌, ◌≤◌, ◌<◌, IfOk, IfErr, 
 ghost use Rattle.envvars.specs.Texts.{Text, slice_texts};
 ghost use Rattle.envvars.specs.Reasons.{reason_of, counter_full};
 ghost use Rattle.envpaths.specs.Paths.{largest_counter, add_all, add_front, add_back};
-ghost use Rattle.envpaths.specs.Tables.{counter_in, count_in, state_from_table, HasCountersOf, raised, with_new_element};
+ghost use Rattle.envpaths.specs.Tables.{counter_in, count_in, state_from_table, HasCountersOf, raised};
+ghost use Rattle.envpaths.specs.Tables.{with_new_element};
 ghost use Rattle.envpaths.specs.PathEdits.{IsFull};
 
 use crate::path::{Counters, Path};

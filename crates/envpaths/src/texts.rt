@@ -4,7 +4,8 @@ ghost use Rattle.std.specs.Option.{option_map};
 ghost use Rattle.envvars.specs.Texts.{Text, slice_texts};
 ghost use Rattle.envpaths.specs.Paths.{largest_counter};
 ghost use Rattle.envpaths.specs.Counters.{counter_of};
-ghost use Rattle.envpaths.specs.Tables.{counter_in, count_in, overwritten_by, one_for_each, state_from_table, HasCountersOf};
+ghost use Rattle.envpaths.specs.Tables.{counter_in, count_in, overwritten_by, one_for_each, state_from_table};
+ghost use Rattle.envpaths.specs.Tables.{HasCountersOf};
 ghost use Rattle.envpaths.specs.PathTexts.{counter_in_pairs, paired, elements_of, state_from_pairs, state_of};
 
 use crate::counters::counter_of;

@@ -6,7 +6,8 @@ ghost use Rattle.indexmap.specs.IndexMap.{values};
 ghost use Rattle.envvars.specs.Texts.{Text, slice_texts};
 ghost use Rattle.envvars.specs.Fields.{text_of_elements, without_repeats};
 ghost use Rattle.envvars.specs.Escapes.{escaped};
-ghost use Rattle.envpaths.specs.Tables.{counter_in, count_in, state_from_table, pair_fields, with_separator, unless_empty};
+ghost use Rattle.envpaths.specs.Tables.{counter_in, count_in, state_from_table, pair_fields, with_separator};
+ghost use Rattle.envpaths.specs.Tables.{unless_empty};
 ghost use Rattle.envpaths.specs.PathEdits.{AreTexts};
 ghost use Rattle.envpaths.specs.PathTexts.{elements_text, pairs_text, is_lone_empty};
 

@@ -1,5 +1,6 @@
 -- What edits of stacks leave in an environment.
-use Rattle.std.proofs.Common.{◌≡◌, Bool, true, false, cond, not, ◌||◌, ◌&&◌, List, [], ◌∷◌, refl, sym, ap, ◌∙◌, subst, nat_eq, Option, Some, None, Result, Ok}
+use Rattle.std.proofs.Common.{◌≡◌, Bool, true, false, cond, not, ◌||◌, ◌&&◌, List, [], ◌∷◌, refl, sym, ap, ◌∙◌, subst}
+use Rattle.std.proofs.Common.{nat_eq, Option, Some, None, Result, Ok}
 use Rattle.std.specs.Prelude.{filter, bytes_eq, if◌then◌else◌}
 use Rattle.std.specs.List.{list_all, list_any}
 use Rattle.std.proofs.lemmas.Bool.{false≢true}
@@ -9,9 +10,12 @@ use Rattle.envvars.specs.Names.{stack_name, name_reason, is_nul_free}
 use Rattle.envvars.specs.Environment.{Environment, lookup, with_value}
 use Rattle.envvars.specs.Fields.{are_distinct}
 use Rattle.envvars.specs.Reasons.{EnvReason}
-use Rattle.envstacks.specs.Stacks.{OwnedValue, StackState, is_owner, has_owner, holds, without_owner, visible, items_or_bottom, push, without_lone_bottom, on_top, pop}
-use Rattle.envstacks.specs.StackTexts.{items_in, has_no_item, bottoms_last, owners_of, is_stack, is_writable_owner, is_writable_stack, stack_text}
-use Rattle.envstacks.specs.StackVariables.{stack_from, stack_in, with_stack, push_reason, pop_reason, pushed_on, popped_from, pushed_value, popped_value}
+use Rattle.envstacks.specs.Stacks.{OwnedValue, StackState, is_owner, has_owner, holds, without_owner, visible}
+use Rattle.envstacks.specs.Stacks.{items_or_bottom, push, without_lone_bottom, on_top, pop}
+use Rattle.envstacks.specs.StackTexts.{items_in, has_no_item, bottoms_last, owners_of, is_stack, is_writable_owner}
+use Rattle.envstacks.specs.StackTexts.{is_writable_stack, stack_text}
+use Rattle.envstacks.specs.StackVariables.{stack_from, stack_in, with_stack, push_reason, pop_reason, pushed_on}
+use Rattle.envstacks.specs.StackVariables.{popped_from, pushed_value, popped_value}
 use Rattle.envstacks.specs.StackOrder.{HoldsStack}
 use Rattle.envvars.proofs.EnvLemmas.{lookup-with_value}
 use Rattle.envvars.proofs.FieldLemmas.{distinct-filter}
@@ -111,7 +115,9 @@ parts_push items m value n p =
     let l = parts_less m items p in
     record {
       bottoms = l.bottoms;
-      distinct = and_both (not (has m (owners_of (without_owner m items)))) (are_distinct (owners_of (without_owner m items))) (rw (owners-without m items, not_other m (owners_of items)) refl) l.distinct;
+      distinct = and_both (not (has m (owners_of (without_owner m items))))
+          (are_distinct (owners_of (without_owner m items)))
+          (rw (owners-without m items, not_other m (owners_of items)) refl) l.distinct;
       owners = and_both (is_writable_owner (Some m)) (list_all (λ item. is_writable_owner item.0) (without_owner m items)) (name_owns m n) l.owners;
     }
 
@@ -134,7 +140,8 @@ read_items (Some items) v s h =
 parts_in : (e : Environment) (name : Text) (s : StackState) → stack_in e name ≡ Some s → Parts s.items
 parts_in e name s h = parted s.items (stack_readable (lookup e (stack_name name)) s.items (read_items (items_in (lookup e (stack_name name))) (lookup e name) s h).0)
 
-pub push_accepts : (old new : Environment) (name owner value : Text) (s : StackState) → stack_in old name ≡ Some s → pushed_value old name owner value ≡ Ok new → Accepts old new name (push s owner value)
+pub push_accepts : (old new : Environment) (name owner value : Text) (s : StackState) → stack_in old name ≡ Some s
+    → pushed_value old name owner value ≡ Ok new → Accepts old new name (push s owner value)
 push_accepts old new name owner value s e h =
     let g = no_reason (push_reason name owner value) (pushed_on old name owner value (stack_in old name)) new h in
     let n = both_true (is_module_name owner) (is_nul_free value) (no_value_reason (name_reason name) name (is_module_name owner && is_nul_free value) g.0) in
@@ -148,7 +155,9 @@ popped : (b : Bool) → (e next new : Environment) → (if b then Ok next else O
 popped true e next new h = cc
 popped false e next new h = cc
 
-pub pop_new : (old new : Environment) (name owner : Text) (s : StackState) → stack_in old name ≡ Some s → popped_value old name owner ≡ Ok new → new ≡ (if holds owner s.items then with_stack old name (pop s owner) else old)
+pub pop_new : (old new : Environment) (name owner : Text) (s : StackState) → stack_in old name ≡ Some s
+    → popped_value old name owner ≡ Ok new → new ≡ (if holds owner s.items then with_stack old name (pop s owner) else
+    old)
 pop_new old new name owner s e h =
     let g = no_reason (pop_reason name owner) (popped_from old name owner (stack_in old name)) new h in
     popped (holds owner s.items) old (with_stack old name (pop s owner)) new (sym (ap (popped_from old name owner) e) ∙ g.1)
@@ -163,7 +172,8 @@ parts_pop s m p = at (holds m s.items)
     at true = parts_settled (list_any (λ (i : OwnedValue). has_owner i.0) (without_owner m s.items)) (without_owner m s.items) (parts_less m s.items p)
     at false = p
 
-pub pop_accepts : (old new : Environment) (name owner : Text) (s : StackState) → stack_in old name ≡ Some s → popped_value old name owner ≡ Ok new → holds owner s.items ≡ true → Accepts old new name (pop s owner)
+pub pop_accepts : (old new : Environment) (name owner : Text) (s : StackState) → stack_in old name ≡ Some s
+    → popped_value old name owner ≡ Ok new → holds owner s.items ≡ true → Accepts old new name (pop s owner)
 pop_accepts old new name owner s e h t =
     record {
       written = pop_new old new name owner s e h ∙ ap (λ (b : Bool). if b then with_stack old name (pop s owner) else old) t;
@@ -184,10 +194,12 @@ others_stay e name s q a b =
     lookup-with_value (with_value e name s.value) (stack_name name) (stack_text s.items) q ∙ looked (bytes_eq q (stack_name name)) _ _ b
     ∙ lookup-with_value e name s.value q ∙ looked (bytes_eq q name) _ _ a
 
-pub stack_after_push : (old new : Environment) (name owner value : Text) (s : StackState) → stack_in old name ≡ Some s → pushed_value old name owner value ≡ Ok new → stack_in new name ≡ Some (push s owner value)
+pub stack_after_push : (old new : Environment) (name owner value : Text) (s : StackState) → stack_in old name ≡ Some s
+    → pushed_value old name owner value ≡ Ok new → stack_in new name ≡ Some (push s owner value)
 stack_after_push old new name owner value s e h = stack_after old new name (push s owner value) (push_accepts old new name owner value s e h)
 
-pub written_after_push : (old new : Environment) (name owner value : Text) (s : StackState) → stack_in old name ≡ Some s → pushed_value old name owner value ≡ Ok new → HoldsStack new name (push s owner value)
+pub written_after_push : (old new : Environment) (name owner value : Text) (s : StackState) → stack_in old name ≡ Some s
+    → pushed_value old name owner value ≡ Ok new → HoldsStack new name (push s owner value)
 written_after_push old new name owner value s e h = written_after old new name (push s owner value) (push_accepts old new name owner value s e h)
 
 -- an accepted edit has read a stack
@@ -207,7 +219,9 @@ no_stack_popped old new name owner e h =
     let k : popped_from old name owner None ≡ Ok new = sym (ap (popped_from old name owner) e) ∙ g.1 in
     cc
 
-pub others_after_push : (old new : Environment) (name owner value : Text) → pushed_value old name owner value ≡ Ok new → (other : Text) → bytes_eq other name ≡ false → bytes_eq other (stack_name name) ≡ false → lookup new other ≡ lookup old other
+pub others_after_push : (old new : Environment) (name owner value : Text) → pushed_value old name owner value ≡ Ok new
+    → (other : Text) → bytes_eq other name ≡ false → bytes_eq other (stack_name name) ≡ false
+    → lookup new other ≡ lookup old other
 others_after_push old new name owner value h other a b =
     was_stack (stack_in old name) _
     (λ s e. ap (λ (d : Environment). lookup d other) (push_accepts old new name owner value s e h).written ∙ others_stay old name (push s owner value) other a b)
@@ -225,14 +239,17 @@ stack_after_pop old new name owner s e h = at (holds owner s.items) refl
         ap (λ (d : Environment). stack_in d name) (pop_new old new name owner s e h ∙ ap (λ (b : Bool). if b then with_stack old name (pop s owner) else old) t)
         ∙ e ∙ ap (λ (r : StackState). Some r) (sym (unmoved s owner t))
 
-pub written_after_pop : (old new : Environment) (name owner : Text) (s : StackState) → stack_in old name ≡ Some s → holds owner s.items ≡ true → popped_value old name owner ≡ Ok new → HoldsStack new name (pop s owner)
+pub written_after_pop : (old new : Environment) (name owner : Text) (s : StackState) → stack_in old name ≡ Some s
+    → holds owner s.items ≡ true → popped_value old name owner ≡ Ok new → HoldsStack new name (pop s owner)
 written_after_pop old new name owner s e t h = written_after old new name (pop s owner) (pop_accepts old new name owner s e h t)
 
 stay_if : (b : Bool) (e next : Environment) (q : Text) → lookup next q ≡ lookup e q → lookup (if b then next else e) q ≡ lookup e q
 stay_if true e next q h = h
 stay_if false e next q h = refl
 
-pub others_after_pop : (old new : Environment) (name owner : Text) → popped_value old name owner ≡ Ok new → (other : Text) → bytes_eq other name ≡ false → bytes_eq other (stack_name name) ≡ false → lookup new other ≡ lookup old other
+pub others_after_pop : (old new : Environment) (name owner : Text) → popped_value old name owner ≡ Ok new
+    → (other : Text) → bytes_eq other name ≡ false → bytes_eq other (stack_name name) ≡ false
+    → lookup new other ≡ lookup old other
 others_after_pop old new name owner h other a b =
     was_stack (stack_in old name) _
     (λ s e.

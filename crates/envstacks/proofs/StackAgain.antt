@@ -1,5 +1,6 @@
 -- A stack that is written is read as it was.
-use Rattle.std.proofs.Common.{◌≡◌, ℕ, Bool, true, false, cond, not, ◌&&◌, List, [], ◌∷◌, ◌++◌, refl, sym, ap, ◌∙◌, subst, arith, length, nat_eq, Option, Some, None, map}
+use Rattle.std.proofs.Common.{◌≡◌, ℕ, Bool, true, false, cond, not, ◌&&◌, List, [], ◌∷◌, ◌++◌, refl, sym, ap, ◌∙◌}
+use Rattle.std.proofs.Common.{subst, arith, length, nat_eq, Option, Some, None, map}
 use Rattle.std.specs.Prelude.{bytes_eq, if◌then◌else◌}
 use Rattle.std.specs.List.{list_all, list_any}
 use Rattle.std.specs.Option.{option_map, option_and_then}
@@ -10,7 +11,9 @@ use Rattle.envvars.specs.Environment.{Environment, lookup, with_value}
 use Rattle.envvars.specs.Fields.{joined}
 use Rattle.envstacks.specs.Stacks.{OwnedValue, StackState}
 use Rattle.envvars.specs.Escapes.{escaped, unescaped_fields}
-use Rattle.envstacks.specs.StackTexts.{with_first_byte, split_at_ampersand, owner_of, owner_text, item_of, items_of_elements, is_stack, if_stack, items_in, element_text, stack_text, is_writable_owner, is_writable_stack}
+use Rattle.envstacks.specs.StackTexts.{with_first_byte, split_at_ampersand, owner_of, owner_text, item_of}
+use Rattle.envstacks.specs.StackTexts.{items_of_elements, is_stack, if_stack, items_in, element_text, stack_text}
+use Rattle.envstacks.specs.StackTexts.{is_writable_owner, is_writable_stack}
 use Rattle.envstacks.specs.StackVariables.{stack_in, with_stack}
 use Rattle.envvars.proofs.TextLemmas.{same_text, bytes_eq-same}
 use Rattle.envvars.proofs.EnvLemmas.{lookup-with_value}
@@ -56,7 +59,9 @@ pub stack_again : (items : List OwnedValue) → is_writable_stack items ≡ true
 stack_again [] h = refl
 stack_again (i ∷ is) h =
     let k = both_true (is_stack (i ∷ is)) (list_all (λ item. is_writable_owner item.0) (i ∷ is)) h in
-    let e : unescaped_fields (joined (map (λ item. escaped (element_text item)) (i ∷ is))) ≡ map element_text (i ∷ is) = ap (λ (l : List Text). unescaped_fields (joined l)) (map-twice (i ∷ is)) ∙ fields-escaped (element_text i) (map element_text is) in
+    let e : unescaped_fields (joined (map (λ item. escaped (element_text item)) (i ∷ is))) ≡ map element_text (i ∷ is) =
+    ap (λ (l : List Text). unescaped_fields (joined l)) (map-twice (i ∷ is))
+    ∙ fields-escaped (element_text i) (map element_text is) in
     rw (e, items_again (i ∷ is) k.1) (stack_only (i ∷ is) k.0)
 
 -- the stack's variable is another
@@ -69,7 +74,9 @@ name_apart name = apart (bytes_eq name (stack_name name)) refl
 
 pub found_at : (e : Environment) (name : Text) (value text : Option Text) → lookup (with_value (with_value e name value) (stack_name name) text) (stack_name name) ≡ text
 found_at e name value text =
-    lookup-with_value (with_value e name value) (stack_name name) text (stack_name name) ∙ ap (λ (b : Bool). cond b text (lookup (with_value e name value) (stack_name name))) (bytes_eq-same (stack_name name))
+    lookup-with_value (with_value e name value) (stack_name name) text (stack_name name)
+    ∙ ap (λ (b : Bool). cond b text (lookup (with_value e name value) (stack_name name)))
+    (bytes_eq-same (stack_name name))
 
 pub value_at : (e : Environment) (name : Text) (value text : Option Text) → lookup (with_value (with_value e name value) (stack_name name) text) name ≡ value
 value_at e name value text =
@@ -80,7 +87,9 @@ pub stack_found : (e : Environment) (name : Text) (s : StackState) → is_writab
 stack_found e name s h = rw (found_at e name s.value (stack_text s.items), value_at e name s.value (stack_text s.items), stack_again s.items h) refl
 
 -- What is read can be written.
-cut_more : (c : ℕ) (o : Option (Text × Text)) (p : Text × Text) → nat_eq c 38 ≡ false → option_map (with_first_byte c) o ≡ Some p → ((q : Text × Text) → o ≡ Some q → list_any (λ b. nat_eq b 38) q.0 ≡ false) → list_any (λ b. nat_eq b 38) p.0 ≡ false
+cut_more : (c : ℕ) (o : Option (Text × Text)) (p : Text × Text) → nat_eq c 38 ≡ false
+    → option_map (with_first_byte c) o ≡ Some p → ((q : Text × Text) → o ≡ Some q → list_any (λ b. nat_eq b 38) q.0 ≡
+    false) → list_any (λ b. nat_eq b 38) p.0 ≡ false
 cut_more c None p n h f = cc
 cut_more c (Some q) p n h f =
     let e : with_first_byte c q ≡ p = cc in
@@ -99,14 +108,17 @@ owner_can : (o : Text) → list_any (λ b. nat_eq b 38) o ≡ false → is_writa
 owner_can [] h = refl
 owner_can (c ∷ cs) h = rw h refl
 
-item_can : (o : Option (Text × Text)) (item : OwnedValue) → option_map (λ p. (owner_of p.0, p.1)) o ≡ Some item → ((p : Text × Text) → o ≡ Some p → list_any (λ b. nat_eq b 38) p.0 ≡ false) → is_writable_owner item.0 ≡ true
+item_can : (o : Option (Text × Text)) (item : OwnedValue) → option_map (λ p. (owner_of p.0, p.1)) o ≡ Some item
+    → ((p : Text × Text) → o ≡ Some p → list_any (λ b. nat_eq b 38) p.0 ≡ false) → is_writable_owner item.0 ≡ true
 item_can None item h f = cc
 item_can (Some p) item h f =
     let e : (owner_of p.0, p.1) ≡ item = cc in
     subst (λ (i : OwnedValue). is_writable_owner i.0 ≡ true) e (owner_can p.0 (f p refl))
 
 all_can : (o : Option OwnedValue) (r : Option (List OwnedValue)) (items : List OwnedValue) → option_and_then (λ item. option_map (λ is. item ∷ is) r) o ≡ Some items
-    → ((i : OwnedValue) → o ≡ Some i → is_writable_owner i.0 ≡ true) → ((is : List OwnedValue) → r ≡ Some is → list_all (λ i. is_writable_owner i.0) is ≡ true) → list_all (λ i. is_writable_owner i.0) items ≡ true
+    → ((i : OwnedValue) → o ≡ Some i → is_writable_owner i.0 ≡ true)
+    → ((is : List OwnedValue) → r ≡ Some is → list_all (λ i. is_writable_owner i.0) is ≡ true)
+    → list_all (λ i. is_writable_owner i.0) items ≡ true
 all_can None r items h f g = cc
 all_can (Some i) None items h f g = cc
 all_can (Some i) (Some is) items h f g =
@@ -122,7 +134,9 @@ only_can : (b : Bool) (is items : List OwnedValue) → (if b then Some is else N
 only_can true is items h k e = let s : is ≡ items = cc in let w : is_writable_stack is ≡ true = rw (sym e, k) refl in subst (λ (l : List OwnedValue). is_writable_stack l ≡ true) s w
 only_can false is items h k e = cc
 
-text_can : (r : Option (List OwnedValue)) (items : List OwnedValue) → option_and_then if_stack r ≡ Some items → ((is : List OwnedValue) → r ≡ Some is → list_all (λ i. is_writable_owner i.0) is ≡ true) → is_writable_stack items ≡ true
+text_can : (r : Option (List OwnedValue)) (items : List OwnedValue) → option_and_then if_stack r ≡ Some items
+    → ((is : List OwnedValue) → r ≡ Some is → list_all (λ i. is_writable_owner i.0) is ≡ true)
+    → is_writable_stack items ≡ true
 text_can None items h f = cc
 text_can (Some is) items h f = only_can (is_stack is) is items h (f is refl) refl
 

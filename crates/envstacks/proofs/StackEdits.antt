@@ -1,5 +1,6 @@
 -- Edits of stacks, put together from their parts.
-use Rattle.std.proofs.Common.{ℕ, zero, suc, ◌+◌, ◌&&◌, length, take, arith, ◌≡◌, Bool, true, false, cond, not, ◌||◌, List, [], ◌∷◌, refl, sym, ap, ◌∙◌, Option, Some, None, Ok, Err, string_bytes, map}
+use Rattle.std.proofs.Common.{ℕ, zero, suc, ◌+◌, ◌&&◌, length, take, arith, ◌≡◌, Bool, true, false, cond, not, ◌||◌}
+use Rattle.std.proofs.Common.{List, [], ◌∷◌, refl, sym, ap, ◌∙◌, Option, Some, None, Ok, Err, string_bytes, map}
 use Rattle.std.specs.Prelude.{filter, if◌then◌else◌, is_some}
 use Rattle.std.specs.Option.{option_map}
 use Rattle.std.specs.List.{list_all, list_any}
@@ -8,10 +9,12 @@ use Rattle.std.specs.declared.alloc.Global.{Global}
 use Rattle.envvars.specs.Texts.{Text}
 use Rattle.envvars.specs.Names.{stack_name}
 use Rattle.envvars.specs.Environment.{Environment, lookup}
-use Rattle.envstacks.specs.Stacks.{OwnedValue, is_owner, has_owner, holds, without_owner, visible, push, without_lone_bottom, on_top}
+use Rattle.envstacks.specs.Stacks.{OwnedValue, is_owner, has_owner, holds, without_owner, visible, push}
+use Rattle.envstacks.specs.Stacks.{without_lone_bottom, on_top}
 use Rattle.envstacks.specs.StackTexts.{items_in, bottoms_last}
 use Rattle.envstacks.specs.StackItems.{item_in}
-use Rattle.envstacks.specs.StackVariables.{stack_from, stack_in, with_stack, push_reason, pop_reason, pushed_on, popped_from, pushed_value, popped_value}
+use Rattle.envstacks.specs.StackVariables.{stack_from, stack_in, with_stack, push_reason, pop_reason, pushed_on}
+use Rattle.envstacks.specs.StackVariables.{popped_from, pushed_value, popped_value}
 use Rattle.envvars.specs.Reasons.{bad_stack}
 use Rattle.envstacks.specs.declared.texts.StackItem.{StackItem}
 
@@ -60,16 +63,27 @@ holds_is m [] = refl
 holds_is m (i ∷ is) = ap (λ (b : Bool). is_owner m (option_map string_bytes i.owner) || b) (holds_is m is)
 
 -- what was read of the variable's stack
-pub stack_read : (e : Environment) (name : Text) (o : Option (List OwnedValue)) (t : Option Text) (n : Text) → o ≡ items_in t → t ≡ lookup e n → n ≡ stack_name name → stack_from o (lookup e name) ≡ stack_in e name
+pub stack_read : (e : Environment) (name : Text) (o : Option (List OwnedValue)) (t : Option Text) (n : Text)
+    → o ≡ items_in t → t ≡ lookup e n → n ≡ stack_name name → stack_from o (lookup e name) ≡ stack_in e name
 stack_read e name o t n h k l = ap (λ (p : Option (List OwnedValue)). stack_from p (lookup e name)) (h ∙ ap items_in (k ∙ ap (lookup e) l))
 
 pub no_push : (e : Environment) (name owner value s : Text) (o : Option (List OwnedValue)) → push_reason name owner value ≡ None → stack_from o (lookup e name) ≡ stack_in e name → o ≡ None → s ≡ name
     → (e ≡ e) × (pushed_value e name owner value ≡ Err (bad_stack s))
-no_push e name owner value s o r h n k = (refl, rw r (ap (pushed_on e name owner value) (sym h ∙ ap (λ (p : Option (List OwnedValue)). stack_from p (lookup e name)) n) ∙ ap (λ (t : Text). Err (bad_stack t)) (sym k)))
+no_push e name owner value s o r h n k = (
+  refl,
+  rw r
+      (ap (pushed_on e name owner value) (sym h ∙ ap (λ (p : Option (List OwnedValue)). stack_from p (lookup e name)) n)
+      ∙ ap (λ (t : Text). Err (bad_stack t)) (sym k)),
+)
 
 pub no_pop : (e : Environment) (name owner s : Text) (o : Option (List OwnedValue)) → pop_reason name owner ≡ None → stack_from o (lookup e name) ≡ stack_in e name → o ≡ None → s ≡ name
     → (e ≡ e) × (popped_value e name owner ≡ Err (bad_stack s))
-no_pop e name owner s o r h n k = (refl, rw r (ap (popped_from e name owner) (sym h ∙ ap (λ (p : Option (List OwnedValue)). stack_from p (lookup e name)) n) ∙ ap (λ (t : Text). Err (bad_stack t)) (sym k)))
+no_pop e name owner s o r h n k = (
+  refl,
+  rw r
+      (ap (popped_from e name owner) (sym h ∙ ap (λ (p : Option (List OwnedValue)). stack_from p (lookup e name)) n)
+      ∙ ap (λ (t : Text). Err (bad_stack t)) (sym k)),
+)
 
 -- a stack is written
 pub push_made : (e : Environment) (name owner value : Text) (items stack : List OwnedValue) (o : Option (List OwnedValue)) (current v : Option Text) → push_reason name owner value ≡ None
@@ -79,11 +93,13 @@ push_made e name owner value items stack o current v r h n c s w =
     rw r (ap (pushed_on e name owner value) (sym h ∙ ap (λ (p : Option (List OwnedValue)). stack_from p (lookup e name)) n)
     ∙ (rw (s, w, c) refl))
 
-pub popped_is : (e : Environment) (name owner : Text) (items : List OwnedValue) (o : Option (List OwnedValue)) → pop_reason name owner ≡ None → stack_from o (lookup e name) ≡ stack_in e name → o ≡ Some items
+pub popped_is : (e : Environment) (name owner : Text) (items : List OwnedValue) (o : Option (List OwnedValue))
+    → pop_reason name owner ≡ None → stack_from o (lookup e name) ≡ stack_in e name → o ≡ Some items
     → popped_value e name owner ≡ popped_from e name owner (Some (record { items = items; value = lookup e name }))
 popped_is e name owner items o r h n = rw r (ap (popped_from e name owner) (sym h ∙ ap (λ (p : Option (List OwnedValue)). stack_from p (lookup e name)) n))
 
-pub pop_kept : (e : Environment) (name owner : Text) (items : List OwnedValue) (o : Option (List OwnedValue)) (b : Bool) → pop_reason name owner ≡ None → stack_from o (lookup e name) ≡ stack_in e name → o ≡ Some items
+pub pop_kept : (e : Environment) (name owner : Text) (items : List OwnedValue) (o : Option (List OwnedValue)) (b : Bool)
+    → pop_reason name owner ≡ None → stack_from o (lookup e name) ≡ stack_in e name → o ≡ Some items
     → b ≡ holds owner items → b ≡ false → popped_value e name owner ≡ Ok e
 pop_kept e name owner items o b r h n k f = popped_is e name owner items o r h n ∙ (rw (sym k ∙ f) refl)
 

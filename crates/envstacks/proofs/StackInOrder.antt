@@ -1,5 +1,6 @@
 -- Edits keep stacks in order.
-use Rattle.std.proofs.Common.{◌≡◌, Bool, true, false, cond, not, ◌||◌, List, [], ◌∷◌, ◌++◌, refl, sym, ap, ◌∙◌, subst, Option, Some, None, Ok, inl, inr}
+use Rattle.std.proofs.Common.{◌≡◌, Bool, true, false, cond, not, ◌||◌, List, [], ◌∷◌, ◌++◌, refl, sym, ap, ◌∙◌, subst}
+use Rattle.std.proofs.Common.{Option, Some, None, Ok, inl, inr}
 use Rattle.std.specs.Prelude.{bytes_eq, if◌then◌else◌}
 use Rattle.std.specs.List.{list_all, list_any}
 use Rattle.modulename.specs.ModuleName.{is_module_name}
@@ -7,9 +8,11 @@ use Rattle.envvars.specs.Texts.{Text, has}
 use Rattle.envvars.specs.Fields.{without}
 use Rattle.envvars.specs.Names.{stack_name}
 use Rattle.envvars.specs.Environment.{Environment, lookup}
-use Rattle.envstacks.specs.Stacks.{OwnedValue, StackState, is_owner, has_owner, holds, without_owner, visible, items_or_bottom, push, without_lone_bottom, on_top, pop}
+use Rattle.envstacks.specs.Stacks.{OwnedValue, StackState, is_owner, has_owner, holds, without_owner, visible}
+use Rattle.envstacks.specs.Stacks.{items_or_bottom, push, without_lone_bottom, on_top, pop}
 use Rattle.envstacks.specs.StackTexts.{items_in, is_stack, is_writable_owner, is_writable_stack, stack_text}
-use Rattle.envstacks.specs.StackVariables.{stack_from, stack_in, with_stack, pushed_value, popped_value, is_loaded_owner, IsWrittenStack, IsStackInOrder}
+use Rattle.envstacks.specs.StackVariables.{stack_from, stack_in, with_stack, pushed_value, popped_value}
+use Rattle.envstacks.specs.StackVariables.{is_loaded_owner, IsWrittenStack, IsStackInOrder}
 use Rattle.envvars.proofs.TextLemmas.{bytes_eq-symmetric, has-push, has-without}
 use Rattle.envvars.proofs.EditLemmas.{passes_each, both_true, and_both}
 use Rattle.envstacks.proofs.StackLemmas.{without_stranger}
@@ -21,7 +24,9 @@ loaded_owns : (loaded : List Text) (o : Option Text) → list_all is_module_name
 loaded_owns loaded None n h = refl
 loaded_owns loaded (Some owner) n h = name_owns owner (passes_each is_module_name owner loaded n h)
 
-loaded_own : (loaded : List Text) (items : List OwnedValue) → list_all is_module_name loaded ≡ true → list_all (λ item. is_loaded_owner loaded item.0) items ≡ true → list_all (λ item. is_writable_owner item.0) items ≡ true
+loaded_own : (loaded : List Text) (items : List OwnedValue) → list_all is_module_name loaded ≡ true
+    → list_all (λ item. is_loaded_owner loaded item.0) items ≡ true
+    → list_all (λ item. is_writable_owner item.0) items ≡ true
 loaded_own loaded [] n h = refl
 loaded_own loaded (i ∷ is) n h =
     let k = both_true (is_loaded_owner loaded i.0) (list_all (λ item. is_loaded_owner loaded item.0) is) h in
@@ -31,17 +36,22 @@ loaded_own loaded (i ∷ is) n h =
 stack_none : (e : Environment) (name : Text) → lookup e (stack_name name) ≡ None → stack_in e name ≡ Some (record { items = []; value = lookup e name })
 stack_none e name h = ap (λ (t : Option Text). stack_from (items_in t) (lookup e name)) h
 
-stack_written : (loaded : List Text) (e : Environment) (name : Text) (w : IsWrittenStack loaded e name) → list_all is_module_name loaded ≡ true → stack_in e name ≡ Some (record { items = w.items; value = lookup e name })
+stack_written : (loaded : List Text) (e : Environment) (name : Text) (w : IsWrittenStack loaded e name)
+    → list_all is_module_name loaded ≡ true → stack_in e name ≡ Some (record { items = w.items; value = lookup e name })
 stack_written loaded e name w n =
     let k : is_writable_stack w.items ≡ true = and_both (is_stack w.items) (list_all (λ item. is_writable_owner item.0) w.items) w.valid (loaded_own loaded w.items n w.owners) in
     ap (λ (o : Option (List OwnedValue)). stack_from o (lookup e name)) (ap items_in w.text ∙ stack_again w.items k)
 
-base_loaded : (loaded : List Text) (items : List OwnedValue) (value : Option Text) → list_all (λ item. is_loaded_owner loaded item.0) items ≡ true → list_all (λ item. is_loaded_owner loaded item.0) (items_or_bottom items value) ≡ true
+base_loaded : (loaded : List Text) (items : List OwnedValue) (value : Option Text)
+    → list_all (λ item. is_loaded_owner loaded item.0) items ≡ true
+    → list_all (λ item. is_loaded_owner loaded item.0) (items_or_bottom items value) ≡ true
 base_loaded loaded [] None h = refl
 base_loaded loaded [] (Some v) h = refl
 base_loaded loaded (i ∷ is) value h = h
 
-pushed : (loaded : List Text) (old new : Environment) (name owner value : Text) (s : StackState) → has owner loaded ≡ true → list_all (λ item. is_loaded_owner loaded item.0) s.items ≡ true → stack_in old name ≡ Some s → pushed_value old name owner value ≡ Ok new
+pushed : (loaded : List Text) (old new : Environment) (name owner value : Text) (s : StackState)
+    → has owner loaded ≡ true → list_all (λ item. is_loaded_owner loaded item.0) s.items ≡ true
+    → stack_in old name ≡ Some s → pushed_value old name owner value ≡ Ok new
     → IsWrittenStack loaded new name
 pushed loaded old new name owner value s o l e h =
     let a = push_accepts old new name owner value s e h in
@@ -56,15 +66,21 @@ pushed loaded old new name owner value s o l e h =
       value = w.value;
     }
 
-pub push_in_order : (loaded : List Text) (old new : Environment) (name owner value : Text) → list_all is_module_name loaded ≡ true → has owner loaded ≡ true → IsStackInOrder loaded old name → pushed_value old name owner value ≡ Ok new → IsStackInOrder loaded new name
+pub push_in_order : (loaded : List Text) (old new : Environment) (name owner value : Text)
+    → list_all is_module_name loaded ≡ true → has owner loaded ≡ true → IsStackInOrder loaded old name
+    → pushed_value old name owner value ≡ Ok new → IsStackInOrder loaded new name
 push_in_order loaded old new name owner value n o (inl x) h = inr (pushed loaded old new name owner value (record { items = []; value = lookup old name }) o refl (stack_none old name x) h)
-push_in_order loaded old new name owner value n o (inr w) h = inr (pushed loaded old new name owner value (record { items = w.items; value = lookup old name }) o w.owners (stack_written loaded old name w n) h)
+push_in_order loaded old new name owner value n o (inr w) h = inr
+    (pushed loaded old new name owner value (record { items = w.items; value = lookup old name }) o w.owners
+    (stack_written loaded old name w n) h)
 
 -- the owners but for the one that is popped
 owner_left : (loaded : List Text) (m n : Text) → bytes_eq m n ≡ false → has n loaded ≡ true → has n (without m loaded) ≡ true
 owner_left loaded m n d h = has-without loaded m n ∙ and_both (not (bytes_eq n m)) (has n loaded) (rw (bytes_eq-symmetric n m ∙ d) refl) h
 
-owners_left : (loaded : List Text) (m : Text) (items : List OwnedValue) → list_all (λ item. is_loaded_owner loaded item.0) items ≡ true → list_all (λ item. is_loaded_owner (without m loaded) item.0) (without_owner m items) ≡ true
+owners_left : (loaded : List Text) (m : Text) (items : List OwnedValue)
+    → list_all (λ item. is_loaded_owner loaded item.0) items ≡ true
+    → list_all (λ item. is_loaded_owner (without m loaded) item.0) (without_owner m items) ≡ true
 owners_left loaded m [] h = refl
 owners_left loaded m ((None, value) ∷ items) h = owners_left loaded m items h
 owners_left loaded m ((Some n, value) ∷ items) h =
@@ -106,7 +122,8 @@ popped_value_is s m h = rw h refl
 settled_if : (b : Bool) (items : List OwnedValue) → list_any (λ item. has_owner item.0) items ≡ b → without_lone_bottom items ≡ cond b items []
 settled_if b items h = ap (λ (t : Bool). cond t items []) h
 
-popped : (loaded : List Text) (old new : Environment) (name owner : Text) (w : IsWrittenStack loaded old name) → list_all is_module_name loaded ≡ true → popped_value old name owner ≡ Ok new → holds owner w.items ≡ true
+popped : (loaded : List Text) (old new : Environment) (name owner : Text) (w : IsWrittenStack loaded old name)
+    → list_all is_module_name loaded ≡ true → popped_value old name owner ≡ Ok new → holds owner w.items ≡ true
     → IsStackInOrder (without owner loaded) new name
 popped loaded old new name owner w n h t = at (list_any (λ item. has_owner item.0) (without_owner owner w.items)) refl
   where
@@ -132,7 +149,9 @@ popped loaded old new name owner w n h t = at (list_any (λ item. has_owner item
           value = r.value ∙ popped_value_is was owner t ∙ value_left owner w.items (lookup old name) w.value;
         })
 
-pub pop_in_order : (loaded : List Text) (old new : Environment) (name owner : Text) → list_all is_module_name loaded ≡ true → IsStackInOrder loaded old name → popped_value old name owner ≡ Ok new → IsStackInOrder (without owner loaded) new name
+pub pop_in_order : (loaded : List Text) (old new : Environment) (name owner : Text)
+    → list_all is_module_name loaded ≡ true → IsStackInOrder loaded old name → popped_value old name owner ≡ Ok new
+    → IsStackInOrder (without owner loaded) new name
 pop_in_order loaded old new name owner n (inl x) h =
     inl (ap (λ (e : Environment). lookup e (stack_name name)) (pop_new old new name owner (record { items = []; value = lookup old name }) (stack_none old name x) h) ∙ x)
 pop_in_order loaded old new name owner n (inr w) h = at (holds owner w.items) refl
@@ -156,7 +175,9 @@ owner_of_more : (loaded : List Text) (x : Text) (o : Option Text) → is_loaded_
 owner_of_more loaded x None h = refl
 owner_of_more loaded x (Some n) h = has-push loaded x n ∙ ap (λ (b : Bool). bytes_eq n x || b) h ∙ or_true (bytes_eq n x)
 
-owners_of_more : (loaded : List Text) (x : Text) (items : List OwnedValue) → list_all (λ item. is_loaded_owner loaded item.0) items ≡ true → list_all (λ item. is_loaded_owner (loaded ++ x ∷ []) item.0) items ≡ true
+owners_of_more : (loaded : List Text) (x : Text) (items : List OwnedValue)
+    → list_all (λ item. is_loaded_owner loaded item.0) items ≡ true
+    → list_all (λ item. is_loaded_owner (loaded ++ x ∷ []) item.0) items ≡ true
 owners_of_more loaded x [] h = refl
 owners_of_more loaded x (i ∷ is) h =
     let k = both_true (is_loaded_owner loaded i.0) (list_all (λ item. is_loaded_owner loaded item.0) is) h in
@@ -172,7 +193,9 @@ same_items items v s o h k =
     let e : s ≡ record { items = items; value = v } = cc in
     ap (λ (t : StackState). t.items) e
 
-pub order_of_fewer : (loaded : List Text) (e : Environment) (name owner : Text) (s : StackState) → list_all is_module_name loaded ≡ true → IsStackInOrder loaded e name → stack_in e name ≡ Some s → holds owner s.items ≡ false
+pub order_of_fewer : (loaded : List Text) (e : Environment) (name owner : Text) (s : StackState)
+    → list_all is_module_name loaded ≡ true → IsStackInOrder loaded e name → stack_in e name ≡ Some s
+    → holds owner s.items ≡ false
     → IsStackInOrder (without owner loaded) e name
 order_of_fewer loaded e name owner s n (inl x) h k = inl x
 order_of_fewer loaded e name owner s n (inr w) h k =

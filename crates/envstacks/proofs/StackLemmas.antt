@@ -1,12 +1,15 @@
 -- What pushes and pops leave.
-use Rattle.std.proofs.Common.{◌≡◌, Bool, true, false, cond, not, List, [], ◌∷◌, ◌++◌, refl, sym, ap, ◌∙◌, Option, Some, None, inl, inr, ◌⊎◌}
+use Rattle.std.proofs.Common.{◌≡◌, Bool, true, false, cond, not, List, [], ◌∷◌, ◌++◌, refl, sym, ap, ◌∙◌, Option, Some}
+use Rattle.std.proofs.Common.{None, inl, inr, ◌⊎◌}
 use Rattle.std.specs.Prelude.{bytes_eq, if◌then◌else◌}
 use Rattle.std.specs.List.{list_any}
 use Rattle.std.proofs.lemmas.List.Elements.{filter-append}
 use Rattle.envvars.proofs.TextLemmas.{or_left, or_right}
 use Rattle.envvars.specs.Texts.{Text}
-use Rattle.envstacks.specs.Stacks.{OwnedValue, StackState, is_owner, has_owner, holds, without_owner, visible, items_or_bottom, push, without_lone_bottom, on_top, pop}
-use Rattle.envstacks.specs.StackRuns.{StackEdit, after, AreByOtherOwners, IsOwnedStart, other_pushes, live_from, items_of, start_with_pushes}
+use Rattle.envstacks.specs.Stacks.{OwnedValue, StackState, is_owner, has_owner, holds, without_owner, visible}
+use Rattle.envstacks.specs.Stacks.{items_or_bottom, push, without_lone_bottom, on_top, pop}
+use Rattle.envstacks.specs.StackRuns.{StackEdit, after, AreByOtherOwners, IsOwnedStart, other_pushes, live_from}
+use Rattle.envstacks.specs.StackRuns.{items_of, start_with_pushes}
 use Rattle.envstacks.specs.StackRuns.StackEdit.{Push, Pop}
 
 -- a start with any value makes no item of an owner
@@ -32,11 +35,15 @@ without-items_of m (p ∷ ps) = rw (without-items_of m ps) (sym (map_cond (not (
 without-over : (m : Text) (ps : List (Text × Text)) (base : List OwnedValue) → holds m base ≡ false → without_owner m (items_of ps ++ base) ≡ items_of (other_pushes m ps) ++ base
 without-over m ps base h = filter-append (λ (i : OwnedValue). not (is_owner m i.0)) (items_of ps) base ∙ (rw (without-items_of m ps, without_stranger m base h) refl)
 
-items_or_bottom-start_with_pushes : (start : StackState) (ps : List (Text × Text)) → items_or_bottom (start_with_pushes start ps).items (start_with_pushes start ps).value ≡ items_of ps ++ items_or_bottom start.items start.value
+items_or_bottom-start_with_pushes : (start : StackState) (ps : List (Text × Text))
+    → items_or_bottom (start_with_pushes start ps).items (start_with_pushes start ps).value ≡ items_of ps
+    ++ items_or_bottom start.items start.value
 items_or_bottom-start_with_pushes start [] = refl
 items_or_bottom-start_with_pushes start (p ∷ ps) = refl
 
-pub push-start_with_pushes : (start : StackState) (ps : List (Text × Text)) (m value : Text) → holds m start.items ≡ false → push (start_with_pushes start ps) m value ≡ start_with_pushes start ((m, value) ∷ other_pushes m ps)
+pub push-start_with_pushes : (start : StackState) (ps : List (Text × Text)) (m value : Text)
+    → holds m start.items ≡ false → push (start_with_pushes start ps) m value ≡ start_with_pushes start
+    ((m, value) ∷ other_pushes m ps)
 push-start_with_pushes start ps m value h =
     let e : without_owner m (items_or_bottom (start_with_pushes start ps).items (start_with_pushes start ps).value) ≡ items_of (other_pushes m ps) ++ items_or_bottom start.items start.value
     = rw (items_or_bottom-start_with_pushes start ps) (without-over m ps (items_or_bottom start.items start.value) (holds_base m start.items start.value h)) in
@@ -50,7 +57,9 @@ abbrev alone : List OwnedValue → StackState
 alone items = record { items = without_lone_bottom items; value = visible items }
 
 -- what is left when the last push goes
-left_alone : (items : List OwnedValue) (value : Option Text) → (items ≡ []) ⊎ ((list_any (λ (i : OwnedValue). has_owner i.0) items ≡ true) × (value ≡ visible items)) → alone (items_or_bottom items value) ≡ record { items = items; value = value }
+left_alone : (items : List OwnedValue) (value : Option Text) → (items ≡ [])
+    ⊎ ((list_any (λ (i : OwnedValue). has_owner i.0) items ≡ true) × (value ≡ visible items))
+    → alone (items_or_bottom items value) ≡ record { items = items; value = value }
 left_alone [] None h = refl
 left_alone [] (Some v) h = refl
 left_alone (i ∷ is) value (inl e) = cc
@@ -67,13 +76,15 @@ other_absent m (p ∷ ps) base h =
     rw here (ap (λ (l : List (Text × Text)). p ∷ l) (other_absent m ps base (or_right (bytes_eq m p.0) (holds m (items_of ps ++ base)) h)))
 
 -- the newest push goes, or one below it
-popped : (start : StackState) (p : Text × Text) (ps : List (Text × Text)) (m : Text) (b : Bool) (w : List OwnedValue) → IsOwnedStart start → w ≡ items_of (other_pushes m ps) ++ items_or_bottom start.items start.value
+popped : (start : StackState) (p : Text × Text) (ps : List (Text × Text)) (m : Text) (b : Bool) (w : List OwnedValue)
+    → IsOwnedStart start → w ≡ items_of (other_pushes m ps) ++ items_or_bottom start.items start.value
     → (let s : StackState = record { items = without_lone_bottom (cond (not b) ((Some p.0, p.1) ∷ w) w); value = cond b (visible (cond (not b) ((Some p.0, p.1) ∷ w) w)) (Some p.1) } in s)
     ≡ start_with_pushes start (cond (not b) (p ∷ other_pushes m ps) (other_pushes m ps))
 popped start p ps m true w h e = rw e (alone-start_with_pushes start (other_pushes m ps) h)
 popped start p ps m false w h e = rw e refl
 
-pop_if : (start : StackState) (p : Text × Text) (ps : List (Text × Text)) (m : Text) (t : Bool) → holds m (start_with_pushes start (p ∷ ps)).items ≡ t → IsOwnedStart start → holds m start.items ≡ false
+pop_if : (start : StackState) (p : Text × Text) (ps : List (Text × Text)) (m : Text) (t : Bool)
+    → holds m (start_with_pushes start (p ∷ ps)).items ≡ t → IsOwnedStart start → holds m start.items ≡ false
     → (let all : List OwnedValue = (start_with_pushes start (p ∷ ps)).items in
     let s : StackState = record { items = without_lone_bottom (without_owner m all); value = if on_top m all then visible (without_owner m all) else Some p.1 } in
     cond t s (start_with_pushes start (p ∷ ps)))
@@ -82,11 +93,14 @@ pop_if start p ps m true e h k =
     popped start p ps m (bytes_eq m p.0) _ h (without-over m ps (items_or_bottom start.items start.value) (holds_base m start.items start.value k))
 pop_if start p ps m false e h k = ap (start_with_pushes start) (sym (other_absent m (p ∷ ps) (items_or_bottom start.items start.value) e))
 
-pub pop-start_with_pushes : (start : StackState) (ps : List (Text × Text)) (m : Text) → IsOwnedStart start → holds m start.items ≡ false → pop (start_with_pushes start ps) m ≡ start_with_pushes start (other_pushes m ps)
+pub pop-start_with_pushes : (start : StackState) (ps : List (Text × Text)) (m : Text) → IsOwnedStart start
+    → holds m start.items ≡ false → pop (start_with_pushes start ps) m ≡ start_with_pushes start (other_pushes m ps)
 pop-start_with_pushes start [] m h k = rw k refl
 pop-start_with_pushes start (p ∷ ps) m h k = pop_if start p ps m (holds m (start_with_pushes start (p ∷ ps)).items) refl h k
 
-pub after-start_with_pushes : (start : StackState) (ps : List (Text × Text)) (edits : List StackEdit) → IsOwnedStart start → AreByOtherOwners edits start.items → after edits (start_with_pushes start ps) ≡ start_with_pushes start (live_from ps edits)
+pub after-start_with_pushes : (start : StackState) (ps : List (Text × Text)) (edits : List StackEdit)
+    → IsOwnedStart start → AreByOtherOwners edits start.items
+    → after edits (start_with_pushes start ps) ≡ start_with_pushes start (live_from ps edits)
 after-start_with_pushes start ps [] h k = refl
 after-start_with_pushes start ps (Push m value ∷ edits) h k =
     ap (after edits) (push-start_with_pushes start ps m value k.0) ∙ after-start_with_pushes start ((m, value) ∷ other_pushes m ps) edits h k.1

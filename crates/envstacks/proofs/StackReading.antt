@@ -1,5 +1,6 @@
 -- Reading and writing the texts of stacks.
-use Rattle.std.proofs.Common.{◌≡◌, ℕ, suc, false, ◌<◌, ◌≢◌, [], ◌∷◌, ◌++◌, refl, sym, ap, ◌∙◌, arith, length, append_assoc, get_or, nat_eq, Option, Some, None, Bor}
+use Rattle.std.proofs.Common.{◌≡◌, ℕ, suc, false, ◌<◌, ◌≢◌, [], ◌∷◌, ◌++◌, refl, sym, ap, ◌∙◌, arith, length}
+use Rattle.std.proofs.Common.{append_assoc, get_or, nat_eq, Option, Some, None, Bor}
 use Rattle.std.specs.Prelude.{encode_utf8}
 use Rattle.std.proofs.lemmas.Bool.Decides.{nat_tests}
 use Rattle.std.proofs.lemmas.Str.{encode_ascii}
@@ -39,4 +40,6 @@ item_made bs x y o v h e f = rw (e, f) (sym (item-found bs x y h))
 pub element_made : (o : Option Text) (value t u v part : Text) → t ≡ escaped (owner_text o) → u ≡ t ++ encode_utf8 38 → part ≡ value → v ≡ u ++ escaped part → v ≡ escaped (owner_text o ++ 38 ∷ value)
 element_made o value t u v part e f p g =
     let one : u ≡ escaped (owner_text o) ++ 38 ∷ [] = f ∙ ap (λ (l : Text). l ++ encode_utf8 38) e ∙ ap (λ (l : Text). escaped (owner_text o) ++ l) (encode_ascii 38 (omega arith)) in
-    g ∙ ap (λ (l : Text). u ++ escaped l) p ∙ ap (λ (l : Text). l ++ escaped value) one ∙ append_assoc (escaped (owner_text o)) (38 ∷ []) (escaped value) ∙ sym (escaped-append (owner_text o) (38 ∷ value))
+    g ∙ ap (λ (l : Text). u ++ escaped l) p ∙ ap (λ (l : Text). l ++ escaped value) one
+    ∙ append_assoc (escaped (owner_text o)) (38 ∷ []) (escaped value)
+    ∙ sym (escaped-append (owner_text o) (38 ∷ value))

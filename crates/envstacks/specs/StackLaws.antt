@@ -7,7 +7,8 @@ use Rattle.envvars.specs.Names.{stack_name}
 use Rattle.envvars.specs.Fields.{without}
 use Rattle.envvars.specs.Environment.{Environment, lookup}
 use Rattle.envstacks.specs.Stacks.{OwnedValue, StackState, holds, push, pop}
-use Rattle.envstacks.specs.StackRuns.{StackEdit, after, live, other_pushes, IsOwnedStart, AreByOtherOwners, start_with_pushes}
+use Rattle.envstacks.specs.StackRuns.{StackEdit, after, live, other_pushes, IsOwnedStart, AreByOtherOwners}
+use Rattle.envstacks.specs.StackRuns.{start_with_pushes}
 use Rattle.envstacks.specs.StackTexts.{is_writable_stack, items_in, stack_text}
 use Rattle.envstacks.specs.StackVariables.{stack_in, with_stack, pushed_value, popped_value, IsStackInOrder}
 use Rattle.envstacks.specs.StackOrder.{HoldsStack}

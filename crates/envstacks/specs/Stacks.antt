@@ -1,5 +1,6 @@
 -- The stack of a variable, and what pushing and popping make of it (modulefile(5), pushenv).
-use Rattle.std.specs.Prelude.{Bool, true, false, not, List, [], ◌∷◌, filter, bytes_eq, Option, Some, None, if◌then◌else◌}
+use Rattle.std.specs.Prelude.{Bool, true, false, not, List, [], ◌∷◌, filter, bytes_eq, Option, Some, None}
+use Rattle.std.specs.Prelude.{if◌then◌else◌}
 use Rattle.std.specs.List.{list_any}
 use Rattle.envvars.specs.Texts.{Text}
 

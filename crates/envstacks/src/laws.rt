@@ -1,6 +1,10 @@
 //! Laws of stacks: runs of pushes and pops, and texts that are read again. Each is a function that does nothing: its
 //! contract is the law, about the definitions alone.
-ghost use Rattle.envstacks.specs.StackLaws.{RunGivesStartWithPushes, NoneLiveRestores, PushAddsLivePush, PopEndsLivePush, TextIsReadAgain, ReadIsWritable, WrittenIsFound, PushMakes, PushWrites, PushLeaves, PopMakes, PopWrites, PopLeaves, PushPreservesOrder, PopPreservesOrder, MoreLoadedPreservesOrder, FewerLoadedPreservesOrder};
+ghost use Rattle.envstacks.specs.StackLaws.{RunGivesStartWithPushes, NoneLiveRestores, PushAddsLivePush};
+ghost use Rattle.envstacks.specs.StackLaws.{PopEndsLivePush, TextIsReadAgain, ReadIsWritable, WrittenIsFound};
+ghost use Rattle.envstacks.specs.StackLaws.{PushMakes, PushWrites, PushLeaves, PopMakes, PopWrites, PopLeaves};
+ghost use Rattle.envstacks.specs.StackLaws.{PushPreservesOrder, PopPreservesOrder, MoreLoadedPreservesOrder};
+ghost use Rattle.envstacks.specs.StackLaws.{FewerLoadedPreservesOrder};
 
 /// After any pushes and pops by owners that have no item in the start, the state is the start with the live pushes on
 /// top, one for each owner that has pushed and not popped since. Where no push is live, it is the start.

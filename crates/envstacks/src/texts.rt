@@ -2,7 +2,8 @@
 ghost use Rattle.std.specs.Prelude.{◌≡◌, ◌++◌, [], ◌∷◌, map, string_bytes, IfOk, OnOk};
 ghost use Rattle.std.specs.Option.{option_map};
 ghost use Rattle.envvars.specs.Escapes.{escaped};
-ghost use Rattle.envstacks.specs.StackTexts.{owner_of, item_of, items_of_elements, bottoms_last, owners_of, is_stack, items_in, owner_text, element_text, stack_text};
+ghost use Rattle.envstacks.specs.StackTexts.{owner_of, item_of, items_of_elements, bottoms_last, owners_of, is_stack};
+ghost use Rattle.envstacks.specs.StackTexts.{items_in, owner_text, element_text, stack_text};
 ghost use Rattle.envstacks.specs.StackItems.{item_in, items_of_vec};
 
 use envvars::escapes::{push_escaped, unescaped_fields};
@@ -75,7 +76,6 @@ fn push_owner<'a>(owners: &mut Vec<&'a str>, item: &'a StackItem) -> Result<(), 
     Ok(())
 }
 
-/// The owners of the items.
 fn owners_of(alloc: Global, items: &[StackItem]) -> Result<Vec<&str>, AllocError>
     ensures { IfOk result (λ v. map (λ x. x.now) v.items ≡ owners_of (map item_in items.now)) }
 {

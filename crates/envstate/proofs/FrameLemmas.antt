@@ -1,5 +1,6 @@
 -- What edits leave.
-use Rattle.std.proofs.Common.{◌≡◌, ℕ, Bool, true, false, cond, ◌||◌, List, [], ◌∷◌, ◌++◌, refl, sym, ap, ◌∙◌, subst, Option, Some, None, Result, Ok, Err, inl, inr}
+use Rattle.std.proofs.Common.{◌≡◌, ℕ, Bool, true, false, cond, ◌||◌, List, [], ◌∷◌, ◌++◌, refl, sym, ap, ◌∙◌, subst}
+use Rattle.std.proofs.Common.{Option, Some, None, Result, Ok, Err, inl, inr}
 use Rattle.std.specs.Prelude.{bytes_eq, if◌then◌else◌}
 use Rattle.std.specs.Option.{option_or}
 use Rattle.std.proofs.lemmas.Bool.{false≢true}
@@ -16,15 +17,20 @@ use Rattle.envpaths.specs.Paths.{add_all, drop_all}
 use Rattle.envpaths.specs.declared.adding.End.{End}
 use Rattle.envpaths.proofs.PathOrderLemmas.{LeavesPath-added, LeavesPath-dropped}
 use Rattle.envstacks.specs.StackTexts.{items_in}
-use Rattle.envstacks.specs.StackVariables.{stack_in, stack_from, pushed_on, popped_from, pushed_value, popped_value, IsStackInOrder}
+use Rattle.envstacks.specs.StackVariables.{stack_in, stack_from, pushed_on, popped_from, pushed_value, popped_value}
+use Rattle.envstacks.specs.StackVariables.{IsStackInOrder}
 use Rattle.envstacks.proofs.StackAfter.{others_after_push, others_after_pop}
 use Rattle.envloaded.specs.LoadedTexts.{names_variable, files_variable, conflicts_variable, prereqs_variable}
-use Rattle.envloaded.specs.Loaded.{Entry, names_of, entries_in, names_text, files_text, conflicts_text, prereqs_text, loaded_in, with_loaded, AreLoadedInOrder, can_be_added, with_conflicts_once, without_entry, added_to, dropped_from, added_loaded, dropped_loaded}
+use Rattle.envloaded.specs.Loaded.{Entry, names_of, entries_in, names_text, files_text, conflicts_text, prereqs_text}
+use Rattle.envloaded.specs.Loaded.{loaded_in, with_loaded, AreLoadedInOrder, can_be_added, with_conflicts_once}
+use Rattle.envloaded.specs.Loaded.{without_entry, added_to, dropped_from, added_loaded, dropped_loaded}
 use Rattle.envloaded.proofs.LoadedAgain.{at_names, at_files, at_conflicts, at_prereqs}
 use Rattle.envloaded.proofs.LoadedEdits.{others_stay}
 use Rattle.envstate.specs.Roles.{VariableRole, role_of, is_editable}
-use Rattle.envstate.specs.Roles.VariableRole.{Variable, Counters, Stack, LoadedNames, LoadedFiles, LoadedConflicts, LoadedPrereqs, Other}
-use Rattle.envstate.specs.Frames.{OnlyAmong, path_names, stack_names, loaded_names, EditsPath, EditsStack, EditsVariable, IsVariableUnchanged, AreLoadedUnchanged}
+use Rattle.envstate.specs.Roles.VariableRole.{Variable, Counters, Stack, LoadedNames, LoadedFiles, LoadedConflicts}
+use Rattle.envstate.specs.Roles.VariableRole.{LoadedPrereqs, Other}
+use Rattle.envstate.specs.Frames.{OnlyAmong, path_names, stack_names, loaded_names, EditsPath, EditsStack}
+use Rattle.envstate.specs.Frames.{EditsVariable, IsVariableUnchanged, AreLoadedUnchanged}
 use Rattle.envstate.proofs.RoleLemmas.{different, variable_place, counters_place, stack_place, no_reason_against}
 
 -- no name of the list
@@ -103,7 +109,9 @@ accepted e = Ok e
 only_new : (e d new : Environment) → OnlyAmong e d loaded_names → accepted d ≡ Ok new → OnlyAmong e new loaded_names
 only_new e d new h k = let same : d ≡ new = cc in subst (λ (f : Environment). OnlyAmong e f loaded_names) same h
 
-add_at : (old new : Environment) (x : Entry) (xs : List Entry) (b : Bool) (r : EnvReason) → (if b then Ok (with_loaded old (xs ++ with_conflicts_once x ∷ [])) else Err r) ≡ Ok new → OnlyAmong old new loaded_names
+add_at : (old new : Environment) (x : Entry) (xs : List Entry) (b : Bool) (r : EnvReason)
+    → (if b then Ok (with_loaded old (xs ++ with_conflicts_once x ∷ [])) else Err r) ≡ Ok new
+    → OnlyAmong old new loaded_names
 add_at old new x xs true r h = only_new old _ new (loaded_only old (xs ++ with_conflicts_once x ∷ [])) h
 add_at old new x xs false r h = cc
 
@@ -162,11 +170,15 @@ order_kept old new name delim a b s o = record {
   counters = b ∙ o.counters ∙ ap pairs_text (sym s);
 }
 
-stack_kept : (loaded : List Text) (old new : Environment) (name : Text) → lookup new name ≡ lookup old name → lookup new (stack_name name) ≡ lookup old (stack_name name) → IsStackInOrder loaded old name → IsStackInOrder loaded new name
+stack_kept : (loaded : List Text) (old new : Environment) (name : Text) → lookup new name ≡ lookup old name
+    → lookup new (stack_name name) ≡ lookup old (stack_name name) → IsStackInOrder loaded old name
+    → IsStackInOrder loaded new name
 stack_kept loaded old new name a b (inl h) = inl (b ∙ h)
 stack_kept loaded old new name a b (inr h) = inr (record { items = h.items; valid = h.valid; owned = h.owned; owners = h.owners; text = b ∙ h.text; value = a ∙ h.value })
 
-keeps : (old new : Environment) (name : Text) → lookup new name ≡ lookup old name → lookup new (share_name name) ≡ lookup old (share_name name) → lookup new (stack_name name) ≡ lookup old (stack_name name) → IsVariableUnchanged old new name
+keeps : (old new : Environment) (name : Text) → lookup new name ≡ lookup old name
+    → lookup new (share_name name) ≡ lookup old (share_name name)
+    → lookup new (stack_name name) ≡ lookup old (stack_name name) → IsVariableUnchanged old new name
 keeps old new name a b c = record {
   value = a;
   counters = b;
@@ -198,7 +210,8 @@ keeps_other old new name other h o d =
     (different (stack_name other) (stack_name name) _ _ (stack_place other o) (stack_place name h.editable) stacks)))
 
 -- a name of another kind than those of a variable
-foreign : (old new : Environment) (name q : Text) (p : VariableRole) → EditsVariable old new name → role_of q ≡ p → (p ≡ Variable name → ⊥) → (p ≡ Counters name → ⊥) → (p ≡ Stack name → ⊥) → lookup new q ≡ lookup old q
+foreign : (old new : Environment) (name q : Text) (p : VariableRole) → EditsVariable old new name → role_of q ≡ p
+    → (p ≡ Variable name → ⊥) → (p ≡ Counters name → ⊥) → (p ≡ Stack name → ⊥) → lookup new q ≡ lookup old q
 foreign old new name q p h e a b c =
     h.only q (none_three (bytes_eq q name) (bytes_eq q (share_name name)) (bytes_eq q (stack_name name))
     (different q name p _ e (variable_place name h.editable) a)
@@ -242,13 +255,19 @@ texts_written e xs t =
     ∙ ap (λ (f : Environment). with_value (with_value f conflicts_variable (conflicts_text xs)) prereqs_variable (prereqs_text xs)) b
     ∙ ap (λ (f : Environment). with_value f prereqs_variable (prereqs_text xs)) c ∙ d
 
-list_order : (old new : Environment) → lookup new names_variable ≡ lookup old names_variable → lookup new files_variable ≡ lookup old files_variable → lookup new conflicts_variable ≡ lookup old conflicts_variable → lookup new prereqs_variable ≡ lookup old prereqs_variable
+list_order : (old new : Environment) → lookup new names_variable ≡ lookup old names_variable
+    → lookup new files_variable ≡ lookup old files_variable
+    → lookup new conflicts_variable ≡ lookup old conflicts_variable
+    → lookup new prereqs_variable ≡ lookup old prereqs_variable
     → AreLoadedInOrder old → AreLoadedInOrder new
 list_order old new a b c d o =
     let t = texts_of old o.entries o.written in
     record { entries = o.entries; list = o.list; written = texts_written new o.entries (record { names = a ∙ t.names; files = b ∙ t.files; conflicts = c ∙ t.conflicts; prereqs = d ∙ t.prereqs }) }
 
-keeps_list : (old new : Environment) → lookup new names_variable ≡ lookup old names_variable → lookup new files_variable ≡ lookup old files_variable → lookup new conflicts_variable ≡ lookup old conflicts_variable → lookup new prereqs_variable ≡ lookup old prereqs_variable
+keeps_list : (old new : Environment) → lookup new names_variable ≡ lookup old names_variable
+    → lookup new files_variable ≡ lookup old files_variable
+    → lookup new conflicts_variable ≡ lookup old conflicts_variable
+    → lookup new prereqs_variable ≡ lookup old prereqs_variable
     → AreLoadedUnchanged old new
 keeps_list old new a b c d = record {
   list = ap (λ t. entries_in t (lookup new files_variable) (lookup new conflicts_variable) (lookup new prereqs_variable)) a
@@ -267,7 +286,9 @@ keeps_loaded old new name h =
     (foreign old new name prereqs_variable LoadedPrereqs h refl (λ k. cc) (λ k. cc) (λ k. cc))
 
 -- a name that is none of the four
-unlisted : (old new : Environment) (q : Text) (p : VariableRole) → OnlyAmong old new loaded_names → role_of q ≡ p → (p ≡ LoadedNames → ⊥) → (p ≡ LoadedFiles → ⊥) → (p ≡ LoadedConflicts → ⊥) → (p ≡ LoadedPrereqs → ⊥) → lookup new q ≡ lookup old q
+unlisted : (old new : Environment) (q : Text) (p : VariableRole) → OnlyAmong old new loaded_names → role_of q ≡ p
+    → (p ≡ LoadedNames → ⊥) → (p ≡ LoadedFiles → ⊥) → (p ≡ LoadedConflicts → ⊥) → (p ≡ LoadedPrereqs → ⊥)
+    → lookup new q ≡ lookup old q
 unlisted old new q p h e a b c d =
     h q (none_four (bytes_eq q names_variable) (bytes_eq q files_variable) (bytes_eq q conflicts_variable) (bytes_eq q prereqs_variable)
     (different q names_variable p _ e refl a) (different q files_variable p _ e refl b) (different q conflicts_variable p _ e refl c) (different q prereqs_variable p _ e refl d))

@@ -1,5 +1,6 @@
 -- What names stand for.
-use Rattle.std.proofs.Common.{◌≡◌, ◌≢◌, ℕ, Bool, true, false, cond, not, ◌&&◌, [], ◌∷◌, ◌++◌, refl, sym, ap, ◌∙◌, Option, Some, None, nat_eq}
+use Rattle.std.proofs.Common.{◌≡◌, ◌≢◌, ℕ, Bool, true, false, cond, not, ◌&&◌, [], ◌∷◌, ◌++◌, refl, sym, ap, ◌∙◌}
+use Rattle.std.proofs.Common.{Option, Some, None, nat_eq}
 use Rattle.std.specs.Prelude.{bytes_eq, codes, if◌then◌else◌}
 use Rattle.std.proofs.lemmas.Bool.{false≢true, eqb-true}
 use Rattle.std.proofs.lemmas.Option.{same_Some, none-some}
@@ -9,7 +10,8 @@ use Rattle.envvars.specs.Reasons.{EnvReason, bad_variable, protected}
 use Rattle.envvars.proofs.TextLemmas.{same_text}
 use Rattle.envloaded.specs.LoadedTexts.{names_variable, files_variable, conflicts_variable, prereqs_variable}
 use Rattle.envstate.specs.Roles.{VariableRole, is_editable, after_prefix, protected_role, role_of, IsNameOf}
-use Rattle.envstate.specs.Roles.VariableRole.{Variable, Counters, Stack, LoadedNames, LoadedFiles, LoadedConflicts, LoadedPrereqs, Other}
+use Rattle.envstate.specs.Roles.VariableRole.{Variable, Counters, Stack, LoadedNames, LoadedFiles, LoadedConflicts}
+use Rattle.envstate.specs.Roles.VariableRole.{LoadedPrereqs, Other}
 use Rattle.envstate.specs.EnvLaws.{HasRoles, LoadedHaveRoles}
 
 behind_at : (c k : ℕ) (prefix n v : Text) (b : Bool) → nat_eq c k ≡ b → (after_prefix prefix n ≡ Some v → n ≡ prefix ++ v) → cond b (after_prefix prefix n) None ≡ Some v → k ∷ n ≡ c ∷ (prefix ++ v)

@@ -1,5 +1,6 @@
 -- States that are in order, and lists.
-use Rattle.std.proofs.Common.{◌≡◌, ℕ, Bool, true, false, cond, not, ◌||◌, ◌&&◌, List, [], ◌∷◌, ◌++◌, map, refl, sym, ap, ◌∙◌, Option, Some, None, Ok, inl, inr}
+use Rattle.std.proofs.Common.{◌≡◌, ℕ, Bool, true, false, cond, not, ◌||◌, ◌&&◌, List, [], ◌∷◌, ◌++◌, map, refl, sym, ap}
+use Rattle.std.proofs.Common.{◌∙◌, Option, Some, None, Ok, inl, inr}
 use Rattle.std.specs.Prelude.{bytes_eq, if◌then◌else◌}
 use Rattle.std.specs.List.{list_all}
 use Rattle.std.proofs.lemmas.Bool.{false≢true}
@@ -20,7 +21,9 @@ use Rattle.envstacks.specs.StackRuns.{items_of, start_with_pushes}
 use Rattle.envstacks.specs.StackVariables.{stack_in, stack_from, is_loaded_owner, IsWrittenStack, IsStackInOrder}
 use Rattle.envstacks.proofs.StackAgain.{stack_again}
 use Rattle.envstacks.proofs.StackAfter.{name_owns}
-use Rattle.envloaded.specs.Loaded.{Entry, names_of, is_entry, is_path, is_group, names_text, files_text, conflicts_text, prereqs_text, loaded_in, with_loaded, AreLoadedInOrder, with_conflicts_once, without_entry, dropped_from, dropped_loaded}
+use Rattle.envloaded.specs.Loaded.{Entry, names_of, is_entry, is_path, is_group, names_text, files_text, conflicts_text}
+use Rattle.envloaded.specs.Loaded.{prereqs_text, loaded_in, with_loaded, AreLoadedInOrder, with_conflicts_once}
+use Rattle.envloaded.specs.Loaded.{without_entry, dropped_from, dropped_loaded}
 use Rattle.envloaded.proofs.LoadedAgain.{loaded_again}
 use Rattle.envloaded.proofs.LoadedEdits.{loaded_after_drop}
 use Rattle.envstate.specs.EnvLaws.{IsStartOf, SamePath, SameStack, SameLoaded, AreSound}
@@ -32,7 +35,9 @@ loaded_owns : (loaded : List Text) (o : Option Text) → list_all is_module_name
 loaded_owns loaded None n h = refl
 loaded_owns loaded (Some owner) n h = name_owns owner (passes_each is_module_name owner loaded n h)
 
-all_own : (loaded : List Text) (items : List OwnedValue) → list_all is_module_name loaded ≡ true → list_all (λ item. is_loaded_owner loaded item.0) items ≡ true → list_all (λ item. is_writable_owner item.0) items ≡ true
+all_own : (loaded : List Text) (items : List OwnedValue) → list_all is_module_name loaded ≡ true
+    → list_all (λ item. is_loaded_owner loaded item.0) items ≡ true
+    → list_all (λ item. is_writable_owner item.0) items ≡ true
 all_own loaded [] n h = refl
 all_own loaded (item ∷ items) n h =
     let g = both_true (is_loaded_owner loaded item.0) (list_all (λ i. is_loaded_owner loaded i.0) items) h in
@@ -41,7 +46,8 @@ all_own loaded (item ∷ items) n h =
 writable : (loaded : List Text) (e : Environment) (name : Text) → list_all is_module_name loaded ≡ true → (w : IsWrittenStack loaded e name) → is_writable_stack w.items ≡ true
 writable loaded e name n w = rw (w.valid, all_own loaded w.items n w.owners) refl
 
-state_of_written : (loaded : List Text) (e : Environment) (name : Text) → list_all is_module_name loaded ≡ true → (w : IsWrittenStack loaded e name) → stack_in e name ≡ Some (record { items = w.items; value = lookup e name })
+state_of_written : (loaded : List Text) (e : Environment) (name : Text) → list_all is_module_name loaded ≡ true
+    → (w : IsWrittenStack loaded e name) → stack_in e name ≡ Some (record { items = w.items; value = lookup e name })
 state_of_written loaded e name n w = ap (λ o. stack_from o (lookup e name)) (ap items_in w.text ∙ stack_again w.items (writable loaded e name n w))
 
 none_found : (e : Environment) (name : Text) → lookup e (stack_name name) ≡ None → stack_in e name ≡ Some (record { items = []; value = lookup e name })
@@ -66,7 +72,8 @@ pushes_absent : (m : Text) (pushes : List (Text × Text)) → has m (map (λ p. 
 pushes_absent m [] h = refl
 pushes_absent m (p ∷ ps) h = or_both (bytes_eq m p.0) (holds m (items_of ps)) (or_left (bytes_eq m p.0) _ h) (pushes_absent m ps (or_right (bytes_eq m p.0) _ h))
 
-pub standing_absent : (start : StackState) (pushes : List (Text × Text)) (m : Text) → holds m start.items ≡ false → has m (map (λ p. p.0) pushes) ≡ false → holds m (start_with_pushes start pushes).items ≡ false
+pub standing_absent : (start : StackState) (pushes : List (Text × Text)) (m : Text) → holds m start.items ≡ false
+    → has m (map (λ p. p.0) pushes) ≡ false → holds m (start_with_pushes start pushes).items ≡ false
 standing_absent start [] m h k = h
 standing_absent start (p ∷ ps) m h k =
     list_any-append (λ item. is_owner m item.0) (items_of (p ∷ ps)) (items_or_bottom start.items start.value)
@@ -98,7 +105,8 @@ text_of_state loaded e name s n (inr w) k =
     same_state : (x y : StackState) → Some x ≡ Some y → x ≡ y
     same_state x y q = cc
 
-pub one_stack : (loaded others : List Text) (d e : Environment) (name : Text) → list_all is_module_name loaded ≡ true → list_all is_module_name others ≡ true → IsStackInOrder loaded d name → IsStackInOrder others e name
+pub one_stack : (loaded others : List Text) (d e : Environment) (name : Text) → list_all is_module_name loaded ≡ true
+    → list_all is_module_name others ≡ true → IsStackInOrder loaded d name → IsStackInOrder others e name
     → stack_in d name ≡ stack_in e name → SameStack d e name
 one_stack loaded others d e name n m a b s =
     let f = start_of loaded d name n a in
@@ -167,7 +175,8 @@ not_there : (old new : Environment) (name : Text) (xs : List Entry) (b : Bool) �
 not_there old new name xs true e h = absurd (false≢true (sym e))
 not_there old new name xs false e h = cc
 
-drop_at : (old new : Environment) (name : Text) (xs : List Entry) (b : Bool) → has name (names_of xs) ≡ b → loaded_in old ≡ Some xs → dropped_loaded old name ≡ Ok new → loaded_in new ≡ Some (without_entry name xs)
+drop_at : (old new : Environment) (name : Text) (xs : List Entry) (b : Bool) → has name (names_of xs) ≡ b
+    → loaded_in old ≡ Some xs → dropped_loaded old name ≡ Ok new → loaded_in new ≡ Some (without_entry name xs)
 drop_at old new name xs true e l h = loaded_after_drop old new name xs l e h
 drop_at old new name xs false e l h =
     let same : new ≡ old = not_there old new name xs (has name (names_of xs)) e (ap (dropped_from old name) (sym l) ∙ h) in

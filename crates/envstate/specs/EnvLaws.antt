@@ -14,10 +14,13 @@ use Rattle.envstacks.specs.Stacks.{StackState, holds}
 use Rattle.envstacks.specs.StackRuns.{IsOwnedStart, start_with_pushes}
 use Rattle.envstacks.specs.StackVariables.{stack_in, pushed_value, popped_value, is_loaded_owner, IsStackInOrder}
 use Rattle.envloaded.specs.LoadedTexts.{names_variable, files_variable, conflicts_variable, prereqs_variable}
-use Rattle.envloaded.specs.Loaded.{Entry, names_of, is_path, loaded_in, AreLoadedInOrder, with_conflicts_once, without_entry, added_loaded, dropped_loaded}
+use Rattle.envloaded.specs.Loaded.{Entry, names_of, is_path, loaded_in, AreLoadedInOrder, with_conflicts_once}
+use Rattle.envloaded.specs.Loaded.{without_entry, added_loaded, dropped_loaded}
 use Rattle.envstate.specs.Roles.{role_of, is_editable, IsNameOf}
-use Rattle.envstate.specs.Roles.VariableRole.{Variable, Counters, Stack, LoadedNames, LoadedFiles, LoadedConflicts, LoadedPrereqs, Other}
-use Rattle.envstate.specs.Frames.{OnlyAmong, loaded_names, EditsPath, EditsStack, EditsVariable, IsVariableUnchanged, AreLoadedUnchanged}
+use Rattle.envstate.specs.Roles.VariableRole.{Variable, Counters, Stack, LoadedNames, LoadedFiles, LoadedConflicts}
+use Rattle.envstate.specs.Roles.VariableRole.{LoadedPrereqs, Other}
+use Rattle.envstate.specs.Frames.{OnlyAmong, loaded_names, EditsPath, EditsStack, EditsVariable, IsVariableUnchanged}
+use Rattle.envstate.specs.Frames.{AreLoadedUnchanged}
 
 -- names
 

@@ -1,7 +1,14 @@
 //! The laws of the four crates below, handed on, and laws of whole environments: which variables an edit may touch, and
 //! what it leaves unchanged. Each is a function that does nothing: its contract is the law, about the definitions
 //! alone.
-ghost use Rattle.envstate.specs.EnvLaws.{NamesHaveRoles, VariablesHaveRoles, LoadedHaveRoles, RolesSeparateNames, EditableHasNoReason, AddEditsPath, DropEditsPath, PushEditsStack, PopEditsStack, SetEditsVariable, AddEditsLoaded, DropEditsLoaded, PathLeavesStack, StackLeavesCounters, EditPreservesOthers, EditPreservesLoaded, LoadedEditPreservesVariables, EditsLeaveRest, LoadedLeavesRest, OrderGivesStart, OtherOwnerIsAbsent, PathTextsAreUnique, StackTextsAreUnique, ListTextsAreUnique, AddNames, DropNames, OrderGivesList, DropLeavesList};
+ghost use Rattle.envstate.specs.EnvLaws.{NamesHaveRoles, VariablesHaveRoles, LoadedHaveRoles, RolesSeparateNames};
+ghost use Rattle.envstate.specs.EnvLaws.{EditableHasNoReason, AddEditsPath, DropEditsPath, PushEditsStack};
+ghost use Rattle.envstate.specs.EnvLaws.{PopEditsStack, SetEditsVariable, AddEditsLoaded, DropEditsLoaded};
+ghost use Rattle.envstate.specs.EnvLaws.{PathLeavesStack, StackLeavesCounters, EditPreservesOthers};
+ghost use Rattle.envstate.specs.EnvLaws.{EditPreservesLoaded, LoadedEditPreservesVariables, EditsLeaveRest};
+ghost use Rattle.envstate.specs.EnvLaws.{LoadedLeavesRest, OrderGivesStart, OtherOwnerIsAbsent, PathTextsAreUnique};
+ghost use Rattle.envstate.specs.EnvLaws.{StackTextsAreUnique, ListTextsAreUnique, AddNames, DropNames, OrderGivesList};
+ghost use Rattle.envstate.specs.EnvLaws.{DropLeavesList};
 
 pub use envloaded::laws::{loaded_edits, loaded_orders, loaded_texts};
 pub use envpaths::laws::{counters, path_edits, path_steps, path_texts, paths};

@@ -8,6 +8,6 @@ pub use envloaded::{Loaded, add_loaded, conflicts_of, drop_loaded, loaded, prere
 pub use envpaths::{End, add_path, drop_path};
 pub use envstacks::{pop_value, push_value};
 pub use envvars::{
-    Change, Env, EnvFault, Vars, Working, changes, is_nul_free, is_protected, is_variable_name,
+    Change, Env, EnvFault, Vars, WorkingCopy, changes, is_nul_free, is_protected, is_variable_name,
     share_name,
 };

@@ -1,5 +1,7 @@
 -- Changes, written over an environment.
-use Rattle.std.proofs.Common.{◌≡◌, Bool, true, false, cond, not, ◌||◌, ◌&&◌, List, [], ◌∷◌, ◌++◌, map, length, subst, arith, Bor, Ordering, refl, sym, ap, ◌∙◌, Option, Some, None, Result, Ok, Err, Vec, Global}
+use Rattle.std.proofs.Common.{◌≡◌, Bool, true, false, cond, not, ◌||◌, ◌&&◌, List, [], ◌∷◌, ◌++◌, map, length, subst}
+use Rattle.std.proofs.Common.{arith, Bor, Ordering, refl, sym, ap, ◌∙◌, Option, Some, None, Result, Ok, Err, Vec}
+use Rattle.std.proofs.Common.{Global}
 use Rattle.std.specs.Prelude.{bytes_eq, filter, is_some, unwrap_or, if◌then◌else◌}
 use Rattle.std.specs.List.{dedup, dedup_from, AllByRecursion}
 use Rattle.std.specs.List.Retain.{IsFiltered, DiffersFromLast}
@@ -42,7 +44,9 @@ chosen_once : (b : Bool) (v o : Option Text) (w : Option (Option Text)) → (b �
 chosen_once true v o w h = ap (λ (x : Option (Option Text)). unwrap_or x v) (h refl)
 chosen_once false v o w h = refl
 
-lookup-applied : (cs : List NewValue) (e : Environment) (q : Text) → IsStrictlySortedBy (slice_cmp nat_cmp) (map (λ (c : NewValue). c.0) cs) → lookup (applied cs e) q ≡ unwrap_or (new_value_at cs q) (lookup e q)
+lookup-applied : (cs : List NewValue) (e : Environment) (q : Text)
+    → IsStrictlySortedBy (slice_cmp nat_cmp) (map (λ (c : NewValue). c.0) cs)
+    → lookup (applied cs e) q ≡ unwrap_or (new_value_at cs q) (lookup e q)
 unfolding IsStrictlySortedBy
 lookup-applied [] e q o = refl
 lookup-applied (c ∷ cs) e q o =
@@ -61,7 +65,8 @@ settled false x y h = refl
 
 pub applied-changes : (old new : Environment) (cs : List NewValue) → AreChanges old new cs → applied cs old ≡ new
 applied-changes old new cs h = same_environment _ _ (λ q.
-    lookup-applied cs old q h.ordered ∙ ap (λ (w : Option (Option Text)). unwrap_or w (lookup old q)) (h.each q) ∙ settled (same_value (lookup old q) (lookup new q)) (lookup old q) (lookup new q) refl)
+    lookup-applied cs old q h.ordered ∙ ap (λ (w : Option (Option Text)). unwrap_or w (lookup old q)) (h.each q)
+    ∙ settled (same_value (lookup old q) (lookup new q)) (lookup old q) (lookup new q) refl)
 
 -- changes made one after another
 
@@ -92,7 +97,9 @@ are_distinct-push (y ∷ ys) x h =
     (rw (apart.1) rest.0, rw (bytes_eq-symmetric x y, apart.0) rest.1)
 
 -- a name that no change names can be written before them
-pub applied-with_value : (cs : List NewValue) (e : Environment) (name : Text) (v : Option Text) → has name (map (λ (c : NewValue). c.0) cs) ≡ false → applied cs (with_value e name v) ≡ with_value (applied cs e) name v
+pub applied-with_value : (cs : List NewValue) (e : Environment) (name : Text) (v : Option Text)
+    → has name (map (λ (c : NewValue). c.0) cs) ≡ false
+    → applied cs (with_value e name v) ≡ with_value (applied cs e) name v
 applied-with_value [] e name v h = refl
 applied-with_value (c ∷ cs) e name v h =
     let apart = or_no (bytes_eq name c.0) (has name (map (λ (d : NewValue). d.0) cs)) h in
@@ -110,7 +117,8 @@ absorb : (b h : Bool) → (b || h) ≡ (b || (b || h))
 absorb true h = refl
 absorb false h = refl
 
-has-dedup_if : (k x : Bor Text) (q : Text) (ds es : List (Bor Text)) (h t : Bool) → same_names x k ≡ t → has q (slice_texts ds) ≡ (bytes_eq q k.now || h) → has q (slice_texts es) ≡ (bytes_eq q x.now || h)
+has-dedup_if : (k x : Bor Text) (q : Text) (ds es : List (Bor Text)) (h t : Bool) → same_names x k ≡ t
+    → has q (slice_texts ds) ≡ (bytes_eq q k.now || h) → has q (slice_texts es) ≡ (bytes_eq q x.now || h)
     → has q (slice_texts (cond t ds (k ∷ es))) ≡ (bytes_eq q k.now || (bytes_eq q x.now || h))
 has-dedup_if k x q ds es h true e d f =
     d ∙ absorb (bytes_eq q k.now) h ∙ ap (λ (y : Text). bytes_eq q k.now || (bytes_eq q y || h)) (sym (same_text x.now k.now e))
@@ -143,7 +151,9 @@ deduplicated-ordered xs ys f s =
 
 pub deduplicated-same : (names xs ys : List (Bor Text)) (q : Text) → IsPermutation names xs → IsFiltered (DiffersFromLast same_names) [] xs ys → has q (slice_texts ys) ≡ has q (slice_texts names)
 deduplicated-same names xs ys q p f =
-    ap (λ (l : List (Bor Text)). has q (slice_texts l)) (dedup_is same_names xs ys f) ∙ has-dedup xs q ∙ sym (has-slice_texts q xs) ∙ sym (list_any-IsPermutation (λ y. bytes_eq y.now q) names xs p) ∙ has-slice_texts q names
+    ap (λ (l : List (Bor Text)). has q (slice_texts l)) (dedup_is same_names xs ys f) ∙ has-dedup xs q
+    ∙ sym (has-slice_texts q xs) ∙ sym (list_any-IsPermutation (λ y. bytes_eq y.now q) names xs p)
+    ∙ has-slice_texts q names
 
 -- of the names of which some may differ, those that do
 
@@ -188,7 +198,8 @@ AreChanges-among old new all names k o h = record {
       (λ e. ap (λ (x : Option Text). same_value x (lookup new q)) (k q e) ∙ same_as_itself (lookup new q));
 }
 
-pub all_changes : {E : Type 0} (r : Result (Vec Change Global) E) (old new : Environment) (all : List Text) (names slice : List (Bor Text)) → slice ≡ names → ((q : Text) → has q all ≡ false → lookup old q ≡ lookup new q)
+pub all_changes : {E : Type 0} (r : Result (Vec Change Global) E) (old new : Environment) (all : List Text)
+    (names slice : List (Bor Text)) → slice ≡ names → ((q : Text) → has q all ≡ false → lookup old q ≡ lookup new q)
     → IsStrictlySortedBy (slice_cmp nat_cmp) (slice_texts names) → ((q : Text) → has q (slice_texts names) ≡ has q (filter (differ old new) all))
     → IfOk r (λ v. new_values_in v ≡ map (change_to new) (slice_texts slice)) → IfOk r (λ v. AreChanges old new (new_values_in v))
 all_changes (Ok v) old new all names slice s k o h e =
@@ -217,7 +228,9 @@ all_filled true o e = refl
 all_filled false None e = refl
 all_filled false (Some x) e = absurd (false≢true e)
 
-put_first : (x : Text × Text) (es : List (Text × Text)) → AllByRecursion (λ (y : Text). slice_cmp nat_cmp x.0 y ≡ Less) (map (λ (p : Text × Text). p.0) es) → put (slice_cmp nat_cmp) x.0 x.1 es ≡ x ∷ es
+put_first : (x : Text × Text) (es : List (Text × Text))
+    → AllByRecursion (λ (y : Text). slice_cmp nat_cmp x.0 y ≡ Less) (map (λ (p : Text × Text). p.0) es)
+    → put (slice_cmp nat_cmp) x.0 x.1 es ≡ x ∷ es
 put_first x [] h = refl
 put_first x (f ∷ fs) h = rw h.0 refl
 
@@ -229,7 +242,8 @@ one_more_key : (e : Environment) (n : Text) (o : Option Text) (ns : List Text) �
     → finite.keys (with_value e n o) ≡ n ∷ ns
 one_more_key e n None ns s k a = absurd (false≢true s)
 one_more_key e n (Some v) ns s k a =
-    ap (map (λ (p : Text × Text). p.0)) (finite.entries-insert nat_list_cmp_total e n v ∙ put_first (n, v) (finite.entries e) (subst (AllByRecursion (λ (y : Text). slice_cmp nat_cmp n y ≡ Less)) (sym k) a))
+    ap (map (λ (p : Text × Text). p.0)) (finite.entries-insert nat_list_cmp_total e n v ∙ put_first (n, v)
+    (finite.entries e) (subst (AllByRecursion (λ (y : Text). slice_cmp nat_cmp n y ≡ Less)) (sym k) a))
     ∙ ap (λ (l : List Text). n ∷ l) k
 
 keys-filled : (e : Environment) (ns : List Text) → IsStrictlySortedBy (slice_cmp nat_cmp) ns → ((q : Text) → has q ns ≡ true → is_some (lookup e q) ≡ true) → finite.keys (filled e ns) ≡ ns

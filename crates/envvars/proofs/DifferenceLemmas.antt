@@ -1,5 +1,6 @@
 -- The difference that the entries of a table make, and changes sorted by the names of their variables.
-use Rattle.std.proofs.Common.{◌≡◌, ◌+◌, ◌<◌, Bool, true, false, cond, not, List, [], ◌∷◌, length, map, filter, subst, refl, sym, ap, ◌∙◌, arith, Option, Some, None, String, Global, string_bytes}
+use Rattle.std.proofs.Common.{◌≡◌, ◌+◌, ◌<◌, Bool, true, false, cond, not, List, [], ◌∷◌, length, map, filter, subst}
+use Rattle.std.proofs.Common.{refl, sym, ap, ◌∙◌, arith, Option, Some, None, String, Global, string_bytes}
 use Rattle.std.specs.Prelude.{bytes_eq}
 use Rattle.std.specs.List.{dedup, dedup_from, AllByRecursion, IsDistinct}
 use Rattle.std.specs.List.Sorted.{IsStrictlySortedBy, IsSorted, IsSortedBy, IsPermutation}
@@ -50,7 +51,9 @@ named_entries : (es : List Slot) → names_of es ≡ map (λ (c : NewValue). c.0
 named_entries [] = refl
 named_entries (x ∷ xs) = ap (λ (l : List Text). string_bytes x.0 ∷ l) (named_entries xs)
 
-pub distinct_changes : (e : Environment) (es : List Slot) (cs : List NewValue) → cs ≡ filter (differs_from e) (new_values_of es) → IsDistinct bytes_eq (names_of es) → IsDistinct bytes_eq (map (λ (c : NewValue). c.0) cs)
+pub distinct_changes : (e : Environment) (es : List Slot) (cs : List NewValue)
+    → cs ≡ filter (differs_from e) (new_values_of es) → IsDistinct bytes_eq (names_of es)
+    → IsDistinct bytes_eq (map (λ (c : NewValue). c.0) cs)
 distinct_changes e es cs h d =
     subst (λ (l : List NewValue). IsDistinct bytes_eq (map (λ (c : NewValue). c.0) l)) (sym h)
     (IsDistinct-keys_filter bytes_eq (differs_from e) (new_values_of es) (subst (IsDistinct bytes_eq) (named_entries es) d))
@@ -84,7 +87,9 @@ each_step e c q rest w true false h d k l =
 each_step e c q rest w false true h d k l = ap (λ (b : Bool). cond b (Some c.1) (new_value_at rest q)) h ∙ k
 each_step e c q rest w false false h d k l = k
 
-each_differs : (e : Environment) (es : List Slot) (q : Text) → IsDistinct bytes_eq (names_of es) → new_value_at (filter (differs_from e) (new_values_of es)) q ≡ difference (lookup e q) (lookup (written_over e es) q)
+each_differs : (e : Environment) (es : List Slot) (q : Text) → IsDistinct bytes_eq (names_of es)
+    → new_value_at (filter (differs_from e) (new_values_of es)) q ≡ difference (lookup e q)
+    (lookup (written_over e es) q)
 unfolding IsDistinct
 each_differs e [] q d = sym (no_difference (lookup e q))
 each_differs e (x ∷ xs) q d =
@@ -145,7 +150,9 @@ unfolding IsDistinct
 none_dropped [] d = refl
 none_dropped (x ∷ xs) d = none_dropped_from x xs d.0 d.1
 
-distinct_still : (before after : List Change) → IsPermutation before after → IsDistinct bytes_eq (map (λ (c : NewValue). c.0) (map new_value_of before)) → IsDistinct bytes_eq (map (λ (c : NewValue). c.0) (map new_value_of after))
+distinct_still : (before after : List Change) → IsPermutation before after
+    → IsDistinct bytes_eq (map (λ (c : NewValue). c.0) (map new_value_of before))
+    → IsDistinct bytes_eq (map (λ (c : NewValue). c.0) (map new_value_of after))
 distinct_still before after moves d =
     IsDistinct-IsPermutation bytes_eq bytes_eq-symmetric _ _ (IsPermutation-map (λ (c : NewValue). c.0) _ _ (IsPermutation-map new_value_of before after moves)) d
 

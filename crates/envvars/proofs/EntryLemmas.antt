@@ -1,5 +1,6 @@
 -- The variable that an entry gives.
-use Rattle.std.proofs.Common.{Option, Some, None, ◌≡◌, ℕ, suc, ◌+◌, ◌-◌, ◌<◌, Bool, true, false, List, [], ◌∷◌, length, take, drop, refl, sym, ap, ◌∙◌, inl, inr, arith}
+use Rattle.std.proofs.Common.{Option, Some, None, ◌≡◌, ℕ, suc, ◌+◌, ◌-◌, ◌<◌, Bool, true, false, List, [], ◌∷◌, length}
+use Rattle.std.proofs.Common.{take, drop, refl, sym, ap, ◌∙◌, inl, inr, arith}
 use Rattle.std.proofs.lemmas.Bool.{cases_Bool, false≢true}
 use Rattle.std.proofs.lemmas.Bool.Decides.{nat_tests}
 use Rattle.std.proofs.lemmas.List.{take_all, take-take, drop-take, drop-drop, length-drop, length-take-le}
@@ -58,7 +59,8 @@ on_ok (Err x) f h = h
 -- where a search for the '=' of an entry finds it
 found_at : (entry : Text) (r : Option ℕ) → IsFirstByte (is_byte 61) entry r → place entry ≡ r
 found_at entry None h =
-    let at : position_or_len is_equals entry ≡ length entry = position_or_len_is is_equals entry (length entry) 0 (omega arith) (λ k l. passes_not k (h k (omega arith) l)) (λ l. absurd (omega (arith, l))) in
+    let at : position_or_len is_equals entry ≡ length entry = position_or_len_is is_equals entry (length entry) 0
+    (omega arith) (λ k l. passes_not k (h k (omega arith) l)) (λ l. absurd (omega (arith, l))) in
     let past : nat_lt (position_or_len is_equals entry) (length entry) ≡ false = grind (arith, nat_tests) in
     rw past refl
   where

@@ -1,5 +1,7 @@
 -- Reading and writing fields with escapes.
-use Rattle.std.proofs.Common.{◌≡◌, ℕ, suc, Bool, true, false, cond, ◌&&◌, ◌||◌, ◌<◌, ◌≤◌, ◌≢◌, List, [], ◌∷◌, ◌++◌, refl, sym, ap, ◌∙◌, subst, arith, length, append_assoc, append-nil, get_or, nat_eq, string_bytes, map, inl, inr, Result, Ok, Err}
+use Rattle.std.proofs.Common.{◌≡◌, ℕ, suc, Bool, true, false, cond, ◌&&◌, ◌||◌, ◌<◌, ◌≤◌, ◌≢◌, List, [], ◌∷◌, ◌++◌}
+use Rattle.std.proofs.Common.{refl, sym, ap, ◌∙◌, subst, arith, length, append_assoc, append-nil, get_or, nat_eq}
+use Rattle.std.proofs.Common.{string_bytes, map, inl, inr, Result, Ok, Err}
 use Rattle.std.specs.Prelude.{if◌then◌else◌, encode_utf8}
 use Rattle.std.specs.List.{onto_first, list_any}
 use Rattle.std.proofs.lemmas.Bool.{cases_lt}
@@ -67,7 +69,9 @@ begun_last : (a : Bool) (c : ℕ) → onto_first_field [] (cond a ([] ∷ [] ∷
 begun_last true c = refl
 begun_last false c = refl
 
-begun_more : (a b : Bool) (c k : ℕ) (es fs : List Text) → onto_first_field [] (cond a ([] ∷ es) (cond b (onto_first k fs) (onto_first c es))) ≡ cond a ([] ∷ es) (cond b (onto_first k fs) (onto_first c es))
+begun_more : (a b : Bool) (c k : ℕ) (es fs : List Text)
+    → onto_first_field [] (cond a ([] ∷ es) (cond b (onto_first k fs) (onto_first c es))) ≡ cond a ([] ∷ es)
+    (cond b (onto_first k fs) (onto_first c es))
 begun_more true b c k es fs = refl
 begun_more false true c k es fs = onto_first_field-one k fs
 begun_more false false c k es fs = onto_first_field-one c es
@@ -96,7 +100,9 @@ small_len c = (len_utf8_bounds c).0
 char_there : (c : ℕ) → 0 < length (encode_utf8 c)
 char_there c = let e = length-encode c in let l = small_len c in omega (arith, e, l)
 
-pub read_other : (x rest : Text) (c : ℕ) → is_special c ≡ false → onto_first_field ((x ++ 92 ∷ []) ++ encode_utf8 c) (unescaped_fields rest) ≡ onto_first_field x (unescaped_fields (92 ∷ (encode_utf8 c ++ rest)))
+pub read_other : (x rest : Text) (c : ℕ) → is_special c ≡ false
+    → onto_first_field ((x ++ 92 ∷ []) ++ encode_utf8 c) (unescaped_fields rest) ≡ onto_first_field x
+    (unescaped_fields (92 ∷ (encode_utf8 c ++ rest)))
 read_other x rest c h =
     sym (ap (onto_first_field x) (other_front (encode_utf8 c) rest (char_there c) (plain_char c h)) ∙ onto_first_field-onto x 92 (unescaped_fields (encode_utf8 c ++ rest))
     ∙ onto_first_field-plain (encode_utf8 c) (x ++ 92 ∷ []) rest (plain_char c h))
@@ -179,12 +185,14 @@ map-push [] e = refl
 map-push (f ∷ fs) e = ap (λ (l : List Text). string_bytes f ∷ l) (map-push fs e)
 
 pub ended_after : (es fs : List (String Global)) (x e y : String Global) (b : Bool) (rest : Text) → fs ≡ es ++ e ∷ [] → e ≡ x → string_bytes y ≡ [] → b ≡ false
-    → map string_bytes fs ++ onto_first_field (string_bytes y) (unescaped_fields (with_pending_escape b rest)) ≡ map string_bytes es ++ onto_first_field (string_bytes x) (unescaped_fields (with_pending_escape b (58 ∷ rest)))
+    → map string_bytes fs ++ onto_first_field (string_bytes y) (unescaped_fields (with_pending_escape b rest)) ≡ map
+    string_bytes es ++ onto_first_field (string_bytes x) (unescaped_fields (with_pending_escape b (58 ∷ rest)))
 ended_after es fs x e y b rest f s n t =
     let all : map string_bytes fs ≡ map string_bytes es ++ string_bytes x ∷ [] = ap (map string_bytes) f ∙ map-push es e ∙ ap (λ (z : String Global). map string_bytes es ++ string_bytes z ∷ []) s in
     rw (t, n, all) (read_colon (map string_bytes es) (string_bytes x) rest)
 
-pub read_start : (es : List (String Global)) (x : String Global) (u t : Text) → es ≡ [] → string_bytes x ≡ [] → u ≡ t → map string_bytes es ++ onto_first_field (string_bytes x) (unescaped_fields u) ≡ unescaped_fields t
+pub read_start : (es : List (String Global)) (x : String Global) (u t : Text) → es ≡ [] → string_bytes x ≡ [] → u ≡ t
+    → map string_bytes es ++ onto_first_field (string_bytes x) (unescaped_fields u) ≡ unescaped_fields t
 read_start es x u t e n h = rw (e, n, h) (onto_first_field-none t)
 
 pub part_turn : (t u old rest all : Text) (c : ℕ) → old ≡ encode_utf8 c ++ rest → u ≡ t ++ escaped (encode_utf8 c) → t ++ escaped old ≡ all → u ++ escaped rest ≡ all

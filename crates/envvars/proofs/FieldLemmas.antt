@@ -1,5 +1,7 @@
 -- Lists of texts, parted, joined and each once.
-use Rattle.std.proofs.Common.{Vec, Global, vec_len, ◌≡◌, ℕ, Bool, true, false, cond, not, List, [], ◌∷◌, ◌++◌, refl, sym, ap, ◌∙◌, suc, ◌||◌, ◌&&◌, ◌+◌, ◌-◌, ◌<◌, ◌≤◌, arith, length, take, get_or, append-nil, append_assoc, take_all, Bor, nat_eq, drop as cut}
+use Rattle.std.proofs.Common.{Vec, Global, vec_len, ◌≡◌, ℕ, Bool, true, false, cond, not, List, [], ◌∷◌, ◌++◌, refl}
+use Rattle.std.proofs.Common.{sym, ap, ◌∙◌, suc, ◌||◌, ◌&&◌, ◌+◌, ◌-◌, ◌<◌, ◌≤◌, arith, length, take, get_or}
+use Rattle.std.proofs.Common.{append-nil, append_assoc, take_all, Bor, nat_eq, drop as cut}
 use Rattle.std.specs.Prelude.{flat_map, bytes_eq, filter, if◌then◌else◌}
 use Rattle.std.proofs.lemmas.Bool.Decides.{nat_tests}
 use Rattle.std.proofs.lemmas.List.{drop_more}
@@ -137,11 +139,14 @@ filter_twice x ks (f ∷ fs) =
     ∙ ap (λ (b : Bool). cond (not b) (f ∷ filter (λ y. not (has y (ks ++ x ∷ []))) fs) (filter (λ y. not (has y (ks ++ x ∷ []))) fs)) (sym (has-push ks x f))
 
 firsts_at : (t : Bool) (ks fs : List Text) (x : Text) → has x ks ≡ t
-    → (let new : List Text = cond t ks (ks ++ x ∷ []) in new ++ filter (λ y. not (has y new)) fs) ≡ ks ++ cond (not t) (x ∷ filter (λ y. not (has y ks)) (without x fs)) (filter (λ y. not (has y ks)) (without x fs))
+    → (let new : List Text = cond t ks (ks ++ x ∷ []) in new ++ filter (λ y. not (has y new)) fs) ≡ ks
+    ++ cond (not t) (x ∷ filter (λ y. not (has y ks)) (without x fs)) (filter (λ y. not (has y ks)) (without x fs))
 firsts_at true ks fs x h = ap (λ (l : List Text). ks ++ l) (sym (filter-without (λ y. not (has y ks)) x fs (rw h refl)))
 firsts_at false ks fs x h = rw (append_assoc, filter_twice x ks fs) refl
 
-pub without_repeats-step : (ks xs : List Text) (x : Text) → with_new ks x ++ filter (λ y. not (has y (with_new ks x))) (without_repeats xs) ≡ ks ++ filter (λ y. not (has y ks)) (without_repeats (x ∷ xs))
+pub without_repeats-step : (ks xs : List Text) (x : Text) → with_new ks x
+    ++ filter (λ y. not (has y (with_new ks x))) (without_repeats xs) ≡ ks
+    ++ filter (λ y. not (has y ks)) (without_repeats (x ∷ xs))
 without_repeats-step ks xs x = firsts_at (has x ks) ks (without_repeats xs) x refl
 
 filter_every : (xs : List Text) → filter (λ y. not (has y [])) xs ≡ xs

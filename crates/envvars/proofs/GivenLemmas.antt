@@ -1,5 +1,8 @@
 -- The chains in which the entry of a name is found, and the environment that entries are written over.
-use Rattle.std.proofs.Common.{◌≡◌, ℕ, zero, suc, ◌+◌, ◌<◌, ◌≤◌, ◌≢◌, Bool, true, false, cond, ◌||◌, inl, inr, ◌⊎◌, List, [], ◌∷◌, ◌++◌, length, map, replicate, get_or, take, set, slice_get, Bor, Option, Some, None, IfSome, refl, sym, ap, ◌∙◌, append_assoc, subst, arith, length-append, length-set, take-suc}
+use Rattle.std.proofs.Common.{◌≡◌, ℕ, zero, suc, ◌+◌, ◌<◌, ◌≤◌, ◌≢◌, Bool, true, false, cond, ◌||◌, inl, inr, ◌⊎◌, List}
+use Rattle.std.proofs.Common.{[], ◌∷◌, ◌++◌, length, map, replicate, get_or, take, set, slice_get, Bor, Option, Some}
+use Rattle.std.proofs.Common.{None, IfSome, refl, sym, ap, ◌∙◌, append_assoc, subst, arith, length-append, length-set}
+use Rattle.std.proofs.Common.{take-suc}
 use Rattle.std.specs.Prelude.{bytes_eq}
 use Rattle.std.proofs.lemmas.Bool.{cases_Bool, false≢true}
 use Rattle.std.proofs.lemmas.Bool.Decides.{leb_tells}
@@ -8,7 +11,8 @@ use Rattle.std.proofs.lemmas.Option.{slice_get_within}
 use Rattle.std.specs.FinMap as finite
 use Rattle.envvars.specs.Texts.{Text, has, slice_texts}
 use Rattle.envvars.specs.Environment.{Environment, lookup, with_value}
-use Rattle.envvars.specs.Given.{IsNamed, IsInChain, IsLastBelow, IsFirstOf, IsInside, AreChained, name_in, value_in, given_over, chain_of}
+use Rattle.envvars.specs.Given.{IsNamed, IsInChain, IsLastBelow, IsFirstOf, IsInside, AreChained, name_in, value_in}
+use Rattle.envvars.specs.Given.{given_over, chain_of}
 use Rattle.envvars.specs.declared.given.Entry.{Entry}
 use Rattle.envvars.proofs.TextLemmas.{bytes_eq-same, same_text}
 use Rattle.envvars.proofs.TableLemmas.{nothing_set}
@@ -95,7 +99,9 @@ module _ (count : ℕ) (block : Text) (es : List Entry) (name : Text) where
   other_name i e get n p = n (name_at i e get p)
 
   -- the chain that an entry is in is the name's
-  pub chain_leads : (i : ℕ) (e : Entry) (earlier : Option ℕ) → slice_get es i ≡ Some e → InChain i → IsLastBelow (IsInChain count block es (chain_of count (name_in block e))) i earlier → IsLastBelow InChain i earlier
+  pub chain_leads : (i : ℕ) (e : Entry) (earlier : Option ℕ) → slice_get es i ≡ Some e → InChain i
+      → IsLastBelow (IsInChain count block es (chain_of count (name_in block e))) i earlier
+      → IsLastBelow InChain i earlier
   chain_leads i e earlier get p h =
       let same : p.0 ≡ e = some_same p.0 e (sym p.1 ∙ get) in
       subst (λ (n : ℕ). IsLastBelow (IsInChain count block es n) i earlier) (ap (λ (x : Entry). chain_of count (name_in block x)) (sym same) ∙ p.2) h
@@ -126,7 +132,9 @@ module _ (block : Text) where
   lookup-not_given base (x ∷ xs) q n = not_at (given_over block base xs) x q (λ is. n 0 (x, refl, is)) ∙ lookup-not_given base xs q (λ j. n (suc j))
 
   -- a name has the value of its first entry
-  pub lookup-given : (base : Environment) (es : List Entry) (q : Text) (i : ℕ) (e : Entry) → slice_get es i ≡ Some e → name_in block e ≡ q → ((j : ℕ) → j < i → ¬ IsNamed block es q j) → lookup (given_over block base es) q ≡ value_in block e
+  pub lookup-given : (base : Environment) (es : List Entry) (q : Text) (i : ℕ) (e : Entry) → slice_get es i ≡ Some e
+      → name_in block e ≡ q → ((j : ℕ) → j < i → ¬ IsNamed block es q j)
+      → lookup (given_over block base es) q ≡ value_in block e
   lookup-given base [] q i e get is n = absurd (none_some get)
   lookup-given base (x ∷ xs) q zero e get is n =
       let same : x ≡ e = some_same x e get in
@@ -172,7 +180,9 @@ last_same P Q n m None le to from h = λ j l q. let r = from j l q in h j r.0 r.
 last_same P Q n m (Some i) le to from h = (omega (arith, h.0, le), to i h.1, λ j a l q. let r = from j l q in h.2 j a r.0 r.1)
 
 -- one more entry in its chain
-module _ (count : ℕ) (block : Text) (es : List Entry) (e : Entry) (latest : List (Option ℕ)) (all : AreChained count block es latest) (at : ℕ) (is_at : at ≡ chain_of count (name_in block e)) (begun : slice_get latest at ≡ Some e.earlier) (chains : 0 < count) where
+module _ (count : ℕ) (block : Text) (es : List Entry) (e : Entry) (latest : List (Option ℕ))
+    (all : AreChained count block es latest) (at : ℕ) (is_at : at ≡ chain_of count (name_in block e))
+    (begun : slice_get latest at ≡ Some e.earlier) (chains : 0 < count) where
   more : (chain j : ℕ) → IsInChain count block es chain j → IsInChain count block (es ++ e ∷ []) chain j
   more chain j p = (p.0, get_kept es e j p.0 p.1, p.2)
 
@@ -195,7 +205,9 @@ module _ (count : ℕ) (block : Text) (es : List Entry) (e : Entry) (latest : Li
   began chain i get = elim (get_set latest at (Some (length es)) chain i get) [
     | inl k ↦ last_same (IsInChain count block es chain) (IsInChain count block (es ++ e ∷ []) chain) (length es) (length (es ++ e ∷ [])) i (omega (arith, size)) (more chain)
         (λ j l q. not_last chain j k.0 (omega (arith, l, size)) q) (all.begins chain i k.1)
-    | inr k ↦ subst (λ (n : ℕ). IsLastBelow (IsInChain count block (es ++ e ∷ []) n) (length (es ++ e ∷ [])) i) (sym k.0) (subst (λ (o : Option ℕ). IsLastBelow (IsInChain count block (es ++ e ∷ []) at) (length (es ++ e ∷ [])) o) k.1 here)
+    | inr k ↦ subst (λ (n : ℕ). IsLastBelow (IsInChain count block (es ++ e ∷ []) n) (length (es ++ e ∷ [])) i)
+        (sym k.0) (subst (λ (o : Option ℕ). IsLastBelow (IsInChain count block (es ++ e ∷ []) at)
+        (length (es ++ e ∷ [])) o) k.1 here)
   ]
 
   led : (i : ℕ) (d : Entry) → slice_get (es ++ e ∷ []) i ≡ Some d → IsLastBelow (IsInChain count block (es ++ e ∷ []) (chain_of count (name_in block d))) i d.earlier
@@ -203,11 +215,13 @@ module _ (count : ℕ) (block : Text) (es : List Entry) (e : Entry) (latest : Li
     | inl k ↦
         let chain = chain_of count (name_in block d) in
         let inside : i < length es = slice_get_within es i d k in
-        last_same (IsInChain count block es chain) (IsInChain count block (es ++ e ∷ []) chain) i i d.earlier (omega arith) (more chain) (λ j l q. (l, fewer chain j (omega (arith, l, inside)) q)) (all.leads i d k)
+        last_same (IsInChain count block es chain) (IsInChain count block (es ++ e ∷ []) chain) i i d.earlier
+        (omega arith) (more chain) (λ j l q. (l, fewer chain j (omega (arith, l, inside)) q)) (all.leads i d k)
     | inr k ↦
         let of_last : IsLastBelow (IsInChain count block (es ++ e ∷ []) (chain_of count (name_in block e))) (length es) e.earlier =
         subst (λ (n : ℕ). IsLastBelow (IsInChain count block (es ++ e ∷ []) n) (length es) e.earlier) is_at
-        (last_same (IsInChain count block es at) (IsInChain count block (es ++ e ∷ []) at) (length es) (length es) e.earlier (omega arith) (more at) (λ j l q. (l, fewer at j l q)) (all.begins at e.earlier begun)) in
+        (last_same (IsInChain count block es at) (IsInChain count block (es ++ e ∷ []) at) (length es) (length es)
+        e.earlier (omega arith) (more at) (λ j l q. (l, fewer at j l q)) (all.begins at e.earlier begun)) in
         subst (λ (n : ℕ). IsLastBelow (IsInChain count block (es ++ e ∷ []) (chain_of count (name_in block d))) n d.earlier) (sym k.0)
         (subst (λ (x : Entry). IsLastBelow (IsInChain count block (es ++ e ∷ []) (chain_of count (name_in block x))) (length es) x.earlier) k.1 of_last)
   ]
@@ -220,13 +234,15 @@ module _ (count : ℕ) (block : Text) (es : List Entry) (e : Entry) (latest : Li
     leads = led;
   }
 
-pub chained-pushed : (block : Text) (es ns : List Entry) (e : Entry) (latest : List (Option ℕ)) (at n : ℕ) → AreChained (length latest) block es latest → at ≡ chain_of (length latest) (name_in block e)
+pub chained-pushed : (block : Text) (es ns : List Entry) (e : Entry) (latest : List (Option ℕ)) (at n : ℕ)
+    → AreChained (length latest) block es latest → at ≡ chain_of (length latest) (name_in block e)
     → slice_get latest at ≡ Some e.earlier → 0 < length latest → ns ≡ es ++ e ∷ [] → n ≡ length es → IsInside block e → AreChained (length (set latest at (Some n))) block ns (set latest at (Some n))
 chained-pushed block es ns e latest at n all is_at begun chains grown last inside =
     let pushed : AreChained (length latest) block ns (set latest at (Some n)) = rw (grown, last) (chained-push (length latest) block es e latest all at is_at begun chains inside) in
     subst (λ (m : ℕ). AreChained m block ns (set latest at (Some n))) (sym (length-set latest at (Some n))) pushed
 
-pub given_over-pushed : (block : Text) (base : Environment) (es ns : List Entry) (e : Entry) → ns ≡ es ++ e ∷ [] → given_over block base ns ≡ given_over block (with_value base (name_in block e) (value_in block e)) es
+pub given_over-pushed : (block : Text) (base : Environment) (es ns : List Entry) (e : Entry) → ns ≡ es ++ e ∷ []
+    → given_over block base ns ≡ given_over block (with_value base (name_in block e) (value_in block e)) es
 given_over-pushed block base es ns e grown = ap (given_over block base) grown ∙ given_over-push block base es e
 
 get_set_same : {A : Type 0} (xs : List A) (i : ℕ) (x y : A) → slice_get xs i ≡ Some y → slice_get (set xs i x) i ≡ Some x
@@ -272,7 +288,8 @@ module _ (count : ℕ) (block : Text) (es : List Entry) (latest : List (Option �
           subst (IsInside block) k.1 (record { named = inside.named; valued = inside.valued; within = inside.within; utf8 = inside.utf8 })
     ];
     chains = λ l. all.chains (omega (arith, l, length-set es i (unset e)));
-    begins = λ chain o at. last_same (IsInChain count block es chain) (IsInChain count block (set es i (unset e)) chain) (length es) (length (set es i (unset e))) o (omega (arith, length-set es i (unset e)))
+    begins = λ chain o at. last_same (IsInChain count block es chain) (IsInChain count block (set es i (unset e)) chain)
+        (length es) (length (set es i (unset e))) o (omega (arith, length-set es i (unset e)))
         (still chain) (λ j l q. (omega (arith, l, length-set es i (unset e)), before chain j q)) (all.begins chain o at);
     leads = λ j d at. elim (get_set es i (unset e) j d at) [
       | inl k ↦ last_same (IsInChain count block es (chain_of count (name_in block d))) (IsInChain count block (set es i (unset e)) (chain_of count (name_in block d))) j j d.earlier (omega arith)
@@ -321,7 +338,9 @@ given_over-absent block es q n =
     same_environment _ _ (λ p. sym (lookup-with_value all q None p ∙ stays all q p (bytes_eq p q) refl (sym (not_given block es q n))))
 
 -- the names of one more entry
-pub names_step : (block : Text) (es : List Entry) (i : ℕ) (d : Entry) (before : List Text) (old new : List (Bor Text)) (x : Bor Text) → i < length es → slice_texts old ≡ before ++ map (name_in block) (take i es) → new ≡ old ++ x ∷ [] → x.now ≡ name_in block (get_or es i d)
+pub names_step : (block : Text) (es : List Entry) (i : ℕ) (d : Entry) (before : List Text) (old new : List (Bor Text))
+    (x : Bor Text) → i < length es → slice_texts old ≡ before ++ map (name_in block) (take i es) → new ≡ old ++ x ∷ []
+    → x.now ≡ name_in block (get_or es i d)
     → slice_texts new ≡ before ++ map (name_in block) (take (i + 1) es)
 names_step block es i d before old new x l h grown is =
     ap slice_texts grown ∙ map-append (λ (y : Bor Text). y.now) old (x ∷ []) ∙ (rw (h, is) refl)

@@ -1,5 +1,6 @@
 -- Tables of names, and the environments that they are written over.
-use Rattle.std.proofs.Common.{◌≡◌, Bool, true, false, cond, ◌||◌, arith, List, [], ◌∷◌, ◌++◌, length, refl, sym, ap, ◌∙◌, map, Option, Some, None, Result, Ok, Err, String, Global, string_bytes}
+use Rattle.std.proofs.Common.{◌≡◌, Bool, true, false, cond, ◌||◌, arith, List, [], ◌∷◌, ◌++◌, length, refl, sym, ap}
+use Rattle.std.proofs.Common.{◌∙◌, map, Option, Some, None, Result, Ok, Err, String, Global, string_bytes}
 use Rattle.std.specs.Prelude.{bytes_eq, unwrap_or, if◌then◌else◌}
 use Rattle.std.specs.Option.{option_map}
 use Rattle.std.specs.Result.{IsOk, OnOk}
@@ -51,7 +52,9 @@ pub none_found : {S : Type 0} (m : IndexMap (String Global) (Option (String Glob
 none_found m q h = sym (no_slot m.entries q h)
 
 -- tables that say the same of each name
-pub same_over : {S : Type 0} (e : Environment) (m n : IndexMap (String Global) (Option (String Global)) S) → ((q : Text) → unwrap_or (slot n q) (lookup e q) ≡ unwrap_or (slot m q) (lookup e q)) → written_over e n.entries ≡ written_over e m.entries
+pub same_over : {S : Type 0} (e : Environment) (m n : IndexMap (String Global) (Option (String Global)) S)
+    → ((q : Text) → unwrap_or (slot n q) (lookup e q) ≡ unwrap_or (slot m q) (lookup e q))
+    → written_over e n.entries ≡ written_over e m.entries
 same_over e m n h = same_environment _ _ (λ q. lookup-written_over e n q ∙ h q ∙ sym (lookup-written_over e m q))
 
 pub kept_over : {S : Type 0} (e : Environment) (m n : IndexMap (String Global) (Option (String Global)) S) → ((q : Text) → slot n q ≡ slot m q) → written_over e n.entries ≡ written_over e m.entries
@@ -62,7 +65,8 @@ entered_at true v w o = refl
 entered_at false v w o = refl
 
 -- a name was given a value
-pub entered_over : {S : Type 0} (e : Environment) (m n : IndexMap (String Global) (Option (String Global)) S) (name : Text) (v : Option Text) → ((q : Text) → slot n q ≡ (if bytes_eq q name then Some v else slot m q))
+pub entered_over : {S : Type 0} (e : Environment) (m n : IndexMap (String Global) (Option (String Global)) S)
+    (name : Text) (v : Option Text) → ((q : Text) → slot n q ≡ (if bytes_eq q name then Some v else slot m q))
     → written_over e n.entries ≡ with_value (written_over e m.entries) name v
 entered_over e m n name v h = same_environment _ _ (λ q.
     lookup-written_over e n q ∙ ap (λ (o : Option (Option Text)). unwrap_or o (lookup e q)) (h q) ∙ entered_at (bytes_eq q name) v (slot m q) (lookup e q)
@@ -73,7 +77,8 @@ map_cond true o p = refl
 map_cond false o p = refl
 
 -- one name of the table changed
-pub slot-updated : {S : Type 0} (m n : IndexMap (String Global) (Option (String Global)) S) (name : Text) (w : Option (Option (String Global))) → UpdatesBy string_eq (λ k. bytes_eq name (string_bytes k)) m n w
+pub slot-updated : {S : Type 0} (m n : IndexMap (String Global) (Option (String Global)) S) (name : Text)
+    (w : Option (Option (String Global))) → UpdatesBy string_eq (λ k. bytes_eq name (string_bytes k)) m n w
     → (q : Text) → slot n q ≡ (if bytes_eq q name then said w else slot m q)
 slot-updated m n name w u q =
     ap said (hash_map_updates_text name m n w u q) ∙ map_cond (bytes_eq name q) w (get_by_text m q)
@@ -95,7 +100,9 @@ removed_over e m n name u = same_environment _ _ (λ q.
     ∙ ap (cond (bytes_eq q name) None) (sym (lookup-written_over e m q)) ∙ sym (lookup-with_value (written_over e m.entries) name None q))
 
 -- what was found in a table, or else in the environment under it
-pub found_over : {S : Type 0} (e d : Environment) (m : IndexMap (String Global) (Option (String Global)) S) (q : Text) (o : Option (Option Text)) (p : Option Text) → written_over e m.entries ≡ d → o ≡ slot m q → p ≡ unwrap_or o (lookup e q) → p ≡ lookup d q
+pub found_over : {S : Type 0} (e d : Environment) (m : IndexMap (String Global) (Option (String Global)) S) (q : Text)
+    (o : Option (Option Text)) (p : Option Text) → written_over e m.entries ≡ d → o ≡ slot m q
+    → p ≡ unwrap_or o (lookup e q) → p ≡ lookup d q
 found_over e d m q o p v f h = h ∙ ap (λ (w : Option (Option Text)). unwrap_or w (lookup e q)) f ∙ sym (lookup-written_over e m q) ∙ ap (λ (x : Environment). lookup x q) v
 
 -- names that no entry has
@@ -111,12 +118,18 @@ pub not_written : (e : Environment) (es : List Slot) (q : Text) → has q (names
 not_written e es q h = lookup-entries e es q ∙ ap (λ (o : Option (Option (String Global))). unwrap_or (said o) (lookup e q)) (not_found es q h)
 
 -- names that a list has none of, once those of the entries and all that is set under them were appended to it
-pub all_appended : (e d : Environment) (es : List Slot) (before between after under : List Text) → written_over e es ≡ d → between ≡ before ++ names_of es → after ≡ between ++ under → ((n : Text) → has n under ≡ false → lookup e n ≡ None)
+pub all_appended : (e d : Environment) (es : List Slot) (before between after under : List Text) → written_over e es ≡ d
+    → between ≡ before ++ names_of es → after ≡ between ++ under
+    → ((n : Text) → has n under ≡ false → lookup e n ≡ None)
     → (n : Text) → has n after ≡ false → (has n before ≡ false) × (lookup d n ≡ None)
 all_appended e d es before between after under w first second none n h =
     let later : (has n between || has n under) ≡ false = sym (ap (has n) second ∙ list_any-append (bytes_eq n) between under) ∙ h in
-    let earlier : (has n before || has n (names_of es)) ≡ false = sym (ap (has n) first ∙ list_any-append (bytes_eq n) before (names_of es)) ∙ or_left (has n between) (has n under) later in
-    (or_left (has n before) (has n (names_of es)) earlier, ap (λ (x : Environment). lookup x n) (sym w) ∙ not_written e es n (or_right (has n before) (has n (names_of es)) earlier) ∙ none n (or_right (has n between) (has n under) later))
+    let earlier : (has n before || has n (names_of es)) ≡ false = sym (ap (has n) first ∙ list_any-append (bytes_eq n) before (names_of es)) ∙ or_left (has n between) (has n under) later in (
+      or_left (has n before) (has n (names_of es)) earlier,
+      ap (λ (x : Environment). lookup x n) (sym w)
+          ∙ not_written e es n (or_right (has n before) (has n (names_of es)) earlier)
+          ∙ none n (or_right (has n between) (has n under) later),
+    )
 
 -- names that were not touched have the values under them
 pub all_touched : {S : Type 0} (e d : Environment) (m : IndexMap (String Global) (Option (String Global)) S) (names : List Text) → written_over e m.entries ≡ d → names ≡ names_of m.entries
@@ -130,7 +143,9 @@ ok_then (Err e) k h = absurd (false≢true k)
 
 -- one more change is written
 pub write_made : {S : Type 0} (base : Environment) (m n : IndexMap (String Global) (Option (String Global)) S) (old rest : List Change) (change : Change) (all : Environment) → old ≡ change ∷ rest
-    → ((q : Text) → slot n q ≡ (if bytes_eq q (string_bytes change.name) then Some (option_map string_bytes change.value) else slot m q)) → applied (map new_value_of old) (written_over base m.entries) ≡ all
+    → ((q : Text) → slot n q ≡ (if bytes_eq q (string_bytes change.name) then Some
+    (option_map string_bytes change.value) else slot m q))
+    → applied (map new_value_of old) (written_over base m.entries) ≡ all
     → applied (map new_value_of rest) (written_over base n.entries) ≡ all
 write_made base m n old rest change all e h k =
     ap (applied (map new_value_of rest)) (entered_over base m n (string_bytes change.name) (option_map string_bytes change.value) h)

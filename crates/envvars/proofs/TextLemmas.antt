@@ -1,5 +1,6 @@
 -- Tests of texts.
-use Rattle.std.proofs.Common.{◌≡◌, Bool, true, false, cond, not, ◌||◌, ◌&&◌, List, [], ◌∷◌, ◌++◌, refl, sym, ap, ◌∙◌, Bor}
+use Rattle.std.proofs.Common.{◌≡◌, Bool, true, false, cond, not, ◌||◌, ◌&&◌, List, [], ◌∷◌, ◌++◌, refl, sym, ap, ◌∙◌}
+use Rattle.std.proofs.Common.{Bor}
 use Rattle.std.specs.Prelude.{filter, bytes_eq}
 use Rattle.std.proofs.lemmas.Slice.Eq.{bytes_eq-Decides}
 use Rattle.std.proofs.lemmas.Bool.Decides.{same_from_decides}
@@ -32,7 +33,8 @@ has-without xs x y =
     any-filter_same (bytes_eq y) (λ z. not (bytes_eq z x)) (not (bytes_eq y x)) (λ z e. ap (λ (t : Text). not (bytes_eq t x)) (sym (same_text y z e))) xs
 
 -- what a test refuses anyway may be taken out before it
-filter_one : (p : Text → Bool) (x z : Text) (zs ws : List Text) (b : Bool) → bytes_eq z x ≡ b → p x ≡ false → filter p ws ≡ filter p zs → filter p (cond (not b) (z ∷ ws) ws) ≡ cond (p z) (z ∷ filter p zs) (filter p zs)
+filter_one : (p : Text → Bool) (x z : Text) (zs ws : List Text) (b : Bool) → bytes_eq z x ≡ b → p x ≡ false
+    → filter p ws ≡ filter p zs → filter p (cond (not b) (z ∷ ws) ws) ≡ cond (p z) (z ∷ filter p zs) (filter p zs)
 filter_one p x z zs ws true e q h =
     let f : p z ≡ false = ap p (same_text z x e) ∙ q in
     rw f h

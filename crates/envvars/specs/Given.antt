@@ -1,13 +1,14 @@
 -- For the contracts of private functions: the variables of a block, each by the place of its entry, and the chains in
 -- which the entry of a name is found.
-use Rattle.std.specs.Prelude.{◌≡◌, ℕ, ◌+◌, ◌-◌, ◌*◌, ◌/◌, ◌%◌, ◌<◌, ◌≤◌, List, [], ◌∷◌, map, length, take, drop, slice_get, slice_index, Option, Some, None, if◌then◌else◌}
+use Rattle.std.specs.Prelude.{◌≡◌, ℕ, ◌+◌, ◌-◌, ◌*◌, ◌/◌, ◌%◌, ◌<◌, ◌≤◌, List, [], ◌∷◌, map, length, take, drop}
+use Rattle.std.specs.Prelude.{slice_get, slice_index, Option, Some, None, if◌then◌else◌}
 use Rattle.std.specs.Str.{IsUtf8}
 use Rattle.std.specs.FinMap as finite
 use Rattle.envvars.specs.Texts.{Text}
 use Rattle.envvars.specs.Environment.{Environment, with_value}
 use Rattle.envvars.specs.EnvironmentBlock.{utf8_value}
 use Rattle.envvars.specs.declared.given.Entry.{Entry}
-use Rattle.envvars.specs.declared.given.Given.{Given}
+use Rattle.envvars.specs.declared.given.GivenVariables.{GivenVariables}
 
 -- the name of an entry
 abbrev pub name_in : Text → Entry → Text
@@ -27,11 +28,11 @@ given_over block base [] = base
 given_over block base (e ∷ entries) = with_value (given_over block base entries) (name_in block e) (value_in block e)
 
 -- the variables of a block
-abbrev pub variables_of : Given → Environment
+abbrev pub variables_of : GivenVariables → Environment
 variables_of given = given_over given.block.items finite.empty given.entries.items
 
 -- the names of its entries
-abbrev pub names_of : Given → List Text
+abbrev pub names_of : GivenVariables → List Text
 names_of given = map (name_in given.block.items) given.entries.items
 
 -- The name and the value of an entry stand in the block, and the name is UTF-8.
@@ -69,9 +70,11 @@ IsFirstOf P (Some i) = P i × ((j : ℕ) → j < i → ¬ P j)
 pub record AreChained (count : ℕ) (block : Text) (entries : List Entry) (latest : List (Option ℕ)) : Type 0 where
   pub inside : (i : ℕ) (e : Entry) → slice_get entries i ≡ Some e → IsInside block e
   pub chains : 0 < length entries → 0 < count
-  pub begins : (chain : ℕ) (i : Option ℕ) → slice_get latest chain ≡ Some i → IsLastBelow (IsInChain count block entries chain) (length entries) i
-  pub leads : (i : ℕ) (e : Entry) → slice_get entries i ≡ Some e → IsLastBelow (IsInChain count block entries (chain_of count (name_in block e))) i e.earlier
+  pub begins : (chain : ℕ) (i : Option ℕ) → slice_get latest chain ≡ Some i
+      → IsLastBelow (IsInChain count block entries chain) (length entries) i
+  pub leads : (i : ℕ) (e : Entry) → slice_get entries i ≡ Some e
+      → IsLastBelow (IsInChain count block entries (chain_of count (name_in block e))) i e.earlier
 
 -- The entries of a block of variables are chained.
-abbrev pub IsChained : Given → Type 0
+abbrev pub IsChained : GivenVariables → Type 0
 IsChained given = AreChained (length given.latest.items) given.block.items given.entries.items given.latest.items

@@ -1,6 +1,7 @@
 -- The names of variables (POSIX XBD 3.235, Name), the protected ones (module(1), ENVIRONMENT), and which values a
 -- variable can have (environ(7)).
-use Rattle.std.specs.Prelude.{ℕ, Bool, false, not, ◌&&◌, ◌||◌, ◌==◌, [], ◌∷◌, ◌++◌, nat_le, nat_eq, bytes_eq, codes, Option, Some, None, if◌then◌else◌}
+use Rattle.std.specs.Prelude.{ℕ, Bool, false, not, ◌&&◌, ◌||◌, ◌==◌, [], ◌∷◌, ◌++◌, nat_le, nat_eq, bytes_eq, codes}
+use Rattle.std.specs.Prelude.{Option, Some, None, if◌then◌else◌}
 use Rattle.std.specs.List.{list_all, starts_with}
 use Rattle.envvars.specs.Texts.{Text}
 use Rattle.envvars.specs.Reasons.{EnvReason, bad_variable, protected}

@@ -1,10 +1,12 @@
 -- The errors of edits, as contracts see them: the reason and the variable; want of memory is left open (own).
-use Rattle.std.specs.Prelude.{◌≡◌, ℕ, codes, string_bytes, Option, Some, None, IfSome, Result, Ok, Err}
-use Rattle.message.specs.Messages.{around, quoting, out_of_memory}
+use Rattle.std.specs.Prelude.{◌≡◌, [], string_bytes, Option, Some, None, IfSome, Result, Ok, Err}
+use Rattle.message.specs.Refusals.{NumberedText, about}
+use Rattle.message.specs.declared.refusals.RefusalKind.TheVariants as kinds
 use Rattle.envvars.specs.Texts.{Text}
 use Rattle.envvars.specs.Environment.{Environment}
 use Rattle.envvars.specs.declared.fault.EnvFault.{EnvFault}
-use Rattle.envvars.specs.declared.fault.EnvFault.TheVariants.{OutOfMemory, BadVariable, Protected, CounterFull, Inconsistent, BadStack, BadValue}
+use Rattle.envvars.specs.declared.fault.EnvFault.TheVariants.{OutOfMemory, BadVariable, Protected, CounterFull}
+use Rattle.envvars.specs.declared.fault.EnvFault.TheVariants.{Inconsistent, BadStack, BadValue}
 
 -- why an edit is refused, with the variable's name
 pub data EnvReason : Type 0 where
@@ -29,25 +31,15 @@ reason_of (BadValue name) = Some (bad_value (string_bytes name))
 abbrev pub HasReason : EnvReason → EnvFault → Type 0
 HasReason reason e = IfSome (reason_of e) (λ r. r ≡ reason)
 
--- the number of an error
-abbrev pub number_of : EnvFault → ℕ
-number_of OutOfMemory = 31
-number_of (BadVariable name) = 32
-number_of (Protected name) = 33
-number_of (CounterFull name) = 34
-number_of Inconsistent = 35
-number_of (BadStack name) = 36
-number_of (BadValue name) = 37
-
--- the text of an error
-abbrev pub message_of : EnvFault → Text
-message_of OutOfMemory = out_of_memory
-message_of (BadVariable name) = quoting (codes "Bad variable name '") (string_bytes name)
-message_of (Protected name) = around (codes "Variable '") (string_bytes name) (codes "' is kept by the tool")
-message_of (CounterFull name) = around (codes "Counter of '") (string_bytes name) (codes "' is full")
-message_of Inconsistent = codes "Loaded modules are inconsistent"
-message_of (BadStack name) = quoting (codes "Bad stack of '") (string_bytes name)
-message_of (BadValue name) = quoting (codes "Bad value of '") (string_bytes name)
+-- the refusal that an error is
+abbrev pub refusal_of : EnvFault → NumberedText
+refusal_of OutOfMemory = about kinds.MemoryForRequest []
+refusal_of (BadVariable name) = about kinds.BadVariable (string_bytes name)
+refusal_of (Protected name) = about kinds.Protected (string_bytes name)
+refusal_of (CounterFull name) = about kinds.CounterFull (string_bytes name)
+refusal_of Inconsistent = about kinds.Inconsistent []
+refusal_of (BadStack name) = about kinds.BadStack (string_bytes name)
+refusal_of (BadValue name) = about kinds.BadValue (string_bytes name)
 
 -- an error for the reason, where there is one, else the outcome
 abbrev pub unless : {A : Type 0} → Option EnvReason → Result A EnvReason → Result A EnvReason

@@ -11,7 +11,7 @@ ghost use Rattle.envvars.specs.declared.fault.EnvFault.TheVariants.{OutOfMemory}
 use crate::change::Change;
 use crate::fault::EnvFault;
 use crate::fields::owned;
-use crate::given::Given;
+use crate::given::GivenVariables;
 use crate::table::{
     Table, found, make_changes, push_names_of, sorted_once, write_entry, write_value,
 };
@@ -23,7 +23,7 @@ use std::marker::Model;
 /// The variables that are set, with their values (environ(7)): a finite map from names to texts.
 pub struct Env {
     /// The variables of the block that it was made of.
-    given: Given,
+    given: GivenVariables,
     /// The variables that were set since, over those, with their values. A name without a value is unset.
     written: Table,
     /// Where the table and all copies take their memory.
@@ -62,7 +62,7 @@ impl Env {
         ensures { result ≡ finite.empty }
     {
         Env {
-            given: Given::new(alloc),
+            given: GivenVariables::new(alloc),
             written: IndexMap::new(alloc),
             alloc,
         }
@@ -77,7 +77,7 @@ impl Env {
         ensures only { IfErr result (λ e. e ≡ OutOfMemory) }
     {
         Ok(Env {
-            given: Given::read(alloc, block)?,
+            given: GivenVariables::read(alloc, block)?,
             written: IndexMap::new(alloc),
             alloc,
         })

@@ -1,5 +1,5 @@
 //! The errors of edits of the environment, with their numbers and messages.
-use message::{Message, out_of_memory};
+use message::{NumberedMessage, RefusalKind};
 use std::alloc::{AllocError, AllocFailed, Global};
 use std::error::Error;
 use std::fmt;
@@ -26,8 +26,8 @@ pub enum EnvFault {
 
 impl EnvFault {
     ghost use Rattle.std.specs.Prelude.{◌≡◌};
-    ghost use Rattle.message.specs.Messages.{text_of};
-    ghost use Rattle.envvars.specs.Reasons.{message_of, number_of, bad_variable, bad_value, HasReason};
+    ghost use Rattle.message.specs.Refusals.{numbered_text};
+    ghost use Rattle.envvars.specs.Reasons.{refusal_of, bad_variable, bad_value, HasReason};
 
     /// The error of a name that isn't spelled as a variable's.
     pub fn bad_variable(alloc: Global, name: &str) -> EnvFault
@@ -49,49 +49,37 @@ impl EnvFault {
         }
     }
 
-    /// The number of the error, from 31 to 37.
-    pub fn number(&self) -> u16
-        ensures { result ≡ number_of self.now }
+    /// The number of the error, from 31 to 37, and its text.
+    pub fn numbered(&self) -> NumberedMessage<'_>
+        ensures { numbered_text result ≡ refusal_of self.now }
     {
         match self {
-            EnvFault::OutOfMemory => 31,
-            EnvFault::BadVariable(_) => 32,
-            EnvFault::Protected(_) => 33,
-            EnvFault::CounterFull(_) => 34,
-            EnvFault::Inconsistent => 35,
-            EnvFault::BadStack(_) => 36,
-            EnvFault::BadValue(_) => 37,
+            EnvFault::OutOfMemory => RefusalKind::MemoryForRequest.plain(),
+            EnvFault::BadVariable(name) => RefusalKind::BadVariable.naming(name.as_str()),
+            EnvFault::Protected(name) => RefusalKind::Protected.naming(name.as_str()),
+            EnvFault::CounterFull(name) => RefusalKind::CounterFull.naming(name.as_str()),
+            EnvFault::Inconsistent => RefusalKind::Inconsistent.plain(),
+            EnvFault::BadStack(name) => RefusalKind::BadStack.naming(name.as_str()),
+            EnvFault::BadValue(name) => RefusalKind::BadValue.naming(name.as_str()),
         }
     }
 
-    /// The text of the error, without `ERROR: `.
-    pub fn message(&self) -> Message<'_>
-        ensures { text_of result ≡ message_of self.now }
+    /// The number of the error, from 31 to 37.
+    pub fn number(&self) -> u16
+        ensures { result ≡ (refusal_of self.now).number }
     {
-        match self {
-            EnvFault::OutOfMemory => out_of_memory(),
-            EnvFault::BadVariable(name) => Message::quoting("Bad variable name '", name.as_str()),
-            EnvFault::Protected(name) => {
-                Message::around("Variable '", name.as_str(), "' is kept by the tool")
-            }
-            EnvFault::CounterFull(name) => {
-                Message::around("Counter of '", name.as_str(), "' is full")
-            }
-            EnvFault::Inconsistent => Message::of_text("Loaded modules are inconsistent"),
-            EnvFault::BadStack(name) => Message::quoting("Bad stack of '", name.as_str()),
-            EnvFault::BadValue(name) => Message::quoting("Bad value of '", name.as_str()),
-        }
+        self.numbered().number
     }
 }
 
 impl fmt::Display for EnvFault {
     ghost use Rattle.std.specs.Prelude.{Some};
-    ghost use Rattle.envvars.specs.Reasons.{message_of};
+    ghost use Rattle.envvars.specs.Reasons.{refusal_of};
 
-    ghost output = { λ fault. Some (message_of fault) };
+    ghost output = { λ fault. Some (refusal_of fault).text };
 
     fn fmt<W: fmt::Write>(&self, f: &mut fmt::Formatter<W>) -> fmt::Result {
-        self.message().fmt(f)
+        self.numbered().message.fmt(f)
     }
 }
 

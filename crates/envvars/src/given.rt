@@ -9,7 +9,8 @@ ghost use Rattle.envvars.specs.Texts.{slice_texts};
 ghost use Rattle.envvars.specs.Environment.{Environment, lookup, with_value};
 ghost use Rattle.envvars.specs.EnvironmentBlock as block_specs;
 ghost use Rattle.envvars.specs.EnvironmentBlock.{utf8_value, with_entry};
-ghost use Rattle.envvars.specs.Given.{name_in, value_in, given_over, variables_of, names_of, IsInside, IsNamed, IsFirstOf, IsChained, chain_of};
+ghost use Rattle.envvars.specs.Given.{name_in, value_in, given_over, variables_of, names_of, IsInside, IsNamed};
+ghost use Rattle.envvars.specs.Given.{IsFirstOf, IsChained, chain_of};
 
 use memchr::memchr;
 use std::alloc::{AllocError, Global};
@@ -35,7 +36,7 @@ pub(crate) struct Entry {
 
 /// The variables of a block of entries.
 #[derive(Drop)]
-pub(crate) struct Given {
+pub(crate) struct GivenVariables {
     /// The entries, each ended by NUL.
     block: Vec<u8>,
     /// The places of the entries, in the order of the block.
@@ -75,7 +76,6 @@ fn is_name(name: &[u8]) -> bool
     !name.is_empty() && text_of(name).is_some()
 }
 
-/// The name of an entry.
 fn name_in(block: &[u8], entry: Entry) -> &[u8]
     requires { IsInside block.now entry }
     ensures { result.now ≡ name_in block.now entry }
@@ -94,13 +94,13 @@ fn value_in(block: &[u8], entry: Entry) -> Option<&str>
     text_of(&block[entry.equals + 1..entry.end])
 }
 
-impl Given {
+impl GivenVariables {
     /// No variables, in no block.
-    pub(crate) fn new(alloc: Global) -> Given
+    pub(crate) fn new(alloc: Global) -> GivenVariables
         ensures chained { IsChained result }
         ensures given { variables_of result ≡ finite.empty }
     {
-        Given {
+        GivenVariables {
             block: Vec::new(alloc),
             entries: Vec::new(alloc),
             latest: Vec::new(alloc),
@@ -108,14 +108,14 @@ impl Given {
     }
 
     /// A block of which no entry is known yet.
-    fn of_block(alloc: Global, block: Vec<u8>) -> Result<Given, AllocError>
+    fn of_block(alloc: Global, block: Vec<u8>) -> Result<GivenVariables, AllocError>
         ensures block { IfOk result (λ given. given.block.items ≡ block.items) }
         ensures entries { IfOk result (λ given. given.entries.items ≡ []) }
         ensures chains { IfOk result (λ given. 0 < length given.latest.items) }
         ensures chained { IfOk result IsChained }
     {
         let count = block.len() / USUAL_LENGTH + 1;
-        Ok(Given {
+        Ok(GivenVariables {
             block,
             entries: Vec::with_capacity(alloc, count)?,
             latest: Vec::from_elem(alloc, None, count)?,
@@ -182,12 +182,12 @@ impl Given {
     }
 
     /// The variables of a block, which is kept as it is.
-    pub(crate) fn read(alloc: Global, block: Vec<u8>) -> Result<Given, AllocError>
+    pub(crate) fn read(alloc: Global, block: Vec<u8>) -> Result<GivenVariables, AllocError>
         ensures chained { IfOk result IsChained }
         ensures given { IfOk result (λ given. variables_of given ≡ block_specs.environment_of block.items) }
     {
         let end = block.len();
-        let mut given = Given::of_block(alloc, block)?;
+        let mut given = GivenVariables::of_block(alloc, block)?;
         let mut start = 0;
         while let Some(length) = given.length_at(start) {
             given.add(start, start + length)?;
@@ -244,12 +244,12 @@ impl Given {
     }
 
     /// A copy.
-    pub(crate) fn copy(&self) -> Result<Given, AllocError>
+    pub(crate) fn copy(&self) -> Result<GivenVariables, AllocError>
         requires { IsChained self.now }
         ensures chained { IfOk result IsChained }
         ensures given { IfOk result (λ given. variables_of given ≡ variables_of self.now) }
     {
-        Ok(Given {
+        Ok(GivenVariables {
             block: self.block.clone()?,
             entries: self.entries.clone()?,
             latest: self.latest.clone()?,

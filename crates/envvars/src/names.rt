@@ -1,7 +1,8 @@
 //! How variables are named, which of them are protected, and which values a variable can have.
 ghost use Rattle.std.specs.Prelude.{◌≡◌, ◌++◌, IfOk, string_bytes};
 ghost use Rattle.std.specs.List.{list_all};
-ghost use Rattle.envvars.specs.Names.{is_name_start, is_name_byte, is_variable_name, is_protected, is_nul_free, name_reason, share_name, stack_name};
+ghost use Rattle.envvars.specs.Names.{is_name_start, is_name_byte, is_variable_name, is_protected, is_nul_free};
+ghost use Rattle.envvars.specs.Names.{name_reason, share_name, stack_name};
 ghost use Rattle.envvars.specs.Reasons.{Judges};
 
 use crate::fault::EnvFault;

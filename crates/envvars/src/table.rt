@@ -1,6 +1,7 @@
 //! A table of names, each with the value that it was given, or with none where it was unset: the variables of an
 //! environment, and the edits of a working one.
-ghost use Rattle.std.specs.Prelude.{◌≡◌, ◌+◌, ◌<◌, ◌≤◌, ◌++◌, map, Some, OnOk, OnErr, string_bytes, bytes_eq, vec_len, if◌then◌else◌};
+ghost use Rattle.std.specs.Prelude.{◌≡◌, ◌+◌, ◌<◌, ◌≤◌, ◌++◌, map, Some, OnOk, OnErr, string_bytes, bytes_eq, vec_len};
+ghost use Rattle.std.specs.Prelude.{if◌then◌else◌};
 ghost use Rattle.std.specs.Ordering.{nat_cmp};
 ghost use Rattle.std.specs.Cmp.Lexicographic.{slice_cmp};
 ghost use Rattle.std.specs.List.Sorted.{IsStrictlySortedBy};

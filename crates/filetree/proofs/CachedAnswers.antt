@@ -1,5 +1,6 @@
 -- One more answer is cached, and one more path is recorded.
-use Rattle.std.proofs.Common.{◌≡◌, ℕ, Bool, true, false, not, cond, List, Option, Some, Result, Ok, Err, String, length, take, string_bytes, [], ◌∷◌, ◌++◌, ◌||◌, map, refl, sym, ap, subst, ◌∙◌, inl, inr, ⊎_elim}
+use Rattle.std.proofs.Common.{◌≡◌, ℕ, Bool, true, false, not, cond, List, Option, Some, Result, Ok, Err, String, length}
+use Rattle.std.proofs.Common.{take, string_bytes, [], ◌∷◌, ◌++◌, ◌||◌, map, refl, sym, ap, subst, ◌∙◌, inl, inr, ⊎_elim}
 use Rattle.std.proofs.Math.Logic.{∥∥₁_elim, ∥∥₁_map, ∥∥₁_prop}
 use Rattle.std.specs.Prelude.{OnErr, OnOk}
 use Rattle.std.proofs.lemmas.Bool.{cases_Bool, or_cases, or_right}
@@ -19,8 +20,8 @@ use Rattle.std.proofs.lemmas.List.{take-take}
 use Rattle.filetree.specs.Known.{Fits, IsAnswered, SaysNoLess, lacks}
 use Rattle.filetree.specs.Names.{has_name}
 use Rattle.filetree.specs.Systems.{Answers, IsHiddenAndAbsent, IsHiddenIn}
-use Rattle.filetree.specs.declared.known.Known.{Known}
-use Rattle.filetree.specs.declared.known.Known.TheVariants as known
+use Rattle.filetree.specs.declared.known.KnownPath.{KnownPath}
+use Rattle.filetree.specs.declared.known.KnownPath.TheVariants as known
 use Rattle.filetree.specs.Agreement.{Files, Listings, with_at, HaveSamePrefix, FailedAt}
 
 no_clash : ◌≡◌ {A = Bool} false true → ⊥
@@ -31,11 +32,11 @@ of_not true e = absurd (no_clash e)
 of_not false e = refl
 
 -- what is at each path fits what is known of it
-abbrev pub FitsAll : {Y S : Type 0} → HashMap (String Y) Known S → Files → Listings → Type 0
-FitsAll m files listings = (path : List ℕ) (known : Known) → hash.get_by_text m path ≡ Some known → Fits known (files path) (listings path)
+abbrev pub FitsAll : {Y S : Type 0} → HashMap (String Y) KnownPath S → Files → Listings → Type 0
+FitsAll m files listings = (path : List ℕ) (known : KnownPath) → hash.get_by_text m path ≡ Some known → Fits known (files path) (listings path)
 
 -- one path is learned
-module _ {Y S : Type 0} (m n : HashMap (String Y) Known S) (path key : List ℕ) (known : Known) (same : key ≡ path)
+module _ {Y S : Type 0} (m n : HashMap (String Y) KnownPath S) (path key : List ℕ) (known : KnownPath) (same : key ≡ path)
     (updates : hash.UpdatesBy string_eq (λ k. bytes_eq key (string_bytes k)) m n (Some known))
     (files : Files) (listings : Listings) (all : FitsAll n files listings) where
   now_at : (p : List ℕ) → hash.get_by_text n p ≡ cond (bytes_eq key p) (Some known) (hash.get_by_text m p)
@@ -44,7 +45,7 @@ module _ {Y S : Type 0} (m n : HashMap (String Y) Known S) (path key : List ℕ)
   pub fits_path : Fits known (files path) (listings path)
   fits_path = all path known (rw (now_at path, (bytes_eq-Decides key path).1 same) refl)
 
-  pub fits_before : ((earlier : Known) → hash.get_by_text m path ≡ Some earlier → SaysNoLess known earlier) → FitsAll m files listings
+  pub fits_before : ((earlier : KnownPath) → hash.get_by_text m path ≡ Some earlier → SaysNoLess known earlier) → FitsAll m files listings
   fits_before later p earlier had = elim (cases_Bool (bytes_eq key p)) [
     | inl e ↦ let at_p : path ≡ p = sym same ∙ (bytes_eq-Decides key p).0 e in
         subst (λ q. Fits earlier (files q) (listings q)) at_p (later earlier (ap (λ q. hash.get_by_text m q) at_p ∙ had) (files path) (listings path) fits_path)
@@ -52,10 +53,10 @@ module _ {Y S : Type 0} (m n : HashMap (String Y) Known S) (path key : List ℕ)
   ]
 
 -- all that is known is made of the system's answers
-abbrev pub AllAnswered : {Y S : Type 0} → Answers → HashMap (String Y) Known S → Type 0
-AllAnswered Answered m = (path : List ℕ) (k : Known) → hash.get_by_text m path ≡ Some k → IsAnswered Answered path k
+abbrev pub AllAnswered : {Y S : Type 0} → Answers → HashMap (String Y) KnownPath S → Type 0
+AllAnswered Answered m = (path : List ℕ) (k : KnownPath) → hash.get_by_text m path ≡ Some k → IsAnswered Answered path k
 
-pub answered_too : {Y S : Type 0} (Answered : Answers) (m n : HashMap (String Y) Known S) (path key : List ℕ) (known : Known) → key ≡ path
+pub answered_too : {Y S : Type 0} (Answered : Answers) (m n : HashMap (String Y) KnownPath S) (path key : List ℕ) (known : KnownPath) → key ≡ path
     → hash.UpdatesBy string_eq (λ k. bytes_eq key (string_bytes k)) m n (Some known) → IsAnswered Answered path known → AllAnswered Answered m → AllAnswered Answered n
 answered_too Answered m n path key known same updates h all p k had =
     let now : hash.get_by_text n p ≡ cond (bytes_eq key p) (Some known) (hash.get_by_text m p) = hash_map_updates_text key m n (Some known) updates p in
@@ -69,7 +70,7 @@ answered_too Answered m n path key known same updates h all p k had =
     ]
 
 -- the same after an insertion, which may fail
-pub answered_after : {Y S V E : Type 0} (Answered : Answers) (m n : HashMap (String Y) Known S) (path key : List ℕ) (known : Known) (r : Result V E) → key ≡ path
+pub answered_after : {Y S V E : Type 0} (Answered : Answers) (m n : HashMap (String Y) KnownPath S) (path key : List ℕ) (known : KnownPath) (r : Result V E) → key ≡ path
     → OnOk r (hash.UpdatesBy string_eq (λ k. bytes_eq key (string_bytes k)) m n (Some known)) → OnErr r (n.entries ≡ m.entries)
     → ∥ IsAnswered Answered path known ∥₁ → ∥ AllAnswered Answered m ∥₁ → ∥ AllAnswered Answered n ∥₁
 answered_after Answered m n path key known (Ok v) same updates kept one all =
@@ -78,7 +79,7 @@ answered_after Answered m n path key known (Err e) same updates kept one all =
     ∥∥₁_map all (λ a p k had. a p k (ap (λ es. lookup (λ q. bytes_eq p (string_bytes q)) es) (sym kept) ∙ had))
 
 -- a hidden name that the listing of its directory hasn't
-pub lacks_there : (Answered : Answers) (dir name path : List ℕ) (k : Known) → IsHiddenIn dir name path → IsAnswered Answered dir k → lacks k name ≡ true
+pub lacks_there : (Answered : Answers) (dir name path : List ℕ) (k : KnownPath) → IsHiddenIn dir name path → IsAnswered Answered dir k → lacks k name ≡ true
     → IsHiddenAndAbsent Answered path
 lacks_there Answered dir name path known.Neither h a e = absurd (no_clash e)
 lacks_there Answered dir name path (known.File prefix) h a e = absurd (no_clash e)

@@ -1,5 +1,7 @@
 -- Names that aren't empty, and texts of names.
-use Rattle.std.proofs.Common.{◌≡◌, ℕ, Bool, true, false, not, cond, Bor, List, filter, map, [], ◌∷◌, ◌++◌, ◌||◌, ◌&&◌, length, refl, sym, ap, ◌∙◌, subst, inl, inr, append_assoc, slice_index, get_or, take, ◌+◌, ◌<◌, arith}
+use Rattle.std.proofs.Common.{◌≡◌, ℕ, Bool, true, false, not, cond, Bor, List, filter, map, [], ◌∷◌, ◌++◌, ◌||◌, ◌&&◌}
+use Rattle.std.proofs.Common.{length, refl, sym, ap, ◌∙◌, subst, inl, inr, append_assoc, slice_index, get_or, take, ◌+◌}
+use Rattle.std.proofs.Common.{◌<◌, arith}
 use Rattle.std.specs.Prelude.{◌==◌}
 use Rattle.std.specs.List.{All, list_any, onto_first, slice_split}
 use Rattle.std.specs.Str.{bytes_eq}

@@ -1,13 +1,15 @@
 -- What the answers of a tree of files say: pairs of maps from paths to files and directories, those that agree with the
 -- answers, and where the device failed. Paths and bytes are as POSIX has them.
-use Rattle.message.specs.Messages.{out_of_memory}
-use Rattle.std.specs.Prelude.{◌≡◌, ◌⊎◌, ℕ, ◌<◌, ◌≤◌, Bool, true, false, List, length, map, nat_eq, Option, Some, None, Result, Ok, Err, IsErrOf, codes, if◌then◌else◌, string_bytes, vec_items}
+use Rattle.std.specs.Prelude.{◌≡◌, ◌⊎◌, ℕ, ◌<◌, ◌≤◌, Bool, true, false, List, length, map, nat_eq, Option, Some, None}
+use Rattle.std.specs.Prelude.{Result, Ok, Err, IsErrOf, if◌then◌else◌, string_bytes, vec_items}
 use Rattle.std.specs.declared.alloc.Global.{Global}
 use Rattle.std.specs.List.{starts_with}
 use Rattle.std.specs.Option.{option_map}
 use Rattle.std.specs.Str.{bytes_eq}
 use Rattle.std.specs.declared.string.String.{String}
 use Rattle.std.specs.declared.vec.Vec.{Vec}
+use Rattle.message.specs.Refusals.{NumberedText, about}
+use Rattle.message.specs.declared.refusals.RefusalKind.TheVariants as kinds
 use Rattle.filetree.specs.declared.tree.TreeFault.{TreeFault}
 use Rattle.filetree.specs.declared.tree.TreeFault.TheVariants.{OutOfMemory, Device}
 
@@ -99,17 +101,13 @@ FailsWhere is_failure agrees failed old new result LooksAt =
 abbrev pub FailsOnlyAt : {T : Type 0} → (T → Files → Listings → Type 0) → (T → List ℕ → Bool) → T → T
     → (Files → Listings → List ℕ → Type 0) → Type 0
 FailsOnlyAt agrees failed old new LooksAt =
-    FailsOnlyWhere (failed old) (failed new) (λ at. InEachPair (agrees new) (λ files listings. LooksAt files listings at))
+    FailsOnlyWhere (failed old) (failed new) (λ at. InEachPair (agrees new)
+    (λ files listings. LooksAt files listings at))
 
--- the number of each fault
-abbrev pub tree_number : TreeFault → ℕ
-tree_number OutOfMemory = 41
-tree_number Device = 43
-
--- the message of each fault
-abbrev pub tree_message : TreeFault → List ℕ
-tree_message OutOfMemory = out_of_memory
-tree_message Device = codes "Reading failed"
+-- the refusal that each fault is
+abbrev pub refusal_of : TreeFault → NumberedText
+refusal_of OutOfMemory = about kinds.MemoryForSearch []
+refusal_of Device = about kinds.Device []
 
 -- the map with this value at this path
 abbrev pub with_at : {X : Type 0} → (List ℕ → Option X) → List ℕ → X → List ℕ → Option X

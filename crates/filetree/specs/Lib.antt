@@ -1,6 +1,5 @@
 -- Trees of files, modulefiles at paths, and the relations of calls over a tree.
 pub mod Agreement
-pub mod Answers
 pub mod Causes
 pub mod Contents
 pub mod Disk

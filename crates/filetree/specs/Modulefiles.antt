@@ -1,5 +1,6 @@
 -- Modulefiles at paths, and the paths of modules along MODULEPATH (module(1), modulefile(5)).
-use Rattle.std.specs.Prelude.{ℕ, Bool, true, false, not, List, [], ◌∷◌, ◌++◌, filter, nat_eq, ◌==◌, codes, if◌then◌else◌, Option, Some, None}
+use Rattle.std.specs.Prelude.{ℕ, Bool, true, false, not, List, [], ◌∷◌, ◌++◌, filter, nat_eq, ◌==◌, codes}
+use Rattle.std.specs.Prelude.{if◌then◌else◌, Option, Some, None}
 use Rattle.std.specs.List.{slice_split, starts_with}
 use Rattle.modulename.specs.ModuleName.{Text, slash}
 use Rattle.filetree.specs.Utf8.{is_text}

@@ -1,6 +1,7 @@
 -- What the system answers about a path, and what may be made of an answer (stat(2), open(2), readdir(3); POSIX errno).
 -- For this crate's own contracts alone.
-use Rattle.std.specs.Prelude.{◌≡◌, ◌⊎◌, ℕ, Bool, true, false, ◌==◌, if◌then◌else◌, List, [], ◌∷◌, ◌++◌, Option, IfSome, Result, Ok, Err, IsOkAnd, IfErr, take}
+use Rattle.std.specs.Prelude.{◌≡◌, ◌⊎◌, ℕ, Bool, true, false, ◌==◌, if◌then◌else◌, List, [], ◌∷◌, ◌++◌, Option, IfSome}
+use Rattle.std.specs.Prelude.{Result, Ok, Err, IsOkAnd, IfErr, take}
 use Rattle.std.specs.List.{list_any}
 use Rattle.std.specs.List.Sorted.{IsPermutation}
 use Rattle.std.specs.Fs.{IsDir, IsFile, file_type}
@@ -70,7 +71,8 @@ ShowsKind (Err e) looked = looked ≡ (if is_absence (error_kind e) then Ok path
 abbrev pub IsLooked : Answers → List ℕ → Result PathKind TreeFault → Type 0
 IsLooked Answered path looked =
     ((has_nul path ≡ true) × (looked ≡ Ok path_kinds.Nothing))
-    ⊎ ((has_nul path ≡ false) × ((answer : Result Metadata Error) × Answered path (found answer) × ShowsKind answer looked))
+    ⊎ ((has_nul path ≡ false) × ((answer : Result Metadata Error) × Answered path (found answer)
+    × ShowsKind answer looked))
 
 -- a regular file
 abbrev pub is_file : PathKind → Bool

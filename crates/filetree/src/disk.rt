@@ -1,18 +1,20 @@
 //! The tree over a real disk, which caches each answer and gives it again.
-ghost use Rattle.std.specs.Prelude.{◌≡◌, ◌+◌, if◌then◌else◌, ℕ, List, None, Some, Option, IfErr, IfOk, IfSome, OnOk, false, true, vec_len};
+ghost use Rattle.std.specs.Prelude.{◌≡◌, ◌+◌, if◌then◌else◌, ℕ, List, None, Some, Option, IfErr, IfOk, IfSome, OnOk};
+ghost use Rattle.std.specs.Prelude.{false, true, vec_len};
 ghost use Rattle.std.specs.HashMap.{get_by_text};
-ghost use Rattle.filetree.specs.Agreement.{FailsAt, FailsIf, Files, FailsOnlyByDevice, InEachPair, Listings, Narrows, begins_with, file_answer, is_device, listing_answer};
+ghost use Rattle.filetree.specs.Agreement.{FailsAt, FailsIf, Files, FailsOnlyByDevice, InEachPair, Listings, Narrows};
+ghost use Rattle.filetree.specs.Agreement.{begins_with, file_answer, is_device, listing_answer};
 ghost use Rattle.filetree.specs.Disk.{cached-fits, file_at, has_failed, listing_at};
 ghost use Rattle.filetree.specs.Known.{Fits, IsAnswered, IsLoaded, SaysNoLess, is_read_in_part, is_unlisted};
 ghost use Rattle.filetree.specs.Systems.{IsFault, IsHiddenAndAbsent, IsHiddenIn};
-ghost use Rattle.filetree.specs.declared.known.Known.{Known};
+ghost use Rattle.filetree.specs.declared.known.KnownPath.{KnownPath};
 
-use crate::known::{Known, USUAL};
+use crate::known::{KnownPath, USUAL};
 use crate::load::{
     load_file, load_likely_directory, load_listing, load_names, load_prefix, load_rest,
 };
 use crate::system::System;
-use crate::tree::{Seen, Tree, TreeFault};
+use crate::tree::{SeenPath, Tree, TreeFault};
 use std::alloc::AllocError;
 use std::collections::HashMap;
 
@@ -31,12 +33,12 @@ use std::collections::HashMap;
 pub struct DiskTree<S: System + AllocGlobal + Clone + Drop> {
     system: S,
     /// What is known of each path that was asked for.
-    known: HashMap<String, Known>,
+    known: HashMap<String, KnownPath>,
     /// The paths at which the device failed, in the order of the failures.
     failed: Vec<String>,
     /// How many directories were found in a row where files were asked for, at most `USUAL`.
     directories_in_row: u8,
-    ghost answered: { ∥ ((path : List ℕ) (k : Known) → get_by_text known path ≡ Some k
+    ghost answered: { ∥ ((path : List ℕ) (k : KnownPath) → get_by_text known path ≡ Some k
         → IsAnswered (S.answers system) path k) ∥₁ },
 }
 
@@ -91,9 +93,9 @@ impl<S: System + AllocGlobal + Clone + Drop> DiskTree<S> {
     }
 
     /// Caches what is known of a path, in place of what was, which said no more.
-    fn learn(&mut self, path: &str, known: Known) -> Result<(), AllocError>
+    fn learn(&mut self, path: &str, known: KnownPath) -> Result<(), AllocError>
         requires answered { ∥ IsAnswered (S.answers self.old.system) path.now known ∥₁ }
-        requires later { (earlier : Known) → get_by_text self.old.known path.now ≡ Some earlier → SaysNoLess known earlier }
+        requires later { (earlier : KnownPath) → get_by_text self.old.known path.now ≡ Some earlier → SaysNoLess known earlier }
         ensures narrows { Narrows (⟦<DiskTree<S> as Tree>⟧.agrees self.old)
             (⟦<DiskTree<S> as Tree>⟧.agrees self.new) }
         ensures known { OnOk result (InEachPair (⟦<DiskTree<S> as Tree>⟧.agrees self.new)
@@ -109,10 +111,10 @@ impl<S: System + AllocGlobal + Clone + Drop> DiskTree<S> {
     fn answer_file(
         &mut self,
         path: &str,
-        loaded: Result<Known, TreeFault>,
+        loaded: Result<KnownPath, TreeFault>,
     ) -> Result<Option<Vec<u8>>, TreeFault>
         requires answered { IsLoaded (S.answers self.old.system) path.now loaded }
-        requires later { IfOk loaded (λ known. (earlier : Known) → get_by_text self.old.known path.now ≡ Some earlier
+        requires later { IfOk loaded (λ known. (earlier : KnownPath) → get_by_text self.old.known path.now ≡ Some earlier
             → SaysNoLess known earlier) }
         requires whole { IfOk loaded (λ known. is_read_in_part known ≡ false) }
         ensures narrows { Narrows (⟦<DiskTree<S> as Tree>⟧.agrees self.old)
@@ -137,10 +139,10 @@ impl<S: System + AllocGlobal + Clone + Drop> DiskTree<S> {
     fn answer_listing(
         &mut self,
         dir: &str,
-        loaded: Result<Known, TreeFault>,
+        loaded: Result<KnownPath, TreeFault>,
     ) -> Result<Option<Vec<String>>, TreeFault>
         requires answered { IsLoaded (S.answers self.old.system) dir.now loaded }
-        requires later { IfOk loaded (λ known. (earlier : Known) → get_by_text self.old.known dir.now ≡ Some earlier
+        requires later { IfOk loaded (λ known. (earlier : KnownPath) → get_by_text self.old.known dir.now ≡ Some earlier
             → SaysNoLess known earlier) }
         requires listed { IfOk loaded (λ known. is_unlisted known ≡ false) }
         ensures narrows { Narrows (⟦<DiskTree<S> as Tree>⟧.agrees self.old)
@@ -202,12 +204,12 @@ impl<S: System + AllocGlobal + Clone + Drop> DiskTree<S> {
     }
 
     /// What is at a path of which nothing is known, of whose file the first `size` bytes are read.
-    fn load_start(&self, path: &str, size: usize) -> Result<Known, TreeFault>
+    fn load_start(&self, path: &str, size: usize) -> Result<KnownPath, TreeFault>
         ensures answered { IfOk result (λ known. ∥ IsAnswered (S.answers self.now.system) path.now known ∥₁) }
         ensures fault { IfErr result (IsFault (S.answers self.now.system) path.now) }
     {
         if self.is_hidden_and_absent(path) {
-            Ok(Known::Neither)
+            Ok(KnownPath::Neither)
         } else if self.directories_in_row == USUAL {
             load_likely_directory(&self.system, path, size)
         } else {
@@ -216,7 +218,7 @@ impl<S: System + AllocGlobal + Clone + Drop> DiskTree<S> {
     }
 
     /// What is seen at the path, of which nothing is known. So many bytes of a file are read as it is to begin with.
-    fn see_unknown(&mut self, path: &str, prefix: &[u8]) -> Result<Seen, TreeFault>
+    fn see_unknown(&mut self, path: &str, prefix: &[u8]) -> Result<SeenPath, TreeFault>
         requires { get_by_text self.old.known path.now ≡ None }
         ensures narrows { Narrows (⟦<DiskTree<S> as Tree>⟧.agrees self.old)
             (⟦<DiskTree<S> as Tree>⟧.agrees self.new) }
@@ -235,7 +237,7 @@ impl<S: System + AllocGlobal + Clone + Drop> DiskTree<S> {
                 let may_list = known.is_directory();
                 self.learn(path, known)?;
                 let begins = self.answer_prefix(path, prefix, answer)?;
-                Ok(Seen { begins, may_list })
+                Ok(SeenPath { begins, may_list })
             }
             Err(fault) => Err(self.record_failure(path, fault)),
         }
@@ -262,7 +264,7 @@ impl<S: System + AllocGlobal + Clone + Drop> Tree for DiskTree<S> {
                 let loaded = load_file(&self.system, path);
                 self.answer_file(path, loaded)
             }
-            Some(Known::File(prefix)) => {
+            Some(KnownPath::File(prefix)) => {
                 let loaded = load_rest(&self.system, path, prefix);
                 self.answer_file(path, loaded)
             }
@@ -281,14 +283,14 @@ impl<S: System + AllocGlobal + Clone + Drop> Tree for DiskTree<S> {
         }
     }
 
-    fn see(&mut self, path: &str, prefix: &[u8]) -> Result<Seen, TreeFault> {
+    fn see(&mut self, path: &str, prefix: &[u8]) -> Result<SeenPath, TreeFault> {
         match self.known.get(path) {
             None => self.see_unknown(path, prefix),
             Some(known) => {
                 let answer = known.begins_with(prefix);
                 let may_list = known.is_directory();
                 let begins = self.answer_prefix(path, prefix, answer)?;
-                Ok(Seen { begins, may_list })
+                Ok(SeenPath { begins, may_list })
             }
         }
     }
@@ -299,7 +301,7 @@ impl<S: System + AllocGlobal + Clone + Drop> Tree for DiskTree<S> {
                 let loaded = load_listing(&self.system, dir);
                 self.answer_listing(dir, loaded)
             }
-            Some(Known::Directory) => {
+            Some(KnownPath::Directory) => {
                 let loaded = load_names(&self.system, dir);
                 self.answer_listing(dir, loaded)
             }

@@ -12,7 +12,7 @@ use std::alloc::{AllocError, Global};
 pub(crate) const USUAL: u8 = 2;
 
 /// What is known of a path.
-pub(crate) enum Known {
+pub(crate) enum KnownPath {
     /// Neither a file nor a directory is there.
     Neither,
     /// A file, of which these first bytes were read.
@@ -26,27 +26,27 @@ pub(crate) enum Known {
 }
 
 // Not derived: it is dropped by one call, so a proof needn't look at each case at each exit.
-impl Drop for Known {
+impl Drop for KnownPath {
     fn drop(self) {
         match self {
-            Known::Neither | Known::Directory => (),
-            Known::File(_prefix) => (),
-            Known::WholeFile(_bytes) => (),
-            Known::Listing(_names) => (),
+            KnownPath::Neither | KnownPath::Directory => (),
+            KnownPath::File(_prefix) => (),
+            KnownPath::WholeFile(_bytes) => (),
+            KnownPath::Listing(_names) => (),
         }
     }
 }
 
-impl Known {
+impl KnownPath {
     /// Whether the file at the path begins with these bytes, or `None` where too little of it was read to say.
     pub(crate) fn begins_with(&self, prefix: &[u8]) -> Option<bool>
         ensures { IfSome result (λ answer. (file : Option (List ℕ)) → FitsFile self.now file
             → begins_with prefix.now file ≡ answer) }
     {
         match self {
-            Known::WholeFile(bytes) => Some(bytes.as_slice().starts_with(prefix)),
-            Known::File(read) => read.begins_with(prefix),
-            Known::Neither | Known::Directory | Known::Listing(_) => Some(false),
+            KnownPath::WholeFile(bytes) => Some(bytes.as_slice().starts_with(prefix)),
+            KnownPath::File(read) => read.begins_with(prefix),
+            KnownPath::Neither | KnownPath::Directory | KnownPath::Listing(_) => Some(false),
         }
     }
 
@@ -56,8 +56,11 @@ impl Known {
         ensures { result ≡ lacks self.now name.now }
     {
         match self {
-            Known::Listing(names) => !names.has_hidden(name),
-            Known::Neither | Known::File(_) | Known::WholeFile(_) | Known::Directory => false,
+            KnownPath::Listing(names) => !names.has_hidden(name),
+            KnownPath::Neither
+            | KnownPath::File(_)
+            | KnownPath::WholeFile(_)
+            | KnownPath::Directory => false,
         }
     }
 
@@ -79,8 +82,11 @@ impl Known {
             → file ≡ file_answer answer) }
     {
         match self {
-            Known::WholeFile(bytes) => Ok(Some(bytes.clone()?)),
-            Known::File(_) | Known::Neither | Known::Directory | Known::Listing(_) => Ok(None),
+            KnownPath::WholeFile(bytes) => Ok(Some(bytes.clone()?)),
+            KnownPath::File(_)
+            | KnownPath::Neither
+            | KnownPath::Directory
+            | KnownPath::Listing(_) => Ok(None),
         }
     }
 
@@ -90,8 +96,8 @@ impl Known {
             → listing ≡ None }
     {
         match self {
-            Known::Directory | Known::Listing(_) => true,
-            Known::Neither | Known::File(_) | Known::WholeFile(_) => false,
+            KnownPath::Directory | KnownPath::Listing(_) => true,
+            KnownPath::Neither | KnownPath::File(_) | KnownPath::WholeFile(_) => false,
         }
     }
 
@@ -102,8 +108,11 @@ impl Known {
             → listing ≡ listing_answer answer) }
     {
         match self {
-            Known::Listing(names) => Ok(Some(names.copies(alloc)?)),
-            Known::Directory | Known::Neither | Known::File(_) | Known::WholeFile(_) => Ok(None),
+            KnownPath::Listing(names) => Ok(Some(names.copies(alloc)?)),
+            KnownPath::Directory
+            | KnownPath::Neither
+            | KnownPath::File(_)
+            | KnownPath::WholeFile(_) => Ok(None),
         }
     }
 }

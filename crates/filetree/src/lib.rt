@@ -3,7 +3,6 @@
 #![tactic(auto)]
 
 mod disk;
-mod find_fault;
 mod known;
 mod laws;
 mod load;
@@ -15,7 +14,6 @@ mod system;
 mod tree;
 
 pub use disk::DiskTree;
-pub use find_fault::FindFault;
 pub use laws::{contents_agree, some_pair_agrees};
 pub use memory::MemoryTree;
-pub use tree::{Seen, Tree, TreeFault};
+pub use tree::{SeenPath, Tree, TreeFault};

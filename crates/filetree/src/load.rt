@@ -3,7 +3,7 @@ ghost use Rattle.std.specs.Prelude.{◌≡◌, true, false, Ok, IfErr, IfOk};
 ghost use Rattle.filetree.specs.Known.{IsLoaded, SaysNoLess, has_directory, has_file, is_read_in_part, is_unlisted};
 ghost use Rattle.filetree.specs.Systems.{IsFault, IsFileThere, IsLooked, WasDirectory, WasFile, is_directory, is_file};
 
-use crate::known::Known;
+use crate::known::KnownPath;
 use crate::look::{PathKind, look};
 use crate::names::list;
 use crate::prefix::{MOST, Prefix, first_bytes, has_same_prefix};
@@ -30,7 +30,7 @@ fn file_of_kind<S: System + AllocGlobal>(
     system: &S,
     path: &str,
     path_kind: PathKind,
-) -> Result<Known, TreeFault>
+) -> Result<KnownPath, TreeFault>
     requires { IsLooked (S.answers system.now) path.now (Ok path_kind) }
     ensures answered { IsLoaded (S.answers system.now) path.now result }
     ensures file { IfOk result (λ known. has_file known ≡ is_file path_kind) }
@@ -38,14 +38,17 @@ fn file_of_kind<S: System + AllocGlobal>(
     ensures whole { IfOk result (λ known. is_read_in_part known ≡ false) }
 {
     match path_kind {
-        PathKind::File => Ok(Known::WholeFile(read_file(system, path)?)),
-        PathKind::Directory => Ok(Known::Directory),
-        PathKind::Nothing | PathKind::Other => Ok(Known::Neither),
+        PathKind::File => Ok(KnownPath::WholeFile(read_file(system, path)?)),
+        PathKind::Directory => Ok(KnownPath::Directory),
+        PathKind::Nothing | PathKind::Other => Ok(KnownPath::Neither),
     }
 }
 
 /// What is at a path, whose file is read whole.
-pub(crate) fn load_file<S: System + AllocGlobal>(system: &S, path: &str) -> Result<Known, TreeFault>
+pub(crate) fn load_file<S: System + AllocGlobal>(
+    system: &S,
+    path: &str,
+) -> Result<KnownPath, TreeFault>
     ensures answered { IsLoaded (S.answers system.now) path.now result }
     ensures whole { IfOk result (λ known. is_read_in_part known ≡ false) }
 {
@@ -60,15 +63,15 @@ pub(crate) fn load_rest<S: System + AllocGlobal>(
     system: &S,
     path: &str,
     prefix: &Prefix,
-) -> Result<Known, TreeFault>
+) -> Result<KnownPath, TreeFault>
     requires { WasFile (S.answers system.now) path.now }
     ensures answered { IsLoaded (S.answers system.now) path.now result }
     ensures whole { IfOk result (λ known. is_read_in_part known ≡ false) }
-    ensures same_prefix { IfOk result (λ known. SaysNoLess known (Known.File prefix.now)) }
+    ensures same_prefix { IfOk result (λ known. SaysNoLess known (KnownPath.File prefix.now)) }
 {
     let bytes = read_file(system, path)?;
     if has_same_prefix(&bytes, prefix) {
-        Ok(Known::WholeFile(bytes))
+        Ok(KnownPath::WholeFile(bytes))
     } else {
         Err(TreeFault::Device)
     }
@@ -80,7 +83,7 @@ fn start_of_file<S: System + AllocGlobal>(
     system: &S,
     path: &str,
     size: usize,
-) -> Result<Known, TreeFault>
+) -> Result<KnownPath, TreeFault>
     requires { WasFile (S.answers system.now) path.now }
     ensures answered { IsLoaded (S.answers system.now) path.now result }
     ensures file { IfOk result (λ known. has_file known ≡ true) }
@@ -88,10 +91,10 @@ fn start_of_file<S: System + AllocGlobal>(
 {
     if size <= MOST {
         if let Some(prefix) = first_bytes(system.open(path)?, size)? {
-            return Ok(Known::File(prefix));
+            return Ok(KnownPath::File(prefix));
         }
     }
-    Ok(Known::WholeFile(read_file(system, path)?))
+    Ok(KnownPath::WholeFile(read_file(system, path)?))
 }
 
 /// What is at a path where this is, of whose file the first `size` bytes are read; more than are kept as a prefix are not
@@ -102,7 +105,7 @@ fn prefix_of_kind<S: System + AllocGlobal>(
     path: &str,
     path_kind: PathKind,
     size: usize,
-) -> Result<Known, TreeFault>
+) -> Result<KnownPath, TreeFault>
     requires { IsLooked (S.answers system.now) path.now (Ok path_kind) }
     ensures answered { IsLoaded (S.answers system.now) path.now result }
     ensures file { IfOk result (λ known. has_file known ≡ is_file path_kind) }
@@ -110,8 +113,8 @@ fn prefix_of_kind<S: System + AllocGlobal>(
 {
     match path_kind {
         PathKind::File => start_of_file(system, path, size),
-        PathKind::Directory => Ok(Known::Directory),
-        PathKind::Nothing | PathKind::Other => Ok(Known::Neither),
+        PathKind::Directory => Ok(KnownPath::Directory),
+        PathKind::Nothing | PathKind::Other => Ok(KnownPath::Neither),
     }
 }
 
@@ -120,7 +123,7 @@ pub(crate) fn load_prefix<S: System + AllocGlobal>(
     system: &S,
     path: &str,
     size: usize,
-) -> Result<Known, TreeFault>
+) -> Result<KnownPath, TreeFault>
     ensures { IsLoaded (S.answers system.now) path.now result }
 {
     let path_kind = look(system, path)?;
@@ -133,23 +136,26 @@ pub(crate) fn load_likely_directory<S: System + AllocGlobal>(
     system: &S,
     path: &str,
     size: usize,
-) -> Result<Known, TreeFault>
+) -> Result<KnownPath, TreeFault>
     ensures { IsLoaded (S.answers system.now) path.now result }
 {
     match list(system, path) {
-        Ok(names) => Ok(Known::Listing(names)),
+        Ok(names) => Ok(KnownPath::Listing(names)),
         Err(_) => load_prefix(system, path, size),
     }
 }
 
 /// The directory at a path where one was, with its names.
-pub(crate) fn load_names<S: System + AllocGlobal>(system: &S, dir: &str) -> Result<Known, TreeFault>
+pub(crate) fn load_names<S: System + AllocGlobal>(
+    system: &S,
+    dir: &str,
+) -> Result<KnownPath, TreeFault>
     requires { WasDirectory (S.answers system.now) dir.now }
     ensures answered { IsLoaded (S.answers system.now) dir.now result }
-    ensures directory { IfOk result (λ known. SaysNoLess known Known.Directory) }
+    ensures directory { IfOk result (λ known. SaysNoLess known KnownPath.Directory) }
     ensures listed { IfOk result (λ known. is_unlisted known ≡ false) }
 {
-    Ok(Known::Listing(list(system, dir)?))
+    Ok(KnownPath::Listing(list(system, dir)?))
 }
 
 /// What is at a path where this is, whose directory is listed. Of a file nothing is read.
@@ -158,7 +164,7 @@ fn listing_of_kind<S: System + AllocGlobal>(
     system: &S,
     dir: &str,
     path_kind: PathKind,
-) -> Result<Known, TreeFault>
+) -> Result<KnownPath, TreeFault>
     requires { IsLooked (S.answers system.now) dir.now (Ok path_kind) }
     ensures answered { IsLoaded (S.answers system.now) dir.now result }
     ensures file { IfOk result (λ known. has_file known ≡ is_file path_kind) }
@@ -166,9 +172,9 @@ fn listing_of_kind<S: System + AllocGlobal>(
     ensures listed { IfOk result (λ known. is_unlisted known ≡ false) }
 {
     match path_kind {
-        PathKind::Directory => Ok(Known::Listing(list(system, dir)?)),
-        PathKind::File => Ok(Known::File(Prefix::new(0, &[]))),
-        PathKind::Nothing | PathKind::Other => Ok(Known::Neither),
+        PathKind::Directory => Ok(KnownPath::Listing(list(system, dir)?)),
+        PathKind::File => Ok(KnownPath::File(Prefix::new(0, &[]))),
+        PathKind::Nothing | PathKind::Other => Ok(KnownPath::Neither),
     }
 }
 
@@ -176,7 +182,7 @@ fn listing_of_kind<S: System + AllocGlobal>(
 pub(crate) fn load_listing<S: System + AllocGlobal>(
     system: &S,
     dir: &str,
-) -> Result<Known, TreeFault>
+) -> Result<KnownPath, TreeFault>
     ensures answered { IsLoaded (S.answers system.now) dir.now result }
     ensures listed { IfOk result (λ known. is_unlisted known ≡ false) }
 {

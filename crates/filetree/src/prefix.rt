@@ -37,7 +37,6 @@ impl Prefix {
         }
     }
 
-    /// The bytes.
     fn bytes(&self) -> &[u8]
         ensures { result.now ≡ prefix_bytes self.entry.now }
     {

@@ -1,10 +1,11 @@
 //! The trait of trees of files, with the contract of every tree, and its faults.
 ghost use Rattle.std.specs.Prelude.{◌≡◌, ℕ, Bool, true, false, List, None, Some, IfOk};
 ghost use Rattle.filetree.specs.declared.tree.TreeFault.TheVariants.{OutOfMemory};
-ghost use Rattle.message.specs.Messages.{text_of};
-ghost use Rattle.filetree.specs.Agreement.{FailsAt, Files, Listings, InEachPair, FailsOnlyByDevice, IsSatisfiable, begins_with, file_answer, is_device, listing_answer, tree_message, tree_number, Narrows};
+ghost use Rattle.message.specs.Refusals.{numbered_text};
+ghost use Rattle.filetree.specs.Agreement.{FailsAt, Files, Listings, InEachPair, FailsOnlyByDevice, IsSatisfiable};
+ghost use Rattle.filetree.specs.Agreement.{begins_with, file_answer, is_device, listing_answer, refusal_of, Narrows};
 
-use message::{Message, out_of_memory};
+use message::{NumberedMessage, RefusalKind};
 use std::alloc::{AllocError, AllocFailed};
 use std::error::Error;
 use std::fmt;
@@ -20,32 +21,29 @@ pub enum TreeFault {
 }
 
 impl TreeFault {
-    /// The number of the fault: 41 for want of memory, 43 for the device.
-    pub fn number(&self) -> u16
-        ensures { result ≡ tree_number self.now }
+    /// The number of the fault and its text: 41 for want of memory, 43 for the device.
+    pub fn numbered(&self) -> NumberedMessage<'static>
+        ensures { numbered_text result ≡ refusal_of self.now }
     {
         match self {
-            TreeFault::OutOfMemory => 41,
-            TreeFault::Device => 43,
+            TreeFault::OutOfMemory => RefusalKind::MemoryForSearch.plain(),
+            TreeFault::Device => RefusalKind::Device.plain(),
         }
     }
 
-    /// The text of the fault, as the error line shows it.
-    pub fn message(&self) -> Message<'static>
-        ensures { text_of result ≡ tree_message self.now }
+    /// The number of the fault: 41 for want of memory, 43 for the device.
+    pub fn number(&self) -> u16
+        ensures { result ≡ (refusal_of self.now).number }
     {
-        match self {
-            TreeFault::OutOfMemory => out_of_memory(),
-            TreeFault::Device => Message::of_text("Reading failed"),
-        }
+        self.numbered().number
     }
 }
 
 impl fmt::Display for TreeFault {
-    ghost output = { λ fault. Some (tree_message fault) };
+    ghost output = { λ fault. Some (refusal_of fault).text };
 
     fn fmt<W: fmt::Write>(&self, f: &mut fmt::Formatter<W>) -> fmt::Result {
-        self.message().fmt(f)
+        self.numbered().message.fmt(f)
     }
 }
 
@@ -69,7 +67,7 @@ impl<T: Drop> From<AllocFailed<T>> for TreeFault {
 
 /// What is seen at a path.
 #[derive(Clone, Copy, Debug, PartialEq, Eq)]
-pub struct Seen {
+pub struct SeenPath {
     /// Whether a file is there that begins with the bytes that were asked for.
     pub begins: bool,
     /// Whether a directory may be there: false only where the answers so far say that none is.
@@ -128,7 +126,7 @@ pub trait Tree {
     /// What `begins_with` answers, and after that `may_list`, in one call.
     ///
     /// It fails as `read` does.
-    fn see(&mut self, path: &str, prefix: &[u8]) -> Result<Seen, TreeFault>
+    fn see(&mut self, path: &str, prefix: &[u8]) -> Result<SeenPath, TreeFault>
         ensures narrows { Narrows (agrees self.old) (agrees self.new) }
         ensures answer { IfOk result (λ seen. InEachPair (agrees self.new) (λ files listings.
             begins_with prefix.now (files path.now) ≡ seen.begins)) }
@@ -139,7 +137,7 @@ pub trait Tree {
     {
         let begins = self.begins_with(path, prefix)?;
         let may_list = self.may_list(path);
-        Ok(Seen { begins, may_list })
+        Ok(SeenPath { begins, may_list })
     }
 
     /// The names in the directory at the path, in any order, or `None` where no directory is there.

@@ -38,10 +38,13 @@ abbrev pub left_by : Ending → Trace → DefaultFileResult
 left_by evaluation trace =
     record { commands = trace.records; version = lookup (texts_of evaluation.globals.items) (codes "ModulesVersion") }
 
-pub ending_has_result : (limits : Limits) (path text : Text) (evaluation : Ending) (trace : Trace) → Evaluates limits text (globals_of path) default_oracle empty_trace (Ok evaluation) trace → HasResult limits path text (Some (left_by evaluation trace))
+pub ending_has_result : (limits : Limits) (path text : Text) (evaluation : Ending) (trace : Trace)
+    → Evaluates limits text (globals_of path) default_oracle empty_trace (Ok evaluation) trace
+    → HasResult limits path text (Some (left_by evaluation trace))
 ending_has_result limits path text evaluation trace (s, d, g) =
     (_, _, d, ap (λ globals. Some (record { commands = trace.records; version = lookup globals (codes "ModulesVersion") })) (sym g))
 
-pub fault_has_result : (limits : Limits) (path text : Text) (f : EvalFault) (trace : Trace) → is_out_of_memory f ≡ false → Evaluates limits text (globals_of path) default_oracle empty_trace (Err f) trace → HasResult limits path text None
+pub fault_has_result : (limits : Limits) (path text : Text) (f : EvalFault) (trace : Trace) → is_out_of_memory f ≡ false
+    → Evaluates limits text (globals_of path) default_oracle empty_trace (Err f) trace → HasResult limits path text None
 fault_has_result limits path text f trace m (o, used, r, d) =
     (o, record { used = used; trace = trace }, rw m at d, sym (no_result text f o trace m r))

@@ -43,7 +43,6 @@ fn version_command_answer(words: &[String]) -> CommandAnswer<'static>
     }
 }
 
-/// The answer to a command, by its name and all its words.
 fn named_command_answer<'a>(name: &'a str, words: &[String]) -> CommandAnswer<'a>
     ensures { answer_view result (map string_bytes words.now)
         ≡ named_answer name.entry.now (map string_bytes words.now) }

@@ -4,14 +4,14 @@ ghost use Rattle.tclrules.specs.Promise.{texts_of, is_out_of_memory};
 ghost use Rattle.tclrules.specs.Variables.{lookup};
 
 use crate::host::DefaultHost;
-use search::{DefaultFiles, Ended};
+use search::{DefaultFileEnding, DefaultFiles};
 use std::alloc::{AllocError, Global};
 use tcleval::evaluate;
 use tclrules::{EvalFault, Limits};
 
 /// Evaluates default files within these limits. Each file has the whole of them.
 #[derive(Clone, Copy)]
-pub struct Evaluated {
+pub struct EvaluatedDefaultFiles {
     pub limits: Limits,
 }
 
@@ -54,7 +54,7 @@ fn is_out_of_memory(fault: &EvalFault) -> bool
     }
 }
 
-impl DefaultFiles for Evaluated {
+impl DefaultFiles for EvaluatedDefaultFiles {
     ghost use Rattle.lookup.specs.DefaultFileResults.{HasResult};
     ghost use Rattle.lookup.specs.OneResult.{one_result};
 
@@ -62,7 +62,12 @@ impl DefaultFiles for Evaluated {
 
     ghost one = { λ e. one_result e.limits };
 
-    fn evaluate(&self, alloc: Global, path: &str, text: &str) -> Result<Option<Ended>, AllocError> {
+    fn evaluate(
+        &self,
+        alloc: Global,
+        path: &str,
+        text: &str,
+    ) -> Result<Option<DefaultFileEnding>, AllocError> {
         let mut host = DefaultHost {
             alloc,
             commands: Vec::new(alloc),
@@ -73,7 +78,7 @@ impl DefaultFiles for Evaluated {
         match evaluate(alloc, text, globals, &mut host, self.limits) {
             Ok(evaluation) => {
                 let version = value_of(alloc, &evaluation.globals, "ModulesVersion")?;
-                Ok(Some(Ended {
+                Ok(Some(DefaultFileEnding {
                     commands: host.commands,
                     version,
                 }))

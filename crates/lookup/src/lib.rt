@@ -9,10 +9,11 @@ mod laws;
 mod listings;
 mod located;
 
-pub use evaluated::Evaluated;
-pub use filetree::{DiskTree, FindFault, MemoryTree, Seen, Tree, TreeFault};
+pub use evaluated::EvaluatedDefaultFiles;
+pub use filetree::{DiskTree, MemoryTree, SeenPath, Tree, TreeFault};
 pub use laws::{one_result, some_result};
 pub use listings::{Listing, available};
 pub use located::{Found, locate};
 pub use modulename::version_order;
+pub use search::FindFault;
 pub use tclrules::Limits;

@@ -10,9 +10,9 @@ ghost use Rattle.lookup.specs.DefaultFileResults.{HasResult};
 ghost use Rattle.lookup.specs.Lines.{line_of, lines_of, Available};
 ghost use Rattle.lookup.specs.LineViews.{line_view};
 
-use crate::evaluated::Evaluated;
-use filetree::{FindFault, Tree};
-use search::ListingEntry;
+use crate::evaluated::EvaluatedDefaultFiles;
+use filetree::Tree;
+use search::{FindFault, ListingEntry};
 use std::alloc::{AllocError, Global};
 use tclrules::Limits;
 
@@ -80,7 +80,7 @@ pub fn available<T: Tree>(
     ensures failed { FailsWhere is_failure T.agrees T.failed tree.old tree.new result (λ files folders.
         ListingLooksAt (HasResult limits) files folders modulepath.now) }
 {
-    let default_files = Evaluated { limits };
+    let default_files = EvaluatedDefaultFiles { limits };
     let directories = search::available(alloc, tree, &default_files, modulepath)?;
     Ok(joined(alloc, &directories)?)
 }

@@ -8,8 +8,9 @@ ghost use Rattle.lookup.specs.DefaultFileResults.{HasResult};
 ghost use Rattle.lookup.specs.Located.{Located};
 ghost use Rattle.lookup.specs.LocatedViews.{located_module_view};
 
-use crate::evaluated::Evaluated;
-use filetree::{FindFault, Tree};
+use crate::evaluated::EvaluatedDefaultFiles;
+use filetree::Tree;
+use search::FindFault;
 use std::alloc::Global;
 use tclrules::Limits;
 
@@ -46,7 +47,7 @@ pub fn locate<T: Tree>(
         LooksAt (HasResult limits) files folders modulepath.now name.now) }
     ensures unread { is_module_name name.now ≡ false → tree.new ≡ tree.old }
 {
-    let default_files = Evaluated { limits };
+    let default_files = EvaluatedDefaultFiles { limits };
     let module = search::locate(alloc, tree, &default_files, modulepath, name)?;
     Ok(Found {
         name: module.name,

@@ -12,10 +12,6 @@ Text = List ℕ
 abbrev pub around : Text → Text → Text → Text
 around before subject after = before ++ (subject ++ after)
 
--- a message and a byte offset after it
-abbrev pub at_byte : Text → ℕ → Text
-at_byte before at = around before (decimal at) []
-
 -- what is written after a message that is about a line
 abbrev pub line_text : ℕ → Text
 line_text line = codes " (line " ++ (decimal line ++ codes ")")
@@ -27,10 +23,6 @@ at_line text line = text ++ line_text line
 -- a message that ends with a quoted name
 abbrev pub quoting : Text → Text → Text
 quoting before subject = around before subject (codes "'")
-
--- the text of a fault for want of memory
-abbrev pub out_of_memory : Text
-out_of_memory = codes "Out of memory"
 
 -- the text that is inserted
 abbrev pub subject_text : Subject → Text

@@ -1,15 +1,19 @@
-//! The texts of faults and reports: a message has parts, so that it is shown and written without taking memory.
+//! The texts of faults, and the table of refusals: a message has parts, so that it is shown without taking memory.
 //! Touches nothing but the text or writer that it is shown on, and takes no memory; `texts` copies lists of texts.
 #![tactic(auto)]
 
+mod laws;
+mod refusals;
 pub mod texts;
 
 ghost use Rattle.std.specs.Prelude.{◌≡◌, Some};
 ghost use Rattle.std.specs.List.{flat_map};
 ghost use Rattle.message.specs.Messages as messages;
-ghost use Rattle.message.specs.Messages.{around, text_of, subject_text};
+ghost use Rattle.message.specs.Messages.{text_of, subject_text};
 
 use itoa::Buffer;
+pub use laws::numbers_differ;
+pub use refusals::{NumberedMessage, RefusalKind};
 use std::fmt;
 
 /// What a message is about: what is inserted between its two texts.
@@ -42,13 +46,6 @@ impl<'a> Subject<'a> {
     }
 }
 
-/// The message of a fault for want of memory.
-pub fn out_of_memory() -> Message<'static>
-    ensures { text_of result ≡ messages.out_of_memory }
-{
-    Message::of_text("Out of memory")
-}
-
 /// A message: two texts, and what is inserted between them.
 #[derive(Clone, Copy, Debug, PartialEq, Eq)]
 pub struct Message<'a> {
@@ -72,32 +69,14 @@ impl<'a> Message<'a> {
         }
     }
 
-    /// A name between two texts.
-    pub fn around(before: &'a str, name: &'a str, after: &'a str) -> Message<'a>
-        ensures { text_of result ≡ around before.now name.now after.now }
-    {
-        Message {
-            before,
-            subject: Subject::Name(name),
-            after,
-        }
-    }
-
     /// A text, a name and a closing quote.
     pub fn quoting(before: &'a str, name: &'a str) -> Message<'a>
         ensures { text_of result ≡ messages.quoting before.now name.now }
     {
-        Message::around(before, name, "'")
-    }
-
-    /// A text and a byte offset after it.
-    pub fn at_byte(before: &'a str, at: usize) -> Message<'a>
-        ensures { text_of result ≡ messages.at_byte before.now at }
-    {
         Message {
             before,
-            subject: Subject::Number(at),
-            after: "",
+            subject: Subject::Name(name),
+            after: "'",
         }
     }
 

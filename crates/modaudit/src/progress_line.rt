@@ -1,5 +1,5 @@
 //! A line on a terminal that says how far an audit has come.
-use siteaudit::Progress;
+use siteaudit::WalkProgress;
 use std::io::{IsTerminal, Stderr, Write};
 use std::time::{Clock, Instant};
 
@@ -70,7 +70,7 @@ impl<C: Clock + Drop> ProgressLine<C> {
     }
 }
 
-impl<C: Clock + Drop> Progress for ProgressLine<C> {
+impl<C: Clock + Drop> WalkProgress for ProgressLine<C> {
     /// Shows so many files, where a line is due; where none was found, nothing is under way, and the line is taken away.
     fn evaluated(&mut self, done: usize, found: usize) {
         if !self.is_terminal {

@@ -1,5 +1,6 @@
 -- How a check ended, and the causes of its faults.
-use Rattle.std.proofs.Common.{◌≡◌, ℕ, List, [], Bool, true, false, Ok, Option, String, string_bytes, refl, sym, subst, inl, inr}
+use Rattle.std.proofs.Common.{◌≡◌, ℕ, List, [], Bool, true, false, Ok, Option, String, string_bytes, refl, sym, subst}
+use Rattle.std.proofs.Common.{inl, inr}
 use Rattle.std.proofs.lemmas.Str.{IsUtf8-string_bytes, is_utf8-from_IsUtf8}
 use Rattle.std.specs.declared.alloc.Global.{Global}
 use Rattle.std.specs.Str.{is_utf8}
@@ -17,7 +18,8 @@ use Rattle.modulecmd.specs.declared.command_exit.Exit.{Exit}
 use Rattle.modulecmd.specs.declared.command_exit.Exit.TheVariants.{Success, Reported, CutShort}
 use Rattle.modulecmd.specs.declared.command_fault.CommandFault.{CommandFault}
 use Rattle.shelltext.specs.declared.shell.Shell.{Shell}
-use Rattle.modulecmd.specs.Checking.{CheckOfInputLooksAt, EndsCheck, IsCheckFault, ShowsWhetherAccepted, shell_of, writing_of}
+use Rattle.modulecmd.specs.Checking.{CheckOfInputLooksAt, EndsCheck, IsCheckFault, ShowsWhetherAccepted, shell_of}
+use Rattle.modulecmd.specs.Checking.{writing_of}
 use Rattle.modulecmd.specs.Command.{standard}
 use Rattle.modulecmd.specs.CheckWords.{IsPreparedCheck, exit_of}
 use Rattle.modulecmd.specs.Output.{FinishesWriting, WritesFault}

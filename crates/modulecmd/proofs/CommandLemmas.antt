@@ -22,10 +22,12 @@ use Rattle.modules.specs.Messages.{memory_number, number_by}
 use Rattle.modules.specs.Replies.{changed_env, changed_view}
 use Rattle.modules.proofs.StepLemmas.{stands_as}
 use Rattle.modulecmd.specs.declared.command_fault.CommandFault.{CommandFault}
-use Rattle.modulecmd.specs.declared.command_fault.CommandFault.TheVariants.{Refused, Unprinted, UnknownShell, WriteFailed}
+use Rattle.modulecmd.specs.declared.command_fault.CommandFault.TheVariants.{Refused, Unprinted, UnknownShell}
+use Rattle.modulecmd.specs.declared.command_fault.CommandFault.TheVariants.{WriteFailed}
 use Rattle.modulecmd.specs.Command as command
-use Rattle.modulecmd.specs.Command.{CommandReason, CommandResult, CommandHasResult, IsCausedBy, IsNumbered, command_of, standard, with_shell}
-use Rattle.modulecmd.specs.declared.command.Prepared.{Prepared}
+use Rattle.modulecmd.specs.Command.{CommandReason, CommandResult, CommandHasResult, IsCausedBy, IsNumbered, command_of}
+use Rattle.modulecmd.specs.Command.{standard, with_shell}
+use Rattle.modulecmd.specs.declared.command.PreparedCommand.{PreparedCommand}
 use Rattle.modulecmd.specs.Output.{IsPrepared, ReturnsToStart}
 use Rattle.modulecmd.specs.Words.{effect_in}
 
@@ -91,14 +93,15 @@ unprinted shell ss prints.OutOfMemory Is Lacks failed lacks h = tt
 unprinted shell ss (prints.NotSayable name) Is Lacks failed lacks h = lacks (string_bytes name) h
 
 -- A request's step and the text of its changes answer the command.
-pub answers : CommandsReturn → OneEffect → DifferenceMakes → (agrees : Files → Listings → Type 0) (arguments : List Text) (e : Environment) (r : Request) (a : Prepared)
+pub answers : CommandsReturn → OneEffect → DifferenceMakes → (agrees : Files → Listings → Type 0) (arguments : List Text) (e : Environment) (r : Request) (a : PreparedCommand)
     → command_of arguments ≡ Ok r → a.shell ≡ r.0
     → InEachPair agrees (λ files listings. RequestStep (request_context_in standard r.0 files listings) e r.1 (Ok (changed_view e a.changed)))
     → AreChanges e (changed_env e a.changed) (new_values_in a.changed.changes) → TextSays r.0 (string_bytes a.text) (new_values_in a.changed.changes)
     → IsPrepared agrees e (CommandHasResult arguments e) (effect_in e a) (string_bytes a.text)
 answers returns one makes agrees arguments e r a made shell step exact says =
     let Read : Shell → Type 0 = λ s. TextSays s (string_bytes a.text) (new_values_in a.changed.changes) in
-    let difference : SaysDifference a.shell (string_bytes a.text) e (changed_env e a.changed) = record { changes = new_values_in a.changed.changes; exact = exact; says = subst Read (sym shell) says } in
+    let difference : SaysDifference a.shell (string_bytes a.text) e (changed_env e a.changed) = record
+    { changes = new_values_in a.changed.changes; exact = exact; says = subst Read (sym shell) says } in
     let PrintsFor : Shell → Files → Listings → Type 0 = λ s files listings. CommandHasResult arguments e files listings (Ok (s, changed_view e a.changed)) in (
       λ files listings agreed. subst (λ s. PrintsFor s files listings) (sym shell) (does arguments e files listings r (Ok (changed_view e a.changed)) made (step files listings agreed)),
       difference,

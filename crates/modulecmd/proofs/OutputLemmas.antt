@@ -8,8 +8,9 @@ use Rattle.envvars.specs.Environment.{Environment}
 use Rattle.modulecmd.specs.declared.command_exit.Exit.{Exit}
 use Rattle.modulecmd.specs.declared.command_exit.Exit.TheVariants.{Success, Reported, CutShort}
 use Rattle.modulecmd.specs.declared.command_fault.CommandFault.TheVariants.{WriteFailed}
-use Rattle.modulecmd.specs.declared.command.Prepared.{Prepared}
-use Rattle.modulecmd.specs.Output.{BreaksOff, EndsCommand, FinishesWriting, IsPrepared, ResultRelation, WritesFault, standard_error_text}
+use Rattle.modulecmd.specs.declared.command.PreparedCommand.{PreparedCommand}
+use Rattle.modulecmd.specs.Output.{BreaksOff, EndsCommand, FinishesWriting, IsPrepared, ResultRelation, WritesFault}
+use Rattle.modulecmd.specs.Output.{standard_error_text}
 use Rattle.modulecmd.specs.Words.{effect_in, words_of}
 use Rattle.modulecmd.specs.Writing.{AppendsPart}
 
@@ -33,12 +34,14 @@ flat_map_map f g [] = refl
 flat_map_map f g (x ∷ xs) = ap (λ zs. f (g x) ++ zs) (flat_map_map f g xs)
 
 -- what the program writes is the text for standard error
-pub words_are_standard_error : (e : Environment) (a : Prepared) → words_of a ≡ standard_error_text (effect_in e a).1
+pub words_are_standard_error : (e : Environment) (a : PreparedCommand) → words_of a ≡ standard_error_text (effect_in e a).1
 words_are_standard_error e a = ap (λ zs. zs ++ string_bytes a.changed.done.report) (flat_map_map (λ message. message) string_bytes a.changed.done.messages.items)
 
 -- the end of a command whose answer was written
-pub answered : (exit : Exit) (agrees : Files → Listings → Type 0) (failed : Type 0) (e : Environment) (Does : ResultRelation) (a : Prepared) (out out' err err' : Option Text)
-    → IsPrepared agrees e Does (effect_in e a) (string_bytes a.text) → FinishesWriting exit (words_of a) (string_bytes a.text) out out' err err' → EndsCommand exit agrees failed e Does out out' err err'
+pub answered : (exit : Exit) (agrees : Files → Listings → Type 0) (failed : Type 0) (e : Environment) (Does : ResultRelation) (a : PreparedCommand) (out out' err err' : Option Text)
+    → IsPrepared agrees e Does (effect_in e a) (string_bytes a.text)
+    → FinishesWriting exit (words_of a) (string_bytes a.text) out out' err err'
+    → EndsCommand exit agrees failed e Does out out' err err'
 answered exit agrees failed e Does a out out' err err' is h =
     let P : Text → Type 0 = λ words. FinishesWriting exit words (string_bytes a.text) out out' err err' in
     inl (effect_in e a, string_bytes a.text, is, subst P (words_are_standard_error e a) h)

@@ -25,7 +25,9 @@ pub new_front : (start : Environment) (ms ns : List Move) → AreNew start (ms +
 new_front start [] ns h = (tt, h)
 new_front start (m ∷ ms) ns h = let p = new_front start ms ns h.1 in ((h.0, p.0), p.1)
 
-fitting_front : (uses : Text → VariableUse) (live : List Module) (ms ns : List Move) → AreReversibleBeside uses live (ms ++ ns) → AreReversibleBeside uses live ms × AreReversibleBeside uses (live_after live ms) ns
+fitting_front : (uses : Text → VariableUse) (live : List Module) (ms ns : List Move)
+    → AreReversibleBeside uses live (ms ++ ns) → AreReversibleBeside uses live ms
+    × AreReversibleBeside uses (live_after live ms) ns
 fitting_front uses live [] ns h = (tt, h)
 fitting_front uses live (Loads m ∷ ms) ns h = let p = fitting_front uses (m ∷ live) ms ns h.1 in ((h.0, p.0), p.1)
 fitting_front uses live (Unloads m ∷ ms) ns h = let p = fitting_front uses (without_live m.name live) ms ns h.1 in ((h.0, p.0), p.1)
@@ -37,7 +39,9 @@ live_together live (Unloads m ∷ ms) ns = live_together (without_live m.name li
 
 -- ---- one command
 
-step_back : requests.CommandsReturn → OneEffect → DifferenceMakes → (e : Environment) (files : Files) (listings : Listings) (r : Request) (f : CommandResult) (text : Text) (step : Result Done RequestReason)
+step_back : requests.CommandsReturn → OneEffect → DifferenceMakes
+    → (e : Environment) (files : Files) (listings : Listings) (r : Request) (f : CommandResult) (text : Text)
+    (step : Result Done RequestReason)
     → RequestStep (request_context_in standard r.0 files listings) e r.1 step → Ok f ≡ with_shell r.0 step → SaysDifference f.0 text e f.1.env → ReturnsToStart e f text
 step_back returns one makes e files listings r f text (Err reason) h is says = absurd (cc)
 step_back returns one makes e files listings r f text (Ok done) h is says =

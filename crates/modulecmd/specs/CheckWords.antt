@@ -7,7 +7,7 @@ use Rattle.shelltext.specs.declared.shell.Shell.{Shell}
 use Rattle.shelltext.specs.Reading.{SaysDifference}
 use Rattle.sessions.specs.Checks.{all_accepted}
 use Rattle.sessions.specs.Reports.{report_of}
-use Rattle.sessions.specs.declared.checking.Findings.{Findings}
+use Rattle.sessions.specs.declared.checking.CheckFindings.{CheckFindings}
 use Rattle.modulecmd.specs.Checking.{ChecksInput}
 use Rattle.modulecmd.specs.declared.command_exit.Exit.{Exit}
 use Rattle.modulecmd.specs.declared.command_exit.Exit.TheVariants.{Success, Reported, CutShort}
@@ -16,10 +16,11 @@ use Rattle.modulecmd.specs.declared.checking.CheckExit.TheVariants as exits
 use Rattle.modulecmd.specs.declared.checking.PreparedCheck.{PreparedCheck}
 
 -- the answer has what is to be written of a check of all that the input gives
-pub record IsPreparedCheck (agrees : Files → Listings → Type 0) (before now : ℕ) (e : Environment) (arguments : List Text)
+pub record IsPreparedCheck (agrees : Files → Listings → Type 0) (before now : ℕ) (e : Environment)
+    (arguments : List Text)
     (input input' : Option Text) (answer : PreparedCheck) : Type 0 where
   pub shell : Shell
-  pub found : Findings
+  pub found : CheckFindings
   pub checks : ChecksInput agrees before now e arguments input input' shell found
   pub says : SaysDifference shell (string_bytes answer.text) e found.env
   pub report : string_bytes answer.report ≡ report_of found

@@ -1,5 +1,6 @@
 -- What the check of an input's lines writes to its two writers (own).
-use Rattle.std.specs.Prelude.{◌≡◌, ◌⊎◌, ◌≤◌, ℕ, Bool, true, false, List, [], ◌∷◌, length, Option, Some, None, Result, Ok, Err}
+use Rattle.std.specs.Prelude.{◌≡◌, ◌⊎◌, ◌≤◌, ℕ, Bool, true, false, List, [], ◌∷◌, length, Option, Some, None, Result}
+use Rattle.std.specs.Prelude.{Ok, Err}
 use Rattle.std.specs.Io.KnownBytes.{Keeps}
 use Rattle.std.specs.Str.{is_utf8}
 use Rattle.envvars.specs.Texts.{Text}
@@ -15,7 +16,7 @@ use Rattle.shelltext.specs.Reading.{SaysDifference}
 use Rattle.sessions.specs.Checks.{CheckLooksAt, IsCheck, all_accepted}
 use Rattle.sessions.specs.Lines.{lines_in}
 use Rattle.sessions.specs.Reports.{report_of}
-use Rattle.sessions.specs.declared.checking.Findings.{Findings}
+use Rattle.sessions.specs.declared.checking.CheckFindings.{CheckFindings}
 use Rattle.modulecmd.specs.declared.checking.CheckExit.{CheckExit}
 use Rattle.modulecmd.specs.declared.checking.CheckExit.TheVariants as exits
 use Rattle.modulecmd.specs.declared.command_exit.Exit.{Exit}
@@ -39,7 +40,7 @@ shell_of (word ∷ other ∷ more) = Err (refused_for bad_arguments)
 -- The whole input, which is UTF-8 and no longer than an input may be, is checked for the shell of the arguments. The
 -- numbers say how often the device had failed before, and has now.
 pub record ChecksInput (agrees : Files → Listings → Type 0) (before now : ℕ) (e : Environment) (arguments : List Text)
-    (input input' : Option Text) (shell : Shell) (found : Findings) : Type 0 where
+    (input input' : Option Text) (shell : Shell) (found : CheckFindings) : Type 0 where
   pub named : shell_of arguments ≡ Ok shell
   pub text : Text
   pub given : ReadsAll input input' text
@@ -69,7 +70,7 @@ ShowsWhetherAccepted exits.CutShort accepted = Unit {0}
 
 -- What a check writes: its report on standard error, and on standard output a text that says for the shell exactly what
 -- its lines change from first to last; or the first part of these before a failed write.
-abbrev pub WritesCheck : CheckExit → Environment → Shell → Findings → Option Text → Option Text → Option Text
+abbrev pub WritesCheck : CheckExit → Environment → Shell → CheckFindings → Option Text → Option Text → Option Text
     → Option Text → Type 0
 WritesCheck exit e shell found out out' err err' =
     (text : Text) × SaysDifference shell text e found.env × ShowsWhetherAccepted exit (all_accepted found)
@@ -89,7 +90,7 @@ IsUnread arguments input input' fault =
 abbrev pub CheckLacksText : (Files → Listings → Type 0) → ℕ → ℕ → Environment → List Text → Option Text → Option Text
     → Text → Type 0
 CheckLacksText agrees before now e arguments input input' name =
-    (shell : Shell) × (found : Findings) × ChecksInput agrees before now e arguments input input' shell found
+    (shell : Shell) × (found : CheckFindings) × ChecksInput agrees before now e arguments input input' shell found
     × LacksText shell e found.env name
 
 -- The cause of a fault: memory is wanting, the arguments name no shell, the input is spoilt, or the changes have no
@@ -104,7 +105,7 @@ IsCheckFault agrees before now e arguments input input' fault =
 abbrev pub EndsCheck : CheckExit → (Files → Listings → Type 0) → ℕ → ℕ → Environment → List Text → Option Text
     → Option Text → Option Text → Option Text → Option Text → Option Text → Type 0
 EndsCheck exit agrees before now e arguments input input' out out' err err' =
-    ((shell : Shell) × (found : Findings) × ChecksInput agrees before now e arguments input input' shell found
+    ((shell : Shell) × (found : CheckFindings) × ChecksInput agrees before now e arguments input input' shell found
     × WritesCheck exit e shell found out out' err err')
     ⊎ ((fault : CommandFault) × IsCheckFault agrees before now e arguments input input' fault
     × Refuses (writing_of exit) fault out out' err err')

@@ -1,5 +1,8 @@
--- What a command line asks for and what that makes of an environment, over the files and directories of a tree (module(1)).
+-- What a command line asks for and what that makes of an environment, over the files and directories of a tree
+-- (module(1)).
 use Rattle.std.specs.Prelude.{◌≡◌, ℕ, List, [], ◌∷◌, Option, Some, None, Result, Ok, Err, string_bytes}
+use Rattle.message.specs.Refusals as table
+use Rattle.message.specs.declared.refusals.RefusalKind.TheVariants as kinds
 use Rattle.envvars.specs.Texts.{Text}
 use Rattle.envvars.specs.Environment.{Environment}
 use Rattle.filetree.specs.Agreement.{Files, Listings}
@@ -7,7 +10,7 @@ use Rattle.filetree.specs.Relations.{Is, ◌>>◌}
 use Rattle.shelltext.specs.declared.shell.Shell.{Shell}
 use Rattle.shelltext.specs.Shells.{shell_named}
 use Rattle.shelltext.specs.declared.print.PrintFault.TheVariants as prints
-use Rattle.shelltext.specs.Printing.{print_fault_number}
+use Rattle.shelltext.specs.Printing as printing
 use Rattle.tclrules.specs.declared.limits.Limits.{Limits}
 use Rattle.requests.specs.Looked.{RequestLooksAt}
 use Rattle.requests.specs.Reasons as requests
@@ -18,13 +21,12 @@ use Rattle.filetree.specs.Causes.{Applies}
 use Rattle.modules.specs.Answers.{cause_of}
 use Rattle.modules.specs.Messages as texts
 use Rattle.modules.specs.declared.refusal.Refusal.TheVariants as refusals
-use Rattle.filetree.specs.declared.find_fault.FindFault.TheVariants as finds
+use Rattle.search.specs.declared.find_fault.FindFault.TheVariants as finds
 use Rattle.processinput.specs.declared.input.InputFault.{InputFault}
 use Rattle.processinput.specs.declared.input.InputFault.TheVariants as inputs
-use Rattle.processinput.specs.declared.process.ArgumentsFault.{ArgumentsFault}
-use Rattle.processinput.specs.declared.process.ArgumentsFault.TheVariants as given
 use Rattle.modulecmd.specs.declared.command_fault.CommandFault.{CommandFault}
-use Rattle.modulecmd.specs.declared.command_fault.CommandFault.TheVariants.{Refused, Unprinted, UnknownShell, WriteFailed}
+use Rattle.modulecmd.specs.declared.command_fault.CommandFault.TheVariants.{Refused, Unprinted, UnknownShell}
+use Rattle.modulecmd.specs.declared.command_fault.CommandFault.TheVariants.{WriteFailed}
 
 -- Why a command is refused, apart from want of memory, a failed device, a failed write and changes without a text.
 pub data CommandReason : Type 0 where
@@ -66,7 +68,8 @@ RequestHasEffect r e files listings o =
     (step : Result Done RequestReason) × RequestStep (request_context_in standard r.0 files listings) e r.1 step
     × (o ≡ with_shell r.0 step)
 
--- The effect of a command with these arguments, or its reason, in this environment and over these files and directories.
+-- The effect of a command with these arguments, or its reason, in this environment and over these files and
+-- directories.
 abbrev pub CommandHasResult : List Text → Environment → Files → Listings → Result CommandResult CommandReason → Type 0
 CommandHasResult arguments e files listings = Is (command_of arguments) >> (λ r. RequestHasEffect r e files listings)
 
@@ -88,27 +91,22 @@ IsCausedBy WriteFailed Has Lacks failed = ⊥
 -- the number of each refusal
 abbrev pub number_of : CommandFault → ℕ
 number_of (Refused refusal) = texts.number_of refusal
-number_of (Unprinted fault) = print_fault_number fault
-number_of (UnknownShell word) = 63
-number_of WriteFailed = 64
+number_of (Unprinted fault) = (printing.refusal_of fault).number
+number_of (UnknownShell word) = table.number_of kinds.UnknownShell
+number_of WriteFailed = table.number_of kinds.WriteFailed
 
 -- the number of a command's reason
 abbrev pub reason_number : CommandReason → ℕ
-reason_number (unknown_shell word) = 63
+reason_number (unknown_shell word) = table.number_of kinds.UnknownShell
 reason_number (refused_for reason) = requests.reason_number reason
 
 -- the number of a refusal is that of its cause: the reason's own, 62 for changes without a text, 43 for a failed device
 abbrev pub IsNumbered : CommandFault → Type 0
 IsNumbered fault =
-    IsCausedBy fault (λ reason. number_of fault ≡ reason_number reason) (λ name. number_of fault ≡ 62)
-    (number_of fault ≡ 43)
+    IsCausedBy fault (λ reason. number_of fault ≡ reason_number reason)
+    (λ name. number_of fault ≡ table.number_of kinds.NotSayable) (number_of fault ≡ table.number_of kinds.Device)
 
--- arguments that can't be handed on, as a refusal
-abbrev pub of_arguments : ArgumentsFault → CommandFault
-of_arguments given.OutOfMemory = Refused refusals.OutOfMemory
-of_arguments given.NotUtf8 = Refused refusals.BadArguments
-
--- an input that isn't read whole or isn't text, as a refusal
+-- arguments that can't be handed on, and an input that isn't read whole or isn't text, as a refusal
 abbrev pub of_input : InputFault → CommandFault
 of_input inputs.OutOfMemory = Refused refusals.OutOfMemory
 of_input inputs.ReadFailed = Refused (refusals.Find finds.Device)

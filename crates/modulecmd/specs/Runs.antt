@@ -19,8 +19,8 @@ pub record PrintedCommand : Type 0 where
   pub effect : CommandResult
   pub text : Text
 
--- Over these files and directories each command has its effect in the environment that the shell holds, and its text says
--- what that changes; the shell that ran it holds the next environment, and after all of them the last.
+-- Over these files and directories each command has its effect in the environment that the shell holds, and its text
+-- says what that changes; the shell that ran it holds the next environment, and after all of them the last.
 abbrev pub ShellsHold : Files → Listings → Environment → List PrintedCommand → Environment → Type 0
 ShellsHold files listings e [] last = last ≡ e
 ShellsHold files listings e (c ∷ cs) last =

@@ -13,10 +13,10 @@ use Rattle.sitelaws.specs.Laws.{LoadsAreOf}
 use Rattle.modulecmd.specs.Command.{standard}
 use Rattle.modulecmd.specs.Runs.{PrintedCommand, ShellsHold, moves_in}
 
--- These are the plain modules of the site that an environment has over these files and directories, and the start agrees
--- with their certificate. Then, after any commands that load certified modules alone and unload no module of the start:
--- what the shell holds is in order and is the start with the modules that are live then layered on it. With none it is
--- the start.
+-- These are the plain modules of the site that an environment has over these files and directories, and the start
+-- agrees with their certificate. Then, after any commands that load certified modules alone and unload no module of the
+-- start: what the shell holds is in order and is the start with the modules that are live then layered on it. With none
+-- it is the start.
 abbrev pub SiteShellsReturn : Type 0
 SiteShellsReturn =
     (judged_in : Environment) (files : Files) (listings : Listings) (ms : List Module) (start last : Environment)

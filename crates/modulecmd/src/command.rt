@@ -13,7 +13,7 @@ use crate::command_fault::CommandFault;
 use crate::finishing::{finish, report_fault};
 use envvars::Env;
 use filetree::Tree;
-use modules::{Changed, Refusal, request, run_changes};
+use modules::{Refusal, RequestChanges, request, run_changes};
 use requests::Request;
 use shelltext::{Shell, print_changes};
 use std::alloc::Global;
@@ -29,11 +29,11 @@ pub(crate) const STANDARD: Limits = Limits {
 
 /// What an accepted command has done, and the text that says its changes; nothing is written yet.
 #[derive(Drop)]
-struct Prepared {
+struct PreparedCommand {
     /// The shell that is to run the text.
     shell: Shell,
     /// The changes, the messages and the report.
-    changed: Changed,
+    changed: RequestChanges,
     /// The text for the shell.
     text: String,
 }
@@ -59,7 +59,7 @@ fn answer_of<T: Tree>(
     args: &[String],
     env: &Env,
     tree: &mut T,
-) -> Result<Prepared, CommandFault>
+) -> Result<PreparedCommand, CommandFault>
     ensures reads { ReadsOn T.agrees T.failures tree.old tree.new }
     ensures answered { IfOk result (λ a.
         IsPrepared (T.agrees tree.new) env.now (CommandHasResult (map string_bytes args.now) env.now)
@@ -76,7 +76,7 @@ fn answer_of<T: Tree>(
     let request = command_of(alloc, args)?;
     let changed = run_changes(alloc, &request, env, tree, STANDARD)?;
     let text = print_changes(alloc, request.shell, changed.changes.as_slice())?;
-    Ok(Prepared {
+    Ok(PreparedCommand {
         shell: request.shell,
         changed,
         text,

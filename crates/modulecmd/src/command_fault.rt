@@ -2,18 +2,18 @@
 ghost use Rattle.std.specs.Prelude.{◌≡◌, Some, OnOk, OnErr};
 ghost use Rattle.std.specs.Io.KnownBytes.{Appends};
 ghost use Rattle.modulecmd.specs.Writing.{AppendsPart};
-ghost use Rattle.message.specs.Messages.{text_of};
-ghost use Rattle.modulecmd.specs.Lines.{line_of, message_of};
+ghost use Rattle.message.specs.Refusals.{numbered_text};
+ghost use Rattle.modulecmd.specs.Lines.{line_of, refusal_of};
 ghost use Rattle.modules.specs.declared.refusal.Refusal.TheVariants as refusals;
 ghost use Rattle.modulecmd.specs.declared.command_fault.CommandFault.TheVariants.{Refused, Unprinted};
-ghost use Rattle.modulecmd.specs.Command.{number_of, of_arguments, of_input};
+ghost use Rattle.modulecmd.specs.Command.{number_of, of_input};
 
 use crate::writers::{WriteFault, write_error};
 use envvars::EnvFault;
-use filetree::FindFault;
-use message::Message;
+use message::{NumberedMessage, RefusalKind};
 use modules::Refusal;
-use processinput::{ArgumentsFault, InputFault};
+use processinput::InputFault;
+use search::FindFault;
 use shelltext::PrintFault;
 use std::alloc::AllocError;
 use std::error::Error;
@@ -35,6 +35,18 @@ pub enum CommandFault {
 }
 
 impl CommandFault {
+    /// The number of the refusal and its text.
+    pub fn numbered(&self) -> NumberedMessage<'_>
+        ensures { numbered_text result ≡ refusal_of self.now }
+    {
+        match self {
+            CommandFault::Refused(refusal) => refusal.numbered(),
+            CommandFault::Unprinted(fault) => fault.numbered(),
+            CommandFault::UnknownShell(word) => RefusalKind::UnknownShell.naming(word.as_str()),
+            CommandFault::WriteFailed => RefusalKind::WriteFailed.plain(),
+        }
+    }
+
     /// The number of the refusal.
     pub fn number(&self) -> u16
         ensures { result ≡ number_of self.now }
@@ -42,29 +54,17 @@ impl CommandFault {
         match self {
             CommandFault::Refused(refusal) => refusal.number(),
             CommandFault::Unprinted(fault) => fault.number(),
-            CommandFault::UnknownShell(_) => 63,
-            CommandFault::WriteFailed => 64,
-        }
-    }
-
-    /// The text of the fault.
-    pub fn message(&self) -> Message<'_>
-        ensures { text_of result ≡ message_of self.now }
-    {
-        match self {
-            CommandFault::Refused(refusal) => refusal.message(),
-            CommandFault::Unprinted(fault) => fault.message(),
-            CommandFault::UnknownShell(word) => Message::quoting("Unknown shell '", word.as_str()),
-            CommandFault::WriteFailed => Message::of_text("Writing failed"),
+            CommandFault::UnknownShell(_) => RefusalKind::UnknownShell.number(),
+            CommandFault::WriteFailed => RefusalKind::WriteFailed.number(),
         }
     }
 }
 
 impl fmt::Display for CommandFault {
-    ghost output = { λ fault. Some (message_of fault) };
+    ghost output = { λ fault. Some (refusal_of fault).text };
 
     fn fmt<W: fmt::Write>(&self, f: &mut fmt::Formatter<W>) -> fmt::Result {
-        self.message().fmt(f)
+        self.numbered().message.fmt(f)
     }
 }
 
@@ -102,17 +102,6 @@ impl From<AllocError> for CommandFault {
     }
 }
 
-impl From<ArgumentsFault> for CommandFault {
-    ghost from_gives = { λ fault e. e ≡ of_arguments fault };
-
-    fn from(fault: ArgumentsFault) -> CommandFault {
-        match fault {
-            ArgumentsFault::OutOfMemory => CommandFault::Refused(Refusal::OutOfMemory),
-            ArgumentsFault::NotUtf8 => CommandFault::Refused(Refusal::BadArguments),
-        }
-    }
-}
-
 impl From<InputFault> for CommandFault {
     ghost from_gives = { λ fault e. e ≡ of_input fault };
 
@@ -131,5 +120,5 @@ pub fn write_refusal<E: Write>(fault: &CommandFault, err: &mut E) -> Result<(), 
     ensures whole { OnOk result (Appends (E.contents err.old) (E.contents err.new) (line_of fault.now)) }
     ensures cut { OnErr result (AppendsPart (E.contents err.old) (E.contents err.new) (line_of fault.now)) }
 {
-    write_error(&fault.message(), err)
+    write_error(&fault.numbered().message, err)
 }

@@ -20,19 +20,20 @@ pub use envloaded::{Loaded, add_loaded, conflicts_of, drop_loaded, loaded, prere
 pub use envpaths::{End, add_path, drop_path};
 pub use envstacks::{pop_value, push_value};
 pub use envvars::{Change, Env, EnvFault, changes};
-pub use filetree::{DiskTree, FindFault, MemoryTree, Seen, Tree, TreeFault};
+pub use filetree::{DiskTree, MemoryTree, SeenPath, Tree, TreeFault};
 pub use laws::{commands_return, one_command, site_commands_return};
 pub use lookup::{Found, Listing, available, locate};
 pub use modulefile::RecordFault;
 pub use modulename::version_order;
 pub use modulerun::RunFault;
 pub use modules::{
-    Changed, Done, MissingNames, Module, Move, Outcome, Refusal, Reply, Verdict, request, run,
-    run_changes, session, verdict,
+    MissingNames, Module, Move, Outcome, Refusal, Reply, RequestChanges, RequestResults, Verdict,
+    request, run, run_changes, session, verdict,
 };
 pub use process::{ProcessInput, process_input};
-pub use processinput::{ArgumentsFault, InputFault, arguments, environment_block, read_input};
+pub use processinput::{InputFault, arguments, environment_block, read_input};
 pub use requests::{Action, Request};
+pub use search::FindFault;
 pub use sessions::rehearse;
 pub use shelltext::{PrintFault, Shell, print_changes};
 pub use tclchars::TextFault;

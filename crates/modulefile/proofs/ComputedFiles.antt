@@ -7,7 +7,9 @@ use lib.Utf8.{encode}
 use Rattle.tclchars.specs.Runs.{Text}
 use Rattle.tclchars.specs.Braces.{braced_at}
 use Rattle.tclscript.specs.ScanState.{scan}
-use Rattle.tclscript.specs.Reading.{whole_script, script_with, command_at, word_at, unexpanded_word_at, braced_word_at, quoted_word_at, quotes_at, parts_with, part_at, dollar_at, backslash_at, bracket_at, index_at, braced_name_at, after_expansion, inner_at}
+use Rattle.tclscript.specs.Reading.{whole_script, script_with, command_at, word_at, unexpanded_word_at, braced_word_at}
+use Rattle.tclscript.specs.Reading.{quoted_word_at, quotes_at, parts_with, part_at, dollar_at, backslash_at, bracket_at}
+use Rattle.tclscript.specs.Reading.{index_at, braced_name_at, after_expansion, inner_at}
 use Rattle.tclexpr.specs.Marks.{mark_at, after_white}
 use Rattle.tclexpr.specs.Operands.{operand_at, after_number, after_digits, is_truth, quoted_at, braced_text_at}
 use Rattle.tclexpr.specs.Operands as operands
@@ -16,7 +18,8 @@ use Rattle.tclchars.specs.Numerals.{numeral}
 use Rattle.tcllist.specs.ListReading.{list_of, list_at, element_at, piece_of, piece_at}
 use Rattle.tcloperators.specs.Messages as value_messages
 use Rattle.tclvalue.specs.Characters.{white_space, split_space}
-use Rattle.tclrules.specs.Messages.{no_variable, no_command, outside_loop, cannot_unset, is_array, bad_option, no_body, no_loop_variable, cannot_redefine}
+use Rattle.tclrules.specs.Messages.{no_variable, no_command, outside_loop, cannot_unset, is_array, bad_option, no_body}
+use Rattle.tclrules.specs.Messages.{no_loop_variable, cannot_redefine}
 use Rattle.tclrules.specs.Names.{unsupported_commands, core_commands}
 use Rattle.modulefile.specs.CommandNames as names
 use Rattle.tclrules.specs.Forms.{core_form}
@@ -30,7 +33,15 @@ use Rattle.modulefile.specs.Rows.{standard, file, loading, unloading, showing}
 use Rattle.modulefile.proofs.PlayedFiles.{played_runs}
 
 pub computed : FileContext → Text → ℕ → Option (Result Ran FileReason)
-unfolding chars digits encode braced_at scan whole_script script_with command_at word_at unexpanded_word_at braced_word_at quoted_word_at quotes_at parts_with part_at dollar_at backslash_at bracket_at index_at braced_name_at after_expansion inner_at mark_at after_white operand_at after_number after_digits is_truth quoted_at braced_text_at operands.word_at expr_at whole_at chain_at climb_at prefix_at below_at numeral list_of list_at element_at piece_of piece_at value_messages.divide_by_zero value_messages.negative_shift value_messages.not_a_list value_messages.not_numeric value_messages.not_a_boolean value_messages.not_a_whole_number value_messages.bad_index value_messages.wrong_words white_space split_space no_variable no_command outside_loop cannot_unset is_array bad_option no_body no_loop_variable cannot_redefine unsupported_commands core_commands names.supported_commands names.unsupported_commands core_form call_of
+unfolding chars digits encode braced_at scan whole_script script_with command_at word_at unexpanded_word_at
+    braced_word_at quoted_word_at quotes_at parts_with part_at dollar_at backslash_at bracket_at index_at braced_name_at
+    after_expansion inner_at mark_at after_white operand_at after_number after_digits is_truth quoted_at braced_text_at
+    operands.word_at expr_at whole_at chain_at climb_at prefix_at below_at numeral list_of list_at element_at piece_of
+    piece_at value_messages.divide_by_zero value_messages.negative_shift value_messages.not_a_list
+    value_messages.not_numeric value_messages.not_a_boolean value_messages.not_a_whole_number value_messages.bad_index
+    value_messages.wrong_words white_space split_space no_variable no_command outside_loop cannot_unset is_array
+    bad_option no_body no_loop_variable cannot_redefine unsupported_commands core_commands names.supported_commands
+    names.unsupported_commands core_form call_of
 computed c text steps = play standard c text steps
 
 is_played : (c : FileContext) (text : Text) (steps : ℕ) → play standard c text steps ≡ computed c text steps
@@ -41,47 +52,110 @@ is_played c text steps = refl
 pub comes : (c : FileContext) (text : Text) (steps : ℕ) (o : Result Ran FileReason) → computed c text steps ≡ Some o → RunsFile standard c text o
 comes c text steps o e = played_runs standard c text steps o (is_played c text steps ∙ e)
 
-pub file_load : (e : Environment) → computed (loading e) (file (codes "setenv K 1\nconflict k\n")) 400 ≡ Some (Ok (record { records = (Set (codes "K") (codes "1") ∷ Conflict (codes "k" ∷ []) ∷ []); messages = []; asked = false; env = (with_value e (codes "K") (Some (codes "1"))) }))
+pub file_load : (e : Environment) → computed (loading e) (file (codes "setenv K 1\nconflict k\n")) 400 ≡ Some
+    (Ok (record {
+      records = (Set (codes "K") (codes "1") ∷ Conflict (codes "k" ∷ []) ∷ []);
+      messages = [];
+      asked =
+          false;
+      env = (with_value e (codes "K") (Some (codes "1")));
+    }))
 unfolding computed
 file_load e = refl
 
-pub file_unload : (e : Environment) → computed (unloading e) (file (codes "setenv K 1\nconflict k\n")) 400 ≡ Some (Ok (record { records = (Set (codes "K") (codes "1") ∷ Conflict (codes "k" ∷ []) ∷ []); messages = []; asked = false; env = (with_value e (codes "K") None) }))
+pub file_unload : (e : Environment) → computed (unloading e) (file (codes "setenv K 1\nconflict k\n")) 400 ≡ Some
+    (Ok (record {
+      records = (Set (codes "K") (codes "1") ∷ Conflict (codes "k" ∷ []) ∷ []);
+      messages = [];
+      asked =
+          false;
+      env = (with_value e (codes "K") None);
+    }))
 unfolding computed
 file_unload e = refl
 
-pub file_display : (e : Environment) → computed (showing e) (file (codes "setenv K 1\nconflict k\n")) 400 ≡ Some (Ok (record { records = (Set (codes "K") (codes "1") ∷ Conflict (codes "k" ∷ []) ∷ []); messages = []; asked = false; env = e }))
+pub file_display : (e : Environment) → computed (showing e) (file (codes "setenv K 1\nconflict k\n")) 400 ≡ Some
+    (Ok (record {
+      records = (Set (codes "K") (codes "1") ∷ Conflict (codes "k" ∷ []) ∷ []);
+      messages = [];
+      asked =
+          false;
+      env = e;
+    }))
 unfolding computed
 file_display e = refl
 
-pub file_unset_back : (e : Environment) → computed (unloading e) (file (codes "unsetenv LANG C")) 400 ≡ Some (Ok (record { records = (Unset (codes "LANG") (Some (codes "C")) ∷ []); messages = []; asked = false; env = (with_value e (codes "LANG") (Some (codes "C"))) }))
+pub file_unset_back : (e : Environment) → computed (unloading e) (file (codes "unsetenv LANG C")) 400 ≡ Some
+    (Ok (record {
+      records = (Unset (codes "LANG") (Some (codes "C")) ∷ []);
+      messages = [];
+      asked = false;
+      env =
+          (with_value e (codes "LANG") (Some (codes "C")));
+    }))
 unfolding computed
 file_unset_back e = refl
 
-pub path_delimiters : (e : Environment) → computed (showing e) (file (codes "prepend-path -d {;} Q {a:b;c}\nappend-path --delim=: Q a:b")) 400 ≡ Some (Ok (record { records = (Front 59 (codes "Q") (codes "a:b" ∷ codes "c" ∷ []) ∷ Back 58 (codes "Q") (codes "a" ∷ codes "b" ∷ []) ∷ []); messages = []; asked = false; env = e }))
+pub path_delimiters : (e : Environment) → computed (showing e)
+    (file (codes "prepend-path -d {;} Q {a:b;c}\nappend-path --delim=: Q a:b")) 400 ≡ Some
+    (Ok (record {
+      records = (Front 59 (codes "Q") (codes "a:b" ∷ codes "c" ∷ []) ∷ Back 58 (codes "Q")
+          (codes "a" ∷ codes "b" ∷ []) ∷ []);
+      messages = [];
+      asked = false;
+      env = e;
+    }))
 unfolding computed
 path_delimiters e = refl
 
-pub path_value_behind : (e : Environment) → computed (showing e) (file (codes "prepend-path P -d a")) 400 ≡ Some (Ok (record { records = (Front 58 (codes "P") (codes "-d" ∷ codes "a" ∷ []) ∷ []); messages = []; asked = false; env = e }))
+pub path_value_behind : (e : Environment) → computed (showing e) (file (codes "prepend-path P -d a")) 400 ≡ Some
+    (Ok (record {
+      records = (Front 58 (codes "P") (codes "-d" ∷ codes "a" ∷ []) ∷ []);
+      messages = [];
+      asked = false;
+      env
+          = e;
+    }))
 unfolding computed
 path_value_behind e = refl
 
-pub question_mode_unload : (e : Environment) → computed (unloading e) (file (codes "if {[module-info mode load]} {setenv X 1}")) 400 ≡ Some (Ok (record { records = []; messages = []; asked = true; env = e }))
+pub question_mode_unload : (e : Environment) → computed (unloading e)
+    (file (codes "if {[module-info mode load]} {setenv X 1}")) 400 ≡ Some
+    (Ok (record { records = []; messages = []; asked = true; env = e }))
 unfolding computed
 question_mode_unload e = refl
 
-pub question_loaded : (e : Environment) → computed (loading e) (file (codes "setenv A [is-loaded gcc][is-loaded gc][is-loaded x gcc/9][is-loaded]")) 400 ≡ Some (Ok (record { records = (Set (codes "A") (codes "1011") ∷ []); messages = []; asked = true; env = (with_value e (codes "A") (Some (codes "1011"))) }))
+pub question_loaded : (e : Environment) → computed (loading e)
+    (file (codes "setenv A [is-loaded gcc][is-loaded gc][is-loaded x gcc/9][is-loaded]")) 400 ≡ Some
+    (Ok (record {
+      records = (Set (codes "A") (codes "1011") ∷ []);
+      messages = [];
+      asked = true;
+      env =
+          (with_value e (codes "A") (Some (codes "1011")));
+    }))
 unfolding computed
 question_loaded e = refl
 
-pub question_getenv_shown : (e : Environment) → computed (showing e) (file (codes "setenv H [getenv HOME]")) 400 ≡ Some (Ok (record { records = (Set (codes "H") (codes "$HOME") ∷ []); messages = []; asked = true; env = e }))
+pub question_getenv_shown : (e : Environment) → computed (showing e) (file (codes "setenv H [getenv HOME]")) 400 ≡ Some
+    (Ok (record { records = (Set (codes "H") (codes "$HOME") ∷ []); messages = []; asked = true; env = e }))
 unfolding computed
 question_getenv_shown e = refl
 
-pub ending_messages : (e : Environment) → computed (loading e) (file (codes "puts stderr hi\nputs -nonewline stderr ho")) 400 ≡ Some (Ok (record { records = []; messages = (codes "hi\n" ∷ codes "ho" ∷ []); asked = false; env = e }))
+pub ending_messages : (e : Environment) → computed (loading e)
+    (file (codes "puts stderr hi\nputs -nonewline stderr ho")) 400 ≡ Some
+    (Ok (record { records = []; messages = (codes "hi\n" ∷ codes "ho" ∷ []); asked = false; env = e }))
 unfolding computed
 ending_messages e = refl
 
-pub ending_returns : (e : Environment) → computed (loading e) (file (codes "setenv A 1; return; setenv B 2")) 400 ≡ Some (Ok (record { records = (Set (codes "A") (codes "1") ∷ []); messages = []; asked = false; env = (with_value e (codes "A") (Some (codes "1"))) }))
+pub ending_returns : (e : Environment) → computed (loading e) (file (codes "setenv A 1; return; setenv B 2")) 400 ≡ Some
+    (Ok (record {
+      records = (Set (codes "A") (codes "1") ∷ []);
+      messages = [];
+      asked = false;
+      env =
+          (with_value e (codes "A") (Some (codes "1")));
+    }))
 unfolding computed
 ending_returns e = refl
 
@@ -89,7 +163,8 @@ pub ending_error : (e : Environment) → computed (loading e) (file (codes "sete
 unfolding computed
 ending_error e = refl
 
-pub refused_protected : (e : Environment) → computed (loading e) (file (codes "catch {setenv LOADEDMODULES x}")) 400 ≡ Some (Err (refused (record { number = 33; name = Some (codes "LOADEDMODULES") })))
+pub refused_protected : (e : Environment) → computed (loading e) (file (codes "catch {setenv LOADEDMODULES x}")) 400 ≡
+    Some (Err (refused (record { number = 33; name = Some (codes "LOADEDMODULES") })))
 unfolding computed
 refused_protected e = refl
 

@@ -1,5 +1,6 @@
 -- What it is that an effect was had.
-use Rattle.std.proofs.Common.{◌≡◌, true, List, [], ◌∷◌, ◌++◌, Option, Some, None, Result, Ok, Err, refl, ap, ◌∙◌, is_none}
+use Rattle.std.proofs.Common.{◌≡◌, true, List, [], ◌∷◌, ◌++◌, Option, Some, None, Result, Ok, Err, refl, ap, ◌∙◌}
+use Rattle.std.proofs.Common.{is_none}
 use Rattle.std.specs.List.{list_all}
 use Rattle.envvars.specs.Texts.{Text}
 use Rattle.envvars.specs.Environment.{Environment}
@@ -33,7 +34,9 @@ all_allowed mode owner (r ∷ rs) old new h =
     let rest : list_all is_allowed rs ≡ true = all_allowed mode owner rs p.0 new p.2 in
     rw (first, rest) refl
 
-pub effects_go_on : (mode : Mode) (owner : Text) (rs more : List Record) (old mid new : Environment) → effects mode owner rs old ≡ Ok mid → effects mode owner more mid ≡ Ok new → effects mode owner (rs ++ more) old ≡ Ok new
+pub effects_go_on : (mode : Mode) (owner : Text) (rs more : List Record) (old mid new : Environment)
+    → effects mode owner rs old ≡ Ok mid → effects mode owner more mid ≡ Ok new
+    → effects mode owner (rs ++ more) old ≡ Ok new
 effects_go_on mode owner [] more old mid new h k = let e : old ≡ mid = cc in rw e k
 effects_go_on mode owner (r ∷ rs) more old mid new h k =
     let p = parts (effect mode owner r old) (effects mode owner rs) mid h in

@@ -1,7 +1,8 @@
 -- How the evaluation of a file ends: normally, with an error, or halted.
 use Rattle.std.proofs.Common.{◌≡◌, ℕ, false, refl, sym, subst}
 use Rattle.tclrules.specs.Oracle.{Oracle}
-use Rattle.tclrules.specs.Derivation.{EvaluationOutcome, Ended, Halted, Plan, Ends, World, Eval, ends, runs, halts, lacks_memory}
+use Rattle.tclrules.specs.Derivation.{EvaluationOutcome, Ended, Halted, Plan, Ends, World, Eval, ends, runs, halts}
+use Rattle.tclrules.specs.Derivation.{lacks_memory}
 use Rattle.tclrules.specs.Plans.{Completion, Normal, Raised, Returned, Broken, Continued}
 use Rattle.tclrules.specs.Rules.{rule, file_ended}
 use Rattle.tclrules.specs.Meaning.{Setting, EvaluatesTo}

@@ -11,8 +11,11 @@ use Rattle.modulefile.specs.Effects.{Mode, effect, effects}
 use Rattle.modulefile.proofs.Effected.{whole, effects_go_on}
 use Rattle.modulefile.specs.Results.{◌>>=◌}
 use Rattle.modulefile.specs.Calls as calls
-use Rattle.modulefile.specs.Calls.{adds_record, adds_message, getenv, is_loaded, own_name, typed_name, info, info_test, CallReason, unknown, unsupported, bad_record, CallForm, call_of}
-use Rattle.modulefile.specs.Answers.{FileContext, not_done, record_answer, variable_answer, command_answer, record_of, records_in, record_outcome, effects_so_far, or_before, environment_after, value_shown}
+use Rattle.modulefile.specs.Calls.{adds_record, adds_message, getenv, is_loaded, own_name, typed_name, info, info_test}
+use Rattle.modulefile.specs.Calls.{CallReason, unknown, unsupported, bad_record, CallForm, call_of}
+use Rattle.modulefile.specs.Answers.{FileContext, not_done, record_answer, variable_answer, command_answer, record_of}
+use Rattle.modulefile.specs.Answers.{records_in, record_outcome, effects_so_far, or_before, environment_after}
+use Rattle.modulefile.specs.Answers.{value_shown}
 use Rattle.modulefile.proofs.Bound.{bound, bind_ok}
 
 ok_value : {A R : Type 0} (r : Result A R) → is_ok r ≡ true → (a : A) × (r ≡ Ok a)
@@ -23,7 +26,8 @@ pub by_record_ok : (r : Result Environment RecordReason) (e : Environment) → r
 by_record_ok (Ok d) e h = cc
 by_record_ok (Err x) e h = absurd (cc)
 
-pub records_more : (rs : List oracle.CommandWords) (words : List Text) (ys : List Record) (r : Record) → records_in rs ≡ Ok ys → (call_of words >>= record_of) ≡ Ok r → records_in (rs ++ words ∷ []) ≡ Ok (ys ++ r ∷ [])
+pub records_more : (rs : List oracle.CommandWords) (words : List Text) (ys : List Record) (r : Record)
+    → records_in rs ≡ Ok ys → (call_of words >>= record_of) ≡ Ok r → records_in (rs ++ words ∷ []) ≡ Ok (ys ++ r ∷ [])
 records_more [] words ys r h k =
     let e : ys ≡ [] = cc in
     bind_ok (call_of words >>= record_of) (λ x. records_in [] >>= (λ xs. Ok (x ∷ xs))) r (ys ++ r ∷ []) k (ap (λ zs. Ok (zs ++ r ∷ [])) (sym e))
@@ -34,7 +38,8 @@ records_more (v ∷ rs) words ys r h k =
     bind_ok (call_of v >>= record_of) (λ x. records_in (rs ++ words ∷ []) >>= (λ xs. Ok (x ∷ xs))) b.0 (ys ++ r ∷ []) b.1
     (bind_ok (records_in (rs ++ words ∷ [])) (λ xs. Ok (b.0 ∷ xs)) (d.0 ++ r ∷ []) (ys ++ r ∷ []) (records_more rs words d.0 r d.1 k) (ap (λ zs. Ok (zs ++ r ∷ [])) e))
 
-pub effects_more : (mode : Mode) (owner : Text) (ys : List Record) (r : Record) (e d t : Environment) → effects mode owner ys e ≡ Ok d → effect mode owner r d ≡ Ok t → effects mode owner (ys ++ r ∷ []) e ≡ Ok t
+pub effects_more : (mode : Mode) (owner : Text) (ys : List Record) (r : Record) (e d t : Environment)
+    → effects mode owner ys e ≡ Ok d → effect mode owner r d ≡ Ok t → effects mode owner (ys ++ r ∷ []) e ≡ Ok t
 effects_more mode owner ys r e d t h k = effects_go_on mode owner ys (r ∷ []) e d t h (whole (effect mode owner r d) (effects mode owner []) t t k refl)
 
 abbrev HasEffects : FileContext → List oracle.CommandWords → Type 0
@@ -65,7 +70,10 @@ so_far c rs h =
 go_on : (c : FileContext) (rs : List oracle.CommandWords) (ys : List Record) (e : Environment) → records_in rs ≡ Ok ys → effects c.mode c.name ys c.before ≡ Ok e → effects_so_far c rs ≡ Ok e
 go_on c rs ys e r m = bind_ok (records_in rs) (λ zs. record_outcome (effects c.mode c.name zs c.before)) ys e r (ap record_outcome m)
 
-record_has_effects : (c : FileContext) (rs : List oracle.CommandWords) (words : List Text) (r : Record) → call_of words ≡ Ok (adds_record r) → HasEffects c rs → (result : Result Environment RecordReason) → effect c.mode c.name r (environment_after c rs) ≡ result → HasEffects c (records_with rs (addition (record_answer words result)))
+record_has_effects : (c : FileContext) (rs : List oracle.CommandWords) (words : List Text) (r : Record)
+    → call_of words ≡ Ok (adds_record r) → HasEffects c rs → (result : Result Environment RecordReason)
+    → effect c.mode c.name r (environment_after c rs) ≡ result
+    → HasEffects c (records_with rs (addition (record_answer words result)))
 record_has_effects c rs words r k h (Err o) e = nothing_has_effects c rs (bad_record o) h
 record_has_effects c rs words r k h (Ok t) e =
     let s = so_far c rs h in
@@ -81,7 +89,9 @@ read_has_effects c rs var value h = go (is_variable_name var) refl
     go true q = rw q h
     go false q = rw q h
 
-call_has_effects : (c : FileContext) (rs : List oracle.CommandWords) (words : List Text) → HasEffects c rs → (call : CallForm) → call_of words ≡ call → HasEffects c (records_with rs (addition (command_answer c (environment_after c rs) words call)))
+call_has_effects : (c : FileContext) (rs : List oracle.CommandWords) (words : List Text) → HasEffects c rs
+    → (call : CallForm) → call_of words ≡ call → HasEffects c
+    (records_with rs (addition (command_answer c (environment_after c rs) words call)))
 call_has_effects c rs words h (Err o) e = nothing_has_effects c rs o h
 call_has_effects c rs words h (Ok (adds_record r)) e = record_has_effects c rs words r e h (effect c.mode c.name r (environment_after c rs)) refl
 call_has_effects c rs words h (Ok (adds_message message)) e = h
@@ -92,5 +102,6 @@ call_has_effects c rs words h (Ok typed_name) e = h
 call_has_effects c rs words h (Ok (info field)) e = h
 call_has_effects c rs words h (Ok (info_test field word)) e = h
 
-pub answer_has_effects : (c : FileContext) (rs : List oracle.CommandWords) (words : List Text) → HasEffects c rs → HasEffects c (records_with rs (addition (command_answer c (environment_after c rs) words (call_of words))))
+pub answer_has_effects : (c : FileContext) (rs : List oracle.CommandWords) (words : List Text) → HasEffects c rs
+    → HasEffects c (records_with rs (addition (command_answer c (environment_after c rs) words (call_of words))))
 answer_has_effects c rs words h = call_has_effects c rs words h (call_of words) refl

@@ -2,7 +2,8 @@
 use Rattle.std.proofs.Common.{◌≡◌, List, [], ◌∷◌, ◌++◌, Ok, ap, sym}
 use Rattle.envvars.specs.Environment.{Environment}
 use Rattle.modulefile.specs.Effects.{effects}
-use Rattle.modulefile.specs.Moves.{Move, module_of_move, mode_of, entry_moved, moved, all_moved, IsAllowed, AreAllowed, MovesReach}
+use Rattle.modulefile.specs.Moves.{Move, module_of_move, mode_of, entry_moved, moved, all_moved, IsAllowed, AreAllowed}
+use Rattle.modulefile.specs.Moves.{MovesReach}
 use Rattle.modulefile.proofs.Effected.{parts, whole, all_allowed}
 
 pub moved_allowed : (m : Move) (old new : Environment) → moved m old ≡ Ok new → IsAllowed m

@@ -10,7 +10,8 @@ use Rattle.modulefile.specs.Files.{Ran, FileReason, ran_of, FinishesFile}
 use Rattle.modulefile.specs.Laws.{OneOutcome}
 use Rattle.modulefile.proofs.Bound.{same_value}
 
-one_finish : (c : FileContext) (text : Text) (out : EvaluationOutcome Completion) (trace : Trace) (o p : Result Ran FileReason) → FinishesFile c text out trace o → FinishesFile c text out trace p → o ≡ p
+one_finish : (c : FileContext) (text : Text) (out : EvaluationOutcome Completion) (trace : Trace)
+    (o p : Result Ran FileReason) → FinishesFile c text out trace o → FinishesFile c text out trace p → o ≡ p
 one_finish c text (Ended (Normal t s)) trace o p h k = h.2 ∙ (ap Ok (same_value (ran_of c trace) h.0 k.0 h.1 k.1) ∙ sym k.2)
 one_finish c text (Ended (Raised m s)) trace o p h k = h ∙ sym k
 one_finish c text (Ended (Returned t s)) trace o p h k = absurd h

@@ -1,5 +1,6 @@
 -- A file that asked nothing leaves the same records in every context of the same name and path, or is refused.
-use Rattle.std.proofs.Common.{◌≡◌, ◌⊎◌, ℕ, Bool, true, false, List, Option, Some, None, Result, Ok, Err, inl, inr, ⊎_elim, refl, ap, sym, ◌∙◌, subst}
+use Rattle.std.proofs.Common.{◌≡◌, ◌⊎◌, ℕ, Bool, true, false, List, Option, Some, None, Result, Ok, Err, inl, inr}
+use Rattle.std.proofs.Common.{⊎_elim, refl, ap, sym, ◌∙◌, subst}
 use Rattle.envvars.specs.Texts.{Text}
 use Rattle.envvars.specs.Names.{is_variable_name}
 use Rattle.envvars.specs.Environment.{Environment}
@@ -13,8 +14,10 @@ use Rattle.tclrules.specs.Meaning.{Setting, EvaluatesTo, with_oracle}
 use Rattle.tclrules.specs.declared.limits.Limits.{Limits}
 use Rattle.modulefile.specs.Judgments.{RecordReason, record_reason}
 use Rattle.modulefile.specs.Effects.{edited, edit_outcome, permitted, effect}
-use Rattle.modulefile.specs.Calls.{adds_record, adds_message, getenv, is_loaded, own_name, typed_name, info, info_test, CallForm, call_of}
-use Rattle.modulefile.specs.Answers.{FileContext, record_number, record_name, record_answer, variable_answer, command_answer, records_in, environment_after, oracle_of, value_shown}
+use Rattle.modulefile.specs.Calls.{adds_record, adds_message, getenv, is_loaded, own_name, typed_name, info, info_test}
+use Rattle.modulefile.specs.Calls.{CallForm, call_of}
+use Rattle.modulefile.specs.Answers.{FileContext, record_number, record_name, record_answer, variable_answer}
+use Rattle.modulefile.specs.Answers.{command_answer, records_in, environment_after, oracle_of, value_shown}
 use Rattle.modulefile.specs.Files.{Ran, FileReason, ran_of, setting_of, FinishesFile, RunsFile, IsSameOrRefused}
 use Rattle.modulefile.specs.Laws.{PlainFilesAgree}
 use Rattle.modulefile.proofs.Bound.{same_value}
@@ -25,7 +28,9 @@ use Rattle.modulefile.proofs.WholeFiles.{ran_parts}
 abbrev Alike : OracleAnswer → OracleAnswer → Type 0
 Alike first second = (second ≡ first) ⊎ ((n : ℕ) × (name : Option Text) × (asks : Bool) × (second ≡ oracle.Refused n name asks))
 
-at_kept : (words : List Text) (o : Option RecordReason) (s t : Result Environment RecordReason) → is_refusal (record_answer words (permitted o s)) ≡ false → Alike (record_answer words (permitted o s)) (record_answer words (permitted o t))
+at_kept : (words : List Text) (o : Option RecordReason) (s t : Result Environment RecordReason)
+    → is_refusal (record_answer words (permitted o s)) ≡ false
+    → Alike (record_answer words (permitted o s)) (record_answer words (permitted o t))
 at_kept words (Some o) s t h = absurd (cc)
 at_kept words None (Err q) t h = absurd (cc)
 at_kept words None (Ok a) (Ok b) h = inl refl
@@ -38,7 +43,9 @@ at_read var u v h = go (is_variable_name var) refl
     go true q = let k : is_question (variable_answer var u) ≡ true = rw q refl in absurd (cc)
     go false q = rw q refl
 
-at_call : (c d : FileContext) → d.name ≡ c.name → (x y : Environment) (words : List Text) (call : CallForm) → is_question (command_answer c x words call) ≡ false → is_refusal (command_answer c x words call) ≡ false → Alike (command_answer c x words call) (command_answer d y words call)
+at_call : (c d : FileContext) → d.name ≡ c.name → (x y : Environment) (words : List Text) (call : CallForm)
+    → is_question (command_answer c x words call) ≡ false → is_refusal (command_answer c x words call) ≡ false
+    → Alike (command_answer c x words call) (command_answer d y words call)
 at_call c d e x y words (Err o) q h = inl refl
 at_call c d e x y words (Ok (adds_record r)) q h =
     subst (λ n. Alike (record_answer words (effect c.mode c.name r x)) (record_answer words (effect d.mode n r y))) (sym e)
@@ -64,16 +71,22 @@ UnaskedLaw =
 moved_setting : (limits : Limits) (c d : FileContext) (text : Text) → d.path ≡ c.path → setting_of limits d text ≡ with_oracle (oracle_of d) (setting_of limits c text)
 moved_setting limits c d text p = ap (λ (path : Text). with_oracle (oracle_of d) (setting_of limits (record c { path = path }) text)) p
 
-same_finish : (c d : FileContext) (text result : Text) (s : State) (trace : Trace) (ran : Ran) (o : Result Ran FileReason) → ran_of c trace ≡ Ok ran → FinishesFile d text (Ended (Normal result s)) trace o → IsSameOrRefused ran o
+same_finish : (c d : FileContext) (text result : Text) (s : State) (trace : Trace) (ran : Ran)
+    (o : Result Ran FileReason) → ran_of c trace ≡ Ok ran → FinishesFile d text (Ended (Normal result s)) trace o
+    → IsSameOrRefused ran o
 same_finish c d text result s trace ran o h f =
     inl (f.0, f.2, same_value (records_in trace.records) f.0.records ran.records (ran_parts d trace f.0 f.1).read (ran_parts c trace ran h).read)
 
-plain_normal : UnaskedLaw → (limits : Limits) (c d : FileContext) (text : Text) (ran : Ran) (o : Result Ran FileReason) (result : Text) (s : State) (w : World) → EvaluatesTo (setting_of limits c text) (Ended (Normal result s)) w → ran_of c w.trace ≡ Ok ran
+plain_normal : UnaskedLaw → (limits : Limits) (c d : FileContext) (text : Text) (ran : Ran) (o : Result Ran FileReason)
+    (result : Text) (s : State) (w : World) → EvaluatesTo (setting_of limits c text) (Ended (Normal result s)) w
+    → ran_of c w.trace ≡ Ok ran
     → ran.asked ≡ false → d.name ≡ c.name → d.path ≡ c.path → RunsFile limits d text o → IsSameOrRefused ran o
 plain_normal law limits c d text ran o result s w e h a n p (out2, w2, e2, f) =
     let e3 : EvaluatesTo (with_oracle (oracle_of d) (setting_of limits c text)) out2 w2 = subst (λ (z : Setting). EvaluatesTo z out2 w2) (moved_setting limits c d text p) e2 in
     ⊎_elim
-    (λ i. same_finish c d text result s w.trace ran o h (subst (λ (x : EvaluationOutcome Completion). FinishesFile d text x w.trace o) i.0 (subst (λ (v : World). FinishesFile d text out2 v.trace o) i.1 f)))
+    (λ i. same_finish c d text result s w.trace ran o h
+    (subst (λ (x : EvaluationOutcome Completion). FinishesFile d text x w.trace o) i.0
+    (subst (λ (v : World). FinishesFile d text out2 v.trace o) i.1 f)))
     (λ i. inr (i.0, w2.trace.refused, subst (λ (x : EvaluationOutcome Completion). FinishesFile d text x w2.trace o) i.1 f))
     (law (setting_of limits c text) (oracle_of d) (Ended (Normal result s)) out2 w w2 e ((ran_parts c w.trace ran h).asked ∙ a) (λ m z. cc) (agree c d n) e3)
 

@@ -20,7 +20,9 @@ ok_shown : (r : Result Ran CallReason) (o : Result Ran FileReason) → played_ra
 ok_shown (Ok ran) o e = (ran, refl, cc)
 ok_shown (Err r) o e = absurd (cc)
 
-shown_runs : (limits : Limits) (c : FileContext) (text : Text) (steps : ℕ) (p : Played Completion) (o : Result Ran FileReason) → play_file (setting_of limits c text) steps ≡ p → played_outcome c text p ≡ Some o → RunsFile limits c text o
+shown_runs : (limits : Limits) (c : FileContext) (text : Text) (steps : ℕ) (p : Played Completion)
+    (o : Result Ran FileReason) → play_file (setting_of limits c text) steps ≡ p → played_outcome c text p ≡ Some o
+    → RunsFile limits c text o
 shown_runs limits c text steps None o h e = absurd (cc)
 shown_runs limits c text steps (Some (Ended (Normal t s), w)) o h e =
     (Ended (Normal t s), w, comes_played (setting_of limits c text) steps (Ended (Normal t s)) w h, ok_shown (ran_of c w.trace) o e)

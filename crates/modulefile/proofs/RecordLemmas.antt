@@ -1,7 +1,8 @@
 -- The names in records, list after list.
 use Rattle.std.proofs.Common.{◌≡◌, List, [], ◌∷◌, ◌++◌, refl, sym, ap, ◌∙◌, append_assoc}
 use Rattle.envvars.specs.Texts.{Text}
-use Rattle.modulefile.specs.Records.{Record, Set, Unset, Push, Front, Back, Remove, Conflict, Prereq, Whatis, conflict_names, prereq_groups}
+use Rattle.modulefile.specs.Records.{Record, Set, Unset, Push, Front, Back, Remove, Conflict, Prereq, Whatis}
+use Rattle.modulefile.specs.Records.{conflict_names, prereq_groups}
 
 pub conflicts-append : (xs ys : List Record) → conflict_names (xs ++ ys) ≡ conflict_names xs ++ conflict_names ys
 conflicts-append [] ys = refl

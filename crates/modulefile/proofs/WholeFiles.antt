@@ -41,7 +41,8 @@ ran_parts c trace ran h =
     }
 
 -- a file that ended left something
-pub ended_ran : (limits : Limits) (c : FileContext) (text result : Text) (s : State) (w : World) → EvaluatesTo (setting_of limits c text) (Ended (Normal result s)) w → (ran : Ran) × (ran_of c w.trace ≡ Ok ran)
+pub ended_ran : (limits : Limits) (c : FileContext) (text result : Text) (s : State) (w : World)
+    → EvaluatesTo (setting_of limits c text) (Ended (Normal result s)) w → (ran : Ran) × (ran_of c w.trace ≡ Ok ran)
 ended_ran limits c text result s w d =
     let h = kept (λ rs. is_ok (effects_so_far c rs)) (grown d) refl (answer_has_effects c) in
     let f = so_far c w.trace.records h in (
@@ -50,7 +51,9 @@ ended_ran limits c text result s w d =
           (bind_ok (record_outcome (effects c.mode c.name f.records c.before)) (λ e. Ok (made_of w.trace f.records e)) f.env (made_of w.trace f.records f.env) (ap record_outcome f.made) refl),
     )
 
-some_end : (limits : Limits) (c : FileContext) (text : Text) (out : EvaluationOutcome Completion) (w : World) → EvaluatesTo (setting_of limits c text) out w → IsFileEnd out → (o : Result Ran FileReason) × FinishesFile c text out w.trace o
+some_end : (limits : Limits) (c : FileContext) (text : Text) (out : EvaluationOutcome Completion) (w : World)
+    → EvaluatesTo (setting_of limits c text) out w → IsFileEnd out → (o : Result Ran FileReason)
+    × FinishesFile c text out w.trace o
 some_end limits c text (Ended (Normal t s)) w d i = let r = ended_ran limits c text t s w d in (Ok r.0, (r.0, r.1, refl))
 some_end limits c text (Ended (Raised m s)) w d i = (Err (failed m (line_at text s.offset)), refl)
 some_end limits c text (Ended (Returned t s)) w d i = absurd i
@@ -69,7 +72,8 @@ some_run law limits c text =
 
 -- the records of a file that ended
 
-finish_parts : (c : FileContext) (text : Text) (out : EvaluationOutcome Completion) (trace : Trace) (ran : Ran) → FinishesFile c text out trace (Ok ran) → effects c.mode c.name ran.records c.before ≡ Ok ran.env
+finish_parts : (c : FileContext) (text : Text) (out : EvaluationOutcome Completion) (trace : Trace) (ran : Ran)
+    → FinishesFile c text out trace (Ok ran) → effects c.mode c.name ran.records c.before ≡ Ok ran.env
 finish_parts c text (Ended (Normal t s)) trace ran f =
     let e : f.0 ≡ ran = same_value (Ok f.0) f.0 ran refl (sym f.2) in
     subst (λ (r : Ran). effects c.mode c.name r.records c.before ≡ Ok r.env) e (ran_parts c trace f.0 f.1).made

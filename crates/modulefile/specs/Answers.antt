@@ -1,13 +1,17 @@
 -- What the host of a modulefile answers to its commands (modulefile(5)), as an oracle over the records so far.
-use Rattle.std.specs.Prelude.{ℕ, Bool, true, false, ◌||◌, ◌&&◌, List, [], ◌∷◌, ◌++◌, codes, bytes_eq, if◌then◌else◌, unwrap_or, Option, Some, None, Result, Ok, Err}
+use Rattle.std.specs.Prelude.{ℕ, Bool, true, false, ◌||◌, ◌&&◌, List, [], ◌∷◌, ◌++◌, codes, bytes_eq, if◌then◌else◌}
+use Rattle.std.specs.Prelude.{unwrap_or, Option, Some, None, Result, Ok, Err}
 use Rattle.std.specs.List.{list_any}
+use Rattle.message.specs.Refusals.{number_of}
+use Rattle.message.specs.declared.refusals.RefusalKind.TheVariants as kinds
 use Rattle.modulename.specs.ModuleName.{means}
 use Rattle.envvars.specs.Texts.{Text}
 use Rattle.envvars.specs.Names.{is_variable_name}
 use Rattle.envvars.specs.Environment.{Environment, lookup}
 use Rattle.envvars.specs.Reasons.{EnvReason, bad_variable, protected, counter_full, inconsistent, bad_stack, bad_value}
 use Rattle.tclrules.specs.Oracle as oracle
-use Rattle.tclrules.specs.Oracle.{Oracle, OracleAnswer, HostRefusal, Addition, Nothing, NewRecord, Message, Done, Unknown, LeftOut, Refused}
+use Rattle.tclrules.specs.Oracle.{Oracle, OracleAnswer, HostRefusal, Addition, Nothing, NewRecord, Message, Done}
+use Rattle.tclrules.specs.Oracle.{Unknown, LeftOut, Refused}
 use Rattle.modulefile.specs.Records.{Record}
 use Rattle.modulefile.specs.Judgments.{RecordReason, bad_edit, bad_module_name}
 use Rattle.modulefile.specs.Effects.{Mode, load, unload, display, whatis, effect, effects}
@@ -15,7 +19,9 @@ use Rattle.shelltext.specs.declared.shell.Shell.{Shell}
 use Rattle.modulefile.specs.Results.{◌>>=◌}
 use Rattle.shelltext.specs.Shells.{shell_name, shell_family_name}
 use Rattle.modulefile.specs.CommandNames.{command_names}
-use Rattle.modulefile.specs.Calls.{InfoField, mode, shell, shell_type, Call, adds_record, adds_message, getenv, is_loaded, own_name, typed_name, info, info_test, CallReason, unknown, unsupported, bad_arguments, bad_record, CallForm, call_of}
+use Rattle.modulefile.specs.Calls.{InfoField, mode, shell, shell_type, Call, adds_record, adds_message, getenv}
+use Rattle.modulefile.specs.Calls.{is_loaded, own_name, typed_name, info, info_test, CallReason, unknown, unsupported}
+use Rattle.modulefile.specs.Calls.{bad_arguments, bad_record, CallForm, call_of}
 
 -- What a file is evaluated in: the mode, and whether it is half of a switch; the module's full name and the path of its
 -- file; the shell; the name as it was typed; the names of the modules that are loaded before the file, and the
@@ -78,16 +84,16 @@ value_shown whatis e var default = unwrap_or (lookup e var) default
 
 -- the numbers of reasons
 abbrev pub edit_number : EnvReason → ℕ
-edit_number (bad_variable name) = 32
-edit_number (protected name) = 33
-edit_number (counter_full name) = 34
-edit_number inconsistent = 35
-edit_number (bad_stack name) = 36
-edit_number (bad_value name) = 37
+edit_number (bad_variable name) = number_of kinds.BadVariable
+edit_number (protected name) = number_of kinds.Protected
+edit_number (counter_full name) = number_of kinds.CounterFull
+edit_number inconsistent = number_of kinds.Inconsistent
+edit_number (bad_stack name) = number_of kinds.BadStack
+edit_number (bad_value name) = number_of kinds.BadValue
 
 abbrev pub record_number : RecordReason → ℕ
 record_number (bad_edit reason) = edit_number reason
-record_number (bad_module_name name) = 44
+record_number (bad_module_name name) = number_of kinds.BadName
 
 -- the names that reasons are for
 abbrev pub edit_name : EnvReason → Option Text
@@ -110,7 +116,7 @@ refusal_of reason = record { number = record_number reason; name = record_name r
 abbrev pub not_done : CallReason → OracleAnswer
 not_done unknown = Unknown false
 not_done (unsupported name) = LeftOut name false
-not_done bad_arguments = Refused 56 None false
+not_done bad_arguments = Refused (number_of kinds.BadArguments) None false
 not_done (bad_record reason) = Refused (record_number reason) (record_name reason) false
 
 -- A command that leaves a record answers the empty text, and its words are recorded, where the record has its effect.
@@ -124,7 +130,8 @@ question_answer text = Done text Nothing true
 
 -- Any well-named variable may be read.
 abbrev pub variable_answer : Text → Text → OracleAnswer
-variable_answer var value = if is_variable_name var then question_answer value else not_done (bad_record (bad_edit (bad_variable var)))
+variable_answer var value = if is_variable_name var then question_answer value else not_done
+    (bad_record (bad_edit (bad_variable var)))
 
 -- Questions are those about the environment, the mode, the shell, the typed name or the loaded modules, and no others.
 abbrev pub command_answer : FileContext → Environment → List Text → CallForm → OracleAnswer

@@ -1,6 +1,7 @@
 -- The commands of modulefiles by their words, as modulefile(5) shows their forms. What a command means is a function of
 -- its words alone.
-use Rattle.std.specs.Prelude.{ℕ, ◌||◌, List, [], ◌∷◌, ◌++◌, codes, flat_map, bytes_eq, if◌then◌else◌, Option, Some, None, Result, Ok, Err}
+use Rattle.std.specs.Prelude.{ℕ, ◌||◌, List, [], ◌∷◌, ◌++◌, codes, flat_map, bytes_eq, if◌then◌else◌, Option, Some}
+use Rattle.std.specs.Prelude.{None, Result, Ok, Err}
 use Rattle.std.specs.List.{join_with_byte}
 use Rattle.tclchars.specs.Runs.{begins}
 use Rattle.tclvalue.specs.Indexes.{after_prefix}

@@ -1,4 +1,5 @@
--- The names of the commands of modulefiles (modulefile(5)). No procedure of a modulefile or a default file may have one.
+-- The names of the commands of modulefiles (modulefile(5)). No procedure of a modulefile or a default file may have
+-- one.
 use Rattle.std.specs.Prelude.{List, [], ◌∷◌, ◌++◌, codes}
 use Rattle.tclchars.specs.Runs.{Text}
 

@@ -3,9 +3,13 @@
 use Rattle.std.specs.Prelude.{◌≡◌, ◌⊎◌, ℕ, Bool, false, List, [], ◌∷◌, codes, Option, Some, None, Result, Ok, Err}
 use Rattle.envvars.specs.Texts.{Text}
 use Rattle.envvars.specs.Environment.{Environment}
-use Rattle.tclchars.specs.Faults.{fault_number}
+use Rattle.message.specs.Refusals.{number_of}
+use Rattle.message.specs.declared.refusals.RefusalKind.TheVariants as kinds
+use Rattle.tclchars.specs.Faults as text_faults
 use Rattle.tclrules.specs.Oracle.{HostRefusal, Trace}
-use Rattle.tclrules.specs.Derivation.{Halt, OutOfMemory, BadText, TooManyCommands, TooDeep, ValueTooLong, NumberTooLarge, FractionOperand, LeftOut, Stopped, ByHost, EvaluationOutcome, Ended, Halted, World}
+use Rattle.tclrules.specs.Derivation.{Halt, OutOfMemory, BadText, TooManyCommands, TooDeep, ValueTooLong}
+use Rattle.tclrules.specs.Derivation.{NumberTooLarge, FractionOperand, LeftOut, Stopped, ByHost, EvaluationOutcome}
+use Rattle.tclrules.specs.Derivation.{Ended, Halted, World}
 use Rattle.tclrules.specs.Variables.{Variables}
 use Rattle.tclrules.specs.Plans.{Completion, Normal, Raised, Returned, Broken, Continued}
 use Rattle.tclrules.specs.Playing.{Played}
@@ -80,21 +84,21 @@ RunsFile limits c text o =
 
 -- the numbers by which files are refused
 abbrev pub halt_number : Halt → ℕ
-halt_number OutOfMemory = 31
-halt_number (BadText fault) = fault_number fault
-halt_number TooManyCommands = 14
-halt_number TooDeep = 15
-halt_number ValueTooLong = 16
-halt_number NumberTooLarge = 17
-halt_number FractionOperand = 18
-halt_number (LeftOut name) = 19
-halt_number Stopped = 20
+halt_number OutOfMemory = number_of kinds.MemoryForRequest
+halt_number (BadText fault) = (text_faults.refusal_of fault).number
+halt_number TooManyCommands = number_of kinds.TooManyCommands
+halt_number TooDeep = number_of kinds.EvaluationTooDeep
+halt_number ValueTooLong = number_of kinds.ValueTooLong
+halt_number NumberTooLarge = number_of kinds.NumberTooLarge
+halt_number FractionOperand = number_of kinds.FractionOperand
+halt_number (LeftOut name) = number_of kinds.LeftOut
+halt_number Stopped = number_of kinds.Stopped
 halt_number (ByHost n) = n
 
 abbrev pub file_reason_number : FileReason → ℕ
 file_reason_number (halted halt) = halt_number halt
 file_reason_number (refused refusal) = refusal.number
-file_reason_number (failed message line) = 13
+file_reason_number (failed message line) = number_of kinds.TclError
 
 -- An evaluation has the same records as this one, or the host refused a command of it.
 abbrev pub IsSameOrRefused : Ran → Result Ran FileReason → Type 0

@@ -32,7 +32,8 @@ ReachIsAllowed = (ms : List Move) (old new : Environment) → MovesReach ms old 
 abbrev pub ReachIsAllMoved : Type 0
 ReachIsAllMoved = (ms : List Move) (old new : Environment) → MovesReach ms old new → all_moved ms old ≡ Ok new
 
--- Where moves reach an environment, and more moves another one from there, both lists one after the other reach that one.
+-- Where moves reach an environment, and more moves another one from there, both lists one after the other reach that
+-- one.
 abbrev pub ReachComposes : Type 0
 ReachComposes =
     (ms more : List Move) (old mid new : Environment)

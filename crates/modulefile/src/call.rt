@@ -4,9 +4,13 @@ ghost use Rattle.std.specs.Option.{option_map};
 ghost use Rattle.tclchars.specs.Runs.{begins};
 ghost use Rattle.tclvalue.specs.Indexes.{after_prefix};
 ghost use Rattle.modulefile.specs.Records.{Set, Push, Conflict, Prereq};
-ghost use Rattle.modulefile.specs.Calls.{no_option, without_option, var_and_value, var_and_optional, with_delimiter, by_next_word, by_same_word, by_option, delimited, path_form, some_words, getenv_form, puts_form, field_form, alone, info_form, description, is_loaded_form, not_a_command, call_of};
+ghost use Rattle.modulefile.specs.Calls.{no_option, without_option, var_and_value, var_and_optional, with_delimiter};
+ghost use Rattle.modulefile.specs.Calls.{by_next_word, by_same_word, by_option, delimited, path_form, some_words};
+ghost use Rattle.modulefile.specs.Calls.{getenv_form, puts_form, field_form, alone, info_form, description};
+ghost use Rattle.modulefile.specs.Calls.{is_loaded_form, not_a_command, call_of};
 ghost use Rattle.message.specs.Answers.{Gives};
-ghost use Rattle.modulefile.specs.CallViews.{reason_of, HasReason, texts_of, call_view, edit_record, field_view, path_words_view};
+ghost use Rattle.modulefile.specs.CallViews.{reason_of, HasReason, texts_of, call_view, edit_record, field_view};
+ghost use Rattle.modulefile.specs.CallViews.{path_words_view};
 
 use crate::call_fault::CallFault;
 use crate::delimiter::Delimiter;

@@ -1,6 +1,9 @@
 //! Laws of records, of moves and of modulefiles. Each function does nothing: its contract is the law.
-ghost use Rattle.modulefile.specs.RecordLaws.{EffectsAreAllowed, EffectsCompose, MovedIsAllowed, ReachIsAllowed, ReachIsAllMoved, ReachComposes};
-ghost use Rattle.modulefile.specs.Laws.{OneOutcome, SomeOutcome, RecordsHaveEffects, RecordsAreAllowed, ShowingChangesNothing, WordsDecide, NothingElseAdds, PlainFilesAgree, PlayedRuns};
+ghost use Rattle.modulefile.specs.RecordLaws.{EffectsAreAllowed, EffectsCompose, MovedIsAllowed, ReachIsAllowed};
+ghost use Rattle.modulefile.specs.RecordLaws.{ReachIsAllMoved, ReachComposes};
+ghost use Rattle.modulefile.specs.Laws.{OneOutcome, SomeOutcome, RecordsHaveEffects, RecordsAreAllowed};
+ghost use Rattle.modulefile.specs.Laws.{ShowingChangesNothing, WordsDecide, NothingElseAdds, PlainFilesAgree};
+ghost use Rattle.modulefile.specs.Laws.{PlayedRuns};
 
 /// Records that all have their effects are allowed: their variables may be edited, their values and elements can be
 /// held, and their names of modules are well spelled. The effects of one list and then of another are those of both

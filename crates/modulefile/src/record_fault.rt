@@ -1,14 +1,14 @@
 //! Why a record of a modulefile has no effect.
 ghost use Rattle.std.specs.Prelude.{◌≡◌, Some, IfSome, is_none};
-ghost use Rattle.message.specs.Messages.{text_of};
+ghost use Rattle.message.specs.Refusals.{numbered_text};
 ghost use Rattle.modulefile.specs.Answers.{record_number};
-ghost use Rattle.modulefile.specs.RecordFaults.{number_of, message_of};
+ghost use Rattle.modulefile.specs.RecordFaults.{refusal_of};
 ghost use Rattle.modulefile.specs.RecordViews.{fault_reason};
 ghost use Rattle.modulefile.specs.declared.record_fault.RecordFault.TheVariants.{Env};
 ghost use Rattle.envvars.specs.declared.fault.EnvFault.TheVariants.{OutOfMemory};
 
 use envvars::EnvFault;
-use message::Message;
+use message::{NumberedMessage, RefusalKind};
 use std::alloc::AllocError;
 use std::error::Error;
 use std::fmt;
@@ -24,14 +24,24 @@ pub enum RecordFault {
 }
 
 impl RecordFault {
+    /// The number of the fault and its text: those of the variable's fault, or 44.
+    pub fn numbered(&self) -> NumberedMessage<'_>
+        ensures { numbered_text result ≡ refusal_of self.now }
+    {
+        match self {
+            RecordFault::Env(fault) => fault.numbered(),
+            RecordFault::BadModuleName(name) => RefusalKind::BadName.naming(name.as_str()),
+        }
+    }
+
     /// The number of the fault: that of the variable's fault, or 44.
     pub fn number(&self) -> u16
-        ensures exact { result ≡ number_of self.now }
+        ensures exact { result ≡ (refusal_of self.now).number }
         ensures by_reason { IfSome (fault_reason self.now) (λ reason. result ≡ record_number reason) }
     {
         match self {
             RecordFault::Env(fault) => fault.number(),
-            RecordFault::BadModuleName(_) => 44,
+            RecordFault::BadModuleName(_) => RefusalKind::BadName.number(),
         }
     }
 
@@ -44,26 +54,13 @@ impl RecordFault {
             RecordFault::Env(_) | RecordFault::BadModuleName(_) => false,
         }
     }
-
-    /// The text of the fault.
-    pub fn message(&self) -> Message<'_>
-        ensures { text_of result ≡ message_of self.now }
-    {
-        match self {
-            RecordFault::Env(fault) => fault.message(),
-            RecordFault::BadModuleName(name) => Message::quoting(
-                "Bad module name '",
-                name.as_str(),
-            ),
-        }
-    }
 }
 
 impl fmt::Display for RecordFault {
-    ghost output = { λ fault. Some (message_of fault) };
+    ghost output = { λ fault. Some (refusal_of fault).text };
 
     fn fmt<W: fmt::Write>(&self, f: &mut fmt::Formatter<W>) -> fmt::Result {
-        self.message().fmt(f)
+        self.numbered().message.fmt(f)
     }
 }
 

@@ -4,7 +4,8 @@ ghost use Rattle.std.specs.Prelude.{◌≡◌, [], ◌∷◌, codes, Some, None}
 ghost use Rattle.tclrules.specs.Derivation.{LeftOut};
 ghost use Rattle.modulefile.specs.Records.{Set, Unset, Front, Back, Conflict, Prereq, Whatis};
 ghost use Rattle.modulefile.specs.Reports.{show_text, whatis_text};
-ghost use Rattle.modulefile.specs.Rows.{loading, unloading, showing, unchanged, sets, unsets, LeavesRecords, LeavesAsking, LeavesMessages, IsHalted, IsRefusedFor, FailsOnLine};
+ghost use Rattle.modulefile.specs.Rows.{loading, unloading, showing, unchanged, sets, unsets, LeavesRecords};
+ghost use Rattle.modulefile.specs.Rows.{LeavesAsking, LeavesMessages, IsHalted, IsRefusedFor, FailsOnLine};
 
 /// Records and effects, by mode.
 pub fn file_rows()

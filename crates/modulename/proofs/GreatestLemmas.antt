@@ -1,5 +1,6 @@
 -- The greatest of the texts so far, and one more.
-use Rattle.std.proofs.Common.{◌≡◌, Bool, true, false, List, [], ◌∷◌, ◌++◌, Ordering, Less, Equal, Greater, is_le, refl, sym, ap, ◌∙◌, subst, ⊎_elim}
+use Rattle.std.proofs.Common.{◌≡◌, Bool, true, false, List, [], ◌∷◌, ◌++◌, Ordering, Less, Equal, Greater, is_le, refl}
+use Rattle.std.proofs.Common.{sym, ap, ◌∙◌, subst, ⊎_elim}
 use Rattle.std.specs.Prelude.{bytes_eq, ◌||◌, if◌then◌else◌}
 use Rattle.std.specs.List.{list_any}
 use Rattle.std.specs.Ordering.{is_lt, ordering_reverse}
@@ -54,7 +55,9 @@ step false vs b v e g = record {
   member = in_more v b vs ∙ or_left (list_any (bytes_eq b) vs) (list_any (bytes_eq b) (v ∷ [])) g.member;
   last = λ w h.
       ⊎_elim (λ i. g.last w i)
-      (λ i. ⊎_elim (λ q. subst (λ x. is_le (version_order x b) ≡ true) (sym (same w v q)) (ap is_le (total.antisymm v b) ∙ not_before (version_order b v) e)) (λ q. absurd (cc)) (or_cases (bytes_eq w v) false i))
+      (λ i. ⊎_elim (λ q. subst (λ x. is_le (version_order x b) ≡ true) (sym (same w v q))
+      (ap is_le (total.antisymm v b) ∙ not_before (version_order b v) e)) (λ q. absurd (cc))
+      (or_cases (bytes_eq w v) false i))
       (or_cases (list_any (bytes_eq w) vs) (list_any (bytes_eq w) (v ∷ [])) (sym (in_more v w vs) ∙ h));
 }
 

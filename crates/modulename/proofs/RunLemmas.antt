@@ -1,5 +1,7 @@
 -- Runs of digits, and the order of their numbers.
-use Rattle.std.proofs.Common.{◌≡◌, ℕ, ◌+◌, ◌-◌, ◌*◌, ◌^◌, ◌<◌, ◌≤◌, List, [], ◌∷◌, ◌++◌, length, Bool, true, false, not, cond, ltb, Some, None, unwrap_or, suc, subst, refl, sym, ap, ◌∙◌, arith, lit<, inl, inr, take, drop, get_or}
+use Rattle.std.proofs.Common.{◌≡◌, ℕ, ◌+◌, ◌-◌, ◌*◌, ◌^◌, ◌<◌, ◌≤◌, List, [], ◌∷◌, ◌++◌, length, Bool, true, false, not}
+use Rattle.std.proofs.Common.{cond, ltb, Some, None, unwrap_or, suc, subst, refl, sym, ap, ◌∙◌, arith, lit<, inl, inr}
+use Rattle.std.proofs.Common.{take, drop, get_or}
 use Rattle.std.specs.List.{prefix_len, position_or_len}
 use Rattle.std.proofs.lemmas.List.Sums.{prefix_len-le-length, take_while-cons}
 use Rattle.std.specs.Prelude.{◌==◌}
@@ -140,9 +142,12 @@ not_not (b ∷ bs) = cases (not_not bs) (is_digit b) refl where
   cases more true e = rw e (ap (λ n. 1 + n) more)
   cases more false e = rw e refl
 
-pub digits_end : (bs : List ℕ) → unwrap_or (cond (ltb (position_or_len (λ b. not (is_digit b)) bs) (length bs)) (Some (position_or_len (λ b. not (is_digit b)) bs)) None) (length bs) ≡ prefix_len is_digit bs
+pub digits_end : (bs : List ℕ) → unwrap_or (cond (ltb (position_or_len (λ b. not (is_digit b)) bs) (length bs))
+    (Some (position_or_len (λ b. not (is_digit b)) bs)) None) (length bs) ≡ prefix_len is_digit bs
 digits_end bs = rw (not_not bs) (cases (ltb (prefix_len is_digit bs) (length bs)) refl) where
-  cases : (t : Bool) → ltb (prefix_len is_digit bs) (length bs) ≡ t → unwrap_or (cond (ltb (prefix_len is_digit bs) (length bs)) (Some (prefix_len is_digit bs)) None) (length bs) ≡ prefix_len is_digit bs
+  cases : (t : Bool) → ltb (prefix_len is_digit bs) (length bs) ≡ t
+      → unwrap_or (cond (ltb (prefix_len is_digit bs) (length bs)) (Some (prefix_len is_digit bs)) None) (length bs) ≡
+      prefix_len is_digit bs
   cases true e = rw e refl
   cases false e =
       let le : prefix_len is_digit bs ≤ length bs = prefix_len-le-length is_digit bs in

@@ -1,9 +1,11 @@
 -- Versions that begin alike.
-use Rattle.std.proofs.Common.{◌≡◌, ℕ, true, false, Option, Some, None, List, [], ◌∷◌, refl, sym, ap, ◌∙◌, Ordering, Equal}
+use Rattle.std.proofs.Common.{◌≡◌, ℕ, true, false, Option, Some, None, List, [], ◌∷◌, refl, sym, ap, ◌∙◌, Ordering}
+use Rattle.std.proofs.Common.{Equal}
 use Rattle.std.specs.Ordering.{ordering_then}
 use Rattle.std.specs.Cmp.Lexicographic.{slice_cmp}
 use Rattle.std.proofs.lemmas.Cmp.{then_total, on_total, nat_cmp_total, tied_itself}
-use Rattle.modulename.specs.Versions.{Piece, run, other, rank, number, is_digit, with_digit, pieces, pieces_after, piece_order}
+use Rattle.modulename.specs.Versions.{Piece, run, other, rank, number, is_digit, with_digit, pieces, pieces_after}
+use Rattle.modulename.specs.Versions.{piece_order}
 
 same_piece : (p : Piece) → piece_order p p ≡ Equal
 same_piece p = tied_itself (then_total (on_total rank nat_cmp_total) (on_total number nat_cmp_total)) p

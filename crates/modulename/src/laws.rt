@@ -1,7 +1,8 @@
 //! Laws of the order of versions: functions that do nothing, whose contracts are theorems about the definitions.
 ghost use Rattle.std.specs.Prelude.{◌≡◌, true, [], ◌∷◌, codes};
 ghost use Rattle.std.specs.Cmp.{IsTotalOrder};
-ghost use Rattle.modulename.specs.Versions.{version_order, EqualOnlyIfSame, HasOneGreatest, ComparesByFirstDigit, ascend};
+ghost use Rattle.modulename.specs.Versions.{version_order, EqualOnlyIfSame, HasOneGreatest, ComparesByFirstDigit};
+ghost use Rattle.modulename.specs.Versions.{ascend};
 
 /// The order of versions is total, antisymmetric and transitive, and only equal texts are equal in it. A set has one
 /// greatest member at most. A run compares with another byte as its first digit does.

@@ -1,5 +1,6 @@
 -- A file evaluated by the host, from the environment before it.
-use Rattle.std.proofs.Common.{◌≡◌, Bool, false, List, [], map, string_bytes, String, Option, Some, None, IfSome, Result, Ok, Err, IfOk, IfErr, ap, sym, subst, ◌∙◌}
+use Rattle.std.proofs.Common.{◌≡◌, Bool, false, List, [], map, string_bytes, String, Option, Some, None, IfSome, Result}
+use Rattle.std.proofs.Common.{Ok, Err, IfOk, IfErr, ap, sym, subst, ◌∙◌}
 use Rattle.std.specs.declared.vec.Vec.{Vec}
 use Rattle.std.specs.declared.alloc.Global.{Global}
 use Rattle.envvars.specs.Texts.{Text, texts_in}
@@ -16,7 +17,7 @@ use Rattle.modulefile.specs.Answers.{oracle_of}
 use Rattle.modulefile.specs.Files.{RunsFile, ran_of, empty_trace, globals_of}
 use Rattle.modulerun.specs.declared.command_refusal.CommandRefusal.{CommandRefusal}
 use Rattle.modulerun.specs.declared.context.FileContext.{FileContext}
-use Rattle.modulerun.specs.declared.run.Draft.{Draft}
+use Rattle.modulerun.specs.declared.run.FileDraft.{FileDraft}
 use Rattle.modulerun.specs.declared.run_fault.RunFault.{RunFault}
 use Rattle.modulerun.specs.declared.run_fault.RunFault.TheVariants.{OutOfMemory}
 use Rattle.modulerun.specs.Journals.{JournalState, journal_state}
@@ -33,7 +34,9 @@ abbrev told_of : List (List Text) → List Text → Bool → Option HostRefusal 
 told_of words messages mark refusal = record { records = words; messages = messages; asked = mark; refused = refusal }
 
 -- before the file nothing was done
-untold_at : (j : JournalState) (messages : Vec (String Global) Global) (mark : Bool) (refusal : Option CommandRefusal) → j.words ≡ [] → messages.items ≡ [] → mark ≡ false → refusal ≡ None → trace_with j messages mark refusal ≡ empty_trace
+untold_at : (j : JournalState) (messages : Vec (String Global) Global) (mark : Bool) (refusal : Option CommandRefusal)
+    → j.words ≡ [] → messages.items ≡ [] → mark ≡ false → refusal ≡ None
+    → trace_with j messages mark refusal ≡ empty_trace
 untold_at j messages mark refusal e d b n =
     ap (λ (ws : List (List Text)). told_of ws (texts_in messages) mark (refusal_view refusal)) e
     ∙ ap (λ (ms : List (String Global)). told_of [] (map string_bytes ms) mark (refusal_view refusal)) d
@@ -41,7 +44,9 @@ untold_at j messages mark refusal e d b n =
     ∙ ap (λ (k : Option CommandRefusal). told_of [] [] false (refusal_view k)) n
 
 -- the evaluation is that of the file
-pub started : (limits : Limits) (text : Text) (cx ctx : FileContext) (before : Environment) (j : JournalState) (messages : Vec (String Global) Global) (mark : Bool) (refusal : Option CommandRefusal) (gs : Variables) (r : Result Ending EvalFault) (new : Trace)
+pub started : (limits : Limits) (text : Text) (cx ctx : FileContext) (before : Environment) (j : JournalState)
+    (messages : Vec (String Global) Global) (mark : Bool) (refusal : Option CommandRefusal) (gs : Variables)
+    (r : Result Ending EvalFault) (new : Trace)
     → j ≡ journal_state cx.mode cx.name.now before [] → ctx ≡ cx → messages.items ≡ [] → mark ≡ false → refusal ≡ None → gs ≡ globals_of cx.path.now
     → Evaluates limits text gs (oracle_of (context_with j ctx)) (trace_with j messages mark refusal) r new
     → Evaluates limits text (globals_of cx.path.now) (oracle_of (context_view cx before)) empty_trace r new
@@ -50,7 +55,7 @@ started limits text cx ctx before j messages mark refusal gs r new e d m b n k h
     (subst (λ (c : answers.FileContext). Evaluates limits text (globals_of cx.path.now) (oracle_of c) (trace_with j messages mark refusal) r new) (begun cx ctx before j e d)
     (subst (λ (vs : Variables). Evaluates limits text vs (oracle_of (context_with j ctx)) (trace_with j messages mark refusal) r new) k h))
 
-pub drafts_ok : (limits : Limits) (c d : answers.FileContext) (text : Text) (trace : Trace) (end : Ending) (r : Result Draft RunFault)
+pub drafts_ok : (limits : Limits) (c d : answers.FileContext) (text : Text) (trace : Trace) (end : Ending) (r : Result FileDraft RunFault)
     → Evaluates limits text (globals_of c.path) (oracle_of c) empty_trace (Ok end) trace → oracle_of d ≡ oracle_of c
     → IfOk r (λ draft. ran_of d trace ≡ Ok (ran_view draft.ran (applied (new_values_in draft.changes) d.before))) → IfErr r (λ fault. fault ≡ OutOfMemory)
     → Drafts limits c text r
@@ -62,4 +67,5 @@ drafts_ok limits c d text trace end (Err fault) h same k only = subst (λ (f : R
 pub drafts_err : (limits : Limits) (c : answers.FileContext) (text : Text) (trace : Trace) (fault : EvalFault) (refusal : RunFault)
     → Evaluates limits text (globals_of c.path) (oracle_of c) empty_trace (Err fault) trace → IfSome (file_reason_of refusal) (λ stop. eval_reason fault trace.refused ≡ Some stop)
     → Drafts limits c text (Err refusal)
-drafts_err limits c text trace fault refusal h k = of_stop (eval_reason fault trace.refused) (file_reason_of refusal) (λ stop. RunsFile limits c text (Err stop)) k (runs_err limits c text trace fault h)
+drafts_err limits c text trace fault refusal h k = of_stop (eval_reason fault trace.refused) (file_reason_of refusal)
+    (λ stop. RunsFile limits c text (Err stop)) k (runs_err limits c text trace fault h)

@@ -1,5 +1,6 @@
 -- What the accepted commands of a file make is recorded from one to the next.
-use Rattle.std.proofs.Common.{◌≡◌, List, [], ◌∷◌, ◌++◌, map, Result, Ok, Err, OnOk, OnErr, IfSome, refl, ap, sym, subst, ◌∙◌}
+use Rattle.std.proofs.Common.{◌≡◌, List, [], ◌∷◌, ◌++◌, map, Result, Ok, Err, OnOk, OnErr, IfSome, refl, ap, sym, subst}
+use Rattle.std.proofs.Common.{◌∙◌}
 use Rattle.std.proofs.lemmas.List.{map_push}
 use Rattle.envvars.specs.Texts.{Text}
 use Rattle.envvars.specs.Environment.{Environment}
@@ -20,16 +21,24 @@ use Rattle.modulerun.specs.declared.accepted.AcceptedCommand.{AcceptedCommand}
 use Rattle.modulerun.specs.Journals.{environment_so_far, words_in, words_of, records_of, IsJournal, AddsCommand}
 
 -- what the file finds is the environment that is recorded
-pub environment_recorded : (mode : Mode) (module_name : Text) (before now : Environment) (entries : List AcceptedCommand) → IsJournal (mode_view mode) module_name before now entries → environment_so_far (record { mode = mode; module_name = module_name; before = before; words = words_of entries }) ≡ now
+pub environment_recorded : (mode : Mode) (module_name : Text) (before now : Environment)
+    (entries : List AcceptedCommand) → IsJournal (mode_view mode) module_name before now entries
+    → environment_so_far (record { mode = mode; module_name = module_name; before = before; words = words_of entries })
+    ≡ now
 environment_recorded mode module_name before now entries k =
     ap (or_before before) (bind_ok (records_in (words_of entries)) (λ rs. record_outcome (effects (mode_view mode) module_name rs before)) (records_of entries) now k.0 (ap record_outcome k.1))
 
-kept_more : (mode : effects.Mode) (module_name : Text) (before now new : Environment) (entries : List AcceptedCommand) (entry : AcceptedCommand) → call_of (words_in entry.words) ≡ Ok (adds_record (record_view entry.recorded)) → effect mode module_name (record_view entry.recorded) now ≡ Ok new → IsJournal mode module_name before now entries → IsJournal mode module_name before new (entries ++ entry ∷ [])
+kept_more : (mode : effects.Mode) (module_name : Text) (before now new : Environment) (entries : List AcceptedCommand)
+    (entry : AcceptedCommand) → call_of (words_in entry.words) ≡ Ok (adds_record (record_view entry.recorded))
+    → effect mode module_name (record_view entry.recorded) now ≡ Ok new → IsJournal mode module_name before now entries
+    → IsJournal mode module_name before new (entries ++ entry ∷ [])
 kept_more mode module_name before now new entries entry call e k =
     let w : words_of (entries ++ entry ∷ []) ≡ words_of entries ++ words_in entry.words ∷ [] = map_push (λ (x : AcceptedCommand). words_in x.words) entries entry in
     let r : records_of (entries ++ entry ∷ []) ≡ records_of entries ++ record_view entry.recorded ∷ [] = map_push (λ (x : AcceptedCommand). record_view x.recorded) entries entry in (
       ap records_in w
-          ∙ records_more (words_of entries) (words_in entry.words) (records_of entries) (record_view entry.recorded) k.0 (bind_ok (call_of (words_in entry.words)) record_of (adds_record (record_view entry.recorded)) (record_view entry.recorded) call refl)
+          ∙ records_more (words_of entries) (words_in entry.words) (records_of entries) (record_view entry.recorded) k.0
+          (bind_ok (call_of (words_in entry.words)) record_of (adds_record (record_view entry.recorded))
+          (record_view entry.recorded) call refl)
           ∙ ap (λ rs. Ok rs) (sym r),
       ap (λ rs. effects mode module_name rs before) r ∙ effects_more mode module_name (records_of entries) (record_view entry.recorded) before now new k.1 e,
     )
@@ -45,7 +54,9 @@ kept_by (Err fault) mode module_name before now new entries more entry ok err ed
 pub noted_by : (result : Result (Unit {0}) RecordFault) (mode : Mode) (module_name : Text) (before now new : Environment) (entries more : List AcceptedCommand) (entry : AcceptedCommand)
     → OnOk result (more ≡ entries ++ entry ∷ []) → OnErr result (more ≡ entries) → IsEdited result now new (effect (mode_view mode) module_name (record_view entry.recorded) now)
     → IsJournal (mode_view mode) module_name before now entries
-    → AddsCommand result (words_in entry.words) (record_view entry.recorded) (record { mode = mode; module_name = module_name; before = before; words = words_of entries }) (record { mode = mode; module_name = module_name; before = before; words = words_of more })
+    → AddsCommand result (words_in entry.words) (record_view entry.recorded)
+    (record { mode = mode; module_name = module_name; before = before; words = words_of entries })
+    (record { mode = mode; module_name = module_name; before = before; words = words_of more })
 noted_by (Ok u) mode module_name before now new entries more entry ok err edited k = (
   ap (λ (ws : List (List Text)). record { mode = mode; module_name = module_name; before = before; words = ws }) (ap words_of ok ∙ map_push (λ (x : AcceptedCommand). words_in x.words) entries entry),
   (
@@ -55,7 +66,8 @@ noted_by (Ok u) mode module_name before now new entries more entry ok err edited
 )
 noted_by (Err fault) mode module_name before now new entries more entry ok err edited k = (
   ap (λ (es : List AcceptedCommand). record { mode = mode; module_name = module_name; before = before; words = words_of es }) err,
-  subst (λ e. IfSome (fault_reason fault) (λ reason. effect (mode_view mode) module_name (record_view entry.recorded) e ≡ Err reason)) (sym (environment_recorded mode module_name before now entries k)) edited.1,
+  subst (λ e. IfSome (fault_reason fault) (λ reason. effect (mode_view mode) module_name (record_view entry.recorded) e
+      ≡ Err reason)) (sym (environment_recorded mode module_name before now entries k)) edited.1,
 )
 
 -- the records of entries, seen from the records that were taken out

@@ -1,5 +1,6 @@
 -- Lists from their fronts.
-use Rattle.std.proofs.Common.{◌≡◌, ◌+◌, ◌<◌, ◌≤◌, ℕ, Bool, true, ◌||◌, List, [], ◌∷◌, ◌++◌, length, map, drop, get_or, string_bytes, String, Bor, refl, ap, sym, ◌∙◌, arith}
+use Rattle.std.proofs.Common.{◌≡◌, ◌+◌, ◌<◌, ◌≤◌, ℕ, Bool, true, ◌||◌, List, [], ◌∷◌, ◌++◌, length, map, drop, get_or}
+use Rattle.std.proofs.Common.{string_bytes, String, Bor, refl, ap, sym, ◌∙◌, arith}
 use Rattle.std.specs.declared.alloc.Global.{Global}
 use Rattle.std.specs.List.{list_any}
 use Rattle.std.proofs.lemmas.List.{append_assoc, map-append, drop_more}
@@ -13,7 +14,8 @@ some_text [] h = absurd (omega (arith, h))
 some_text (t ∷ ts) h = refl
 
 -- the next text, and those after it
-pub split_next : (texts : List (String Global)) (i : ℕ) (x : String Global) → i < length texts → x ≡ get_or texts i x → map string_bytes (drop i texts) ≡ string_bytes x ∷ map string_bytes (drop (i + 1) texts)
+pub split_next : (texts : List (String Global)) (i : ℕ) (x : String Global) → i < length texts → x ≡ get_or texts i x
+    → map string_bytes (drop i texts) ≡ string_bytes x ∷ map string_bytes (drop (i + 1) texts)
 split_next texts i x l is = ap (map string_bytes) (drop_more texts i x l) ∙ ap (λ (y : String Global). string_bytes y ∷ map string_bytes (drop (i + 1) texts)) (sym is)
 
 -- whether some text passes
@@ -31,6 +33,9 @@ cut_more delim old new parts value rest all e p h =
     ∙ ap (λ ps. slice_texts old ++ (ps ++ elements_of delim rest)) p ∙ h
 
 pub cut_on : (delim : ℕ) (old new parts : List (Bor Text)) (value : Text) (left right : List (String Global)) (all : List Text)
-    → map string_bytes left ≡ value ∷ map string_bytes right → new ≡ old ++ parts → slice_texts parts ≡ split_elements delim value → slice_texts old ++ elements_of delim (map string_bytes left) ≡ all → slice_texts new ++ elements_of delim (map string_bytes right) ≡ all
+    → map string_bytes left ≡ value ∷ map string_bytes right → new ≡ old ++ parts
+    → slice_texts parts ≡ split_elements delim value → slice_texts old
+    ++ elements_of delim (map string_bytes left) ≡ all → slice_texts new
+    ++ elements_of delim (map string_bytes right) ≡ all
 cut_on delim old new parts value left right all s e p h =
     cut_more delim old new parts value (map string_bytes right) all e p (ap (λ vs. slice_texts old ++ elements_of delim vs) (sym s) ∙ h)

@@ -13,6 +13,7 @@ name_refused None n more h = tt
 name_refused (Some r) n more h = ap (λ (z : Option EnvReason). option_map bad_edit (option_or z more)) h
 
 -- nothing forbids the record
-pub refused_edit : (o : Option EnvReason) (n : Option RecordReason) (out : Result Environment EnvReason) → n ≡ None → IfSome o (λ r. out ≡ Err r) → IfSome (option_map bad_edit o) (λ r. permitted n (edit_outcome out) ≡ Err r)
+pub refused_edit : (o : Option EnvReason) (n : Option RecordReason) (out : Result Environment EnvReason) → n ≡ None
+    → IfSome o (λ r. out ≡ Err r) → IfSome (option_map bad_edit o) (λ r. permitted n (edit_outcome out) ≡ Err r)
 refused_edit None n out h e = tt
 refused_edit (Some r) n out h e = ap (λ (z : Option RecordReason). permitted z (edit_outcome out)) h ∙ ap edit_outcome e

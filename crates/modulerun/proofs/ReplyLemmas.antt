@@ -1,5 +1,7 @@
 -- How the host's replies follow from what its parts say.
-use Rattle.std.proofs.Common.{◌≡◌, ◌==◌, ℕ, Bool, true, false, ◌||◌, List, [], string_bytes, String, is_none, if◌then◌else◌, Option, Some, None, IfSome, Result, Ok, Err, IfOk, refl, ap, sym, subst, ◌∙◌}
+use Rattle.std.proofs.Common.{◌≡◌, ◌==◌, ℕ, Bool, true, false, ◌||◌, List, [], string_bytes, String, is_none}
+use Rattle.std.proofs.Common.{if◌then◌else◌, Option, Some, None, IfSome, Result, Ok, Err, IfOk, refl, ap, sym, subst}
+use Rattle.std.proofs.Common.{◌∙◌}
 use Rattle.std.specs.Option.{option_map}
 use Rattle.std.specs.declared.vec.Vec.{Vec}
 use Rattle.std.specs.declared.alloc.Global.{Global}
@@ -25,7 +27,8 @@ use Rattle.modulefile.specs.CallViews.{reason_of, call_view, HasReason}
 use Rattle.modulefile.specs.RecordViews.{record_view, fault_reason}
 use Rattle.modulerun.specs.RecordAnswers.{HasFault}
 use Rattle.modulefile.specs.Answers as answers
-use Rattle.modulefile.specs.Answers.{command_answer, question_answer, record_answer, not_done, variable_answer, record_name, record_number, refusal_of}
+use Rattle.modulefile.specs.Answers.{command_answer, question_answer, record_answer, not_done, variable_answer}
+use Rattle.modulefile.specs.Answers.{record_name, record_number, refusal_of}
 use Rattle.modulerun.specs.declared.command_refusal.CommandRefusal.{CommandRefusal}
 use Rattle.modulerun.specs.declared.command_refusal.CommandRefusal.TheVariants.{BadRecord}
 use Rattle.modulerun.specs.declared.context.FileContext.{FileContext}
@@ -48,7 +51,8 @@ or_false true = refl
 or_false false = refl
 
 -- a record that has its effect is added
-pub noted_reply : (s t : JournalState) (cx : FileContext) (messages : Vec (String Global) Global) (mark : Bool) (held : Option CommandRefusal) (words : List Text) (r : records.Record) (text : String Global) (e : Environment)
+pub noted_reply : (s t : JournalState) (cx : FileContext) (messages : Vec (String Global) Global) (mark : Bool)
+    (held : Option CommandRefusal) (words : List Text) (r : records.Record) (text : String Global) (e : Environment)
     → call_of words ≡ Ok (adds_record r) → string_bytes text ≡ [] → t ≡ with_command s words → effect_on s r ≡ Ok e
     → Replies (command_answer (context_with s cx) (environment_so_far s) words (call_of words)) (Done text) (trace_with s messages mark held) (trace_with t messages mark held)
 noted_reply s t cx messages mark held words r text e call empty add_command effect =
@@ -108,7 +112,9 @@ refusal_traced s messages mark held fault n some number reason h =
     )
 
 -- a record that has no effect is refused
-pub refused_reply : (s t : JournalState) (cx : FileContext) (messages : Vec (String Global) Global) (mark : Bool) (held : Option CommandRefusal) (words : List Text) (r : records.Record) (fault : RecordFault) (h : HostAnswer) (new : Trace)
+pub refused_reply : (s t : JournalState) (cx : FileContext) (messages : Vec (String Global) Global) (mark : Bool)
+    (held : Option CommandRefusal) (words : List Text) (r : records.Record) (fault : RecordFault) (h : HostAnswer)
+    (new : Trace)
     → call_of words ≡ Ok (adds_record r) → t ≡ s → IfSome (fault_reason fault) (λ reason. effect_on s r ≡ Err reason)
     → ((reason : RecordReason) → HasFault reason fault → Replies (not_done (bad_record reason)) h (trace_with t messages mark held) new)
     → Replies (command_answer (context_with s cx) (environment_so_far s) words (call_of words)) h (trace_with s messages mark held) new
@@ -125,7 +131,9 @@ refused_reply s t cx messages mark held words r fault h new call same e f = go (
         (ap (command_answer (context_with s cx) (environment_so_far s) words) call ∙ ap (record_answer words) d)
         (at reason (subst (λ o. IfSome o (λ x. x ≡ reason)) (sym q) refl))
 
-pub call_made : (made : Result Record AllocError) (accepted : Record) (words : List Text) → made ≡ Ok accepted → IfOk made (λ r. call_of words ≡ Ok (adds_record (record_view r))) → call_of words ≡ Ok (adds_record (record_view accepted))
+pub call_made : (made : Result Record AllocError) (accepted : Record) (words : List Text) → made ≡ Ok accepted
+    → IfOk made (λ r. call_of words ≡ Ok (adds_record (record_view r)))
+    → call_of words ≡ Ok (adds_record (record_view accepted))
 call_made made accepted words e h = subst (λ (m : Result Record AllocError). IfOk m (λ r. call_of words ≡ Ok (adds_record (record_view r)))) e h
 
 pub read_named : (var value : Text) → is_variable_name var ≡ true → variable_answer var value ≡ question_answer value

@@ -1,5 +1,6 @@
 -- What follows for a file from its evaluation by the host.
-use Rattle.std.proofs.Common.{◌≡◌, ℕ, false, [], ◌∷◌, codes, bytes_eq, string_bytes, if◌then◌else◌, Option, Some, None, IfSome, Ok, Err, refl, ap, sym, subst, ◌∙◌}
+use Rattle.std.proofs.Common.{◌≡◌, ℕ, false, [], ◌∷◌, codes, bytes_eq, string_bytes, if◌then◌else◌, Option, Some, None}
+use Rattle.std.proofs.Common.{IfSome, Ok, Err, refl, ap, sym, subst, ◌∙◌}
 use Rattle.envvars.specs.Texts.{Text}
 use Rattle.envvars.proofs.EnvLemmas.{same_environment}
 use Rattle.tclrules.specs.Oracle as oracle
@@ -18,7 +19,8 @@ use Rattle.modulefile.specs.Effects.{Mode, load, unload, display, whatis}
 use Rattle.modulefile.specs.Calls.{call_of, mode, info, own_name}
 use Rattle.modulefile.specs.Answers.{FileContext, command_answer, mode_word, oracle_of}
 use Rattle.modulefile.specs.Files as files
-use Rattle.modulefile.specs.Files.{FileReason, failed, halt_reason, RunsFile, FinishesFile, ran_of, empty_trace, globals_of}
+use Rattle.modulefile.specs.Files.{FileReason, failed, halt_reason, RunsFile, FinishesFile, ran_of, empty_trace}
+use Rattle.modulefile.specs.Files.{globals_of}
 use Rattle.modulerun.specs.Running.{eval_reason}
 
 pub runs_ok : (limits : Limits) (c : FileContext) (text : Text) (trace : Trace) (end : Ending) (ran : files.Ran)
@@ -89,7 +91,9 @@ same_name c d e =
 pub same_mode : (c d : FileContext) → oracle_of c ≡ oracle_of d → c.mode ≡ d.mode
 same_mode c d e =
     let words = codes "module-info" ∷ codes "mode" ∷ [] in
-    let w : mode_word c.mode ≡ mode_word d.mode = sym (ap (λ f. done_text (command_answer c c.before words f)) mode_call) ∙ ap (λ (o : Oracle). done_text (o.command [] words)) e ∙ ap (λ f. done_text (command_answer d d.before words f)) mode_call in
+    let w : mode_word c.mode ≡ mode_word d.mode = sym (ap (λ f. done_text (command_answer c c.before words f))
+    mode_call) ∙ ap (λ (o : Oracle). done_text (o.command [] words)) e
+    ∙ ap (λ f. done_text (command_answer d d.before words f)) mode_call in
     sym (named_again c.mode) ∙ ap mode_named w ∙ named_again d.mode
 
 -- so the records have the same outcome

@@ -3,6 +3,8 @@ use Rattle.std.specs.Prelude.{◌≡◌, Bool, [], ◌∷◌, ◌++◌, map, str
 use Rattle.std.specs.Option.{option_map}
 use Rattle.std.specs.declared.vec.Vec.{Vec}
 use Rattle.std.specs.declared.alloc.Global.{Global}
+use Rattle.message.specs.Refusals.{number_of}
+use Rattle.message.specs.declared.refusals.RefusalKind.TheVariants as kinds
 use Rattle.envvars.specs.Texts.{Text, texts_in}
 use Rattle.tclrules.specs.Oracle as oracle
 use Rattle.tclrules.specs.Oracle.{OracleAnswer, HostRefusal, Trace, unnamed}
@@ -36,7 +38,7 @@ context_with s c =
 -- the refusal that the host remembers, by number and name
 abbrev pub refusal_view : Option CommandRefusal → Option HostRefusal
 refusal_view None = None
-refusal_view (Some BadArguments) = Some (unnamed 56)
+refusal_view (Some BadArguments) = Some (unnamed (number_of kinds.BadArguments))
 refusal_view (Some (BadRecord fault)) = option_map refusal_of (fault_reason fault)
 
 -- the records and messages of a file, and whether it asked, by the fields of its host

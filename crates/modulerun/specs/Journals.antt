@@ -1,5 +1,6 @@
 -- What a file has done so far (own).
-use Rattle.std.specs.Prelude.{◌≡◌, ℕ, ◌==◌, List, ◌∷◌, [], ◌++◌, map, string_bytes, String, IfSome, if◌then◌else◌, Result, Ok, Err, refl}
+use Rattle.std.specs.Prelude.{◌≡◌, ℕ, ◌==◌, List, ◌∷◌, [], ◌++◌, map, string_bytes, String, IfSome, if◌then◌else◌}
+use Rattle.std.specs.Prelude.{Result, Ok, Err, refl}
 use Rattle.std.specs.Coded.{Coded, code_by, coded×, coded_ℕ, coded_list}
 use Rattle.std.specs.declared.alloc.Global.{Global}
 use Rattle.std.specs.declared.snapshot.Snapshot.{Snapshot}
@@ -37,7 +38,8 @@ numbered_mode n = if n == 0 then Load else if n == 1 then Unload else if n == 2 
 
 -- what was done, by its parts
 abbrev pub journal_state : Mode → Text → Environment → List (List Text) → JournalState
-journal_state mode module_name before words = record { mode = mode; module_name = module_name; before = before; words = words }
+journal_state mode module_name before words = record
+    { mode = mode; module_name = module_name; before = before; words = words }
 
 -- coding a mode by its number and back gives the same
 abbrev pub mode_round_trip : (m : Mode) (module_name : Text) (before : Environment) (words : List (List Text))
@@ -79,11 +81,18 @@ records_of entries = map (λ entry. record_view entry.recorded) entries
 -- The records of the entries are those of their words, and the environment is their effects on the one before.
 abbrev pub IsJournal : effects.Mode → Text → Environment → Environment → List AcceptedCommand → Type 0
 IsJournal mode module_name before now entries =
-    (records_in (words_of entries) ≡ Ok (records_of entries)) × (effects mode module_name (records_of entries) before ≡ Ok now)
+    (records_in (words_of entries) ≡ Ok (records_of entries))
+    × (effects mode module_name (records_of entries) before ≡ Ok now)
 
 -- the same with one command more
 abbrev pub with_command : JournalState → List Text → JournalState
-with_command s words = record { mode = s.mode; module_name = s.module_name; before = s.before; words = s.words ++ words ∷ [] }
+with_command s words = record {
+  mode = s.mode;
+  module_name = s.module_name;
+  before = s.before;
+  words = s.words
+      ++ words ∷ [];
+}
 
 -- the effect of a record on the environment that the file finds
 abbrev pub effect_on : JournalState → records.Record → Result Environment RecordReason

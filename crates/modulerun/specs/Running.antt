@@ -1,6 +1,8 @@
 -- What the result of a run means by the definitions of modulefiles (own).
 use Rattle.std.specs.Prelude.{◌≡◌, map, string_bytes, Option, Some, None, IfSome, Result, Ok, Err}
 use Rattle.std.specs.Option.{option_map}
+use Rattle.message.specs.Refusals.{number_of}
+use Rattle.message.specs.declared.refusals.RefusalKind.TheVariants as kinds
 use Rattle.envvars.specs.Texts.{Text}
 use Rattle.envvars.specs.Environment.{Environment}
 use Rattle.envvars.specs.Changes.{applied, new_values_in}
@@ -16,8 +18,8 @@ use Rattle.modulefile.specs.Answers.{refusal_of}
 use Rattle.modulefile.specs.Files as files
 use Rattle.modulefile.specs.Files.{FileReason, halted, refused, failed, refused_by, RunsFile}
 use Rattle.modulerun.specs.declared.context.FileContext.{FileContext}
-use Rattle.modulerun.specs.declared.run.Ran.{Ran}
-use Rattle.modulerun.specs.declared.run.Draft.{Draft}
+use Rattle.modulerun.specs.declared.run.FileRun.{FileRun}
+use Rattle.modulerun.specs.declared.run.FileDraft.{FileDraft}
 use Rattle.modulerun.specs.declared.run_fault.RunFault.{RunFault}
 use Rattle.modulerun.specs.declared.run_fault.RunFault.TheVariants.{OutOfMemory, Eval, BadArguments, BadRecord}
 
@@ -37,7 +39,7 @@ context_view c before =
     }
 
 -- what an accepted file leaves, with the environment after it
-abbrev pub ran_view : Ran → Environment → files.Ran
+abbrev pub ran_view : FileRun → Environment → files.Ran
 ran_view ran env =
     record {
       records = map record_view ran.records.items;
@@ -64,18 +66,18 @@ eval_reason (faults.Host n) refusal = Some (refused_by n refusal)
 abbrev pub file_reason_of : RunFault → Option FileReason
 file_reason_of OutOfMemory = None
 file_reason_of (Eval fault) = eval_reason fault None
-file_reason_of BadArguments = Some (refused (unnamed 56))
+file_reason_of BadArguments = Some (refused (unnamed (number_of kinds.BadArguments)))
 file_reason_of (BadRecord fault) = option_map (λ reason. refused (refusal_of reason)) (fault_reason fault)
 
 -- The result of a call is the outcome of the text in the context, or OutOfMemory. The environment after an accepted
 -- file is the one that it leaves, and after a refused one the old one.
-abbrev pub RunsTo : Limits → answers.FileContext → Text → Result Ran RunFault → Environment → Type 0
+abbrev pub RunsTo : Limits → answers.FileContext → Text → Result FileRun RunFault → Environment → Type 0
 RunsTo limits c text (Ok ran) new = RunsFile limits c text (Ok (ran_view ran new))
 RunsTo limits c text (Err fault) new = (new ≡ c.before) × IfSome (file_reason_of fault)
     (λ stop. RunsFile limits c text (Err stop))
 
 -- The same of a file whose changes aren't applied yet.
-abbrev pub Drafts : Limits → answers.FileContext → Text → Result Draft RunFault → Type 0
+abbrev pub Drafts : Limits → answers.FileContext → Text → Result FileDraft RunFault → Type 0
 Drafts limits c text (Ok draft) =
     RunsFile limits c text (Ok (ran_view draft.ran (applied (new_values_in draft.changes) c.before)))
 Drafts limits c text (Err fault) = IfSome (file_reason_of fault) (λ stop. RunsFile limits c text (Err stop))

@@ -13,7 +13,7 @@ ghost use Rattle.modulerun.specs.Journals.{environment_so_far, journal_state, wo
 
 use crate::accepted::AcceptedCommand;
 use crate::effects::effect;
-use envvars::{Change, EnvFault, Vars, Working};
+use envvars::{Change, EnvFault, Vars, WorkingCopy};
 use modulefile::{Mode, Record, RecordFault};
 use std::alloc::{AllocError, Global};
 use std::marker::Model;
@@ -26,7 +26,7 @@ pub(crate) struct Journal<'a, V: Vars> {
     mode: Mode,
     module_name: &'a str,
     entries: Vec<AcceptedCommand>,
-    working: Working<'a, V>,
+    working: WorkingCopy<'a, V>,
 }
 
 // By hand: `derive(Drop)` would ask for `V: Drop`, and the variables are borrowed.
@@ -119,7 +119,7 @@ impl<'a, V: Vars> Journal<'a, V> {
             mode,
             module_name,
             entries: Vec::new(alloc),
-            working: Working::over_vars(alloc, before),
+            working: WorkingCopy::over_vars(alloc, before),
         }
     }
 

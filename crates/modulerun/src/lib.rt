@@ -14,5 +14,5 @@ mod run_fault;
 mod runner;
 
 pub use context::FileContext;
-pub use run::{Ran, records_unless_asked, run_file};
+pub use run::{FileRun, records_unless_asked, run_file};
 pub use run_fault::RunFault;

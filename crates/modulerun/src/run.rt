@@ -18,7 +18,7 @@ use tclrules::{EvalFault, Limits};
 /// What an accepted file leaves: the records of its commands, its messages, and whether it asked about the environment,
 /// the mode, the shell, the typed name or the loaded modules.
 #[derive(Debug, Drop)]
-pub struct Ran {
+pub struct FileRun {
     pub records: Vec<Record>,
     pub messages: Vec<String>,
     pub asked: bool,
@@ -29,7 +29,7 @@ pub struct Ran {
 
 /// The records of a module whose evaluation asked nothing. Else they may differ elsewhere: these are the words of its
 /// first question, where there was memory for them.
-pub fn records_unless_asked(ran: Ran) -> Result<Vec<Record>, Option<String>>
+pub fn records_unless_asked(ran: FileRun) -> Result<Vec<Record>, Option<String>>
     ensures asked { IfErr result (λ question. (ran.asked ≡ true) × (question ≡ ran.question)) }
     ensures unasked { IfOk result (λ records. (ran.asked ≡ false) × (records ≡ ran.records)) }
 {
@@ -41,8 +41,8 @@ pub fn records_unless_asked(ran: Ran) -> Result<Vec<Record>, Option<String>>
 
 /// What an accepted file leaves, and the changes that its environment doesn't have yet.
 #[derive(Drop)]
-pub(crate) struct Draft {
-    pub ran: Ran,
+pub(crate) struct FileDraft {
+    pub ran: FileRun,
     pub changes: Vec<Change>,
 }
 
@@ -93,7 +93,7 @@ fn draft_file<V: Vars>(
     text: &str,
     env: &V,
     limits: Limits,
-) -> Result<Draft, RunFault>
+) -> Result<FileDraft, RunFault>
     ensures { Drafts limits (context_view context.now (V.vars env.now)) text.now result }
 {
     let globals = globals(alloc, context.path)?;
@@ -116,11 +116,11 @@ pub fn run_file<V: Vars>(
     text: &str,
     env: &mut V,
     limits: Limits,
-) -> Result<Ran, RunFault>
+) -> Result<FileRun, RunFault>
     ensures runs { RunsTo limits (context_view context.now (V.vars env.old)) text.now result (V.vars env.new) }
     ensures base { V.base env.new ≡ V.base env.old }
 {
-    let Draft { ran, changes } = draft_file(alloc, context, text, &*env, limits)?;
+    let FileDraft { ran, changes } = draft_file(alloc, context, text, &*env, limits)?;
     env.apply(changes)?;
     Ok(ran)
 }

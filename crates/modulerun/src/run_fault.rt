@@ -1,10 +1,10 @@
 //! Why a modulefile is refused.
 ghost use Rattle.std.specs.Prelude.{◌≡◌, IfSome, Some};
-ghost use Rattle.message.specs.Messages.{text_of};
+ghost use Rattle.message.specs.Refusals.{numbered_text};
 ghost use Rattle.modulerun.specs.Messages as texts;
 
 use envvars::EnvFault;
-use message::{Message, out_of_memory};
+use message::{NumberedMessage, RefusalKind};
 use modulefile::RecordFault;
 use std::alloc::AllocError;
 use std::error::Error;
@@ -25,13 +25,16 @@ pub enum RunFault {
     BadRecord(RecordFault),
 }
 
-/// The number of a fault of the evaluation. That of a refused command is the command's own.
-fn eval_number(fault: &EvalFault) -> u16
-    ensures { result ≡ texts.eval_number fault.now }
+/// A fault of the evaluation. The number of a text's fault is that one's own, and that of a refused command the command's.
+fn evaluation_numbered(fault: &EvalFault) -> NumberedMessage<'_>
+    ensures { numbered_text result ≡ texts.evaluation_refusal fault.now }
 {
     match fault {
-        EvalFault::Text(fault) => fault.number(),
-        EvalFault::Host(number) => *number,
+        EvalFault::Text(fault) => fault.numbered(),
+        EvalFault::Host(number) => NumberedMessage {
+            number: *number,
+            message: fault.numbered().message,
+        },
         EvalFault::OutOfMemory
         | EvalFault::TclError(_, _)
         | EvalFault::TooManyCommands
@@ -40,7 +43,7 @@ fn eval_number(fault: &EvalFault) -> u16
         | EvalFault::NumberTooLarge
         | EvalFault::FractionOperand
         | EvalFault::LeftOut(_)
-        | EvalFault::Stopped => fault.number(),
+        | EvalFault::Stopped => fault.numbered(),
     }
 }
 
@@ -48,37 +51,33 @@ impl RunFault {
     ghost use Rattle.modulefile.specs.Files.{file_reason_number};
     ghost use Rattle.modulerun.specs.Running.{file_reason_of};
 
-    /// The number of the fault: that of the reason, or 11 or 31 where memory ran out.
-    pub fn number(&self) -> u16
-        ensures exact { result ≡ texts.number_of self.now }
-        ensures by_file_reason { IfSome (file_reason_of self.now) (λ stop. result ≡ file_reason_number stop) }
+    /// The number of the fault and its text: those of the reason, or 11 or 31 where memory ran out.
+    pub fn numbered(&self) -> NumberedMessage<'_>
+        ensures exact { numbered_text result ≡ texts.refusal_of self.now }
+        ensures by_file_reason { IfSome (file_reason_of self.now) (λ stop. result.number ≡ file_reason_number stop) }
     {
         match self {
-            RunFault::OutOfMemory => 31,
-            RunFault::Eval(fault) => eval_number(fault),
-            RunFault::BadArguments => 56,
-            RunFault::BadRecord(fault) => fault.number(),
+            RunFault::OutOfMemory => RefusalKind::MemoryForRequest.plain(),
+            RunFault::Eval(fault) => evaluation_numbered(fault),
+            RunFault::BadArguments => RefusalKind::BadArguments.plain(),
+            RunFault::BadRecord(fault) => fault.numbered(),
         }
     }
 
-    /// The text of the fault.
-    pub fn message(&self) -> Message<'_>
-        ensures { text_of result ≡ texts.message_of self.now }
+    /// The number of the fault: that of the reason, or 11 or 31 where memory ran out.
+    pub fn number(&self) -> u16
+        ensures exact { result ≡ (texts.refusal_of self.now).number }
+        ensures by_file_reason { IfSome (file_reason_of self.now) (λ stop. result ≡ file_reason_number stop) }
     {
-        match self {
-            RunFault::OutOfMemory => out_of_memory(),
-            RunFault::Eval(fault) => fault.message(),
-            RunFault::BadArguments => Message::of_text("Bad arguments"),
-            RunFault::BadRecord(fault) => fault.message(),
-        }
+        self.numbered().number
     }
 }
 
 impl fmt::Display for RunFault {
-    ghost output = { λ fault. Some (texts.message_of fault) };
+    ghost output = { λ fault. Some (texts.refusal_of fault).text };
 
     fn fmt<W: fmt::Write>(&self, f: &mut fmt::Formatter<W>) -> fmt::Result {
-        self.message().fmt(f)
+        self.numbered().message.fmt(f)
     }
 }
 

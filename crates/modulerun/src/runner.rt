@@ -1,5 +1,6 @@
 //! The host of a modulefile: it does the commands that Tcl hasn't (modulefile(5)).
-ghost use Rattle.std.specs.Prelude.{◌≡◌, ◌++◌, ◌∷◌, [], None, Some, Ok, map, string_bytes, IfOk, IfErr, IfSome, OnOk, OnErr, false};
+ghost use Rattle.std.specs.Prelude.{◌≡◌, ◌++◌, ◌∷◌, [], None, Some, Ok, map, string_bytes, IfOk, IfErr, IfSome, OnOk};
+ghost use Rattle.std.specs.Prelude.{OnErr, false};
 ghost use Rattle.envvars.specs.Texts.{Text, texts_in};
 ghost use Rattle.envvars.specs.Changes.{applied, new_values_in};
 ghost use Rattle.tclrules.specs.Oracle.{Nothing, Message, Done};
@@ -8,7 +9,8 @@ ghost use Rattle.modulefile.specs.Calls.{CallReason, bad_record, adds_record, ca
 ghost use Rattle.modulefile.specs.CallViews.{HasReason, call_view, field_view};
 ghost use Rattle.modulefile.specs.RecordViews.{mode_view, record_view};
 ghost use Rattle.modulerun.specs.RecordAnswers.{HasFault};
-ghost use Rattle.modulefile.specs.Answers.{command_answer, any_loaded, question_answer, not_done, variable_answer, truth, field_text, field_test, value_shown};
+ghost use Rattle.modulefile.specs.Answers.{command_answer, any_loaded, question_answer, not_done, variable_answer};
+ghost use Rattle.modulefile.specs.Answers.{truth, field_text, field_test, value_shown};
 ghost use Rattle.modulefile.specs.Files.{ran_of};
 ghost use Rattle.modulerun.specs.declared.run_fault.RunFault.TheVariants.{OutOfMemory};
 ghost use Rattle.modulerun.specs.Running.{ran_view, eval_reason, file_reason_of};
@@ -20,7 +22,7 @@ use crate::context::FileContext;
 use crate::journal::{FinishedFile, Journal};
 use crate::questions::{any_loaded, is_mode, mode_word, truth};
 use crate::recording;
-use crate::run::{Draft, Ran, refusal};
+use crate::run::{FileDraft, FileRun, refusal};
 use crate::run_fault::RunFault;
 use envvars::{EnvFault, Vars, is_variable_name};
 use modulefile::{Call, CallFault, InfoField, Mode, Record, RecordFault, call_of, command_names};
@@ -244,7 +246,7 @@ impl<'a, V: Vars> Runner<'a, V> {
     }
 
     /// What the file leaves, where its evaluation ended without a fault. It fails for `OutOfMemory` alone.
-    pub(crate) fn finish(self) -> Result<Draft, RunFault>
+    pub(crate) fn finish(self) -> Result<FileDraft, RunFault>
         ensures ok { IfOk result (λ draft. ran_of (context_of self.entry) (trace_of self.entry)
             ≡ Ok (ran_view draft.ran (applied (new_values_in draft.changes) self.entry.journal.before))) }
         ensures only { IfErr result (λ fault. fault ≡ OutOfMemory) }
@@ -259,13 +261,13 @@ impl<'a, V: Vars> Runner<'a, V> {
             refusal: _refusal,
         } = self;
         let FinishedFile { records, changes } = journal.finish()?;
-        let ran = Ran {
+        let ran = FileRun {
             records,
             messages,
             asked,
             question,
         };
-        Ok(Draft { ran, changes })
+        Ok(FileDraft { ran, changes })
     }
 
     /// Why the file is refused whose evaluation ended with this fault.

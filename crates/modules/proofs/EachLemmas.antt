@@ -1,5 +1,7 @@
 -- Names in turn, and whole commands, by what their parts answered.
-use Rattle.std.proofs.Common.{◌≡◌, ◌<◌, ◌+◌, ℕ, suc, Bor, Bool, true, false, nat_eq, List, [], ◌∷◌, ◌++◌, length, get_or, map, drop, string_bytes, String, Option, Some, None, MatchOption, Result, Ok, Err, inl, inr, refl, sym, ap, ◌∙◌, subst, arith, lit<}
+use Rattle.std.proofs.Common.{◌≡◌, ◌<◌, ◌+◌, ℕ, suc, Bor, Bool, true, false, nat_eq, List, [], ◌∷◌, ◌++◌, length}
+use Rattle.std.proofs.Common.{get_or, map, drop, string_bytes, String, Option, Some, None, MatchOption, Result, Ok, Err}
+use Rattle.std.proofs.Common.{inl, inr, refl, sym, ap, ◌∙◌, subst, arith, lit<}
 use Rattle.std.specs.Prelude.{◌==◌}
 use Rattle.std.specs.List.{slice_split, onto_first}
 use Rattle.std.specs.declared.alloc.Global.{Global}
@@ -15,7 +17,8 @@ use Rattle.modulefile.specs.Records.{Record}
 use Rattle.search.specs.Found.{FoundModule}
 use Rattle.requests.specs.Reasons.{RequestReason, bad_arguments}
 use Rattle.requests.specs.Looked.{EachLooksAt}
-use Rattle.requests.specs.Steps.{RequestContext, Done, nothing_done, Each, NeedsNames, ShowsName, ShowsNames, first_part}
+use Rattle.requests.specs.Steps.{RequestContext, Done, nothing_done, Each, NeedsNames, ShowsName, ShowsNames}
+use Rattle.requests.specs.Steps.{first_part}
 
 -- the item of a turn, before those after it
 pub split_at : {X Y : Type 0} (view : X → Y) (xs : List X) (i : ℕ) (x : X) → i < length xs → x ≡ get_or xs i x
@@ -53,7 +56,9 @@ named_some [] b e isnt Comes o h = let z : true ≡ false = sym e ∙ isnt in ab
 named_some (n ∷ ns) b e isnt Comes o h = h
 
 -- reports on names, of which the first reads the loaded modules
-pub shows_some : (s : RequestContext) (mode : Mode) (text_of : FoundModule → List Record → Text) (e : Environment) (names : List (String Global)) (b : Bool) → b ≡ nat_eq (length names) 0 → b ≡ false → (o : Result Done RequestReason)
+pub shows_some : (s : RequestContext) (mode : Mode) (text_of : FoundModule → List Record → Text) (e : Environment)
+    (names : List (String Global)) (b : Bool) → b ≡ nat_eq (length names) 0 → b ≡ false
+    → (o : Result Done RequestReason)
     → Each (ShowsName s mode text_of) (map (λ (t : String Global). string_bytes t) names) (nothing_done e) o
     → NeedsNames (map (λ (t : String Global). string_bytes t) names) (ShowsNames s mode text_of e (map (λ (t : String Global). string_bytes t) names)) o
 shows_some s mode text_of e [] b is isnt o h = let z : true ≡ false = sym is ∙ isnt in absurd (cc)

@@ -2,8 +2,8 @@
 use Rattle.std.proofs.Common.{◌≡◌, Bool, false, List, ℕ, Result, Ok, Err, refl, sym, subst}
 use Rattle.filetree.specs.Agreement.{FailsAt, FailsIf, is_device}
 use Rattle.filetree.specs.Causes.{Cause, Applies, memory, device, because}
-use Rattle.filetree.specs.declared.find_fault.FindFault.{FindFault}
-use Rattle.filetree.specs.declared.find_fault.FindFault.TheVariants as finds
+use Rattle.search.specs.declared.find_fault.FindFault.{FindFault}
+use Rattle.search.specs.declared.find_fault.FindFault.TheVariants as finds
 use Rattle.filetree.specs.declared.tree.TreeFault.{TreeFault}
 use Rattle.filetree.specs.declared.tree.TreeFault.TheVariants as trees
 use Rattle.search.specs.Answers as search

@@ -1,11 +1,13 @@
 -- The list that is kept beside the variables is what their texts are read as.
-use Rattle.std.proofs.Common.{◌≡◌, List, [], ◌∷◌, ◌++◌, Option, Some, None, Result, Ok, Err, OnOk, refl, sym, ap, ◌∙◌, subst}
+use Rattle.std.proofs.Common.{◌≡◌, List, [], ◌∷◌, ◌++◌, Option, Some, None, Result, Ok, Err, OnOk, refl, sym, ap, ◌∙◌}
+use Rattle.std.proofs.Common.{subst}
 use Rattle.envvars.specs.Texts.{Text}
 use Rattle.envvars.specs.Fields.{without_repeats}
 use Rattle.envvars.specs.Environment.{Environment}
 use Rattle.envvars.specs.Reasons.{EnvReason, Edits}
 use Rattle.envvars.specs.declared.fault.EnvFault.{EnvFault}
-use Rattle.envloaded.specs.Loaded.{Entry, loaded_in, with_conflicts_once, without_entry, added_to, added_loaded, dropped_from, dropped_loaded}
+use Rattle.envloaded.specs.Loaded.{Entry, loaded_in, with_conflicts_once, without_entry, added_to, added_loaded}
+use Rattle.envloaded.specs.Loaded.{dropped_from, dropped_loaded}
 use Rattle.envloaded.proofs.LoadedEdits.{loaded_after_add}
 use Rattle.envstate.proofs.StateLemmas.{dropped_list}
 use Rattle.modulefile.specs.Records.{conflict_names, prereq_groups}
@@ -35,7 +37,8 @@ listed_on (Ok u) xs old new h k = h ∙ sym k
 listed_on (Err e) xs old new h k = tt
 
 -- an edit of the list is one of what is read
-pub adds_read : (r : Result (Unit {0}) EnvFault) (old new : Environment) (x : Entry) (xs : List Entry) → AreEntriesOf xs old → Edits r old new (added_to old x (Some xs)) → Edits r old new (added_loaded old x)
+pub adds_read : (r : Result (Unit {0}) EnvFault) (old new : Environment) (x : Entry) (xs : List Entry)
+    → AreEntriesOf xs old → Edits r old new (added_to old x (Some xs)) → Edits r old new (added_loaded old x)
 adds_read r old new x xs h k = subst (λ (o : Option (List Entry)). Edits r old new (added_to old x o)) (sym (read_as xs old h)) k
 
 pub drop_read : (e : Environment) (name : Text) (xs : List Entry) → AreEntriesOf xs e → (r : Result Environment EnvReason) → dropped_from e name (Some xs) ≡ r → dropped_loaded e name ≡ r

@@ -26,6 +26,8 @@ pub moves_push : (old new : Vec (Snapshot Move) Global) (s : Snapshot Move) (m :
 moves_push old new s m same grown = ap seen grown ∙ (seen-push old.items s ∙ ap (λ (x : Move). moves_of old ++ move_view x ∷ []) same)
 
 -- its names
-pub named_on : (before after : List moves.Move) (names names' : List Text) (m : moves.Move) → names ≡ loaded_names before → after ≡ before ++ m ∷ [] → names' ≡ names ++ loaded_names (m ∷ []) → names' ≡ loaded_names after
+pub named_on : (before after : List moves.Move) (names names' : List Text) (m : moves.Move)
+    → names ≡ loaded_names before → after ≡ before ++ m ∷ [] → names' ≡ names ++ loaded_names (m ∷ [])
+    → names' ≡ loaded_names after
 named_on before after names names' m was more grown =
     grown ∙ (ap (λ (l : List Text). l ++ loaded_names (m ∷ [])) was ∙ (sym (names-append before (m ∷ [])) ∙ ap loaded_names (sym more)))

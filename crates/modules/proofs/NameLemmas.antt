@@ -12,7 +12,8 @@ use Rattle.requests.specs.Reasons.{RequestReason, missed, file_refused}
 use Rattle.requests.specs.Refusals.{RefusedAs}
 use Rattle.modulefile.specs.Moves.{Unloads}
 use Rattle.requests.specs.Looked.{UnloadLooksAt}
-use Rattle.requests.specs.Steps.{RequestContext, Done, entries_of, context_of, continued, module_of, joins, Finds, LoadsFound, LoadsName, UnloadsMeant, UnloadsName, last_meant}
+use Rattle.requests.specs.Steps.{RequestContext, Done, entries_of, context_of, continued, module_of, joins, Finds}
+use Rattle.requests.specs.Steps.{LoadsFound, LoadsName, UnloadsMeant, UnloadsName, last_meant}
 use Rattle.modules.specs.Parts.{ReadsMeant, FindsLoaded, LoadedLooksAt}
 use Rattle.modules.proofs.StepLemmas.{if_yes, if_no}
 
@@ -24,14 +25,17 @@ module _ (s : RequestContext) (in_switch : Bool) (typed : Text) (d : Done) where
     pub loads_unfound : has typed (names_of xs) ≡ false → (r : RequestReason) → Finds s d.env typed (Err r) → LoadsName s in_switch typed d (Err r)
     loads_unfound e r h = (Ok xs, listed, if_no (has typed (names_of xs)) (Is (Ok d)) (Then (Finds s d.env typed) (LoadsFound s in_switch typed d xs)) (Err r) e (Err r, h, refl))
 
-    pub loads_found : has typed (names_of xs) ≡ false → (m : search.FoundModule) → Finds s d.env typed (Ok m) → (o : Result Done RequestReason) → LoadsFound s in_switch typed d xs m o → LoadsName s in_switch typed d o
+    pub loads_found : has typed (names_of xs) ≡ false → (m : search.FoundModule) → Finds s d.env typed (Ok m)
+        → (o : Result Done RequestReason) → LoadsFound s in_switch typed d xs m o → LoadsName s in_switch typed d o
     loads_found e m h o k = (Ok xs, listed, if_no (has typed (names_of xs)) (Is (Ok d)) (Then (Finds s d.env typed) (LoadsFound s in_switch typed d xs)) o e (Ok m, h, k))
 
     -- the module that is unloaded, by its entry
 
     abbrev unloads_by : Option search.FoundModule → Result Done RequestReason → Type 0
     unloads_by None = Is (Ok d)
-    unloads_by (Some m) = Then (RefusedAs file_refused (RunsFile s.limits (context_of s modes.unload in_switch typed m.name m.path xs d.env) m.text)) (λ ran. Is (continued d (Unloads (module_of m.name m.path ran)) ran.messages))
+    unloads_by (Some m) = Then (RefusedAs file_refused
+        (RunsFile s.limits (context_of s modes.unload in_switch typed m.name m.path xs d.env) m.text))
+        (λ ran. Is (continued d (Unloads (module_of m.name m.path ran)) ran.messages))
 
     unloads_entry : (x : Option Entry) (meant : Result (Option search.FoundModule) RequestReason) (o : Result Done RequestReason) → ReadsMeant s.files x meant → After unloads_by meant o
         → UnloadsMeant s in_switch typed d xs x o

@@ -1,5 +1,6 @@
 -- Sessions grow by one request at their end.
-use Rattle.std.proofs.Common.{◌≡◌, ℕ, Bool, true, ◌+◌, ◌≤◌, ◌<◌, List, [], ◌∷◌, ◌++◌, map, inl, inr, refl, sym, subst, ap, ◌∙◌, Ok, Err, append_assoc, append-nil, arith}
+use Rattle.std.proofs.Common.{◌≡◌, ℕ, Bool, true, ◌+◌, ◌≤◌, ◌<◌, List, [], ◌∷◌, ◌++◌, map, inl, inr, refl, sym, subst}
+use Rattle.std.proofs.Common.{ap, ◌∙◌, Ok, Err, append_assoc, append-nil, arith}
 use Rattle.envvars.specs.Environment.{Environment}
 use Rattle.envvars.specs.Texts.{Text}
 use Rattle.requests.specs.Laws.{SessionsReturn, StepsAreTheirMoves}
@@ -20,11 +21,12 @@ use Rattle.modules.specs.Answers.{cause_of}
 use Rattle.modules.specs.Messages.{memory_number, number_by, number_of}
 use Rattle.modules.specs.declared.refusal.Refusal.{Refusal}
 use Rattle.modules.specs.Views.{done_view}
-use Rattle.modules.specs.declared.done.Done.{Done}
+use Rattle.modules.specs.declared.done.RequestResults.{RequestResults}
 use Rattle.modules.proofs.MemoryNumberLemmas.{of_three}
 use Rattle.modules.specs.declared.sessions.Outcome.{Outcome}
 use Rattle.modules.specs.declared.sessions.Outcome.TheVariants.{Accepted, Refused}
-use Rattle.modules.specs.Responses.{accepted_in, by_cause, count_cause, count_failed, count_one, env_after_moves, response_of, responses, Returns}
+use Rattle.modules.specs.Responses.{accepted_in, by_cause, count_cause, count_failed, count_one, env_after_moves}
+use Rattle.modules.specs.Responses.{response_of, responses, Returns}
 
 -- the environment after one response more
 pub end_push : (e : Environment) (os : List Response) (o : Response) → sessions.end_environment e (os ++ o ∷ []) ≡ env_after (sessions.end_environment e os) o
@@ -37,7 +39,8 @@ responses_push e [] o = refl
 responses_push e (p ∷ os) o = ap (λ rs. response_of e p ∷ rs) (responses_push (env_after e (response_of e p)) os o)
 
 -- the moves of an accepted step make the environment that results
-pub made_by_moves : StepsAreTheirMoves → (s : RequestContext) (e new : Environment) (asked : RequestedAction) (done : Done) → RequestStep s e asked (Ok (done_view done new)) → new ≡ env_after_moves e done
+pub made_by_moves : StepsAreTheirMoves → (s : RequestContext) (e new : Environment) (asked : RequestedAction)
+    (done : RequestResults) → RequestStep s e asked (Ok (done_view done new)) → new ≡ env_after_moves e done
 made_by_moves law s e new asked done step = sym (ap (accepted_in e) (law s e asked (done_view done new) step))
 
 plus_assoc : (a b c : ℕ) → a + (b + c) ≡ (a + b) + c
@@ -67,7 +70,7 @@ one_failed before after h = omega arith
 
 -- ---- one response
 
-pub accepted_counts : (before after : ℕ) (done : Done) → before ≤ after → before + count_failed (Accepted done ∷ []) ≤ after
+pub accepted_counts : (before after : ℕ) (done : RequestResults) → before ≤ after → before + count_failed (Accepted done ∷ []) ≤ after
 accepted_counts before after done h = none_failed before after h
 
 cause_counts : (c : Cause RequestReason) (before after : ℕ) (Is : RequestReason → Type 0) → before ≤ after → Applies c (before < after) Is → before + (count_cause c + 0) ≤ after
@@ -79,7 +82,8 @@ pub refused_counts : (before after : ℕ) (refusal : Refusal) (Is : RequestReaso
     → before + count_failed (Refused refusal ∷ []) ≤ after
 refused_counts before after refusal Is later h = cause_counts (cause_of refusal) before after Is later h
 
-pub responds : StepsAreTheirMoves → (s : RequestContext) (e new : Environment) (asked : RequestedAction) (done : Done) → RequestStep s e asked (Ok (done_view done new)) → IsResponse s e asked (response_of e (Accepted done))
+pub responds : StepsAreTheirMoves → (s : RequestContext) (e new : Environment) (asked : RequestedAction) (done : RequestResults)
+    → RequestStep s e asked (Ok (done_view done new)) → IsResponse s e asked (response_of e (Accepted done))
 responds law s e new asked done step =
     let P : Environment → Type 0 = λ x. RequestStep s e asked (Ok (done_view done x)) in
     subst P (made_by_moves law s e new asked done step) step
@@ -88,7 +92,9 @@ responds law s e new asked done step =
 pub memory_is_cause : (refusal : Refusal) → is_given_up_by (memory_number refusal) ≡ true
 memory_is_cause refusal = of_three refusal (λ n. is_given_up_by n ≡ true) refl refl refl
 
-cause_responds : (out_of_memory : ℕ) → is_given_up_by out_of_memory ≡ true → (c : Cause RequestReason) (agrees : Files → Listings → Type 0) (failed : Type 0) (context : Files → Listings → RequestContext) (e : Environment) (asked : RequestedAction)
+cause_responds : (out_of_memory : ℕ) → is_given_up_by out_of_memory ≡ true
+    → (c : Cause RequestReason) (agrees : Files → Listings → Type 0) (failed : Type 0)
+    (context : Files → Listings → RequestContext) (e : Environment) (asked : RequestedAction)
     → Applies c failed (λ r. InEachPair agrees (λ files listings. RequestStep (context files listings) e asked (Err r)))
     → InEachPair agrees (λ files listings. IsResponse (context files listings) e asked (by_cause (number_by out_of_memory c) c))
 cause_responds out_of_memory is memory agrees failed context e asked h = λ files listings agreed. is
@@ -155,13 +161,16 @@ pub looks_here : {R : Type 0} (Looks : Environment → R → Text → Type 0) (H
 looks_here Looks Has e whole r rs at same h = subst (λ (all : List _). OneLooksAt Looks Has e all at) (sym same) (inl h)
 
 -- those after it, in the environment after its response
-pub looks_on : {R : Type 0} (Looks : Environment → R → Text → Type 0) (Has : Environment → R → Response → Type 0) (e new : Environment) (whole : List R) (r : R) (rs : List R) (o : Response) (at : Text)
+pub looks_on : {R : Type 0} (Looks : Environment → R → Text → Type 0) (Has : Environment → R → Response → Type 0)
+    (e new : Environment) (whole : List R) (r : R) (rs : List R) (o : Response) (at : Text)
     → whole ≡ r ∷ rs → Has e r o → new ≡ env_after e o → OneLooksAt Looks Has new rs at → OneLooksAt Looks Has e whole at
 looks_on Looks Has e new whole r rs o at same has end h =
     subst (λ (all : List _). OneLooksAt Looks Has e all at) (sym same) (inr (o, has, subst (λ (x : Environment). OneLooksAt Looks Has x rs at) end h))
 
 -- where the device has failed after one request more: the rest looks where the whole does
-pub session_fails : (agrees agrees' : Files → Listings → Type 0) (before mid now : List ℕ → Bool) (context : Files → Listings → Shell → RequestContext) (start e : Environment) (all whole : List Request) (r : Request) (rs : List Request)
+pub session_fails : (agrees agrees' : Files → Listings → Type 0) (before mid now : List ℕ → Bool)
+    (context : Files → Listings → Shell → RequestContext) (start e : Environment) (all whole : List Request)
+    (r : Request) (rs : List Request)
     → Narrows agrees agrees' → whole ≡ r ∷ rs
     → InEachPair agrees (λ files listings. (shell : Shell) (at : Text) → SessionLooksAt (context files listings shell) e whole at → SessionLooksAt (context files listings shell) start all at)
     → FailsOnlyWhere before mid (λ at. InEachPair agrees (λ files listings. (shell : Shell) → SessionLooksAt (context files listings shell) start all at))

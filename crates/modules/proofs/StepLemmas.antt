@@ -1,5 +1,6 @@
 -- A request's step, by what its parts answered.
-use Rattle.std.proofs.Common.{◌≡◌, Bool, true, false, List, [], ◌∷◌, Option, Some, None, IfSome, Result, Ok, Err, refl, sym, ap, ◌∙◌, subst}
+use Rattle.std.proofs.Common.{◌≡◌, Bool, true, false, List, [], ◌∷◌, Option, Some, None, IfSome, Result, Ok, Err, refl}
+use Rattle.std.proofs.Common.{sym, ap, ◌∙◌, subst}
 use Rattle.envvars.specs.Texts.{Text}
 use Rattle.envvars.specs.Environment.{Environment}
 use Rattle.envvars.specs.Reasons.{EnvReason}
@@ -79,7 +80,9 @@ if_no true Yes No o e h = absurd (cc)
 if_no false Yes No o e h = h
 
 -- a search, as a part of the step
-pub search_stands : (k : Cause search.FindReason) (failed : Type 0) (P : search.FindReason → Type 0) (Q : RequestReason → Type 0) → ((r : search.FindReason) → P r → Q (missed r)) → Applies k failed P → Applies (by_search k) failed Q
+pub search_stands : (k : Cause search.FindReason) (failed : Type 0) (P : search.FindReason → Type 0)
+    (Q : RequestReason → Type 0) → ((r : search.FindReason) → P r → Q (missed r)) → Applies k failed P
+    → Applies (by_search k) failed Q
 search_stands memory failed P Q then h = tt
 search_stands device failed P Q then h = h
 search_stands (because r) failed P Q then h = then r h
@@ -87,7 +90,8 @@ search_stands (because r) failed P Q then h = then r h
 -- ---- a file
 
 -- a stop, as a reason
-pub run_refused : (o : Option FileReason) (Runs' : Result Ran FileReason → Type 0) → IfSome o (λ stop. Runs' (Err stop)) → Applies (by_reason file_refused o) ⊥ (λ r. RefusedAs file_refused Runs' (Err r))
+pub run_refused : (o : Option FileReason) (Runs' : Result Ran FileReason → Type 0) → IfSome o (λ stop. Runs' (Err stop))
+    → Applies (by_reason file_refused o) ⊥ (λ r. RefusedAs file_refused Runs' (Err r))
 run_refused None Runs' h = tt
 run_refused (Some stop) Runs' h = (Err stop, h, refl)
 
@@ -110,7 +114,8 @@ ran_by : (c : FileContext) (trace : Trace) (ran : Ran) (x : Result (List Record)
 ran_by c trace ran (Err r) h = absurd (cc)
 ran_by c trace ran (Ok rs) h = made_by c trace ran rs (effects c.mode c.name rs c.before) refl h
 
-finished : (c : FileContext) (text : Text) (out : EvaluationOutcome Completion) (trace : Trace) (ran : Ran) → FinishesFile c text out trace (Ok ran) → effects c.mode c.name ran.records c.before ≡ Ok ran.env
+finished : (c : FileContext) (text : Text) (out : EvaluationOutcome Completion) (trace : Trace) (ran : Ran)
+    → FinishesFile c text out trace (Ok ran) → effects c.mode c.name ran.records c.before ≡ Ok ran.env
 finished c text (Ended (Normal result s)) trace ran (x, made, e) = let q : x ≡ ran = cc in ran_by c trace ran (records_in trace.records) (made ∙ ap Ok q)
 finished c text (Ended (Raised message s)) trace ran h = absurd (cc)
 finished c text (Ended (Returned result s)) trace ran h = absurd h
@@ -122,7 +127,8 @@ finished c text (Halted halt) trace ran h = absurd (cc)
 pub run_made : (limits : Limits) (c : FileContext) (text : Text) (ran : Ran) → RefusedAs file_refused (RunsFile limits c text) (Ok ran) → effects c.mode c.name ran.records c.before ≡ Ok ran.env
 run_made limits c text ran h = let k = run_ended (RunsFile limits c text) ran h in finished c text k.0 k.1.trace ran k.3
 
-permitted_same : (mode : Mode) (owner : Text) (rs : List Record) (e d : Environment) (o : Option RecordReason) → (effects mode owner rs e ≡ Ok d → d ≡ e) → and_then (permitted o (Ok e)) (effects mode owner rs) ≡ Ok d → d ≡ e
+permitted_same : (mode : Mode) (owner : Text) (rs : List Record) (e d : Environment) (o : Option RecordReason)
+    → (effects mode owner rs e ≡ Ok d → d ≡ e) → and_then (permitted o (Ok e)) (effects mode owner rs) ≡ Ok d → d ≡ e
 permitted_same mode owner rs e d None more k = more k
 permitted_same mode owner rs e d (Some reason) more k = absurd (cc)
 
@@ -148,7 +154,9 @@ unless_after f (Some r) x y h = ap (after f) h
 module _ (d : Done) (xs : List Entry) (m : Module) (messages : List Text) (mid : Environment) (made : effects load m.name m.records d.env ≡ Ok mid) where
   joined : (y : Result Environment RequestReason) → y ≡ added xs m mid → after (with_move d (Loads m) messages) y ≡ joins d xs m messages
   joined y h =
-      subst (λ z. after (with_move d (Loads m) messages) y ≡ unless (load_objection m.name m.records xs) (refused_as refused_edit (and_then z (entry_moved (Loads m))) >>= (λ e. Ok (with_move d (Loads m) messages e))))
+      subst (λ z. after (with_move d (Loads m) messages) y ≡ unless (load_objection m.name m.records xs)
+      (refused_as refused_edit (and_then z (entry_moved (Loads m))) >>=
+      (λ e. Ok (with_move d (Loads m) messages e))))
       (sym made) (unless_after (with_move d (Loads m) messages) (load_objection m.name m.records xs) (refused_as refused_edit (entry_moved (Loads m) mid)) y h)
 
   pub joins_ok : (e : Environment) → Ok e ≡ added xs m mid → Ok (with_move d (Loads m) messages e) ≡ joins d xs m messages

@@ -96,7 +96,8 @@ module _ {T : Type 0} {agrees : T → Files → Listings → Type 0} {failures :
         → TreeAnswer agrees failures failed old new view result Whole Wider
     widened view result First Whole Looks Wider h then wider = record {
       reads = h.reads;
-      over_tree = over_tree_same (agrees new) (failures old < failures new) (failures old < failures new) view result First Whole (λ q. q) (λ files listings o a k. then files listings o k) h.over_tree;
+      over_tree = over_tree_same (agrees new) (failures old < failures new) (failures old < failures new) view result
+          First Whole (λ q. q) (λ files listings o a k. then files listings o k) h.over_tree;
       failed_at = fails_last is_failure (failed old) (failed old) (failed new) result (λ at. InEachPair (agrees new) (λ files listings. Looks files listings at))
           (λ at. InEachPair (agrees new) (λ files listings. Wider files listings at)) refl (λ at k files listings a. wider files listings at (k files listings a)) h.failed_at;
     }
@@ -113,7 +114,8 @@ module _ {T : Type 0} {agrees : T → Files → Listings → Type 0} {failures :
     refused view e First Looks view' result Whole Wider (y, is, same) h then wider =
         subst (λ z. TreeAnswer agrees failures failed old new view' z Whole Wider) (sym (is ∙ ap Err same)) (record {
           reads = h.reads;
-          over_tree = over_tree_refused (agrees new) (failures old < failures new) (failures old < failures new) view view' e First Whole (λ q. q) (λ files listings r a k. then files listings r k) h.over_tree;
+          over_tree = over_tree_refused (agrees new) (failures old < failures new) (failures old < failures new) view
+              view' e First Whole (λ q. q) (λ files listings r a k. then files listings r k) h.over_tree;
           failed_at = fails_then (is_failure e) (is_failure e) (failed old) (failed old) (failed new) (λ at. InEachPair (agrees new) (λ files listings. Looks files listings at))
               (λ at. InEachPair (agrees new) (λ files listings. Wider files listings at)) refl refl (λ at k files listings a. wider files listings at (k files listings a)) h.failed_at;
         })
@@ -145,7 +147,8 @@ module _ {T : Type 0} {agrees : T → Files → Listings → Type 0} {failures :
     }
 
     -- another call over the tree
-    pub then_another : {X Y V W : Type 0} {last : T} (view : X → Y) (x : X) (First : Outcomes Y) (Looks : Paths) (view' : V → W) (result : Result V Refusal) (Second Whole : Outcomes W) (Looks' Wider : Paths)
+    pub then_another : {X Y V W : Type 0} {last : T} (view : X → Y) (x : X) (First : Outcomes Y) (Looks : Paths)
+        (view' : V → W) (result : Result V Refusal) (Second Whole : Outcomes W) (Looks' Wider : Paths)
         → TreeAnswer agrees failures failed old new view (Ok x) First Looks → TreeAnswer agrees failures failed new last view' result Second Looks'
         → ((files : Files) (listings : Listings) → First files listings (Ok (view x)) → (o : Result W RequestReason) → Second files listings o → Whole files listings o)
         → ((files : Files) (listings : Listings) → First files listings (Ok (view x)) → (at : Text) → Looks' files listings at → Wider files listings at)
@@ -164,7 +167,8 @@ module _ {T : Type 0} {agrees : T → Files → Listings → Type 0} {failures :
   module _ {W : Type 0} {Whole : Outcomes W} {Wider : Paths} where
     module _ {old mid : T} {Rest : Outcomes W} {Looks : Paths} (leads : Leads agrees failures failed old mid Rest Whole Looks Wider) where
       -- after one more
-      pub leads_on : {X Y : Type 0} {new : T} (view : X → Y) (x : X) (First : Outcomes Y) (Looks' : Paths) (Left : Outcomes W) (Looks-left : Paths) → TreeAnswer agrees failures failed mid new view (Ok x) First Looks'
+      pub leads_on : {X Y : Type 0} {new : T} (view : X → Y) (x : X) (First : Outcomes Y) (Looks' : Paths)
+          (Left : Outcomes W) (Looks-left : Paths) → TreeAnswer agrees failures failed mid new view (Ok x) First Looks'
           → ((files : Files) (listings : Listings) → First files listings (Ok (view x)) → (o : Result W RequestReason) → Left files listings o → Rest files listings o)
           → ((files : Files) (listings : Listings) → First files listings (Ok (view x)) → (at : Text) → Looks-left files listings at → Looks files listings at)
           → Leads agrees failures failed old new Left Whole Looks-left Wider
@@ -190,5 +194,7 @@ module _ {T : Type 0} {agrees : T → Files → Listings → Type 0} {failures :
           })
 
       -- where none is left
-      pub leads_last : {V : Type 0} (view : V → W) (v : V) → ((files : Files) (listings : Listings) → Rest files listings (Ok (view v))) → TreeAnswer agrees failures failed old mid view (Ok v) Whole Wider
+      pub leads_last : {V : Type 0} (view : V → W) (v : V)
+          → ((files : Files) (listings : Listings) → Rest files listings (Ok (view v)))
+          → TreeAnswer agrees failures failed old mid view (Ok v) Whole Wider
       leads_last view v h = record { reads = leads.reads; over_tree = λ files listings a. leads.comes files listings a (Ok (view v)) (h files listings); failed_at = leads.unfailed }

@@ -5,14 +5,16 @@ use Rattle.envvars.specs.Reasons.{reason_of}
 use Rattle.filetree.specs.Agreement.{Files, Listings}
 use Rattle.filetree.specs.Causes as causes
 use Rattle.filetree.specs.Causes.{Cause, Applies, memory, device, because}
-use Rattle.filetree.specs.declared.find_fault.FindFault.TheVariants as finds
+use Rattle.search.specs.declared.find_fault.FindFault.TheVariants as finds
 use Rattle.filetree.specs.declared.tree.TreeFault.{TreeFault}
 use Rattle.filetree.specs.declared.tree.TreeFault.TheVariants as trees
 use Rattle.modulefile.specs.Judgments.{bad_edit}
 use Rattle.search.specs.Answers.{cause_of as find_cause}
 use Rattle.modulerun.specs.Running.{file_reason_of}
 use Rattle.search.specs.Reasons as search
-use Rattle.requests.specs.Reasons.{RequestReason, bad_arguments, unknown_subcommand, missed, file_gone, not_a_modulefile, file_refused, conflict_with, prereq_missing, still_needed_by, refused_edit}
+use Rattle.requests.specs.Reasons.{RequestReason, bad_arguments, unknown_subcommand, missed, file_gone}
+use Rattle.requests.specs.Reasons.{not_a_modulefile, file_refused, conflict_with, prereq_missing, still_needed_by}
+use Rattle.requests.specs.Reasons.{refused_edit}
 use Rattle.modules.specs.declared.refusal.Refusal.{Refusal}
 use Rattle.modules.specs.declared.refusal.Refusal.TheVariants as refusals
 

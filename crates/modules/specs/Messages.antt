@@ -1,11 +1,14 @@
 -- The number and the text of each refusal (own): those of its layer's fault, or its own.
-use Rattle.std.specs.Prelude.{ℕ, ◌≡◌, ◌==◌, true, List, [], ◌∷◌, codes, string_bytes}
+use Rattle.std.specs.Prelude.{ℕ, ◌≡◌, ◌==◌, true, List, [], string_bytes}
 use Rattle.std.specs.List.{list_any}
 use Rattle.envvars.specs.Reasons as edits
 use Rattle.envvars.specs.Texts.{texts_in}
-use Rattle.filetree.specs.Answers.{find_message}
+use Rattle.search.specs.Answers as finds
 use Rattle.filetree.specs.Causes.{Cause, memory, device, because}
-use Rattle.message.specs.Messages.{Text, quoting, out_of_memory}
+use Rattle.message.specs.Messages.{Text}
+use Rattle.message.specs.Refusals.{NumberedText, about}
+use Rattle.message.specs.Refusals as table
+use Rattle.message.specs.declared.refusals.RefusalKind.TheVariants as kinds
 use Rattle.modulerun.specs.Messages as runs
 use Rattle.modulerun.specs.declared.run_fault.RunFault.{RunFault}
 use Rattle.modulerun.specs.declared.run_fault.RunFault.TheVariants as faults
@@ -19,29 +22,19 @@ use Rattle.modules.specs.declared.refusal.Refusal.TheVariants as refusals
 -- the number of a cause: for want of memory this one, 43 for a failed device, and else that of the step's reason
 abbrev pub number_by : ℕ → Cause RequestReason → ℕ
 number_by out_of_memory memory = out_of_memory
-number_by out_of_memory device = 43
+number_by out_of_memory device = table.number_of kinds.Device
 number_by out_of_memory (because reason) = reason_number reason
 
 -- the number of want of memory where a modulefile is run: 11 in its evaluation, and else 31
 abbrev pub run_memory_number : RunFault → ℕ
-run_memory_number faults.OutOfMemory = 31
-run_memory_number (faults.Eval fault) = 11
-run_memory_number faults.BadArguments = 31
-run_memory_number (faults.BadRecord fault) = 31
+run_memory_number (faults.Eval fault) = table.number_of kinds.MemoryForEvaluation
+run_memory_number fault = table.number_of kinds.MemoryForRequest
 
 -- the number of want of memory: 11 in the evaluation of a file, 41 in the search, and else 31
 abbrev pub memory_number : Refusal → ℕ
-memory_number refusals.OutOfMemory = 31
 memory_number (refusals.Run fault) = run_memory_number fault
-memory_number (refusals.Find fault) = 41
-memory_number (refusals.Env fault) = 31
-memory_number refusals.BadArguments = 31
-memory_number (refusals.UnknownSubcommand word) = 31
-memory_number (refusals.ConflictWith name) = 31
-memory_number (refusals.PrereqMissing missing) = 31
-memory_number (refusals.StillNeededBy name) = 31
-memory_number (refusals.FileGone path) = 31
-memory_number (refusals.NotAModulefile path) = 31
+memory_number (refusals.Find fault) = table.number_of kinds.MemoryForSearch
+memory_number refusal = table.number_of kinds.MemoryForRequest
 
 -- where the refusal is want of memory, its number is one of these
 abbrev pub MemoryNumberAmong : List ℕ → Refusal → Type 0
@@ -63,16 +56,20 @@ memory_numbers (whatis names) = 11 ∷ 31 ∷ 41 ∷ []
 abbrev pub number_of : Refusal → ℕ
 number_of refusal = number_by (memory_number refusal) (cause_of refusal)
 
+-- each refusal as the table has it
+abbrev pub refusal_of : Refusal → NumberedText
+refusal_of refusals.OutOfMemory = about kinds.MemoryForRequest []
+refusal_of (refusals.Run fault) = runs.refusal_of fault
+refusal_of (refusals.Find fault) = finds.refusal_of fault
+refusal_of (refusals.Env fault) = edits.refusal_of fault
+refusal_of refusals.BadArguments = about kinds.BadArguments []
+refusal_of (refusals.UnknownSubcommand word) = about kinds.UnknownSubcommand (string_bytes word)
+refusal_of (refusals.ConflictWith name) = about kinds.ConflictWith (string_bytes name)
+refusal_of (refusals.PrereqMissing missing) = about kinds.PrereqMissing (spaced (texts_in missing.names))
+refusal_of (refusals.StillNeededBy name) = about kinds.StillNeededBy (string_bytes name)
+refusal_of (refusals.FileGone path) = about kinds.FileGone (string_bytes path)
+refusal_of (refusals.NotAModulefile path) = about kinds.NotAModulefile (string_bytes path)
+
 -- the text of each refusal
 abbrev pub message_of : Refusal → Text
-message_of refusals.OutOfMemory = out_of_memory
-message_of (refusals.Run fault) = runs.message_of fault
-message_of (refusals.Find fault) = find_message fault
-message_of (refusals.Env fault) = edits.message_of fault
-message_of refusals.BadArguments = codes "Bad arguments"
-message_of (refusals.UnknownSubcommand word) = quoting (codes "Unknown subcommand '") (string_bytes word)
-message_of (refusals.ConflictWith name) = quoting (codes "Conflict with '") (string_bytes name)
-message_of (refusals.PrereqMissing missing) = quoting (codes "Missing one of '") (spaced (texts_in missing.names))
-message_of (refusals.StillNeededBy name) = quoting (codes "Still needed by '") (string_bytes name)
-message_of (refusals.FileGone path) = quoting (codes "No file at '") (string_bytes path)
-message_of (refusals.NotAModulefile path) = quoting (codes "Not a modulefile: '") (string_bytes path)
+message_of refusal = (refusal_of refusal).text

@@ -29,7 +29,7 @@ use Rattle.requests.specs.Steps.{with_report, shown_text, described_text, LoadsN
 use Rattle.requests.specs.Verdicts.{Verdict, verdict_of}
 use Rattle.modules.specs.Answers.{StepAnswersOverTree, is_failure}
 use Rattle.modules.specs.declared.refusal.Refusal.{Refusal}
-use Rattle.modules.specs.declared.progress.Progress.{Progress}
+use Rattle.modules.specs.declared.progress.RequestProgress.{RequestProgress}
 use Rattle.modules.specs.declared.one_name.NameRequest.{NameRequest}
 use Rattle.modules.specs.declared.one_name.ReportKind.{ReportKind}
 use Rattle.modules.specs.declared.one_name.ReportKind.TheVariants.{Show, Whatis}
@@ -45,7 +45,7 @@ abbrev pub AreEntriesOf : List Entry → Environment → Type 0
 AreEntriesOf xs e = Ok xs ≡ entries_of e
 
 -- that is so of the list of a request in progress
-abbrev pub IsListedIn : Progress → Environment → Type 0
+abbrev pub IsListedIn : RequestProgress → Environment → Type 0
 IsListedIn progress e = AreEntriesOf (entries_view progress.entries) e
 
 -- What a call over a tree keeps of it, what it answers, and at which paths it may have failed.

@@ -5,16 +5,16 @@ use Rattle.envvars.specs.Texts.{texts_in}
 use Rattle.envvars.specs.Changes.{applied, new_values_in}
 use Rattle.modules.specs.MoveViews.{moves_of}
 use Rattle.modules.specs.Views.{done_view}
-use Rattle.modules.specs.declared.reply.Changed.{Changed}
+use Rattle.modules.specs.declared.reply.RequestChanges.{RequestChanges}
 use Rattle.modules.specs.declared.reply.Reply.{Reply}
 use Rattle.requests.specs.Steps.{Done}
 
 -- the environment with these changes made in it
-abbrev pub changed_env : Environment → Changed → Environment
+abbrev pub changed_env : Environment → RequestChanges → Environment
 changed_env e changed = applied (new_values_in changed.changes) e
 
 -- what was done, with the environment that its changes make
-abbrev pub changed_view : Environment → Changed → Done
+abbrev pub changed_view : Environment → RequestChanges → Done
 changed_view e changed = done_view changed.done (changed_env e changed)
 
 -- what was done, with the environment that results

@@ -16,7 +16,7 @@ use Rattle.modules.specs.Answers.{cause_of, is_failure}
 use Rattle.modules.specs.Messages.{number_of}
 use Rattle.modules.specs.MoveViews.{moves_of}
 use Rattle.modules.specs.Views.{done_view}
-use Rattle.modules.specs.declared.done.Done.{Done}
+use Rattle.modules.specs.declared.done.RequestResults.{RequestResults}
 use Rattle.modules.specs.declared.sessions.Outcome.{Outcome}
 use Rattle.modules.specs.declared.sessions.Outcome.TheVariants.{Accepted, Refused}
 
@@ -26,7 +26,7 @@ accepted_in e (Ok new) = new
 accepted_in e (Err reason) = e
 
 -- the environment that the moves of a request make
-abbrev pub env_after_moves : Environment → Done → Environment
+abbrev pub env_after_moves : Environment → RequestResults → Environment
 env_after_moves e done = accepted_in e (all_moved (moves_of done.moves) e)
 
 -- a refusal as a response: given up by its number where its cause is no reason of the step

@@ -6,7 +6,7 @@ use Rattle.filetree.specs.Agreement.{Files, Listings}
 use Rattle.requests.specs.Steps as steps
 use Rattle.requests.specs.Steps.{RequestContext, request_context_in}
 use Rattle.modules.specs.declared.settings.EvaluationSettings.{EvaluationSettings}
-use Rattle.modules.specs.declared.done.Done.{Done}
+use Rattle.modules.specs.declared.done.RequestResults.{RequestResults}
 use Rattle.modules.specs.MoveViews.{moves_of}
 
 -- what a request is run over
@@ -14,7 +14,7 @@ abbrev pub request_context_of : EvaluationSettings → Files → Listings → Re
 request_context_of settings files listings = request_context_in settings.limits settings.shell files listings
 
 -- what was done, with what it made of the environment
-abbrev pub done_view : Done → Environment → steps.Done
+abbrev pub done_view : RequestResults → Environment → steps.Done
 done_view done env =
     record {
       env = env;

@@ -30,7 +30,7 @@ pub enum Move {
 
 /// What a request has done besides what it made of the variables.
 #[derive(Drop)]
-pub struct Done {
+pub struct RequestResults {
     /// The full names of the modules that it loaded, in order.
     pub loaded: Vec<String>,
     /// The messages of its files.
@@ -53,16 +53,16 @@ fn push_loaded(names: &mut Vec<String>, new_move: Move) -> Result<(), AllocError
     }
 }
 
-impl Done {
+impl RequestResults {
     ghost use Rattle.envvars.specs.Environment.{Environment};
     ghost use Rattle.requests.specs.Steps.{nothing_done, with_move, with_report};
     ghost use Rattle.modules.specs.Views.{done_view};
 
     /// Nothing done yet.
-    pub(crate) fn new(alloc: Global) -> Done
+    pub(crate) fn new(alloc: Global) -> RequestResults
         ensures { (env : Environment) → done_view result env ≡ nothing_done env }
     {
-        Done {
+        RequestResults {
             loaded: Vec::new(alloc),
             messages: Vec::new(alloc),
             report: String::new(alloc),

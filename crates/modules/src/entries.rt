@@ -132,7 +132,6 @@ fn judge(
     }
 }
 
-/// The names, each once.
 fn once(alloc: Global, names: &[&str]) -> Result<Vec<String>, AllocError>
     ensures { IfOk result (λ v. texts_in v ≡ without_repeats (slice_texts names.now)) }
 {

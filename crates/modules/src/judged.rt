@@ -9,7 +9,7 @@ ghost use Rattle.requests.specs.Verdicts.{verdict_of};
 ghost use Rattle.modules.specs.Verdicts.{verdict_view};
 
 use modulefile::{PathEdit, Record};
-use modulerun::Ran;
+use modulerun::FileRun;
 
 /// What one evaluation of a modulefile shows about every other one.
 #[derive(Clone, Copy, Debug, PartialEq, Eq)]
@@ -44,7 +44,7 @@ pub fn are_reversible(records: &[Record]) -> bool
 }
 
 /// The verdict on a file whose evaluation had this result.
-pub(crate) fn verdict_on(ran: &Ran) -> Verdict
+pub(crate) fn verdict_on(ran: &FileRun) -> Verdict
     ensures { (e : Environment) → verdict_view result ≡ verdict_of (ran_view ran.now e) }
 {
     if ran.asked {

@@ -14,23 +14,24 @@ ghost use Rattle.requests.specs.Steps.{entries_of, Finds, LoadsFound, LoadsName,
 ghost use Rattle.requests.specs.Looked.{SearchLooksAt, LoadLooksAt, UnloadLooksAt, ShowLooksAt};
 ghost use Rattle.modules.specs.Views.{request_context_of, done_view};
 ghost use Rattle.modules.specs.Answers.{GivesOrRefuses};
-ghost use Rattle.modules.specs.Parts.{IsListedIn, TreeAnswer, entries_view, file_context, ReadsEntry, FindsLoaded, LoadedLooksAt, UnloadsFound, ReportsFound, report_mode, report_text};
+ghost use Rattle.modules.specs.Parts.{IsListedIn, TreeAnswer, entries_view, file_context, ReadsEntry, FindsLoaded};
+ghost use Rattle.modules.specs.Parts.{LoadedLooksAt, UnloadsFound, ReportsFound, report_mode, report_text};
 
 use crate::done::{Module, Move};
 use crate::entries::{join_loaded, modulepath, names_of};
-use crate::progress::Progress;
+use crate::progress::RequestProgress;
 use crate::refusal::Refusal;
 use crate::scripts::script_at;
 use crate::settings::EvaluationSettings;
 use envloaded::{Loaded, drop_from_list, is_loaded};
 use envvars::Vars;
-use filetree::{FindFault, Tree};
-use lookup::Evaluated;
+use filetree::Tree;
+use lookup::EvaluatedDefaultFiles;
 use modulefile::Mode;
 use modulename::is_module_name;
-use modulerun::{FileContext, Ran, run_file};
+use modulerun::{FileContext, FileRun, run_file};
 use requests::{last_meant, show_report, whatis_report};
-use search::{Found, locate};
+use search::{FindFault, LocatedModule, locate};
 use std::alloc::{AllocError, Global};
 
 /// One name of a request, with what its module's file is evaluated under.
@@ -54,7 +55,7 @@ pub(crate) struct ModuleFile<'a> {
 
 impl<'a> ModuleFile<'a> {
     /// The file of a module that was found.
-    pub(crate) fn of(found: &'a Found) -> ModuleFile<'a>
+    pub(crate) fn of(found: &'a LocatedModule) -> ModuleFile<'a>
         ensures name { result.name.now ≡ string_bytes found.entry.now.name }
         ensures path { result.path.now ≡ string_bytes found.entry.now.path }
         ensures text { result.text.now ≡ string_bytes found.entry.now.text }
@@ -82,14 +83,14 @@ pub(crate) fn find_module<T: Tree, V: Vars>(
     name_request: NameRequest<'_>,
     env: &V,
     tree: &mut T,
-) -> Result<Found, Refusal>
+) -> Result<LocatedModule, Refusal>
     ensures { TreeAnswer T.agrees T.failures T.failed tree.old tree.new found_view result
         (λ files listings. Finds (request_context_of name_request.entry.settings files listings)
         (V.vars env.now) name_request.entry.typed.now)
         (λ files listings. SearchLooksAt (request_context_of name_request.entry.settings files listings)
         (V.vars env.now) name_request.entry.typed.now) }
 {
-    let default_files = Evaluated {
+    let default_files = EvaluatedDefaultFiles {
         limits: name_request.settings.limits,
     };
     Ok(locate(
@@ -109,7 +110,7 @@ pub(crate) fn evaluate<V: Vars>(
     entries: &[Loaded],
     file: ModuleFile<'_>,
     env: &mut V,
-) -> Result<Ran, Refusal>
+) -> Result<FileRun, Refusal>
     ensures given { GivesOrRefuses (λ ran. ran_view ran (V.vars env.new)) result (RefusedAs file_refused
         (RunsFile name_request.entry.settings.limits (file_context name_request.entry
         (mode_view mode) file.entry.name.now
@@ -140,9 +141,9 @@ pub(crate) fn evaluate<V: Vars>(
 fn load_found<V: Vars>(
     alloc: Global,
     name_request: NameRequest<'_>,
-    found: Found,
+    found: LocatedModule,
     env: &mut V,
-    progress: &mut Progress,
+    progress: &mut RequestProgress,
 ) -> Result<(), Refusal>
     requires { IsListedIn progress.old (V.vars env.old) }
     ensures given { (files : Files) (listings : Listings)
@@ -186,7 +187,7 @@ pub(crate) fn load_name<T: Tree, V: Vars>(
     name_request: NameRequest<'_>,
     env: &mut V,
     tree: &mut T,
-    progress: &mut Progress,
+    progress: &mut RequestProgress,
 ) -> Result<(), Refusal>
     requires { IsListedIn progress.old (V.vars env.old) }
     ensures loaded { TreeAnswer T.agrees T.failures T.failed tree.old tree.new
@@ -206,12 +207,16 @@ pub(crate) fn load_name<T: Tree, V: Vars>(
 }
 
 /// The module of an entry, with the script in the file at its recorded path.
-fn read_entry<T: Tree>(alloc: Global, entry: &Loaded, tree: &mut T) -> Result<Found, Refusal>
+fn read_entry<T: Tree>(
+    alloc: Global,
+    entry: &Loaded,
+    tree: &mut T,
+) -> Result<LocatedModule, Refusal>
     ensures { TreeAnswer T.agrees T.failures T.failed tree.old tree.new found_view result
         (λ files listings. ReadsEntry files (entry_view entry.now))
         (λ files listings at. at ≡ string_bytes entry.now.path) }
 {
-    Ok(Found {
+    Ok(LocatedModule {
         name: String::from_str(alloc, entry.name.as_str())?,
         path: String::from_str(alloc, entry.path.as_str())?,
         text: script_at(alloc, tree, entry.path.as_str())?,
@@ -224,7 +229,7 @@ fn find_loaded<T: Tree>(
     typed: &str,
     entries: &[Loaded],
     tree: &mut T,
-) -> Result<Option<Found>, Refusal>
+) -> Result<Option<LocatedModule>, Refusal>
     ensures { TreeAnswer T.agrees T.failures T.failed tree.old tree.new (option_map found_view) result
         (λ files listings. FindsLoaded files typed.now (map entry_view entries.now))
         (λ files listings. LoadedLooksAt typed.now (map entry_view entries.now)) }
@@ -243,9 +248,9 @@ fn find_loaded<T: Tree>(
 fn unload_found<V: Vars>(
     alloc: Global,
     name_request: NameRequest<'_>,
-    found: Found,
+    found: LocatedModule,
     env: &mut V,
-    progress: &mut Progress,
+    progress: &mut RequestProgress,
 ) -> Result<(), Refusal>
     requires { IsListedIn progress.old (V.vars env.old) }
     ensures given { GivesOrRefuses (λ u. done_view progress.new.done (V.vars env.new)) result
@@ -284,7 +289,7 @@ pub(crate) fn unload_name<T: Tree, V: Vars>(
     name_request: NameRequest<'_>,
     env: &mut V,
     tree: &mut T,
-    progress: &mut Progress,
+    progress: &mut RequestProgress,
 ) -> Result<(), Refusal>
     requires { IsListedIn progress.old (V.vars env.old) }
     ensures unloaded { TreeAnswer T.agrees T.failures T.failed tree.old tree.new
@@ -316,8 +321,8 @@ fn mode_of_report(report_kind: ReportKind) -> Mode
 fn report_on(
     alloc: Global,
     report_kind: ReportKind,
-    found: &Found,
-    ran: &Ran,
+    found: &LocatedModule,
+    ran: &FileRun,
 ) -> Result<String, AllocError>
     ensures { IfOk result (λ t. string_bytes t ≡ report_text report_kind (found_view found.now)
         (map record_view ran.now.records.items)) }
@@ -333,9 +338,9 @@ fn report_found<V: Vars>(
     alloc: Global,
     name_request: NameRequest<'_>,
     report_kind: ReportKind,
-    found: &Found,
+    found: &LocatedModule,
     env: &mut V,
-    progress: &mut Progress,
+    progress: &mut RequestProgress,
 ) -> Result<(), Refusal>
     requires { IsListedIn progress.old (V.vars env.old) }
     ensures given { GivesOrRefuses (λ u. done_view progress.new.done (V.vars env.new)) result
@@ -369,7 +374,7 @@ pub(crate) fn report_name<T: Tree, V: Vars>(
     typed: &str,
     env: &mut V,
     tree: &mut T,
-    progress: &mut Progress,
+    progress: &mut RequestProgress,
 ) -> Result<(), Refusal>
     requires { IsListedIn progress.old (V.vars env.old) }
     ensures reported { TreeAnswer T.agrees T.failures T.failed tree.old tree.new

@@ -7,7 +7,7 @@ ghost use Rattle.modules.specs.Answers.{GivesOrRefuses};
 ghost use Rattle.modules.specs.Views.{done_view};
 ghost use Rattle.modules.specs.Parts.{IsListedIn, entries_view};
 
-use crate::done::Done;
+use crate::done::RequestResults;
 use crate::refusal::Refusal;
 use envloaded::{Loaded, copy_list};
 use requests::first_lost;
@@ -15,27 +15,27 @@ use std::alloc::{AllocError, Global};
 
 /// How far a request has come.
 #[derive(Drop)]
-pub(crate) struct Progress {
+pub(crate) struct RequestProgress {
     /// The modules that are loaded now, in load order.
     pub(crate) entries: Vec<Loaded>,
     /// What was done.
-    pub(crate) done: Done,
+    pub(crate) done: RequestResults,
 }
 
-impl Progress {
+impl RequestProgress {
     /// Nothing done yet, where these modules are loaded.
-    pub(crate) fn new(alloc: Global, before: &[Loaded]) -> Result<Progress, AllocError>
+    pub(crate) fn new(alloc: Global, before: &[Loaded]) -> Result<RequestProgress, AllocError>
         ensures entries { IfOk result (λ progress. entries_view progress.entries ≡ map entry_view before.now) }
         ensures done { IfOk result (λ progress. (env : Environment) → done_view progress.done env ≡ nothing_done env) }
     {
-        Ok(Progress {
+        Ok(RequestProgress {
             entries: copy_list(alloc, before)?,
-            done: Done::new(alloc),
+            done: RequestResults::new(alloc),
         })
     }
 
     /// What was done, unless a module that was loaded before, and is now, has lost what it needs (53).
-    pub(crate) fn end(self, alloc: Global, before: &[Loaded]) -> Result<Done, Refusal>
+    pub(crate) fn end(self, alloc: Global, before: &[Loaded]) -> Result<RequestResults, Refusal>
         ensures { (env : Environment) → IsListedIn self env
             → GivesOrRefuses (λ done. done_view done env) result
             (EndsRequest (map entry_view before.now) (done_view self.done env)) }

@@ -1,17 +1,18 @@
 //! Why a request is refused, with the number and the text of each refusal.
 ghost use Rattle.std.specs.Prelude.{◌≡◌, Some};
-ghost use Rattle.message.specs.Messages.{text_of};
+ghost use Rattle.message.specs.Refusals.{numbered_text};
 ghost use Rattle.modules.specs.declared.refusal.Refusal.TheVariants as refusals;
 ghost use Rattle.modulerun.specs.Running.{file_reason_of};
 ghost use Rattle.requests.specs.Reasons.{file_refused};
 ghost use Rattle.modules.specs.Answers.{by_reason, refused_read};
-ghost use Rattle.modules.specs.Messages.{number_by, number_of, message_of, run_memory_number};
+ghost use Rattle.modules.specs.Messages.{number_by, number_of, refusal_of, run_memory_number};
 
 use crate::missing::MissingNames;
 use envvars::EnvFault;
-use filetree::{FindFault, TreeFault};
-use message::{Message, out_of_memory};
+use filetree::TreeFault;
+use message::{NumberedMessage, RefusalKind};
 use modulerun::RunFault;
+use search::FindFault;
 use std::alloc::{AllocError, AllocFailed};
 use std::error::Error;
 use std::fmt;
@@ -52,57 +53,53 @@ fn run_number(fault: &RunFault) -> u16
 }
 
 impl Refusal {
+    /// The number of the refusal and its text.
+    pub fn numbered(&self) -> NumberedMessage<'_>
+        ensures { numbered_text result ≡ refusal_of self.now }
+    {
+        match self {
+            Refusal::OutOfMemory => RefusalKind::MemoryForRequest.plain(),
+            Refusal::Run(fault) => fault.numbered(),
+            Refusal::Find(fault) => fault.numbered(),
+            Refusal::Env(fault) => fault.numbered(),
+            Refusal::BadArguments => RefusalKind::BadArguments.plain(),
+            Refusal::UnknownSubcommand(word) => {
+                RefusalKind::UnknownSubcommand.naming(word.as_str())
+            }
+            Refusal::ConflictWith(name) => RefusalKind::ConflictWith.naming(name.as_str()),
+            Refusal::PrereqMissing(missing) => RefusalKind::PrereqMissing.naming(missing.text()),
+            Refusal::StillNeededBy(name) => RefusalKind::StillNeededBy.naming(name.as_str()),
+            Refusal::FileGone(path) => RefusalKind::FileGone.naming(path.as_str()),
+            Refusal::NotAModulefile(path) => RefusalKind::NotAModulefile.naming(path.as_str()),
+        }
+    }
+
     /// The number of the refusal: that of its reason, or 43 for a failed device, or for want of memory 11 in the
     /// evaluation of a file, 41 in the search, and else 31.
     pub fn number(&self) -> u16
         ensures { result ≡ number_of self.now }
     {
         match self {
-            Refusal::OutOfMemory => 31,
             Refusal::Run(fault) => run_number(fault),
             Refusal::Find(fault) => fault.number(),
             Refusal::Env(fault) => fault.number(),
-            Refusal::BadArguments => 56,
-            Refusal::UnknownSubcommand(_) => 57,
-            Refusal::ConflictWith(_) => 51,
-            Refusal::PrereqMissing(_) => 52,
-            Refusal::StillNeededBy(_) => 53,
-            Refusal::FileGone(_) => 54,
-            Refusal::NotAModulefile(_) => 55,
-        }
-    }
-
-    /// The text of the refusal.
-    pub fn message(&self) -> Message<'_>
-        ensures { text_of result ≡ message_of self.now }
-    {
-        match self {
-            Refusal::OutOfMemory => out_of_memory(),
-            Refusal::Run(fault) => fault.message(),
-            Refusal::Find(fault) => fault.message(),
-            Refusal::Env(fault) => fault.message(),
-            Refusal::BadArguments => Message::of_text("Bad arguments"),
-            Refusal::UnknownSubcommand(word) => {
-                Message::quoting("Unknown subcommand '", word.as_str())
-            }
-            Refusal::ConflictWith(name) => Message::quoting("Conflict with '", name.as_str()),
-            Refusal::PrereqMissing(missing) => {
-                Message::quoting("Missing one of '", missing.text())
-            }
-            Refusal::StillNeededBy(name) => Message::quoting("Still needed by '", name.as_str()),
-            Refusal::FileGone(path) => Message::quoting("No file at '", path.as_str()),
-            Refusal::NotAModulefile(path) => {
-                Message::quoting("Not a modulefile: '", path.as_str())
-            }
+            Refusal::OutOfMemory
+            | Refusal::BadArguments
+            | Refusal::UnknownSubcommand(_)
+            | Refusal::ConflictWith(_)
+            | Refusal::PrereqMissing(_)
+            | Refusal::StillNeededBy(_)
+            | Refusal::FileGone(_)
+            | Refusal::NotAModulefile(_) => self.numbered().number,
         }
     }
 }
 
 impl fmt::Display for Refusal {
-    ghost output = { λ refusal. Some (message_of refusal) };
+    ghost output = { λ refusal. Some (refusal_of refusal).text };
 
     fn fmt<W: fmt::Write>(&self, f: &mut fmt::Formatter<W>) -> fmt::Result {
-        self.message().fmt(f)
+        self.numbered().message.fmt(f)
     }
 }
 

@@ -4,17 +4,17 @@ ghost use Rattle.envvars.specs.Texts.{texts_in};
 ghost use Rattle.modulefile.specs.Moves.{loaded_names};
 ghost use Rattle.modules.specs.MoveViews.{moves_of};
 
-use crate::done::{Done, Move};
+use crate::done::{Move, RequestResults};
 use envvars::{Change, Env};
 use std::snapshot::Snapshot;
 
 /// What an accepted request changes, and what it did besides.
 #[derive(Drop)]
-pub struct Changed {
+pub struct RequestChanges {
     /// Each variable that has another value now, or is now set or unset: once, in the order of bytes.
     pub changes: Vec<Change>,
     /// What the request did besides.
-    pub done: Done,
+    pub done: RequestResults,
 }
 
 /// The environment that results of an accepted request, and what the request did besides.

@@ -10,9 +10,9 @@ ghost use Rattle.modules.specs.Messages.{memory_numbers, MemoryNumberAmong};
 ghost use Rattle.modules.specs.Replies.{changed_env, changed_view, reply_view};
 
 use crate::refusal::Refusal;
-use crate::reply::{Changed, Reply};
+use crate::reply::{Reply, RequestChanges};
 use crate::step::step;
-use envvars::{Env, Vars, Working};
+use envvars::{Env, Vars, WorkingCopy};
 use filetree::Tree;
 use requests::Request;
 use std::alloc::Global;
@@ -30,7 +30,7 @@ pub fn run_changes<T: Tree>(
     env: &Env,
     tree: &mut T,
     limits: Limits,
-) -> Result<Changed, Refusal>
+) -> Result<RequestChanges, Refusal>
     ensures reads { ReadsOn T.agrees T.failures tree.old tree.new }
     ensures over_tree { StepAnswersOverTree (T.agrees tree.new) (T.failures tree.old < T.failures tree.new)
         (changed_view env.now) result
@@ -45,10 +45,10 @@ pub fn run_changes<T: Tree>(
         (action_view request.now.action) at)) }
 {
     envvars::laws::changes();
-    let mut working = Working::over(env);
+    let mut working = WorkingCopy::over(env);
     let done = step(alloc, request, &mut working, tree, limits)?;
     let changes = working.into_changes()?;
-    Ok(Changed { changes, done })
+    Ok(RequestChanges { changes, done })
 }
 
 /// Runs a request as `run_changes` does, and answers the environment that results. It costs a copy of the environment
@@ -71,7 +71,7 @@ pub fn run<T: Tree>(
         RequestLooksAt (request_context_in limits request.now.shell files listings) env.now
         (action_view request.now.action) at)) }
 {
-    let Changed { changes, done } = run_changes(alloc, request, env, tree, limits)?;
+    let RequestChanges { changes, done } = run_changes(alloc, request, env, tree, limits)?;
     let mut after = env.copy()?;
     after.apply(changes)?;
     Ok(Reply {

@@ -7,8 +7,8 @@ ghost use Rattle.requests.specs.Steps.{script_at};
 ghost use Rattle.modules.specs.Answers.{StepAnswersOverTree, is_failure};
 
 use crate::refusal::Refusal;
-use filetree::{FindFault, Tree};
-use search::{FileContent, read_modulefile};
+use filetree::Tree;
+use search::{FileContent, FindFault, read_modulefile};
 use std::alloc::Global;
 
 /// The script in the file at a path.

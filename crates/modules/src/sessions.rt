@@ -11,9 +11,9 @@ ghost use Rattle.modules.specs.Views.{done_view};
 ghost use Rattle.modules.specs.declared.refusal.Refusal.TheVariants as refusals;
 ghost use Rattle.modules.specs.Responses.{response_of, responses, has_failed, count_failed, Returns};
 
-use crate::done::Done;
+use crate::done::RequestResults;
 use crate::refusal::Refusal;
-use crate::reply::Changed;
+use crate::reply::RequestChanges;
 use crate::running::run_changes;
 use envvars::{Env, Vars};
 use filetree::Tree;
@@ -25,7 +25,7 @@ use tclrules::Limits;
 #[derive(Drop)]
 pub enum Outcome {
     /// It was accepted, and its changes were made: the names that it loaded, its messages and its report.
-    Accepted(Done),
+    Accepted(RequestResults),
     /// It was refused, and nothing was changed.
     Refused(Refusal),
 }
@@ -37,7 +37,7 @@ fn change<T: Tree>(
     env: &mut Env,
     tree: &mut T,
     limits: Limits,
-) -> Result<Done, Refusal>
+) -> Result<RequestResults, Refusal>
     ensures reads { ReadsOn T.agrees T.failures tree.old tree.new }
     ensures over_tree { StepAnswersOverTree (T.agrees tree.new) (T.failures tree.old < T.failures tree.new)
         (λ done. done_view done env.new) result
@@ -49,7 +49,7 @@ fn change<T: Tree>(
         RequestLooksAt (request_context_in limits request.now.shell files listings) env.old
         (action_view request.now.action) at)) }
 {
-    let Changed { changes, done } = run_changes(alloc, request, env, tree, limits)?;
+    let RequestChanges { changes, done } = run_changes(alloc, request, env, tree, limits)?;
     env.apply(changes)?;
     Ok(done)
 }

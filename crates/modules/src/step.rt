@@ -14,24 +14,26 @@ ghost use Rattle.requests.specs.Requests as actions;
 ghost use Rattle.requests.specs.Reports.{loaded_text};
 ghost use Rattle.requests.specs.RequestViews.{action_view};
 ghost use Rattle.requests.specs.Steps as steps;
-ghost use Rattle.requests.specs.Steps.{nothing_done, Each, EndsRequest, NeedsNames, ChangesLoaded, ShowsNames, ListsLoaded, ListsAll, RequestStep, request_context_in};
+ghost use Rattle.requests.specs.Steps.{nothing_done, Each, EndsRequest, NeedsNames, ChangesLoaded, ShowsNames};
+ghost use Rattle.requests.specs.Steps.{ListsLoaded, ListsAll, RequestStep, request_context_in};
 ghost use Rattle.requests.specs.Looked.{PurgeLooksAt, SwitchLooksAt, RequestLooksAt};
 ghost use Rattle.modules.specs.Views.{request_context_of, done_view};
 ghost use Rattle.modules.specs.Answers.{GivesOrRefuses, StepAnswersOverTree, is_failure};
 ghost use Rattle.modules.specs.Messages.{MemoryNumberAmong, memory_numbers};
-ghost use Rattle.modules.specs.Parts.{AreEntriesOf, IsListedIn, TreeAnswer, report_mode, report_text, NameActionStep, NameActionLooksAt, EachActionLooksAt};
+ghost use Rattle.modules.specs.Parts.{AreEntriesOf, IsListedIn, TreeAnswer, report_mode, report_text, NameActionStep};
+ghost use Rattle.modules.specs.Parts.{NameActionLooksAt, EachActionLooksAt};
 ghost use Rattle.modules.specs.declared.step.NameAction.TheVariants.{ReportOn};
 
-use crate::done::Done;
+use crate::done::RequestResults;
 use crate::entries::{entries_of, modulepath, names_of};
 use crate::one_name::{NameRequest, ReportKind, load_name, report_name, unload_name};
-use crate::progress::Progress;
+use crate::progress::RequestProgress;
 use crate::refusal::Refusal;
 use crate::settings::EvaluationSettings;
 use envloaded::Loaded;
 use envvars::Vars;
 use filetree::Tree;
-use lookup::Evaluated;
+use lookup::EvaluatedDefaultFiles;
 use requests::{Action, Request, avail_report, list_report};
 use search::available;
 use std::alloc::{AllocError, Global};
@@ -56,7 +58,7 @@ fn act_on_name<T: Tree, V: Vars>(
     typed: &str,
     env: &mut V,
     tree: &mut T,
-    progress: &mut Progress,
+    progress: &mut RequestProgress,
 ) -> Result<(), Refusal>
     requires { IsListedIn progress.old (V.vars env.old) }
     ensures done { TreeAnswer T.agrees T.failures T.failed tree.old tree.new
@@ -90,7 +92,7 @@ fn act_on_each<T: Tree, V: Vars>(
     names: &[String],
     env: &mut V,
     tree: &mut T,
-    progress: &mut Progress,
+    progress: &mut RequestProgress,
 ) -> Result<(), Refusal>
     requires { IsListedIn progress.old (V.vars env.old) }
     ensures done { TreeAnswer T.agrees T.failures T.failed tree.old tree.new
@@ -125,7 +127,7 @@ fn change_each<T: Tree, V: Vars>(
     before: &[Loaded],
     env: &mut V,
     tree: &mut T,
-) -> Result<Done, Refusal>
+) -> Result<RequestResults, Refusal>
     requires { AreEntriesOf (map entry_view before.now) (V.vars env.old) }
     ensures done { TreeAnswer T.agrees T.failures T.failed tree.old tree.new
         (λ done. done_view done (V.vars env.new)) result
@@ -136,7 +138,7 @@ fn change_each<T: Tree, V: Vars>(
         (map string_bytes names.now) (nothing_done (V.vars env.old))) }
     ensures base { V.base env.new ≡ V.base env.old }
 {
-    let mut progress = Progress::new(alloc, before)?;
+    let mut progress = RequestProgress::new(alloc, before)?;
     act_on_each(
         alloc,
         settings,
@@ -157,7 +159,7 @@ fn change_names<T: Tree, V: Vars>(
     names: &[String],
     env: &mut V,
     tree: &mut T,
-) -> Result<Done, Refusal>
+) -> Result<RequestResults, Refusal>
     ensures done { TreeAnswer T.agrees T.failures T.failed tree.old tree.new
         (λ done. done_view done (V.vars env.new)) result
         (λ files listings. NeedsNames (map string_bytes names.now) (ChangesLoaded (V.vars env.old)
@@ -197,7 +199,7 @@ fn purge<T: Tree, V: Vars>(
     settings: EvaluationSettings,
     env: &mut V,
     tree: &mut T,
-) -> Result<Done, Refusal>
+) -> Result<RequestResults, Refusal>
     ensures done { TreeAnswer T.agrees T.failures T.failed tree.old tree.new
         (λ done. done_view done (V.vars env.new)) result
         (λ files listings. RequestStep (request_context_of settings files listings) (V.vars env.old) actions.purge)
@@ -245,7 +247,7 @@ fn switch_names<T: Tree, V: Vars>(
     new: &str,
     env: &mut V,
     tree: &mut T,
-    progress: &mut Progress,
+    progress: &mut RequestProgress,
 ) -> Result<(), Refusal>
     requires { IsListedIn progress.old (V.vars env.old) }
     ensures done { TreeAnswer T.agrees T.failures T.failed tree.old tree.new
@@ -279,7 +281,7 @@ fn switch<T: Tree, V: Vars>(
     new: &str,
     env: &mut V,
     tree: &mut T,
-) -> Result<Done, Refusal>
+) -> Result<RequestResults, Refusal>
     ensures done { TreeAnswer T.agrees T.failures T.failed tree.old tree.new
         (λ done. done_view done (V.vars env.new)) result
         (λ files listings. RequestStep (request_context_of settings files listings) (V.vars env.old)
@@ -289,7 +291,7 @@ fn switch<T: Tree, V: Vars>(
     ensures base { V.base env.new ≡ V.base env.old }
 {
     let before = entries_of(alloc, env)?;
-    let mut progress = Progress::new(alloc, before.as_slice())?;
+    let mut progress = RequestProgress::new(alloc, before.as_slice())?;
     let old = old_name(old, new);
     switch_names(alloc, settings, old, new, env, tree, &mut progress)?;
     progress.end(alloc, before.as_slice())
@@ -303,7 +305,7 @@ fn report_names<T: Tree, V: Vars>(
     names: &[String],
     env: &mut V,
     tree: &mut T,
-) -> Result<Done, Refusal>
+) -> Result<RequestResults, Refusal>
     ensures done { TreeAnswer T.agrees T.failures T.failed tree.old tree.new
         (λ done. done_view done (V.vars env.new)) result
         (λ files listings. NeedsNames (map string_bytes names.now)
@@ -317,8 +319,8 @@ fn report_names<T: Tree, V: Vars>(
         return Err(Refusal::BadArguments);
     }
     let entries = entries_of(alloc, env)?;
-    let done = Done::new(alloc);
-    let mut progress = Progress { entries, done };
+    let done = RequestResults::new(alloc);
+    let mut progress = RequestProgress { entries, done };
     let name_action = NameAction::ReportOn(report_kind);
     act_on_each(
         alloc,
@@ -333,10 +335,10 @@ fn report_names<T: Tree, V: Vars>(
 }
 
 /// What a request has done that makes no move and reports this text.
-fn done_with_report(alloc: Global, text: String) -> Done
+fn done_with_report(alloc: Global, text: String) -> RequestResults
     ensures { (e : Environment) → done_view result e ≡ steps.with_report (nothing_done e) [] (string_bytes text) }
 {
-    Done {
+    RequestResults {
         loaded: Vec::new(alloc),
         messages: Vec::new(alloc),
         report: text,
@@ -353,7 +355,7 @@ fn report_loaded(alloc: Global, entries: &[Loaded]) -> Result<String, AllocError
 }
 
 /// Reports the loaded modules.
-fn list<V: Vars>(alloc: Global, env: &V) -> Result<Done, Refusal>
+fn list<V: Vars>(alloc: Global, env: &V) -> Result<RequestResults, Refusal>
     ensures given { GivesOrRefuses (λ done. done_view done (V.vars env.now)) result (ListsLoaded (V.vars env.now)) }
     ensures out_of_memory { IfErr result (MemoryNumberAmong (31 ∷ [])) }
 {
@@ -369,7 +371,7 @@ fn avail<T: Tree, V: Vars>(
     texts: &[String],
     env: &V,
     tree: &mut T,
-) -> Result<Done, Refusal>
+) -> Result<RequestResults, Refusal>
     ensures reads { ReadsOn T.agrees T.failures tree.old tree.new }
     ensures over_tree { StepAnswersOverTree (T.agrees tree.new) (T.failures tree.old < T.failures tree.new)
         (λ done. done_view done (V.vars env.now)) result
@@ -379,7 +381,7 @@ fn avail<T: Tree, V: Vars>(
         InEachPair (T.agrees tree.new) (λ files listings.
         ListingLooksAt (HasResult settings.limits) files listings (steps.modulepath (V.vars env.now)) at)) }
 {
-    let default_files = Evaluated {
+    let default_files = EvaluatedDefaultFiles {
         limits: settings.limits,
     };
     let listings = available(alloc, tree, &default_files, modulepath(env))?;
@@ -394,7 +396,7 @@ fn act<T: Tree, V: Vars>(
     action: &Action,
     env: &mut V,
     tree: &mut T,
-) -> Result<Done, Refusal>
+) -> Result<RequestResults, Refusal>
     ensures done { TreeAnswer T.agrees T.failures T.failed tree.old tree.new
         (λ done. done_view done (V.vars env.new)) result
         (λ files listings. RequestStep (request_context_of settings files listings) (V.vars env.old)
@@ -435,7 +437,7 @@ pub(crate) fn step<T: Tree, V: Vars>(
     env: &mut V,
     tree: &mut T,
     limits: Limits,
-) -> Result<Done, Refusal>
+) -> Result<RequestResults, Refusal>
     ensures reads { ReadsOn T.agrees T.failures tree.old tree.new }
     ensures base { V.base env.new ≡ V.base env.old }
     ensures over_tree { StepAnswersOverTree (T.agrees tree.new) (T.failures tree.old < T.failures tree.new)

@@ -16,10 +16,10 @@ use crate::one_name::{ModuleFile, NameRequest, evaluate, find_module};
 use crate::refusal::Refusal;
 use crate::settings::EvaluationSettings;
 use envloaded::Loaded;
-use envvars::{Env, Vars, Working};
+use envvars::{Env, Vars, WorkingCopy};
 use filetree::Tree;
 use modulefile::Mode;
-use search::Found;
+use search::LocatedModule;
 use shelltext::Shell;
 use std::alloc::Global;
 use tclrules::Limits;
@@ -29,7 +29,7 @@ fn judge_found<V: Vars>(
     alloc: Global,
     name_request: NameRequest<'_>,
     entries: &[Loaded],
-    found: &Found,
+    found: &LocatedModule,
     env: &mut V,
 ) -> Result<Verdict, Refusal>
     ensures { GivesOrRefuses verdict_view result
@@ -94,5 +94,5 @@ pub fn verdict<T: Tree>(
     ensures out_of_memory { IfErr result (MemoryNumberAmong (11 ∷ 31 ∷ 41 ∷ [])) }
 {
     requests::verdicts();
-    give_verdict(alloc, name, &mut Working::over(env), tree, limits)
+    give_verdict(alloc, name, &mut WorkingCopy::over(env), tree, limits)
 }

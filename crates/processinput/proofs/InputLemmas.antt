@@ -1,5 +1,7 @@
 -- One read after another, and the text of what was read.
-use Rattle.std.proofs.Common.{◌≡◌, ◌⊎◌, ◌<◌, ◌≤◌, ◌+◌, ℕ, length, string_bytes, subst, String, Result, Ok, Err, IfOk, IfErr, Bool, true, false, inl, inr, List, [], ◌++◌, Option, Some, None, refl, sym, ap, ◌∙◌, append_assoc}
+use Rattle.std.proofs.Common.{◌≡◌, ◌⊎◌, ◌<◌, ◌≤◌, ◌+◌, ℕ, length, string_bytes, subst, String, Result, Ok, Err, IfOk}
+use Rattle.std.proofs.Common.{IfErr, Bool, true, false, inl, inr, List, [], ◌++◌, Option, Some, None, refl, sym, ap}
+use Rattle.std.proofs.Common.{◌∙◌, append_assoc}
 use Rattle.std.proofs.lemmas.Bool.{cases_Bool}
 use Rattle.std.proofs.lemmas.Str.{IsUtf8-from_is_utf8}
 use Rattle.std.specs.Str.{IsUtf8, is_utf8}
@@ -41,7 +43,8 @@ pub given_text : (old new : Option (List ℕ)) (bytes : List ℕ) (r : Result (S
 given_text old new bytes (Ok text) taken all h = (subst (λ (bs : List ℕ). Consumes old new bs) (sym h.0) taken, all h.1)
 given_text old new bytes (Err fault) taken all h = tt
 
-pub failed_text : (old new : Option (List ℕ)) (bytes : List ℕ) (r : Result (String Global) InputFault) → Consumes old new bytes → length bytes ≤ input_limit + 1 → (length bytes ≤ input_limit → IsAtEnd new)
+pub failed_text : (old new : Option (List ℕ)) (bytes : List ℕ) (r : Result (String Global) InputFault)
+    → Consumes old new bytes → length bytes ≤ input_limit + 1 → (length bytes ≤ input_limit → IsAtEnd new)
     → IsTextOf bytes r → IfErr r (λ fault. FailsAfterReading fault old new)
 failed_text old new bytes (Ok text) taken within all h = tt
 failed_text old new bytes (Err fault) taken within all h =

@@ -1,12 +1,12 @@
 //! Reading the whole text of an input, up to a limit.
 ghost use Rattle.std.specs.Prelude.{◌≡◌, ◌≤◌, ◌+◌, length, Some, IfOk, IfErr, string_bytes};
 ghost use Rattle.std.specs.Io.KnownBytes.{Consumes, IsAtEnd};
-ghost use Rattle.message.specs.Messages.{text_of};
-ghost use Rattle.processinput.specs.Faults.{input_number, input_message};
+ghost use Rattle.message.specs.Refusals.{numbered_text};
+ghost use Rattle.processinput.specs.Faults.{refusal_of};
 ghost use Rattle.processinput.specs.Inputs.{input_limit, FailsAfterReading, IsTextOf, ReadsAll};
 ghost use Rattle.processinput.specs.declared.input.InputFault.TheVariants.{OutOfMemory};
 
-use message::{Message, out_of_memory};
+use message::{NumberedMessage, RefusalKind};
 use std::alloc::{AllocError, Global};
 use std::error::Error;
 use std::fmt;
@@ -19,46 +19,42 @@ const INPUT_LIMIT: usize = 1_048_576;
 /// How many bytes one read asks for.
 const READ_LENGTH: usize = 4096;
 
-/// Why an input has no text.
+/// Why the arguments or an input have no text.
 #[derive(Clone, Copy, Debug, PartialEq, Eq)]
 pub enum InputFault {
     /// An allocation was refused.
     OutOfMemory,
     /// A read failed, or was interrupted.
     ReadFailed,
-    /// It has more than 1,048,576 bytes, or isn't UTF-8.
+    /// An input has more than 1,048,576 bytes, or it or an argument isn't UTF-8.
     BadInput,
 }
 
 impl InputFault {
-    /// The number of the error as a refusal: 31 for want of memory, 43 for a read that failed, else 56.
-    pub fn number(&self) -> u16
-        ensures { result ≡ input_number self.now }
+    /// The number of the error as a refusal, and its text.
+    pub fn numbered(&self) -> NumberedMessage<'static>
+        ensures { numbered_text result ≡ refusal_of self.now }
     {
         match self {
-            InputFault::OutOfMemory => 31,
-            InputFault::ReadFailed => 43,
-            InputFault::BadInput => 56,
+            InputFault::OutOfMemory => RefusalKind::MemoryForRequest.plain(),
+            InputFault::ReadFailed => RefusalKind::Device.plain(),
+            InputFault::BadInput => RefusalKind::BadArguments.plain(),
         }
     }
 
-    /// The text of the error as a refusal, without `ERROR: `.
-    pub fn message(&self) -> Message<'static>
-        ensures { text_of result ≡ input_message self.now }
+    /// The number of the error as a refusal: 31 for want of memory, 43 for a read that failed, else 56.
+    pub fn number(&self) -> u16
+        ensures { result ≡ (refusal_of self.now).number }
     {
-        match self {
-            InputFault::OutOfMemory => out_of_memory(),
-            InputFault::ReadFailed => Message::of_text("Reading failed"),
-            InputFault::BadInput => Message::of_text("Bad arguments"),
-        }
+        self.numbered().number
     }
 }
 
 impl fmt::Display for InputFault {
-    ghost output = { λ fault. Some (input_message fault) };
+    ghost output = { λ fault. Some (refusal_of fault).text };
 
     fn fmt<W: fmt::Write>(&self, f: &mut fmt::Formatter<W>) -> fmt::Result {
-        self.message().fmt(f)
+        self.numbered().message.fmt(f)
     }
 }
 

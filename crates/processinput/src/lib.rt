@@ -6,4 +6,4 @@ mod input;
 mod process;
 
 pub use input::{InputFault, read_input};
-pub use process::{ArgumentsFault, arguments, environment_block};
+pub use process::{arguments, environment_block};

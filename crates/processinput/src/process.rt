@@ -1,59 +1,14 @@
 //! What the system gives to a process: its arguments, and its environment as a block of entries.
-ghost use Rattle.std.specs.Prelude.{◌≡◌, ◌<◌, ◌≤◌, Some, IfOk, IfSome, OnOk, vec_len};
-ghost use Rattle.message.specs.Messages.{text_of};
-ghost use Rattle.processinput.specs.Faults.{number_of, message_of};
+ghost use Rattle.std.specs.Prelude.{◌<◌, ◌≤◌, IfOk, IfSome, OnOk, vec_len};
 
+use crate::input::InputFault;
 use memchr::{memchr, memchr_iter};
-use message::{Message, out_of_memory};
 use std::alloc::AllocError;
 use std::env::FillError;
-use std::error::Error;
-use std::fmt::Display;
 use std::fs::File;
 use std::io::{ErrorKind, Read};
 use std::rt::{Env, Files};
-use std::{env, fmt, io};
-
-/// Why the arguments can't be read.
-#[derive(Clone, Copy, Debug, PartialEq, Eq)]
-pub enum ArgumentsFault {
-    /// An allocation was refused.
-    OutOfMemory,
-    /// An argument isn't UTF-8.
-    NotUtf8,
-}
-
-impl ArgumentsFault {
-    /// The number of the error as a refusal: 31 for want of memory, else 56.
-    pub fn number(&self) -> u16
-        ensures { result ≡ number_of self.now }
-    {
-        match self {
-            ArgumentsFault::OutOfMemory => 31,
-            ArgumentsFault::NotUtf8 => 56,
-        }
-    }
-
-    /// The text of the error as a refusal, without `ERROR: `.
-    pub fn message(&self) -> Message<'static>
-        ensures { text_of result ≡ message_of self.now }
-    {
-        match self {
-            ArgumentsFault::OutOfMemory => out_of_memory(),
-            ArgumentsFault::NotUtf8 => Message::of_text("Bad arguments"),
-        }
-    }
-}
-
-impl fmt::Display for ArgumentsFault {
-    ghost output = { λ fault. Some (message_of fault) };
-
-    fn fmt<W: fmt::Write>(&self, f: &mut fmt::Formatter<W>) -> fmt::Result {
-        self.message().fmt(f)
-    }
-}
-
-impl Error for ArgumentsFault {}
+use std::{env, io};
 
 /// The file in which Linux gives a process its environment at once (proc(5)).
 const OWN_ENVIRONMENT: &str = "/proc/self/environ";
@@ -66,18 +21,18 @@ const FIRST_LENGTH: usize = 4096;
 
 /// The arguments after the program's name.
 ///
-/// The errors: `OutOfMemory`, and `NotUtf8` where an argument isn't UTF-8.
-pub fn arguments<R: Env + AllocGlobal>(rt: &R) -> Result<Vec<String>, ArgumentsFault> {
+/// The errors: `OutOfMemory`, and `BadInput` where an argument isn't UTF-8.
+pub fn arguments<R: Env + AllocGlobal>(rt: &R) -> Result<Vec<String>, InputFault> {
     let all = match env::args(rt) {
         Ok(all) => all,
         Err(error) if error.kind() == ErrorKind::OutOfMemory => {
-            return Err(ArgumentsFault::OutOfMemory);
+            return Err(InputFault::OutOfMemory);
         }
-        Err(_) => return Err(ArgumentsFault::NotUtf8),
+        Err(_) => return Err(InputFault::BadInput),
     };
     all.skip(1)
         .collect(rt.alloc())
-        .map_err(|_| ArgumentsFault::OutOfMemory)
+        .map_err(|_| InputFault::OutOfMemory)
 }
 
 /// The environment as the system has it (environ(7)): entry after entry, each ended by NUL.

@@ -2,7 +2,8 @@
 use Rattle.std.proofs.Common.{◌≡◌, inl, inr, true, false, Bool, List, [], ◌∷◌, Option, Ok, Err, refl, subst}
 use Rattle.modulename.specs.ModuleName.{Text, is_module_name}
 use Rattle.filetree.specs.Agreement.{Files, Listings}
-use Rattle.filetree.specs.Modulefiles.{FileContent, absent, no_cookie, not_utf8, script, modulefile, directories, path_of}
+use Rattle.filetree.specs.Modulefiles.{FileContent, absent, no_cookie, not_utf8, script, modulefile, directories}
+use Rattle.filetree.specs.Modulefiles.{path_of}
 use Rattle.filetree.specs.Relations.{Is, If}
 use Rattle.search.specs.Reasons.{bad_name, not_found}
 use Rattle.search.specs.DefaultFiles.{DefaultFileResult}
@@ -24,7 +25,9 @@ at_held files name path (script text) m e h =
 at_text : (files : Files) (dir name : Text) (m : FoundModule) → ModuleAt files dir name (Ok m) → IsScript files m
 at_text files dir name m h = at_held files name (path_of dir name) (modulefile (files (path_of dir name))) m refl h
 
-along_text : (results : Text → Text → Option DefaultFileResult → Type 0) (files : Files) (listings : Listings) (name : Text) (dirs : List Text) (m : FoundModule) → FoundAlong results files listings name dirs (Ok m) → IsScript files m
+along_text : (results : Text → Text → Option DefaultFileResult → Type 0) (files : Files) (listings : Listings)
+    (name : Text) (dirs : List Text) (m : FoundModule) → FoundAlong results files listings name dirs (Ok m)
+    → IsScript files m
 along_text results files listings name [] m h = absurd (let q : Ok m ≡ Err (not_found name) = h in cc)
 along_text results files listings name (dir ∷ dirs) m (inl (fact, h)) = at_text files dir name m h
 along_text results files listings name (dir ∷ dirs) m (inr (none, inl (some, h))) =
@@ -32,9 +35,12 @@ along_text results files listings name (dir ∷ dirs) m (inr (none, inl (some, h
     at_text files dir (path_of name g.0) m g.2
 along_text results files listings name (dir ∷ dirs) m (inr (none, inr (no_candidate, h))) = along_text results files listings name dirs m h
 
-found_if : (results : Text → Text → Option DefaultFileResult → Type 0) (files : Files) (listings : Listings) (name : Text) (dirs : List Text) (m : FoundModule) (spelled : Bool) → If spelled (FoundAlong results files listings name dirs) (Is (Err (bad_name name))) (Ok m) → IsScript files m
+found_if : (results : Text → Text → Option DefaultFileResult → Type 0) (files : Files) (listings : Listings)
+    (name : Text) (dirs : List Text) (m : FoundModule) (spelled : Bool)
+    → If spelled (FoundAlong results files listings name dirs) (Is (Err (bad_name name))) (Ok m) → IsScript files m
 found_if results files listings name dirs m true h = along_text results files listings name dirs m h
 found_if results files listings name dirs m false h = absurd (let q : Ok m ≡ Err (bad_name name) = h in cc)
 
-pub found_text : (results : Text → Text → Option DefaultFileResult → Type 0) (files : Files) (listings : Listings) (modulepath name : Text) (m : FoundModule) → Found results files listings modulepath name (Ok m) → IsScript files m
+pub found_text : (results : Text → Text → Option DefaultFileResult → Type 0) (files : Files) (listings : Listings)
+    (modulepath name : Text) (m : FoundModule) → Found results files listings modulepath name (Ok m) → IsScript files m
 found_text results files listings modulepath name m h = found_if results files listings name (directories modulepath) m (is_module_name name) h

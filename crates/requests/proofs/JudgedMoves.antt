@@ -29,7 +29,9 @@ judged_is_reversible agree s name path other j left =
     let (ran, judged, unasked, undone) = judged_of s name path j in
     subst (λ rs. list_all is_reversible rs ≡ true) (sym (same_records agree s name path ran other judged unasked left)) undone
 
-plain_load : PlainFilesAgree → (s : RequestContext) (uses : Text → VariableUse) (live : List Module) (m : Module) → IsFrom s m → IsApart uses live m → IsJudgedPlain s m.name m.path → IsReversibleAndApart uses live m × IsPlain s m.name m.path
+plain_load : PlainFilesAgree → (s : RequestContext) (uses : Text → VariableUse) (live : List Module) (m : Module)
+    → IsFrom s m → IsApart uses live m → IsJudgedPlain s m.name m.path → IsReversibleAndApart uses live m
+    × IsPlain s m.name m.path
 plain_load agree s uses live m (other, left, is) apart j =
     let (ran, judged, unasked, undone) = judged_of s m.name m.path j in
     let again : list_all is_reversible m.records ≡ true = subst (λ rs. list_all is_reversible rs ≡ true) (sym is) (judged_is_reversible agree s m.name m.path other j left) in

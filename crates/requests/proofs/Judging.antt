@@ -14,7 +14,8 @@ use Rattle.reversal.specs.VariableUses.{is_reversible}
 use Rattle.requests.specs.Refusals.{RefusedAs}
 use Rattle.requests.specs.Reasons.{file_refused}
 use Rattle.requests.specs.Steps.{RequestContext, entries_of, Finds}
-use Rattle.requests.specs.Verdicts.{plain, asked, one_way, verdict_of, verdict_context, HasVerdict, OneVerdict, PlainHolds}
+use Rattle.requests.specs.Verdicts.{plain, asked, one_way, verdict_of, verdict_context, HasVerdict, OneVerdict}
+use Rattle.requests.specs.Verdicts.{PlainHolds}
 use Rattle.requests.specs.PlainRuns.{HasEvaluatedTo, JudgedIsPlain}
 use Rattle.requests.specs.JudgedRuns.{SomeVerdict}
 use Rattle.requests.proofs.Origins.{found_script}

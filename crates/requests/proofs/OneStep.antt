@@ -1,5 +1,6 @@
 -- A request has one outcome at most, since a search has one and an evaluation has one.
-use Rattle.std.proofs.Common.{◌≡◌, Bool, true, false, List, [], ◌∷◌, Option, Some, None, Result, Ok, Err, ap, sym, ◌∙◌, reverse}
+use Rattle.std.proofs.Common.{◌≡◌, Bool, true, false, List, [], ◌∷◌, Option, Some, None, Result, Ok, Err, ap, sym, ◌∙◌}
+use Rattle.std.proofs.Common.{reverse}
 use Rattle.modulename.specs.ModuleName.{is_module_name}
 use Rattle.envvars.specs.Texts.{Text, has}
 use Rattle.envvars.specs.Environment.{Environment}
@@ -27,7 +28,11 @@ use Rattle.requests.specs.Reasons.{RequestReason, bad_arguments, missed, file_re
 use Rattle.requests.specs.Requests.{RequestedAction, load, unload, switch, purge, list, avail, show, whatis}
 use Rattle.requests.specs.Conditions.{end_objection}
 use Rattle.requests.specs.Reports.{loaded_text, avail_text}
-use Rattle.requests.specs.Steps.{RequestContext, Done, nothing_done, continued, module_of, joins, with_report, entries_of, modulepath, context_of, script_at, Finds, LoadsFound, LoadsName, UnloadsEntry, UnloadsMeant, last_meant, UnloadsName, ShowsName, shown_text, described_text, Each, NeedsNames, EndsRequest, ChangesLoaded, Switches, ShowsNames, ListsAll, RequestStep, old_name}
+use Rattle.requests.specs.Steps.{RequestContext, Done, nothing_done, continued, module_of, joins, with_report}
+use Rattle.requests.specs.Steps.{entries_of, modulepath, context_of, script_at, Finds, LoadsFound, LoadsName}
+use Rattle.requests.specs.Steps.{UnloadsEntry, UnloadsMeant, last_meant, UnloadsName, ShowsName, shown_text}
+use Rattle.requests.specs.Steps.{described_text, Each, NeedsNames, EndsRequest, ChangesLoaded, Switches, ShowsNames}
+use Rattle.requests.specs.Steps.{ListsAll, RequestStep, old_name}
 use Rattle.requests.proofs.Bound.{one_refused_as}
 
 -- a default file leaves one thing
@@ -38,7 +43,9 @@ pub one_run : files.OneOutcome → (limits : Limits) (c : FileContext) (text : T
 one_run file limits c text = one_refused_as {f = file_refused} {First = RunsFile limits c text} (file limits c text)
 
 pub one_finds : OneResult → (s : RequestContext) (e : Environment) (name : Text) → IsOne (Finds s e name)
-one_finds left s e name = one_refused_as {f = missed} {First = Found (HasResult s.limits) s.files s.listings (modulepath e) name} (one_module (HasResult s.limits) (left s.limits) s.files s.listings (modulepath e) name)
+one_finds left s e name = one_refused_as {f = missed}
+    {First = Found (HasResult s.limits) s.files s.listings (modulepath e) name}
+    (one_module (HasResult s.limits) (left s.limits) s.files s.listings (modulepath e) name)
 
 one_loads_found : files.OneOutcome → (s : RequestContext) (w : Bool) (typed : Text) (d : Done) (xs : List Entry) (m : search.FoundModule) → IsOne (LoadsFound s w typed d xs m)
 one_loads_found file s w typed d xs m =
@@ -94,7 +101,9 @@ one_switch : files.OneOutcome → OneResult → (s : RequestContext) (old : Opti
 one_switch file left s old new d =
     one_then {First = UnloadsName s true (old_name old new) d} {Rest = LoadsName s true new} (one_unload file s true (old_name old new) d) (one_load file left s true new)
 
-one_shown : files.OneOutcome → OneResult → (s : RequestContext) (mode : Mode) (text_of : search.FoundModule → List Record → Text) (e : Environment) (names : List Text) → IsOne (ShowsNames s mode text_of e names)
+one_shown : files.OneOutcome → OneResult → (s : RequestContext) (mode : Mode)
+    (text_of : search.FoundModule → List Record → Text) (e : Environment) (names : List Text)
+    → IsOne (ShowsNames s mode text_of e names)
 one_shown file left s mode text_of e names =
     one_then {First = Is (entries_of e)} {Rest = λ xs. Each (ShowsName s mode text_of) names (nothing_done e)} (one_is (entries_of e)) (λ xs.
     one_each (ShowsName s mode text_of) (one_show file left s mode text_of) names (nothing_done e))
@@ -105,9 +114,13 @@ one_lists s e texts o p (ls, h, g) (ks, k, f) =
 
 pub one_step : files.OneOutcome → OneResult → (s : RequestContext) (e : Environment) (asked : RequestedAction) → IsOne (RequestStep s e asked)
 one_step file left s e (load names) =
-    one_named names (ChangesLoaded e (λ before. Each (LoadsName s false) names)) (one_changes e (λ before. Each (LoadsName s false) names) (λ before. one_each (LoadsName s false) (one_load file left s false) names))
+    one_named names (ChangesLoaded e (λ before. Each (LoadsName s false) names))
+    (one_changes e (λ before. Each (LoadsName s false) names)
+    (λ before. one_each (LoadsName s false) (one_load file left s false) names))
 one_step file left s e (unload names) =
-    one_named names (ChangesLoaded e (λ before. Each (UnloadsName s false) names)) (one_changes e (λ before. Each (UnloadsName s false) names) (λ before. one_each (UnloadsName s false) (one_unload file s false) names))
+    one_named names (ChangesLoaded e (λ before. Each (UnloadsName s false) names))
+    (one_changes e (λ before. Each (UnloadsName s false) names)
+    (λ before. one_each (UnloadsName s false) (one_unload file s false) names))
 one_step file left s e (switch old new) =
     one_changes e (λ before. Switches s old new) (λ before. one_switch file left s old new)
 one_step file left s e purge =

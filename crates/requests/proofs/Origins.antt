@@ -1,5 +1,6 @@
 -- The records of each move of a step are those that the file at its module's path made.
-use Rattle.std.proofs.Common.{◌≡◌, Bool, true, false, List, [], ◌∷◌, ◌++◌, Option, Some, None, Result, Ok, Err, refl, sym, subst, reverse}
+use Rattle.std.proofs.Common.{◌≡◌, Bool, true, false, List, [], ◌∷◌, ◌++◌, Option, Some, None, Result, Ok, Err, refl}
+use Rattle.std.proofs.Common.{sym, subst, reverse}
 use Rattle.modulename.specs.ModuleName.{is_module_name}
 use Rattle.envvars.specs.Texts.{Text, has}
 use Rattle.envvars.specs.Environment.{Environment}
@@ -19,7 +20,10 @@ use Rattle.requests.specs.Refusals.{refused_as, RefusedAs}
 use Rattle.requests.specs.Reasons.{RequestReason, bad_arguments, missed, file_refused, refused_edit}
 use Rattle.requests.specs.Requests.{RequestedAction, load, unload, switch, purge, list, avail, show, whatis}
 use Rattle.requests.specs.Conditions.{load_objection, end_objection}
-use Rattle.requests.specs.Steps.{RequestContext, Done, nothing_done, with_move, continued, module_of, modulepath, context_of, Finds, script_at, LoadsFound, LoadsName, UnloadsMeant, last_meant, UnloadsName, Each, NeedsNames, EndsRequest, ChangesLoaded, Switches, RequestStep, old_name}
+use Rattle.requests.specs.Steps.{RequestContext, Done, nothing_done, with_move, continued, module_of, modulepath}
+use Rattle.requests.specs.Steps.{context_of, Finds, script_at, LoadsFound, LoadsName, UnloadsMeant, last_meant}
+use Rattle.requests.specs.Steps.{UnloadsName, Each, NeedsNames, EndsRequest, ChangesLoaded, Switches, RequestStep}
+use Rattle.requests.specs.Steps.{old_name}
 use Rattle.requests.specs.PlainRuns.{HasEvaluatedTo}
 use Rattle.requests.proofs.Bound.{bound, ok_of_refused_as, allowed, went_on}
 use Rattle.requests.specs.Laws.{Reports}
@@ -47,7 +51,8 @@ trace_same s d from t h = let same : d ≡ t = cc in subst (λ (x : Done). AllFr
 trace_refused : (s : RequestContext) (r : RequestReason) → Traces s (Is (Err r))
 trace_refused s r t h = absurd (let g : Ok t ≡ Err r = h in cc)
 
-trace_then : {A : Type 0} {First : Result A RequestReason → Type 0} {Rest : A → Result Done RequestReason → Type 0} (s : RequestContext) → ((x : A) → First (Ok x) → Traces s (Rest x)) → Traces s (Then First Rest)
+trace_then : {A : Type 0} {First : Result A RequestReason → Type 0} {Rest : A → Result Done RequestReason → Type 0}
+    (s : RequestContext) → ((x : A) → First (Ok x) → Traces s (Rest x)) → Traces s (Then First Rest)
 trace_then {First = First} {Rest = Rest} s traces t h = let g = went_on First Rest t h in traces g.0 g.1 t g.2
 
 trace_if : (s : RequestContext) (test : Bool) (One Other : Result Done RequestReason → Type 0) → Traces s One → Traces s Other → Traces s (If test One Other)
@@ -71,8 +76,19 @@ found_script s e name m h =
 trace_found : (s : RequestContext) (w : Bool) (typed : Text) (d : Done) (xs : List Entry) (m : search.FoundModule) → IsScript s.files m → AllFrom s d.moves → Traces s (LoadsFound s w typed d xs m)
 trace_found s w typed d xs m file from =
     trace_if s (has m.name (names_of xs)) _ _ (trace_same s d from) (trace_then s (λ ran h t g.
-    trace_went s d (Loads (module_of m.name m.path ran)) ran.messages from
-    (ran, record { text = m.text; file = file; context = context_of s modes.load w typed m.name m.path xs d.env; named = refl; at_path = refl; runs = as_ok s (context_of s modes.load w typed m.name m.path xs d.env) m.text ran h }, refl)
+    trace_went s d (Loads (module_of m.name m.path ran)) ran.messages from (
+      ran,
+      record {
+        text = m.text;
+        file = file;
+        context = context_of s modes.load w typed m.name m.path xs d.env;
+        named =
+            refl;
+        at_path = refl;
+        runs = as_ok s (context_of s modes.load w typed m.name m.path xs d.env) m.text ran h;
+      },
+      refl,
+    )
     t (sym (allowed (load_objection m.name ran.records xs) (continued d (Loads (module_of m.name m.path ran)) ran.messages) t (sym g)).1)))
 
 trace_load : (s : RequestContext) (w : Bool) (typed : Text) (d : Done) → AllFrom s d.moves → Traces s (LoadsName s w typed d)
@@ -91,15 +107,29 @@ trace_meant : (s : RequestContext) (w : Bool) (typed : Text) (d : Done) (xs : Li
 trace_meant s w typed d xs None from = trace_same s d from
 trace_meant s w typed d xs (Some x) from =
     trace_then s (λ text h. trace_then s (λ ran g.
-    trace_went s d (Unloads (module_of x.name x.path ran)) ran.messages from
-    (ran, record { text = text; file = script_held x.path text (modulefile (s.files x.path)) h; context = context_of s modes.unload w typed x.name x.path xs d.env; named = refl; at_path = refl; runs = as_ok s (context_of s modes.unload w typed x.name x.path xs d.env) text ran g }, refl)))
+    trace_went s d (Unloads (module_of x.name x.path ran)) ran.messages from (
+      ran,
+      record {
+        text = text;
+        file = script_held x.path text (modulefile (s.files x.path)) h;
+        context = context_of s
+            modes.unload w typed x.name x.path xs d.env;
+        named = refl;
+        at_path = refl;
+        runs = as_ok s
+            (context_of s modes.unload w typed x.name x.path xs d.env) text ran g;
+      },
+      refl,
+    )))
 
 trace_unload : (s : RequestContext) (w : Bool) (typed : Text) (d : Done) → AllFrom s d.moves → Traces s (UnloadsName s w typed d)
 trace_unload s w typed d from =
     trace_then s (λ xs h.
     trace_if s (is_module_name typed) _ _ (trace_meant s w typed d xs (last_meant typed xs) from) (trace_refused s (missed (bad_name typed))))
 
-trace_each : (s : RequestContext) (Does : Text → Done → Result Done RequestReason → Type 0) → ((name : Text) (d : Done) → AllFrom s d.moves → Traces s (Does name d)) → (names : List Text) (d : Done) → AllFrom s d.moves → Traces s (Each Does names d)
+trace_each : (s : RequestContext) (Does : Text → Done → Result Done RequestReason → Type 0)
+    → ((name : Text) (d : Done) → AllFrom s d.moves → Traces s (Does name d)) → (names : List Text) (d : Done)
+    → AllFrom s d.moves → Traces s (Each Does names d)
 trace_each s Does traces [] d from = trace_same s d from
 trace_each s Does traces (name ∷ names) d from =
     trace_then s (λ t h. trace_each s Does traces names t (traces name d from t h))
@@ -112,7 +142,9 @@ trace_end : (s : RequestContext) (before : List Entry) (d : Done) → AllFrom s 
 trace_end s before d from =
     trace_then s (λ after h t g. trace_same s d from t (sym (allowed (end_objection before after) (Ok d) t (sym g)).1))
 
-trace_changes : (s : RequestContext) (e : Environment) (Does : List Entry → Done → Result Done RequestReason → Type 0) → ((before : List Entry) (d : Done) → AllFrom s d.moves → Traces s (Does before d)) → Traces s (ChangesLoaded e Does)
+trace_changes : (s : RequestContext) (e : Environment) (Does : List Entry → Done → Result Done RequestReason → Type 0)
+    → ((before : List Entry) (d : Done) → AllFrom s d.moves → Traces s (Does before d))
+    → Traces s (ChangesLoaded e Does)
 trace_changes s e Does traces =
     trace_then s (λ before h. trace_then s (λ d g. trace_end s before d (traces before (nothing_done e) tt d g)))
 
@@ -125,9 +157,13 @@ trace_report s e asked r d h = subst (AllFrom s) (sym (reports_leave s e asked d
 
 pub traced : (s : RequestContext) (e : Environment) (asked : RequestedAction) → Traces s (RequestStep s e asked)
 traced s e (load names) =
-    trace_named s names (ChangesLoaded e (λ before. Each (LoadsName s false) names)) (trace_changes s e (λ before. Each (LoadsName s false) names) (λ before d from. trace_each s (LoadsName s false) (trace_load s false) names d from))
+    trace_named s names (ChangesLoaded e (λ before. Each (LoadsName s false) names))
+    (trace_changes s e (λ before. Each (LoadsName s false) names)
+    (λ before d from. trace_each s (LoadsName s false) (trace_load s false) names d from))
 traced s e (unload names) =
-    trace_named s names (ChangesLoaded e (λ before. Each (UnloadsName s false) names)) (trace_changes s e (λ before. Each (UnloadsName s false) names) (λ before d from. trace_each s (UnloadsName s false) (trace_unload s false) names d from))
+    trace_named s names (ChangesLoaded e (λ before. Each (UnloadsName s false) names))
+    (trace_changes s e (λ before. Each (UnloadsName s false) names)
+    (λ before d from. trace_each s (UnloadsName s false) (trace_unload s false) names d from))
 traced s e (switch old new) =
     trace_changes s e (λ before. Switches s old new) (λ before d from. trace_switch s old new d from)
 traced s e purge =

@@ -1,5 +1,6 @@
 -- In a session of modules whose files are plain, the records of each unload are those of the load that it undoes.
-use Rattle.std.proofs.Common.{◌≡◌, inl, inr, Bool, true, false, cond, ◌&&◌, ◌||◌, List, [], ◌∷◌, ◌++◌, Some, Ok, Err, refl, ap, sym, ◌∙◌, subst}
+use Rattle.std.proofs.Common.{◌≡◌, inl, inr, Bool, true, false, cond, ◌&&◌, ◌||◌, List, [], ◌∷◌, ◌++◌, Some, Ok, Err}
+use Rattle.std.proofs.Common.{refl, ap, sym, ◌∙◌, subst}
 use Rattle.std.specs.Prelude.{bytes_eq}
 use Rattle.std.specs.List.{list_any}
 use Rattle.std.proofs.lemmas.Bool.{and_parts}
@@ -23,7 +24,8 @@ use Rattle.reversal.specs.Runs.{live_named, without_live, AreReversibleTogether}
 use Rattle.reversal.specs.Laws.{RunsReturn, MovesPreserve}
 use Rattle.requests.specs.Requests.{Request}
 use Rattle.requests.specs.Steps.{RequestContext}
-use Rattle.requests.specs.Sessions.{Response, accepted, refused, given_up, IsResponse, env_after, end_environment, in_shell, Session, session_moves}
+use Rattle.requests.specs.Sessions.{Response, accepted, refused, given_up, IsResponse, env_after, end_environment}
+use Rattle.requests.specs.Sessions.{in_shell, Session, session_moves}
 use Rattle.requests.specs.Returning.{AreNew, HasLoadRecords, AreReversibleBeside}
 use Rattle.requests.specs.PlainRuns.{HasEvaluatedTo, IsPlain, ArePlain}
 use Rattle.requests.specs.Laws.{SessionsReach, SessionsReturn, PlainSessionsReturn}
@@ -44,7 +46,9 @@ newest m n older true p e apart any path h =
     let name : m.name ≡ n.name = same_text m.name n.name e in
     absurd (let q : false ≡ true = not_among m older (subst (λ (x : Text). has x (names_of older) ≡ false) (sym name) apart) any in cc)
 newest m n older false true e apart any path h = (same_text m.name n.name e, same_text m.path n.path path)
-newest m n older false false e apart any path h = absurd (let q : (bytes_eq m.name n.name && false) ≡ true = no_false (bytes_eq m.name n.name && false) h in let r = and_parts (bytes_eq m.name n.name) false q in let z : false ≡ true = r.1 in cc)
+newest m n older false false e apart any path h = absurd
+    (let q : (bytes_eq m.name n.name && false) ≡ true = no_false (bytes_eq m.name n.name && false) h in let r =
+    and_parts (bytes_eq m.name n.name) false q in let z : false ≡ true = r.1 in cc)
   where
     no_false : (b : Bool) → (b || false) ≡ true → b ≡ true
     no_false true h = refl
@@ -67,7 +71,9 @@ same_at m n l bs live false e distinct any found more =
     let d = are_distinct-push (names_of (entries_over bs live)) n.name distinct in
     more d.0 (older_any m n (list_any (is_entry_of m) (entries_over bs live)) e any) found
 
-pub same_live : (m l : Module) (bs : List Entry) (live : List Module) → are_distinct (names_of (entries_over bs live)) ≡ true → list_any (is_entry_of m) (entries_over bs live) ≡ true → live_named m.name live ≡ Some l → (m.name ≡ l.name) × (m.path ≡ l.path)
+pub same_live : (m l : Module) (bs : List Entry) (live : List Module)
+    → are_distinct (names_of (entries_over bs live)) ≡ true → list_any (is_entry_of m) (entries_over bs live) ≡ true
+    → live_named m.name live ≡ Some l → (m.name ≡ l.name) × (m.path ≡ l.path)
 same_live m l bs [] distinct any found = absurd (cc)
 same_live m l bs (n ∷ live) distinct any found =
     same_at m n l bs live (bytes_eq m.name n.name) refl
@@ -104,7 +110,9 @@ agreed : (ran other : Ran) → IsSameOrRefused ran (Ok other) → other.records 
 agreed ran other (inl (again, same, records)) = let q : other ≡ again = (let r : Ok other ≡ Ok again = same in cc) in ap (λ (x : Ran). x.records) q ∙ records
 agreed ran other (inr (n, refusal, same)) = absurd (let r : Ok other ≡ Err (refused_by n refusal) = same in cc)
 
-pub same_records : PlainFilesAgree → (s : RequestContext) (name path : Text) (ran other : Ran) → HasEvaluatedTo s name path ran → ran.asked ≡ false → HasEvaluatedTo s name path other → other.records ≡ ran.records
+pub same_records : PlainFilesAgree → (s : RequestContext) (name path : Text) (ran other : Ran)
+    → HasEvaluatedTo s name path ran → ran.asked ≡ false → HasEvaluatedTo s name path other
+    → other.records ≡ ran.records
 same_records agree s name path ran other h unasked k =
     agreed ran other (agree s.limits h.context k.context h.text ran (Ok other) h.runs unasked (k.named ∙ sym h.named) (k.at_path ∙ sym h.at_path)
     (subst (λ (t : Text). RunsFile s.limits k.context t (Ok other)) (one_script s path k.text h.text k.file h.file) k.runs))
@@ -119,7 +127,9 @@ unload_records agree s m l name path (ran, left, is) (other, loaded, was) (plain
 
 -- ---- moves
 
-has_records : PlainFilesAgree → (s : RequestContext) (uses : Text → VariableUse) (start old : Environment) (bs : List Entry) (live : List Module) (m : Module) → loaded_in start ≡ Some bs → IsInOrder uses old → IsStartWith uses start live old → LiveFrom s live → IsFrom s m → Fits (Unloads m) old → HasLoadRecords live m
+has_records : PlainFilesAgree → (s : RequestContext) (uses : Text → VariableUse) (start old : Environment)
+    (bs : List Entry) (live : List Module) (m : Module) → loaded_in start ≡ Some bs → IsInOrder uses old
+    → IsStartWith uses start live old → LiveFrom s live → IsFrom s m → Fits (Unloads m) old → HasLoadRecords live m
 has_records agree s uses start old bs live m list order start_with_live froms from (xs, read, any) l found =
     let now : loaded_in old ≡ Some (entries_over bs live) = start_with_live.entries bs list in
     let same : xs ≡ entries_over bs live = same_list xs (entries_over bs live) (sym read ∙ now) in
@@ -129,7 +139,10 @@ has_records agree s uses start old bs live m list order start_with_live froms fr
     let f = live_from s m.name live l froms found in
     unload_records agree s m l p.0 p.1 from f.0 f.1
 
-fitting : MovesPreserve → PlainFilesAgree → (uses : Text → VariableUse) (s : RequestContext) (start : Environment) → IsStart uses start → (ms : List Move) (live : List Module) (old new : Environment) → IsInOrder uses old → IsStartWith uses start live old → AreReversibleTogether uses live → LiveFrom s live → AllFrom s ms → AreNew start ms → ArePlain s uses live ms → MovesReach ms old new → AreReversibleBeside uses live ms
+fitting : MovesPreserve → PlainFilesAgree → (uses : Text → VariableUse) (s : RequestContext) (start : Environment)
+    → IsStart uses start → (ms : List Move) (live : List Module) (old new : Environment) → IsInOrder uses old
+    → IsStartWith uses start live old → AreReversibleTogether uses live → LiveFrom s live → AllFrom s ms
+    → AreNew start ms → ArePlain s uses live ms → MovesReach ms old new → AreReversibleBeside uses live ms
 fitting step_law agree uses s start begin [] live old new order start_with_live fit froms from news plains reach = tt
 fitting step_law agree uses s start begin (Loads m ∷ ms) live old new order start_with_live fit froms from news plains (fits, (mid, move, reach)) =
     let h = step_law uses start old mid live (Loads m ∷ []) begin order start_with_live fit (plains.0.0, tt) (fits, (mid, move, refl)) in
@@ -171,5 +184,6 @@ plain_sessions_return leads runs step_law agree returns uses s start rs before a
     let os = before ++ after in
     let none = runs uses start start [] begin tt refl in
     let fits : AreReversibleBeside uses [] (session_moves os) =
-    fitting step_law agree uses s start begin (session_moves os) [] start (end_environment start os) none.order none.start_with_live tt tt (session_from s start rs os session) news plains (leads s start rs os session) in
+    fitting step_law agree uses s start begin (session_moves os) [] start (end_environment start os) none.order
+    none.start_with_live tt tt (session_from s start rs os session) news plains (leads s start rs os session) in
     returns uses s start rs before after begin session news fits

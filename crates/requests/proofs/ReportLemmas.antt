@@ -1,5 +1,6 @@
 -- The lines of reports.
-use Rattle.std.proofs.Common.{◌≡◌, ◌+◌, ◌<◌, ℕ, true, false, nat_eq, List, [], ◌∷◌, ◌++◌, codes, length, get_or, map, flat_map, take, string_bytes, String, refl, sym, ap, ◌∙◌, append_assoc, append-nil, arith}
+use Rattle.std.proofs.Common.{◌≡◌, ◌+◌, ◌<◌, ℕ, true, false, nat_eq, List, [], ◌∷◌, ◌++◌, codes, length, get_or, map}
+use Rattle.std.proofs.Common.{flat_map, take, string_bytes, String, refl, sym, ap, ◌∙◌, append_assoc, append-nil, arith}
 use Rattle.std.proofs.lemmas.Bool.Decides.{nat_tests}
 use Rattle.std.specs.declared.alloc.Global.{Global}
 use Rattle.envvars.specs.Texts.{Text}
@@ -8,7 +9,8 @@ use Rattle.requests.specs.Reports.{loaded_text}
 use Rattle.std.proofs.lemmas.List.{take_more, map-append}
 
 -- one value more
-pub turn : {X Y Z : Type 0} (view : X → Y) (of : List Y → List Z) → ((xs ys : List Y) → of (xs ++ ys) ≡ of xs ++ of ys) → (ts us : List Z) (xs : List X) (i : ℕ) (x : X) → i < length xs → x ≡ get_or xs i x
+pub turn : {X Y Z : Type 0} (view : X → Y) (of : List Y → List Z) → ((xs ys : List Y) → of (xs ++ ys) ≡ of xs ++ of ys)
+    → (ts us : List Z) (xs : List X) (i : ℕ) (x : X) → i < length xs → x ≡ get_or xs i x
     → ts ≡ of (map view (take i xs)) → us ≡ ts ++ of (view x ∷ []) → us ≡ of (map view (take (i + 1) xs))
 turn {X} {Y} {Z} view of append ts us xs i x l e h k =
     k ∙ (ap (λ (t : List Z). t ++ of (view x ∷ [])) h ∙ (sym (append (map view (take i xs)) (view x ∷ []))
@@ -39,4 +41,6 @@ pub line_turn : (first old new : Text) (xs : List (String Global)) (i : ℕ) (x 
 line_turn first old new xs i x l e h k =
     let before = flat_map line_of (map (λ (s : String Global). string_bytes s) (take i xs)) in
     k ∙ (ap (λ (t : Text). t ++ line_of (string_bytes x)) h ∙ (append_assoc first before (line_of (string_bytes x))
-    ∙ ap (λ (t : Text). first ++ t) (turn (λ (s : String Global). string_bytes s) (flat_map line_of) lines-append before (before ++ line_of (string_bytes x)) xs i x l e refl (ap (λ (t : Text). before ++ t) (one_line (string_bytes x))))))
+    ∙ ap (λ (t : Text). first ++ t) (turn (λ (s : String Global). string_bytes s) (flat_map line_of) lines-append before
+    (before ++ line_of (string_bytes x)) xs i x l e refl
+    (ap (λ (t : Text). before ++ t) (one_line (string_bytes x))))))

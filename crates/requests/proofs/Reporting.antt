@@ -9,7 +9,8 @@ use Rattle.modulefile.specs.Effects.{Mode}
 use Rattle.search.specs.Found as search
 use Rattle.requests.specs.Reasons.{RequestReason}
 use Rattle.requests.specs.Requests.{RequestedAction, load, unload, switch, purge, list, avail, show, whatis}
-use Rattle.requests.specs.Steps.{RequestContext, Done, nothing_done, entries_of, ShowsName, shown_text, described_text, Each, NeedsNames, ShowsNames, RequestStep}
+use Rattle.requests.specs.Steps.{RequestContext, Done, nothing_done, entries_of, ShowsName, shown_text, described_text}
+use Rattle.requests.specs.Steps.{Each, NeedsNames, ShowsNames, RequestStep}
 use Rattle.requests.specs.Laws.{Reports}
 use Rattle.requests.proofs.Bound.{went_on}
 
@@ -25,22 +26,28 @@ stay_same e d still t h = let same : d ≡ t = cc in subst (λ x. Still e x) sam
 stay_refused : (e : Environment) (r : RequestReason) → Stays e (Is (Err r))
 stay_refused e r t h = absurd (let g : Ok t ≡ Err r = h in cc)
 
-stay_then : {A : Type 0} {First : Result A RequestReason → Type 0} {Rest : A → Result Done RequestReason → Type 0} (e : Environment) → ((x : A) → First (Ok x) → Stays e (Rest x)) → Stays e (Then First Rest)
+stay_then : {A : Type 0} {First : Result A RequestReason → Type 0} {Rest : A → Result Done RequestReason → Type 0}
+    (e : Environment) → ((x : A) → First (Ok x) → Stays e (Rest x)) → Stays e (Then First Rest)
 stay_then {First = First} {Rest = Rest} e stays t h = let g = went_on First Rest t h in stays g.0 g.1 t g.2
 
 stay_show : (s : RequestContext) (mode : Mode) (text_of : search.FoundModule → List Record → Text) (e : Environment) (typed : Text) (d : Done) → Still e d → Stays e (ShowsName s mode text_of typed d)
 stay_show s mode text_of e typed d still =
     stay_then e (λ xs h. stay_then e (λ m g. stay_then e (λ ran f. stay_same e _ still)))
 
-stay_each : (e : Environment) (Does : Text → Done → Result Done RequestReason → Type 0) → ((name : Text) (d : Done) → Still e d → Stays e (Does name d)) → (names : List Text) (d : Done) → Still e d → Stays e (Each Does names d)
+stay_each : (e : Environment) (Does : Text → Done → Result Done RequestReason → Type 0)
+    → ((name : Text) (d : Done) → Still e d → Stays e (Does name d)) → (names : List Text) (d : Done) → Still e d
+    → Stays e (Each Does names d)
 stay_each e Does stays [] d still = stay_same e d still
 stay_each e Does stays (name ∷ names) d still =
     stay_then e (λ t h. stay_each e Does stays names t (stays name d still t h))
 
-stay_shown : (s : RequestContext) (mode : Mode) (text_of : search.FoundModule → List Record → Text) (e : Environment) (names : List Text) → Stays e (NeedsNames names (ShowsNames s mode text_of e names))
+stay_shown : (s : RequestContext) (mode : Mode) (text_of : search.FoundModule → List Record → Text) (e : Environment)
+    (names : List Text) → Stays e (NeedsNames names (ShowsNames s mode text_of e names))
 stay_shown s mode text_of e [] = stay_refused e _
 stay_shown s mode text_of e (name ∷ names) =
-    stay_then {First = Is (entries_of e)} {Rest = λ xs. Each (ShowsName s mode text_of) (name ∷ names) (nothing_done e)} e (λ xs h. stay_each e (ShowsName s mode text_of) (stay_show s mode text_of e) (name ∷ names) (nothing_done e) (refl, refl))
+    stay_then {First = Is (entries_of e)} {Rest = λ xs. Each (ShowsName s mode text_of) (name ∷ names) (nothing_done e)}
+    e (λ xs h. stay_each e (ShowsName s mode text_of) (stay_show s mode text_of e) (name ∷ names) (nothing_done e)
+    (refl, refl))
 
 pub reports_leave : (s : RequestContext) (e : Environment) (asked : RequestedAction) (d : Done) → Reports asked → RequestStep s e asked (Ok d) → Still e d
 reports_leave s e (load names) d r h = absurd r

@@ -8,7 +8,8 @@ use Rattle.modulefile.specs.RecordLaws.{ReachComposes}
 use Rattle.reversal.specs.Requests as moves
 use Rattle.requests.specs.Requests.{RequestedAction, Request}
 use Rattle.requests.specs.Steps.{RequestContext}
-use Rattle.requests.specs.Sessions.{Response, accepted, refused, given_up, IsResponse, env_after, end_environment, in_shell, Session, outcome_of, is_decided}
+use Rattle.requests.specs.Sessions.{Response, accepted, refused, given_up, IsResponse, env_after, end_environment}
+use Rattle.requests.specs.Sessions.{in_shell, Session, outcome_of, is_decided}
 use Rattle.requests.specs.Laws.{OneOutcome, StepsReach}
 
 response_comes : StepsReach → (s : RequestContext) (e : Environment) (asked : RequestedAction) (o : Response) → IsResponse s e asked o → moves.RequestReaches (outcome_of o) e (env_after e o)
@@ -32,7 +33,8 @@ run_leads law [] old new h = h
 run_leads law (o ∷ os) old new (mid, c, r) = law (moves.moves_of o) (moves.all_moves os) old mid new (comes_lead o old mid c) (run_leads law os mid new r)
 
 -- responses that aren't given up
-same_response : OneOutcome → (s : RequestContext) (e : Environment) (asked : RequestedAction) (o p : Response) → is_decided o ≡ true → is_decided p ≡ true → IsResponse s e asked o → IsResponse s e asked p → o ≡ p
+same_response : OneOutcome → (s : RequestContext) (e : Environment) (asked : RequestedAction) (o p : Response)
+    → is_decided o ≡ true → is_decided p ≡ true → IsResponse s e asked o → IsResponse s e asked p → o ≡ p
 same_response law s e asked (accepted d) (accepted t) a b h k = let q : Ok d ≡ Ok t = law s e asked (Ok d) (Ok t) h k in cc
 same_response law s e asked (accepted d) (refused r) a b h k = absurd (let q : Ok d ≡ Err r = law s e asked (Ok d) (Err r) h k in cc)
 same_response law s e asked (refused r) (accepted d) a b h k = absurd (let q : Err r ≡ Ok d = law s e asked (Err r) (Ok d) h k in cc)
@@ -41,7 +43,8 @@ same_response law s e asked (given_up n) p a b h k = absurd (cc)
 same_response law s e asked (accepted d) (given_up n) a b h k = absurd (cc)
 same_response law s e asked (refused r) (given_up n) a b h k = absurd (cc)
 
-pub same_session : OneOutcome → (s : RequestContext) (e : Environment) (rs : List Request) (os ps : List Response) → list_all is_decided os ≡ true → list_all is_decided ps ≡ true → Session s e rs os → Session s e rs ps → os ≡ ps
+pub same_session : OneOutcome → (s : RequestContext) (e : Environment) (rs : List Request) (os ps : List Response)
+    → list_all is_decided os ≡ true → list_all is_decided ps ≡ true → Session s e rs os → Session s e rs ps → os ≡ ps
 same_session law s e [] [] [] a b h k = refl
 same_session law s e [] [] (p ∷ ps) a b h k = absurd k
 same_session law s e [] (o ∷ os) ps a b h k = absurd h

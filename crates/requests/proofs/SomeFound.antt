@@ -1,6 +1,7 @@
 -- A name means a module, or there is a reason that it means none: what is asked of a tree can be decided, and a set of
 -- candidates is finite.
-use Rattle.std.proofs.Common.{◌≡◌, ◌⊎◌, inl, inr, Bool, true, false, ◌&&◌, List, [], ◌∷◌, ◌++◌, filter, Option, Some, None, Result, Ok, Err, refl, sym, ap, ◌∙◌, subst, ⊎_elim}
+use Rattle.std.proofs.Common.{◌≡◌, ◌⊎◌, inl, inr, Bool, true, false, ◌&&◌, List, [], ◌∷◌, ◌++◌, filter, Option, Some}
+use Rattle.std.proofs.Common.{None, Result, Ok, Err, refl, sym, ap, ◌∙◌, subst, ⊎_elim}
 use Rattle.std.specs.Prelude.{bytes_eq, codes, if◌then◌else◌}
 use Rattle.std.specs.List.{list_any}
 use Rattle.std.proofs.lemmas.Bool.{or_cases, or_left, or_right, and_parts, and_from}
@@ -9,12 +10,15 @@ use Rattle.modulename.specs.ModuleName.{Text, is_module_name}
 use Rattle.modulename.specs.Versions.{IsGreatest, IsIn, greater}
 use Rattle.modulename.proofs.GreatestLemmas.{greatest_of_more, greatest_of_one}
 use Rattle.filetree.specs.Agreement.{Files, Listings}
-use Rattle.filetree.specs.Modulefiles.{FileContent, absent, no_cookie, not_utf8, script, modulefile, is_module, directories, path_of}
+use Rattle.filetree.specs.Modulefiles.{FileContent, absent, no_cookie, not_utf8, script, modulefile, is_module}
+use Rattle.filetree.specs.Modulefiles.{directories, path_of}
 use Rattle.filetree.specs.Relations.{Is, After, Then, If, Where}
 use Rattle.search.specs.Reasons.{bad_name, not_found, bad_default}
 use Rattle.search.specs.Single.{is_single}
-use Rattle.search.specs.DefaultFiles.{DefaultFileResult, VersionIn, version_named, NamesIn, Names, by_command, by_variable}
-use Rattle.search.specs.Found.{IsCandidate, HasCandidates, IsSomeCandidate, default_file, NamedDefault, Greatest, NamedOrGreatest, Default, read, FoundAlong, Found}
+use Rattle.search.specs.DefaultFiles.{DefaultFileResult, VersionIn, version_named, NamesIn, Names, by_command}
+use Rattle.search.specs.DefaultFiles.{by_variable}
+use Rattle.search.specs.Found.{IsCandidate, HasCandidates, IsSomeCandidate, default_file, NamedDefault, Greatest}
+use Rattle.search.specs.Found.{NamedOrGreatest, Default, read, FoundAlong, Found}
 use Rattle.requests.specs.Refusals.{refused_as, RefusedAs}
 
 -- it has an outcome
@@ -83,7 +87,9 @@ among p (Some entries) = filter p entries
 abbrev candidates : Files → Listings → Text → Text → List Text
 candidates files listings dir name = among (is_version files dir name) (listings (path_of dir name))
 
-as_candidate : (files : Files) (listings : Listings) (dir name v : Text) (o : Option (List Text)) → listings (path_of dir name) ≡ o → IsIn (among (is_version files dir name) o) v → IsCandidate files listings dir name v
+as_candidate : (files : Files) (listings : Listings) (dir name v : Text) (o : Option (List Text))
+    → listings (path_of dir name) ≡ o → IsIn (among (is_version files dir name) o) v
+    → IsCandidate files listings dir name v
 as_candidate files listings dir name v None e h = absurd (let f : false ≡ true = h in cc)
 as_candidate files listings dir name v (Some entries) e h =
     let p = in_filter (is_version files dir name) v entries h in
@@ -164,7 +170,8 @@ some_names_in results law says path (script text) = let l = law path text in (ve
 some_names : (results : Text → Text → Option DefaultFileResult → Type 0) → Leaving results → (files : Files) (says : VersionIn) (path : Text) → IsSome (Names results files says path)
 some_names results law files says path = some_names_in results law says path (modulefile (files path))
 
-some_named : (results : Text → Text → Option DefaultFileResult → Type 0) → Leaving results → (files : Files) (listings : Listings) (dir name : Text) → IsSome (NamedDefault results files listings dir name)
+some_named : (results : Text → Text → Option DefaultFileResult → Type 0) → Leaving results
+    → (files : Files) (listings : Listings) (dir name : Text) → IsSome (NamedDefault results files listings dir name)
 some_named results law files listings dir name =
     some_then (some_names results law files (by_command name) (default_file dir name (codes ".modulerc"))) (λ first.
     some_where (decided_one_of files listings dir name first) (λ h. some_is (Ok first)) (
@@ -175,11 +182,16 @@ some_or_greatest : (files : Files) (listings : Listings) (dir name : Text) → H
 some_or_greatest files listings dir name h (Some v) = some_is (Ok v)
 some_or_greatest files listings dir name h None = some_greatest files listings dir name h
 
-some_default : (results : Text → Text → Option DefaultFileResult → Type 0) → Leaving results → (files : Files) (listings : Listings) (dir name : Text) → HasCandidates files listings dir name → IsSome (Default results files listings dir name)
+some_default : (results : Text → Text → Option DefaultFileResult → Type 0) → Leaving results
+    → (files : Files) (listings : Listings) (dir name : Text) → HasCandidates files listings dir name
+    → IsSome (Default results files listings dir name)
 some_default results law files listings dir name h =
-    some_then {First = NamedDefault results files listings dir name} {Rest = NamedOrGreatest files listings dir name} (some_named results law files listings dir name) (some_or_greatest files listings dir name h)
+    some_then {First = NamedDefault results files listings dir name} {Rest = NamedOrGreatest files listings dir name}
+    (some_named results law files listings dir name) (some_or_greatest files listings dir name h)
 
-some_along : (results : Text → Text → Option DefaultFileResult → Type 0) → Leaving results → (files : Files) (listings : Listings) (name : Text) (dirs : List Text) → IsSome (FoundAlong results files listings name dirs)
+some_along : (results : Text → Text → Option DefaultFileResult → Type 0) → Leaving results
+    → (files : Files) (listings : Listings) (name : Text) (dirs : List Text)
+    → IsSome (FoundAlong results files listings name dirs)
 some_along results law files listings name [] = some_is (Err (not_found name))
 some_along results law files listings name (dir ∷ dirs) =
     some_where (decided (is_module (modulefile (files (path_of dir name))))) (λ h. some_is (read name (path_of dir name) (modulefile (files (path_of dir name))))) (
@@ -187,6 +199,8 @@ some_along results law files listings name (dir ∷ dirs) =
     some_then (some_default results law files listings dir name h) (λ v. some_is (read (path_of name v) (path_of dir (path_of name v)) (modulefile (files (path_of dir (path_of name v))))))) (
     some_along results law files listings name dirs))
 
-pub some_found : (results : Text → Text → Option DefaultFileResult → Type 0) → Leaving results → (files : Files) (listings : Listings) (modulepath name : Text) → IsSome (Found results files listings modulepath name)
+pub some_found : (results : Text → Text → Option DefaultFileResult → Type 0) → Leaving results
+    → (files : Files) (listings : Listings) (modulepath name : Text)
+    → IsSome (Found results files listings modulepath name)
 some_found results law files listings modulepath name =
     some_if (is_module_name name) (some_along results law files listings name (directories modulepath)) (some_is (Err (bad_name name)))

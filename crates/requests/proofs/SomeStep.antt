@@ -24,7 +24,10 @@ use Rattle.requests.specs.Reasons.{RequestReason, bad_arguments, missed, file_re
 use Rattle.requests.specs.Requests.{RequestedAction, load, unload, switch, purge, list, avail, show, whatis}
 use Rattle.requests.specs.Conditions.{end_objection}
 use Rattle.requests.specs.Reports.{loaded_text}
-use Rattle.requests.specs.Steps.{RequestContext, Done, nothing_done, continued, module_of, joins, with_report, entries_of, modulepath, context_of, script_at, Finds, LoadsFound, LoadsName, UnloadsMeant, last_meant, UnloadsName, ShowsName, shown_text, described_text, Each, NeedsNames, EndsRequest, ChangesLoaded, Switches, ShowsNames, RequestStep, old_name}
+use Rattle.requests.specs.Steps.{RequestContext, Done, nothing_done, continued, module_of, joins, with_report}
+use Rattle.requests.specs.Steps.{entries_of, modulepath, context_of, script_at, Finds, LoadsFound, LoadsName}
+use Rattle.requests.specs.Steps.{UnloadsMeant, last_meant, UnloadsName, ShowsName, shown_text, described_text, Each}
+use Rattle.requests.specs.Steps.{NeedsNames, EndsRequest, ChangesLoaded, Switches, ShowsNames, RequestStep, old_name}
 use Rattle.requests.specs.Laws.{IsNotAvail}
 use Rattle.requests.proofs.SomeFound.{IsSome, some_is, some_then, some_if, some_refused_as, some_found}
 
@@ -36,7 +39,9 @@ pub some_run : files.SomeOutcome → (limits : Limits) (c : FileContext) (text :
 some_run file limits c text = some_refused_as {f = file_refused} {First = RunsFile limits c text} (file limits c text)
 
 pub some_finds : SomeLeft → (s : RequestContext) (e : Environment) (name : Text) → IsSome (Finds s e name)
-some_finds left s e name = some_refused_as {f = missed} {First = Found (HasResult s.limits) s.files s.listings (modulepath e) name} (some_found (HasResult s.limits) (left s.limits) s.files s.listings (modulepath e) name)
+some_finds left s e name = some_refused_as {f = missed}
+    {First = Found (HasResult s.limits) s.files s.listings (modulepath e) name}
+    (some_found (HasResult s.limits) (left s.limits) s.files s.listings (modulepath e) name)
 
 some_loads_found : files.SomeOutcome → (s : RequestContext) (w : Bool) (typed : Text) (d : Done) (xs : List Entry) (m : search.FoundModule) → IsSome (LoadsFound s w typed d xs m)
 some_loads_found file s w typed d xs m =
@@ -89,16 +94,22 @@ some_switch : files.SomeOutcome → SomeLeft → (s : RequestContext) (old : Opt
 some_switch file left s old new d =
     some_then {First = UnloadsName s true (old_name old new) d} {Rest = LoadsName s true new} (some_unload file s true (old_name old new) d) (some_load file left s true new)
 
-some_shown : files.SomeOutcome → SomeLeft → (s : RequestContext) (mode : Mode) (text_of : search.FoundModule → List Record → Text) (e : Environment) (names : List Text) → IsSome (ShowsNames s mode text_of e names)
+some_shown : files.SomeOutcome → SomeLeft → (s : RequestContext) (mode : Mode)
+    (text_of : search.FoundModule → List Record → Text) (e : Environment) (names : List Text)
+    → IsSome (ShowsNames s mode text_of e names)
 some_shown file left s mode text_of e names =
     some_then {First = Is (entries_of e)} {Rest = λ xs. Each (ShowsName s mode text_of) names (nothing_done e)} (some_is (entries_of e)) (λ xs.
     some_each (ShowsName s mode text_of) (some_show file left s mode text_of) names (nothing_done e))
 
 pub some_step : files.SomeOutcome → SomeLeft → (s : RequestContext) (e : Environment) (asked : RequestedAction) → IsNotAvail asked → IsSome (RequestStep s e asked)
 some_step file left s e (load names) n =
-    some_named names (ChangesLoaded e (λ before. Each (LoadsName s false) names)) (some_changes e (λ before. Each (LoadsName s false) names) (λ before. some_each (LoadsName s false) (some_load file left s false) names))
+    some_named names (ChangesLoaded e (λ before. Each (LoadsName s false) names))
+    (some_changes e (λ before. Each (LoadsName s false) names)
+    (λ before. some_each (LoadsName s false) (some_load file left s false) names))
 some_step file left s e (unload names) n =
-    some_named names (ChangesLoaded e (λ before. Each (UnloadsName s false) names)) (some_changes e (λ before. Each (UnloadsName s false) names) (λ before. some_each (UnloadsName s false) (some_unload file s false) names))
+    some_named names (ChangesLoaded e (λ before. Each (UnloadsName s false) names))
+    (some_changes e (λ before. Each (UnloadsName s false) names)
+    (λ before. some_each (UnloadsName s false) (some_unload file s false) names))
 some_step file left s e (switch old new) n =
     some_changes e (λ before. Switches s old new) (λ before. some_switch file left s old new)
 some_step file left s e purge n =

@@ -33,12 +33,16 @@ pub not_among : (m : Module) (xs : List Entry) → has m.name (names_of xs) ≡ 
 not_among m [] h k = k
 not_among m (x ∷ xs) h k = not_among_step (bytes_eq m.name x.name) (bytes_eq m.path x.path) (has m.name (names_of xs)) (list_any (is_entry_of m) xs) h k (not_among m xs)
 
-live_step : (m n : Module) (live : List Module) (b : Bool) (rest : Bool) → (rest || ((b && bytes_eq m.path n.path) || false)) ≡ true → (rest ≡ true → (l : Module) × (live_named m.name live ≡ Some l)) → (l : Module) × (cond b (Some n) (live_named m.name live) ≡ Some l)
+live_step : (m n : Module) (live : List Module) (b : Bool) (rest : Bool)
+    → (rest || ((b && bytes_eq m.path n.path) || false)) ≡ true
+    → (rest ≡ true → (l : Module) × (live_named m.name live ≡ Some l)) → (l : Module)
+    × (cond b (Some n) (live_named m.name live) ≡ Some l)
 live_step m n live true rest h r = (n, refl)
 live_step m n live false true h r = r refl
 live_step m n live false false h r = absurd (let g : false ≡ true = h in cc)
 
-live_among : (m : Module) (xs : List Entry) (live : List Module) → has m.name (names_of xs) ≡ false → list_any (is_entry_of m) (entries_over xs live) ≡ true → (l : Module) × (live_named m.name live ≡ Some l)
+live_among : (m : Module) (xs : List Entry) (live : List Module) → has m.name (names_of xs) ≡ false
+    → list_any (is_entry_of m) (entries_over xs live) ≡ true → (l : Module) × (live_named m.name live ≡ Some l)
 live_among m xs [] h k = absurd (let g : false ≡ true = not_among m xs h k in cc)
 live_among m xs (n ∷ live) h k =
     live_step m n live (bytes_eq m.name n.name) (list_any (is_entry_of m) (entries_over xs live))
@@ -47,13 +51,18 @@ live_among m xs (n ∷ live) h k =
 pub same_list : (xs ys : List Entry) → Some xs ≡ Some ys → xs ≡ ys
 same_list xs ys e = cc
 
-pub undoes : (uses : Text → VariableUse) (start old : Environment) (bs : List Entry) (live : List Module) (m : Module) → loaded_in start ≡ Some bs → IsStartWith uses start live old → IsNew start (Unloads m) → HasLoadRecords live m → Fits (Unloads m) old → Undoes live m
+pub undoes : (uses : Text → VariableUse) (start old : Environment) (bs : List Entry) (live : List Module) (m : Module)
+    → loaded_in start ≡ Some bs → IsStartWith uses start live old → IsNew start (Unloads m) → HasLoadRecords live m
+    → Fits (Unloads m) old → Undoes live m
 undoes uses start old bs live m list start_with_live new records (xs, read, any) =
     let same : xs ≡ entries_over bs live = same_list xs (entries_over bs live) (sym read ∙ start_with_live.entries bs list) in
     let l = live_among m bs live (new bs list) (subst (λ (ys : List Entry). list_any (is_entry_of m) ys ≡ true) same any) in
     record { loaded = l.0; found = l.1; records = records l.0 l.1 }
 
-pub reversible : MovesPreserve → (uses : Text → VariableUse) (start : Environment) → IsStart uses start → (ms : List Move) (live : List Module) (old new : Environment) → IsInOrder uses old → IsStartWith uses start live old → AreReversibleTogether uses live → AreNew start ms → AreReversibleBeside uses live ms → MovesReach ms old new → AreReversible uses live ms
+pub reversible : MovesPreserve → (uses : Text → VariableUse) (start : Environment) → IsStart uses start
+    → (ms : List Move) (live : List Module) (old new : Environment) → IsInOrder uses old
+    → IsStartWith uses start live old → AreReversibleTogether uses live → AreNew start ms
+    → AreReversibleBeside uses live ms → MovesReach ms old new → AreReversible uses live ms
 reversible step_law uses start begin [] live old new order start_with_live fit news fitting reach = tt
 reversible step_law uses start begin (Loads m ∷ ms) live old new order start_with_live fit news fitting (fits, (mid, move, reach)) =
     let h = step_law uses start old mid live (Loads m ∷ []) begin order start_with_live fit (fitting.0, tt) (fits, (mid, move, refl)) in

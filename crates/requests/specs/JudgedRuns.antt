@@ -55,7 +55,8 @@ JudgedIsReversible =
 -- is in order and is the start with the live modules layered on it. With none it is the start.
 abbrev pub JudgedSessionsReturn : Type 0
 JudgedSessionsReturn =
-    (uses : Text → VariableUse) (s : RequestContext) (start : Environment) (rs : List Request) (before after : List Response)
+    (uses : Text → VariableUse) (s : RequestContext) (start : Environment) (rs : List Request)
+    (before after : List Response)
     → IsStart uses start → Session s start rs (before ++ after)
     → AreNew start (session_moves (before ++ after)) → AreJudged s uses [] (session_moves (before ++ after))
     → Holds uses start (live_after [] (session_moves before)) (end_environment start before)

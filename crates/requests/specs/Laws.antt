@@ -66,7 +66,8 @@ Reports (whatis names) = Unit {0}
 -- It changes no variable, and moves nothing.
 abbrev pub ReportsChangeNothing : Type 0
 ReportsChangeNothing =
-    (s : RequestContext) (e : Environment) (action : RequestedAction) (d : Done) → Reports action → RequestStep s e action (Ok d)
+    (s : RequestContext) (e : Environment) (action : RequestedAction) (d : Done) → Reports action
+    → RequestStep s e action (Ok d)
     → (d.env ≡ e) × (d.moves ≡ [])
 
 -- A session is a run of what its requests moved.
@@ -91,7 +92,8 @@ OneSession =
 -- order and is the start with the live modules layered on it. With none it is the start.
 abbrev pub SessionsReturn : Type 0
 SessionsReturn =
-    (uses : Text → VariableUse) (s : RequestContext) (start : Environment) (rs : List Request) (before after : List Response)
+    (uses : Text → VariableUse) (s : RequestContext) (start : Environment) (rs : List Request)
+    (before after : List Response)
     → IsStart uses start → Session s start rs (before ++ after)
     → AreNew start (session_moves (before ++ after)) → AreReversibleBeside uses [] (session_moves (before ++ after))
     → Holds uses start (live_after [] (session_moves before)) (end_environment start before)
@@ -99,7 +101,8 @@ SessionsReturn =
 -- The same where the files of the modules are plain: then there is no premise about the records of unloads.
 abbrev pub PlainSessionsReturn : Type 0
 PlainSessionsReturn =
-    (uses : Text → VariableUse) (s : RequestContext) (start : Environment) (rs : List Request) (before after : List Response)
+    (uses : Text → VariableUse) (s : RequestContext) (start : Environment) (rs : List Request)
+    (before after : List Response)
     → IsStart uses start → Session s start rs (before ++ after)
     → AreNew start (session_moves (before ++ after)) → ArePlain s uses [] (session_moves (before ++ after))
     → Holds uses start (live_after [] (session_moves before)) (end_environment start before)
@@ -109,7 +112,8 @@ PlainSessionsReturn =
 -- the start.
 abbrev pub CommandsReturn : Type 0
 CommandsReturn =
-    (uses : Text → VariableUse) (s : RequestContext) (start e : Environment) (live : List Module) (action : RequestedAction)
+    (uses : Text → VariableUse) (s : RequestContext) (start e : Environment) (live : List Module)
+    (action : RequestedAction)
     (d : Done)
     → IsStart uses start → IsInOrder uses e → IsStartWith uses start live e → AreReversibleTogether uses live
     → RequestStep s e action (Ok d) → AreNew start d.moves → AreReversibleBeside uses live d.moves

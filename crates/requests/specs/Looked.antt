@@ -1,5 +1,5 @@
--- Where a request looks (own): the paths of the files and directories that it reads or lists on its way. No failure of the
--- device at another path can refuse it.
+-- Where a request looks (own): the paths of the files and directories that it reads or lists on its way. No failure of
+-- the device at another path can refuse it.
 use Rattle.std.specs.Prelude.{◌≡◌, ◌⊎◌, true, false, List, [], ◌∷◌, reverse, Some, Result, Ok}
 use Rattle.modulename.specs.ModuleName.{is_module_name}
 use Rattle.envvars.specs.Texts.{Text, has}
@@ -11,7 +11,8 @@ use Rattle.search.specs.Looked as search
 use Rattle.requests.specs.Reasons.{RequestReason}
 use Rattle.requests.specs.Requests.{Request, RequestedAction, load, unload, switch, purge, list, avail, show, whatis}
 use Rattle.requests.specs.Sessions.{Response, IsResponse, env_after, in_shell}
-use Rattle.requests.specs.Steps.{RequestContext, Done, nothing_done, entries_of, modulepath, last_meant, old_name, LoadsName, UnloadsName, ShowsName, shown_text, described_text}
+use Rattle.requests.specs.Steps.{RequestContext, Done, nothing_done, entries_of, modulepath, last_meant, old_name}
+use Rattle.requests.specs.Steps.{LoadsName, UnloadsName, ShowsName, shown_text, described_text}
 
 -- The search for what a name means now looks at this path. The file of the module that is found is one of these.
 abbrev pub SearchLooksAt : RequestContext → Environment → Text → Text → Type 0

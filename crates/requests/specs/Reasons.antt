@@ -1,6 +1,8 @@
 -- Why a request is refused, and the number of each reason (own). Want of memory and a failed device are no reasons:
 -- they are causes beside these.
 use Rattle.std.specs.Prelude.{ℕ, List}
+use Rattle.message.specs.Refusals.{number_of}
+use Rattle.message.specs.declared.refusals.RefusalKind.TheVariants as kinds
 use Rattle.envvars.specs.Texts.{Text}
 use Rattle.modulefile.specs.Judgments.{RecordReason}
 use Rattle.modulefile.specs.Answers.{record_number}
@@ -32,20 +34,20 @@ pub data RequestReason : Type 0 where
 
 -- the numbers of the reasons that a search has
 abbrev pub search_number : search.FindReason → ℕ
-search_number (bad_name name) = 44
-search_number (not_found name) = 42
-search_number (bad_default path) = 45
-search_number (not_utf8_at path) = 46
+search_number (bad_name name) = number_of kinds.BadName
+search_number (not_found name) = number_of kinds.NotFound
+search_number (bad_default path) = number_of kinds.BadDefaultFile
+search_number (not_utf8_at path) = number_of kinds.NotUtf8
 
 -- the number of each reason
 abbrev pub reason_number : RequestReason → ℕ
-reason_number bad_arguments = 56
-reason_number (unknown_subcommand word) = 57
+reason_number bad_arguments = number_of kinds.BadArguments
+reason_number (unknown_subcommand word) = number_of kinds.UnknownSubcommand
 reason_number (missed reason) = search_number reason
-reason_number (file_gone path) = 54
-reason_number (not_a_modulefile path) = 55
+reason_number (file_gone path) = number_of kinds.FileGone
+reason_number (not_a_modulefile path) = number_of kinds.NotAModulefile
 reason_number (file_refused stop) = file_reason_number stop
-reason_number (conflict_with name) = 51
-reason_number (prereq_missing names) = 52
-reason_number (still_needed_by name) = 53
+reason_number (conflict_with name) = number_of kinds.ConflictWith
+reason_number (prereq_missing names) = number_of kinds.PrereqMissing
+reason_number (still_needed_by name) = number_of kinds.StillNeededBy
 reason_number (refused_edit reason) = record_number reason

@@ -1,5 +1,6 @@
 -- What a command line asks for (module(1), Sub-commands).
-use Rattle.std.specs.Prelude.{Bool, ◌||◌, List, [], ◌∷◌, codes, if◌then◌else◌, bytes_eq, Option, Some, None, Result, Ok, Err}
+use Rattle.std.specs.Prelude.{Bool, ◌||◌, List, [], ◌∷◌, codes, if◌then◌else◌, bytes_eq, Option, Some, None, Result, Ok}
+use Rattle.std.specs.Prelude.{Err}
 use Rattle.envvars.specs.Texts.{Text}
 use Rattle.shelltext.specs.declared.shell.Shell.{Shell}
 use Rattle.requests.specs.Reasons.{RequestReason, bad_arguments, unknown_subcommand}

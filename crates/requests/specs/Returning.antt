@@ -26,4 +26,5 @@ HasLoadRecords live m = (loaded : Module) → live_named m.name live ≡ Some lo
 abbrev pub AreReversibleBeside : (Text → VariableUse) → List Module → List Move → Type 0
 AreReversibleBeside uses live [] = Unit {0}
 AreReversibleBeside uses live (Loads m ∷ ms) = IsReversibleAndApart uses live m × AreReversibleBeside uses (m ∷ live) ms
-AreReversibleBeside uses live (Unloads m ∷ ms) = HasLoadRecords live m × AreReversibleBeside uses (without_live m.name live) ms
+AreReversibleBeside uses live (Unloads m ∷ ms) = HasLoadRecords live m
+    × AreReversibleBeside uses (without_live m.name live) ms

@@ -1,6 +1,7 @@
--- The step of a request: what it makes of an environment, over the files and directories of a tree (module(1)). The step
--- also says which moves lead to that environment.
-use Rattle.std.specs.Prelude.{◌≡◌, Bool, true, false, List, [], ◌∷◌, ◌++◌, codes, reverse, find, unwrap_or, Option, Some, None, Result, Ok, Err}
+-- The step of a request: what it makes of an environment, over the files and directories of a tree (module(1)). The
+-- step also says which moves lead to that environment.
+use Rattle.std.specs.Prelude.{◌≡◌, Bool, true, false, List, [], ◌∷◌, ◌++◌, codes, reverse, find, unwrap_or, Option}
+use Rattle.std.specs.Prelude.{Some, None, Result, Ok, Err}
 use Rattle.modulename.specs.ModuleName.{is_module_name, means, parts}
 use Rattle.envvars.specs.Texts.{Text, has}
 use Rattle.envvars.specs.Environment.{Environment, lookup}
@@ -26,13 +27,14 @@ use Rattle.search.specs.Found as search
 use Rattle.search.specs.Found.{Found}
 use Rattle.search.specs.Listed.{Listing, Listed}
 use Rattle.requests.specs.Refusals.{refused_as, unless, RefusedAs}
-use Rattle.requests.specs.Reasons.{RequestReason, bad_arguments, missed, file_gone, not_a_modulefile, file_refused, refused_edit}
+use Rattle.requests.specs.Reasons.{RequestReason, bad_arguments, missed, file_gone, not_a_modulefile, file_refused}
+use Rattle.requests.specs.Reasons.{refused_edit}
 use Rattle.requests.specs.Requests.{RequestedAction, load, unload, switch, purge, list, avail, show, whatis}
 use Rattle.requests.specs.Conditions.{load_objection, end_objection}
 use Rattle.requests.specs.Reports.{loaded_text, avail_text}
 
--- What a request is run over: the files and directories of a tree, the limits on the evaluation of each file, and the shell
--- that reads what is printed.
+-- What a request is run over: the files and directories of a tree, the limits on the evaluation of each file, and the
+-- shell that reads what is printed.
 pub record RequestContext : Type 0 where
   pub files : Files
   pub listings : Listings
@@ -41,7 +43,8 @@ pub record RequestContext : Type 0 where
 
 -- what a request is run over, by its parts
 abbrev pub request_context_in : Limits → Shell → Files → Listings → RequestContext
-request_context_in limits shell files listings = record { files = files; listings = listings; limits = limits; shell = shell }
+request_context_in limits shell files listings = record
+    { files = files; listings = listings; limits = limits; shell = shell }
 
 -- What a request has done so far: its moves and what they made of the environment, the messages of its files, and its
 -- report.
@@ -112,7 +115,8 @@ abbrev pub joins : Done → List Entry → Module → List Text → Result Done 
 joins d xs m messages = unless (load_objection m.name m.records xs) (continued d (Loads m) messages)
 
 -- The module that was found is loaded, unless it is already.
-abbrev pub LoadsFound : RequestContext → Bool → Text → Done → List Entry → search.FoundModule → Result Done RequestReason → Type 0
+abbrev pub LoadsFound : RequestContext → Bool → Text → Done → List Entry → search.FoundModule
+    → Result Done RequestReason → Type 0
 LoadsFound s in_switch typed d xs m =
     If (has m.name (names_of xs)) (Is (Ok d)) (
     RefusedAs file_refused
@@ -146,7 +150,8 @@ UnloadsEntry s in_switch typed d xs x =
     Is (continued d (Unloads (module_of x.name x.path ran)) ran.messages)))
 
 -- where there is no such module nothing changes
-abbrev pub UnloadsMeant : RequestContext → Bool → Text → Done → List Entry → Option Entry → Result Done RequestReason → Type 0
+abbrev pub UnloadsMeant : RequestContext → Bool → Text → Done → List Entry → Option Entry → Result Done RequestReason
+    → Type 0
 UnloadsMeant s in_switch typed d xs None = Is (Ok d)
 UnloadsMeant s in_switch typed d xs (Some x) = UnloadsEntry s in_switch typed d xs x
 
@@ -165,7 +170,8 @@ UnloadsName s in_switch typed d =
 -- ---- show and whatis
 
 -- The file is evaluated in the environment, which doesn't change.
-abbrev pub ShowsName : RequestContext → Mode → (search.FoundModule → List Record → Text) → Text → Done → Result Done RequestReason
+abbrev pub ShowsName : RequestContext → Mode → (search.FoundModule → List Record → Text) → Text → Done
+    → Result Done RequestReason
     → Type 0
 ShowsName s mode text_of typed d =
     Is (entries_of d.env) >> (λ xs.

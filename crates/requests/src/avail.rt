@@ -6,17 +6,15 @@ ghost use Rattle.search.specs.ListingEntries.{listing_entry_view};
 ghost use Rattle.modulefile.specs.Reports.{line_of};
 ghost use Rattle.requests.specs.Reports.{is_selected, module_line, selected_text, avail_text};
 
-use search::{Listing, ListingEntry};
+use search::{DirectoryListing, ListingEntry};
 use std::alloc::{AllocError, Global};
 
-/// Whether a name begins with a text.
 fn begins(name: &str, text: &str) -> bool
     ensures { result ≡ starts_with nat_eq name.now text.now }
 {
     name.as_bytes().starts_with(text.as_bytes())
 }
 
-/// Whether a name begins with one of the texts.
 fn begins_with_one(name: &str, texts: &[String]) -> bool
     ensures { result ≡ list_any (λ text. starts_with nat_eq name.now text) (map string_bytes texts.now) }
 {
@@ -59,7 +57,11 @@ fn push_module(report: &mut String, listing_entry: &ListingEntry) -> Result<(), 
 }
 
 /// Adds the lines of a directory, where a name of it is reported.
-fn push_listing(report: &mut String, texts: &[String], listing: &Listing) -> Result<(), AllocError>
+fn push_listing(
+    report: &mut String,
+    texts: &[String],
+    listing: &DirectoryListing,
+) -> Result<(), AllocError>
     ensures { OnOk result (string_bytes report.new
         ≡ string_bytes report.old ++ selected_text (map string_bytes texts.now) (listing_view listing.now)) }
 {
@@ -85,7 +87,7 @@ fn push_listing(report: &mut String, texts: &[String], listing: &Listing) -> Res
 pub fn avail_report(
     alloc: Global,
     texts: &[String],
-    listings: &[Listing],
+    listings: &[DirectoryListing],
 ) -> Result<String, AllocError>
     ensures { IfOk result (λ report.
         string_bytes report ≡ avail_text (map string_bytes texts.now) (map listing_view listings.now)) }

@@ -46,7 +46,6 @@ fn is_met(entries: &[Loaded], group: &[String]) -> bool
     group.iter().any(|name| means_some(name.as_str(), entries))
 }
 
-/// Whether one of the names means this module.
 fn means_module(names: &[String], full_name: &str) -> bool
     ensures { result ≡ list_any (λ c. means c full_name.now) (map string_bytes names.now) }
 {

@@ -1,5 +1,7 @@
 //! Laws about requests, sessions and verdicts. Each is a function that does nothing: its contract is the law.
-ghost use Rattle.requests.specs.Laws.{OneOutcome, SomeOutcome, StepsReach, StepsAreTheirMoves, ReportsChangeNothing, SessionsRun, SessionsReach, OneSession, SessionsReturn, PlainSessionsReturn, CommandsReturn};
+ghost use Rattle.requests.specs.Laws.{OneOutcome, SomeOutcome, StepsReach, StepsAreTheirMoves, ReportsChangeNothing};
+ghost use Rattle.requests.specs.Laws.{SessionsRun, SessionsReach, OneSession, SessionsReturn, PlainSessionsReturn};
+ghost use Rattle.requests.specs.Laws.{CommandsReturn};
 ghost use Rattle.requests.specs.PlainRuns.{JudgedIsPlain};
 ghost use Rattle.requests.specs.JudgedRuns.{SomeVerdict, JudgedIsReversible, JudgedSessionsReturn};
 ghost use Rattle.requests.specs.Verdicts.{OneVerdict, PlainHolds};

@@ -1,5 +1,6 @@
 -- What one record leaves as it was.
-use Rattle.std.proofs.Common.{◌≡◌, Bool, true, false, List, [], ◌∷◌, refl, sym, ap, ◌∙◌, subst, Option, Some, None, Result, Ok, Err}
+use Rattle.std.proofs.Common.{◌≡◌, Bool, true, false, List, [], ◌∷◌, refl, sym, ap, ◌∙◌, subst, Option, Some, None}
+use Rattle.std.proofs.Common.{Result, Ok, Err}
 use Rattle.std.specs.Prelude.{bytes_eq}
 use Rattle.std.specs.Option.{option_map, option_or}
 use Rattle.std.proofs.lemmas.Bool.{false≢true}
@@ -13,10 +14,13 @@ use Rattle.envstate.specs.Roles.{role_of, is_editable}
 use Rattle.envstate.specs.Roles.VariableRole.{Other}
 use Rattle.envstate.specs.Frames.{EditsVariable, IsVariableUnchanged, AreLoadedUnchanged}
 use Rattle.envstate.proofs.RoleLemmas.{no_reason_against}
-use Rattle.envstate.proofs.FrameLemmas.{add_edits, drop_edits, push_edits, pop_edits, set_edits, path_edits_variable, stack_edits_variable, keeps_other, keeps_loaded, rest_stays}
-use Rattle.modulefile.specs.Records.{Record, Set, Unset, Push, Front, Back, Remove, Conflict, Prereq, Whatis, variable_of}
+use Rattle.envstate.proofs.FrameLemmas.{add_edits, drop_edits, push_edits, pop_edits, set_edits, path_edits_variable}
+use Rattle.envstate.proofs.FrameLemmas.{stack_edits_variable, keeps_other, keeps_loaded, rest_stays}
+use Rattle.modulefile.specs.Records.{Record, Set, Unset, Push, Front, Back, Remove, Conflict, Prereq, Whatis}
+use Rattle.modulefile.specs.Records.{variable_of}
 use Rattle.modulefile.specs.Judgments.{RecordReason, bad_edit, value_reason, values_of, record_reason}
-use Rattle.modulefile.specs.Effects.{Mode, load, unload, display, whatis, loaded_by, unloaded_by, edited, edit_outcome, permitted, effect, effects}
+use Rattle.modulefile.specs.Effects.{Mode, load, unload, display, whatis, loaded_by, unloaded_by, edited, edit_outcome}
+use Rattle.modulefile.specs.Effects.{permitted, effect, effects}
 use Rattle.modulefile.proofs.Effected.{parts}
 use Rattle.reversal.specs.VariableUses.{is_reversible}
 
@@ -52,7 +56,9 @@ Touched None old new = new ≡ old
 Touched (Some v) old new = EditsVariable old new v
 
 set_touched : (v : Text) (x : Option Text) (old new : Environment) → is_editable v ≡ true → accepted (with_value old v x) ≡ Ok new → EditsVariable old new v
-set_touched v x old new h k = subst (λ (t : Environment). EditsVariable old t v) (sym (same_accepted (with_value old v x) new k)) (path_edits_variable old (with_value old v x) v (set_edits old v x h).0).0
+set_touched v x old new h k = subst (λ (t : Environment). EditsVariable old t v)
+    (sym (same_accepted (with_value old v x) new k)) (path_edits_variable old (with_value old v x) v
+    (set_edits old v x h).0).0
 
 pub touched_loaded : (owner : Text) (r : Record) (old new : Environment) → record_reason r ≡ None → loaded_by owner r old ≡ Ok new → Touched (variable_of r) old new
 touched_loaded owner (Set v x) old new n h = set_touched v (Some x) old new (plain_editable v (x ∷ []) n) h

@@ -1,5 +1,6 @@
 -- Environments by what was written into them, and moves over them by computation.
-use Rattle.std.proofs.Common.{◌≡◌, ℕ, Bool, true, false, cond, List, [], ◌∷◌, ◌++◌, refl, sym, ap, ◌∙◌, subst, Option, Some, None, Result, Ok}
+use Rattle.std.proofs.Common.{◌≡◌, ℕ, Bool, true, false, cond, List, [], ◌∷◌, ◌++◌, refl, sym, ap, ◌∙◌, subst, Option}
+use Rattle.std.proofs.Common.{Some, None, Result, Ok}
 use Rattle.std.specs.Prelude.{◌&&◌, not, bytes_eq}
 use Rattle.std.specs.List.{list_any}
 use Rattle.std.specs.FinMap as finite
@@ -15,18 +16,24 @@ use Rattle.envvars.proofs.EditLemmas.{not_is}
 use Rattle.envvars.proofs.TableLemmas.{nothing_set}
 use Rattle.envpaths.specs.Paths.{PathState, add_all, drop_all}
 use Rattle.envpaths.specs.PathTexts.{state_of, elements_text, pairs_text}
-use Rattle.envpaths.specs.PathVariables.{path_in, path_reason, counters_fit, with_path, written_path, added_path, dropped_path}
+use Rattle.envpaths.specs.PathVariables.{path_in, path_reason, counters_fit, with_path, written_path, added_path}
+use Rattle.envpaths.specs.PathVariables.{dropped_path}
 use Rattle.envpaths.specs.declared.adding.End.{End}
 use Rattle.envpaths.specs.declared.adding.End.TheVariants as ends
 use Rattle.envstacks.specs.Stacks.{StackState, holds, push, pop}
 use Rattle.envstacks.specs.StackTexts.{items_in, stack_text}
-use Rattle.envstacks.specs.StackVariables.{stack_from, stack_in, with_stack, push_reason, pop_reason, pushed_on, pushed_value, popped_from, popped_value}
+use Rattle.envstacks.specs.StackVariables.{stack_from, stack_in, with_stack, push_reason, pop_reason, pushed_on}
+use Rattle.envstacks.specs.StackVariables.{pushed_value, popped_from, popped_value}
 use Rattle.envloaded.specs.LoadedTexts.{names_variable, files_variable, conflicts_variable, prereqs_variable}
-use Rattle.envloaded.specs.Loaded.{Entry, names_of, names_text, files_text, conflicts_text, prereqs_text, entries_in, loaded_in, with_loaded, can_be_added, with_conflicts_once, without_entry, added_to, added_loaded, dropped_from, dropped_loaded}
+use Rattle.envloaded.specs.Loaded.{Entry, names_of, names_text, files_text, conflicts_text, prereqs_text, entries_in}
+use Rattle.envloaded.specs.Loaded.{loaded_in, with_loaded, can_be_added, with_conflicts_once, without_entry, added_to}
+use Rattle.envloaded.specs.Loaded.{added_loaded, dropped_from, dropped_loaded}
 use Rattle.modulefile.specs.Records.{Record, Set, Unset, Push, Front, Back, Remove, Conflict, Prereq, Whatis}
 use Rattle.modulefile.specs.Judgments.{RecordReason, record_reason}
-use Rattle.modulefile.specs.Effects.{Mode, load, unload, display, whatis, edited, edit_outcome, permitted, effect, effects, and_then}
-use Rattle.modulefile.specs.Moves.{Move, Loads, Unloads, entry_of, module_of_move, mode_of, entry_moved, moved, Fits, MovesReach}
+use Rattle.modulefile.specs.Effects.{Mode, load, unload, display, whatis, edited, edit_outcome, permitted, effect}
+use Rattle.modulefile.specs.Effects.{effects, and_then}
+use Rattle.modulefile.specs.Moves.{Move, Loads, Unloads, entry_of, module_of_move, mode_of, entry_moved, moved, Fits}
+use Rattle.modulefile.specs.Moves.{MovesReach}
 
 abbrev as_ok : Environment → Result Environment EnvReason
 as_ok e = Ok e
@@ -97,7 +104,9 @@ dropped_at h name delim xs = unless_at (path_reason name delim xs) (Some (path_w
 dropped_corresponds : (h : History) (name : Text) (delim : ℕ) (xs : List Text) → Corresponds (dropped_at h name delim xs) (dropped_path (env h) name delim xs)
 dropped_corresponds h name delim xs =
     subst (λ (s : PathState). Corresponds (dropped_at h name delim xs) (unless (path_reason name delim xs) (Ok (with_path (env h) name delim (drop_all s xs))))) (sym (path_seen h name delim))
-    (unless_corresponds (path_reason name delim xs) (Some (path_written h name delim (drop_all (path_at h name delim) xs))) (Ok (with_path (env h) name delim (drop_all (path_at h name delim) xs))) refl)
+    (unless_corresponds (path_reason name delim xs) (Some
+    (path_written h name delim (drop_all (path_at h name delim) xs)))
+    (Ok (with_path (env h) name delim (drop_all (path_at h name delim) xs))) refl)
 
 -- stacks
 
@@ -126,7 +135,8 @@ pushed_at h name owner value = unless_at (push_reason name owner value) (push_on
 pushed_corresponds : (h : History) (name owner value : Text) → Corresponds (pushed_at h name owner value) (pushed_value (env h) name owner value)
 pushed_corresponds h name owner value =
     subst (λ (s : Option StackState). Corresponds (pushed_at h name owner value) (unless (push_reason name owner value) (pushed_on (env h) name owner value s))) (sym (stack_seen h name))
-    (unless_corresponds (push_reason name owner value) (push_on h name owner value (stack_at h name)) (pushed_on (env h) name owner value (stack_at h name)) (push_corresponds h name owner value (stack_at h name)))
+    (unless_corresponds (push_reason name owner value) (push_on h name owner value (stack_at h name))
+    (pushed_on (env h) name owner value (stack_at h name)) (push_corresponds h name owner value (stack_at h name)))
 
 abbrev pub pop_from : History → Text → Text → Option StackState → Option History
 pop_from h name owner None = None
@@ -136,7 +146,8 @@ pop_corresponds : (h : History) (name owner : Text) (s : Option StackState) → 
 pop_corresponds h name owner None = tt
 pop_corresponds h name owner (Some s) = go (holds owner s.items) refl
   where
-    go : (b : Bool) → holds owner s.items ≡ b → cond (holds owner s.items) (Ok (with_stack (env h) name (pop s owner))) (Ok (env h)) ≡ as_ok (env (cond (holds owner s.items) (stack_written h name (pop s owner)) h))
+    go : (b : Bool) → holds owner s.items ≡ b → cond (holds owner s.items) (Ok (with_stack (env h) name (pop s owner)))
+        (Ok (env h)) ≡ as_ok (env (cond (holds owner s.items) (stack_written h name (pop s owner)) h))
     go true q = rw q refl
     go false q = rw q refl
 
@@ -186,7 +197,9 @@ leave_corresponds : (h : History) (name : Text) (o : Option (List Entry)) → Co
 leave_corresponds h name None = tt
 leave_corresponds h name (Some xs) = go (has name (names_of xs)) refl
   where
-    go : (b : Bool) → has name (names_of xs) ≡ b → cond (has name (names_of xs)) (Ok (with_loaded (env h) (without_entry name xs))) (Ok (env h)) ≡ as_ok (env (cond (has name (names_of xs)) (list_written h (without_entry name xs)) h))
+    go : (b : Bool) → has name (names_of xs) ≡ b → cond (has name (names_of xs))
+        (Ok (with_loaded (env h) (without_entry name xs))) (Ok (env h)) ≡ as_ok
+        (env (cond (has name (names_of xs)) (list_written h (without_entry name xs)) h))
     go true q = rw q refl
     go false q = rw q refl
 
@@ -312,10 +325,14 @@ pub played_leads : (ms : List Move) (h last : History) → played ms h ≡ Some 
 played_leads [] h last p = ap env (sym (same_Some h last p))
 played_leads (m ∷ ms) h last p = go (λ k q. played_leads ms k last q) (fits_in m (list_at h)) refl p
   where
-    step : ((k : History) → played ms k ≡ Some last → MovesReach ms (env k) (env last)) → (o : Option History) → Corresponds2 o (moved m (env h)) → then_at o (played ms) ≡ Some last → (mid : Environment) × (moved m (env h) ≡ Ok mid) × MovesReach ms mid (env last)
+    step : ((k : History) → played ms k ≡ Some last → MovesReach ms (env k) (env last)) → (o : Option History)
+        → Corresponds2 o (moved m (env h)) → then_at o (played ms) ≡ Some last → (mid : Environment)
+        × (moved m (env h) ≡ Ok mid) × MovesReach ms mid (env last)
     step later None c q = absurd (none-some last q)
     step later (Some k) c q = (env k, c, later k q)
 
-    go : ((k : History) → played ms k ≡ Some last → MovesReach ms (env k) (env last)) → (b : Bool) → fits_in m (list_at h) ≡ b → cond b (then_at (moved_at m h) (played ms)) None ≡ Some last → MovesReach (m ∷ ms) (env h) (env last)
+    go : ((k : History) → played ms k ≡ Some last → MovesReach ms (env k) (env last)) → (b : Bool)
+        → fits_in m (list_at h) ≡ b → cond b (then_at (moved_at m h) (played ms)) None ≡ Some last
+        → MovesReach (m ∷ ms) (env h) (env last)
     go later true f q = (fits_by m h (list_at h) refl f, step later (moved_at m h) (moved_corresponds m h) q)
     go later false f q = absurd (none-some last q)

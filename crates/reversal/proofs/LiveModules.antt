@@ -1,5 +1,6 @@
 -- The live modules: one more, and one less.
-use Rattle.std.proofs.Common.{◌≡◌, ◌+◌, Bool, true, false, not, ◌||◌, List, [], ◌∷◌, ◌++◌, map, refl, sym, ap, ◌∙◌, subst, arith, Option, Some, None}
+use Rattle.std.proofs.Common.{◌≡◌, ◌+◌, Bool, true, false, not, ◌||◌, List, [], ◌∷◌, ◌++◌, map, refl, sym, ap, ◌∙◌}
+use Rattle.std.proofs.Common.{subst, arith, Option, Some, None}
 use Rattle.std.specs.Prelude.{bytes_eq, is_some}
 use Rattle.std.specs.Option.{option_or}
 use Rattle.std.proofs.lemmas.Bool.{false≢true}
@@ -65,7 +66,8 @@ set_same w n (k ∷ live) m h s = by_test (bytes_eq n k.name) _
     (λ t. let q : k ≡ m = same_Some k m (rw t at h) in rw t (ap (λ (o : Option (Option Text)). option_or o (live_set w live)) (sym (ap (λ (z : Module). last_set w z.records) q ∙ s))))
     (λ t. rw t (ap (option_or (last_set w k.records)) (set_same w n live m (rw t at h) s)))
 
-pub set_alone : (uses : Text → VariableUse) (w n : Text) (live : List Module) (m : Module) → live_named n live ≡ Some m → AreReversibleTogether uses live → is_some (last_set w m.records) ≡ true → live_set w (without_live n live) ≡ None
+pub set_alone : (uses : Text → VariableUse) (w n : Text) (live : List Module) (m : Module) → live_named n live ≡ Some m
+    → AreReversibleTogether uses live → is_some (last_set w m.records) ≡ true → live_set w (without_live n live) ≡ None
 set_alone uses w n [] m h f s = refl
 set_alone uses w n (k ∷ live) m h f s = by_test (bytes_eq n k.name) _
     (λ t. let q : k ≡ m = same_Some k m (rw t at h) in rw t (f.0.sets_apart w (ap (λ (z : Module). is_some (last_set w z.records)) q ∙ s)))
@@ -141,14 +143,19 @@ Distinct (m ∷ live) = (has m.name (live_names live) ≡ false) × Distinct liv
 pushes_less : (n w : Text) (live : List Module) → Distinct live → other_pushes n (live_pushes w live) ≡ live_pushes w (without_live n live)
 pushes_less n w [] d = refl
 pushes_less n w (k ∷ live) d = by_test (bytes_eq n k.name) _
-    (λ t. let q = same_text n k.name t in rw t (go t (last_push w k.records) (other_live n w live (live_pushes w live) (order_refl (live_pushes w live)) (ap (λ (z : Text). has z (live_names live)) q ∙ d.0))))
+    (λ t. let q = same_text n k.name t in rw t (go t (last_push w k.records)
+    (other_live n w live (live_pushes w live) (order_refl (live_pushes w live))
+    (ap (λ (z : Text). has z (live_names live)) q ∙ d.0))))
     (λ t. rw t (over t (last_push w k.records) (pushes_less n w live d.1)))
   where
     go : bytes_eq n k.name ≡ true → (o : Option Text) → other_pushes n (live_pushes w live) ≡ live_pushes w live → other_pushes n (with_push k.name o (live_pushes w live)) ≡ live_pushes w live
     go t None h = h
     go t (Some v) h = rw t h
 
-    over : bytes_eq n k.name ≡ false → (o : Option Text) → other_pushes n (live_pushes w live) ≡ live_pushes w (without_live n live) → other_pushes n (with_push k.name o (live_pushes w live)) ≡ with_push k.name o (live_pushes w (without_live n live))
+    over : bytes_eq n k.name ≡ false → (o : Option Text)
+        → other_pushes n (live_pushes w live) ≡ live_pushes w (without_live n live)
+        → other_pushes n (with_push k.name o (live_pushes w live)) ≡ with_push k.name o
+        (live_pushes w (without_live n live))
     over t None h = h
     over t (Some v) h = rw t (ap (λ (l : List (Text × Text)). (k.name, v) ∷ l) h)
 
@@ -211,7 +218,8 @@ apart_named n xs (k ∷ live) m h a = by_test (bytes_eq n k.name) _
 
 less_absent : (n : Text) (live : List Module) → has n (live_names live) ≡ false → without_live n live ≡ live
 less_absent n [] h = refl
-less_absent n (k ∷ live) h = rw (or_left (bytes_eq n k.name) (has n (live_names live)) h) (ap (λ (l : List Module). k ∷ l) (less_absent n live (or_right (bytes_eq n k.name) (has n (live_names live)) h)))
+less_absent n (k ∷ live) h = rw (or_left (bytes_eq n k.name) (has n (live_names live)) h)
+    (ap (λ (l : List Module). k ∷ l) (less_absent n live (or_right (bytes_eq n k.name) (has n (live_names live)) h)))
 
 -- it isn't live any more
 pub gone : (n : Text) (live : List Module) → Distinct live → has n (live_names (without_live n live)) ≡ false

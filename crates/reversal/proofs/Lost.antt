@@ -1,5 +1,6 @@
 -- The worked examples, by computation.
-use Rattle.std.proofs.Common.{◌≡◌, ℕ, Bool, true, false, cond, List, [], ◌∷◌, refl, sym, ap, ◌∙◌, subst, Option, Some, None, inl}
+use Rattle.std.proofs.Common.{◌≡◌, ℕ, Bool, true, false, cond, List, [], ◌∷◌, refl, sym, ap, ◌∙◌, subst, Option, Some}
+use Rattle.std.proofs.Common.{None, inl}
 use Rattle.std.specs.Prelude.{◌≢◌, bytes_eq, unwrap_or, codes}
 use Rattle.std.proofs.lemmas.Bool.{false≢true}
 use Rattle.envvars.specs.Texts.{Text}
@@ -14,13 +15,20 @@ use Rattle.envpaths.specs.PathTexts.{elements_text, pairs_text}
 use Rattle.envpaths.specs.PathOrder.{IsPathInOrder}
 use Rattle.envstacks.specs.StackVariables.{IsStackInOrder}
 use Rattle.envloaded.specs.LoadedTexts.{names_variable, files_variable, conflicts_variable, prereqs_variable}
-use Rattle.envloaded.specs.Loaded.{Entry, IsLoadedList, AreLoadedInOrder, names_of, names_text, files_text, conflicts_text, prereqs_text, with_loaded}
+use Rattle.envloaded.specs.Loaded.{Entry, IsLoadedList, AreLoadedInOrder, names_of, names_text, files_text}
+use Rattle.envloaded.specs.Loaded.{conflicts_text, prereqs_text, with_loaded}
 use Rattle.modulefile.specs.Records.{Record, Set, Unset, Back, Remove}
 use Rattle.modulefile.specs.Moves.{Module, Move, Loads, Unloads}
 use Rattle.reversal.specs.VariableUses.{VariableUse, Untouched, Fixed, Pathed, Stacked}
 use Rattle.reversal.specs.Starts.{IsStart}
 use Rattle.reversal.specs.Runs.{live_after}
-use Rattle.reversal.specs.Examples.{of_kind, follows_use, apart, alive, unchanged, HasPart, OtherParts, only_use, Lose, first_module, second_module, variable, there_and_back, crossed, add_front, push_value, EmptyPath, CounterOfNone, BottomAlone, HiddenValue, OtherEscapes, OwnerNotLoaded, ValueBeforeSet, OtherValue, EmptyLists, NeedsOfNone, ConflictTwice, IllSpelled, EmptyGroup, UnsetWithoutValue, ElementRemoved, OtherRecords, StartUnloaded, SetAndPushed, UnsetAndPushed, AddedAndPushed, TwoDelimiters, SetByTwo}
+use Rattle.reversal.specs.Examples.{of_kind, follows_use, apart, alive, unchanged, HasPart, OtherParts, only_use, Lose}
+use Rattle.reversal.specs.Examples.{first_module, second_module, variable, there_and_back, crossed, add_front}
+use Rattle.reversal.specs.Examples.{push_value, EmptyPath, CounterOfNone, BottomAlone, HiddenValue, OtherEscapes}
+use Rattle.reversal.specs.Examples.{OwnerNotLoaded, ValueBeforeSet, OtherValue, EmptyLists, NeedsOfNone, ConflictTwice}
+use Rattle.reversal.specs.Examples.{IllSpelled, EmptyGroup, UnsetWithoutValue, ElementRemoved, OtherRecords}
+use Rattle.reversal.specs.Examples.{StartUnloaded, SetAndPushed, UnsetAndPushed, AddedAndPushed, TwoDelimiters}
+use Rattle.reversal.specs.Examples.{SetByTwo}
 use Rattle.reversal.proofs.OneVariable.{by_test}
 use Rattle.reversal.proofs.Histories.{History, env, seen, lookup_seen, path_at, path_seen, played, played_leads}
 
@@ -114,7 +122,9 @@ start_at name variable_use e l a = record {
       (λ t. let z = no_way name v variable_use (Fixed value) t q in absurd cc);
 }
 
-path_ordered : (h : History) (name : Text) (delim : ℕ) → seen h name ≡ elements_text delim (path_at h name delim).elements → seen h (share_name name) ≡ pairs_text (path_at h name delim) → IsPathInOrder (env h) name delim
+path_ordered : (h : History) (name : Text) (delim : ℕ)
+    → seen h name ≡ elements_text delim (path_at h name delim).elements
+    → seen h (share_name name) ≡ pairs_text (path_at h name delim) → IsPathInOrder (env h) name delim
 path_ordered h name delim e c = record {
   elements = lookup_seen h name ∙ e ∙ ap (λ (s : PathState). elements_text delim s.elements) (sym (path_seen h name delim));
   counters = lookup_seen h (share_name name) ∙ c ∙ ap pairs_text (sym (path_seen h name delim));
@@ -149,7 +159,8 @@ bottom_alone =
 
 pub hidden_value : HiddenValue
 hidden_value =
-    let h : History = (codes "LOADEDMODULES", Some (codes "a/1")) ∷ (codes "_LMFILES_", Some (codes "/m/a/1")) ∷ (codes "V", Some (codes "z")) ∷ (codes "__MODULES_PUSHENV_V", Some (codes "a/1&y")) ∷ [] in
+    let h : History = (codes "LOADEDMODULES", Some (codes "a/1")) ∷ (codes "_LMFILES_", Some (codes "/m/a/1")) ∷
+    (codes "V", Some (codes "z")) ∷ (codes "__MODULES_PUSHENV_V", Some (codes "a/1&y")) ∷ [] in
     record {
       reversible = (record { suits = ((refl, refl), tt); sets_apart = λ v s. refl }, (record { loaded = _; found = refl; records = refl }, tt));
       listed = a1_listed h refl refl refl refl;
@@ -158,7 +169,8 @@ hidden_value =
 
 pub other_escapes : OtherEscapes
 other_escapes =
-    let h : History = (codes "LOADEDMODULES", Some (codes "a/1")) ∷ (codes "_LMFILES_", Some (codes "/m/a/1")) ∷ (codes "V", Some (codes "\\y")) ∷ (codes "__MODULES_PUSHENV_V", Some (codes "a/1&\\y")) ∷ [] in
+    let h : History = (codes "LOADEDMODULES", Some (codes "a/1")) ∷ (codes "_LMFILES_", Some (codes "/m/a/1")) ∷
+    (codes "V", Some (codes "\\y")) ∷ (codes "__MODULES_PUSHENV_V", Some (codes "a/1&\\y")) ∷ [] in
     record {
       reversible = (record { suits = ((refl, refl), tt); sets_apart = λ v s. refl }, (record { loaded = _; found = refl; records = refl }, tt));
       listed = a1_listed h refl refl refl refl;
@@ -218,35 +230,41 @@ empty_group =
     record { reversible = (record { suits = tt; sets_apart = λ v s. refl }, (record { loaded = _; found = refl; records = refl }, tt)); lose = lose _ h (codes "__MODULES_LMPREREQ") refl refl refl }
 
 -- every part but one
-but_kind : (uses : Text → VariableUse) (ms : List Move) → HasPart follows_use uses [] ms → HasPart apart uses [] ms → HasPart alive uses [] ms → HasPart unchanged uses [] ms → OtherParts of_kind uses ms
+but_kind : (uses : Text → VariableUse) (ms : List Move) → HasPart follows_use uses [] ms → HasPart apart uses [] ms
+    → HasPart alive uses [] ms → HasPart unchanged uses [] ms → OtherParts of_kind uses ms
 but_kind uses ms w a l u of_kind n = absurd (n refl)
 but_kind uses ms w a l u follows_use n = w
 but_kind uses ms w a l u apart n = a
 but_kind uses ms w a l u alive n = l
 but_kind uses ms w a l u unchanged n = u
 
-but_way : (uses : Text → VariableUse) (ms : List Move) → HasPart of_kind uses [] ms → HasPart apart uses [] ms → HasPart alive uses [] ms → HasPart unchanged uses [] ms → OtherParts follows_use uses ms
+but_way : (uses : Text → VariableUse) (ms : List Move) → HasPart of_kind uses [] ms → HasPart apart uses [] ms
+    → HasPart alive uses [] ms → HasPart unchanged uses [] ms → OtherParts follows_use uses ms
 but_way uses ms k a l u of_kind n = k
 but_way uses ms k a l u follows_use n = absurd (n refl)
 but_way uses ms k a l u apart n = a
 but_way uses ms k a l u alive n = l
 but_way uses ms k a l u unchanged n = u
 
-but_apart : (uses : Text → VariableUse) (ms : List Move) → HasPart of_kind uses [] ms → HasPart follows_use uses [] ms → HasPart alive uses [] ms → HasPart unchanged uses [] ms → OtherParts apart uses ms
+but_apart : (uses : Text → VariableUse) (ms : List Move) → HasPart of_kind uses [] ms → HasPart follows_use uses [] ms
+    → HasPart alive uses [] ms → HasPart unchanged uses [] ms → OtherParts apart uses ms
 but_apart uses ms k w l u of_kind n = k
 but_apart uses ms k w l u follows_use n = w
 but_apart uses ms k w l u apart n = absurd (n refl)
 but_apart uses ms k w l u alive n = l
 but_apart uses ms k w l u unchanged n = u
 
-but_alive : (uses : Text → VariableUse) (ms : List Move) → HasPart of_kind uses [] ms → HasPart follows_use uses [] ms → HasPart apart uses [] ms → HasPart unchanged uses [] ms → OtherParts alive uses ms
+but_alive : (uses : Text → VariableUse) (ms : List Move) → HasPart of_kind uses [] ms → HasPart follows_use uses [] ms
+    → HasPart apart uses [] ms → HasPart unchanged uses [] ms → OtherParts alive uses ms
 but_alive uses ms k w a u of_kind n = k
 but_alive uses ms k w a u follows_use n = w
 but_alive uses ms k w a u apart n = a
 but_alive uses ms k w a u alive n = absurd (n refl)
 but_alive uses ms k w a u unchanged n = u
 
-but_unchanged : (uses : Text → VariableUse) (ms : List Move) → HasPart of_kind uses [] ms → HasPart follows_use uses [] ms → HasPart apart uses [] ms → HasPart alive uses [] ms → OtherParts unchanged uses ms
+but_unchanged : (uses : Text → VariableUse) (ms : List Move) → HasPart of_kind uses [] ms
+    → HasPart follows_use uses [] ms → HasPart apart uses [] ms → HasPart alive uses [] ms
+    → OtherParts unchanged uses ms
 but_unchanged uses ms k w a l of_kind n = k
 but_unchanged uses ms k w a l follows_use n = w
 but_unchanged uses ms k w a l apart n = a
@@ -266,7 +284,8 @@ unset_without_value =
     let h : History = (codes "V", Some (codes "y")) ∷ [] in
     record {
       begins = start_at variable Untouched (env h) (nothing_listed h refl refl refl refl) tt;
-      others = but_kind (only_use variable Untouched) (there_and_back (Unset variable None)) ((tt, tt), (tt, tt)) ((λ v s. refl), (tt, tt)) (tt, ((_, refl), tt)) (tt, ((λ loaded f. ap records_in f), tt));
+      others = but_kind (only_use variable Untouched) (there_and_back (Unset variable None)) ((tt, tt), (tt, tt))
+          ((λ v s. refl), (tt, tt)) (tt, ((_, refl), tt)) (tt, ((λ loaded f. ap records_in f), tt));
       lose = lose _ h (codes "V") refl refl refl;
     }
 
@@ -275,7 +294,9 @@ element_removed =
     let h : History = (codes "V", Some (codes "/a:/b")) ∷ [] in
     record {
       begins = start_at variable (Pathed colon) (env h) (nothing_listed h refl refl refl refl) (path_ordered h variable colon refl refl);
-      others = but_kind (only_use variable (Pathed colon)) (there_and_back (Remove colon variable (codes "/a" ∷ []))) ((tt, tt), (tt, tt)) ((λ v s. refl), (tt, tt)) (tt, ((_, refl), tt)) (tt, ((λ loaded f. ap records_in f), tt));
+      others = but_kind (only_use variable (Pathed colon)) (there_and_back (Remove colon variable (codes "/a" ∷ [])))
+          ((tt, tt), (tt, tt)) ((λ v s. refl), (tt, tt)) (tt, ((_, refl), tt))
+          (tt, ((λ loaded f. ap records_in f), tt));
       lose = lose _ h (codes "V") refl refl refl;
     }
 
@@ -284,7 +305,9 @@ other_records =
     let h : History = (codes "V", Some (codes "/b")) ∷ [] in
     record {
       begins = start_at variable (Pathed colon) (env h) (nothing_listed h refl refl refl refl) (path_ordered h variable colon refl refl);
-      others = but_unchanged (only_use variable (Pathed colon)) (Loads (first_module (add_front ∷ [])) ∷ Unloads (first_module []) ∷ []) (refl, (tt, tt)) ((refl, tt), (tt, tt)) ((λ v s. refl), (tt, tt)) (tt, ((_, refl), tt));
+      others = but_unchanged (only_use variable (Pathed colon))
+          (Loads (first_module (add_front ∷ [])) ∷ Unloads (first_module []) ∷ []) (refl, (tt, tt))
+          ((refl, tt), (tt, tt)) ((λ v s. refl), (tt, tt)) (tt, ((_, refl), tt));
       lose = lose _ h (codes "V") refl refl refl;
     }
 
@@ -293,7 +316,9 @@ start_unloaded =
     let h : History = (codes "LOADEDMODULES", Some (codes "a/1")) ∷ (codes "_LMFILES_", Some (codes "/m/a/1")) ∷ [] in
     record {
       begins = start_at variable Untouched (env h) (a1_listed h refl refl refl refl) tt;
-      others = but_alive (only_use variable Untouched) (Unloads (record { name = codes "a/1"; path = codes "/m/a/1"; records = [] }) ∷ []) (tt, tt) (tt, tt) (tt, tt) ((λ loaded f. absurd (nothing_found loaded f)), tt);
+      others = but_alive (only_use variable Untouched) (Unloads
+          (record { name = codes "a/1"; path = codes "/m/a/1"; records = [] }) ∷ []) (tt, tt) (tt, tt) (tt, tt)
+          ((λ loaded f. absurd (nothing_found loaded f)), tt);
       lose = lose _ h (codes "LOADEDMODULES") refl refl refl;
     }
 
@@ -310,7 +335,9 @@ set_and_pushed =
     record {
       in_one = record {
         begins = start_at variable (Fixed None) (env h) (nothing_listed h refl refl refl refl) (lookup_seen h variable);
-        others = but_way (only_use variable (Fixed None)) (crossed (Set variable (codes "y")) push_value) (refl, (refl, (tt, (tt, tt)))) ((λ v s. refl), ((λ v s. absurd (false≢true s)), (tt, (tt, tt)))) (crossed_alive (λ v. Untouched) _ _) (crossed_unchanged (λ v. Untouched) _ _);
+        others = but_way (only_use variable (Fixed None)) (crossed (Set variable (codes "y")) push_value)
+            (refl, (refl, (tt, (tt, tt)))) ((λ v s. refl), ((λ v s. absurd (false≢true s)), (tt, (tt, tt))))
+            (crossed_alive (λ v. Untouched) _ _) (crossed_unchanged (λ v. Untouched) _ _);
         lose = lose _ h (codes "V") refl refl refl;
       };
       in_other = start_at variable Stacked (env h) (nothing_listed h refl refl refl refl) (lookup_seen h (stack_name variable));
@@ -324,7 +351,10 @@ unset_and_pushed =
     record {
       in_one = record {
         begins = start_at variable (Fixed (Some (codes "y"))) (env h) (nothing_listed h refl refl refl refl) (lookup_seen h variable);
-        others = but_way (only_use variable (Fixed (Some (codes "y")))) (crossed (Unset variable (Some (codes "y"))) push_value) (refl, (refl, (tt, (tt, tt)))) ((λ v s. refl), ((λ v s. absurd (false≢true s)), (tt, (tt, tt)))) (crossed_alive (λ v. Untouched) _ _) (crossed_unchanged (λ v. Untouched) _ _);
+        others = but_way (only_use variable (Fixed (Some (codes "y"))))
+            (crossed (Unset variable (Some (codes "y"))) push_value) (refl, (refl, (tt, (tt, tt))))
+            ((λ v s. refl), ((λ v s. absurd (false≢true s)), (tt, (tt, tt)))) (crossed_alive (λ v. Untouched) _ _)
+            (crossed_unchanged (λ v. Untouched) _ _);
         lose = lose _ h (codes "V") refl refl refl;
       };
       in_other = start_at variable Stacked (env h) (nothing_listed h refl refl refl refl) (lookup_seen h (stack_name variable));
@@ -338,7 +368,9 @@ added_and_pushed =
     record {
       in_one = record {
         begins = start_at variable (Pathed colon) (env h) (nothing_listed h refl refl refl refl) (path_ordered h variable colon refl refl);
-        others = but_way (only_use variable (Pathed colon)) (crossed add_front push_value) (refl, (refl, (tt, (tt, tt)))) ((λ v s. refl), ((λ v s. refl), (tt, (tt, tt)))) (crossed_alive (λ v. Untouched) _ _) (crossed_unchanged (λ v. Untouched) _ _);
+        others = but_way (only_use variable (Pathed colon)) (crossed add_front push_value)
+            (refl, (refl, (tt, (tt, tt)))) ((λ v s. refl), ((λ v s. refl), (tt, (tt, tt))))
+            (crossed_alive (λ v. Untouched) _ _) (crossed_unchanged (λ v. Untouched) _ _);
         lose = lose _ h (codes "V") refl refl refl;
       };
       in_other = start_at variable Stacked (env h) (nothing_listed h refl refl refl refl) (lookup_seen h (stack_name variable));
@@ -352,7 +384,10 @@ two_delimiters =
     record {
       in_one = record {
         begins = start_at variable (Pathed colon) (env h) (nothing_listed h refl refl refl refl) (path_ordered h variable colon refl refl);
-        others = but_way (only_use variable (Pathed colon)) (crossed (Back colon variable (codes "b" ∷ [])) (Back 59 variable (codes "c" ∷ []))) (refl, (refl, (tt, (tt, tt)))) ((λ v s. refl), ((λ v s. refl), (tt, (tt, tt)))) (crossed_alive (λ v. Untouched) _ _) (crossed_unchanged (λ v. Untouched) _ _);
+        others = but_way (only_use variable (Pathed colon))
+            (crossed (Back colon variable (codes "b" ∷ [])) (Back 59 variable (codes "c" ∷ [])))
+            (refl, (refl, (tt, (tt, tt)))) ((λ v s. refl), ((λ v s. refl), (tt, (tt, tt))))
+            (crossed_alive (λ v. Untouched) _ _) (crossed_unchanged (λ v. Untouched) _ _);
         lose = lose _ h (codes "V") refl refl refl;
       };
       in_other = start_at variable (Pathed 59) (env h) (nothing_listed h refl refl refl refl) (path_ordered h variable 59 refl refl);
@@ -366,7 +401,8 @@ set_by_two = Loads (first_module (Set variable (codes "x") ∷ [])) ∷ Loads (s
 pub set_by_two_falls : SetByTwo
 set_by_two_falls = record {
   begins = start_at variable (Fixed None) (env []) (nothing_listed [] refl refl refl refl) (lookup_seen [] variable);
-  others = but_apart (only_use variable (Fixed None)) set_by_two (refl, (refl, (tt, tt))) ((refl, tt), ((refl, tt), (tt, tt))) (tt, (tt, ((_, refl), tt))) (tt, (tt, ((λ loaded f. ap records_in f), tt)));
+  others = but_apart (only_use variable (Fixed None)) set_by_two (refl, (refl, (tt, tt)))
+      ((refl, tt), ((refl, tt), (tt, tt))) (tt, (tt, ((_, refl), tt))) (tt, (tt, ((λ loaded f. ap records_in f), tt)));
   end = env (end_of set_by_two []);
   reach = played_leads set_by_two [] (end_of set_by_two []) refl;
   differs = λ s. differ (seen (end_of set_by_two []) variable) (Some (codes "y")) refl (sym (lookup_seen (end_of set_by_two []) variable) ∙ (s.variables variable refl).value);

@@ -1,5 +1,6 @@
 -- A stack through the records of one load or unload.
-use Rattle.std.proofs.Common.{◌≡◌, true, false, not, List, [], ◌∷◌, refl, sym, ap, ◌∙◌, subst, Option, Some, None, Ok, inl, inr}
+use Rattle.std.proofs.Common.{◌≡◌, true, false, not, List, [], ◌∷◌, refl, sym, ap, ◌∙◌, subst, Option, Some, None, Ok}
+use Rattle.std.proofs.Common.{inl, inr}
 use Rattle.std.specs.Prelude.{bytes_eq}
 use Rattle.std.specs.List.{list_all}
 use Rattle.std.specs.Option.{option_or}
@@ -30,7 +31,9 @@ use Rattle.reversal.proofs.OneVariable.{by_test, pick, one_keeps}
 
 -- a stack in order where more modules are loaded
 
-more_owners : (few many : List Text) (items : List OwnedValue) → ((o : Text) → has o few ≡ true → has o many ≡ true) → list_all (λ item. is_loaded_owner few item.0) items ≡ true → list_all (λ item. is_loaded_owner many item.0) items ≡ true
+more_owners : (few many : List Text) (items : List OwnedValue) → ((o : Text) → has o few ≡ true → has o many ≡ true)
+    → list_all (λ item. is_loaded_owner few item.0) items ≡ true
+    → list_all (λ item. is_loaded_owner many item.0) items ≡ true
 more_owners few many [] h k = refl
 more_owners few many (item ∷ items) h k =
     let p = both_true (is_loaded_owner few item.0) (list_all (λ i. is_loaded_owner few i.0) items) k in
@@ -54,7 +57,8 @@ pub record StackAt (b e : Environment) (w : Text) (loaded : List Text) (base : S
   pub state : stack_in e w ≡ Some (start_with_pushes base ps)
   pub counters : lookup e (share_name w) ≡ lookup b (share_name w)
 
-pub stack_kept : (b old new : Environment) (w : Text) (loaded : List Text) (base : StackState) (ps : List (Text × Text)) → IsVariableUnchanged old new w → StackAt b old w loaded base ps → StackAt b new w loaded base ps
+pub stack_kept : (b old new : Environment) (w : Text) (loaded : List Text) (base : StackState) (ps : List (Text × Text))
+    → IsVariableUnchanged old new w → StackAt b old w loaded base ps → StackAt b new w loaded base ps
 stack_kept b old new w loaded base ps k p = record { order = k.stack_order loaded p.order; state = k.stack ∙ p.state; counters = k.counters ∙ p.counters }
 
 -- what is known of the module and of the start
@@ -86,7 +90,9 @@ pub other_with : (owner : Text) (o : Option Text) (ps : List (Text × Text)) →
 other_with owner None ps h = h
 other_with owner (Some v) ps h = rw (bytes_eq-same owner) h
 
-load_push : (uses : Text → VariableUse) (owner w : Text) (r : Record) (b old new : Environment) (loaded : List Text) (base : StackState) (o : Option Text) (ps : List (Text × Text)) → uses w ≡ Stacked → Suits uses r → is_editable w ≡ true
+load_push : (uses : Text → VariableUse) (owner w : Text) (r : Record) (b old new : Environment) (loaded : List Text)
+    (base : StackState) (o : Option Text) (ps : List (Text × Text)) → uses w ≡ Stacked → Suits uses r
+    → is_editable w ≡ true
     → Pusher owner loaded base → other_pushes owner ps ≡ ps → effect load owner r old ≡ Ok new
     → StackAt b old w loaded base (with_push owner o ps) → StackAt b new w loaded base (with_push owner (option_or (push_by w r) o) ps)
 load_push uses owner w r b old new loaded base o ps h s f m q e p = by_test (is_named w (variable_of r)) _
@@ -101,7 +107,9 @@ or_assoc : (x y z : Option Text) → option_or x (option_or y z) ≡ option_or (
 or_assoc None y z = refl
 or_assoc (Some v) y z = refl
 
-pub loads_push : (uses : Text → VariableUse) (owner w : Text) (rs : List Record) (b old new : Environment) (loaded : List Text) (base : StackState) (o : Option Text) (ps : List (Text × Text)) → uses w ≡ Stacked → AllSuit uses rs → is_editable w ≡ true
+pub loads_push : (uses : Text → VariableUse) (owner w : Text) (rs : List Record) (b old new : Environment)
+    (loaded : List Text) (base : StackState) (o : Option Text) (ps : List (Text × Text)) → uses w ≡ Stacked
+    → AllSuit uses rs → is_editable w ≡ true
     → Pusher owner loaded base → other_pushes owner ps ≡ ps → effects load owner rs old ≡ Ok new
     → StackAt b old w loaded base (with_push owner o ps) → StackAt b new w loaded base (with_push owner (option_or (last_push w rs) o) ps)
 loads_push uses owner w [] b old new loaded base o ps h s f m q e p = let i : old ≡ new = cc in subst (λ (c : Environment). StackAt b c w loaded base (with_push owner o ps)) i p
@@ -121,7 +129,8 @@ other_other owner (p ∷ ps) = by_test (bytes_eq owner p.0) _
 abbrev pub popped : Text → Option Text → List (Text × Text) → List (Text × Text)
 popped owner o ps = pick o ps (other_pushes owner ps)
 
-unload_push : (uses : Text → VariableUse) (owner w : Text) (r : Record) (b old new : Environment) (loaded : List Text) (base : StackState) (ps : List (Text × Text)) → uses w ≡ Stacked → Suits uses r → is_editable w ≡ true
+unload_push : (uses : Text → VariableUse) (owner w : Text) (r : Record) (b old new : Environment) (loaded : List Text)
+    (base : StackState) (ps : List (Text × Text)) → uses w ≡ Stacked → Suits uses r → is_editable w ≡ true
     → Pusher owner loaded base → effect unload owner r old ≡ Ok new
     → StackAt b old w loaded base ps → StackAt b new w loaded base (popped owner (push_by w r) ps)
 unload_push uses owner w r b old new loaded base ps h s f m e p = by_test (is_named w (variable_of r)) _
@@ -136,7 +145,9 @@ popped_both owner None y ps = refl
 popped_both owner (Some v) None ps = refl
 popped_both owner (Some v) (Some u) ps = other_other owner ps
 
-pub unloads_push : (uses : Text → VariableUse) (owner w : Text) (rs : List Record) (b old new : Environment) (loaded : List Text) (base : StackState) (ps : List (Text × Text)) → uses w ≡ Stacked → AllSuit uses rs → is_editable w ≡ true
+pub unloads_push : (uses : Text → VariableUse) (owner w : Text) (rs : List Record) (b old new : Environment)
+    (loaded : List Text) (base : StackState) (ps : List (Text × Text)) → uses w ≡ Stacked → AllSuit uses rs
+    → is_editable w ≡ true
     → Pusher owner loaded base → effects unload owner rs old ≡ Ok new
     → StackAt b old w loaded base ps → StackAt b new w loaded base (popped owner (last_push w rs) ps)
 unloads_push uses owner w [] b old new loaded base ps h s f m e p = let i : old ≡ new = cc in subst (λ (c : Environment). StackAt b c w loaded base ps) i p

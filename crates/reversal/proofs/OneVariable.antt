@@ -1,5 +1,6 @@
 -- One variable through the records of one load or unload.
-use Rattle.std.proofs.Common.{◌≡◌, ℕ, ◌+◌, ◌-◌, Bool, true, false, List, [], ◌∷◌, refl, sym, ◌∙◌, subst, arith, Option, Some, None, Ok}
+use Rattle.std.proofs.Common.{◌≡◌, ℕ, ◌+◌, ◌-◌, Bool, true, false, List, [], ◌∷◌, refl, sym, ◌∙◌, subst, arith, Option}
+use Rattle.std.proofs.Common.{Some, None, Ok}
 use Rattle.std.specs.Prelude.{bytes_eq, count_by, unwrap_or}
 use Rattle.std.specs.Option.{option_or}
 use Rattle.envvars.specs.Texts.{Text}
@@ -21,7 +22,8 @@ use Rattle.modulefile.specs.Effects.{Mode, load, unload, effect, effects}
 use Rattle.reversal.specs.VariableUses.{VariableUse, Untouched, Fixed, Pathed, Suits, AllSuit}
 use Rattle.reversal.specs.Live.{set_by, last_set, adds_by, adds}
 use Rattle.reversal.specs.Starts.{HasValue}
-use Rattle.reversal.proofs.Frames.{accepted, same_accepted, effect_edits, Side, loads, unloads, touched, is_named, kept_variable}
+use Rattle.reversal.proofs.Frames.{accepted, same_accepted, effect_edits, Side, loads, unloads, touched, is_named}
+use Rattle.reversal.proofs.Frames.{kept_variable}
 use Rattle.reversal.proofs.Loads.{parts}
 use Rattle.reversal.proofs.Uses.{unnamed, uses_fixed, uses_path, set_by_none, adds_by_none}
 
@@ -30,7 +32,9 @@ pub by_test : (t : Bool) (P : Type 0) → (t ≡ true → P) → (t ≡ false �
 by_test true P f g = f refl
 by_test false P f g = g refl
 
-pub one_keeps : (mode : Mode) (side : Side mode) (uses : Text → VariableUse) (owner w : Text) (r : Record) (old new : Environment) → Suits uses r → is_editable w ≡ true → effect mode owner r old ≡ Ok new → is_named w (variable_of r) ≡ false → IsVariableUnchanged old new w
+pub one_keeps : (mode : Mode) (side : Side mode) (uses : Text → VariableUse) (owner w : Text) (r : Record)
+    (old new : Environment) → Suits uses r → is_editable w ≡ true → effect mode owner r old ≡ Ok new
+    → is_named w (variable_of r) ≡ false → IsVariableUnchanged old new w
 one_keeps mode side uses owner w r old new s f h e = kept_variable (variable_of r) old new w (touched mode side owner r old new s.0 h) f e
 
 -- a variable that no record names
@@ -43,7 +47,8 @@ pub record Same (b e : Environment) (w : Text) : Type 0 where
 pub value_kept : (b old new : Environment) (w : Text) (x : Option Text) → IsVariableUnchanged old new w → HasValue b old w x → HasValue b new w x
 value_kept b old new w x k h = record { value = k.value ∙ h.value; counters = k.counters ∙ h.counters; stack = k.stack_text ∙ h.stack }
 
-pub all_untouched : (mode : Mode) (side : Side mode) (uses : Text → VariableUse) (owner w : Text) (rs : List Record) (b old new : Environment) (x : Option Text) → uses w ≡ Untouched → AllSuit uses rs → is_editable w ≡ true
+pub all_untouched : (mode : Mode) (side : Side mode) (uses : Text → VariableUse) (owner w : Text) (rs : List Record)
+    (b old new : Environment) (x : Option Text) → uses w ≡ Untouched → AllSuit uses rs → is_editable w ≡ true
     → effects mode owner rs old ≡ Ok new → HasValue b old w x → HasValue b new w x
 all_untouched mode side uses owner w [] b old new x h s f e v = let q : old ≡ new = cc in subst (λ (d : Environment). HasValue b d w x) q v
 all_untouched mode side uses owner w (r ∷ rs) b old new x h s f e v =
@@ -75,7 +80,8 @@ pub or_unwrap : (p q : Option (Option Text)) (x : Option Text) → unwrap_or (op
 or_unwrap None q x = refl
 or_unwrap (Some y) q x = refl
 
-pub loads_fixed : (uses : Text → VariableUse) (owner w : Text) (k : Option Text) (rs : List Record) (b old new : Environment) (x : Option Text) → uses w ≡ Fixed k → AllSuit uses rs → is_editable w ≡ true
+pub loads_fixed : (uses : Text → VariableUse) (owner w : Text) (k : Option Text) (rs : List Record)
+    (b old new : Environment) (x : Option Text) → uses w ≡ Fixed k → AllSuit uses rs → is_editable w ≡ true
     → effects load owner rs old ≡ Ok new → HasValue b old w x → HasValue b new w (unwrap_or (last_set w rs) x)
 loads_fixed uses owner w k [] b old new x h s f e v = let q : old ≡ new = cc in subst (λ (d : Environment). HasValue b d w x) q v
 loads_fixed uses owner w k (r ∷ rs) b old new x h s f e v =
@@ -101,7 +107,8 @@ or_pick : (p q : Option (Option Text)) (x k : Option Text) → pick (option_or p
 or_pick None q x k = refl
 or_pick (Some y) q x k = refl
 
-pub unloads_fixed : (uses : Text → VariableUse) (owner w : Text) (k : Option Text) (rs : List Record) (b old new : Environment) (x : Option Text) → uses w ≡ Fixed k → AllSuit uses rs → is_editable w ≡ true
+pub unloads_fixed : (uses : Text → VariableUse) (owner w : Text) (k : Option Text) (rs : List Record)
+    (b old new : Environment) (x : Option Text) → uses w ≡ Fixed k → AllSuit uses rs → is_editable w ≡ true
     → effects unload owner rs old ≡ Ok new → HasValue b old w x → HasValue b new w (pick (last_set w rs) x k)
 unloads_fixed uses owner w k [] b old new x h s f e v = let q : old ≡ new = cc in subst (λ (d : Environment). HasValue b d w x) q v
 unloads_fixed uses owner w k (r ∷ rs) b old new x h s f e v =
@@ -137,7 +144,9 @@ load_path uses owner w d r b old new n h s f e p = by_test (is_named w (variable
     let l = LeavesPath-added old new w d u.elements u.end a in
     path_same b new w d (λ x. n x + count_by (bytes_eq x) u.elements) (λ x. adds_by w x r + n x) (λ x. rw (u.by x) (omega arith)) (record {
       order = l.order;
-      state = subst (λ (z : PathState). path_runs.IsPathStartWith (path_in b w d) (λ x. n x + count_by (bytes_eq x) u.elements) z) (sym l.state) (IsPathStartWith-add_all (path_in b w d) (path_in old w d) n u.elements u.end (path_state b w d) p.state);
+      state = subst (λ (z : PathState). path_runs.IsPathStartWith (path_in b w d)
+          (λ x. n x + count_by (bytes_eq x) u.elements) z) (sym l.state)
+          (IsPathStartWith-add_all (path_in b w d) (path_in old w d) n u.elements u.end (path_state b w d) p.state);
       stack = (path_edits_variable old new w (add_edits old new w d u.elements u.end a)).1 ∙ p.stack;
     }))
     (λ t. path_same b new w d n (λ x. adds_by w x r + n x) (λ x. rw (adds_by_none w x r t) (omega arith)) (path_kept b old new w d n (one_keeps load loads uses owner w r old new s f e t) p))
@@ -163,7 +172,9 @@ unload_path uses owner w d r b old new n h s f e p = by_test (is_named w (variab
           (IsPathStartWith-drop_all (path_in b w d) (path_in old w d) (λ x. count_by (bytes_eq x) u.elements + n x) u.elements (path_state b w d) p2.state (λ x. omega arith));
       stack = (path_edits_variable old new w (drop_edits old new w d u.elements a)).1 ∙ p.stack;
     }))
-    (λ t. path_same b new w d (λ x. adds_by w x r + n x) n (λ x. rw (adds_by_none w x r t) (omega arith)) (path_kept b old new w d (λ x. adds_by w x r + n x) (one_keeps unload unloads uses owner w r old new s f e t) p))
+    (λ t. path_same b new w d (λ x. adds_by w x r + n x) n (λ x. rw (adds_by_none w x r t) (omega arith))
+    (path_kept b old new w d (λ x. adds_by w x r + n x) (one_keeps unload unloads uses owner w r old new s f e t)
+    p))
 
 pub unloads_path : (uses : Text → VariableUse) (owner w : Text) (d : ℕ) (rs : List Record) (b old new : Environment) (n : Text → ℕ) → uses w ≡ Pathed d → AllSuit uses rs → is_editable w ≡ true
     → effects unload owner rs old ≡ Ok new → PathAt b old w d (λ x. adds w x rs + n x) → PathAt b new w d n

@@ -4,7 +4,8 @@ use Rattle.envvars.specs.Environment.{Environment}
 use Rattle.modulefile.specs.Moves.{Move, MovesReach}
 use Rattle.modulefile.proofs.Moved.{reach_composes}
 use Rattle.reversal.specs.Runs.{AreReversible}
-use Rattle.reversal.specs.Requests.{RequestOutcome, accepted, refused, moves_of, all_moves, RequestReaches, RequestsReach}
+use Rattle.reversal.specs.Requests.{RequestOutcome, accepted, refused, moves_of, all_moves, RequestReaches}
+use Rattle.reversal.specs.Requests.{RequestsReach}
 use Rattle.reversal.specs.Laws.{RequestsReturn}
 use Rattle.reversal.proofs.WholeRuns.{runs_return, front_reversible}
 

@@ -33,10 +33,13 @@ use Rattle.reversal.specs.Starts.{IsStart, HasValue, IsPermutation}
 use Rattle.reversal.specs.Runs.{live_named, without_live, IsReversibleAndApart, AreReversibleTogether}
 use Rattle.reversal.proofs.Frames.{Side, loads, unloads, touched, kept_loaded, kept_rest}
 use Rattle.reversal.proofs.Loads.{parts, load_parts, unload_parts}
-use Rattle.reversal.proofs.OneVariable.{by_test, pick, value_kept, all_untouched, loads_fixed, unloads_fixed, or_unwrap, PathAt, path_kept, path_same, loads_path, unloads_path}
+use Rattle.reversal.proofs.OneVariable.{by_test, pick, value_kept, all_untouched, loads_fixed, unloads_fixed, or_unwrap}
+use Rattle.reversal.proofs.OneVariable.{PathAt, path_kept, path_same, loads_path, unloads_path}
 use Rattle.reversal.proofs.OneStack.{more_loaded, StackAt, stack_kept, Pusher, loads_push, unloads_push, popped}
 use Rattle.reversal.proofs.ModuleEntries.{added_entry}
-use Rattle.reversal.proofs.LiveModules.{live_names, adds_less, suits_of, set_same, set_alone, fit_less, order_with, order_has, no_push, other_live, order_popped, apart_of, apart_distinct, apart_named, fresh, gone, entries_less, more_there, newest_there, named_there}
+use Rattle.reversal.proofs.LiveModules.{live_names, adds_less, suits_of, set_same, set_alone, fit_less, order_with}
+use Rattle.reversal.proofs.LiveModules.{order_has, no_push, other_live, order_popped, apart_of, apart_distinct}
+use Rattle.reversal.proofs.LiveModules.{apart_named, fresh, gone, entries_less, more_there, newest_there, named_there}
 
 -- records leave the loaded list and every name that is none of the tool's
 
@@ -47,7 +50,8 @@ record Through (old new : Environment) : Type 0 where
 through_self : (e : Environment) → Through e e
 through_self e = record { loaded = record { list = refl; order = λ o. o }; rest = λ q h. refl }
 
-all_through : (mode : Mode) (side : Side mode) (uses : Text → VariableUse) (owner : Text) (rs : List Record) (old new : Environment) → AllSuit uses rs → effects mode owner rs old ≡ Ok new → Through old new
+all_through : (mode : Mode) (side : Side mode) (uses : Text → VariableUse) (owner : Text) (rs : List Record)
+    (old new : Environment) → AllSuit uses rs → effects mode owner rs old ≡ Ok new → Through old new
 all_through mode side uses owner [] old new s e = let q : old ≡ new = cc in subst (Through old) q (through_self old)
 all_through mode side uses owner (r ∷ rs) old new s e =
     let p = parts (effect mode owner r old) (effects mode owner rs) new e in
@@ -74,7 +78,8 @@ Held (Fixed k) b w loaded live e = HasValue b e w (unwrap_or (live_set w live) (
 Held (Pathed d) b w loaded live e = PathAt b e w d (live_adds w live)
 Held Stacked b w loaded live e = StackHeld b e w loaded live
 
-held_kept : (y : VariableUse) (b : Environment) (w : Text) (loaded : List Text) (live : List Module) (old new : Environment) → IsVariableUnchanged old new w → Held y b w loaded live old → Held y b w loaded live new
+held_kept : (y : VariableUse) (b : Environment) (w : Text) (loaded : List Text) (live : List Module)
+    (old new : Environment) → IsVariableUnchanged old new w → Held y b w loaded live old → Held y b w loaded live new
 held_kept Untouched b w loaded live old new k h = value_kept b old new w (lookup b w) k h
 held_kept (Fixed v) b w loaded live old new k h = value_kept b old new w (unwrap_or (live_set w live) (lookup b w)) k h
 held_kept (Pathed d) b w loaded live old new k h = path_kept b old new w d (live_adds w live) k h
@@ -110,7 +115,8 @@ owners_foreign n names (item ∷ items) h k =
         (λ t. absurd (false≢true (sym k ∙ ap (λ (z : Text). has z names) (same_text n u t) ∙ q)))
         (λ t. t)
 
-pusher : (uses : Text → VariableUse) (b : Environment) (xs : List Entry) (w owner : Text) (names : List Text) (base : StackState) → Begun uses b xs → is_editable w ≡ true → uses w ≡ Stacked → stack_in b w ≡ Some base
+pusher : (uses : Text → VariableUse) (b : Environment) (xs : List Entry) (w owner : Text) (names : List Text)
+    (base : StackState) → Begun uses b xs → is_editable w ≡ true → uses w ≡ Stacked → stack_in b w ≡ Some base
     → list_all is_module_name names ≡ true → has owner names ≡ true → has owner (names_of xs) ≡ false → Pusher owner names base
 pusher uses b xs w owner names base g f q found n there absent =
     let s = start_of (names_of xs) b w g.sound.names (g.start.order.stacks w xs f q g.list) in
@@ -128,7 +134,8 @@ or_nothing (Some x) = refl
 
 -- a load
 
-held_load : (uses : Text → VariableUse) (b : Environment) (xs : List Entry) (live : List Module) (m : Module) (old mid : Environment) (w : Text) (y : VariableUse) → uses w ≡ y → Begun uses b xs → is_editable w ≡ true
+held_load : (uses : Text → VariableUse) (b : Environment) (xs : List Entry) (live : List Module) (m : Module)
+    (old mid : Environment) (w : Text) (y : VariableUse) → uses w ≡ y → Begun uses b xs → is_editable w ≡ true
     → AllSuit uses m.records → effects load m.name m.records old ≡ Ok mid → list_all is_module_name (names_of (entries_over xs (m ∷ live))) ≡ true
     → has m.name (names_of xs) ≡ false → has m.name (live_names live) ≡ false
     → Held y b w (names_of (entries_over xs live)) live old → Held y b w (names_of (entries_over xs (m ∷ live))) (m ∷ live) mid
@@ -153,12 +160,15 @@ held_load uses b xs live m old mid w Stacked q g f s e n a l h =
           (loads_push uses m.name w m.records b old mid (names_of (entries_over xs (m ∷ live))) h.base None h.pushes q s f p (other_live m.name w live h.pushes h.order l) e before);
     }
 
-pub kept_load : (uses : Text → VariableUse) (b : Environment) (xs : List Entry) (live : List Module) (m : Module) (old new : Environment) → Begun uses b xs → Kept uses b xs live old → IsReversibleAndApart uses live m → Fits (Loads m) old
+pub kept_load : (uses : Text → VariableUse) (b : Environment) (xs : List Entry) (live : List Module) (m : Module)
+    (old new : Environment) → Begun uses b xs → Kept uses b xs live old → IsReversibleAndApart uses live m
+    → Fits (Loads m) old
     → moved (Loads m) old ≡ Ok new → Kept uses b xs (m ∷ live) new
 kept_load uses b xs live m old new g k fit fits h =
     let p = load_parts m old new h in
     let t = all_through load loads uses m.name m.records old p.mid fit.suits p.effects in
-    let list : loaded_in new ≡ Some (entries_over xs (m ∷ live)) = added_entry m (entries_over xs live) new (loaded_after_add p.mid new (entry_of m) (entries_over xs live) (t.loaded.list ∙ k.list) p.entry) in
+    let list : loaded_in new ≡ Some (entries_over xs (m ∷ live)) = added_entry m (entries_over xs live) new
+    (loaded_after_add p.mid new (entry_of m) (entries_over xs live) (t.loaded.list ∙ k.list) p.entry) in
     let order : AreLoadedInOrder new = add_in_order p.mid new (entry_of m) p.entry in
     let sound : AreSound (entries_over xs (m ∷ live)) = sound_of new (entries_over xs (m ∷ live)) order list in
     let same : fits.0 ≡ entries_over xs live = same_Some fits.0 (entries_over xs live) (sym fits.1 ∙ k.list) in
@@ -176,14 +186,17 @@ kept_load uses b xs live m old new g k fit fits h =
 
 -- an unload
 
-held_unload : (uses : Text → VariableUse) (b : Environment) (xs : List Entry) (live : List Module) (m : Module) (old mid : Environment) (w : Text) (y : VariableUse) → uses w ≡ y → Begun uses b xs → is_editable w ≡ true
+held_unload : (uses : Text → VariableUse) (b : Environment) (xs : List Entry) (live : List Module) (m : Module)
+    (old mid : Environment) (w : Text) (y : VariableUse) → uses w ≡ y → Begun uses b xs → is_editable w ≡ true
     → live_named m.name live ≡ Some m → AreReversibleTogether uses live → AreSound (entries_over xs live) → effects unload m.name m.records old ≡ Ok mid
     → Held y b w (names_of (entries_over xs live)) live old → Held y b w (names_of (entries_over xs (without_live m.name live))) (without_live m.name live) mid
 held_unload uses b xs live m old mid w Untouched q g f l fit sound e h = all_untouched unload unloads uses m.name w m.records b old mid (lookup b w) q (suits_of uses m.name live m l fit) f e h
 held_unload uses b xs live m old mid w (Fixed k) q g f l fit sound e h =
     go (last_set w m.records) refl (unloads_fixed uses m.name w k m.records b old mid (unwrap_or (live_set w live) (lookup b w)) q (suits_of uses m.name live m l fit) f e h)
   where
-    go : (o : Option (Option Text)) → last_set w m.records ≡ o → HasValue b mid w (pick (last_set w m.records) (unwrap_or (live_set w live) (lookup b w)) k) → HasValue b mid w (unwrap_or (live_set w (without_live m.name live)) (lookup b w))
+    go : (o : Option (Option Text)) → last_set w m.records ≡ o
+        → HasValue b mid w (pick (last_set w m.records) (unwrap_or (live_set w live) (lookup b w)) k)
+        → HasValue b mid w (unwrap_or (live_set w (without_live m.name live)) (lookup b w))
     go None i v =
         let v2 : HasValue b mid w (unwrap_or (live_set w live) (lookup b w)) = rw i at v in
         subst (λ (z : Option (Option Text)). HasValue b mid w (unwrap_or z (lookup b w))) (sym (set_same w m.name live m l i)) v2
@@ -220,7 +233,8 @@ held_unload uses b xs live m old mid w Stacked q g f l fit sound e h =
       };
     }
 
-pub kept_unload : (uses : Text → VariableUse) (b : Environment) (xs : List Entry) (live : List Module) (m : Module) (old new : Environment) → Begun uses b xs → Kept uses b xs live old → live_named m.name live ≡ Some m
+pub kept_unload : (uses : Text → VariableUse) (b : Environment) (xs : List Entry) (live : List Module) (m : Module)
+    (old new : Environment) → Begun uses b xs → Kept uses b xs live old → live_named m.name live ≡ Some m
     → moved (Unloads m) old ≡ Ok new → Kept uses b xs (without_live m.name live) new
 kept_unload uses b xs live m old new g k l h =
     let p = unload_parts m old new h in

@@ -9,7 +9,8 @@ use Rattle.envpaths.specs.PathVariables.{added_path, dropped_path}
 use Rattle.envpaths.specs.declared.adding.End.{End}
 use Rattle.envpaths.specs.declared.adding.End.TheVariants as ends
 use Rattle.envstacks.specs.StackVariables.{pushed_value, popped_value}
-use Rattle.modulefile.specs.Records.{Record, Set, Unset, Push, Front, Back, Remove, Conflict, Prereq, Whatis, variable_of}
+use Rattle.modulefile.specs.Records.{Record, Set, Unset, Push, Front, Back, Remove, Conflict, Prereq, Whatis}
+use Rattle.modulefile.specs.Records.{variable_of}
 use Rattle.modulefile.specs.Effects.{loaded_by, unloaded_by}
 use Rattle.reversal.specs.VariableUses.{VariableUse, Untouched, Fixed, Pathed, Stacked, Suits}
 use Rattle.reversal.specs.Live.{set_by, adds_by, push_by}

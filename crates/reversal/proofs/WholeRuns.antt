@@ -15,7 +15,8 @@ use Rattle.envstacks.specs.StackVariables.{stack_in, IsStackInOrder}
 use Rattle.envloaded.specs.LoadedTexts.{names_variable, files_variable, conflicts_variable, prereqs_variable}
 use Rattle.envloaded.specs.Loaded.{Entry, names_of, loaded_in}
 use Rattle.envstate.specs.Roles.{VariableRole, role_of, is_editable, IsNameOf}
-use Rattle.envstate.specs.Roles.VariableRole.{Variable, Counters, Stack, LoadedNames, LoadedFiles, LoadedConflicts, LoadedPrereqs, Other}
+use Rattle.envstate.specs.Roles.VariableRole.{Variable, Counters, Stack, LoadedNames, LoadedFiles, LoadedConflicts}
+use Rattle.envstate.specs.Roles.VariableRole.{LoadedPrereqs, Other}
 use Rattle.envstate.proofs.RoleLemmas.{name_of_role}
 use Rattle.envstate.proofs.StateLemmas.{start_of, one_path, one_stack, one_list, list_in_order}
 use Rattle.modulefile.specs.Records.{Record}
@@ -35,7 +36,9 @@ begun uses b s = let p = list_in_order b s.order.loaded in (p.0, record { start 
 
 -- what steps preserve, from its parts and into them
 
-kept_from : (uses : Text → VariableUse) (b e : Environment) (xs : List Entry) (live : List Module) → loaded_in b ≡ Some xs → IsInOrder uses e → IsStartWith uses b live e → AreReversibleTogether uses live → Kept uses b xs live e
+kept_from : (uses : Text → VariableUse) (b e : Environment) (xs : List Entry) (live : List Module)
+    → loaded_in b ≡ Some xs → IsInOrder uses e → IsStartWith uses b live e → AreReversibleTogether uses live
+    → Kept uses b xs live e
 kept_from uses b e xs live l o s a = record {
   loaded = o.loaded;
   list = s.entries xs l;
@@ -123,7 +126,9 @@ back uses b e xs g k = same_environment e b (λ n. go n (role_of n) refl (name_o
     texts : (v : Text) → is_editable v ≡ true → HasValue b e v (lookup b v)
     texts v f = cell v f (uses v) refl (k.held v f)
 
-    list : (lookup e names_variable ≡ lookup b names_variable) × (lookup e files_variable ≡ lookup b files_variable) × (lookup e conflicts_variable ≡ lookup b conflicts_variable) × (lookup e prereqs_variable ≡ lookup b prereqs_variable)
+    list : (lookup e names_variable ≡ lookup b names_variable) × (lookup e files_variable ≡ lookup b files_variable)
+        × (lookup e conflicts_variable ≡ lookup b conflicts_variable)
+        × (lookup e prereqs_variable ≡ lookup b prereqs_variable)
     list = let p = one_list e b k.loaded g.start.order.loaded (k.list ∙ sym g.list) in (p.names, p.files, p.conflicts, p.prereqs)
 
     at : (n m : Text) → n ≡ m → lookup e m ≡ lookup b m → lookup e n ≡ lookup b n
@@ -170,7 +175,9 @@ kept_undone uses b xs live m old new g k u h =
 
 -- runs
 
-kept_run : (uses : Text → VariableUse) (b : Environment) (xs : List Entry) (live : List Module) (ms : List Move) (old new : Environment) → Begun uses b xs → Kept uses b xs live old → AreReversible uses live ms → MovesReach ms old new
+kept_run : (uses : Text → VariableUse) (b : Environment) (xs : List Entry) (live : List Module) (ms : List Move)
+    (old new : Environment) → Begun uses b xs → Kept uses b xs live old → AreReversible uses live ms
+    → MovesReach ms old new
     → Kept uses b xs (live_after live ms) new
 kept_run uses b xs live [] old new g k r l = subst (Kept uses b xs live) (sym l) k
 kept_run uses b xs live (Loads m ∷ ms) old new g k r l = kept_run uses b xs (m ∷ live) ms l.1.0 new g (kept_load uses b xs live m old l.1.0 g k r.0 l.0 l.1.1) r.1 l.1.2

@@ -8,7 +8,8 @@ use Rattle.envvars.specs.Fields.{colon}
 use Rattle.envloaded.specs.Loaded.{AreLoadedInOrder}
 use Rattle.modulefile.specs.Records.{Record, Set, Unset, Push, Front, Back, Remove}
 use Rattle.modulefile.specs.Moves.{Module, Move, Loads, Unloads, MovesReach}
-use Rattle.reversal.specs.VariableUses.{VariableUse, Untouched, Fixed, Pathed, Stacked, is_reversible, AllFollowUses, AllSuit}
+use Rattle.reversal.specs.VariableUses.{VariableUse, Untouched, Fixed, Pathed, Stacked, is_reversible, AllFollowUses}
+use Rattle.reversal.specs.VariableUses.{AllSuit}
 use Rattle.reversal.specs.Live.{last_set, live_set}
 use Rattle.reversal.specs.Starts.{IsStart, IsStartWith}
 use Rattle.reversal.specs.Runs.{live_named, without_live, live_after, AreReversible}

@@ -1,6 +1,10 @@
 //! Why each premise is needed: worked examples in which the others hold, and accepted moves lose the start, or in one
 //! of them the value of a module that is loaded over it. They are computed from the definitions.
-ghost use Rattle.reversal.specs.Examples.{EmptyPath, CounterOfNone, BottomAlone, HiddenValue, OtherEscapes, OwnerNotLoaded, ValueBeforeSet, OtherValue, EmptyLists, NeedsOfNone, ConflictTwice, IllSpelled, EmptyGroup, UnsetWithoutValue, ElementRemoved, OtherRecords, StartUnloaded, SetAndPushed, UnsetAndPushed, AddedAndPushed, TwoDelimiters, SetByTwo, PartsAreAll};
+ghost use Rattle.reversal.specs.Examples.{EmptyPath, CounterOfNone, BottomAlone, HiddenValue, OtherEscapes};
+ghost use Rattle.reversal.specs.Examples.{OwnerNotLoaded, ValueBeforeSet, OtherValue, EmptyLists, NeedsOfNone};
+ghost use Rattle.reversal.specs.Examples.{ConflictTwice, IllSpelled, EmptyGroup, UnsetWithoutValue, ElementRemoved};
+ghost use Rattle.reversal.specs.Examples.{OtherRecords, StartUnloaded, SetAndPushed, UnsetAndPushed, AddedAndPushed};
+ghost use Rattle.reversal.specs.Examples.{TwoDelimiters, SetByTwo, PartsAreAll};
 
 /// Starts that aren't in order, or where a fixed variable has another value, though their loaded list is in order and
 /// the modules are reversible and apart.

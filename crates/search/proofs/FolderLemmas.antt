@@ -1,5 +1,6 @@
 -- The names of a folder that may be those of folders.
-use Rattle.std.proofs.Common.{◌≡◌, ◌⊎◌, true, false, List, Option, Some, sym, ap, ◌∙◌, subst, inl, inr, ℕ, ◌<◌, length, get_or, map}
+use Rattle.std.proofs.Common.{◌≡◌, ◌⊎◌, true, false, List, Option, Some, sym, ap, ◌∙◌, subst, inl, inr, ℕ, ◌<◌, length}
+use Rattle.std.proofs.Common.{get_or, map}
 use Rattle.std.proofs.lemmas.Bool.{cases_Bool}
 use Rattle.modulename.specs.ModuleName.{Text}
 use Rattle.filetree.specs.Agreement.{Files, Listings}
@@ -36,7 +37,9 @@ module _ (results : Text → Text → Option DefaultFileResult → Type 0) (file
   -- the files of a folder, and what is below the folders in it, are what is below it
   pub rows_ended : (prefix : Option Text) (entries : List Text) → folders (folder_path dir prefix) ≡ Some entries → (names below : List Text) → names ≡ names_in prefix entries
       → AreAmong below names → HasAllFolders folders dir names below
-      → (listing_entries : List ListingEntry) → AreListingEntries results files folders dir (IsInside files folders dir names below) listing_entries → AreListingEntries results files folders dir (IsUnder files folders dir prefix) listing_entries
+      → (listing_entries : List ListingEntry) → AreListingEntries results files folders dir
+      (IsInside files folders dir names below) listing_entries
+      → AreListingEntries results files folders dir (IsUnder files folders dir prefix) listing_entries
   rows_ended prefix entries listed names below named among others listing_entries a =
       rows_same results files folders dir (IsInside files folders dir names below) (IsUnder files folders dir prefix)
       (λ v u. outside files folders dir prefix entries listed v (subst (λ ns. IsInside files folders dir ns ns v) named (wider names below among v u)))

@@ -1,5 +1,6 @@
 -- The modules of a directory, sorted and each once, are its listing.
-use Rattle.std.proofs.Common.{◌≡◌, Bool, true, false, ◌&&◌, ◌||◌, List, [], ◌∷◌, ◌++◌, map, Option, None, Ordering, Less, Equal, Greater, refl, sym, ap, ◌∙◌, subst, ⊎_elim}
+use Rattle.std.proofs.Common.{◌≡◌, Bool, true, false, ◌&&◌, ◌||◌, List, [], ◌∷◌, ◌++◌, map, Option, None, Ordering}
+use Rattle.std.proofs.Common.{Less, Equal, Greater, refl, sym, ap, ◌∙◌, subst, ⊎_elim}
 use Rattle.std.specs.Prelude.{bytes_eq}
 use Rattle.std.specs.Cmp.{IsEquivalence}
 use Rattle.std.specs.List.{list_any, AllByRecursion, dedup}
@@ -46,7 +47,9 @@ ties x y =
 abbrev row_order : ListingEntry → ListingEntry → Ordering
 row_order x y = version_order (name_of x) (name_of y)
 
-before_names : (n : Text) (listing_entries : List ListingEntry) → AllByRecursion (λ y. version_order n (name_of y) ≡ Less) listing_entries → AllByRecursion (λ m. version_order n m ≡ Less) (names_of (map listing_entry_view listing_entries))
+before_names : (n : Text) (listing_entries : List ListingEntry)
+    → AllByRecursion (λ y. version_order n (name_of y) ≡ Less) listing_entries
+    → AllByRecursion (λ m. version_order n m ≡ Less) (names_of (map listing_entry_view listing_entries))
 before_names n [] a = tt
 before_names n (r ∷ listing_entries) a = (a.0, before_names n listing_entries a.1)
 
@@ -55,11 +58,15 @@ unfolding IsStrictlySortedBy
 strict_names [] s = tt
 strict_names (r ∷ listing_entries) s = (before_names (name_of r) listing_entries s.0, strict_names listing_entries s.1)
 
-unmap : (Q : listed.ListingEntry → Type 0) (listing_entries : List ListingEntry) → AllByRecursion Q (map listing_entry_view listing_entries) → AllByRecursion (λ r. Q (listing_entry_view r)) listing_entries
+unmap : (Q : listed.ListingEntry → Type 0) (listing_entries : List ListingEntry)
+    → AllByRecursion Q (map listing_entry_view listing_entries)
+    → AllByRecursion (λ r. Q (listing_entry_view r)) listing_entries
 unmap Q [] a = tt
 unmap Q (r ∷ listing_entries) a = (a.0, unmap Q listing_entries a.1)
 
-remap : (Q : listed.ListingEntry → Type 0) (listing_entries : List ListingEntry) → AllByRecursion (λ r. Q (listing_entry_view r)) listing_entries → AllByRecursion Q (map listing_entry_view listing_entries)
+remap : (Q : listed.ListingEntry → Type 0) (listing_entries : List ListingEntry)
+    → AllByRecursion (λ r. Q (listing_entry_view r)) listing_entries
+    → AllByRecursion Q (map listing_entry_view listing_entries)
 remap Q [] a = tt
 remap Q (r ∷ listing_entries) a = (a.0, remap Q listing_entries a.1)
 
@@ -70,7 +77,9 @@ any_name v (r ∷ listing_entries) = ap (λ b. bytes_eq v (name_of r) || b) (any
 same_name_equiv : IsEquivalence is_same_name
 same_name_equiv = on_equiv name_of nat_list_eq_equiv
 
-kept_name : (v : Text) (first sorted : List ListingEntry) → IsPermutation first sorted → has v (names_of (map listing_entry_view first)) ≡ true → has v (names_of (map listing_entry_view (dedup is_same_name sorted))) ≡ true
+kept_name : (v : Text) (first sorted : List ListingEntry) → IsPermutation first sorted
+    → has v (names_of (map listing_entry_view first)) ≡ true
+    → has v (names_of (map listing_entry_view (dedup is_same_name sorted))) ≡ true
 kept_name v first sorted moved h =
     let (k, x, lt, at, q) = Any-from_list_any (λ r. bytes_eq v (name_of r)) first (sym (any_name v first) ∙ h) in
     let (j, y, jlt, jat, e) = Any-dedup same_name_equiv sorted x (Contains-permutation first sorted x moved (k, lt, at)) in
@@ -93,7 +102,8 @@ module _ (results : Text → Text → Option DefaultFileResult → Type 0) (file
   named_under v (r ∷ listing_entries) a h =
       ⊎_elim (λ q. subst (IsUnder files folders dir None) (sym (same v r.0 q)) a.0.0) (λ q. named_under v listing_entries a.1 q) (or_cases (bytes_eq v r.0) (has v (names_of listing_entries)) h)
 
-  marked_named : (v : Text) (listing_entries : List listed.ListingEntry) → AllByRecursion Right listing_entries → is_marked v listing_entries ≡ true → IsUnder files folders dir None v × IsNamed results files folders dir v
+  marked_named : (v : Text) (listing_entries : List listed.ListingEntry) → AllByRecursion Right listing_entries
+      → is_marked v listing_entries ≡ true → IsUnder files folders dir None v × IsNamed results files folders dir v
   marked_named v [] a h = absurd (cc)
   marked_named v (r ∷ listing_entries) a h =
       ⊎_elim (λ q. let p = and_parts (bytes_eq v r.0) r.1 q in
@@ -101,19 +111,25 @@ module _ (results : Text → Text → Option DefaultFileResult → Type 0) (file
       (subst (IsUnder files folders dir None) e a.0.0, subst (IsNamed results files folders dir) e (a.0.1.0 p.1)))
       (λ q. marked_named v listing_entries a.1 q) (or_cases (bytes_eq v r.0 && r.1) (is_marked v listing_entries) h)
 
-  named_marked : (v : Text) (listing_entries : List listed.ListingEntry) → AllByRecursion Right listing_entries → has v (names_of listing_entries) ≡ true → IsNamed results files folders dir v → is_marked v listing_entries ≡ true
+  named_marked : (v : Text) (listing_entries : List listed.ListingEntry) → AllByRecursion Right listing_entries
+      → has v (names_of listing_entries) ≡ true → IsNamed results files folders dir v
+      → is_marked v listing_entries ≡ true
   named_marked v [] a h n = absurd (cc)
   named_marked v (r ∷ listing_entries) a h n =
       ⊎_elim (λ q. or_left (bytes_eq v r.0 && r.1) (is_marked v listing_entries) (and_from (bytes_eq v r.0) r.1 q (a.0.1.1 (subst (IsNamed results files folders dir) (same v r.0 q) n))))
       (λ q. or_right (bytes_eq v r.0 && r.1) (is_marked v listing_entries) (named_marked v listing_entries a.1 q n)) (or_cases (bytes_eq v r.0) (has v (names_of listing_entries)) h)
 
-  sound_kept : (first sorted : List ListingEntry) → IsPermutation first sorted → AllByRecursion Right (map listing_entry_view first) → AllByRecursion Right (map listing_entry_view (dedup is_same_name sorted))
+  sound_kept : (first sorted : List ListingEntry) → IsPermutation first sorted
+      → AllByRecursion Right (map listing_entry_view first)
+      → AllByRecursion Right (map listing_entry_view (dedup is_same_name sorted))
   sound_kept first sorted moved a =
       let P : ListingEntry → Type 0 = λ r. Right (listing_entry_view r) in
       let all = All-permutation P first sorted moved (All-from_recursion P first (unmap Right first a)) in
       remap Right (dedup is_same_name sorted) (recursion_from_All P (dedup is_same_name sorted) (All-dedup is_same_name P sorted all))
 
-  pub listing_is : (first sorted last : List ListingEntry) (more : List listed.ListingEntry) → map listing_entry_view first ≡ [] ++ more → AreListingEntries results files folders dir (IsUnder files folders dir None) more
+  pub listing_is : (first sorted last : List ListingEntry) (more : List listed.ListingEntry)
+      → map listing_entry_view first ≡ [] ++ more → AreListingEntries results files folders dir
+      (IsUnder files folders dir None) more
       → IsPermutation first sorted → IsSortedBy goes_before sorted → last ≡ dedup is_same_name sorted → IsListing results files folders dir (map listing_entry_view last)
   listing_is first sorted last more made listing_entries moved up kept = subst (λ rs. IsListing results files folders dir (map listing_entry_view rs)) (sym kept) listing
     where

@@ -1,5 +1,6 @@
 -- The paths that the listing of a folder looks at, and the names that are reached by entries.
-use Rattle.std.proofs.Common.{◌≡◌, ℕ, Bool, true, false, nat_eq, List, [], ◌∷◌, ◌++◌, length, map, filter, Option, Some, None, refl, sym, ap, ◌∙◌, subst, inl, inr}
+use Rattle.std.proofs.Common.{◌≡◌, ℕ, Bool, true, false, nat_eq, List, [], ◌∷◌, ◌++◌, length, map, filter, Option, Some}
+use Rattle.std.proofs.Common.{None, refl, sym, ap, ◌∙◌, subst, inl, inr}
 use Rattle.std.specs.Prelude.{bytes_eq}
 use Rattle.std.specs.List.{join_with_byte}
 use Rattle.std.proofs.lemmas.Bool.{or_left, or_right}
@@ -11,7 +12,8 @@ use Rattle.filetree.specs.Modulefiles.{path_of}
 use Rattle.search.specs.Single.{is_single}
 use Rattle.search.specs.DefaultVersions.{DefaultFileResult}
 use Rattle.search.specs.Candidates.{HasEntry}
-use Rattle.search.specs.BelowFolder.{ReachesThrough, IsBelow, folder_path, name_below, names_in, is_module_below, LooksAmong}
+use Rattle.search.specs.BelowFolder.{ReachesThrough, IsBelow, folder_path, name_below, names_in, is_module_below}
+use Rattle.search.specs.BelowFolder.{LooksAmong}
 use Rattle.search.specs.Looked.{IsReached}
 use Rattle.search.proofs.VersionLemmas.{has, in_filter}
 use Rattle.search.specs.Walks.{LooksForDefault, IsFolderOf, LooksFromFolder}
@@ -69,7 +71,8 @@ module _ (results : Text → Text → Option DefaultFileResult → Type 0) (file
     looks_inside n h at l = λ folder. l (name_reached folders dir prefix entries listed n (ap (has n) (sym named) ∙ h) folder)
 
   pub looks_at_default : (prefix : Option Text) (entries : List Text) → folders (folder_path dir prefix) ≡ Some entries → (names modules : List Text) → names ≡ names_in prefix entries
-      → modules ≡ filter (is_module_below files dir) names → (modules ≡ [] → ⊥) → (at : Text) → LooksForDefault results files folders dir prefix at → LooksFromFolder results files folders dir prefix at
+      → modules ≡ filter (is_module_below files dir) names → (modules ≡ [] → ⊥) → (at : Text)
+      → LooksForDefault results files folders dir prefix at → LooksFromFolder results files folders dir prefix at
   looks_at_default None entries listed names modules named made some at l = absurd l
   looks_at_default (Some f) entries listed names [] named made some at l = absurd (some refl)
   looks_at_default (Some f) entries listed names (m ∷ ms) named made some at l = λ folder.

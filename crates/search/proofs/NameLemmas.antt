@@ -1,5 +1,6 @@
 -- Names in lists of names, one name more.
-use Rattle.std.proofs.Common.{◌≡◌, ◌⊎◌, Bool, true, false, List, [], ◌∷◌, ◌++◌, None, refl, sym, ap, ◌∙◌, inl, inr, ⊎_elim, append-nil, append_assoc, filter}
+use Rattle.std.proofs.Common.{◌≡◌, ◌⊎◌, Bool, true, false, List, [], ◌∷◌, ◌++◌, None, refl, sym, ap, ◌∙◌, inl, inr}
+use Rattle.std.proofs.Common.{⊎_elim, append-nil, append_assoc, filter}
 use Rattle.std.specs.Prelude.{bytes_eq, if◌then◌else◌}
 use Rattle.std.proofs.lemmas.Bool.{cases_Bool, or_cases, or_left, or_right}
 use Rattle.modulename.specs.ModuleName.{Text}
@@ -37,7 +38,8 @@ more_among true some all more n e a v h = ⊎_elim (λ q. has_left v all (n ∷ 
 more_among false some all more n e a v h = has_left v all (n ∷ []) (a v (ap (has v) (sym (e ∙ append-nil some)) ∙ h))
 
 -- one name more of those that pass the test
-pub filter_more : (p : Text → Bool) (test : Bool) (n : Text) (rest old new all : List Text) → p n ≡ test → new ≡ old ++ (if test then n ∷ [] else []) → all ≡ old ++ filter p (n ∷ rest) → all ≡ new ++ filter p rest
+pub filter_more : (p : Text → Bool) (test : Bool) (n : Text) (rest old new all : List Text) → p n ≡ test → new ≡ old
+    ++ (if test then n ∷ [] else []) → all ≡ old ++ filter p (n ∷ rest) → all ≡ new ++ filter p rest
 filter_more p true n rest old new all e f h =
     h ∙ rw e (sym (append_assoc old (n ∷ []) (filter p rest))) ∙ ap (λ xs. xs ++ filter p rest) (sym f)
 filter_more p false n rest old new all e f h =

@@ -1,5 +1,6 @@
 -- A MODULEPATH has one listing at most: a list in strict order is known by its members.
-use Rattle.std.proofs.Common.{◌≡◌, ◌↔◌, Bool, true, false, ◌&&◌, List, [], ◌∷◌, Option, refl, ap, sym, ◌∙◌, subst, ⊎_elim, Less, Equal}
+use Rattle.std.proofs.Common.{◌≡◌, ◌↔◌, Bool, true, false, ◌&&◌, List, [], ◌∷◌, Option, refl, ap, sym, ◌∙◌, subst}
+use Rattle.std.proofs.Common.{⊎_elim, Less, Equal}
 use Rattle.std.specs.Prelude.{bytes_eq}
 use Rattle.std.specs.List.{AllByRecursion}
 use Rattle.std.specs.List.Sorted.{IsStrictlySortedBy}
@@ -74,10 +75,14 @@ first_mark n b c rs qs s m e =
     (λ g. absurd (not_below_itself n (below (λ w. version_order n w ≡ Less) n (names_of qs) s.0 (marked_has n qs g))))
     (or_cases (bytes_eq n n && c) (is_marked n qs) (m (or_left (bytes_eq n n && b) (is_marked n rs) (and_from (bytes_eq n n) b (itself n) e))))
 
-rest_mark : (n : Text) (b c : Bool) (rs qs : List ListingEntry) → Sorted (n ∷ names_of rs) → ((v : Text) → is_marked v ((n, b) ∷ rs) ≡ true → is_marked v ((n, c) ∷ qs) ≡ true) → (v : Text) → is_marked v rs ≡ true → is_marked v qs ≡ true
+rest_mark : (n : Text) (b c : Bool) (rs qs : List ListingEntry) → Sorted (n ∷ names_of rs)
+    → ((v : Text) → is_marked v ((n, b) ∷ rs) ≡ true → is_marked v ((n, c) ∷ qs) ≡ true) → (v : Text)
+    → is_marked v rs ≡ true → is_marked v qs ≡ true
 unfolding IsStrictlySortedBy
 rest_mark n b c rs qs s m v h =
-    ⊎_elim (λ e. absurd (not_below_itself n (subst (λ w. version_order n w ≡ Less) (same v n (and_parts (bytes_eq v n) c e).0) (below (λ w. version_order n w ≡ Less) v (names_of rs) s.0 (marked_has v rs h)))))
+    ⊎_elim (λ e. absurd (not_below_itself n (subst (λ w. version_order n w ≡ Less)
+    (same v n (and_parts (bytes_eq v n) c e).0) (below (λ w. version_order n w ≡ Less) v (names_of rs) s.0
+    (marked_has v rs h)))))
     (λ e. e) (or_cases (bytes_eq v n && c) (is_marked v qs) (m v (or_right (bytes_eq v n && b) (is_marked v rs) h)))
 
 alike : (b c : Bool) → (b ≡ true → c ≡ true) → (c ≡ true → b ≡ true) → b ≡ c
@@ -94,18 +99,23 @@ one_rows ((n, b) ∷ rs) ((k, c) ∷ qs) s t e m =
     let h : n ≡ k = cc in
     let g : names_of rs ≡ names_of qs = cc in
     let t' : Sorted (n ∷ names_of qs) = subst (λ z. Sorted (z ∷ names_of qs)) (sym h) t in
-    let m' : (v : Text) → (is_marked v ((n, b) ∷ rs) ≡ true) ↔ (is_marked v ((n, c) ∷ qs) ≡ true) = subst (λ z. (v : Text) → (is_marked v ((n, b) ∷ rs) ≡ true) ↔ (is_marked v ((z, c) ∷ qs) ≡ true)) (sym h) m in
+    let m' : (v : Text) → (is_marked v ((n, b) ∷ rs) ≡ true) ↔ (is_marked v ((n, c) ∷ qs) ≡ true) = subst
+    (λ z. (v : Text) → (is_marked v ((n, b) ∷ rs) ≡ true) ↔ (is_marked v ((z, c) ∷ qs) ≡ true)) (sym h) m in
     let f : b ≡ c = alike b c (first_mark n b c rs qs t' (m' n).0) (first_mark n c b qs rs s (m' n).1) in
     let r : rs ≡ qs = one_rows rs qs s.1 t'.1 g (λ v. (rest_mark n b c rs qs s (λ w. (m' w).0) v, rest_mark n c b qs rs t' (λ w. (m' w).1) v)) in
     ap (λ z. (z, b) ∷ rs) h ∙ (ap (λ z. (k, z) ∷ rs) f ∙ ap (λ z. (k, c) ∷ z) r)
 
-one_listing : (results : Text → Text → Option DefaultFileResult → Type 0) (files : Files) (listings : Listings) (dir : Text) (rs qs : List ListingEntry) → IsListing results files listings dir rs → IsListing results files listings dir qs → rs ≡ qs
+one_listing : (results : Text → Text → Option DefaultFileResult → Type 0) (files : Files) (listings : Listings)
+    (dir : Text) (rs qs : List ListingEntry) → IsListing results files listings dir rs
+    → IsListing results files listings dir qs → rs ≡ qs
 one_listing results files listings dir rs qs h k =
     one_rows rs qs h.order k.order
     (one_names (names_of rs) (names_of qs) h.order k.order (λ v. (λ e. (k.names v).1 ((h.names v).0 e), λ e. (h.names v).1 ((k.names v).0 e))))
     (λ v. (λ e. (k.marks v).1 ((h.marks v).0 e), λ e. (h.marks v).1 ((k.marks v).0 e)))
 
-one_listings : (results : Text → Text → Option DefaultFileResult → Type 0) (files : Files) (listings : Listings) (dirs : List Text) (ls ks : List Listing) → AreListings results files listings dirs ls → AreListings results files listings dirs ks → ls ≡ ks
+one_listings : (results : Text → Text → Option DefaultFileResult → Type 0) (files : Files) (listings : Listings)
+    (dirs : List Text) (ls ks : List Listing) → AreListings results files listings dirs ls
+    → AreListings results files listings dirs ks → ls ≡ ks
 one_listings results files listings [] [] [] h k = refl
 one_listings results files listings [] [] (y ∷ ys) h k = absurd k
 one_listings results files listings [] (x ∷ xs) ks h k = absurd h
@@ -117,5 +127,7 @@ one_listings results files listings (dir ∷ dirs) ((d, rs) ∷ xs) ((c, qs) ∷
     let m : xs ≡ ys = one_listings results files listings dirs xs ys h.2 k.2 in
     ap (λ z. (z, rs) ∷ xs) e ∙ (ap (λ z. (c, z) ∷ xs) r ∙ ap (λ z. (c, qs) ∷ z) m)
 
-pub one_listed : (results : Text → Text → Option DefaultFileResult → Type 0) (files : Files) (listings : Listings) (modulepath : Text) (ls ks : List Listing) → Listed results files listings modulepath ls → Listed results files listings modulepath ks → ls ≡ ks
+pub one_listed : (results : Text → Text → Option DefaultFileResult → Type 0) (files : Files) (listings : Listings)
+    (modulepath : Text) (ls ks : List Listing) → Listed results files listings modulepath ls
+    → Listed results files listings modulepath ks → ls ≡ ks
 one_listed results files listings modulepath ls ks h k = one_listings results files listings (directories modulepath) ls ks h k

@@ -25,7 +25,9 @@ all_weaker P Q f [] a = tt
 all_weaker P Q f (r ∷ listing_entries) a = (f r a.0, all_weaker P Q f listing_entries a.1)
 
 -- what holds of each name holds of each module with its mark
-all_named : (P : Text → Type 0) (M : ListingEntry → Type 0) (listing_entries : List ListingEntry) → ((v : Text) → has v (names_of listing_entries) ≡ true → P v) → AllByRecursion M listing_entries → AllByRecursion (λ r. P r.0 × M r) listing_entries
+all_named : (P : Text → Type 0) (M : ListingEntry → Type 0) (listing_entries : List ListingEntry)
+    → ((v : Text) → has v (names_of listing_entries) ≡ true → P v) → AllByRecursion M listing_entries
+    → AllByRecursion (λ r. P r.0 × M r) listing_entries
 all_named P M [] f a = tt
 all_named P M (r ∷ listing_entries) f a = (
   (f r.0 (or_left (bytes_eq r.0 r.0) (has r.0 (names_of listing_entries)) (itself r.0)), a.0),
@@ -43,8 +45,12 @@ module _ (results : Text → Text → Option DefaultFileResult → Type 0) (file
     complete = λ v u. a.complete v (from v u);
   }
 
-  pub rows_append : (Under Other Both : Text → Type 0) → ((v : Text) → Under v → Both v) → ((v : Text) → Other v → Both v) → ((v : Text) → Both v → Under v ⊎ Other v) → (listing_entries more : List ListingEntry)
-      → AreListingEntries results files folders dir Under listing_entries → AreListingEntries results files folders dir Other more → AreListingEntries results files folders dir Both (listing_entries ++ more)
+  pub rows_append : (Under Other Both : Text → Type 0) → ((v : Text) → Under v → Both v)
+      → ((v : Text) → Other v → Both v) → ((v : Text) → Both v → Under v ⊎ Other v)
+      → (listing_entries more : List ListingEntry)
+      → AreListingEntries results files folders dir Under listing_entries
+      → AreListingEntries results files folders dir Other more
+      → AreListingEntries results files folders dir Both (listing_entries ++ more)
   rows_append Under Other Both first second either listing_entries more a b = record {
     sound = all_append _ listing_entries more (all_weaker _ _ (λ r p. (first r.0 p.0, p.1)) listing_entries a.sound) (all_weaker _ _ (λ r p. (second r.0 p.0, p.1)) more b.sound);
     complete = λ v u. ap (has v) (names_of-append listing_entries more)

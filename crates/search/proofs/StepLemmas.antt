@@ -1,12 +1,14 @@
 -- The steps of the search.
-use Rattle.std.proofs.Common.{◌≡◌, true, false, List, [], ◌∷◌, length, Option, Some, None, Result, Ok, Err, inl, inr, refl, sym, ap, ◌∙◌, subst, arith}
+use Rattle.std.proofs.Common.{◌≡◌, true, false, List, [], ◌∷◌, length, Option, Some, None, Result, Ok, Err, inl, inr}
+use Rattle.std.proofs.Common.{refl, sym, ap, ◌∙◌, subst, arith}
 use Rattle.std.specs.Prelude.{◌==◌}
 use Rattle.std.proofs.lemmas.Bool.Decides.{nat_tests}
 use Rattle.modulename.specs.ModuleName.{Text}
 use Rattle.filetree.specs.Agreement.{Files, Listings}
-use Rattle.filetree.specs.Modulefiles.{FileContent, absent, no_cookie, not_utf8, script, modulefile, is_module, is_empty, path_of}
-use Rattle.filetree.specs.declared.find_fault.FindFault.{FindFault}
-use Rattle.filetree.specs.declared.find_fault.FindFault.TheVariants as faults
+use Rattle.filetree.specs.Modulefiles.{FileContent, absent, no_cookie, not_utf8, script, modulefile, is_module}
+use Rattle.filetree.specs.Modulefiles.{is_empty, path_of}
+use Rattle.search.specs.declared.find_fault.FindFault.{FindFault}
+use Rattle.search.specs.declared.find_fault.FindFault.TheVariants as faults
 use Rattle.filetree.specs.Relations.{Then, Where}
 use Rattle.search.specs.Reasons.{FindReason}
 use Rattle.search.specs.DefaultVersions.{DefaultFileResult}
@@ -35,7 +37,8 @@ pub over_tree_weaker : {X Y : Type 0} (agrees : Files → Listings → Type 0) (
     → ((files : Files) (listings : Listings) (o : Result Y FindReason) → agrees files listings → Outcomes files listings o → Outcomes' files listings o)
     → FindAnswersOverTree agrees failed view result Outcomes → FindAnswersOverTree agrees before view result Outcomes'
 over_tree_weaker agrees failed before view (Ok x) Outcomes Outcomes' later then h = λ files listings a. then files listings (Ok (view x)) a (h files listings a)
-over_tree_weaker agrees failed before view (Err e) Outcomes Outcomes' later then h = over_tree_fault agrees failed before view view Outcomes Outcomes' e later (λ files listings r. then files listings (Err r)) h
+over_tree_weaker agrees failed before view (Err e) Outcomes Outcomes' later then h = over_tree_fault agrees failed
+    before view view Outcomes Outcomes' e later (λ files listings r. then files listings (Err r)) h
 
 -- the default candidate of a folder
 module _ (results : Text → Text → Option DefaultFileResult → Type 0) (files : Files) (listings : Listings) (dir name : Text) where
@@ -46,7 +49,8 @@ module _ (results : Text → Text → Option DefaultFileResult → Type 0) (file
   default_greatest None h none = inr (none, refl)
   default_greatest (Some v) h greatest = inl ((v, greatest.member), (Ok v, (Ok None, h, (v, greatest, refl)), refl))
 
-  pub default_bad : (v : Text) (r : FindReason) → NamedDefault results files listings dir name (Err r) → IsGreatestOf files listings dir name (Some v) → DefaultIn results files listings dir name (Err r)
+  pub default_bad : (v : Text) (r : FindReason) → NamedDefault results files listings dir name (Err r)
+      → IsGreatestOf files listings dir name (Some v) → DefaultIn results files listings dir name (Err r)
   default_bad v r h greatest = inl ((v, greatest.member), (Err r, (Err r, h, refl), refl))
 
   pub default_none : IsGreatestOf files listings dir name None → DefaultIn results files listings dir name (Ok None)
@@ -59,7 +63,9 @@ module _ (results : Text → Text → Option DefaultFileResult → Type 0) (file
       no (v, c) = let e : None ≡ Some c.entry.0 = sym nothing ∙ ap listings at ∙ c.entry.1 in absurd (cc)
 
   -- the directory gives the module of this name itself
-  pub below_first : (o : Result (Option FoundModule) FindReason) (held : FileContent) → modulefile (files (path_of dir name)) ≡ held → o ≡ module_at files dir name → (o ≡ Ok None → ⊥) → FoundBelow results files listings dir name o
+  pub below_first : (o : Result (Option FoundModule) FindReason) (held : FileContent)
+      → modulefile (files (path_of dir name)) ≡ held → o ≡ module_at files dir name → (o ≡ Ok None → ⊥)
+      → FoundBelow results files listings dir name o
   below_first o absent e h some = absurd (some (h ∙ ap (module_in name (path_of dir name)) e))
   below_first o no_cookie e h some = absurd (some (h ∙ ap (module_in name (path_of dir name)) e))
   below_first o not_utf8 e h some = inl (ap is_module e, h)
@@ -100,7 +106,8 @@ module _ (results : Text → Text → Option DefaultFileResult → Type 0) (file
   given_read full path not_utf8 m given o e k = subst (λ x. Continues results files listings name dirs x o) e k
   given_read full path (script text) m given o e k = subst (λ x. Continues results files listings name dirs x o) e k
 
-  along_default : (v : Option Text) (given : Result (Option FoundModule) FindReason) (o : Result FoundModule FindReason) → DefaultIn results files listings dir name (Ok v) → OfDefault files dir name v given
+  along_default : (v : Option Text) (given : Result (Option FoundModule) FindReason) (o : Result FoundModule FindReason)
+      → DefaultIn results files listings dir name (Ok v) → OfDefault files dir name v given
       → Continues results files listings name dirs given o
       → Where (HasCandidates files listings dir name) (Then (Default results files listings dir name) (λ w. ModuleAt files dir (path_of name w))) (FoundAlong results files listings name dirs) o
   along_default v given o (inl (c, (Ok w, default, e))) of k =
@@ -120,7 +127,8 @@ module _ (results : Text → Text → Option DefaultFileResult → Type 0) (file
   along_fault r o (inl (c, (Err s, default, e))) k = inl (c, (Err s, default, (let q : r ≡ s = cc in k ∙ ap Err q)))
   along_fault r o (inr (none, e)) k = absurd (cc)
 
-  pub along : (given : Result (Option FoundModule) FindReason) (o : Result FoundModule FindReason) → FoundBelow results files listings dir name given → Continues results files listings name dirs given o
+  pub along : (given : Result (Option FoundModule) FindReason) (o : Result FoundModule FindReason)
+      → FoundBelow results files listings dir name given → Continues results files listings name dirs given o
       → FoundAlong results files listings name (dir ∷ dirs) o
   along given o (inl (at, e)) k = inl (at, given_read name (path_of dir name) (modulefile (files (path_of dir name))) at given o e k)
   along given o (inr (other, (Ok v, d, of))) k = inr (other, along_default v given o d of k)

@@ -1,5 +1,6 @@
 -- What stands below a folder: its files, and what stands below the folders in it.
-use Rattle.std.proofs.Common.{◌≡◌, ◌⊎◌, ◌≤◌, true, List, [], ◌∷◌, ◌++◌, length, map, filter, Option, Some, None, refl, sym, ap, ◌∙◌, subst, inl, inr, ⊎_elim}
+use Rattle.std.proofs.Common.{◌≡◌, ◌⊎◌, ◌≤◌, true, List, [], ◌∷◌, ◌++◌, length, map, filter, Option, Some, None, refl}
+use Rattle.std.proofs.Common.{sym, ap, ◌∙◌, subst, inl, inr, ⊎_elim}
 use Rattle.std.specs.Prelude.{bytes_eq}
 use Rattle.std.proofs.lemmas.Bool.{or_cases, or_left, or_right}
 use Rattle.std.proofs.lemmas.Slice.Eq.{bytes_eq-Decides}
@@ -10,7 +11,8 @@ use Rattle.search.specs.Single.{is_single}
 use Rattle.search.specs.Candidates.{HasEntry}
 use Rattle.search.specs.BelowFolder.{ReachesThrough, folder_path, name_below, parts_of, names_in, IsUnder, IsInside}
 use Rattle.search.proofs.VersionLemmas.{has, in_filter, filter_has, same, itself, same_entries}
-use Rattle.search.proofs.PartLemmas.{parts-single, parts-path, parts-some, Cut, cut, name_below-path, folder_path-below, spelled_prefix, too_deep}
+use Rattle.search.proofs.PartLemmas.{parts-single, parts-path, parts-some, Cut, cut, name_below-path, folder_path-below}
+use Rattle.search.proofs.PartLemmas.{spelled_prefix, too_deep}
 
 pub has_map : (f : Text → Text) (n : Text) (xs : List Text) → has n (map f xs) ≡ true → (x : Text) × (n ≡ f x) × (has x xs ≡ true)
 has_map f n [] h = absurd (cc)

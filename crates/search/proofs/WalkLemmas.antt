@@ -1,5 +1,6 @@
 -- A walk through the folders in a folder.
-use Rattle.std.proofs.Common.{◌≡◌, ◌≢◌, ◌≤◌, ◌<◌, ◌+◌, ◌-◌, ℕ, true, false, List, [], ◌∷◌, ◌++◌, length, get_or, map, take, drop, Option, Some, sym, ap, ◌∙◌, subst, inl, inr, ⊎_elim, length-append, arith}
+use Rattle.std.proofs.Common.{◌≡◌, ◌≢◌, ◌≤◌, ◌<◌, ◌+◌, ◌-◌, ℕ, true, false, List, [], ◌∷◌, ◌++◌, length, get_or, map}
+use Rattle.std.proofs.Common.{take, drop, Option, Some, sym, ap, ◌∙◌, subst, inl, inr, ⊎_elim, length-append, arith}
 use Rattle.std.proofs.lemmas.List.{drop_more, map-append, take-append-drop, take_more}
 use Rattle.modulename.specs.ModuleName.{Text, parts}
 use Rattle.filetree.specs.Agreement.{Files, Listings}
@@ -41,8 +42,11 @@ module _ (results : Text → Text → Option DefaultFileResult → Type 0) (file
       (λ v u. inl (ap (has v) (sym e) ∙ u.0, u.1))
       (λ v u. ⊎_elim (λ q. (ap (has v) e ∙ q.0, q.1)) (λ q. absurd (let f : false ≡ true = q.1 in cc)) u) listing_entries (rows_of_files results files folders dir names listing_entries a)
 
-  pub rows_more : (names done : List Text) (name : Text) (listing_entries more : List ListingEntry) → AreListingEntries results files folders dir (IsInside files folders dir names done) listing_entries
-      → AreListingEntries results files folders dir (IsUnder files folders dir (Some name)) more → AreListingEntries results files folders dir (IsInside files folders dir names (done ++ name ∷ [])) (listing_entries ++ more)
+  pub rows_more : (names done : List Text) (name : Text) (listing_entries more : List ListingEntry)
+      → AreListingEntries results files folders dir (IsInside files folders dir names done) listing_entries
+      → AreListingEntries results files folders dir (IsUnder files folders dir (Some name)) more
+      → AreListingEntries results files folders dir (IsInside files folders dir names (done ++ name ∷ []))
+      (listing_entries ++ more)
   rows_more names done name listing_entries more a b =
       rows_append results files folders dir (IsInside files folders dir names done) (IsUnder files folders dir (Some name)) (IsInside files folders dir names (done ++ name ∷ []))
       (λ v u. ⊎_elim (λ q. inl q) (λ q. inr (q.0, has_left q.0 done (name ∷ []) q.1, q.2)) u)

@@ -1,13 +1,31 @@
 -- How the types of the code show the definitions of a search: its faults with their causes, and the module found.
-use Rattle.std.specs.Prelude.{Bool, true, false, Result, string_bytes}
+use Rattle.std.specs.Prelude.{Bool, true, false, [], Result, string_bytes}
+use Rattle.message.specs.Refusals.{NumberedText, about}
+use Rattle.message.specs.declared.refusals.RefusalKind.TheVariants as kinds
 use Rattle.filetree.specs.Agreement.{Files, Listings}
 use Rattle.filetree.specs.Causes as causes
 use Rattle.filetree.specs.Causes.{Cause, memory, device, because}
-use Rattle.filetree.specs.declared.find_fault.FindFault.{FindFault}
-use Rattle.filetree.specs.declared.find_fault.FindFault.TheVariants as faults
+use Rattle.filetree.specs.declared.tree.TreeFault.{TreeFault}
+use Rattle.filetree.specs.declared.tree.TreeFault.TheVariants as trees
+use Rattle.search.specs.declared.find_fault.FindFault.{FindFault}
+use Rattle.search.specs.declared.find_fault.FindFault.TheVariants as faults
 use Rattle.search.specs.Reasons.{FindReason, bad_name, not_found, bad_default, not_utf8_at}
 use Rattle.search.specs.Found.{FoundModule}
-use Rattle.search.specs.declared.found.Found.{Found}
+use Rattle.search.specs.declared.found.LocatedModule.{LocatedModule}
+
+-- the refusal that each fault is
+abbrev pub refusal_of : FindFault → NumberedText
+refusal_of faults.OutOfMemory = about kinds.MemoryForSearch []
+refusal_of (faults.NotFound name) = about kinds.NotFound (string_bytes name)
+refusal_of faults.Device = about kinds.Device []
+refusal_of (faults.BadName name) = about kinds.BadName (string_bytes name)
+refusal_of (faults.BadDefaultFile path) = about kinds.BadDefaultFile (string_bytes path)
+refusal_of (faults.NotUtf8 path) = about kinds.NotUtf8 (string_bytes path)
+
+-- a tree's fault, as one of the search
+abbrev pub fault_of_tree : TreeFault → FindFault
+fault_of_tree trees.OutOfMemory = faults.OutOfMemory
+fault_of_tree trees.Device = faults.Device
 
 -- the cause of a fault of the search
 abbrev pub cause_of : FindFault → Cause FindReason
@@ -33,7 +51,7 @@ abbrev pub FindAnswersOverTree : {X Y : Type 0} → (Files → Listings → Type
 FindAnswersOverTree = causes.AnswersOverTree cause_of
 
 -- the module that was found
-abbrev pub found_view : Found → FoundModule
+abbrev pub found_view : LocatedModule → FoundModule
 found_view found = record {
   name = string_bytes found.name;
   path = string_bytes found.path;

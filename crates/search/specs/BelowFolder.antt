@@ -1,5 +1,5 @@
--- What stands below a directory of modulefiles, and below a folder in it: the names that are modules, and those that the
--- walk through folders goes on with.
+-- What stands below a directory of modulefiles, and below a folder in it: the names that are modules, and those that
+-- the walk through folders goes on with.
 use Rattle.std.specs.Prelude.{◌≡◌, ◌⊎◌, Bool, true, false, List, [], ◌∷◌, map, filter, Option, Some, None, bytes_eq}
 use Rattle.std.specs.List.{list_any}
 use Rattle.modulename.specs.ModuleName.{Text, parts, is_module_name}

@@ -8,7 +8,8 @@ use Rattle.filetree.specs.Modulefiles.{FileContent, absent, no_cookie, not_utf8,
 use Rattle.filetree.specs.Agreement.{Files}
 use Rattle.filetree.specs.Relations.{Is}
 use Rattle.search.specs.Reasons.{FindReason, bad_default}
-pub use Rattle.search.specs.DefaultVersions.{DefaultFileResult, after_prefix, version_in, default_by, last_default, VersionIn, by_command, by_variable}
+pub use Rattle.search.specs.DefaultVersions.{DefaultFileResult, after_prefix, version_in, default_by, last_default}
+pub use Rattle.search.specs.DefaultVersions.{VersionIn, by_command, by_variable}
 
 -- the version that a default file names, by the result of its evaluation; the reason is a fault of the evaluation
 abbrev pub version_named : VersionIn → Text → Option DefaultFileResult → Result (Option Text) FindReason

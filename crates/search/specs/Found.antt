@@ -3,7 +3,8 @@
 use Rattle.std.specs.Prelude.{◌≡◌, List, [], ◌∷◌, codes, Option, Some, None, Result, Ok, Err}
 use Rattle.modulename.specs.ModuleName.{Text, is_module_name}
 use Rattle.filetree.specs.Agreement.{Files, Listings}
-use Rattle.filetree.specs.Modulefiles.{FileContent, absent, no_cookie, not_utf8, script, modulefile, directories, path_of}
+use Rattle.filetree.specs.Modulefiles.{FileContent, absent, no_cookie, not_utf8, script, modulefile, directories}
+use Rattle.filetree.specs.Modulefiles.{path_of}
 use Rattle.filetree.specs.Relations.{Is, If, Where, ◌>>◌}
 use Rattle.modulename.specs.Versions.{IsGreatest}
 use Rattle.search.specs.Reasons.{FindReason, bad_name, not_found, not_utf8_at}

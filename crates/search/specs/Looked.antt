@@ -1,5 +1,5 @@
--- The paths that the search for a module and the listing of all modules look at: those of the files and directories that
--- they ask the tree for (module(1), modulefile(5)). A failure of the device at another path can't end them.
+-- The paths that the search for a module and the listing of all modules look at: those of the files and directories
+-- that they ask the tree for (module(1), modulefile(5)). A failure of the device at another path can't end them.
 use Rattle.std.specs.Prelude.{◌≡◌, ◌⊎◌, true, List, [], ◌∷◌, bytes_eq, codes, Option, Some, None, Ok, Err}
 use Rattle.std.specs.List.{list_any}
 use Rattle.modulename.specs.ModuleName.{Text, parts, is_module_name}

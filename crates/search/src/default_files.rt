@@ -7,7 +7,7 @@ use std::alloc::{AllocError, Global};
 
 /// The result of the evaluation of a default file.
 #[derive(Debug, Drop)]
-pub struct Ended {
+pub struct DefaultFileEnding {
     /// Its `module-version` commands in the order in which they were evaluated, each as its words.
     pub commands: Vec<Vec<String>>,
     /// The value of its global variable `ModulesVersion` at its end, or `None` where it is unset.
@@ -25,7 +25,12 @@ pub trait DefaultFiles {
     /// Evaluates the text of the default file at the path; `None` where the evaluation has a fault.
     ///
     /// Errors: `AllocError` alone.
-    fn evaluate(&self, alloc: Global, path: &str, text: &str) -> Result<Option<Ended>, AllocError>
+    fn evaluate(
+        &self,
+        alloc: Global,
+        path: &str,
+        text: &str,
+    ) -> Result<Option<DefaultFileEnding>, AllocError>
         ensures { IfOk result (λ ended. results self.now path.now text.now (option_map ended_view ended)) };
 
     /// An evaluation has one result.

@@ -11,7 +11,7 @@ ghost use Rattle.search.specs.VersionsNamed.{named_version_view, IsCandidateIfAn
 ghost use Rattle.std.specs.Option.{option_map};
 ghost use Rattle.search.specs.Ended.{ended_view};
 
-use crate::default_files::{DefaultFiles, Ended};
+use crate::default_files::{DefaultFileEnding, DefaultFiles};
 use crate::module_files::is_module_in;
 use crate::modulefile::{FileContent, read_modulefile};
 use crate::paths::{has, path_in_folder};
@@ -38,7 +38,7 @@ fn version_named_in(
     file: DefaultFile,
     name: &str,
     path: String,
-    ended: Option<Ended>,
+    ended: Option<DefaultFileEnding>,
 ) -> Result<NamedVersion, AllocError>
     ensures { IfOk result (λ s.
         named_version_view s ≡ version_named (says file name.now) (string_bytes path) (option_map ended_view ended)) }

@@ -4,13 +4,14 @@ ghost use Rattle.std.specs.Option.{option_map};
 ghost use Rattle.filetree.specs.Agreement.{FailsWhere, InEachPair, Narrows, FailsOnlyByDevice, is_device};
 ghost use Rattle.search.specs.Listed as listed;
 ghost use Rattle.search.specs.BelowFolder.{folder_path, parts_of, names_in, IsUnder, AreAmong, HasAllFolders};
-ghost use Rattle.search.specs.Walks.{AreEntriesOfFiles, AreListingEntries, IsDefaultOf, LooksForDefault, LooksFromFolder};
+ghost use Rattle.search.specs.Walks.{AreEntriesOfFiles, AreListingEntries, IsDefaultOf, LooksForDefault};
+ghost use Rattle.search.specs.Walks.{LooksFromFolder};
 ghost use Rattle.search.specs.ListingEntries.{listing_entry_view};
 
 use crate::default_files::DefaultFiles;
 use crate::defaults::{NamedVersion, named_default};
 use crate::listing_entries::{ListingEntry, push_listing_entries};
-use crate::names::{Sorted, folder_path, names_in, sort_out};
+use crate::names::{SortedNames, folder_path, names_in, sort_out};
 use crate::paths::path_of;
 use filetree::{Tree, TreeFault};
 use std::alloc::Global;
@@ -18,7 +19,7 @@ use std::alloc::Global;
 /// A walk through the folders below a directory. A folder is given by its name below the directory; `None` is the
 /// directory itself.
 #[derive_where(Clone, Copy)]
-pub(crate) struct Walk<'a, D> {
+pub(crate) struct FolderWalk<'a, D> {
     pub(crate) alloc: Global,
     /// What evaluates default files.
     pub(crate) default_files: &'a D,
@@ -26,7 +27,7 @@ pub(crate) struct Walk<'a, D> {
     pub(crate) dir: &'a str,
 }
 
-impl<D: DefaultFiles> Walk<'_, D> {
+impl<D: DefaultFiles> FolderWalk<'_, D> {
     /// The full name of the default that the default files of a folder, with these entries, name. Those of the
     /// directory itself aren't read, and a fault in one is no default.
     fn default_name<T: Tree>(
@@ -95,7 +96,7 @@ impl<D: DefaultFiles> Walk<'_, D> {
             LooksFromFolder (D.results self.now.default_files.now) files folders self.now.dir.now
             (option_map (λ f. f.now) prefix.entry)) }
     {
-        let Sorted { modules, folders } = sort_out(self.alloc, tree, self.dir, names)?;
+        let SortedNames { modules, folders } = sort_out(self.alloc, tree, self.dir, names)?;
         if modules.is_empty() {
             return Ok(folders);
         }

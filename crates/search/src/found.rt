@@ -12,16 +12,17 @@ ghost use Rattle.search.specs.Steps.{module_at, DefaultIn, FoundBelow};
 
 use crate::default_files::DefaultFiles;
 use crate::defaults::{NamedVersion, named_default};
+use crate::find_fault::FindFault;
 use crate::modulefile::{FileContent, read_modulefile};
 use crate::paths::path_of;
 use crate::versions::{greatest_candidate, has_version};
-use filetree::{FindFault, Tree};
+use filetree::Tree;
 use modulename::is_module_name;
 use std::alloc::{AllocError, Global};
 
 /// A module that was found.
 #[derive(Debug, Drop)]
-pub struct Found {
+pub struct LocatedModule {
     /// The module's full name, as `foo/1.0`.
     pub name: String,
     /// The path of its modulefile: the directory as MODULEPATH spells it, `/`, and the name.
@@ -38,7 +39,7 @@ fn module_at<T: Tree>(
     tree: &mut T,
     dir: &str,
     name: &str,
-) -> Result<Option<Found>, FindFault>
+) -> Result<Option<LocatedModule>, FindFault>
     ensures reads { ReadsOn T.agrees T.failures tree.old tree.new }
     ensures over_tree { FindAnswersOverTree (T.agrees tree.new) (T.failures tree.old < T.failures tree.new)
         (option_map found_view) result
@@ -53,7 +54,7 @@ fn module_at<T: Tree>(
         FileContent::NotUtf8 => Err(FindFault::NotUtf8(path)),
         FileContent::Script(text) => {
             let name = String::from_str(alloc, name)?;
-            Ok(Some(Found { name, path, text }))
+            Ok(Some(LocatedModule { name, path, text }))
         }
     }
 }
@@ -124,7 +125,7 @@ fn module_below<T: Tree, D: DefaultFiles>(
     default_files: &D,
     dir: &str,
     name: &str,
-) -> Result<Option<Found>, FindFault>
+) -> Result<Option<LocatedModule>, FindFault>
     ensures reads { ReadsOn T.agrees T.failures tree.old tree.new }
     ensures over_tree { FindAnswersOverTree (T.agrees tree.new) (T.failures tree.old < T.failures tree.new)
         (option_map found_view) result
@@ -165,7 +166,7 @@ fn module_along<T: Tree, D: DefaultFiles>(
     default_files: &D,
     dirs: &[&str],
     name: &str,
-) -> Result<Found, FindFault>
+) -> Result<LocatedModule, FindFault>
     ensures reads { ReadsOn T.agrees T.failures tree.old tree.new }
     ensures over_tree { FindAnswersOverTree (T.agrees tree.new)
         (T.failures tree.old < T.failures tree.new) found_view result
@@ -196,7 +197,7 @@ pub fn locate<T: Tree, D: DefaultFiles>(
     default_files: &D,
     modulepath: &str,
     name: &str,
-) -> Result<Found, FindFault>
+) -> Result<LocatedModule, FindFault>
     ensures reads { ReadsOn T.agrees T.failures tree.old tree.new }
     ensures over_tree { FindAnswersOverTree (T.agrees tree.new)
         (T.failures tree.old < T.failures tree.new) found_view result

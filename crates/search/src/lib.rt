@@ -4,6 +4,7 @@
 
 mod default_files;
 mod defaults;
+mod find_fault;
 mod folders;
 mod found;
 mod laws;
@@ -16,11 +17,12 @@ mod paths;
 mod version_named;
 mod versions;
 
-pub use default_files::{DefaultFiles, Ended};
+pub use default_files::{DefaultFileEnding, DefaultFiles};
 pub use defaults::{NamedVersion, named_default};
-pub use found::{Found, directories, locate};
+pub use find_fault::FindFault;
+pub use found::{LocatedModule, directories, locate};
 pub use laws::{one_found, one_listed, rows_of_defaults};
 pub use listing_entries::ListingEntry;
-pub use listings::{Listing, available};
+pub use listings::{DirectoryListing, available};
 pub use modulefile::{FileContent, read_modulefile};
 pub use paths::{is_single, path_of};

@@ -7,7 +7,7 @@ ghost use Rattle.search.specs.ListingEntries.{listing_entry_view};
 ghost use Rattle.search.specs.Listings.{listing_view};
 
 use crate::default_files::DefaultFiles;
-use crate::folders::Walk;
+use crate::folders::FolderWalk;
 use crate::found::directories;
 use crate::listing_entries::{ListingEntry, drop_repeats, sort_listing_entries};
 use filetree::{Tree, TreeFault};
@@ -16,7 +16,7 @@ use std::alloc::Global;
 
 /// The listing of one directory of MODULEPATH.
 #[derive(Debug, Drop)]
-pub struct Listing {
+pub struct DirectoryListing {
     /// The directory, as MODULEPATH spells it.
     pub dir: String,
     /// Its modules, each once, in version order of their full names.
@@ -37,7 +37,7 @@ fn modules_of<T: Tree, D: DefaultFiles>(
     ensures failed { FailsWhere is_device T.agrees T.failed tree.old tree.new result (λ files folders.
         LooksForListing (D.results default_files.now) files folders dir.now) }
 {
-    let walk = Walk {
+    let walk = FolderWalk {
         alloc,
         default_files,
         dir,
@@ -60,7 +60,7 @@ pub fn available<T: Tree, D: DefaultFiles>(
     tree: &mut T,
     default_files: &D,
     modulepath: &str,
-) -> Result<Vec<Listing>, TreeFault>
+) -> Result<Vec<DirectoryListing>, TreeFault>
     ensures narrows { Narrows (T.agrees tree.old) (T.agrees tree.new) }
     ensures listed { IfOk result (λ listings. InEachPair (T.agrees tree.new) (λ files folders.
         Listed (D.results default_files.now) files folders modulepath.now (map listing_view listings.items))) }
@@ -72,7 +72,7 @@ pub fn available<T: Tree, D: DefaultFiles>(
     let mut listings = Vec::new(alloc);
     for dir in &dirs {
         let modules = modules_of(alloc, tree, default_files, dir)?;
-        listings.push(Listing {
+        listings.push(DirectoryListing {
             dir: String::from_str(alloc, dir)?,
             modules,
         })?;

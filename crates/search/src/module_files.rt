@@ -6,7 +6,7 @@ ghost use Rattle.search.specs.BelowFolder.{is_module_below};
 ghost use Rattle.search.specs.Versions.{is_module_in};
 
 use crate::paths::{path_of, write_path};
-use filetree::{Seen, Tree, TreeFault};
+use filetree::{SeenPath, Tree, TreeFault};
 use std::alloc::Global;
 
 /// The bytes that every modulefile begins with.
@@ -29,7 +29,7 @@ pub fn holds_module<T: Tree>(tree: &mut T, path: &str) -> Result<bool, TreeFault
 /// file is not read further.
 ///
 /// It fails as the tree does.
-fn see_module<T: Tree>(tree: &mut T, path: &str) -> Result<Seen, TreeFault>
+fn see_module<T: Tree>(tree: &mut T, path: &str) -> Result<SeenPath, TreeFault>
     ensures narrows { Narrows (T.agrees tree.old) (T.agrees tree.new) }
     ensures answer { IfOk result (λ seen. InEachPair (T.agrees tree.new)
         (λ files listings. is_module (modulefile (files path.now)) ≡ seen.begins)) }
@@ -70,7 +70,7 @@ pub(crate) fn see_below<T: Tree>(
     dir: &str,
     name: &str,
     path: &mut String,
-) -> Result<Seen, TreeFault>
+) -> Result<SeenPath, TreeFault>
     ensures narrows { Narrows (T.agrees tree.old) (T.agrees tree.new) }
     ensures answer { IfOk result (λ seen. InEachPair (T.agrees tree.new) (λ files listings.
         is_module_below files dir.now name.now ≡ seen.begins)) }

@@ -3,11 +3,12 @@ ghost use Rattle.std.specs.Prelude.{◌≡◌, ◌++◌, ◌∷◌, [], map, fil
 ghost use Rattle.std.specs.Option.{option_map};
 ghost use Rattle.filetree.specs.Agreement.{FailsAt, InEachPair, Narrows, FailsOnlyByDevice, is_device};
 ghost use Rattle.search.specs.Single.{is_single};
-ghost use Rattle.search.specs.BelowFolder.{folder_path, name_below, names_in, is_module_below, LooksAmong, AreAmong, HasAllFolders};
+ghost use Rattle.search.specs.BelowFolder.{folder_path, name_below, names_in, is_module_below, LooksAmong, AreAmong};
+ghost use Rattle.search.specs.BelowFolder.{HasAllFolders};
 
 use crate::module_files::see_below;
 use crate::paths::{is_single, path_of};
-use filetree::{Seen, Tree, TreeFault};
+use filetree::{SeenPath, Tree, TreeFault};
 use modulename::is_module_name;
 use std::alloc::{AllocError, Global};
 
@@ -57,16 +58,16 @@ const USUAL_NAME: usize = 64;
 
 /// The names below a directory that a listing goes on with.
 #[derive(Drop)]
-pub struct Sorted {
+pub struct SortedNames {
     /// Those whose files begin with `#%Module`.
     pub modules: Vec<String>,
     /// Those at whose paths a directory may be.
     pub folders: Vec<String>,
 }
 
-impl Sorted {
+impl SortedNames {
     /// Adds a name by what is at its path. It is copied only where that may be both a module and a directory.
-    fn add(&mut self, name: String, seen: Seen) -> Result<(), AllocError>
+    fn add(&mut self, name: String, seen: SeenPath) -> Result<(), AllocError>
         ensures modules { OnOk result (map string_bytes self.new.modules.items
             ≡ map string_bytes self.old.modules.items ++ (if seen.begins then string_bytes name ∷ [] else [])) }
         ensures folders { OnOk result (map string_bytes self.new.folders.items
@@ -93,7 +94,7 @@ pub fn sort_out<T: Tree>(
     tree: &mut T,
     dir: &str,
     names: Vec<String>,
-) -> Result<Sorted, TreeFault>
+) -> Result<SortedNames, TreeFault>
     ensures narrows { Narrows (T.agrees tree.old) (T.agrees tree.new) }
     ensures answer { IfOk result (λ sorted. InEachPair (T.agrees tree.new) (λ files folders.
         map string_bytes sorted.modules.items
@@ -106,7 +107,7 @@ pub fn sort_out<T: Tree>(
     ensures failed { FailsAt is_device (T.failed tree.old) (T.failed tree.new) result
         (LooksAmong dir.now (map string_bytes names.items)) }
 {
-    let mut sorted = Sorted {
+    let mut sorted = SortedNames {
         modules: Vec::with_capacity(alloc, names.len())?,
         folders: Vec::new(alloc),
     };

@@ -5,7 +5,7 @@ ghost use Rattle.search.specs.DefaultVersions.{after_prefix, version_in, default
 ghost use Rattle.search.specs.Ended.{ended_view};
 ghost use Rattle.search.specs.DefaultFileKinds.{file_name, says};
 
-use crate::default_files::Ended;
+use crate::default_files::DefaultFileEnding;
 use crate::paths::has;
 
 /// The two default files of a folder.
@@ -29,7 +29,7 @@ impl DefaultFile {
     }
 
     /// The version in the folder of a name that the file names, by the result of its evaluation, if it names one.
-    pub fn version_named<'a>(self, name: &str, ended: &'a Ended) -> Option<&'a str>
+    pub fn version_named<'a>(self, name: &str, ended: &'a DefaultFileEnding) -> Option<&'a str>
         ensures { option_map (λ v. v.now) result ≡ says self name.now (ended_view ended.entry.now) }
     {
         match self {

@@ -18,14 +18,14 @@ use Rattle.sessions.specs.Judgments.{AreJudgments, NamesLookAt, count_failed_jud
 use Rattle.sessions.specs.Lines.{lines_in}
 use Rattle.sessions.specs.Parts.{loaded_in}
 use Rattle.sessions.specs.Sessions.{LineSession, LinesLookAt}
-use Rattle.sessions.specs.declared.checking.Findings.{Findings}
+use Rattle.sessions.specs.declared.checking.CheckFindings.{CheckFindings}
 use Rattle.sessions.proofs.JudgmentLemmas.{counts, judgments_narrowed, names_of_responses}
 
 failed_before : (before mid now a : ℕ) → before + a ≤ mid → mid < now → before < now
 failed_before before mid now a h k = omega arith
 
 pub checked : (agrees agrees' : Files → Listings → Type 0) (before mid now : ℕ) (limits : Limits) (shell : Shell) (e from : Environment) (text : Text)
-    (lines : List (List Text)) (names : List Text) (f : Findings)
+    (lines : List (List Text)) (names : List Text) (f : CheckFindings)
     → Narrows agrees agrees' → before + count_failed f.outcomes.items ≤ mid → mid + count_failed_judgments f.judgments.items ≤ now → from ≡ e → lines ≡ lines_in text
     → InEachPair agrees (λ files listings. LineSession (request_context_in limits shell files listings) from lines (responses from f.outcomes.items))
     → InEachPair agrees (λ files listings. f.env ≡ end_environment from (responses from f.outcomes.items))
@@ -65,7 +65,8 @@ looks_by_names s from e lines lines' names outcomes at same made ran named h =
     inr (responses e outcomes, subst Q same (subst P made ran), subst N (named ∙ ap without_repeats (sym (names_of_responses e outcomes))) h)
 
 -- where the device has failed after the lines
-pub check_fails_in_lines : (agrees : Files → Listings → Type 0) (before now : List ℕ → Bool) (limits : Limits) (shell : Shell) (from e : Environment) (text : Text) (lines : List (List Text)) → from ≡ e → lines ≡ lines_in text
+pub check_fails_in_lines : (agrees : Files → Listings → Type 0) (before now : List ℕ → Bool) (limits : Limits)
+    (shell : Shell) (from e : Environment) (text : Text) (lines : List (List Text)) → from ≡ e → lines ≡ lines_in text
     → FailsOnlyWhere before now (λ at. InEachPair agrees (λ files listings. LinesLookAt (request_context_in limits shell files listings) from lines at))
     → FailsOnlyWhere before now (λ at. InEachPair agrees (λ files listings. CheckLooksAt (request_context_in limits shell files listings) e (lines_in text) at))
 check_fails_in_lines agrees before now limits shell from e text lines same made =
@@ -74,7 +75,9 @@ check_fails_in_lines agrees before now limits shell from e text lines same made 
     only_wider_in_each agrees before now Here Whole (λ files listings agreed at h. looks_by_lines (request_context_in limits shell files listings) from e lines (lines_in text) at same made h)
 
 -- and after the verdicts on what they loaded
-pub check_fails : (agrees agrees' : Files → Listings → Type 0) (before mid now : List ℕ → Bool) (limits : Limits) (shell : Shell) (from e : Environment) (text : Text) (lines : List (List Text)) (names : List Text) (outcomes : List Outcome)
+pub check_fails : (agrees agrees' : Files → Listings → Type 0) (before mid now : List ℕ → Bool) (limits : Limits)
+    (shell : Shell) (from e : Environment) (text : Text) (lines : List (List Text)) (names : List Text)
+    (outcomes : List Outcome)
     → Narrows agrees agrees' → from ≡ e → lines ≡ lines_in text
     → InEachPair agrees (λ files listings. LineSession (request_context_in limits shell files listings) from lines (responses from outcomes)) → names ≡ without_repeats (flat_map loaded_in outcomes)
     → FailsOnlyWhere before mid (λ at. InEachPair agrees (λ files listings. LinesLookAt (request_context_in limits shell files listings) from lines at))

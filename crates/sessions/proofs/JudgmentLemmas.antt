@@ -1,5 +1,6 @@
 -- Verdicts one after another, and the names that are judged.
-use Rattle.std.proofs.Common.{◌≡◌, ℕ, Bool, ◌+◌, ◌<◌, ◌≤◌, List, [], ◌∷◌, ◌++◌, length, take, get_or, Bor, string_bytes, Result, Ok, Err, refl, sym, subst, ap, ◌∙◌, arith}
+use Rattle.std.proofs.Common.{◌≡◌, ℕ, Bool, ◌+◌, ◌<◌, ◌≤◌, List, [], ◌∷◌, ◌++◌, length, take, get_or, Bor, string_bytes}
+use Rattle.std.proofs.Common.{Result, Ok, Err, refl, sym, subst, ap, ◌∙◌, arith}
 use Rattle.std.proofs.lemmas.List.{get_or-map, length-map, map-append, take_more}
 use Rattle.std.specs.List.{Any, flat_map}
 use Rattle.envvars.specs.Texts.{Text, slice_texts, texts_in}
@@ -24,7 +25,7 @@ use Rattle.modules.specs.declared.sessions.Outcome.TheVariants.{Accepted, Refuse
 use Rattle.modules.specs.Messages.{number_of}
 use Rattle.sessions.specs.Judgments.{IsJudgment, AreJudgments, NamesLookAt, count_failed_judgments, count_unjudged}
 use Rattle.sessions.specs.Parts.{loaded_in}
-use Rattle.sessions.specs.declared.judging.Judgment.{Judgment}
+use Rattle.sessions.specs.declared.judging.ModuleVerdict.{ModuleVerdict}
 
 -- ---- what holds for more maps, and after fewer failures
 
@@ -41,11 +42,11 @@ narrowed view agrees agrees' failed failed' (Ok x) Comes narrows fails h = λ fi
 narrowed view agrees agrees' failed failed' (Err e) Comes narrows fails h =
     narrowed_cause (cause_of e) agrees agrees' failed failed' (λ r files listings. Comes files listings (Err r)) narrows fails h
 
-pub judgment_narrowed : (agrees agrees' : Files → Listings → Type 0) (failed failed' : Type 0) (limits : Limits) (e : Environment) (name : Text) (j : Judgment)
+pub judgment_narrowed : (agrees agrees' : Files → Listings → Type 0) (failed failed' : Type 0) (limits : Limits) (e : Environment) (name : Text) (j : ModuleVerdict)
     → Narrows agrees agrees' → (failed → failed') → IsJudgment agrees failed limits e name j → IsJudgment agrees' failed' limits e name j
 judgment_narrowed agrees agrees' failed failed' limits e name j narrows fails h = (h.0, narrowed _ agrees agrees' failed failed' j.verdict _ narrows fails h.1)
 
-pub judgments_narrowed : (agrees agrees' : Files → Listings → Type 0) (failed failed' : Type 0) (limits : Limits) (e : Environment) (names : List Text) (js : List Judgment)
+pub judgments_narrowed : (agrees agrees' : Files → Listings → Type 0) (failed failed' : Type 0) (limits : Limits) (e : Environment) (names : List Text) (js : List ModuleVerdict)
     → Narrows agrees agrees' → (failed → failed') → AreJudgments agrees failed limits e names js → AreJudgments agrees' failed' limits e names js
 judgments_narrowed agrees agrees' failed failed' limits e [] [] narrows fails h = tt
 judgments_narrowed agrees agrees' failed failed' limits e [] (j ∷ js) narrows fails h = absurd h
@@ -55,7 +56,7 @@ judgments_narrowed agrees agrees' failed failed' limits e (name ∷ names) (j �
 
 -- ---- one judgment more
 
-pub judgments_push : (agrees : Files → Listings → Type 0) (failed : Type 0) (limits : Limits) (e : Environment) (names : List Text) (js : List Judgment) (name : Text) (j : Judgment)
+pub judgments_push : (agrees : Files → Listings → Type 0) (failed : Type 0) (limits : Limits) (e : Environment) (names : List Text) (js : List ModuleVerdict) (name : Text) (j : ModuleVerdict)
     → AreJudgments agrees failed limits e names js → IsJudgment agrees failed limits e name j → AreJudgments agrees failed limits e (names ++ name ∷ []) (js ++ j ∷ [])
 judgments_push agrees failed limits e [] [] name j h k = (k, tt)
 judgments_push agrees failed limits e [] (i ∷ js) name j h k = absurd h
@@ -70,14 +71,14 @@ none_more n = omega arith
 plus_assoc : (a b c : ℕ) → a + (b + c) ≡ (a + b) + c
 plus_assoc a b c = omega arith
 
-judgments_count : (js : List Judgment) (j : Judgment) → count_failed_judgments (js ++ j ∷ []) ≡ count_failed_judgments js + count_unjudged j.verdict
+judgments_count : (js : List ModuleVerdict) (j : ModuleVerdict) → count_failed_judgments (js ++ j ∷ []) ≡ count_failed_judgments js + count_unjudged j.verdict
 judgments_count [] j = none_more (count_unjudged j.verdict)
 judgments_count (i ∷ js) j = ap (λ n. count_unjudged i.verdict + n) (judgments_count js j) ∙ plus_assoc (count_unjudged i.verdict) (count_failed_judgments js) (count_unjudged j.verdict)
 
 pub counts : (before mid now a b : ℕ) → before + a ≤ mid → mid + b ≤ now → before + (a + b) ≤ now
 counts before mid now a b h k = omega arith
 
-pub failures_more : (before mid now : ℕ) (js : List Judgment) (j : Judgment) → before + count_failed_judgments js ≤ mid → mid + count_unjudged j.verdict ≤ now
+pub failures_more : (before mid now : ℕ) (js : List ModuleVerdict) (j : ModuleVerdict) → before + count_failed_judgments js ≤ mid → mid + count_unjudged j.verdict ≤ now
     → before + count_failed_judgments (js ++ j ∷ []) ≤ now
 failures_more before mid now js j h k =
     let P : ℕ → Type 0 = λ n. before + n ≤ now in
@@ -133,7 +134,7 @@ names_fail agrees agrees' before mid now limits e names i d narrows below first 
     (λ files listings agreed at h. named_at names i d (λ n. SearchLooksAt (in_sh limits files listings) e n at) below h) first second
 
 -- a judgment of a name that was copied
-pub judged_name : (agrees : Files → Listings → Type 0) (failed failed' : Type 0) (limits : Limits) (e : Environment) (name : Text) (j : Judgment)
+pub judged_name : (agrees : Files → Listings → Type 0) (failed failed' : Type 0) (limits : Limits) (e : Environment) (name : Text) (j : ModuleVerdict)
     → string_bytes j.name ≡ name → (failed → failed')
     → StepAnswersOverTree agrees failed verdict_view j.verdict (λ files listings. verdicts.HasVerdict (in_sh limits files listings) e name)
     → IsJudgment agrees failed' limits e (string_bytes j.name) j

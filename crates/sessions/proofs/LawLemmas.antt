@@ -6,7 +6,8 @@ use Rattle.shelltext.specs.declared.shell.Shell.{Shell}
 use Rattle.filetree.specs.Relations.{After}
 use Rattle.requests.specs.Reasons.{RequestReason}
 use Rattle.requests.specs.Requests.{RequestedAction, Request, request_of}
-use Rattle.requests.specs.Sessions.{Response, accepted, refused, given_up, IsResponse, Session, env_after, in_shell, is_given_up_by, end_environment, session_moves}
+use Rattle.requests.specs.Sessions.{Response, accepted, refused, given_up, IsResponse, Session, env_after, in_shell}
+use Rattle.requests.specs.Sessions.{is_given_up_by, end_environment, session_moves}
 use Rattle.requests.specs.Steps.{RequestContext, Done, RequestStep}
 use Rattle.sessions.specs.Laws.{LinesRun}
 use Rattle.sessions.specs.Sessions.{IsLineResponse, request_responses, requests_in, with_request, with_response}

@@ -1,5 +1,6 @@
 -- Sessions of lines grow by one line at their end.
-use Rattle.std.proofs.Common.{◌≡◌, ℕ, Bool, ◌<◌, ◌≤◌, ◌+◌, true, List, [], ◌∷◌, ◌++◌, map, refl, sym, subst, ap, ◌∙◌, Ok, Err, append_assoc, append-nil, arith}
+use Rattle.std.proofs.Common.{◌≡◌, ℕ, Bool, ◌<◌, ◌≤◌, ◌+◌, true, List, [], ◌∷◌, ◌++◌, map, refl, sym, subst, ap, ◌∙◌}
+use Rattle.std.proofs.Common.{Ok, Err, append_assoc, append-nil, arith}
 use Rattle.envvars.specs.Texts.{Text}
 use Rattle.envvars.specs.Environment.{Environment}
 use Rattle.filetree.specs.Agreement.{FailsOnlyWhere, Files, InEachPair, Listings, Narrows}
@@ -30,7 +31,8 @@ line_responds s e words asked (refused reason) made h = (Ok asked, sym made, h)
 line_responds s e words asked (given_up number) made h = h
 
 -- where the request of a line looks, the line does
-pub looks_by_request : (limits : Limits) (shell own : Shell) (files : Files) (listings : Listings) (e : Environment) (words : List Text) (asked : RequestedAction) (at : Text) → own ≡ shell → Ok asked ≡ request_of words
+pub looks_by_request : (limits : Limits) (shell own : Shell) (files : Files) (listings : Listings) (e : Environment)
+    (words : List Text) (asked : RequestedAction) (at : Text) → own ≡ shell → Ok asked ≡ request_of words
     → RequestLooksAt (request_context_in limits own files listings) e asked at → LineLooksAt (request_context_in limits shell files listings) e words at
 looks_by_request limits shell own files listings e words asked at same made h =
     let Looks : Shell → Type 0 = λ x. RequestLooksAt (request_context_in limits x files listings) e asked at in
@@ -72,7 +74,9 @@ lines_done {W} view s start e rest all sofar none run =
     subst Whole (append-nil sofar) (run [] (subst Rest (sym none) tt))
 
 -- where the device has failed after one line more: the rest looks where the whole does
-pub lines_fail : (agrees agrees' : Files → Listings → Type 0) (before mid now : List ℕ → Bool) (context : Files → Listings → RequestContext) (start e : Environment) (all whole : List (List Text)) (words : List Text) (lines : List (List Text))
+pub lines_fail : (agrees agrees' : Files → Listings → Type 0) (before mid now : List ℕ → Bool)
+    (context : Files → Listings → RequestContext) (start e : Environment) (all whole : List (List Text))
+    (words : List Text) (lines : List (List Text))
     → Narrows agrees agrees' → whole ≡ words ∷ lines
     → InEachPair agrees (λ files listings. (at : Text) → LinesLookAt (context files listings) e whole at → LinesLookAt (context files listings) start all at)
     → FailsOnlyWhere before mid (λ at. InEachPair agrees (λ files listings. LinesLookAt (context files listings) start all at))

@@ -1,5 +1,6 @@
 -- One request with its text, and rehearsals that go on by one.
-use Rattle.std.proofs.Common.{◌≡◌, ℕ, ◌+◌, ◌≤◌, ◌<◌, true, false, List, [], ◌∷◌, ◌++◌, Option, Some, None, map, Result, Ok, Err, refl, sym, ap, ◌∙◌, subst, arith}
+use Rattle.std.proofs.Common.{◌≡◌, ℕ, ◌+◌, ◌≤◌, ◌<◌, true, false, List, [], ◌∷◌, ◌++◌, Option, Some, None, map, Result}
+use Rattle.std.proofs.Common.{Ok, Err, refl, sym, ap, ◌∙◌, subst, arith}
 use Rattle.std.specs.Prelude.{◌==◌, string_bytes}
 use Rattle.std.specs.declared.alloc.Global.{Global}
 use Rattle.std.specs.declared.string.String.{String}
@@ -67,7 +68,9 @@ module _ (agrees : Files → Listings → Type 0) (limits : Limits) (r : Request
   -- the number of want of memory is that of the refusal
   cause_came : (refusal : Refusal) (c : Cause RequestReason) → Applies c (before < after) (λ reason. Steps (Err reason)) → PrintsFor agrees limits r e e None before after
   cause_came refusal memory h =
-      came_wanting (memory_number refusal) (of_three refusal (λ n. is_given_up_by n ≡ true) refl refl refl) (of_three refusal (λ n. (n == 43) ≡ false) refl refl refl) (of_three refusal (λ n. (n == 62) ≡ false) refl refl refl)
+      came_wanting (memory_number refusal) (of_three refusal (λ n. is_given_up_by n ≡ true) refl refl refl)
+      (of_three refusal (λ n. (n == 43) ≡ false) refl refl refl)
+      (of_three refusal (λ n. (n == 62) ≡ false) refl refl refl)
   cause_came refusal device h = record {
     response = given_up 43;
     answers = λ files listings agreed. refl;

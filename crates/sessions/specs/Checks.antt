@@ -15,21 +15,21 @@ use Rattle.modules.specs.declared.sessions.Outcome.TheVariants.{Accepted, Refuse
 use Rattle.sessions.specs.Lines.{lines_in}
 use Rattle.sessions.specs.Sessions.{LineSession, LinesLookAt}
 use Rattle.sessions.specs.Judgments.{names_loaded, AreJudgments, NamesLookAt, count_failed_judgments}
-use Rattle.sessions.specs.declared.checking.Findings.{Findings}
+use Rattle.sessions.specs.declared.checking.CheckFindings.{CheckFindings}
 
 -- the response to each line, one after another
-abbrev pub responses_in : Environment → Findings → List Response
+abbrev pub responses_in : Environment → CheckFindings → List Response
 responses_in e check = responses e check.outcomes.items
 
 -- how many lines were refused, and modules not judged, because the device failed
-abbrev pub failed_in : Findings → ℕ
+abbrev pub failed_in : CheckFindings → ℕ
 failed_in check = count_failed check.outcomes.items + count_failed_judgments check.judgments.items
 
 -- The lines of the text are a session from this environment to the check's; the modules that it loaded are judged in
 -- the first environment; and the device, which had failed so often before and has so often now, has failed since then
 -- at least as often as the check has refusals by it.
 pub record IsCheck (agrees : Files → Listings → Type 0) (before now : ℕ) (limits : Limits) (shell : Shell)
-    (e : Environment) (text : Text) (check : Findings) : Type 0 where
+    (e : Environment) (text : Text) (check : CheckFindings) : Type 0 where
   pub session : InEachPair agrees (λ files listings.
       LineSession (request_context_in limits shell files listings) e (lines_in text) (responses_in e check))
   pub end : InEachPair agrees (λ files listings. check.env ≡ end_environment e (responses_in e check))
@@ -48,5 +48,5 @@ was_accepted (Accepted done) = true
 was_accepted (Refused refusal) = false
 
 -- each line was accepted
-abbrev pub all_accepted : Findings → Bool
+abbrev pub all_accepted : CheckFindings → Bool
 all_accepted check = list_all was_accepted check.outcomes.items

@@ -16,21 +16,21 @@ use Rattle.modules.specs.Verdicts.{verdict_view, in_sh}
 use Rattle.modules.specs.declared.judged.Verdict.{Verdict}
 use Rattle.modules.specs.declared.refusal.Refusal.{Refusal}
 use Rattle.modules.specs.Responses.{count_cause}
-use Rattle.sessions.specs.declared.judging.Judgment.{Judgment}
+use Rattle.sessions.specs.declared.judging.ModuleVerdict.{ModuleVerdict}
 
 -- the full names of the modules that were loaded, each once, in the order of the first load
 abbrev pub names_loaded : List Response → List Text
 names_loaded os = without_repeats (loaded_names (session_moves os))
 
 -- the verdict on the module of this name, or the refusal that it has in place of one
-abbrev pub IsJudgment : (Files → Listings → Type 0) → Type 0 → Limits → Environment → Text → Judgment → Type 0
+abbrev pub IsJudgment : (Files → Listings → Type 0) → Type 0 → Limits → Environment → Text → ModuleVerdict → Type 0
 IsJudgment agrees failed limits e name judgment =
     (string_bytes judgment.name ≡ name)
     × StepAnswersOverTree agrees failed verdict_view judgment.verdict
     (λ files listings. HasVerdict (in_sh limits files listings) e name)
 
 -- the verdicts on the modules of these names, one for each, in order
-abbrev pub AreJudgments : (Files → Listings → Type 0) → Type 0 → Limits → Environment → List Text → List Judgment
+abbrev pub AreJudgments : (Files → Listings → Type 0) → Type 0 → Limits → Environment → List Text → List ModuleVerdict
     → Type 0
 AreJudgments agrees failed limits e [] [] = Unit {0}
 AreJudgments agrees failed limits e [] (j ∷ js) = ⊥
@@ -44,7 +44,7 @@ count_unjudged (Ok verdict) = 0
 count_unjudged (Err refusal) = count_cause (cause_of refusal)
 
 -- how many modules have no verdict because the device failed
-abbrev pub count_failed_judgments : List Judgment → ℕ
+abbrev pub count_failed_judgments : List ModuleVerdict → ℕ
 count_failed_judgments [] = 0
 count_failed_judgments (j ∷ js) = count_unjudged j.verdict + count_failed_judgments js
 

@@ -18,7 +18,8 @@ use Rattle.sessions.specs.Rehearsals.{IsPrint, one_failed}
 pub record PrintsFor (agrees : Files → Listings → Type 0) (limits : Limits) (r : Request) (old new : Environment)
     (print : Option Text) (before after : ℕ) : Type 0 where
   pub response : Response
-  pub answers : InEachPair agrees (λ files listings. IsResponse (request_context_in limits r.0 files listings) old r.1 response)
+  pub answers : InEachPair agrees (λ files listings. IsResponse (request_context_in limits r.0 files listings) old r.1
+      response)
   pub printed : InEachPair agrees (λ files listings. (shell : Shell)
       → IsPrint (request_context_in limits shell files listings) old r response print)
   pub end : new ≡ env_after old response

@@ -9,7 +9,8 @@ use Rattle.shelltext.specs.Printing.{IsUnsayable}
 use Rattle.shelltext.specs.Sequences.{ShellRun, TextsMake}
 use Rattle.requests.specs.Requests.{Request}
 use Rattle.requests.specs.Steps.{RequestContext, Done, RequestStep}
-use Rattle.requests.specs.Sessions.{Response, accepted, refused, given_up, Session, env_after, end_environment, in_shell, session_moves}
+use Rattle.requests.specs.Sessions.{Response, accepted, refused, given_up, Session, env_after, end_environment}
+use Rattle.requests.specs.Sessions.{in_shell, session_moves}
 use Rattle.requests.specs.Returning.{AreNew, AreReversibleBeside}
 use Rattle.reversal.specs.VariableUses.{VariableUse}
 use Rattle.reversal.specs.Starts.{IsStart}
@@ -44,7 +45,8 @@ ArePrints s e (r ∷ rs) (o ∷ os) (p ∷ ps) = IsPrint s e r o p × ArePrints 
 
 -- The requests were rehearsed: they are a session in which exactly those with a text are accepted, and this environment
 -- results.
-pub record Rehearsed (s : RequestContext) (e : Environment) (rs : List Request) (ps : List (Option Text)) (end : Environment)
+pub record Rehearsed (s : RequestContext) (e : Environment) (rs : List Request) (ps : List (Option Text))
+    (end : Environment)
     : Type 0 where
   pub responses : List Response
   pub session : Session s e rs responses
@@ -64,7 +66,8 @@ count_failed (o ∷ os) = one_failed o + count_failed os
 
 -- So many device failures were counted before the requests and after them, and at least one for each request that was
 -- given up for one.
-pub record Rehearsal (s : RequestContext) (e : Environment) (rs : List Request) (ps : List (Option Text)) (end : Environment)
+pub record Rehearsal (s : RequestContext) (e : Environment) (rs : List Request) (ps : List (Option Text))
+    (end : Environment)
     (before after : ℕ) : Type 0 where
   pub rehearsed : Rehearsed s e rs ps end
   pub failures : before + count_failed rehearsed.responses ≤ after
@@ -88,6 +91,7 @@ MakesSession s e rs ps end =
 abbrev pub TextsReturnToStart : RequestContext → Environment → List Request → List (Option Text) → Environment → Type 0
 TextsReturnToStart s start rs ps end =
     (uses : Text → VariableUse) → (h : Rehearsed s start rs ps end)
-    → IsStart uses start → AreNew start (session_moves h.responses) → AreReversibleBeside uses [] (session_moves h.responses)
+    → IsStart uses start → AreNew start (session_moves h.responses)
+    → AreReversibleBeside uses [] (session_moves h.responses)
     → live_after [] (session_moves h.responses) ≡ []
     → TextsMake (runs_of rs ps) start start

@@ -8,8 +8,8 @@ use Rattle.modules.specs.declared.judged.Verdict.TheVariants.{Plain, Asked, OneW
 use Rattle.modules.specs.declared.refusal.Refusal.{Refusal}
 use Rattle.modules.specs.declared.sessions.Outcome.{Outcome}
 use Rattle.modules.specs.declared.sessions.Outcome.TheVariants.{Accepted, Refused}
-use Rattle.sessions.specs.declared.checking.Findings.{Findings}
-use Rattle.sessions.specs.declared.judging.Judgment.{Judgment}
+use Rattle.sessions.specs.declared.checking.CheckFindings.{CheckFindings}
+use Rattle.sessions.specs.declared.judging.ModuleVerdict.{ModuleVerdict}
 
 -- the line of a request's outcome, with the request's number
 abbrev pub outcome_line : ℕ → Outcome → Text
@@ -29,9 +29,9 @@ verdict_text (Ok OneWay) = codes "OneWay"
 verdict_text (Err refusal) = message_of refusal
 
 -- the line of a module
-abbrev pub judgment_line : Judgment → Text
+abbrev pub judgment_line : ModuleVerdict → Text
 judgment_line j = string_bytes j.name ++ (codes ": " ++ (verdict_text j.verdict ++ codes "\n"))
 
 -- the line of each request, and then of each module that was loaded
-abbrev pub report_of : Findings → Text
+abbrev pub report_of : CheckFindings → Text
 report_of check = outcome_lines 1 check.outcomes.items ++ flat_map judgment_line check.judgments.items

@@ -11,7 +11,7 @@ ghost use Rattle.sessions.specs.Judgments.{AreJudgments, NamesLookAt, count_fail
 ghost use Rattle.sessions.specs.Parts.{loaded_in};
 ghost use Rattle.sessions.specs.Checks.{CheckLooksAt, IsCheck, all_accepted, was_accepted};
 
-use crate::judging::{Judgment, give_verdicts};
+use crate::judging::{ModuleVerdict, give_verdicts};
 use crate::lines::lines_in;
 use crate::loading::names_loaded;
 use crate::running::run_lines;
@@ -24,13 +24,13 @@ use tclrules::Limits;
 
 /// What the check of lines found: an outcome for each line, and a verdict for each module.
 #[derive(Drop)]
-pub struct Findings {
+pub struct CheckFindings {
     /// The environment that results of the requests.
     pub env: Env,
     /// The outcome of each line with words, in order.
     pub outcomes: Vec<Outcome>,
     /// The verdicts on the modules that they loaded, in the order of the first load.
-    pub judgments: Vec<Judgment>,
+    pub judgments: Vec<ModuleVerdict>,
 }
 
 /// Whether the request was accepted.
@@ -40,7 +40,7 @@ fn was_accepted(outcome: &Outcome) -> bool
     matches!(outcome, Outcome::Accepted(_))
 }
 
-impl Findings {
+impl CheckFindings {
     /// Whether each request was accepted.
     pub fn is_accepted(&self) -> bool
         ensures { result ≡ all_accepted self.now }
@@ -56,7 +56,7 @@ fn judge_loaded<T: Tree>(
     env: &Env,
     tree: &mut T,
     limits: Limits,
-) -> Result<Vec<Judgment>, AllocError>
+) -> Result<Vec<ModuleVerdict>, AllocError>
     ensures reads { ReadsOn T.agrees T.failures tree.old tree.new }
     ensures judged { IfOk result (λ judgments.
         AreJudgments (T.agrees tree.new) (T.failures tree.old < T.failures tree.new) limits env.now
@@ -88,7 +88,7 @@ pub fn check<T: Tree>(
     env: &Env,
     tree: &mut T,
     limits: Limits,
-) -> Result<Findings, Refusal>
+) -> Result<CheckFindings, Refusal>
     ensures reads { ReadsOn T.agrees T.failures tree.old tree.new }
     ensures checked { IfOk result (IsCheck (T.agrees tree.new) (T.failures tree.old) (T.failures tree.new)
         limits shell env.now text.now) }
@@ -102,7 +102,7 @@ pub fn check<T: Tree>(
     };
     let outcomes = run_lines(alloc, shell, lines.as_slice(), &mut after, tree, limits)?;
     let judgments = judge_loaded(alloc, outcomes.as_slice(), env, tree, limits)?;
-    Ok(Findings {
+    Ok(CheckFindings {
         env: after,
         outcomes,
         judgments,

@@ -13,7 +13,7 @@ use tclrules::Limits;
 
 /// A module with the verdict on it, or why there is none.
 #[derive(Debug, Drop)]
-pub struct Judgment {
+pub struct ModuleVerdict {
     /// The module's full name.
     pub name: String,
     /// The verdict, in the environment in which it was judged; or why there is none.
@@ -27,7 +27,7 @@ pub(crate) fn give_verdicts<T: Tree>(
     env: &Env,
     tree: &mut T,
     limits: Limits,
-) -> Result<Vec<Judgment>, AllocError>
+) -> Result<Vec<ModuleVerdict>, AllocError>
     ensures reads { ReadsOn T.agrees T.failures tree.old tree.new }
     ensures judged { IfOk result (λ judgments.
         AreJudgments (T.agrees tree.new) (T.failures tree.old < T.failures tree.new) limits env.now
@@ -42,7 +42,7 @@ pub(crate) fn give_verdicts<T: Tree>(
     for name in names {
         let answer = verdict(alloc, name, env, tree, limits);
         let full_name = String::from_str(alloc, name)?;
-        judgments.push(Judgment {
+        judgments.push(ModuleVerdict {
             name: full_name,
             verdict: answer,
         })?;

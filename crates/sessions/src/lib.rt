@@ -11,7 +11,7 @@ mod rehearsal;
 mod report;
 mod running;
 
-pub use checking::{Findings, check};
-pub use judging::Judgment;
+pub use checking::{CheckFindings, check};
+pub use judging::ModuleVerdict;
 pub use laws::{lines_run, texts_make_session, texts_return_to_start};
 pub use rehearsal::rehearse;

@@ -4,8 +4,8 @@ ghost use Rattle.std.specs.List.{flat_map};
 ghost use Rattle.sessions.specs.Reports as spec;
 ghost use Rattle.sessions.specs.Reports.{report_of};
 
-use crate::checking::Findings;
-use crate::judging::Judgment;
+use crate::checking::CheckFindings;
+use crate::judging::ModuleVerdict;
 use modules::{Outcome, Verdict};
 use std::alloc::{AllocError, Global};
 
@@ -20,7 +20,7 @@ fn outcome_line(alloc: Global, number: usize, outcome: &Outcome) -> Result<Strin
 }
 
 /// The line of a module, with the verdict on it or why there is none.
-fn judgment_line(alloc: Global, judgment: &Judgment) -> Result<String, AllocError>
+fn judgment_line(alloc: Global, judgment: &ModuleVerdict) -> Result<String, AllocError>
     ensures { IfOk result (λ line. string_bytes line ≡ spec.judgment_line judgment.now) }
 {
     let name = &judgment.name;
@@ -46,7 +46,7 @@ fn push_outcomes(alloc: Global, report: &mut String, outcomes: &[Outcome]) -> Re
 fn push_judgments(
     alloc: Global,
     report: &mut String,
-    judgments: &[Judgment],
+    judgments: &[ModuleVerdict],
 ) -> Result<(), AllocError>
     ensures { OnOk result (string_bytes report.new
         ≡ string_bytes report.old ++ flat_map spec.judgment_line judgments.now) }
@@ -57,7 +57,7 @@ fn push_judgments(
     Ok(())
 }
 
-impl Findings {
+impl CheckFindings {
     /// The report: `N accepted`, or `N refused: ` and why, for the request of each number, from 1; and then for each
     /// module that was loaded its name, and its verdict or why there is none.
     pub fn report(&self, alloc: Global) -> Result<String, AllocError>

@@ -1,5 +1,7 @@
 -- What is printed is a text of the grammar.
-use Rattle.std.proofs.Common.{◌≡◌, ℕ, zero, suc, ◌<◌, Bool, true, false, cond, not, ◌||◌, List, [], ◌∷◌, ◌++◌, length, get_or, take, map, Option, Some, None, refl, sym, ap, ◌∙◌, subst, inl, inr, arith, append-nil, append_assoc}
+use Rattle.std.proofs.Common.{◌≡◌, ℕ, zero, suc, ◌<◌, Bool, true, false, cond, not, ◌||◌, List, [], ◌∷◌, ◌++◌, length}
+use Rattle.std.proofs.Common.{get_or, take, map, Option, Some, None, refl, sym, ap, ◌∙◌, subst, inl, inr, arith}
+use Rattle.std.proofs.Common.{append-nil, append_assoc}
 use Rattle.std.proofs.lemmas.Bool.{cases_Bool, and_parts}
 use Rattle.std.proofs.lemmas.Bool.Decides.{nat_tests}
 use Rattle.std.proofs.lemmas.List.Folds.{list_all-append}
@@ -9,8 +11,10 @@ use Rattle.envvars.specs.Changes.{NewValue}
 use Rattle.shelltext.specs.declared.family.Family.{Family}
 use Rattle.shelltext.specs.declared.family.Family.TheVariants.{Sh, Csh, Fish}
 use Rattle.shelltext.specs.Shells.{family_of}
-use Rattle.shelltext.specs.Reading.{is_special, is_literal, is_unsayable, ValuePart, literal, special, IsPart, AreParts, part_value, part_text, inner_text, value_text, Spells, LineSays, LinesSay, TextSays}
-use Rattle.shelltext.specs.Printing.{spell, special_text, quoted, is_sayable, value_is_sayable, printed_line, line_of_value}
+use Rattle.shelltext.specs.Reading.{is_special, is_literal, is_unsayable, ValuePart, literal, special, IsPart, AreParts}
+use Rattle.shelltext.specs.Reading.{part_value, part_text, inner_text, value_text, Spells, LineSays, LinesSay, TextSays}
+use Rattle.shelltext.specs.Printing.{spell, special_text, quoted, is_sayable, value_is_sayable, printed_line}
+use Rattle.shelltext.specs.Printing.{line_of_value}
 
 -- the parts of a value, after literal bytes xs
 abbrev parts_from : Family → List ℕ → List ℕ → List ValuePart
@@ -31,7 +35,8 @@ some family xs (b ∷ bs) = elim (cases_Bool (is_special family b)) [
   | inr e ↦ rw e (some family (xs ++ b ∷ []) bs)
 ]
 
-in_quotes : (family : Family) → ((b : ℕ) → special_text family b ≡ 39 ∷ 92 ∷ b ∷ 39 ∷ []) → (xs bs : List ℕ) → flat_map part_text (parts_from family xs bs) ≡ 39 ∷ (xs ++ (flat_map (spell family) bs ++ 39 ∷ []))
+in_quotes : (family : Family) → ((b : ℕ) → special_text family b ≡ 39 ∷ 92 ∷ b ∷ 39 ∷ []) → (xs bs : List ℕ)
+    → flat_map part_text (parts_from family xs bs) ≡ 39 ∷ (xs ++ (flat_map (spell family) bs ++ 39 ∷ []))
 in_quotes family m xs [] = rw append-nil refl
 in_quotes family m xs (b ∷ bs) = elim (cases_Bool (is_special family b)) [
   | inl e ↦ rw (e, in_quotes family m [] bs, m b) (ap (λ (l : List ℕ). 39 ∷ l) (append_assoc xs (39 ∷ []) (92 ∷ b ∷ 39 ∷ (flat_map (spell family) bs ++ 39 ∷ []))))
@@ -50,7 +55,9 @@ quoted_text Sh value = in_quotes Sh (λ b. refl) [] value
 quoted_text Csh value = in_quotes Csh (λ b. refl) [] value
 quoted_text Fish value = ap (λ (l : List ℕ). 39 ∷ (l ++ 39 ∷ [])) (in_one_pair [] value)
 
-plain_more : (family : Family) (xs : List ℕ) (b : ℕ) → list_all (is_literal family) xs ≡ true → is_special family b ≡ false → not (is_unsayable family b) ≡ true → list_all (is_literal family) (xs ++ b ∷ []) ≡ true
+plain_more : (family : Family) (xs : List ℕ) (b : ℕ) → list_all (is_literal family) xs ≡ true
+    → is_special family b ≡ false → not (is_unsayable family b) ≡ true
+    → list_all (is_literal family) (xs ++ b ∷ []) ≡ true
 plain_more family xs b all unmarked sayable = rw (list_all-append (is_literal family) xs (b ∷ []), all, unmarked, sayable) refl
 
 proper : (family : Family) (xs bs : List ℕ) → list_all (is_literal family) xs ≡ true → list_all (λ b. not (is_unsayable family b)) bs ≡ true → AreParts family (parts_from family xs bs)
@@ -120,7 +127,9 @@ sayable_from_text family text (s ∷ ss) h =
     rw (h.2, sayable_from_says family h.0 s.0 s.1 h.3) (sayable_from_text family h.1 ss h.4)
 
 -- the first that doesn't pass
-pub find_first : {X Y : Type 0} (h : X → Y) (p : Y → Bool) (xs : List X) (i : ℕ) (d : X) → i < length xs → list_all (λ x. p (h x)) (take i xs) ≡ true → p (h (get_or xs i d)) ≡ false → find (λ y. not (p y)) (map h xs) ≡ Some (h (get_or xs i d))
+pub find_first : {X Y : Type 0} (h : X → Y) (p : Y → Bool) (xs : List X) (i : ℕ) (d : X) → i < length xs
+    → list_all (λ x. p (h x)) (take i xs) ≡ true → p (h (get_or xs i d)) ≡ false
+    → find (λ y. not (p y)) (map h xs) ≡ Some (h (get_or xs i d))
 find_first h p [] i d below front e = absurd (omega arith)
 find_first h p (x ∷ xs) zero d below front e = rw e refl
 find_first h p (x ∷ xs) (suc i) d below front e =

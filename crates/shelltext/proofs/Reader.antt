@@ -1,5 +1,6 @@
 -- A reader of lines, from left to right. Where a text has lines, it finds them: so a text says at most one list of changes.
-use Rattle.std.proofs.Common.{◌≡◌, ℕ, Bool, true, false, cond, not, ◌&&◌, ◌||◌, eqb, List, [], ◌∷◌, ◌++◌, Option, Some, None, codes, refl, sym, ap, ◌∙◌, subst, inl, inr, arith, append_assoc}
+use Rattle.std.proofs.Common.{◌≡◌, ℕ, Bool, true, false, cond, not, ◌&&◌, ◌||◌, eqb, List, [], ◌∷◌, ◌++◌, Option, Some}
+use Rattle.std.proofs.Common.{None, codes, refl, sym, ap, ◌∙◌, subst, inl, inr, arith, append_assoc}
 use Rattle.std.proofs.lemmas.Bool.{cases_Bool, and_parts}
 use Rattle.std.proofs.lemmas.Bool.Decides.{nat_tests}
 use Rattle.std.specs.List.{flat_map, list_all}
@@ -9,7 +10,9 @@ use Rattle.shelltext.specs.declared.shell.Shell.{Shell}
 use Rattle.shelltext.specs.declared.family.Family.{Family}
 use Rattle.shelltext.specs.declared.family.Family.TheVariants.{Sh, Csh, Fish}
 use Rattle.shelltext.specs.Shells.{family_of}
-use Rattle.shelltext.specs.Reading.{is_special, is_literal, ValuePart, literal, special, AreParts, part_value, part_text, inner_text, value_text, set_line, unset_line, LineSays, LinesSay, TextSays}
+use Rattle.shelltext.specs.Reading.{is_special, is_literal, ValuePart, literal, special, AreParts, part_value}
+use Rattle.shelltext.specs.Reading.{part_text, inner_text, value_text, set_line, unset_line, LineSays, LinesSay}
+use Rattle.shelltext.specs.Reading.{TextSays}
 
 -- between parts, inside quotes, behind a backslash
 data Mode : Type 0 where
@@ -119,10 +122,17 @@ inside_plain family (b ∷ bytes) t all =
     let p = and_parts (is_literal family b) (list_all (is_literal family) bytes) all in
     rw (no_quote family b p.0, no_backslash family b p.0, p.0) (ap (onto b) (inside_plain family bytes t p.1))
 
-quoted_value : (family : Family) → is_fish family ≡ false → (ps : List ValuePart) → AreParts family ps → (t : List ℕ) → value_at family outside (flat_map part_text ps ++ 59 ∷ t) ≡ Some (flat_map part_value ps, 59 ∷ t)
+quoted_value : (family : Family) → is_fish family ≡ false → (ps : List ValuePart) → AreParts family ps → (t : List ℕ)
+    → value_at family outside (flat_map part_text ps ++ 59 ∷ t) ≡ Some (flat_map part_value ps, 59 ∷ t)
 quoted_value family nf [] are t = refl
 quoted_value family nf (literal bytes ∷ ps) are t =
-    rw (append_assoc bytes (39 ∷ []) (flat_map part_text ps), append_assoc bytes (39 ∷ flat_map part_text ps) (59 ∷ t), inside_plain family bytes (39 ∷ (flat_map part_text ps ++ 59 ∷ t)) are.0, nf, quoted_value family nf ps are.1 t)
+    rw (
+      append_assoc bytes (39 ∷ []) (flat_map part_text ps),
+      append_assoc bytes (39 ∷ flat_map part_text ps) (59 ∷ t),
+      inside_plain family bytes (39 ∷ (flat_map part_text ps ++ 59 ∷ t)) are.0,
+      nf,
+      quoted_value family nf ps are.1 t,
+    )
     (prepended bytes (flat_map part_value ps) (59 ∷ t))
 quoted_value family nf (special b ∷ ps) are t = rw (nf, are.0, quoted_value family nf ps are.1 t) refl
 
@@ -158,9 +168,18 @@ key_step family n x e = rw (named n 32 x (later_all n e) refl) refl
 key_found : (family : Family) (n rest : List ℕ) (ps : List ValuePart) → is_variable_name n ≡ true → AreParts family ps
     → (let y = (n ++ 32 ∷ (value_text family ps ++ 59 ∷ 10 ∷ [])) ++ rest in set_after family (name_at y).0 (name_at y).1 ≡ Some ((n, Some (flat_map part_value ps)), rest))
 key_found family n rest ps e are =
-    rw (append_assoc n (32 ∷ (value_text family ps ++ 59 ∷ 10 ∷ [])) rest, append_assoc (value_text family ps) (59 ∷ 10 ∷ []) rest, key_step family n (value_text family ps ++ 59 ∷ 10 ∷ rest) e, value_found family ps are (10 ∷ rest)) refl
+    rw (
+      append_assoc n (32 ∷ (value_text family ps ++ 59 ∷ 10 ∷ [])) rest,
+      append_assoc (value_text family ps)
+          (59 ∷ 10 ∷ []) rest,
+      key_step family n (value_text family ps ++ 59 ∷ 10 ∷ rest) e,
+      value_found family ps are
+          (10 ∷ rest),
+    ) refl
 
-set_line_found : (family : Family) (n rest : List ℕ) (ps : List ValuePart) → is_variable_name n ≡ true → AreParts family ps → line_at family (set_line family n (value_text family ps) ++ rest) ≡ Some ((n, Some (flat_map part_value ps)), rest)
+set_line_found : (family : Family) (n rest : List ℕ) (ps : List ValuePart) → is_variable_name n ≡ true
+    → AreParts family ps → line_at family (set_line family n (value_text family ps) ++ rest) ≡ Some
+    ((n, Some (flat_map part_value ps)), rest)
 set_line_found Sh n rest ps e are =
     ap (λ l. line_at Sh l) (append_assoc n (61 ∷ (value_text Sh ps ++ sh_tail n)) rest ∙ ap (λ (l : List ℕ). n ++ 61 ∷ l) (append_assoc (value_text Sh ps) (sh_tail n) rest))
     ∙ (sh_step n (value_text Sh ps ++ (sh_tail n ++ rest)) e

@@ -1,5 +1,6 @@
 -- Which bytes a value has, and what follows for how it is written.
-use Rattle.std.proofs.Common.{◌≡◌, ℕ, ◌<◌, ◌≤◌, Bool, true, false, cond, not, ◌||◌, ◌&&◌, eqb, List, [], ◌∷◌, ◌++◌, length, get_or, Some, None, Result, Ok, Err, refl, sym, ap, ◌∙◌, arith}
+use Rattle.std.proofs.Common.{◌≡◌, ℕ, ◌<◌, ◌≤◌, Bool, true, false, cond, not, ◌||◌, ◌&&◌, eqb, List, [], ◌∷◌, ◌++◌}
+use Rattle.std.proofs.Common.{length, get_or, Some, None, Result, Ok, Err, refl, sym, ap, ◌∙◌, arith}
 use Rattle.std.specs.Prelude.{if◌then◌else◌, OnOk, is_ok}
 use Rattle.std.specs.Bool.{MatchBool}
 use Rattle.std.specs.List.{flat_map, list_all, list_any}
@@ -21,11 +22,14 @@ different b c h = grind (arith, nat_tests)
 same : (b c : ℕ) → b ≡ c → eqb b c ≡ true
 same b c h = grind (arith, nat_tests)
 
-searched : (c : ℕ) (value : List ℕ) (r : Bool) → (r ≡ true → (k : ℕ) × (k < length value) × (get_or value k 0 ≡ c)) → ((k : ℕ) → k < length value → get_or value k 0 ≡ c → r ≡ true) → r ≡ list_any (λ b. eqb b c) value
+searched : (c : ℕ) (value : List ℕ) (r : Bool) → (r ≡ true → (k : ℕ) × (k < length value) × (get_or value k 0 ≡ c))
+    → ((k : ℕ) → k < length value → get_or value k 0 ≡ c → r ≡ true) → r ≡ list_any (λ b. eqb b c) value
 searched c value true at none = let k = at refl in sym (list_any_at (λ b. eqb b c) value k.0 0 k.1 (same (get_or value k.0 0) c k.2))
 searched c value false at none = sym (list_any_none (λ b. eqb b c) value (λ k d l. different (get_or value k d) c (λ e. false≢true (none k l (sym (get_or_default_zero value k d l) ∙ e)))))
 
-pub has_char : (c : ℕ) (value : List ℕ) (r : Bool) → c < 128 → MatchBool r ((i : ℕ) × (j : ℕ) × FindsChar c value (Some (i, j)) × (i ≤ j) × (j ≤ length value)) (FindsChar c value None) → r ≡ list_any (λ b. eqb b c) value
+pub has_char : (c : ℕ) (value : List ℕ) (r : Bool) → c < 128
+    → MatchBool r ((i : ℕ) × (j : ℕ) × FindsChar c value (Some (i, j)) × (i ≤ j) × (j ≤ length value))
+    (FindsChar c value None) → r ≡ list_any (λ b. eqb b c) value
 has_char c value r l m = let k = contains_char c value r m l in searched c value r k.0 k.1
 
 -- tests of one byte and another
@@ -73,6 +77,8 @@ plain : (family : Family) (value : List ℕ) → list_any (is_special family) va
 plain family [] e = refl
 plain family (b ∷ bs) e = sym (plain_at (is_special family b) (list_any (is_special family) bs) (special_text family b) (flat_map (spell family) bs) bs b e (λ h. sym (plain family bs h)))
 
-pub pushed : {E : Type 0} (r : Result (Unit {0}) E) (family : Family) (old new value : List ℕ) → list_any (is_special family) value ≡ false → new ≡ (if is_ok r then old ++ value else old) → OnOk r (new ≡ old ++ flat_map (spell family) value)
+pub pushed : {E : Type 0} (r : Result (Unit {0}) E) (family : Family) (old new value : List ℕ)
+    → list_any (is_special family) value ≡ false → new ≡ (if is_ok r then old ++ value else old)
+    → OnOk r (new ≡ old ++ flat_map (spell family) value)
 pushed (Ok u) family old new value e h = h ∙ ap (λ (l : List ℕ). old ++ l) (plain family value e)
 pushed (Err x) family old new value e h = tt

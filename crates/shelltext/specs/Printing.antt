@@ -1,9 +1,11 @@
 -- What is printed for changes, and which changes no text of a shell says (own; quoting as in Reading).
-use Rattle.std.specs.Prelude.{codes, ◌≡◌, ℕ, List, [], ◌∷◌, ◌++◌, Bool, true, not, ◌&&◌, Option, Some, None, if◌then◌else◌, string_bytes, find}
+use Rattle.std.specs.Prelude.{◌≡◌, ℕ, List, [], ◌∷◌, ◌++◌, Bool, true, not, ◌&&◌, Option, Some, None, if◌then◌else◌}
+use Rattle.std.specs.Prelude.{string_bytes, find}
 use Rattle.std.specs.List.{flat_map, list_all}
 use Rattle.std.specs.Option.{option_map}
 use Rattle.shelltext.specs.declared.shell.Shell.{Shell}
-use Rattle.message.specs.Messages.{around, out_of_memory}
+use Rattle.message.specs.Refusals.{NumberedText, about}
+use Rattle.message.specs.declared.refusals.RefusalKind.TheVariants as kinds
 use Rattle.envvars.specs.Texts.{Text}
 use Rattle.envvars.specs.Names.{is_variable_name}
 use Rattle.envvars.specs.Changes.{NewValue}
@@ -56,13 +58,7 @@ abbrev pub IsPrintFault : Shell → List NewValue → PrintFault → Type 0
 IsPrintFault shell ss OutOfMemory = Unit {0}
 IsPrintFault shell ss (NotSayable name) = IsUnsayable shell ss (string_bytes name)
 
--- the number of each error
-abbrev pub print_fault_number : PrintFault → ℕ
-print_fault_number OutOfMemory = 61
-print_fault_number (NotSayable name) = 62
-
--- the text of each error
-abbrev pub print_message : PrintFault → Text
-print_message OutOfMemory = out_of_memory
-print_message (NotSayable name) =
-    around (codes "Value of '") (string_bytes name) (codes "' can't be said in this shell")
+-- the refusal that each error is
+abbrev pub refusal_of : PrintFault → NumberedText
+refusal_of OutOfMemory = about kinds.MemoryForPrinting []
+refusal_of (NotSayable name) = about kinds.NotSayable (string_bytes name)

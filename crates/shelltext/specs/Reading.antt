@@ -1,7 +1,8 @@
 -- How shells read lines that set and unset variables; no other line is read here. The sh family reads by POSIX XCU
 -- 2.2.1 (a backslash outside quotes) and 2.2.2 (single quotes), the csh family by csh(1), Lexical structure and History
 -- substitutions, and fish by fish-language(1), Quotes.
-use Rattle.std.specs.Prelude.{◌≡◌, ◌<◌, length, ℕ, List, [], ◌∷◌, ◌++◌, Bool, not, ◌||◌, true, ◌==◌, Option, Some, None, codes}
+use Rattle.std.specs.Prelude.{◌≡◌, ◌<◌, length, ℕ, List, [], ◌∷◌, ◌++◌, Bool, not, ◌||◌, true, ◌==◌, Option, Some, None}
+use Rattle.std.specs.Prelude.{codes}
 use Rattle.std.specs.List.{flat_map, list_all}
 use Rattle.envvars.specs.Texts.{Text}
 use Rattle.envvars.specs.Names.{is_variable_name}

@@ -1,17 +1,17 @@
 //! The printer: changes of variables as a text for a shell.
 ghost use Rattle.std.specs.Prelude.{◌≡◌, [], ◌++◌, map, Some, IfOk, IfErr, OnOk, string_bytes};
 ghost use Rattle.envvars.specs.Changes.{new_value_of};
-ghost use Rattle.message.specs.Messages.{text_of};
+ghost use Rattle.message.specs.Refusals.{numbered_text};
 ghost use Rattle.shelltext.specs.Reading.{TextSays};
 ghost use Rattle.shelltext.specs.Printing as printing;
-ghost use Rattle.shelltext.specs.Printing.{printed_line, IsPrintFault, print_fault_number, print_message};
+ghost use Rattle.shelltext.specs.Printing.{printed_line, IsPrintFault, refusal_of};
 ghost use Rattle.shelltext.specs.declared.print.PrintFault.TheVariants.{OutOfMemory};
 
 use crate::family::Family;
 use crate::shell::Shell;
 use crate::spelling::{is_value_sayable, push_set, push_unset};
 use envvars::{Change, is_variable_name};
-use message::{Message, out_of_memory};
+use message::{NumberedMessage, RefusalKind};
 use std::alloc::{AllocError, Global};
 use std::error::Error;
 use std::fmt;
@@ -27,36 +27,29 @@ pub enum PrintFault {
 }
 
 impl PrintFault {
-    /// The number of the error as a refusal: 61 or 62.
-    pub fn number(&self) -> u16
-        ensures { result ≡ print_fault_number self.now }
+    /// The number of the error as a refusal, 61 or 62, and its text.
+    pub fn numbered(&self) -> NumberedMessage<'_>
+        ensures { numbered_text result ≡ refusal_of self.now }
     {
         match self {
-            PrintFault::OutOfMemory => 61,
-            PrintFault::NotSayable(_) => 62,
+            PrintFault::OutOfMemory => RefusalKind::MemoryForPrinting.plain(),
+            PrintFault::NotSayable(name) => RefusalKind::NotSayable.naming(name.as_str()),
         }
     }
 
-    /// The text of the error, without `ERROR: `.
-    pub fn message(&self) -> Message<'_>
-        ensures { text_of result ≡ print_message self.now }
+    /// The number of the error as a refusal: 61 or 62.
+    pub fn number(&self) -> u16
+        ensures { result ≡ (refusal_of self.now).number }
     {
-        match self {
-            PrintFault::OutOfMemory => out_of_memory(),
-            PrintFault::NotSayable(name) => Message::around(
-                "Value of '",
-                name.as_str(),
-                "' can't be said in this shell",
-            ),
-        }
+        self.numbered().number
     }
 }
 
 impl fmt::Display for PrintFault {
-    ghost output = { λ fault. Some (print_message fault) };
+    ghost output = { λ fault. Some (refusal_of fault).text };
 
     fn fmt<W: fmt::Write>(&self, f: &mut fmt::Formatter<W>) -> fmt::Result {
-        self.message().fmt(f)
+        self.numbered().message.fmt(f)
     }
 }
 

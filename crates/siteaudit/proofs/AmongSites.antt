@@ -1,5 +1,6 @@
 -- What is among the members of a list.
-use Rattle.std.proofs.Common.{◌≡◌, inl, inr, ℕ, ◌<◌, ◌≤◌, length, get_or, arith, suc, zero, List, [], ◌∷◌, ◌++◌, map, flat_map, take, slice_get, Some, None, refl, sym, ap, ◌∙◌, subst}
+use Rattle.std.proofs.Common.{◌≡◌, inl, inr, ℕ, ◌<◌, ◌≤◌, length, get_or, arith, suc, zero, List, [], ◌∷◌, ◌++◌, map}
+use Rattle.std.proofs.Common.{flat_map, take, slice_get, Some, None, refl, sym, ap, ◌∙◌, subst}
 use Rattle.std.proofs.lemmas.List.{map-append}
 use Rattle.sitecertificate.specs.RecordUses.{IsAmong}
 use Rattle.sitecertificate.proofs.UsedLemmas.{by_cases, among_left, among_right, among_either}

@@ -46,7 +46,8 @@ record AreJudgedRight (site : Site) (ms : List Module) (outs : List Evaluated) (
   uses : found ≡ each_once (certificate ms)
   certain : certified_files modules ≡ map file_of (certified ms)
 
-judged_right : Laws → (site : Site) (es : List Evaluation) (outs : List Evaluated) (modules : List AuditedModule) (uses : List UsedVariable) → AreEvaluated site outs → AreEvaluations es outs → AreStandings es modules uses
+judged_right : Laws → (site : Site) (es : List Evaluation) (outs : List Evaluated) (modules : List AuditedModule)
+    (uses : List UsedVariable) → AreEvaluated site outs → AreEvaluations es outs → AreStandings es modules uses
     → AreJudgedRight site (plain_in outs) outs modules uses
 judged_right laws site es outs modules uses all h s =
     let shown : List Shown = s.by_themselves.shown in

@@ -1,5 +1,6 @@
 -- Where a walk failed.
-use Rattle.std.proofs.Common.{◌≡◌, ◌||◌, ◌<◌, ℕ, Bool, true, false, List, [], ◌∷◌, length, get_or, map, Option, Result, Ok, Err, IfErr, refl, subst, inl, inr}
+use Rattle.std.proofs.Common.{◌≡◌, ◌||◌, ◌<◌, ℕ, Bool, true, false, List, [], ◌∷◌, length, get_or, map, Option, Result}
+use Rattle.std.proofs.Common.{Ok, Err, IfErr, refl, subst, inl, inr}
 use Rattle.std.specs.Prelude.{bytes_eq}
 use Rattle.std.specs.List.{list_any}
 use Rattle.std.proofs.lemmas.Slice.Eq.{bytes_eq-Decides}
@@ -8,7 +9,7 @@ use Rattle.filetree.specs.Agreement.{Files, Listings, FailsAt, FailsIf}
 use Rattle.filetree.specs.Causes.{Cause, memory, device, because}
 use Rattle.filetree.specs.Modulefiles.{directories}
 use Rattle.modulefile.specs.Files as files
-use Rattle.modulerun.specs.declared.run.Ran.{Ran}
+use Rattle.modulerun.specs.declared.run.FileRun.{FileRun}
 use Rattle.requests.specs.Reasons.{RequestReason}
 use Rattle.search.specs.DefaultFiles.{DefaultFileResult}
 use Rattle.search.specs.ListingEntries.{name_of}
@@ -25,7 +26,7 @@ use Rattle.siteaudit.proofs.AmongSites.{among_at, in_map}
 -- ---- the file of a module
 
 -- what a script comes to is no failure of the device
-pub comes_unfailed : (o : Result Ran Refusal) (Outcomes : Result files.Ran RequestReason → Type 0) (before now : List ℕ → Bool) (W : List ℕ → Type 0) → ComesTo o Outcomes → now ≡ before
+pub comes_unfailed : (o : Result FileRun Refusal) (Outcomes : Result files.Ran RequestReason → Type 0) (before now : List ℕ → Bool) (W : List ℕ → Type 0) → ComesTo o Outcomes → now ≡ before
     → FailsAt is_failure before now o W
 comes_unfailed (Ok ran) Outcomes before now W h same = same
 comes_unfailed (Err refusal) Outcomes before now W h same = unfailed refusal (λ reason. Outcomes (Err reason)) before now W h same
@@ -36,13 +37,13 @@ kept_cause device h = absurd (cc)
 kept_cause (because reason) h = refl
 
 -- an outcome that isn't given up is none either
-pub kept_unfailed : (o : Result Ran Refusal) (before now : List ℕ → Bool) (W : List ℕ → Type 0) → IfErr o (λ refusal. is_given_up (cause_of refusal) ≡ false) → FailsAt is_failure before now o W
+pub kept_unfailed : (o : Result FileRun Refusal) (before now : List ℕ → Bool) (W : List ℕ → Type 0) → IfErr o (λ refusal. is_given_up (cause_of refusal) ≡ false) → FailsAt is_failure before now o W
     → now ≡ before
 kept_unfailed (Ok ran) before now W kept h = h
 kept_unfailed (Err refusal) before now W kept h = subst (λ t. FailsIf t before now W) (kept_cause (cause_of refusal) kept) h
 
 -- and one that is given up failed where the evaluation did
-pub given_up_failed : (o : Result Ran Refusal) (refusal : Refusal) (before now : List ℕ → Bool) (W : List ℕ → Type 0) → o ≡ Err refusal → FailsAt is_failure before now o W
+pub given_up_failed : (o : Result FileRun Refusal) (refusal : Refusal) (before now : List ℕ → Bool) (W : List ℕ → Type 0) → o ≡ Err refusal → FailsAt is_failure before now o W
     → FailsIf (is_failure refusal) before now W
 given_up_failed o refusal before now W e h = subst (λ r. FailsAt is_failure before now r W) e h
 

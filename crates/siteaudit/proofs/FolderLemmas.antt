@@ -1,5 +1,7 @@
 -- Names in folders, and paths below directories.
-use Rattle.std.proofs.Common.{Some, None, option_to_list, Option, Bor, subst, ◌+◌, ◌≡◌, ◌≢◌, ◌⊎◌, inl, inr, ℕ, ◌<◌, ◌≤◌, ◌==◌, Bool, true, false, not, ◌||◌, List, [], ◌∷◌, ◌++◌, length, get_or, take, drop, append_assoc, refl, sym, ap, ◌∙◌, arith, suc, string_bytes, map, cond, take_all}
+use Rattle.std.proofs.Common.{Some, None, option_to_list, Option, Bor, subst, ◌+◌, ◌≡◌, ◌≢◌, ◌⊎◌, inl, inr, ℕ, ◌<◌, ◌≤◌}
+use Rattle.std.proofs.Common.{◌==◌, Bool, true, false, not, ◌||◌, List, [], ◌∷◌, ◌++◌, length, get_or, take, drop}
+use Rattle.std.proofs.Common.{append_assoc, refl, sym, ap, ◌∙◌, arith, suc, string_bytes, map, cond, take_all}
 use Rattle.std.specs.List.{list_any}
 use Rattle.std.specs.Str.{NoCharPasses}
 use Rattle.std.specs.Str.Pattern.{RFindsChar, FindsTextSuffix, FindsCharSuffix, StripsSuffix}
@@ -138,7 +140,9 @@ inserted_folder eq same ks new k e folder =
         (among_one folder (folder_view k) (map folder_view ks))
 
 -- the folder of one module more
-pub added_folder : (ks new : List Folder) (k : Folder) (name path : Text) → ((folder : FolderText) → IsAmong folder (map folder_view new) ↔ (IsAmong folder (map folder_view ks) ⊎ (folder ≡ folder_view k)))
+pub added_folder : (ks new : List Folder) (k : Folder) (name path : Text)
+    → ((folder : FolderText) → IsAmong folder (map folder_view new) ↔
+    (IsAmong folder (map folder_view ks) ⊎ (folder ≡ folder_view k)))
     → ((folder : FolderText) → (Some (folder_view k) ≡ Some folder) ↔ HoldsModule folder name path)
     → (folder : FolderText) → IsAmong folder (map folder_view new) ↔ (IsAmong folder (map folder_view ks) ⊎ HoldsModule folder name path)
 added_folder ks new k name path h w folder = (
@@ -174,7 +178,8 @@ same_view a b h =
     λ i. (d i, n i)
 
 -- all modules
-pub folders_whole : (folders : List Folder) (ks : List Folder) (modules : List Evaluation) (i : ℕ) → length modules ≤ i → ((folder : FolderText) → IsAmong folder (map folder_view ks) ↔ HoldsOneOf (take i modules) folder)
+pub folders_whole : (folders : List Folder) (ks : List Folder) (modules : List Evaluation) (i : ℕ) → length modules ≤ i
+    → ((folder : FolderText) → IsAmong folder (map folder_view ks) ↔ HoldsOneOf (take i modules) folder)
     → folders ≡ ks → (folder : FolderText) → IsAmong folder (map folder_view folders) ↔ HoldsOneOf modules folder
 folders_whole folders ks modules i l h e folder =
     let all : take i modules ≡ modules = take_all i modules l in
@@ -211,9 +216,11 @@ bad_turn IsBad fs f old answer path is before = (
     to_option : (o : Option Text) → o ≡ Some path → IsAmong path (option_to_list o)
     to_option o e = subst (λ (x : Option Text). IsAmong path (option_to_list x)) (sym e) (inl refl)
 
-pub bad_more : (IsBad : FolderText → Text → Type 0) (folders : List Folder) (i : ℕ) (folder : Folder) (old new : List Text) (answer : Option Text) (path : Text) → i < length folders → folder ≡ get_or folders i folder
+pub bad_more : (IsBad : FolderText → Text → Type 0) (folders : List Folder) (i : ℕ) (folder : Folder)
+    (old new : List Text) (answer : Option Text) (path : Text) → i < length folders → folder ≡ get_or folders i folder
     → ((answer ≡ Some path) ↔ IsBad (folder_view folder) path) → new ≡ old ++ option_to_list answer
-    → (IsAmong path old ↔ ((k : FolderText) × IsAmong k (map folder_view (take i folders)) × IsBad k path)) → IsAmong path new ↔ ((k : FolderText) × IsAmong k (map folder_view (take (i + 1) folders)) × IsBad k path)
+    → (IsAmong path old ↔ ((k : FolderText) × IsAmong k (map folder_view (take i folders)) × IsBad k path))
+    → IsAmong path new ↔ ((k : FolderText) × IsAmong k (map folder_view (take (i + 1) folders)) × IsBad k path)
 bad_more IsBad folders i folder old new answer path l e is pushed before =
     let turned = bad_turn IsBad (map folder_view (take i folders)) (folder_view folder) old answer path is before in
     let fs : map folder_view (take (i + 1) folders) ≡ map folder_view (take i folders) ++ folder_view folder ∷ [] =
@@ -222,7 +229,8 @@ bad_more IsBad folders i folder old new answer path l e is pushed before =
     (subst (λ (ps : List Text). IsAmong path ps ↔ ((k : FolderText) × IsAmong k (map folder_view (take i folders) ++ folder_view folder ∷ []) × IsBad k path)) (sym pushed) turned)
 
 pub bad_whole : (IsBad : FolderText → Text → Type 0) (folders : List Folder) (i : ℕ) (paths : List Text) (path : Text) → length folders ≤ i
-    → (IsAmong path paths ↔ ((k : FolderText) × IsAmong k (map folder_view (take i folders)) × IsBad k path)) → IsAmong path paths ↔ ((k : FolderText) × IsAmong k (map folder_view folders) × IsBad k path)
+    → (IsAmong path paths ↔ ((k : FolderText) × IsAmong k (map folder_view (take i folders)) × IsBad k path))
+    → IsAmong path paths ↔ ((k : FolderText) × IsAmong k (map folder_view folders) × IsBad k path)
 bad_whole IsBad folders i paths path l h =
     let all : take i folders ≡ folders = take_all i folders l in
     subst (λ (fs : List Folder). IsAmong path paths ↔ ((k : FolderText) × IsAmong k (map folder_view fs) × IsBad k path)) all h

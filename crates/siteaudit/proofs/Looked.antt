@@ -4,13 +4,13 @@ use Rattle.envvars.specs.Texts.{Text}
 use Rattle.sitelaws.specs.Sites.{Site, Evaluated, AreEvaluated}
 use Rattle.sitelaws.specs.Laws.{ModulesFound}
 use Rattle.siteaudit.specs.Walks.{IsWalkAnswer}
-use Rattle.siteaudit.specs.declared.walk.Walk.{Walk}
+use Rattle.siteaudit.specs.declared.walk.SiteWalk.{SiteWalk}
 use Rattle.siteaudit.specs.Folders.{EvaluatedLookAt}
 use Rattle.siteaudit.specs.Looked.{AuditLooksAt}
 use Rattle.siteaudit.proofs.BadFiles.{folder_there}
 
 -- those are folders of the site
-pub of_folders : ModulesFound → (site : Site) (walk : Walk) (at : Text) → IsWalkAnswer site walk → EvaluatedLookAt site.limits site.files site.listings walk.evaluations.items at
+pub of_folders : ModulesFound → (site : Site) (walk : SiteWalk) (at : Text) → IsWalkAnswer site walk → EvaluatedLookAt site.limits site.files site.listings walk.evaluations.items at
     → AuditLooksAt site at
 of_folders found site walk at (outs, w, h) (folder, holds, searched) =
     let all : AreEvaluated site outs = record { modules = λ m. found site _ (map (λ (o : Evaluated). o.0) outs) w.directories w.modules m; evaluated = w.evaluated } in

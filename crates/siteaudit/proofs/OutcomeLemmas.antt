@@ -10,7 +10,7 @@ use Rattle.filetree.specs.Modulefiles.{modulefile}
 use Rattle.tclrules.specs.declared.limits.Limits.{Limits}
 use Rattle.modulefile.specs.Files as runs
 use Rattle.modulefile.specs.Files.{RunsFile}
-use Rattle.modulerun.specs.declared.run.Ran.{Ran}
+use Rattle.modulerun.specs.declared.run.FileRun.{FileRun}
 use Rattle.modulerun.specs.Running.{ran_view}
 use Rattle.requests.specs.Reasons.{RequestReason, file_refused}
 use Rattle.requests.specs.Refusals.{RefusedAs}
@@ -51,7 +51,7 @@ module _ (limits : Limits) (env : Environment) (names : List Text) (loaded : Has
   unread files listings r read = let l = loaded_list (loaded_in env) names loaded in (Ok l.0, l.1, (Err r, read, refl))
 
   -- what a script comes to, over the tree
-  pub script_comes : (agrees : Files → Listings → Type 0) (failed : Type 0) (text : Text) (o : Result Ran Refusal) → InEachPair agrees (λ files listings. ReadsScript files listings (Ok text))
+  pub script_comes : (agrees : Files → Listings → Type 0) (failed : Type 0) (text : Text) (o : Result FileRun Refusal) → InEachPair agrees (λ files listings. ReadsScript files listings (Ok text))
       → ComesTo o (RefusedAs file_refused (RunsFile limits (site_context m.name m.path names env) text))
       → ComesToOverTree agrees failed o (λ files listings. EvaluatesTo (site_of limits env files listings) m)
   script_comes agrees failed text (Ok ran) read h = (h.0, λ files listings a. evaluated files listings text (Ok (ran_view ran h.0)) (read files listings a) h.1)
@@ -80,7 +80,7 @@ by_cause device agrees failed Outcomes k h = absurd (cc)
 by_cause (because reason) agrees failed Outcomes k h = (reason, refl, h)
 
 -- an outcome that isn't given up stands for one of the definitions
-pub has_outcome : (agrees : Files → Listings → Type 0) (failed : Type 0) (Outcomes : Files → Listings → Result runs.Ran RequestReason → Type 0) (o : Result Ran Refusal)
+pub has_outcome : (agrees : Files → Listings → Type 0) (failed : Type 0) (Outcomes : Files → Listings → Result runs.Ran RequestReason → Type 0) (o : Result FileRun Refusal)
     → ComesToOverTree agrees failed o Outcomes → IfErr o (λ refusal. is_given_up (cause_of refusal) ≡ false)
     → InEachPair agrees (λ files listings. (outcome : Result runs.Ran RequestReason) × Outcomes files listings outcome × IsOutcome o outcome)
 has_outcome agrees failed Outcomes (Ok ran) h k = λ files listings a. (Ok (ran_view ran h.0), h.1 files listings a, (h.0, refl))
@@ -94,11 +94,11 @@ given_up_by device failed P k h = h
 given_up_by (because reason) failed P k h = absurd (cc)
 
 -- a refusal that is given up has its cause
-pub gives_up : (agrees : Files → Listings → Type 0) (failed : Type 0) (Outcomes : Files → Listings → Result runs.Ran RequestReason → Type 0) (o : Result Ran Refusal) (refusal : Refusal)
+pub gives_up : (agrees : Files → Listings → Type 0) (failed : Type 0) (Outcomes : Files → Listings → Result runs.Ran RequestReason → Type 0) (o : Result FileRun Refusal) (refusal : Refusal)
     → ComesToOverTree agrees failed o Outcomes → o ≡ Err refusal → is_given_up (cause_of refusal) ≡ true → GivesUp failed refusal
 gives_up agrees failed Outcomes o refusal h e k =
     given_up_by (cause_of refusal) failed (λ r. InEachPair agrees (λ files listings. Outcomes files listings (Err r))) k
-    (subst (λ (x : Result Ran Refusal). ComesToOverTree agrees failed x Outcomes) e h)
+    (subst (λ (x : Result FileRun Refusal). ComesToOverTree agrees failed x Outcomes) e h)
 
 -- a device that failed in a part failed in the whole
 pub gives_up_later : (failed before : Type 0) (refusal : Refusal) → (failed → before) → GivesUp failed refusal → GivesUp before refusal

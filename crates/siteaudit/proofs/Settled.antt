@@ -1,5 +1,6 @@
 -- How modules stand by what each shows by itself, and by what is answered of clashes.
-use Rattle.std.proofs.Common.{◌≡◌, inl, inr, Bool, true, false, cond, not, ◌&&◌, List, [], ◌∷◌, ◌++◌, map, filter, find, Option, Some, None, Result, Ok, Err, refl, ap, sym, ◌∙◌, subst}
+use Rattle.std.proofs.Common.{◌≡◌, inl, inr, Bool, true, false, cond, not, ◌&&◌, List, [], ◌∷◌, ◌++◌, map, filter, find}
+use Rattle.std.proofs.Common.{Option, Some, None, Result, Ok, Err, refl, ap, sym, ◌∙◌, subst}
 use Rattle.std.specs.Prelude.{filter_map, flat_map}
 use Rattle.std.specs.List.{list_all, cons_option, AllByRecursion}
 use Rattle.std.proofs.lemmas.Bool.{false≢true, and_parts, and_from}
@@ -8,7 +9,7 @@ use Rattle.envvars.specs.Fields.{colon}
 use Rattle.envvars.proofs.TextLemmas.{bytes_eq-same}
 use Rattle.modulefile.specs.Files.{Ran}
 use Rattle.modulefile.specs.RecordViews.{record_view}
-use Rattle.modulerun.specs.declared.run.Ran as code
+use Rattle.modulerun.specs.declared.run.FileRun as code
 use Rattle.modulerun.specs.Running.{ran_view}
 use Rattle.modulefile.specs.Records.{Record}
 use Rattle.modulefile.specs.Moves.{Module}
@@ -16,22 +17,25 @@ use Rattle.reversal.specs.VariableUses.{VariableUse, Pathed, is_reversible}
 use Rattle.requests.specs.Reasons.{RequestReason}
 use Rattle.requests.specs.Verdicts.{plain, asked, one_way}
 use Rattle.modules.specs.declared.refusal.Refusal.{Refusal}
-use Rattle.sitecertificate.specs.RecordUses.{UsedVariable, used_by, IsAmong, modulepath, same_use, use_alike, are_in_step, is_in_step, IsInStep}
+use Rattle.sitecertificate.specs.RecordUses.{UsedVariable, used_by, IsAmong, modulepath, same_use, use_alike}
+use Rattle.sitecertificate.specs.RecordUses.{are_in_step, is_in_step, IsInStep}
 use Rattle.sitecertificate.specs.Certificates.{is_other, IsCertified, clashes_among, certified}
 use Rattle.sitecertificate.specs.Laws.{CertifiedAreExact}
 use Rattle.sitecertificate.proofs.UsedLemmas.{by_test, by_cases}
 use Rattle.sitecertificate.proofs.Exact.{all_each, filtered, in_filter}
-use Rattle.sitelaws.specs.Sites.{Site, SiteModule, file_of, with_records, EvaluatesTo, HasPlainRecords, IsOfSite, ArePlainModules, Evaluated, plain_by, plain_of}
+use Rattle.sitelaws.specs.Sites.{Site, SiteModule, file_of, with_records, EvaluatesTo, HasPlainRecords, IsOfSite}
+use Rattle.sitelaws.specs.Sites.{ArePlainModules, Evaluated, plain_by, plain_of}
 use Rattle.sitelaws.specs.Standings.{IsUsedTwice}
 use Rattle.sitecertificate.specs.ClashAnswers.{IsAnswer, AreAnswers, without_clashes}
 use Rattle.sitecertificate.specs.declared.answers.Clash.{Clash}
 use Rattle.siteaudit.specs.Walks.{IsOutcome, AreEvaluations}
 use Rattle.siteaudit.specs.declared.standing.Standing.{Standing}
 use Rattle.siteaudit.specs.declared.standing.Standing.TheVariants.{Certified, Asks, OneWay, OutOfStep, Clashes, Refused}
-use Rattle.siteaudit.specs.declared.standing.Finding.{Finding}
-use Rattle.siteaudit.specs.declared.standing.Finding.TheVariants.{Stands, InStep}
+use Rattle.siteaudit.specs.declared.standing.ModuleFinding.{ModuleFinding}
+use Rattle.siteaudit.specs.declared.standing.ModuleFinding.TheVariants.{Stands, InStep}
 use Rattle.siteaudit.specs.Audits.{StandsAs, audited_file, AllStand, is_certified, certified_files}
-use Rattle.siteaudit.specs.Findings.{IsFindingOf, IsFinding, standing_of, steps_of, evaluated_file, Shown, judged_of, steps_in, IsShown, standing_by, standing_with, answers_left, settled}
+use Rattle.siteaudit.specs.Findings.{IsFindingOf, IsFinding, standing_of, steps_of, evaluated_file, Shown, judged_of}
+use Rattle.siteaudit.specs.Findings.{steps_in, IsShown, standing_by, standing_with, answers_left, settled}
 use Rattle.siteaudit.proofs.Evaluations.{same_file}
 
 -- ---- tests
@@ -100,7 +104,7 @@ plain_with asks m rs = plain_by (cond asks asked (cond (list_all is_reversible r
 plainly : (m : SiteModule) (rs : List Record) → list_all is_reversible rs ≡ true → plain_with false m rs ≡ Some (with_records m rs)
 plainly m rs t = rw t refl
 
-step_by : (m : SiteModule) (asks : Bool) (rs : List Record) (finding : Finding) → IsFindingOf asks rs finding → (rest : List Module)
+step_by : (m : SiteModule) (asks : Bool) (rs : List Record) (finding : ModuleFinding) → IsFindingOf asks rs finding → (rest : List Module)
     → steps_of m finding ++ filter is_in_step rest ≡ filter is_in_step (cons_option (plain_with asks m rs) rest)
 step_by m asks rs (Stands Certified) f rest = absurd f
 step_by m asks rs (Stands (Asks question)) f rest = rw f refl
@@ -114,10 +118,10 @@ step_by m asks rs (InStep records) f rest =
     ∙ (kept_step (with_records m rs) rest (and_from (list_all is_reversible rs) (are_in_step (used_by rs)) f.1 f.2)
     ∙ ap (λ (o : Option Module). filter is_in_step (cons_option o rest)) (sym (plainly m rs f.1))))
 
-step_one : (m : SiteModule) (outcome : Result code.Ran Refusal) (out : Result Ran RequestReason) (finding : Finding) → IsOutcome outcome out → IsFinding outcome finding → (rest : List Module)
+step_one : (m : SiteModule) (outcome : Result code.Ran Refusal) (out : Result Ran RequestReason) (finding : ModuleFinding) → IsOutcome outcome out → IsFinding outcome finding → (rest : List Module)
     → steps_of m finding ++ filter is_in_step rest ≡ filter is_in_step (cons_option (plain_of (m, out)) rest)
 step_one m (Err refusal) out finding o f rest =
-    ap (λ (k : Finding). steps_of m k ++ filter is_in_step rest) f ∙ sym (ap (λ (x : Result Ran RequestReason). filter is_in_step (cons_option (plain_of (m, x)) rest)) o.2)
+    ap (λ (k : ModuleFinding). steps_of m k ++ filter is_in_step rest) f ∙ sym (ap (λ (x : Result Ran RequestReason). filter is_in_step (cons_option (plain_of (m, x)) rest)) o.2)
 step_one m (Ok ran) out finding o f rest =
     step_by m ran.asked (map record_view ran.records.items) finding f rest ∙ sym (ap (λ (x : Result Ran RequestReason). filter is_in_step (cons_option (plain_of (m, x)) rest)) o.1)
 
@@ -171,7 +175,8 @@ out_of_step : (ms : List Module) (m : Module) → is_in_step m ≡ false → cer
 out_of_step ms m f = rw f refl
 
 -- A module in step with its answer, before the others.
-unclashed_first : CertifiedAreExact → (all ms : List Module) (m : Module) (answers : List (Option Clash)) → IsAmong m all → is_in_step m ≡ true → AreAnswers (in_step_of all) (m ∷ in_step_of ms) answers
+unclashed_first : CertifiedAreExact → (all ms : List Module) (m : Module) (answers : List (Option Clash))
+    → IsAmong m all → is_in_step m ≡ true → AreAnswers (in_step_of all) (m ∷ in_step_of ms) answers
     → ((left : List (Option Clash)) → AreAnswers (in_step_of all) (in_step_of ms) left → without_clashes (in_step_of ms) left ≡ filter (certain_test all) ms)
     → without_clashes (in_step_of (m ∷ ms)) answers ≡ filter (certain_test all) (m ∷ ms)
 unclashed_first exact all ms m [] a t h rest = absurd h
@@ -201,7 +206,9 @@ certified_are exact ms answers h = unclashed exact ms ms answers (λ m a. a) h
 -- ---- standings
 
 -- the answers of the modules after this one
-pub left_answers : (all more : List Module) (m : SiteModule) (finding : Finding) (answers : List (Option Clash)) → AreAnswers all (steps_of m finding ++ more) answers → AreAnswers all more (answers_left (standing_of finding) answers)
+pub left_answers : (all more : List Module) (m : SiteModule) (finding : ModuleFinding) (answers : List (Option Clash))
+    → AreAnswers all (steps_of m finding ++ more) answers
+    → AreAnswers all more (answers_left (standing_of finding) answers)
 left_answers all more m (Stands standing) answers h = h
 left_answers all more m (InStep records) [] h = absurd h
 left_answers all more m (InStep records) (answer ∷ answers) h = h.1
@@ -237,7 +244,9 @@ answered site ms m rs (Some clash ∷ answers) more j p o t h =
 plain_records : (site : Site) (m : SiteModule) (ran : Ran) → EvaluatesTo site m (Ok ran) → ran.asked ≡ false → list_all is_reversible ran.records ≡ true → HasPlainRecords site m ran.records
 plain_records site m ran h f t = record { ran = ran; evaluated = h; plain = rw (f, t) refl; records = refl }
 
-stands_ran : (site : Site) (ms : List Module) (m : SiteModule) (ran : Ran) (finding : Finding) (answers : List (Option Clash)) (more : List Module) → IsJudging site ms → EvaluatesTo site m (Ok ran) → IsOfSite site m
+stands_ran : (site : Site) (ms : List Module) (m : SiteModule) (ran : Ran) (finding : ModuleFinding)
+    (answers : List (Option Clash)) (more : List Module) → IsJudging site ms → EvaluatesTo site m (Ok ran)
+    → IsOfSite site m
     → IsFindingOf ran.asked ran.records finding → AreAnswers (in_step_of ms) (steps_of m finding ++ more) answers → StandsAs site ms m (standing_with (standing_of finding) answers)
 stands_ran site ms m ran (Stands Certified) answers more j e o f h = absurd f
 stands_ran site ms m ran (Stands (Asks question)) answers more j e o f h = (ran, e, rw f refl)
@@ -251,15 +260,18 @@ stands_ran site ms m ran (InStep records) answers more j e o f h =
     answered site ms m ran.records answers more j (plain_records site m ran e f.0 f.1) o (and_from (list_all is_reversible ran.records) (are_in_step (used_by ran.records)) f.1 f.2)
     (subst (λ (l : List Record). AreAnswers (in_step_of ms) (with_records m l ∷ more) answers) f.3 h)
 
-stands_one : (site : Site) (ms : List Module) (m : SiteModule) (outcome : Result code.Ran Refusal) (out : Result Ran RequestReason) (finding : Finding) (answers : List (Option Clash)) (more : List Module)
+stands_one : (site : Site) (ms : List Module) (m : SiteModule) (outcome : Result code.Ran Refusal)
+    (out : Result Ran RequestReason) (finding : ModuleFinding) (answers : List (Option Clash)) (more : List Module)
     → IsJudging site ms → IsOutcome outcome out → IsFinding outcome finding → EvaluatesTo site m out → IsOfSite site m → AreAnswers (in_step_of ms) (steps_of m finding ++ more) answers
     → StandsAs site ms m (standing_with (standing_of finding) answers)
 stands_one site ms m (Err refusal) out finding answers more j o f e s h =
-    subst (λ (k : Finding). StandsAs site ms m (standing_with (standing_of k) answers)) (sym f) (o.0, o.1, subst (EvaluatesTo site m) o.2 e)
+    subst (λ (k : ModuleFinding). StandsAs site ms m (standing_with (standing_of k) answers)) (sym f) (o.0, o.1, subst (EvaluatesTo site m) o.2 e)
 stands_one site ms m (Ok ran) out finding answers more j o f e s h =
     stands_ran site ms m (ran_view ran o.0) finding answers more j (subst (EvaluatesTo site m) o.1 e) s f h
 
-more_answers : (all rest : List Module) (m : SiteModule) (finding : Finding) (answers : List (Option Clash)) → AreAnswers all (steps_of m finding ++ rest) answers → AreAnswers all rest (answers_left (standing_of finding) answers)
+more_answers : (all rest : List Module) (m : SiteModule) (finding : ModuleFinding) (answers : List (Option Clash))
+    → AreAnswers all (steps_of m finding ++ rest) answers
+    → AreAnswers all rest (answers_left (standing_of finding) answers)
 more_answers all rest m finding answers h = left_answers all rest m finding answers h
 
 -- each module stands so
@@ -273,7 +285,9 @@ all_stand site ms ((e, finding) ∷ shown) ((m, out) ∷ outs) answers j (one, m
     let own = each (m, out) (inl refl) in (
       stands_one site ms (evaluated_file e) e.outcome out finding answers (flat_map steps_in shown) j one.outcome right
           (subst (λ (k : SiteModule). EvaluatesTo site k out) file own.0) (subst (IsOfSite site) file own.1) a,
-      all_stand site ms shown outs (answers_left (standing_of finding) answers) j more rest (more_answers (in_step_of ms) (flat_map steps_in shown) (evaluated_file e) finding answers a) (λ o b. each o (inr b)),
+      all_stand site ms shown outs (answers_left (standing_of finding) answers) j more rest
+          (more_answers (in_step_of ms) (flat_map steps_in shown) (evaluated_file e) finding answers a)
+          (λ o b. each o (inr b)),
     )
 
 -- ---- the files of the modules

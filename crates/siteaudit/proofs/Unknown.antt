@@ -1,5 +1,6 @@
 -- The names that modules mention and that mean no module of the site.
-use Rattle.std.proofs.Common.{◌≡◌, inl, inr, Bool, true, false, List, [], ◌∷◌, map, flat_map, Result, Ok, Err, refl, ap, sym, ◌∙◌, subst, string_bytes}
+use Rattle.std.proofs.Common.{◌≡◌, inl, inr, Bool, true, false, List, [], ◌∷◌, map, flat_map, Result, Ok, Err, refl, ap}
+use Rattle.std.proofs.Common.{sym, ◌∙◌, subst, string_bytes}
 use Rattle.std.specs.List.{list_any}
 use Rattle.std.proofs.lemmas.Bool.{false≢true}
 use Rattle.modulename.specs.ModuleName.{means}
@@ -7,9 +8,10 @@ use Rattle.envvars.specs.Texts.{Text}
 use Rattle.modulefile.specs.Files.{Ran}
 use Rattle.modulefile.specs.Laws as files
 use Rattle.modulefile.specs.RecordViews.{record_view}
-use Rattle.modulerun.specs.declared.run.Ran as code
+use Rattle.modulerun.specs.declared.run.FileRun as code
 use Rattle.modulerun.specs.Running.{ran_view}
-use Rattle.modulefile.specs.Records.{Record, Set, Unset, Push, Front, Back, Remove, Conflict, Prereq, Whatis, conflict_names, prereq_groups}
+use Rattle.modulefile.specs.Records.{Record, Set, Unset, Push, Front, Back, Remove, Conflict, Prereq, Whatis}
+use Rattle.modulefile.specs.Records.{conflict_names, prereq_groups}
 use Rattle.requests.specs.Reasons.{RequestReason}
 use Rattle.modules.specs.declared.refusal.Refusal.{Refusal}
 use Rattle.sitecertificate.specs.RecordUses.{IsAmong}
@@ -129,7 +131,8 @@ Found known m rs b names = IsAmong (record { by = m; is_prereq = b; names = name
 found_later : (known : Text → Bool) (m : SiteModule) (r : Record) (rs : List Record) (b : Bool) (names : List Text) → Found known m rs b names → Found known m (r ∷ rs) b names
 found_later known m r rs b names a = among_right _ (unknown_in known m r) (flat_map (unknown_in known m) rs) a
 
-found_first : (known : Text → Bool) (m : SiteModule) (r : Record) (rs : List Record) (b : Bool) (names : List Text) → IsAmong (record { by = m; is_prereq = b; names = names }) (unknown_in known m r) → Found known m (r ∷ rs) b names
+found_first : (known : Text → Bool) (m : SiteModule) (r : Record) (rs : List Record) (b : Bool) (names : List Text)
+    → IsAmong (record { by = m; is_prereq = b; names = names }) (unknown_in known m r) → Found known m (r ∷ rs) b names
 found_first known m r rs b names a = among_left _ (unknown_in known m r) (flat_map (unknown_in known m) rs) a
 
 in_conflicts : (known : Text → Bool) (m : SiteModule) (rs : List Record) (name : Text) → IsAmong name (conflict_names rs) → list_any known (name ∷ []) ≡ false → Found known m rs false (name ∷ [])
@@ -173,7 +176,8 @@ record IsOfRan (known : Text → Bool) (m : SiteModule) (out : Result Ran Reques
   accepted : out ≡ Ok ran
   of_it : IsOf known m ran.records mention
 
-of_outcome : (known : Text → Bool) (m : SiteModule) (outcome : Result code.Ran Refusal) (out : Result Ran RequestReason) (mention : Mention) → IsOutcome outcome out → IsAmong mention (unknown_after known m outcome)
+of_outcome : (known : Text → Bool) (m : SiteModule) (outcome : Result code.Ran Refusal) (out : Result Ran RequestReason)
+    (mention : Mention) → IsOutcome outcome out → IsAmong mention (unknown_after known m outcome)
     → IsOfRan known m out mention
 of_outcome known m (Ok ran) out mention o a = record { ran = ran_view ran o.0; accepted = o.1; of_it = of_records known m (map record_view ran.records.items) mention a }
 of_outcome known m (Err refusal) out mention o a = absurd a
@@ -184,7 +188,8 @@ ok_is a b e = cc
 refused_is : (reason : RequestReason) (a : Ran) → ◌≡◌ {A = Result Ran RequestReason} (Err reason) (Ok a) → ⊥
 refused_is reason a e = cc
 
-in_outcome : (known : Text → Bool) (m : SiteModule) (outcome : Result code.Ran Refusal) (out : Result Ran RequestReason) (ran : Ran) (b : Bool) (names : List Text) → IsOutcome outcome out → out ≡ Ok ran
+in_outcome : (known : Text → Bool) (m : SiteModule) (outcome : Result code.Ran Refusal) (out : Result Ran RequestReason)
+    (ran : Ran) (b : Bool) (names : List Text) → IsOutcome outcome out → out ≡ Ok ran
     → AreMentioned ran.records b names → list_any known names ≡ false → IsAmong (record { by = m; is_prereq = b; names = names }) (unknown_after known m outcome)
 in_outcome known m (Ok done) out ran b names o e a f =
     let same : ran_view done o.0 ≡ ran = ok_is (ran_view done o.0) ran (sym o.1 ∙ e) in

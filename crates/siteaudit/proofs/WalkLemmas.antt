@@ -1,5 +1,7 @@
 -- A walk over a site, directory by directory.
-use Rattle.std.proofs.Common.{◌≡◌, inl, inr, ℕ, ◌+◌, ◌<◌, ◌≤◌, suc, Bool, true, false, cond, not, ◌&&◌, List, [], ◌∷◌, ◌++◌, map, flat_map, take, slice_get, length, get_or, Some, None, Result, Ok, Err, refl, sym, ap, ◌∙◌, subst, append-nil, append_assoc}
+use Rattle.std.proofs.Common.{◌≡◌, inl, inr, ℕ, ◌+◌, ◌<◌, ◌≤◌, suc, Bool, true, false, cond, not, ◌&&◌, List, [], ◌∷◌}
+use Rattle.std.proofs.Common.{◌++◌, map, flat_map, take, slice_get, length, get_or, Some, None, Result, Ok, Err, refl}
+use Rattle.std.proofs.Common.{sym, ap, ◌∙◌, subst, append-nil, append_assoc}
 use Rattle.std.specs.List.{list_all}
 use Rattle.std.proofs.lemmas.List.{map-append, take_more}
 use Rattle.envvars.specs.Texts.{Text}
@@ -12,7 +14,7 @@ use Rattle.modulefile.specs.Files as files
 use Rattle.modulefile.specs.Files.{RunsFile}
 use Rattle.modulefile.specs.Laws as laws
 use Rattle.modulefile.specs.RecordViews.{record_view}
-use Rattle.modulerun.specs.declared.run.Ran.{Ran}
+use Rattle.modulerun.specs.declared.run.FileRun.{FileRun}
 use Rattle.modulerun.specs.Running.{ran_view}
 use Rattle.search.specs.ListingEntries.{name_of}
 use Rattle.search.specs.declared.listing_entries.ListingEntry.{ListingEntry}
@@ -25,15 +27,20 @@ use Rattle.reversal.specs.VariableUses.{is_reversible}
 use Rattle.requests.specs.Verdicts.{Verdict, plain, asked, one_way, verdict_of}
 use Rattle.modules.specs.declared.refusal.Refusal.{Refusal}
 use Rattle.sitecertificate.specs.RecordUses.{IsAmong}
-use Rattle.sitelaws.specs.Sites.{Site, SiteModule, Evaluated, EvaluatesTo, HasPlainRecords, IsIn, IsDirectory, first, added, IsClosed, AreNamesBelow, AreModulesIn, module_below, first_directories, added_directories, over_site, plain_by}
+use Rattle.sitelaws.specs.Sites.{Site, SiteModule, Evaluated, EvaluatesTo, HasPlainRecords, IsIn, IsDirectory, first}
+use Rattle.sitelaws.specs.Sites.{added, IsClosed, AreNamesBelow, AreModulesIn, module_below, first_directories}
+use Rattle.sitelaws.specs.Sites.{added_directories, over_site, plain_by}
 use Rattle.sitelaws.specs.Laws.{DirectoriesFound}
 use Rattle.sitelaws.specs.DirectorySets.{with_directories}
 use Rattle.siteaudit.specs.declared.walk.Evaluation.{Evaluation}
-use Rattle.siteaudit.specs.Walks.{directories_by_plain, directories_of, IsWalk, IsOutcome, AreEvaluations, HasTooMany, most_directories}
-use Rattle.siteaudit.specs.WalkParts.{is_plain_ran, directories_after, directories_found, AreEvaluationsOf, IsEvaluationOf, GoesThrough}
+use Rattle.siteaudit.specs.Walks.{directories_by_plain, directories_of, IsWalk, IsOutcome, AreEvaluations, HasTooMany}
+use Rattle.siteaudit.specs.Walks.{most_directories}
+use Rattle.siteaudit.specs.WalkParts.{is_plain_ran, directories_after, directories_found, AreEvaluationsOf}
+use Rattle.siteaudit.specs.WalkParts.{IsEvaluationOf, GoesThrough}
 use Rattle.sitecertificate.proofs.UsedLemmas.{by_cases, among_left, among_right, among_either}
 use Rattle.sitelaws.proofs.DirectorySetLemmas.{with-append}
-use Rattle.siteaudit.proofs.AmongSites.{at_place, take_next, take_all_gone, in_map, of_map, flat_map_parts, in_flat_map, of_flat_map}
+use Rattle.siteaudit.proofs.AmongSites.{at_place, take_next, take_all_gone, in_map, of_map, flat_map_parts, in_flat_map}
+use Rattle.siteaudit.proofs.AmongSites.{of_flat_map}
 use Rattle.siteaudit.proofs.DirectoryLemmas.{once, begins, comes, came}
 
 -- ---- lists of evaluations
@@ -69,7 +76,8 @@ one_evaluated site ms m xs x all (outcome, h, k) =
     only p o h (inr a) = absurd a
 
 -- and one more of the entries of a listing
-pub next_evaluated : (site : Site) (dir : Text) (entries : List ListingEntry) (i : ℕ) (entry : ListingEntry) (name : Text) (old new : List Evaluation) (x : Evaluation) → i < length entries → entry ≡ get_or entries i entry
+pub next_evaluated : (site : Site) (dir : Text) (entries : List ListingEntry) (i : ℕ) (entry : ListingEntry)
+    (name : Text) (old new : List Evaluation) (x : Evaluation) → i < length entries → entry ≡ get_or entries i entry
     → name ≡ name_of entry → new ≡ old ++ x ∷ [] → AreEvaluationsOf site (map (module_below dir) (map name_of (take i entries))) old → IsEvaluationOf site (module_below dir name) x
     → AreEvaluationsOf site (map (module_below dir) (map name_of (take (i + 1) entries))) new
 next_evaluated site dir entries i entry name old new x l e named pushed before now =
@@ -78,7 +86,9 @@ next_evaluated site dir entries i entry name old new x l e named pushed before n
     let more : take (i + 1) entries ≡ take i entries ++ entry ∷ [] = take_more entries i entry l ∙ ap (λ (k : ListingEntry). take i entries ++ k ∷ []) (sym e) in
     let modules : map (module_below dir) (map name_of (take (i + 1) entries)) ≡ map (module_below dir) (map name_of (take i entries)) ++ module_below dir name ∷ [] =
     seen (take (i + 1) entries) ∙ (ap (map view) more ∙ (map-append view (take i entries) (entry ∷ [])
-    ∙ ap (λ (ms : List SiteModule). ms ++ view entry ∷ []) (sym (seen (take i entries))) ∙ ap (λ (n : Text). map (module_below dir) (map name_of (take i entries)) ++ module_below dir n ∷ []) (sym named))) in
+    ∙ ap (λ (ms : List SiteModule). ms ++ view entry ∷ []) (sym (seen (take i entries)))
+    ∙ ap (λ (n : Text). map (module_below dir) (map name_of (take i entries)) ++ module_below dir n ∷ [])
+    (sym named))) in
     subst (λ (ms : List SiteModule). AreEvaluationsOf site ms new) (sym modules)
     (subst (λ (xs : List Evaluation). AreEvaluationsOf site (map (module_below dir) (map name_of (take i entries)) ++ module_below dir name ∷ []) xs) (sym pushed)
     (one_evaluated site (map (module_below dir) (map name_of (take i entries))) (module_below dir name) old x before now))
@@ -90,7 +100,7 @@ next_evaluated site dir entries i entry name old new x l e named pushed before n
 -- ---- the directories that evaluated modules add
 
 -- a file that asked nothing is plain by its records
-pub asks_nothing : (ran : Ran) (b : Bool) → ran.asked ≡ false → b ≡ list_all is_reversible (map record_view ran.records.items) → b ≡ is_plain_ran ran
+pub asks_nothing : (ran : FileRun) (b : Bool) → ran.asked ≡ false → b ≡ list_all is_reversible (map record_view ran.records.items) → b ≡ is_plain_ran ran
 asks_nothing ran b quiet same = same ∙ ap (λ (a : Bool). not a && list_all is_reversible (map record_view ran.records.items)) (sym quiet)
 
 by_tests : (ran : files.Ran) (m : SiteModule) (a b : Bool)
@@ -100,7 +110,7 @@ by_tests ran m true false = refl
 by_tests ran m false true = refl
 by_tests ran m false false = refl
 
-found_of : (m : SiteModule) (o : Result Ran Refusal) (p : Result files.Ran RequestReason) → IsOutcome o p → directories_after o ≡ directories_of (m, p)
+found_of : (m : SiteModule) (o : Result FileRun Refusal) (p : Result files.Ran RequestReason) → IsOutcome o p → directories_after o ≡ directories_of (m, p)
 found_of m (Ok ran) p (e, same) =
     sym (ap (λ (q : Result files.Ran RequestReason). directories_of (m, q)) same ∙ by_tests (ran_view ran e) m ran.asked (list_all is_reversible (map record_view ran.records.items)))
 found_of m (Err refusal) p (reason, because, same) = sym (ap (λ (q : Result files.Ran RequestReason). directories_of (m, q)) same)
@@ -159,7 +169,9 @@ by_verdict d asked m rs a = absurd a
 by_verdict d one_way m rs a = absurd a
 
 -- a module that adds a directory is plain
-is_plain_one : (site : Site) (d : Text) (m : SiteModule) (o : Result files.Ran RequestReason) → EvaluatesTo site m o → IsAmong d (directories_of (m, o)) → (rs : List Record) × HasPlainRecords site m rs × IsAmong d (added_directories rs)
+is_plain_one : (site : Site) (d : Text) (m : SiteModule) (o : Result files.Ran RequestReason) → EvaluatesTo site m o
+    → IsAmong d (directories_of (m, o)) → (rs : List Record) × HasPlainRecords site m rs
+    × IsAmong d (added_directories rs)
 is_plain_one site d m (Err reason) h a = absurd a
 is_plain_one site d m (Ok ran) h a =
     let v = by_verdict d (verdict_of ran) m ran.records a in
@@ -231,7 +243,8 @@ module _ (site : Site) (place : ℕ) (dirs last : List Text) (evaluations now : 
       let i = of_flat_map directories_of d through.evaluated.2.outcomes a in
       let h : EvaluatesTo site i.0.0 i.0.1 = through.evaluated.2.evaluated i.0 i.1 in
       let p = is_plain_one site d i.0.0 i.0.1 h i.2 in
-      let among : IsAmong i.0.0 (map (module_below dir) through.evaluated.0) = subst (IsAmong i.0.0) through.evaluated.2.modules (in_map (λ (o : Evaluated). o.0) i.0 through.evaluated.2.outcomes i.1) in
+      let among : IsAmong i.0.0 (map (module_below dir) through.evaluated.0) = subst (IsAmong i.0.0)
+      through.evaluated.2.modules (in_map (λ (o : Evaluated). o.0) i.0 through.evaluated.2.outcomes i.1) in
       added i.0.0 p.0 (walks_on site place dirs evaluations dir w at) (in_directory site dir through.evaluated.0 i.0.0 through.evaluated.1 among) p.1 p.2
 
   -- one directory more
@@ -256,7 +269,9 @@ module _ (site : Site) (place : ℕ) (dirs : List Text) (evaluations : List Eval
       let begin = first_directories site in
       let more = flat_map directories_of w.outcomes in
       let into : (d : Text) → IsAmong d (begin ++ more) → IsAmong d dirs = λ d a. subst (IsAmong d) (sym w.order) (comes d [] (begin ++ more) a) in
-      let modules : AreModulesIn site dirs (map (λ (o : Evaluated). o.0) w.outcomes) = subst (λ (ds : List Text). AreModulesIn site ds (map (λ (o : Evaluated). o.0) w.outcomes)) (take_all_gone place dirs gone) w.modules in
+      let modules : AreModulesIn site dirs (map (λ (o : Evaluated). o.0) w.outcomes) = subst
+      (λ (ds : List Text). AreModulesIn site ds (map (λ (o : Evaluated). o.0) w.outcomes))
+      (take_all_gone place dirs gone) w.modules in
       record {
         begins = λ d a. into d (among_left d begin more a);
         adds = λ from d m rs there in_it plain a.
@@ -266,7 +281,8 @@ module _ (site : Site) (place : ℕ) (dirs : List Text) (evaluations : List Eval
       }
 
   -- at its end
-  pub walk_ends : laws.OneOutcome → DirectoriesFound → length dirs ≤ most_directories → slice_get dirs place ≡ None → (outcomes : List Evaluated) × IsWalk site dirs outcomes × AreEvaluations evaluations outcomes
+  pub walk_ends : laws.OneOutcome → DirectoriesFound → length dirs ≤ most_directories → slice_get dirs place ≡ None
+      → (outcomes : List Evaluated) × IsWalk site dirs outcomes × AreEvaluations evaluations outcomes
   walk_ends one law within gone = (
     w.outcomes,
     record {

@@ -20,7 +20,8 @@ use Rattle.sitecertificate.specs.Certificates.{certificate, AgreesWith}
 use Rattle.sitecertificate.specs.UseViews.{use_view, used_view}
 use Rattle.sitecertificate.specs.Disagreements.{Disagreement, IsDisagreement}
 use Rattle.sitecertificate.specs.DisagreementViews.{disagreement_view}
-use Rattle.sitelaws.specs.Sites.{Site, SiteModule, file_of, EvaluatesTo, IsDirectory, IsOfSite, ArePlainModules, AreDirectories, AreModulesIn}
+use Rattle.sitelaws.specs.Sites.{Site, SiteModule, file_of, EvaluatesTo, IsDirectory, IsOfSite, ArePlainModules}
+use Rattle.sitelaws.specs.Sites.{AreDirectories, AreModulesIn}
 use Rattle.sitelaws.specs.Standings as standings
 use Rattle.sitelaws.specs.Standings.{HasStanding}
 use Rattle.sitelaws.specs.Laws.{CertificateHolds}
@@ -112,13 +113,14 @@ pub record IsUnknown (site : Site) (mention : Mention) : Type 0 where
   pub ran : Ran
   pub evaluated : EvaluatesTo site mention.by (Ok ran)
   pub mentioned : AreMentioned ran.records mention.is_prereq mention.names
-  pub unknown : (name : Text) (m : SiteModule) → IsAmong name mention.names → IsOfSite site m → means name m.name ≡ false
+  pub unknown : (name : Text) (m : SiteModule) → IsAmong name mention.names → IsOfSite site m
+      → means name m.name ≡ false
 
 -- ---- the whole
 
 -- What was found is an audit of the site. It has each module in each directory, in their order, with how it stands; the
--- certificate of its certified modules, each use once; each bad default file; the names that mean no module; and where the environment
--- at hand doesn't agree with the certificate, and why.
+-- certificate of its certified modules, each use once; each bad default file; the names that mean no module; and where
+-- the environment at hand doesn't agree with the certificate, and why.
 pub record IsAudit (site : Site) (found : SiteAudit) : Type 0 where
   pub plain : List Module
   pub plain_modules : ArePlainModules site plain

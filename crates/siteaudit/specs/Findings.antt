@@ -1,16 +1,18 @@
 -- What each module of a site shows by itself, and what the answers about clashes make of it: for this crate's own
 -- contracts alone.
-use Rattle.std.specs.Prelude.{◌≡◌, Bool, true, false, List, [], ◌∷◌, ◌++◌, map, flat_map, Option, Some, None, Result, Ok, Err, string_bytes}
+use Rattle.std.specs.Prelude.{◌≡◌, Bool, true, false, List, [], ◌∷◌, ◌++◌, map, flat_map, Option, Some, None, Result}
+use Rattle.std.specs.Prelude.{Ok, Err, string_bytes}
 use Rattle.std.specs.List.{list_all, AllByRecursion}
 use Rattle.envvars.specs.Fields.{colon}
 use Rattle.modulefile.specs.RecordViews.{record_view}
-use Rattle.modulerun.specs.declared.run.Ran.{Ran}
+use Rattle.modulerun.specs.declared.run.FileRun.{FileRun}
 use Rattle.modulefile.specs.Records.{Record}
 use Rattle.modulefile.specs.Moves.{Module}
 use Rattle.reversal.specs.VariableUses.{Pathed, is_reversible}
 use Rattle.modules.specs.MoveViews.{module_view}
 use Rattle.modules.specs.declared.refusal.Refusal.{Refusal}
-use Rattle.sitecertificate.specs.RecordUses.{UsedVariable, used_by, used_by_modules, IsAmong, modulepath, same_use, are_in_step}
+use Rattle.sitecertificate.specs.RecordUses.{UsedVariable, used_by, used_by_modules, IsAmong, modulepath, same_use}
+use Rattle.sitecertificate.specs.RecordUses.{are_in_step}
 use Rattle.sitecertificate.specs.UseViews.{use_view}
 use Rattle.sitelaws.specs.Sites.{SiteModule, with_records}
 use Rattle.sitelaws.specs.Standings.{IsFirstOneWay, IsUsedTwice}
@@ -21,10 +23,10 @@ use Rattle.siteaudit.specs.declared.walk.Evaluation.{Evaluation}
 use Rattle.siteaudit.specs.declared.standing.UnlikeUses.{UnlikeUses}
 use Rattle.siteaudit.specs.declared.standing.Standing.{Standing}
 use Rattle.siteaudit.specs.declared.standing.Standing.TheVariants.{Certified, Asks, OneWay, OutOfStep, Clashes, Refused}
-use Rattle.siteaudit.specs.declared.standing.Finding.{Finding}
-use Rattle.siteaudit.specs.declared.standing.Finding.TheVariants.{Stands, InStep}
-use Rattle.siteaudit.specs.declared.judgement.Judged.{Judged}
-use Rattle.siteaudit.specs.declared.judgement.Judgement.{Judgement}
+use Rattle.siteaudit.specs.declared.standing.ModuleFinding.{ModuleFinding}
+use Rattle.siteaudit.specs.declared.standing.ModuleFinding.TheVariants.{Stands, InStep}
+use Rattle.siteaudit.specs.declared.judgement.JudgedModule.{JudgedModule}
+use Rattle.siteaudit.specs.declared.judgement.JudgedSite.{JudgedSite}
 use Rattle.siteaudit.specs.declared.auditing.AuditedModule.{AuditedModule}
 
 -- ---- one module
@@ -47,24 +49,24 @@ IsDecided asked rs (Clashes clash) = ⊥
 IsDecided asked rs (Refused refusal) = ⊥
 
 -- what a module with these records shows by itself
-abbrev pub IsFindingOf : Bool → List Record → Finding → Type 0
+abbrev pub IsFindingOf : Bool → List Record → ModuleFinding → Type 0
 IsFindingOf asked rs (Stands standing) = IsDecided asked rs standing
 IsFindingOf asked rs (InStep records) =
     (asked ≡ false) × (list_all is_reversible rs ≡ true) × (are_in_step (used_by rs) ≡ true)
     × (map record_view records.items ≡ rs)
 
 -- what the outcome of its evaluation shows
-abbrev pub IsFinding : Result Ran Refusal → Finding → Type 0
+abbrev pub IsFinding : Result FileRun Refusal → ModuleFinding → Type 0
 IsFinding (Ok ran) finding = IsFindingOf ran.asked (map record_view ran.records.items) finding
 IsFinding (Err refusal) finding = finding ≡ Stands (Refused refusal)
 
 -- its standing, unless others decide
-abbrev pub standing_of : Finding → Option Standing
+abbrev pub standing_of : ModuleFinding → Option Standing
 standing_of (Stands standing) = Some standing
 standing_of (InStep records) = None
 
 -- the module with its records, where others decide
-abbrev pub steps_of : SiteModule → Finding → List Module
+abbrev pub steps_of : SiteModule → ModuleFinding → List Module
 steps_of m (Stands standing) = []
 steps_of m (InStep records) = with_records m (map record_view records.items) ∷ []
 
@@ -76,10 +78,10 @@ evaluated_file e = record { name = string_bytes e.name; path = string_bytes e.pa
 
 -- an evaluation, and what it shows
 abbrev pub Shown : Type 0
-Shown = Evaluation × Finding
+Shown = Evaluation × ModuleFinding
 
 -- what is kept of it
-abbrev pub judged_of : Shown → Judged
+abbrev pub judged_of : Shown → JudgedModule
 judged_of (e, finding) = record { name = e.name; path = e.path; standing = standing_of finding }
 
 -- the module, where it is plain and in step
@@ -91,7 +93,7 @@ abbrev pub IsShown : Shown → Type 0
 IsShown (e, finding) = IsFinding e.outcome finding
 
 -- Each module of some evaluations is judged by itself, in their order; and these are the plain ones in step.
-pub record AreJudged (evaluations : List Evaluation) (judged : List Judged) (in_step : List Module) : Type 0 where
+pub record AreJudged (evaluations : List Evaluation) (judged : List JudgedModule) (in_step : List Module) : Type 0 where
   pub shown : List Shown
   pub evaluated : map (λ s. s.0) shown ≡ evaluations
   pub right : AllByRecursion IsShown shown
@@ -99,8 +101,8 @@ pub record AreJudged (evaluations : List Evaluation) (judged : List Judged) (in_
   pub steps : in_step ≡ flat_map steps_in shown
 
 -- one module more is judged by itself
-pub record AddsJudged (evaluation : Evaluation) (old new : Judgement) : Type 0 where
-  pub finding : Finding
+pub record AddsJudged (evaluation : Evaluation) (old new : JudgedSite) : Type 0 where
+  pub finding : ModuleFinding
   pub right : IsFinding evaluation.outcome finding
   pub kept : new.judged.items ≡ old.judged.items ++ judged_of (evaluation, finding) ∷ []
   pub steps : map module_view new.in_step.items
@@ -130,12 +132,12 @@ answers_left (Some standing) answers = answers
 answers_left None answers = answers_after answers
 
 -- the module with its standing
-abbrev pub module_with : Judged → List (Option Clash) → AuditedModule
+abbrev pub module_with : JudgedModule → List (Option Clash) → AuditedModule
 module_with judged answers =
     record { name = judged.name; path = judged.path; standing = standing_with judged.standing answers }
 
 -- The modules with their standings: those for whom others decide have the answers, in their order.
-abbrev pub settled : List Judged → List (Option Clash) → List AuditedModule
+abbrev pub settled : List JudgedModule → List (Option Clash) → List AuditedModule
 settled [] answers = []
 settled (judged ∷ rest) answers = module_with judged answers ∷ settled rest (answers_left judged.standing answers)
 
@@ -143,7 +145,7 @@ settled (judged ∷ rest) answers = module_with judged answers ∷ settled rest 
 -- shows by itself, and by what is answered of the clashes of those that are plain and in step.
 pub record AreStandings (evaluations : List Evaluation) (modules : List AuditedModule) (uses : List UsedVariable)
     : Type 0 where
-  pub judged : List Judged
+  pub judged : List JudgedModule
   pub in_step : List Module
   pub answers : List (Option Clash)
   pub by_themselves : AreJudged evaluations judged in_step

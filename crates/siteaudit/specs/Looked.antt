@@ -1,5 +1,5 @@
--- Where an audit of a site looks (own): the paths of the files and directories that it reads or lists on its way. No failure
--- of the device at another path can end it.
+-- Where an audit of a site looks (own): the paths of the files and directories that it reads or lists on its way. No
+-- failure of the device at another path can end it.
 use Rattle.std.specs.Prelude.{◌⊎◌}
 use Rattle.envvars.specs.Texts.{Text}
 use Rattle.lookup.specs.DefaultFileResults.{HasResult}
@@ -16,7 +16,7 @@ pub record FolderLooksAt (site : Site) (at : Text) : Type 0 where
   pub module_there : HasModule site.files site.listings dir folder
   pub searched : LooksAt (HasResult site.limits) site.files site.listings dir folder at
 
--- An audit of the site looks at this path: the walk does, or the search for a folder, by which a fault in its default file
--- is found.
+-- An audit of the site looks at this path: the walk does, or the search for a folder, by which a fault in its default
+-- file is found.
 abbrev pub AuditLooksAt : Site → Text → Type 0
 AuditLooksAt site at = WalkLooksAt site at ⊎ FolderLooksAt site at

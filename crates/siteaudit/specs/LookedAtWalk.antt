@@ -1,5 +1,5 @@
--- Where a walk over a site looks (own): the paths of the files and directories that it reads or lists on its way. No failure
--- of the device at another path can end it.
+-- Where a walk over a site looks (own): the paths of the files and directories that it reads or lists on its way. No
+-- failure of the device at another path can end it.
 use Rattle.std.specs.Prelude.{Bool, false}
 use Rattle.envvars.specs.Texts.{Text}
 use Rattle.lookup.specs.DefaultFileResults.{HasResult}

@@ -1,12 +1,13 @@
 -- The names that records mention, and which of them are unknown: for this crate's own contracts alone.
-use Rattle.std.specs.Prelude.{Bool, true, false, List, [], ◌∷◌, map, flat_map, if◌then◌else◌, Result, Ok, Err, string_bytes}
+use Rattle.std.specs.Prelude.{Bool, true, false, List, [], ◌∷◌, map, flat_map, if◌then◌else◌, Result, Ok, Err}
+use Rattle.std.specs.Prelude.{string_bytes}
 use Rattle.std.specs.List.{list_any}
 use Rattle.std.specs.declared.alloc.Global.{Global}
 use Rattle.std.specs.declared.string.String.{String}
 use Rattle.modulename.specs.ModuleName.{means}
 use Rattle.envvars.specs.Texts.{Text, has}
 use Rattle.modulefile.specs.RecordViews.{record_view}
-use Rattle.modulerun.specs.declared.run.Ran.{Ran}
+use Rattle.modulerun.specs.declared.run.FileRun.{FileRun}
 use Rattle.modulefile.specs.Records.{Record, Set, Unset, Push, Front, Back, Remove, Conflict, Prereq, Whatis}
 use Rattle.modules.specs.declared.refusal.Refusal.{Refusal}
 use Rattle.sitelaws.specs.Sites.{SiteModule}
@@ -40,7 +41,7 @@ unknown_in known m (Prereq names) = unknown_by known m true names
 unknown_in known m (Whatis text) = []
 
 -- what the records of an evaluation mention
-abbrev pub unknown_after : (Text → Bool) → SiteModule → Result Ran Refusal → List Mention
+abbrev pub unknown_after : (Text → Bool) → SiteModule → Result FileRun Refusal → List Mention
 unknown_after known m (Ok ran) = flat_map (unknown_in known m) (map record_view ran.records.items)
 unknown_after known m (Err refusal) = []
 

@@ -9,7 +9,7 @@ use Rattle.sitecertificate.specs.DisagreementViews.{disagreement_view}
 use Rattle.sitelaws.specs.Sites.{Site}
 use Rattle.siteaudit.specs.Walks.{IsWalkAnswer}
 use Rattle.siteaudit.specs.declared.walk.Evaluation.{Evaluation}
-use Rattle.siteaudit.specs.declared.walk.Walk.{Walk}
+use Rattle.siteaudit.specs.declared.walk.SiteWalk.{SiteWalk}
 use Rattle.siteaudit.specs.Audits.{mention_of, IsAudit, CertificateStands}
 use Rattle.siteaudit.specs.Findings.{AreStandings}
 use Rattle.siteaudit.specs.Folders.{AreBadAmong}
@@ -19,8 +19,10 @@ use Rattle.siteaudit.specs.declared.auditing.SiteAudit.{SiteAudit}
 -- What was found are the parts of an audit, by these evaluations.
 pub record AreParts (site : Site) (evaluations : List Evaluation) (found : SiteAudit) : Type 0 where
   pub standings : AreStandings evaluations found.modules.items (map used_view found.certificate.items)
-  pub bad_default_files : AreBadAmong site.limits site.files site.listings evaluations (texts_in found.bad_default_files)
-  pub unknown_names : map mention_of found.unknown_names.items ≡ flat_map (unknown_of (is_known evaluations)) evaluations
+  pub bad_default_files : AreBadAmong site.limits site.files site.listings evaluations
+      (texts_in found.bad_default_files)
+  pub unknown_names : map mention_of found.unknown_names.items ≡ flat_map (unknown_of (is_known evaluations))
+      evaluations
   pub agrees : (found.disagreements.items ≡ []) ↔ AgreesWith (map used_view found.certificate.items) site.env
   pub disagreements : (d : Disagreement) → IsAmong d (map disagreement_view found.disagreements.items)
       ↔ IsDisagreement (map used_view found.certificate.items) site.env d
@@ -28,5 +30,5 @@ pub record AreParts (site : Site) (evaluations : List Evaluation) (found : SiteA
 -- The parts, by the evaluations of a walk over a site, are an audit of the site, and its certificate stands.
 abbrev pub PartsAreAudits : Type 0
 PartsAreAudits =
-    (site : Site) (walk : Walk) (found : SiteAudit) → IsWalkAnswer site walk
+    (site : Site) (walk : SiteWalk) (found : SiteAudit) → IsWalkAnswer site walk
     → AreParts site walk.evaluations.items found → IsAudit site found × CertificateStands site found

@@ -1,5 +1,6 @@
 -- The parts of a walk over a site, for the contracts of this crate's private functions (own).
-use Rattle.std.specs.Prelude.{◌≡◌, Bool, true, false, not, ◌&&◌, List, [], ◌++◌, map, flat_map, if◌then◌else◌, Some, None, Result, Ok, Err}
+use Rattle.std.specs.Prelude.{◌≡◌, Bool, true, false, not, ◌&&◌, List, [], ◌++◌, map, flat_map, if◌then◌else◌, Some}
+use Rattle.std.specs.Prelude.{None, Result, Ok, Err}
 use Rattle.std.specs.List.{list_all}
 use Rattle.std.specs.Option.{option_map}
 use Rattle.envvars.specs.Texts.{Text}
@@ -12,7 +13,7 @@ use Rattle.filetree.specs.Causes.{Cause, Applies, memory, device, because}
 use Rattle.modulefile.specs.Answers.{FileContext}
 use Rattle.modulefile.specs.Files as files
 use Rattle.modulefile.specs.RecordViews.{record_view}
-use Rattle.modulerun.specs.declared.run.Ran.{Ran}
+use Rattle.modulerun.specs.declared.run.FileRun.{FileRun}
 use Rattle.modulerun.specs.Running.{ran_view}
 use Rattle.modulefile.specs.Effects as modes
 use Rattle.reversal.specs.VariableUses.{is_reversible}
@@ -22,7 +23,8 @@ use Rattle.modules.specs.Answers.{cause_of}
 use Rattle.modules.specs.declared.refusal.Refusal.{Refusal}
 use Rattle.sitecertificate.specs.RecordUses.{IsAmong}
 use Rattle.sitelaws.specs.DirectorySets.{with_directories}
-use Rattle.sitelaws.specs.Sites.{Site, SiteModule, Evaluated, EvaluatesTo, AreNamesBelow, added_directories, module_below}
+use Rattle.sitelaws.specs.Sites.{Site, SiteModule, Evaluated, EvaluatesTo, AreNamesBelow, added_directories}
+use Rattle.sitelaws.specs.Sites.{module_below}
 use Rattle.siteaudit.specs.Walks.{IsEvaluation, AreEvaluations}
 use Rattle.siteaudit.specs.declared.walk.Evaluation.{Evaluation}
 
@@ -46,19 +48,20 @@ site_context name path loaded e =
       before = e;
     }
 
--- What the code has of an evaluation comes to one of these outcomes, with some environment after it; or its refusal is one,
--- or has another cause.
-abbrev pub ComesTo : Result Ran Refusal → (Result files.Ran RequestReason → Type 0) → Type 0
+-- What the code has of an evaluation comes to one of these outcomes, with some environment after it; or its refusal is
+-- one, or has another cause.
+abbrev pub ComesTo : Result FileRun Refusal → (Result files.Ran RequestReason → Type 0) → Type 0
 ComesTo (Ok ran) Outcomes = (e : Environment) × Outcomes (Ok (ran_view ran e))
 ComesTo (Err refusal) Outcomes = Applies (cause_of refusal) ⊥ (λ reason. Outcomes (Err reason))
 
 -- the same over a tree
-abbrev pub ComesToOverTree : (Files → Listings → Type 0) → Type 0 → Result Ran Refusal
+abbrev pub ComesToOverTree : (Files → Listings → Type 0) → Type 0 → Result FileRun Refusal
     → (Files → Listings → Result files.Ran RequestReason → Type 0) → Type 0
 ComesToOverTree agrees failed (Ok ran) Outcomes =
     (e : Environment) × InEachPair agrees (λ files listings. Outcomes files listings (Ok (ran_view ran e)))
 ComesToOverTree agrees failed (Err refusal) Outcomes =
-    Applies (cause_of refusal) failed (λ reason. InEachPair agrees (λ files listings. Outcomes files listings (Err reason)))
+    Applies (cause_of refusal) failed (λ reason. InEachPair agrees
+    (λ files listings. Outcomes files listings (Err reason)))
 
 -- the cause says nothing of the file: memory ran out, or the device failed
 abbrev pub is_given_up : Cause RequestReason → Bool
@@ -73,7 +76,8 @@ GivesUp failed refusal = Applies (cause_of refusal) failed (λ reason. ⊥)
 -- The loaded lists can't be read: memory ran out, or they don't fit together.
 abbrev pub HasListCause : Environment → Refusal → Type 0
 HasListCause e refusal =
-    Applies (cause_of refusal) ⊥ (λ reason. (reason ≡ refused_edit (bad_edit edits.inconsistent)) × (loaded_in e ≡ None))
+    Applies (cause_of refusal) ⊥ (λ reason. (reason ≡ refused_edit (bad_edit edits.inconsistent))
+    × (loaded_in e ≡ None))
 
 -- ---- evaluated modules
 
@@ -92,16 +96,17 @@ pub record AreEvaluationsOf (site : Site) (ms : List SiteModule) (found : List E
 -- the evaluations are those of the modules below the directory
 abbrev pub AreEvaluationsBelow : Site → Text → List Evaluation → Type 0
 AreEvaluationsBelow site dir evaluations =
-    (names : List Text) × AreNamesBelow site dir names × AreEvaluationsOf site (map (module_below dir) names) evaluations
+    (names : List Text) × AreNamesBelow site dir names
+    × AreEvaluationsOf site (map (module_below dir) names) evaluations
 
 -- ---- directories
 
 -- the evaluation is that of a plain module
-abbrev pub is_plain_ran : Ran → Bool
+abbrev pub is_plain_ran : FileRun → Bool
 is_plain_ran ran = not ran.asked && list_all is_reversible (map record_view ran.records.items)
 
 -- the directories that a module adds whose evaluation leaves this, or is refused so
-abbrev pub directories_after : Result Ran Refusal → List Text
+abbrev pub directories_after : Result FileRun Refusal → List Text
 directories_after (Ok ran) = if is_plain_ran ran then added_directories (map record_view ran.records.items) else []
 directories_after (Err refusal) = []
 
@@ -110,8 +115,9 @@ abbrev pub directories_found : List Evaluation → List Text
 directories_found evaluations = flat_map (λ evaluation. directories_after evaluation.outcome) evaluations
 
 -- A walk goes through a directory: these are the directories before and after it, and the evaluations.
-pub record GoesThrough (site : Site) (dir : Text) (dirs last : List Text) (evaluations now : List Evaluation) : Type 0 where
-  pub below : List Evaluation
-  pub evaluated : AreEvaluationsBelow site dir below
-  pub found : last ≡ with_directories dirs (directories_found below)
-  pub kept : now ≡ evaluations ++ below
+pub record GoesThrough (site : Site) (dir : Text) (dirs last : List Text) (evaluations now : List Evaluation) : Type 0
+  where
+    pub below : List Evaluation
+    pub evaluated : AreEvaluationsBelow site dir below
+    pub found : last ≡ with_directories dirs (directories_found below)
+    pub kept : now ≡ evaluations ++ below

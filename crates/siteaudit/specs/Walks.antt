@@ -1,5 +1,6 @@
 -- What a walk over a site answers (own).
-use Rattle.std.specs.Prelude.{◌≡◌, ℕ, ◌<◌, ◌≤◌, true, List, [], ◌∷◌, ◌++◌, length, map, flat_map, Option, Some, None, Result, Ok, Err, string_bytes}
+use Rattle.std.specs.Prelude.{◌≡◌, ℕ, ◌<◌, ◌≤◌, true, List, [], ◌∷◌, ◌++◌, length, map, flat_map, Option, Some, None}
+use Rattle.std.specs.Prelude.{Result, Ok, Err, string_bytes}
 use Rattle.envvars.specs.Texts.{Text, texts_in}
 use Rattle.envvars.specs.Fields.{without_repeats, are_distinct}
 use Rattle.envvars.specs.Environment.{Environment}
@@ -9,7 +10,7 @@ use Rattle.tclrules.specs.declared.limits.Limits.{Limits}
 use Rattle.filetree.specs.Agreement.{Files, Listings, InEachPair}
 use Rattle.filetree.specs.Causes.{Applies, because}
 use Rattle.modulefile.specs.Files as files
-use Rattle.modulerun.specs.declared.run.Ran.{Ran}
+use Rattle.modulerun.specs.declared.run.FileRun.{FileRun}
 use Rattle.modulerun.specs.Running.{ran_view}
 use Rattle.modulefile.specs.Judgments.{bad_edit}
 use Rattle.modulefile.specs.Moves.{Module}
@@ -17,11 +18,12 @@ use Rattle.requests.specs.Reasons.{RequestReason, refused_edit}
 use Rattle.modules.specs.Answers.{cause_of}
 use Rattle.modules.specs.declared.refusal.Refusal.{Refusal}
 use Rattle.sitecertificate.specs.RecordUses.{IsAmong}
-use Rattle.sitelaws.specs.Sites.{Site, Evaluated, EvaluatesTo, first_directories, added_directories, plain_of, site_of, IsDirectory, AreDirectories, AreModulesIn}
+use Rattle.sitelaws.specs.Sites.{Site, Evaluated, EvaluatesTo, first_directories, added_directories, plain_of, site_of}
+use Rattle.sitelaws.specs.Sites.{IsDirectory, AreDirectories, AreModulesIn}
 use Rattle.siteaudit.specs.declared.fault.WalkFault.{WalkFault}
 use Rattle.siteaudit.specs.declared.fault.WalkFault.TheVariants.{Refused, TooManyDirectories}
 use Rattle.siteaudit.specs.declared.walk.Evaluation.{Evaluation}
-use Rattle.siteaudit.specs.declared.walk.Walk.{Walk}
+use Rattle.siteaudit.specs.declared.walk.SiteWalk.{SiteWalk}
 
 -- the most directories that a walk goes through
 abbrev pub most_directories : ℕ
@@ -36,9 +38,9 @@ directories_by_plain (Some m) = added_directories m.records
 abbrev pub directories_of : Evaluated → List Text
 directories_of outcome = directories_by_plain (plain_of outcome)
 
--- These directories are those of the site, each once: those of MODULEPATH, and then those that the plain modules in them
--- add, as they come; and they are no more than a walk goes through. These are the modules in them in turn, each with the
--- outcome of its evaluation.
+-- These directories are those of the site, each once: those of MODULEPATH, and then those that the plain modules in
+-- them add, as they come; and they are no more than a walk goes through. These are the modules in them in turn, each
+-- with the outcome of its evaluation.
 pub record IsWalk (site : Site) (dirs : List Text) (outcomes : List Evaluated) : Type 0 where
   pub directories : AreDirectories site dirs
   pub order : dirs ≡ without_repeats (first_directories site ++ flat_map directories_of outcomes)
@@ -49,9 +51,10 @@ pub record IsWalk (site : Site) (dirs : List Text) (outcomes : List Evaluated) :
 -- ---- what the code has for them
 
 -- What the code has of an evaluation stands for its outcome: what is left, or the reason of the refusal.
-abbrev pub IsOutcome : Result Ran Refusal → Result files.Ran RequestReason → Type 0
+abbrev pub IsOutcome : Result FileRun Refusal → Result files.Ran RequestReason → Type 0
 IsOutcome (Ok ran) outcome = (e : Environment) × (outcome ≡ Ok (ran_view ran e))
-IsOutcome (Err refusal) outcome = (reason : RequestReason) × (cause_of refusal ≡ because reason) × (outcome ≡ Err reason)
+IsOutcome (Err refusal) outcome = (reason : RequestReason) × (cause_of refusal ≡ because reason)
+    × (outcome ≡ Err reason)
 
 -- the same of a module
 pub record IsEvaluation (evaluation : Evaluation) (evaluated : Evaluated) : Type 0 where
@@ -68,7 +71,7 @@ AreEvaluations (evaluation ∷ evaluations) (outcome ∷ outcomes) =
     IsEvaluation evaluation outcome × AreEvaluations evaluations outcomes
 
 -- What is answered is a walk over the site.
-abbrev pub IsWalkAnswer : Site → Walk → Type 0
+abbrev pub IsWalkAnswer : Site → SiteWalk → Type 0
 IsWalkAnswer site found =
     (outcomes : List Evaluated) × IsWalk site (texts_in found.directories) outcomes
     × AreEvaluations found.evaluations.items outcomes
@@ -80,10 +83,11 @@ pub record HasTooMany (site : Site) : Type 0 where
   pub many : most_directories < length some
   pub directories : (dir : Text) → IsAmong dir some → IsDirectory site dir
 
--- Why there is no answer, each fault with its cause: memory ran out, which can always be; the device failed in the call;
--- the loaded lists don't fit together; or the site has too many directories.
+-- Why there is no answer, each fault with its cause: memory ran out, which can always be; the device failed in the
+-- call; the loaded lists don't fit together; or the site has too many directories.
 abbrev pub HasCause : (Files → Listings → Type 0) → Type 0 → Limits → Environment → WalkFault → Type 0
 HasCause agrees failed limits env (Refused refusal) =
-    Applies (cause_of refusal) failed (λ reason. (reason ≡ refused_edit (bad_edit edits.inconsistent)) × (loaded_in env ≡ None))
+    Applies (cause_of refusal) failed (λ reason. (reason ≡ refused_edit (bad_edit edits.inconsistent)) ×
+    (loaded_in env ≡ None))
 HasCause agrees failed limits env TooManyDirectories =
     InEachPair agrees (λ files listings. HasTooMany (site_of limits env files listings))

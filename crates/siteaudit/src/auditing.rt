@@ -13,11 +13,11 @@ ghost use Rattle.siteaudit.specs.Parts.{AreParts, PartsAreAudits};
 
 use crate::defaults::bad_default_files;
 use crate::fault::WalkFault;
-use crate::judgement::{Standings, judge_modules};
+use crate::judgement::{SiteStandings, judge_modules};
 use crate::names::unknown_names;
-use crate::progress::Progress;
+use crate::progress::WalkProgress;
 use crate::standing::Standing;
-use crate::walk::{Evaluation, Walk, walk_site};
+use crate::walk::{Evaluation, SiteWalk, walk_site};
 use envvars::Env;
 use filetree::Tree;
 use modules::Refusal;
@@ -92,7 +92,7 @@ fn audit_evaluations<T: Tree>(
 {
     let unknown_names = unknown_names(alloc, evaluations.as_slice())?;
     let bad_default_files = bad_default_files(alloc, tree, limits, evaluations.as_slice())?;
-    let Standings {
+    let SiteStandings {
         modules,
         certificate,
     } = judge_modules(alloc, evaluations)?;
@@ -114,7 +114,7 @@ fn audit_evaluations<T: Tree>(
 ///
 /// Errors: loaded lists that don't fit together (35); a device that failed in this call, at a path that the audit looks at
 /// (43); want of memory (11, 31, 41); more than `MAX_DIRECTORIES` directories.
-pub fn audit<T: Tree, P: Progress>(
+pub fn audit<T: Tree, P: WalkProgress>(
     alloc: Global,
     env: &Env,
     tree: &mut T,
@@ -132,7 +132,7 @@ pub fn audit<T: Tree, P: Progress>(
 {
     parts_are_audits();
     sitelaws::laws::walks();
-    let Walk {
+    let SiteWalk {
         directories: _,
         evaluations,
     } = walk_site(alloc, env, tree, limits, progress)?;

@@ -9,10 +9,10 @@ ghost use Rattle.siteaudit.specs.LookedAtWalk.{DirectoryLooksAt};
 ghost use Rattle.siteaudit.specs.WalkParts.{HasLoaded, AreEvaluationsBelow, GivesUp};
 
 use crate::files::{SiteSettings, evaluate_module};
-use crate::progress::Progress;
+use crate::progress::WalkProgress;
 use crate::walk::Evaluation;
 use filetree::Tree;
-use lookup::Evaluated;
+use lookup::EvaluatedDefaultFiles;
 use modules::Refusal;
 use search::{ListingEntry, available};
 
@@ -35,7 +35,7 @@ fn modules_below<T: Tree>(
         → DirectoryLooksAt (site_of settings.entry.limits settings.entry.env.now files listings) dir.now at) }
 {
     sitelaws::laws::walks();
-    let default_files = Evaluated {
+    let default_files = EvaluatedDefaultFiles {
         limits: settings.limits,
     };
     let mut listings = available(settings.alloc, tree, &default_files, dir)?;
@@ -48,7 +48,7 @@ fn modules_below<T: Tree>(
 /// Evaluates each module below a directory, in the order of `avail`, where so many were evaluated before.
 ///
 /// Errors: a device that failed; want of memory.
-pub(crate) fn evaluate_below<T: Tree, P: Progress>(
+pub(crate) fn evaluate_below<T: Tree, P: WalkProgress>(
     settings: SiteSettings<'_>,
     tree: &mut T,
     dir: &str,

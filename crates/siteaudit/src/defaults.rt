@@ -1,20 +1,22 @@
 //! Folders of a site whose default files have a fault, so that a search for the folder is refused.
-ghost use Rattle.std.specs.Prelude.{◌≡◌, ◌↔◌, ◌⊎◌, ◌<◌, ◌++◌, option_to_list, Some, map, IfOk, IfErr, OnOk, string_bytes};
+ghost use Rattle.std.specs.Prelude.{◌≡◌, ◌↔◌, ◌⊎◌, ◌<◌, ◌++◌, option_to_list, Some, map, IfOk, IfErr, OnOk};
+ghost use Rattle.std.specs.Prelude.{string_bytes};
 ghost use Rattle.std.specs.Option.{option_map};
 ghost use Rattle.envvars.specs.Texts.{texts_in};
 ghost use Rattle.filetree.specs.Agreement.{FailsWhere, InEachPair, ReadsOn};
 ghost use Rattle.filetree.specs.Causes.{Applies};
 ghost use Rattle.modules.specs.Answers.{cause_of, is_failure};
 ghost use Rattle.sitecertificate.specs.RecordUses.{IsAmong};
-ghost use Rattle.siteaudit.specs.Folders.{FolderText, folder_view, HoldsModule, HoldsOneOf, IsBadAnswer, AreBadIn, AreBadAmong, SearchLooksAt, SearchesLookAt, EvaluatedLookAt};
+ghost use Rattle.siteaudit.specs.Folders.{FolderText, folder_view, HoldsModule, HoldsOneOf, IsBadAnswer, AreBadIn};
+ghost use Rattle.siteaudit.specs.Folders.{AreBadAmong, SearchLooksAt, SearchesLookAt, EvaluatedLookAt};
 
 use crate::folders::{directory_of, folder_of};
 use crate::walk::Evaluation;
-use filetree::{FindFault, Tree};
+use filetree::Tree;
 use indexmap::IndexSet;
-use lookup::Evaluated;
+use lookup::EvaluatedDefaultFiles;
 use modules::Refusal;
-use search::{locate, one_found};
+use search::{FindFault, locate, one_found};
 use std::alloc::{AllocError, Global};
 use tclrules::Limits;
 
@@ -88,7 +90,7 @@ fn bad_default_file<T: Tree>(
     ensures failed { FailsWhere is_failure T.agrees T.failed tree.old tree.new result (λ files listings.
         SearchLooksAt limits files listings (folder_view folder.now)) }
 {
-    let default_files = Evaluated { limits };
+    let default_files = EvaluatedDefaultFiles { limits };
     one_found(&default_files);
     match locate(
         alloc,

@@ -9,7 +9,7 @@ ghost use Rattle.siteaudit.specs.WalkParts.{directories_after, directories_found
 use crate::plain::is_plain;
 use crate::walk::Evaluation;
 use modulefile::{PathEdit, Record};
-use modulerun::Ran;
+use modulerun::FileRun;
 use sitelaws::directories::{Directories, push_directories};
 use std::alloc::{AllocError, Global};
 
@@ -69,7 +69,7 @@ fn push_added(alloc: Global, dirs: &mut Directories, records: &[Record]) -> Resu
 }
 
 /// Adds the directories that a file adds whose evaluation left this, if its module is plain.
-fn push_plain(alloc: Global, dirs: &mut Directories, ran: &Ran) -> Result<(), AllocError>
+fn push_plain(alloc: Global, dirs: &mut Directories, ran: &FileRun) -> Result<(), AllocError>
     ensures { OnOk result (map string_bytes dirs.new.keys
         ≡ with_directories (map string_bytes dirs.old.keys) (directories_after (Ok ran.now))) }
 {

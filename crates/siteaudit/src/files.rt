@@ -7,15 +7,16 @@ ghost use Rattle.modules.specs.Answers.{is_failure};
 ghost use Rattle.requests.specs.Reasons.{file_refused};
 ghost use Rattle.requests.specs.Refusals.{RefusedAs};
 ghost use Rattle.sitelaws.specs.Sites.{EvaluatesTo, site_of, module_below};
-ghost use Rattle.siteaudit.specs.WalkParts.{HasLoaded, HasListCause, site_context, ComesTo, ComesToOverTree, GivesUp, IsEvaluationOf};
+ghost use Rattle.siteaudit.specs.WalkParts.{HasLoaded, HasListCause, site_context, ComesTo, ComesToOverTree, GivesUp};
+ghost use Rattle.siteaudit.specs.WalkParts.{IsEvaluationOf};
 
 use crate::given_up::unless_given_up;
 use crate::walk::Evaluation;
 use envloaded::loaded;
-use envvars::{Env, Working};
+use envvars::{Env, WorkingCopy};
 use filetree::Tree;
 use modulefile::Mode;
-use modulerun::{FileContext, Ran, run_file};
+use modulerun::{FileContext, FileRun, run_file};
 use modules::{Refusal, script_at};
 use search::path_of;
 use shelltext::Shell;
@@ -53,7 +54,7 @@ fn run_script(
     name: &str,
     path: &str,
     text: &str,
-) -> Result<Ran, Refusal>
+) -> Result<FileRun, Refusal>
     ensures { ComesTo result (RefusedAs file_refused (RunsFile settings.entry.limits
         (site_context name.now path.now (map string_bytes settings.entry.loaded.now) settings.entry.env.now) text.now)) }
 {
@@ -66,7 +67,7 @@ fn run_script(
         typed: name,
         loaded: settings.loaded,
     };
-    let mut working = Working::over(settings.env);
+    let mut working = WorkingCopy::over(settings.env);
     Ok(run_file(
         settings.alloc,
         &context,
@@ -82,7 +83,7 @@ fn evaluate_file<T: Tree>(
     tree: &mut T,
     name: &str,
     path: &str,
-) -> Result<Ran, Refusal>
+) -> Result<FileRun, Refusal>
     requires { HasLoaded settings.env.now (map string_bytes settings.loaded.now) }
     ensures reads { ReadsOn T.agrees T.failures tree.old tree.new }
     ensures over_tree { ComesToOverTree (T.agrees tree.new) (T.failures tree.old < T.failures tree.new) result

@@ -6,9 +6,9 @@ ghost use Rattle.modules.specs.Answers.{by_search, cause_of};
 ghost use Rattle.siteaudit.specs.WalkParts.{is_given_up};
 
 use envvars::EnvFault;
-use filetree::FindFault;
-use modulerun::{Ran, RunFault};
+use modulerun::{FileRun, RunFault};
 use modules::Refusal;
+use search::FindFault;
 use tclrules::EvalFault;
 
 /// Whether the evaluation of a text was given up: memory ran out.
@@ -78,8 +78,8 @@ fn is_given_up(refusal: &Refusal) -> bool
 ///
 /// Errors: a refusal that says nothing of the file.
 pub(crate) fn unless_given_up(
-    outcome: Result<Ran, Refusal>,
-) -> Result<Result<Ran, Refusal>, Refusal>
+    outcome: Result<FileRun, Refusal>,
+) -> Result<Result<FileRun, Refusal>, Refusal>
     ensures same { IfOk result (λ kept. kept ≡ outcome) }
     ensures kept { IfOk result (λ kept. IfErr kept (λ refusal. is_given_up (cause_of refusal) ≡ false)) }
     ensures given_up { IfErr result (λ refusal.

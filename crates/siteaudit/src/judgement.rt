@@ -4,10 +4,11 @@ ghost use Rattle.std.specs.Vec.Iter.{into_iter_items};
 ghost use Rattle.modules.specs.MoveViews.{module_view};
 ghost use Rattle.sitecertificate.specs.UseViews.{used_view};
 ghost use Rattle.siteaudit.specs.Findings as findings;
-ghost use Rattle.siteaudit.specs.Findings.{standing_of, steps_of, AddsJudged, AreJudged, AreStandings, answers_left, settled};
+ghost use Rattle.siteaudit.specs.Findings.{standing_of, steps_of, AddsJudged, AreJudged, AreStandings, answers_left};
+ghost use Rattle.siteaudit.specs.Findings.{settled};
 
 use crate::auditing::AuditedModule;
-use crate::standing::{Finding, Standing, judge};
+use crate::standing::{ModuleFinding, Standing, judge};
 use crate::walk::Evaluation;
 use modules::Module;
 use sitecertificate::{Clash, FoundClashes, UsedVariable, clashes};
@@ -16,7 +17,7 @@ use std::vec::IntoIter;
 
 /// A module that is judged by itself.
 #[derive(Drop)]
-pub(crate) struct Judged {
+pub(crate) struct JudgedModule {
     name: String,
     path: String,
     /// How it stands; `None` where it is plain and in step, so that the other modules decide.
@@ -25,9 +26,9 @@ pub(crate) struct Judged {
 
 /// The modules of a site, each judged by itself.
 #[derive(Drop)]
-pub(crate) struct Judgement {
+pub(crate) struct JudgedSite {
     /// All of them, in their order.
-    pub(crate) judged: Vec<Judged>,
+    pub(crate) judged: Vec<JudgedModule>,
     /// The plain ones in step, in the same order.
     pub(crate) in_step: Vec<Module>,
 }
@@ -38,7 +39,7 @@ fn sort_out(
     alloc: Global,
     name: &str,
     path: &str,
-    finding: Finding,
+    finding: ModuleFinding,
     in_step: &mut Vec<Module>,
 ) -> Result<Option<Standing>, AllocError>
     ensures standing { IfOk result (λ standing. standing ≡ standing_of finding) }
@@ -46,8 +47,8 @@ fn sort_out(
         ≡ map module_view in_step.old.items ++ steps_of (record { name = name.now; path = path.now }) finding) }
 {
     match finding {
-        Finding::Stands(standing) => Ok(Some(standing)),
-        Finding::InStep(records) => {
+        ModuleFinding::Stands(standing) => Ok(Some(standing)),
+        ModuleFinding::InStep(records) => {
             in_step.push(Module {
                 name: String::from_str(alloc, name)?,
                 path: String::from_str(alloc, path)?,
@@ -62,7 +63,7 @@ fn sort_out(
 fn judge_next(
     alloc: Global,
     evaluation: Evaluation,
-    judgement: &mut Judgement,
+    judgement: &mut JudgedSite,
 ) -> Result<(), AllocError>
     ensures { OnOk result (AddsJudged evaluation judgement.old judgement.new) }
 {
@@ -79,7 +80,7 @@ fn judge_next(
         finding,
         &mut judgement.in_step,
     )?;
-    judgement.judged.push(Judged {
+    judgement.judged.push(JudgedModule {
         name,
         path,
         standing,
@@ -91,11 +92,11 @@ fn judge_next(
 pub(crate) fn judge_all(
     alloc: Global,
     evaluations: Vec<Evaluation>,
-) -> Result<Judgement, AllocError>
+) -> Result<JudgedSite, AllocError>
     ensures { IfOk result (λ judgement. AreJudged evaluations.items judgement.judged.items
         (map module_view judgement.in_step.items)) }
 {
-    let mut judgement = Judgement {
+    let mut judgement = JudgedSite {
         judged: Vec::new(alloc),
         in_step: Vec::new(alloc),
     };
@@ -130,11 +131,11 @@ fn standing_with(standing: Option<Standing>, answers: &mut IntoIter<Option<Clash
 }
 
 /// The module with its standing.
-fn module_with(judged: Judged, answers: &mut IntoIter<Option<Clash>>) -> AuditedModule
+fn module_with(judged: JudgedModule, answers: &mut IntoIter<Option<Clash>>) -> AuditedModule
     ensures module { result ≡ findings.module_with judged (into_iter_items answers.old) }
     ensures left { into_iter_items answers.new ≡ answers_left judged.standing (into_iter_items answers.old) }
 {
-    let Judged {
+    let JudgedModule {
         name,
         path,
         standing,
@@ -149,7 +150,7 @@ fn module_with(judged: Judged, answers: &mut IntoIter<Option<Clash>>) -> Audited
 /// The modules with their standings: those for whom others decide have these answers, in their order.
 pub(crate) fn settle(
     alloc: Global,
-    judged: Vec<Judged>,
+    judged: Vec<JudgedModule>,
     answers: Vec<Option<Clash>>,
 ) -> Result<Vec<AuditedModule>, AllocError>
     ensures { IfOk result (λ modules. modules.items ≡ settled judged.items answers.items) }
@@ -164,7 +165,7 @@ pub(crate) fn settle(
 
 /// How the modules of a site stand, and what the certified ones use.
 #[derive(Drop)]
-pub(crate) struct Standings {
+pub(crate) struct SiteStandings {
     pub(crate) modules: Vec<AuditedModule>,
     pub(crate) certificate: Vec<UsedVariable>,
 }
@@ -173,16 +174,16 @@ pub(crate) struct Standings {
 pub(crate) fn judge_modules(
     alloc: Global,
     evaluations: Vec<Evaluation>,
-) -> Result<Standings, AllocError>
+) -> Result<SiteStandings, AllocError>
     ensures { IfOk result (λ found.
         AreStandings evaluations.items found.modules.items (map used_view found.certificate.items)) }
 {
-    let Judgement { judged, in_step } = judge_all(alloc, evaluations)?;
+    let JudgedSite { judged, in_step } = judge_all(alloc, evaluations)?;
     let FoundClashes {
         answers,
         unclashed_uses,
     } = clashes(alloc, in_step.as_slice())?;
-    Ok(Standings {
+    Ok(SiteStandings {
         modules: settle(alloc, judged, answers)?,
         certificate: unclashed_uses,
     })

@@ -21,6 +21,6 @@ mod walk;
 
 pub use auditing::{AuditedModule, SiteAudit, UnknownNames, audit};
 pub use fault::WalkFault;
-pub use progress::{Progress, Silent};
+pub use progress::{SilentProgress, WalkProgress};
 pub use standing::Standing;
 pub use walk::MAX_DIRECTORIES;

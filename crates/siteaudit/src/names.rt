@@ -1,5 +1,6 @@
 //! Names in the conflicts and prereqs of modules that mean no module of the site.
-ghost use Rattle.std.specs.Prelude.{◌≡◌, ◌||◌, ◌∷◌, [], ◌++◌, Bool, true, false, not, flat_map, map, string_bytes, IfOk, OnOk};
+ghost use Rattle.std.specs.Prelude.{◌≡◌, ◌||◌, ◌∷◌, [], ◌++◌, Bool, true, false, not, flat_map, map, string_bytes};
+ghost use Rattle.std.specs.Prelude.{IfOk, OnOk};
 ghost use Rattle.std.specs.List.{list_any};
 ghost use Rattle.modulename.specs.ModuleName.{means};
 ghost use Rattle.envvars.specs.Texts.{Text};

@@ -2,11 +2,11 @@
 ghost use Rattle.std.specs.Prelude.{◌≡◌};
 ghost use Rattle.siteaudit.specs.WalkParts.{is_plain_ran};
 
-use modulerun::Ran;
+use modulerun::FileRun;
 use modules::are_reversible;
 
 /// Whether a file whose evaluation left this is that of a plain module.
-pub(crate) fn is_plain(ran: &Ran) -> bool
+pub(crate) fn is_plain(ran: &FileRun) -> bool
     ensures { result ≡ is_plain_ran ran.now }
 {
     !ran.asked && are_reversible(ran.records.as_slice())

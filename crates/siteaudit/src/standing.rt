@@ -11,7 +11,7 @@ ghost use Rattle.sitecertificate.specs.UseViews.{use_view, used_view};
 ghost use Rattle.siteaudit.specs.Findings.{AreUnlike, IsFinding, IsFindingOf};
 
 use modulefile::{Delimiter, Record};
-use modulerun::{Ran, records_unless_asked};
+use modulerun::{FileRun, records_unless_asked};
 use modules::{Refusal, is_reversible};
 use sitecertificate::{Clash, UsedVariable, VariableUse, first_unlike, used_by};
 use std::alloc::{AllocError, Global};
@@ -49,7 +49,7 @@ pub(crate) struct UnlikeUses {
 
 /// What a module shows by itself.
 #[derive(Drop)]
-pub(crate) enum Finding {
+pub(crate) enum ModuleFinding {
     /// It stands so, whatever the other modules do.
     Stands(Standing),
     /// It is plain and in step, with these records: the other modules decide.
@@ -131,7 +131,7 @@ fn unlike_in(alloc: Global, records: &[Record]) -> Result<Option<UnlikeUses>, Al
 }
 
 /// What a plain module shows by itself.
-fn judge_plain(alloc: Global, records: Vec<Record>) -> Result<Finding, AllocError>
+fn judge_plain(alloc: Global, records: Vec<Record>) -> Result<ModuleFinding, AllocError>
     requires { list_all variable_uses.is_reversible (map record_view records.items) ≡ true }
     ensures { IfOk result (IsFindingOf false (map record_view records.items)) }
 {
@@ -142,45 +142,48 @@ fn judge_plain(alloc: Global, records: Vec<Record>) -> Result<Finding, AllocErro
                 one,
                 other,
             } = unlike;
-            Ok(Finding::Stands(Standing::OutOfStep {
+            Ok(ModuleFinding::Stands(Standing::OutOfStep {
                 variable,
                 one,
                 other,
             }))
         }
-        None => Ok(Finding::InStep(records)),
+        None => Ok(ModuleFinding::InStep(records)),
     }
 }
 
 /// What a module that asked nothing shows by itself.
-fn judge_records(alloc: Global, records: Vec<Record>) -> Result<Finding, AllocError>
+fn judge_records(alloc: Global, records: Vec<Record>) -> Result<ModuleFinding, AllocError>
     ensures { IfOk result (IsFindingOf false (map record_view records.items)) }
 {
     match first_one_way(records.as_slice()) {
         Some(place) => {
             let mut records = records;
-            Ok(Finding::Stands(Standing::OneWay(records.swap_remove(place))))
+            Ok(ModuleFinding::Stands(Standing::OneWay(records.swap_remove(place))))
         }
         None => judge_plain(alloc, records),
     }
 }
 
 /// What a module shows by itself, whose evaluation is accepted.
-fn judge_ran(alloc: Global, ran: Ran) -> Result<Finding, AllocError>
+fn judge_ran(alloc: Global, ran: FileRun) -> Result<ModuleFinding, AllocError>
     ensures { IfOk result (IsFindingOf ran.asked (map record_view ran.records.items)) }
 {
     match records_unless_asked(ran) {
         Ok(records) => judge_records(alloc, records),
-        Err(question) => Ok(Finding::Stands(Standing::Asks(question))),
+        Err(question) => Ok(ModuleFinding::Stands(Standing::Asks(question))),
     }
 }
 
 /// What a module shows by itself, by the outcome of its evaluation.
-pub(crate) fn judge(alloc: Global, outcome: Result<Ran, Refusal>) -> Result<Finding, AllocError>
+pub(crate) fn judge(
+    alloc: Global,
+    outcome: Result<FileRun, Refusal>,
+) -> Result<ModuleFinding, AllocError>
     ensures { IfOk result (IsFinding outcome) }
 {
     match outcome {
         Ok(ran) => judge_ran(alloc, ran),
-        Err(refusal) => Ok(Finding::Stands(Standing::Refused(refusal))),
+        Err(refusal) => Ok(ModuleFinding::Stands(Standing::Refused(refusal))),
     }
 }

@@ -13,11 +13,11 @@ use crate::below::evaluate_below;
 use crate::directories::push_found;
 use crate::fault::WalkFault;
 use crate::files::{SiteSettings, loaded_names};
-use crate::progress::Progress;
+use crate::progress::WalkProgress;
 use envvars::{Env, Vars};
 use filetree::Tree;
 use indexmap::IndexSet;
-use modulerun::Ran;
+use modulerun::FileRun;
 use modules::Refusal;
 use sitelaws::directories::{Directories, directory_at, in_order, push_directories};
 use std::alloc::Global;
@@ -35,12 +35,12 @@ pub struct Evaluation {
     /// The path of its file.
     pub path: String,
     /// What its evaluation leaves, or why it is refused.
-    pub outcome: Result<Ran, Refusal>,
+    pub outcome: Result<FileRun, Refusal>,
 }
 
 /// What a walk over a site finds.
 #[derive(Drop)]
-pub struct Walk {
+pub struct SiteWalk {
     /// The directories of the site, each once: those of MODULEPATH, and then those that its modules add, as they are
     /// found.
     pub directories: Vec<String>,
@@ -61,7 +61,7 @@ fn modulepath(env: &Env) -> &str
 /// Evaluates each module below a directory, and adds to the directories those that the plain ones add.
 ///
 /// Errors: a device that failed; want of memory.
-fn walk_directory<T: Tree, P: Progress>(
+fn walk_directory<T: Tree, P: WalkProgress>(
     settings: SiteSettings<'_>,
     tree: &mut T,
     dir: &str,
@@ -86,12 +86,12 @@ fn walk_directory<T: Tree, P: Progress>(
 }
 
 /// Walks over the site of a MODULEPATH.
-fn walk_from<T: Tree, P: Progress>(
+fn walk_from<T: Tree, P: WalkProgress>(
     settings: SiteSettings<'_>,
     tree: &mut T,
     modulepath: &str,
     progress: &mut P,
-) -> Result<Walk, WalkFault>
+) -> Result<SiteWalk, WalkFault>
     requires loaded { HasLoaded settings.env.now (map string_bytes settings.loaded.now) }
     requires begins { modulepath.now ≡ modulepath_of settings.env.now }
     ensures reads { ReadsOn T.agrees T.failures tree.old tree.new }
@@ -122,7 +122,7 @@ fn walk_from<T: Tree, P: Progress>(
         )?;
         place += 1;
     }
-    Ok(Walk {
+    Ok(SiteWalk {
         directories: in_order(settings.alloc, dirs)?,
         evaluations,
     })
@@ -133,13 +133,13 @@ fn walk_from<T: Tree, P: Progress>(
 ///
 /// Errors: loaded lists that don't fit together (35); a device that failed in this call, at a path that the walk looks at
 /// (43); want of memory (11, 31, 41); more than `MAX_DIRECTORIES` directories.
-pub fn walk_site<T: Tree, P: Progress>(
+pub fn walk_site<T: Tree, P: WalkProgress>(
     alloc: Global,
     env: &Env,
     tree: &mut T,
     limits: Limits,
     progress: &mut P,
-) -> Result<Walk, WalkFault>
+) -> Result<SiteWalk, WalkFault>
     ensures reads { ReadsOn T.agrees T.failures tree.old tree.new }
     ensures walked { IfOk result (λ found. InEachPair (T.agrees tree.new) (λ files listings.
         IsWalkAnswer (site_of limits env.now files listings) found)) }

@@ -1,5 +1,7 @@
 -- From the users of each variable to what is answered of each module.
-use Rattle.std.proofs.Common.{zero, suc, arith, ◌≡◌, inl, inr, ℕ, ◌+◌, ◌<◌, ◌≤◌, Bool, true, false, ◌&&◌, List, [], ◌∷◌, ◌++◌, map, length, take, get_or, append_assoc, append-nil, refl, sym, ap, ◌∙◌, subst, Option}
+use Rattle.std.proofs.Common.{zero, suc, arith, ◌≡◌, inl, inr, ℕ, ◌+◌, ◌<◌, ◌≤◌, Bool, true, false, ◌&&◌, List, [], ◌∷◌}
+use Rattle.std.proofs.Common.{◌++◌, map, length, take, get_or, append_assoc, append-nil, refl, sym, ap, ◌∙◌, subst}
+use Rattle.std.proofs.Common.{Option}
 use Rattle.std.specs.Prelude.{bytes_eq, string_bytes}
 use Rattle.std.specs.List.{list_any, flat_map}
 use Rattle.std.proofs.lemmas.Bool.{false≢true}
@@ -16,7 +18,8 @@ use Rattle.sitecertificate.specs.UseViews.{use_view, used_view}
 use Rattle.sitecertificate.specs.declared.uses.UsedVariable as code
 use Rattle.sitecertificate.proofs.UsedLemmas.{by_test, by_cases, among_left, among_right, among_either}
 use Rattle.sitecertificate.specs.declared.answers.Clash.{Clash}
-use Rattle.sitecertificate.specs.Users.{ModuleUse, Enters, EntersAll, AreUsersOf, do_users_clash, uses_of_module, uses_of_modules}
+use Rattle.sitecertificate.specs.Users.{ModuleUse, Enters, EntersAll, AreUsersOf, do_users_clash, uses_of_module}
+use Rattle.sitecertificate.specs.Users.{uses_of_modules}
 use Rattle.sitecertificate.specs.ClashingUsers.{IsClashBetween}
 use Rattle.sitecertificate.specs.ClashAnswers.{IsClashOf, ClashesWithNone, IsAnswer, AreAnswers}
 use Rattle.sitecertificate.proofs.Members.{fails_each}

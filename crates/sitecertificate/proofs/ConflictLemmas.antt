@@ -1,5 +1,6 @@
 -- Names in a set, and one more.
-use Rattle.std.proofs.Common.{◌≡◌, ℕ, ◌+◌, ◌<◌, length, take, get_or, map, string_bytes, Global, Bor, Bool, true, false, ◌||◌, List, [], ◌∷◌, ◌++◌, refl, sym, ap, ◌∙◌}
+use Rattle.std.proofs.Common.{◌≡◌, ℕ, ◌+◌, ◌<◌, length, take, get_or, map, string_bytes, Global, Bor, Bool, true, false}
+use Rattle.std.proofs.Common.{◌||◌, List, [], ◌∷◌, ◌++◌, refl, sym, ap, ◌∙◌}
 use Rattle.std.specs.Prelude.{bytes_eq, if◌then◌else◌}
 use Rattle.std.specs.List.{list_any}
 use Rattle.std.proofs.lemmas.List.Folds.{list_any-append}
@@ -45,7 +46,9 @@ more_texts : (name : Text) (xs : List (String Global)) (i : ℕ) (s : String Glo
     → has name (map string_bytes (take (i + 1) xs)) ≡ (has name (map string_bytes (take i xs)) || bytes_eq name (string_bytes s))
 more_texts name xs i s l is =
     ap (λ (ys : List (String Global)). has name (map string_bytes ys)) (take_more xs i s l ∙ ap (λ (t : String Global). take i xs ++ t ∷ []) (sym is))
-    ∙ (ap (has name) (map-append string_bytes (take i xs) (s ∷ [])) ∙ (has-append name (map string_bytes (take i xs)) (string_bytes s ∷ []) ∙ or_last (has name (map string_bytes (take i xs))) (bytes_eq name (string_bytes s))))
+    ∙ (ap (has name) (map-append string_bytes (take i xs) (s ∷ []))
+    ∙ (has-append name (map string_bytes (take i xs)) (string_bytes s ∷ [])
+    ∙ or_last (has name (map string_bytes (take i xs))) (bytes_eq name (string_bytes s))))
 
 -- the names after one more was put among the keys
 pub names_turn : (name : Text) (old new : List (Bor Text)) (key : Bor Text) (before : Bool) (xs : List (String Global)) (i : ℕ) (s : String Global) → i < length xs → s ≡ get_or xs i s

@@ -1,16 +1,19 @@
 -- The tests are those of the definitions.
-use Rattle.std.proofs.Common.{◌≡◌, Bool, true, false, cond, not, ◌&&◌, ◌||◌, List, [], ◌∷◌, filter, refl, sym, ap, ◌∙◌, subst, Option, Some, None, inl, inr}
+use Rattle.std.proofs.Common.{◌≡◌, Bool, true, false, cond, not, ◌&&◌, ◌||◌, List, [], ◌∷◌, filter, refl, sym, ap, ◌∙◌}
+use Rattle.std.proofs.Common.{subst, Option, Some, None, inl, inr}
 use Rattle.std.specs.Prelude.{bytes_eq}
 use Rattle.std.specs.List.{list_all, list_any}
 use Rattle.std.specs.Option.{option_eq}
-use Rattle.std.proofs.lemmas.Bool.{false≢true, eqb-true, eq-eqb, and_parts, and_from, or_cases, not-true, not_from_false, false_from_ne_true}
+use Rattle.std.proofs.lemmas.Bool.{false≢true, eqb-true, eq-eqb, and_parts, and_from, or_cases, not-true}
+use Rattle.std.proofs.lemmas.Bool.{not_from_false, false_from_ne_true}
 use Rattle.envvars.specs.Texts.{Text}
 use Rattle.envvars.specs.Fields.{colon}
 use Rattle.envvars.proofs.TextLemmas.{same_text, bytes_eq-same}
 use Rattle.modulefile.specs.Records.{Record}
 use Rattle.modulefile.specs.Moves.{Module}
 use Rattle.reversal.specs.VariableUses.{VariableUse, Untouched, Fixed, Pathed, Stacked, is_reversible}
-use Rattle.sitecertificate.specs.RecordUses.{UsedVariable, used_by, IsAmong, Uses, modulepath, AreInStep, IsInStep, same_use, use_alike, are_in_step, is_in_step}
+use Rattle.sitecertificate.specs.RecordUses.{UsedVariable, used_by, IsAmong, Uses, modulepath, AreInStep, IsInStep}
+use Rattle.sitecertificate.specs.RecordUses.{same_use, use_alike, are_in_step, is_in_step}
 use Rattle.sitecertificate.specs.Clashes.{exclude, uses_clash, Clash, do_clash}
 use Rattle.sitecertificate.specs.Certificates.{is_other, IsCertified, clashes_among, certified}
 use Rattle.sitecertificate.specs.Laws.{CertifiedAreExact}

@@ -1,5 +1,6 @@
 -- The list of loaded modules is in order exactly where writing its texts anew changes none of them.
-use Rattle.std.proofs.Common.{◌≡◌, Bool, true, false, cond, not, ◌&&◌, ◌||◌, List, [], ◌∷◌, ◌++◌, refl, sym, ap, ◌∙◌, subst, Option, Some, None, Result, Ok, Err, IsTrue}
+use Rattle.std.proofs.Common.{◌≡◌, Bool, true, false, cond, not, ◌&&◌, ◌||◌, List, [], ◌∷◌, ◌++◌, refl, sym, ap, ◌∙◌}
+use Rattle.std.proofs.Common.{subst, Option, Some, None, Result, Ok, Err, IsTrue}
 use Rattle.std.specs.Prelude.{bytes_eq, if◌then◌else◌, IfSome}
 use Rattle.envvars.specs.Texts.{Text, has}
 use Rattle.envvars.specs.Environment.{Environment, lookup, with_value}
@@ -8,7 +9,9 @@ use Rattle.envvars.specs.Reasons.{EnvReason, inconsistent, reason_of}
 use Rattle.envvars.specs.declared.fault.EnvFault.{EnvFault}
 use Rattle.envvars.specs.declared.fault.EnvFault.TheVariants.{OutOfMemory}
 use Rattle.envloaded.specs.LoadedTexts.{names_variable, files_variable, conflicts_variable, prereqs_variable}
-use Rattle.envloaded.specs.Loaded.{Entry, names_of, names_text, files_text, conflicts_text, prereqs_text, loaded_in, with_loaded, is_entry, can_be_added, with_conflicts_once, added_to, added_loaded, without_entry, dropped_from, dropped_loaded, AreLoadedInOrder}
+use Rattle.envloaded.specs.Loaded.{Entry, names_of, names_text, files_text, conflicts_text, prereqs_text, loaded_in}
+use Rattle.envloaded.specs.Loaded.{with_loaded, is_entry, can_be_added, with_conflicts_once, added_to, added_loaded}
+use Rattle.envloaded.specs.Loaded.{without_entry, dropped_from, dropped_loaded, AreLoadedInOrder}
 use Rattle.envvars.proofs.TextLemmas.{same_text, bytes_eq-same}
 use Rattle.envvars.proofs.EditLemmas.{both_true, and_both}
 use Rattle.envvars.proofs.EnvLemmas.{lookup-with_value, same_environment}
@@ -32,7 +35,8 @@ given_again e name t h =
 list_again : (e : Environment) (xs : List Entry) → names_text xs ≡ lookup e names_variable → files_text xs ≡ lookup e files_variable
     → conflicts_text xs ≡ lookup e conflicts_variable → prereqs_text xs ≡ lookup e prereqs_variable → with_loaded e xs ≡ e
 list_again e xs n f c p =
-    ap (λ (d : Environment). with_value (with_value (with_value d files_variable (files_text xs)) conflicts_variable (conflicts_text xs)) prereqs_variable (prereqs_text xs)) (given_again e names_variable (names_text xs) n)
+    ap (λ (d : Environment). with_value (with_value (with_value d files_variable (files_text xs)) conflicts_variable
+    (conflicts_text xs)) prereqs_variable (prereqs_text xs)) (given_again e names_variable (names_text xs) n)
     ∙ (ap (λ (d : Environment). with_value (with_value d conflicts_variable (conflicts_text xs)) prereqs_variable (prereqs_text xs)) (given_again e files_variable (files_text xs) f)
     ∙ (ap (λ (d : Environment). with_value d prereqs_variable (prereqs_text xs)) (given_again e conflicts_variable (conflicts_text xs) c)
     ∙ given_again e prereqs_variable (prereqs_text xs) p))

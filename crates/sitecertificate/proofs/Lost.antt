@@ -11,7 +11,8 @@ use Rattle.reversal.specs.Examples as reversal
 use Rattle.reversal.specs.Examples.{only_use, variable}
 use Rattle.sitecertificate.specs.RecordUses.{UsedVariable, IsAmong}
 use Rattle.sitecertificate.specs.Certificates.{AgreesWithUse, AgreesWith}
-use Rattle.sitecertificate.specs.Examples.{LoseByDelimiters, LoseByPathAndStack, LoseBySetAndPush, LoseByUnsetAndPush, LoseByBothSet, StartsAgree}
+use Rattle.sitecertificate.specs.Examples.{LoseByDelimiters, LoseByPathAndStack, LoseBySetAndPush, LoseByUnsetAndPush}
+use Rattle.sitecertificate.specs.Examples.{LoseByBothSet, StartsAgree}
 
 agrees_one : (x : VariableUse) (start : Environment) → IsStart (only_use variable x) start → AgreesWithUse start variable x
 agrees_one Untouched start s = tt

@@ -1,5 +1,6 @@
 -- Lists of users, and those with one member more.
-use Rattle.std.proofs.Common.{◌≡◌, inl, inr, ℕ, ◌<◌, zero, suc, Bool, true, false, cond, ◌||◌, map, List, [], ◌∷◌, ◌++◌, length, get_or, refl, sym, ap, ◌∙◌, subst, arith, Result, Ok, Err}
+use Rattle.std.proofs.Common.{◌≡◌, inl, inr, ℕ, ◌<◌, zero, suc, Bool, true, false, cond, ◌||◌, map, List, [], ◌∷◌, ◌++◌}
+use Rattle.std.proofs.Common.{length, get_or, refl, sym, ap, ◌∙◌, subst, arith, Result, Ok, Err}
 use Rattle.std.specs.Prelude.{is_ok, OnOk}
 use Rattle.std.proofs.Math.ListN.{set}
 use Rattle.std.specs.List.{list_any, flat_map}
@@ -60,7 +61,8 @@ pub kept_by_push : {X : Type 0} (view : X → ModuleUse) (P : ModuleUse → Type
     → ((y : ModuleUse) → IsAmong y (map view xs) → P y) → P (view u) → (y : ModuleUse) → IsAmong y (map view ys) → P y
 kept_by_push view P xs ys u false e h k y a = h y (subst (λ zs. IsAmong y (map view zs)) e a)
 kept_by_push view P xs ys u true e h k y a =
-    let m : HasOneMore (map view xs) (map view ys) (view u) = subst (λ zs. HasOneMore (map view xs) zs (view u)) (sym (ap (map view) e ∙ map-append view xs (u ∷ []))) (one_pushed (map view xs) (view u)) in
+    let m : HasOneMore (map view xs) (map view ys) (view u) = subst (λ zs. HasOneMore (map view xs) zs (view u))
+    (sym (ap (map view) e ∙ map-append view xs (u ∷ []))) (one_pushed (map view xs) (view u)) in
     one_has P (map view xs) (map view ys) (view u) m h k y a
 
 kept_with_last : {X : Type 0} (f : X → List ModuleUse) (P : ModuleUse → Type 0) (xs : List X) (z : X)

@@ -21,7 +21,8 @@ use Rattle.sitecertificate.proofs.UsedLemmas.{by_cases, Unused, used_among, user
 use Rattle.sitecertificate.proofs.RecordLemmas.{AreOfKind}
 use Rattle.sitecertificate.proofs.OneUse.{certified_of}
 use Rattle.sitecertificate.proofs.Exact.{to_certified}
-use Rattle.sitecertificate.proofs.Variables.{IsAsIn, path_moved, stack_moved, stack_over, by_any_use, IsUseInOrder, as_before}
+use Rattle.sitecertificate.proofs.Variables.{IsAsIn, path_moved, stack_moved, stack_over, by_any_use, IsUseInOrder}
+use Rattle.sitecertificate.proofs.Variables.{as_before}
 
 -- A start that agrees with the certificate is one by the uses of certified modules.
 
@@ -87,7 +88,9 @@ taken_up runs u start e live begin same k o = record {
     stacks = λ v ys f q l. by_cases (same v)
         (λ s. o.order.stacks v ys f (s ∙ q) l)
         (λ n. subst (λ (zs : List Entry). IsStackInOrder (names_of zs) e v) (same_Some (entries_over first.entries live) ys (sym (o.start_with_live.entries first.entries first.list) ∙ l))
-        (stack_over e v first.entries live (stack_moved start e v (names_of first.entries) (untouched start e v live n (o.start_with_live.variables v f)) (begin.order.stacks v first.entries f q first.list))));
+        (stack_over e v first.entries live (stack_moved start e v (names_of first.entries)
+        (untouched start e v live n (o.start_with_live.variables v f))
+        (begin.order.stacks v first.entries f q first.list))));
   };
   start_with_live = record {
     entries = o.start_with_live.entries;

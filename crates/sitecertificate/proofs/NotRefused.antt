@@ -4,7 +4,8 @@ use Rattle.std.specs.Prelude.{IfSome}
 use Rattle.envvars.specs.Environment.{Environment}
 use Rattle.envvars.specs.Reasons.{EnvReason, reason_of}
 use Rattle.envvars.specs.declared.fault.EnvFault.{EnvFault}
-use Rattle.envvars.specs.declared.fault.EnvFault.TheVariants.{OutOfMemory, BadVariable, Protected, CounterFull, Inconsistent, BadStack, BadValue}
+use Rattle.envvars.specs.declared.fault.EnvFault.TheVariants.{OutOfMemory, BadVariable, Protected, CounterFull}
+use Rattle.envvars.specs.declared.fault.EnvFault.TheVariants.{Inconsistent, BadStack, BadValue}
 
 not_refused : (outcome : Result Environment EnvReason) (new : Environment) (r : EnvReason) → outcome ≡ Ok new → outcome ≡ Err r → ⊥
 not_refused outcome new r h k = let g : (let o : Result Environment EnvReason = Ok new in o) ≡ Err r = sym h ∙ k in cc

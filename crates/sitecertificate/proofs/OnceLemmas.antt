@@ -1,5 +1,7 @@
 -- Uses, each once: by a definition over the whole list, and as they are put one by one among those before them.
-use Rattle.std.proofs.Common.{◌≡◌, ◌⊎◌, inl, inr, ℕ, ◌+◌, ◌<◌, length, take, get_or, Bool, true, false, cond, not, ◌&&◌, ◌||◌, List, [], ◌∷◌, ◌++◌, map, filter, Option, refl, sym, ap, ◌∙◌, append_assoc, append-nil}
+use Rattle.std.proofs.Common.{◌≡◌, ◌⊎◌, inl, inr, ℕ, ◌+◌, ◌<◌, length, take, get_or, Bool, true, false, cond, not, ◌&&◌}
+use Rattle.std.proofs.Common.{◌||◌, List, [], ◌∷◌, ◌++◌, map, filter, Option, refl, sym, ap, ◌∙◌, append_assoc}
+use Rattle.std.proofs.Common.{append-nil}
 use Rattle.std.specs.Prelude.{bytes_eq}
 use Rattle.std.specs.List.{list_any}
 use Rattle.std.proofs.lemmas.Bool.{false≢true, and_parts, and_from}
@@ -88,7 +90,8 @@ all_inserted ks (p ∷ ps) = by_test (list_any (same_used p) ks) _
     (λ f. ap (λ b. insert_all same_used (cond b ks (ks ++ p ∷ [])) ps) f
     ∙ (all_inserted (ks ++ p ∷ []) ps
     ∙ (append_assoc ks (p ∷ []) (filter (is_new (ks ++ p ∷ [])) (each_once ps))
-    ∙ (ap (λ l. ks ++ p ∷ l) (filter_alike (is_new (ks ++ p ∷ [])) (λ q. not (same_used p q) && is_new ks q) (each_once ps) (λ q. pushed ks p q) ∙ sym (twice (is_new ks) (λ q. not (same_used p q)) (each_once ps)))
+    ∙ (ap (λ l. ks ++ p ∷ l) (filter_alike (is_new (ks ++ p ∷ [])) (λ q. not (same_used p q) && is_new ks q)
+    (each_once ps) (λ q. pushed ks p q) ∙ sym (twice (is_new ks) (λ q. not (same_used p q)) (each_once ps)))
     ∙ ap (λ b. ks ++ cond (not b) (p ∷ filter (is_new ks) (filter (λ q. not (same_used p q)) (each_once ps))) (filter (is_new ks) (filter (λ q. not (same_used p q)) (each_once ps)))) (sym f)))))
 
 pub inserted_once : (ps : List UsedVariable) → insert_all same_used [] ps ≡ each_once ps
@@ -135,7 +138,8 @@ no_answer [] = refl
 no_answer (m ∷ ms) = refl
 
 -- one module more with its answer
-pub unclashed_turn : {X : Type 0} (view : X → Module) (ks total : List UsedVariable) (xs rest : List X) (answers left : List (Option Clash)) (x : X) (answer : Option Clash) → xs ≡ x ∷ rest → answers ≡ answer ∷ left
+pub unclashed_turn : {X : Type 0} (view : X → Module) (ks total : List UsedVariable) (xs rest : List X)
+    (answers left : List (Option Clash)) (x : X) (answer : Option Clash) → xs ≡ x ∷ rest → answers ≡ answer ∷ left
     → insert_all same_used ks (unclashed (map view xs) answers) ≡ total
     → insert_all same_used (insert_all same_used ks (used_by_modules (without_clash (view x) answer))) (unclashed (map view rest) left) ≡ total
 unclashed_turn view ks total xs rest answers left x answer e f h =
@@ -187,7 +191,9 @@ key_eq = UsedKeyEq.eq-value.it
 keys_same : (a b : UsedKey) → key_eq a b ≡ same_used (used_key_view a) (used_key_view b)
 keys_same a b = ap (λ t. bytes_eq a.variable.now b.variable.now && t) (use_keys_same a.used b.used)
 
-pub added_new : (ps : List UsedVariable) (u : UsedVariable) (uses more : List code.UsedVariable) (copy : code.UsedVariable) (ks new : List UsedKey) (k : UsedKey) (b : Bool) → map used_view uses ≡ ps → map used_key_view ks ≡ ps
+pub added_new : (ps : List UsedVariable) (u : UsedVariable) (uses more : List code.UsedVariable)
+    (copy : code.UsedVariable) (ks new : List UsedKey) (k : UsedKey) (b : Bool) → map used_view uses ≡ ps
+    → map used_key_view ks ≡ ps
     → used_key_view k ≡ u → b ≡ not (list_any (key_eq k) ks) → b ≡ true → more ≡ uses ++ copy ∷ [] → used_view copy ≡ u → new ≡ insert_key key_eq ks k
     → (map used_view more ≡ insert_key same_used ps u) × (map used_key_view new ≡ insert_key same_used ps u)
 added_new ps u uses more copy ks new k b h i v e t m w n =

@@ -1,5 +1,6 @@
 -- A module that sets a variable and then pushes a value on its stack.
-use Rattle.std.proofs.Common.{◌≡◌, true, List, [], ◌∷◌, refl, sym, ap, ◌∙◌, Option, Some, None, Result, Ok, Err, inl, inr}
+use Rattle.std.proofs.Common.{◌≡◌, true, List, [], ◌∷◌, refl, sym, ap, ◌∙◌, Option, Some, None, Result, Ok, Err, inl}
+use Rattle.std.proofs.Common.{inr}
 use Rattle.std.specs.Option.{option_map, option_or}
 use Rattle.std.specs.List.{list_any}
 use Rattle.std.proofs.lemmas.Bool.{false≢true}
@@ -111,7 +112,8 @@ leave_value owner v value pushed start end a (mid, there, back) =
     let first : l.mid ≡ d = same_ok d l.mid l.first in
     let second : u.mid ≡ with_value mid v None = same_ok (with_value mid v None) u.mid u.first in
     let bottom : stack_in d v ≡ Some (record { items = []; value = Some value }) = stack_of start v (Some value) f ∙ ap (λ (t : Option Text). stack_from (items_in t) (Some value)) empty in
-    let over : stack_in mid v ≡ Some (push (record { items = []; value = Some value }) owner pushed) = stack_after_push l.mid mid v owner pushed _ (ap (λ (e : Environment). stack_in e v) first ∙ bottom) l.second in
+    let over : stack_in mid v ≡ Some (push (record { items = []; value = Some value }) owner pushed) = stack_after_push
+    l.mid mid v owner pushed _ (ap (λ (e : Environment). stack_in e v) first ∙ bottom) l.second in
     let seen = found_at (items_in (lookup mid (stack_name v))) (lookup mid v) _ over in
     let hidden : stack_in u.mid v ≡ Some (record { items = (Some owner, pushed) ∷ (None, value) ∷ []; value = None }) =
     ap (λ (e : Environment). stack_in e v) second ∙ stack_of mid v None f ∙ ap (λ (o : Option (List OwnedValue)). stack_from o None) seen.0 in

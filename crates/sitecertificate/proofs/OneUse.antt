@@ -1,5 +1,6 @@
 -- Certified modules that are loaded together use each variable in one way.
-use Rattle.std.proofs.Common.{◌≡◌, Bool, true, false, not, ◌&&◌, ◌||◌, List, [], ◌∷◌, refl, sym, ap, ◌∙◌, subst, Option, Some, None, inl, inr}
+use Rattle.std.proofs.Common.{◌≡◌, Bool, true, false, not, ◌&&◌, ◌||◌, List, [], ◌∷◌, refl, sym, ap, ◌∙◌, subst, Option}
+use Rattle.std.proofs.Common.{Some, None, inl, inr}
 use Rattle.std.specs.Prelude.{bytes_eq, is_some}
 use Rattle.std.specs.Option.{option_or}
 use Rattle.std.proofs.lemmas.Bool.{false≢true, eqb-true}
@@ -14,7 +15,8 @@ use Rattle.sitecertificate.specs.RecordUses.{used_by, used_by_modules, IsAmong, 
 use Rattle.sitecertificate.specs.Clashes.{exclude, in_conflict, go_together, agree_at_start}
 use Rattle.sitecertificate.specs.Certificates.{is_other, IsCertified}
 use Rattle.sitecertificate.specs.Laws.{AreCertifiedTogether}
-use Rattle.sitecertificate.proofs.UsedLemmas.{by_test, by_cases, among_left, among_right, among_either, user_of, Unused, first_or_none}
+use Rattle.sitecertificate.proofs.UsedLemmas.{by_test, by_cases, among_left, among_right, among_either, user_of, Unused}
+use Rattle.sitecertificate.proofs.UsedLemmas.{first_or_none}
 use Rattle.sitecertificate.proofs.RecordLemmas.{all_follow, AreOfKind, sets_used}
 
 -- Uses that go together are one.
@@ -36,7 +38,8 @@ clash_at excluded g a e h = rw (e, h) refl
 
 -- Of certified modules that don't exclude each other, two uses of one variable go together.
 
-together : (ms : List Module) (m n : Module) (v : Text) (x y : VariableUse) → IsCertified ms m → IsCertified ms n → exclude m n ≡ false → Uses m.records v x → Uses n.records v y → go_together x y ≡ true
+together : (ms : List Module) (m n : Module) (v : Text) (x y : VariableUse) → IsCertified ms m → IsCertified ms n
+    → exclude m n ≡ false → Uses m.records v x → Uses n.records v y → go_together x y ≡ true
 together ms m n v x y c d e f g = by_test (go_together x y) _ (λ t. t) (λ t. absurd (c.no_clash n v x y d.listed d.in_step other
     (record { first = f; second = g; clash = clash_at (exclude m n) (go_together x y) (agree_at_start x y) e t })))
   where

@@ -1,5 +1,6 @@
 -- What records do to a variable, by the uses that they make of it.
-use Rattle.std.proofs.Common.{◌≡◌, Bool, true, false, cond, List, [], ◌∷◌, refl, sym, ap, ◌∙◌, arith, Option, Some, None, inl, inr}
+use Rattle.std.proofs.Common.{◌≡◌, Bool, true, false, cond, List, [], ◌∷◌, refl, sym, ap, ◌∙◌, arith, Option, Some}
+use Rattle.std.proofs.Common.{None, inl, inr}
 use Rattle.std.specs.Prelude.{bytes_eq, count_by, is_some}
 use Rattle.std.specs.List.{list_all}
 use Rattle.std.specs.Option.{option_or}
@@ -10,7 +11,8 @@ use Rattle.envvars.proofs.EditLemmas.{both_true}
 use Rattle.modulefile.specs.Records.{Record, Set, Unset, Push, Front, Back, Remove, Conflict, Prereq, Whatis}
 use Rattle.modulefile.specs.Moves.{Module}
 use Rattle.reversal.specs.VariableUses.{VariableUse, Fixed, Pathed, Stacked, is_reversible, FollowsUse, AllFollowUses}
-use Rattle.reversal.specs.Live.{set_by, last_set, live_set, adds_by, adds, live_adds, push_by, last_push, with_push, live_pushes}
+use Rattle.reversal.specs.Live.{set_by, last_set, live_set, adds_by, adds, live_adds, push_by, last_push, with_push}
+use Rattle.reversal.specs.Live.{live_pushes}
 use Rattle.sitecertificate.specs.RecordUses.{UsedVariable, use_by, used_by, used_by_modules, IsAmong, Uses}
 use Rattle.sitecertificate.proofs.UsedLemmas.{by_test, among_left, among_right, used_first, used_later}
 

@@ -1,5 +1,6 @@
 -- The reasons that are found, use after use.
-use Rattle.std.proofs.Common.{◌≡◌, Bool, true, false, IsTrue, ◌⊎◌, ◌+◌, ◌<◌, ◌≤◌, ℕ, List, [], ◌∷◌, ◌++◌, map, take, length, get_or, refl, sym, ap, ◌∙◌, subst, inl, inr, Option, Some, None, arith}
+use Rattle.std.proofs.Common.{◌≡◌, Bool, true, false, IsTrue, ◌⊎◌, ◌+◌, ◌<◌, ◌≤◌, ℕ, List, [], ◌∷◌, ◌++◌, map, take}
+use Rattle.std.proofs.Common.{length, get_or, refl, sym, ap, ◌∙◌, subst, inl, inr, Option, Some, None, arith}
 use Rattle.std.proofs.Math.Seq.{take-length}
 use Rattle.std.proofs.lemmas.List.{take_more, map-append}
 use Rattle.envvars.specs.Environment.{Environment}
@@ -10,7 +11,8 @@ use Rattle.sitecertificate.specs.Certificates.{AgreesWithUse, AgreesWith}
 use Rattle.sitecertificate.specs.UseViews.{used_view}
 use Rattle.sitecertificate.specs.declared.uses.UsedVariable as code
 use Rattle.sitecertificate.proofs.UsedLemmas.{by_cases, among_left, among_right, among_either}
-use Rattle.sitecertificate.specs.Disagreements.{Disagreement, loaded_texts, is_set, has_not_value, path_not_in_order, stack_not_in_order, IsDisagreement, use_named, IsJudged, IsListJudged}
+use Rattle.sitecertificate.specs.Disagreements.{Disagreement, loaded_texts, is_set, has_not_value, path_not_in_order}
+use Rattle.sitecertificate.specs.Disagreements.{stack_not_in_order, IsDisagreement, use_named, IsJudged, IsListJudged}
 
 -- what a reason says of the environment, whatever the certificate
 pub record Holds (e : Environment) (d : Disagreement) : Type 0 where
@@ -116,7 +118,8 @@ empty_agrees e ps r = record {
   uses = λ v x h. by_cases (r.uses (v, x) h) (λ a. a) (λ n. absurd n.there);
 }
 
-refuted : (e : Environment) (ps : List UsedVariable) (d : Disagreement) (o : Option UsedVariable) → use_named d ≡ o → Holds e d → ((p : UsedVariable) → use_named d ≡ Some p → IsAmong p ps) → AgreesWith ps e → ⊥
+refuted : (e : Environment) (ps : List UsedVariable) (d : Disagreement) (o : Option UsedVariable) → use_named d ≡ o
+    → Holds e d → ((p : UsedVariable) → use_named d ≡ Some p → IsAmong p ps) → AgreesWith ps e → ⊥
 refuted e ps d None h k of a = k.list h a.loaded
 refuted e ps d (Some p) h k of a = k.uses p h (a.uses p.0 p.1 (of p h))
 
@@ -186,7 +189,8 @@ judged_bad {X} view e p xs ys x b f d named h =
     )
 
 -- at the end of the uses
-pub all_reported : (e : Environment) (xs : List code.UsedVariable) (i : ℕ) (ds : List Disagreement) → length xs ≤ i → i ≤ length xs → Reports e (map used_view (take i xs)) ds → Reports e (map used_view xs) ds
+pub all_reported : (e : Environment) (xs : List code.UsedVariable) (i : ℕ) (ds : List Disagreement) → length xs ≤ i
+    → i ≤ length xs → Reports e (map used_view (take i xs)) ds → Reports e (map used_view xs) ds
 all_reported e xs i ds l m r =
     let same : i ≡ length xs = omega arith in
     subst (λ (ys : List code.UsedVariable). Reports e (map used_view ys) ds) (ap (λ (n : ℕ). take n xs) same ∙ take-length xs) r

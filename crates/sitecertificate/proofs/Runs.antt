@@ -1,5 +1,6 @@
 -- Moves of certified modules, one after the other.
-use Rattle.std.proofs.Common.{◌≡◌, inl, inr, Bool, true, false, cond, ◌||◌, List, [], ◌∷◌, ◌++◌, refl, sym, ◌∙◌, subst, Some, Ok}
+use Rattle.std.proofs.Common.{◌≡◌, inl, inr, Bool, true, false, cond, ◌||◌, List, [], ◌∷◌, ◌++◌, refl, sym, ◌∙◌, subst}
+use Rattle.std.proofs.Common.{Some, Ok}
 use Rattle.std.specs.Prelude.{bytes_eq}
 use Rattle.std.proofs.lemmas.Option.{same_Some}
 use Rattle.envvars.specs.Texts.{Text, has}
@@ -36,7 +37,9 @@ newest ms live m start old a o t c k fits = (c, (λ n b. neither (bytes_eq m.nam
     absent = subst (λ (zs : List Entry). has m.name (names_of zs) ≡ false)
         (same_Some fits.0 (entries_over first.0 live) (sym fits.1 ∙ o.start_with_live.entries first.0 first.1)) fits.2
 
-left_at : (name : Text) (m : Module) (live : List Module) (b : Bool) (n : Module) → (IsAmong n (without_live name live) → IsAmong n live) → IsAmong n (cond b live (m ∷ without_live name live)) → IsAmong n (m ∷ live)
+left_at : (name : Text) (m : Module) (live : List Module) (b : Bool) (n : Module)
+    → (IsAmong n (without_live name live) → IsAmong n live) → IsAmong n (cond b live (m ∷ without_live name live))
+    → IsAmong n (m ∷ live)
 left_at name m live true n h a = inr a
 left_at name m live false n h (inl e) = inl e
 left_at name m live false n h (inr a) = inr (h a)
@@ -45,7 +48,9 @@ left_among : (name : Text) (live : List Module) (n : Module) → IsAmong n (with
 left_among name [] n a = a
 left_among name (m ∷ live) n a = left_at name m live (bytes_eq name m.name) n (left_among name live n) a
 
-less_at : (ms : List Module) (name : Text) (m : Module) (live : List Module) (b : Bool) → AreCertifiedTogether ms (m ∷ live) → AreCertifiedTogether ms (without_live name live) → AreCertifiedTogether ms (cond b live (m ∷ without_live name live))
+less_at : (ms : List Module) (name : Text) (m : Module) (live : List Module) (b : Bool)
+    → AreCertifiedTogether ms (m ∷ live) → AreCertifiedTogether ms (without_live name live)
+    → AreCertifiedTogether ms (cond b live (m ∷ without_live name live))
 less_at ms name m live true t h = t.2
 less_at ms name m live false t h = (t.0, (λ n a. t.1 n (left_among name live n a)), h)
 
@@ -104,7 +109,9 @@ unloaded preserve ms live m start old new a s d fits h =
           (of_kind ms (without_live m.name live) t) (record { order = r.0.order; start_with_live = r.0.start_with_live });
     }
 
-stand : RunsReturn → MovesPreserve → (ms live : List Module) (moves : List Move) (start old new : Environment) → AgreesWith (certificate ms) start → Stands ms start live old → AreCertified ms live moves → MovesReach moves old new
+stand : RunsReturn → MovesPreserve → (ms live : List Module) (moves : List Move) (start old new : Environment)
+    → AgreesWith (certificate ms) start → Stands ms start live old → AreCertified ms live moves
+    → MovesReach moves old new
     → Stands ms start (live_after live moves) new
 stand runs preserve ms live [] start old new a s c r = subst (Stands ms start live) (sym r) s
 stand runs preserve ms live (Loads m ∷ moves) start old new a s c r =

@@ -1,5 +1,6 @@
 -- A stack is in order exactly where its owners are loaded, and its two texts are those that they are written anew as.
-use Rattle.std.proofs.Common.{◌≡◌, Bool, true, false, ◌&&◌, ◌||◌, List, [], ◌∷◌, refl, sym, ap, ◌∙◌, subst, inl, inr, Option, Some, None, Result, Ok, Err, IsTrue}
+use Rattle.std.proofs.Common.{◌≡◌, Bool, true, false, ◌&&◌, ◌||◌, List, [], ◌∷◌, refl, sym, ap, ◌∙◌, subst, inl, inr}
+use Rattle.std.proofs.Common.{Option, Some, None, Result, Ok, Err, IsTrue}
 use Rattle.std.specs.Prelude.{bytes_eq, if◌then◌else◌, IfOk}
 use Rattle.std.specs.List.{list_any, list_all}
 use Rattle.std.specs.Option.{option_map, option_and_then}
@@ -11,9 +12,11 @@ use Rattle.envvars.specs.Escapes.{unescaped_fields}
 use Rattle.envvars.specs.Environment.{Environment, lookup}
 use Rattle.envvars.proofs.TextLemmas.{same_text, bytes_eq-same}
 use Rattle.envvars.proofs.EditLemmas.{both_true, and_both, passes_each}
-use Rattle.envstacks.specs.Stacks.{OwnedValue, StackState, is_owner, has_owner, holds, without_owner, visible, items_or_bottom, without_lone_bottom, push, pop}
+use Rattle.envstacks.specs.Stacks.{OwnedValue, StackState, is_owner, has_owner, holds, without_owner, visible}
+use Rattle.envstacks.specs.Stacks.{items_or_bottom, without_lone_bottom, push, pop}
 use Rattle.envstacks.specs.StackRuns.{IsOwnedStart, start_with_pushes, other_pushes}
-use Rattle.envstacks.specs.StackTexts.{item_of, items_of_elements, is_stack, if_stack, items_in, stack_text, is_writable_owner}
+use Rattle.envstacks.specs.StackTexts.{item_of, items_of_elements, is_stack, if_stack, items_in, stack_text}
+use Rattle.envstacks.specs.StackTexts.{is_writable_owner}
 use Rattle.envstacks.specs.StackVariables.{stack_from, is_loaded_owner, IsWrittenStack, IsStackInOrder}
 use Rattle.envstacks.specs.StackOrder.{HoldsStack}
 use Rattle.envstacks.proofs.StackLemmas.{without_stranger, push-start_with_pushes, pop-start_with_pushes}

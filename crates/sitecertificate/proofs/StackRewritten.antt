@@ -1,5 +1,6 @@
 -- What a push and a pop on the copy of a stack say of the stack.
-use Rattle.std.proofs.Common.{◌≡◌, Bool, true, false, ◌&&◌, [], refl, sym, ap, ◌∙◌, subst, codes, Option, Some, None, Result, Ok, Err, IsTrue}
+use Rattle.std.proofs.Common.{◌≡◌, Bool, true, false, ◌&&◌, [], refl, sym, ap, ◌∙◌, subst, codes, Option, Some, None}
+use Rattle.std.proofs.Common.{Result, Ok, Err, IsTrue}
 use Rattle.std.specs.Prelude.{if◌then◌else◌, IfSome}
 use Rattle.modulename.specs.ModuleName.{is_module_name}
 use Rattle.envvars.specs.Texts.{Text}
@@ -8,12 +9,14 @@ use Rattle.envvars.specs.Environment.{Environment, lookup}
 use Rattle.envvars.specs.Changes.{same_value}
 use Rattle.envvars.specs.Reasons.{EnvReason, reason_of, bad_stack}
 use Rattle.envvars.specs.declared.fault.EnvFault.{EnvFault}
-use Rattle.envvars.specs.declared.fault.EnvFault.TheVariants.{OutOfMemory, BadVariable, Protected, CounterFull, Inconsistent, BadStack, BadValue}
+use Rattle.envvars.specs.declared.fault.EnvFault.TheVariants.{OutOfMemory, BadVariable, Protected, CounterFull}
+use Rattle.envvars.specs.declared.fault.EnvFault.TheVariants.{Inconsistent, BadStack, BadValue}
 use Rattle.envvars.proofs.TextLemmas.{bytes_eq-same}
 use Rattle.envpaths.proofs.CopyLemmas.{both_same, copied, at_copy, at_beside}
 use Rattle.envstacks.specs.Stacks.{StackState, holds, push, pop}
 use Rattle.envstacks.specs.StackTexts.{items_in}
-use Rattle.envstacks.specs.StackVariables.{stack_from, stack_in, pushed_on, pushed_value, popped_from, popped_value, with_stack}
+use Rattle.envstacks.specs.StackVariables.{stack_from, stack_in, pushed_on, pushed_value, popped_from, popped_value}
+use Rattle.envstacks.specs.StackVariables.{with_stack}
 use Rattle.envstacks.specs.StackOrder.{HoldsStack}
 use Rattle.envstacks.proofs.StackAfter.{was_stack, stack_after_push, no_stack_pushed, written_after_pop}
 use Rattle.sitecertificate.specs.Rewriting.{IsPushed, IsStackRewritten}

@@ -1,5 +1,6 @@
 -- Names that are longer than those of all loaded modules.
-use Rattle.std.proofs.Common.{◌≡◌, ◌+◌, ◌<◌, ◌≤◌, ℕ, zero, suc, Bool, true, false, not, ◌||◌, ◌&&◌, nat_le, List, [], ◌∷◌, ◌++◌, length, get_or, map, take, string_bytes, max, refl, sym, ap, ◌∙◌, subst, arith}
+use Rattle.std.proofs.Common.{◌≡◌, ◌+◌, ◌<◌, ◌≤◌, ℕ, zero, suc, Bool, true, false, not, ◌||◌, ◌&&◌, nat_le, List, []}
+use Rattle.std.proofs.Common.{◌∷◌, ◌++◌, length, get_or, map, take, string_bytes, max, refl, sym, ap, ◌∙◌, subst, arith}
 use Rattle.std.specs.Prelude.{bytes_eq}
 use Rattle.std.specs.Ordering.{nat_cmp, ord_max}
 use Rattle.std.specs.List.{list_any, list_all, repeat, onto_first}
@@ -89,7 +90,8 @@ pub unused : (n : ℕ) (xs : List Loaded) → list_all (fits n) xs ≡ true → 
 unused n [] h = refl
 unused n (x ∷ xs) h =
     let b = both_true (fits n x) (list_all (fits n) xs) h in
-    neither (bytes_eq (letters n) (string_bytes x.name)) (has (letters n) (names_of (map entry_view xs))) (differs n (string_bytes x.name) (bytes_eq (letters n) (string_bytes x.name)) refl b.0) (unused n xs b.1)
+    neither (bytes_eq (letters n) (string_bytes x.name)) (has (letters n) (names_of (map entry_view xs)))
+    (differs n (string_bytes x.name) (bytes_eq (letters n) (string_bytes x.name)) refl b.0) (unused n xs b.1)
 
 -- all names fit
 pub all_names : (n : ℕ) (xs : List Loaded) (i : ℕ) → length xs ≤ i → i ≤ length xs → list_all (fits n) (take i xs) ≡ true → list_all (fits n) xs ≡ true

@@ -1,5 +1,6 @@
 -- A variable that no live module uses is as in the start, and may be used in any way that the start agrees with.
-use Rattle.std.proofs.Common.{◌≡◌, inl, inr, ℕ, true, false, ◌||◌, List, [], ◌∷◌, ◌++◌, refl, sym, ap, ◌∙◌, subst, Option, Some}
+use Rattle.std.proofs.Common.{◌≡◌, inl, inr, ℕ, true, false, ◌||◌, List, [], ◌∷◌, ◌++◌, refl, sym, ap, ◌∙◌, subst}
+use Rattle.std.proofs.Common.{Option, Some}
 use Rattle.std.specs.Prelude.{bytes_eq, unwrap_or}
 use Rattle.std.specs.List.{list_all}
 use Rattle.std.proofs.lemmas.List.{map_push}
@@ -36,7 +37,8 @@ names_over xs m live = map_push (λ (x : Entry). x.name) (entries_over xs live) 
 pub not_named : (name : Text) (xs : List Entry) (live : List Module) → has name (names_of (entries_over xs live)) ≡ false → (n : Module) → IsAmong n live → bytes_eq name n.name ≡ false
 not_named name xs [] h n a = absurd a
 not_named name xs (m ∷ live) h n a =
-    let k : (bytes_eq name m.name || has name (names_of (entries_over xs live))) ≡ false = sym (has-push (names_of (entries_over xs live)) m.name name) ∙ ap (has name) (sym (names_over xs m live)) ∙ h in
+    let k : (bytes_eq name m.name || has name (names_of (entries_over xs live))) ≡ false = sym
+    (has-push (names_of (entries_over xs live)) m.name name) ∙ ap (has name) (sym (names_over xs m live)) ∙ h in
     by_cases a
     (λ e. ap (λ (z : Module). bytes_eq name z.name) e ∙ or_left (bytes_eq name m.name) (has name (names_of (entries_over xs live))) k)
     (λ b. not_named name xs live (or_right (bytes_eq name m.name) (has name (names_of (entries_over xs live))) k) n b)
@@ -68,7 +70,8 @@ stack_over e v xs (m ∷ live) h =
     subst (λ (ns : List Text). IsStackInOrder ns e v) (sym (names_over xs m live)) (order_of_more (names_of (entries_over xs live)) e v m.name (stack_over e v xs live h))
 
 -- A variable as in the start has no use of the live modules over it, whichever way it may be used.
-pub by_any_use : (y : VariableUse) (start e : Environment) (v : Text) (live : List Module) → AreOfKind live → Unused v (used_by_modules live) → HasVariable y start v [] start → IsAsIn start v e → HasVariable y start v live e
+pub by_any_use : (y : VariableUse) (start e : Environment) (v : Text) (live : List Module) → AreOfKind live
+    → Unused v (used_by_modules live) → HasVariable y start v [] start → IsAsIn start v e → HasVariable y start v live e
 by_any_use Untouched start e v live k n s h = h
 by_any_use (Fixed value) start e v live k n s h = subst (λ (o : Option (Option Text)). HasValue start e v (unwrap_or o (lookup start v))) (sym (none_sets v live k n.none)) h
 by_any_use (Pathed d) start e v live k n s h =

@@ -34,8 +34,8 @@ go_together (Pathed d) (Pathed k) = d == k
 go_together Stacked Stacked = true
 go_together x y = false
 
--- A start may agree with both uses. None does where one sets a variable that the other unsets, and none where they unset
--- different values.
+-- A start may agree with both uses. None does where one sets a variable that the other unsets, and none where they
+-- unset different values.
 abbrev pub agree_at_start : VariableUse → VariableUse → Bool
 agree_at_start (Fixed x) (Fixed y) = option_eq bytes_eq x y
 agree_at_start x y = true

@@ -1,5 +1,5 @@
--- Worked examples of certificates (own), each of two modules: which of them are certified, by each rule in turn. And what
--- is lost where a rule is left out.
+-- Worked examples of certificates (own), each of two modules: which of them are certified, by each rule in turn. And
+-- what is lost where a rule is left out.
 use Rattle.std.specs.Prelude.{◌≡◌, true, List, [], ◌∷◌, ◌++◌, codes, Some, None}
 use Rattle.envvars.specs.Texts.{Text}
 use Rattle.envvars.specs.Environment.{Environment, lookup}
@@ -109,7 +109,8 @@ ConflictWithAnother =
 -- Two versions of one module don't exclude each other by that.
 abbrev pub TwoVersions : Type 0
 TwoVersions =
-    NeitherIsCertified (first (sets (codes "x") ∷ [])) (in_directory (codes "/m/") (codes "m/2") (sets (codes "y") ∷ []))
+    NeitherIsCertified (first (sets (codes "x") ∷ []))
+    (in_directory (codes "/m/") (codes "m/2") (sets (codes "y") ∷ []))
 
 -- Two files of one name do.
 abbrev pub TwoFiles : Type 0

@@ -16,16 +16,16 @@ use Rattle.sitecertificate.specs.Certificates.{IsCertified, certified, certifica
 abbrev pub CertifiedAreExact : Type 0
 CertifiedAreExact = (ms : List Module) (m : Module) → IsAmong m (certified ms) ↔ IsCertified ms m
 
--- Each load is of a certified module that is in conflict with no live one, and each unload is of a live module, with the
--- records of its load. No use of a variable is asked for: each module may have its own.
+-- Each load is of a certified module that is in conflict with no live one, and each unload is of a live module, with
+-- the records of its load. No use of a variable is asked for: each module may have its own.
 abbrev pub AreCertified : List Module → List Module → List Move → Type 0
 AreCertified ms live [] = Unit {0}
 AreCertified ms live (Loads m ∷ moves) =
     IsCertified ms m × ((n : Module) → IsAmong n live → in_conflict m n ≡ false) × AreCertified ms (m ∷ live) moves
 AreCertified ms live (Unloads m ∷ moves) = Undoes live m × AreCertified ms (without_live m.name live) moves
 
--- Whether a module is in conflict with live ones can be read from the loaded list: it is not where it is in conflict with
--- no entry, since each live module has its entry there.
+-- Whether a module is in conflict with live ones can be read from the loaded list: it is not where it is in conflict
+-- with no entry, since each live module has its entry there.
 abbrev pub EntriesHaveConflicts : Type 0
 EntriesHaveConflicts =
     (entries : List Entry) (live : List Module) (m : Module)
@@ -49,8 +49,8 @@ AreCertifiedTogether ms [] = Unit {0}
 AreCertifiedTogether ms (m ∷ live) =
     IsCertified ms m × ((n : Module) → IsAmong n live → exclude m n ≡ false) × AreCertifiedTogether ms live
 
--- The same from any environment in order that is such a start with certified modules layered on it, whatever was before:
--- this is what one command needs, which knows no history.
+-- The same from any environment in order that is such a start with certified modules layered on it, whatever was
+-- before: this is what one command needs, which knows no history.
 abbrev pub CertifiedMovesPreserve : Type 0
 CertifiedMovesPreserve =
     (ms : List Module) (start old new : Environment) (live : List Module) (moves : List Move)

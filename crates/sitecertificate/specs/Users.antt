@@ -1,5 +1,6 @@
 -- The users of a variable: modules with a use of it, and which of them clash (own).
-use Rattle.std.specs.Prelude.{◌≡◌, ◌⊎◌, Bool, true, false, ◌&&◌, List, map, flat_map, ◌++◌, bytes_eq, Option, Some, None, ◌==◌}
+use Rattle.std.specs.Prelude.{◌≡◌, ◌⊎◌, Bool, true, false, ◌&&◌, List, map, flat_map, ◌++◌, bytes_eq, Option, Some}
+use Rattle.std.specs.Prelude.{None, ◌==◌}
 use Rattle.std.specs.List.{list_any, before_first}
 use Rattle.modulename.specs.ModuleName.{slash}
 use Rattle.envvars.specs.Texts.{Text}

@@ -13,7 +13,6 @@ use std::alloc::{AllocError, Global};
 /// Names of modules, or of their first parts.
 pub(crate) type Names<'a> = IndexSet<&'a str>;
 
-/// Enters names.
 fn enter_names<'a>(entered: &mut Names<'a>, names: &'a [String]) -> Result<(), AllocError>
     ensures { OnOk result ((name : Text) → has_name entered.new name
         ≡ (has_name entered.old name || has name (map string_bytes names.entry.now))) }

@@ -1,5 +1,12 @@
 //! Worked examples of certificates, computed from the definitions, and why the rules are as they are.
-ghost use Rattle.sitecertificate.specs.Examples.{OneDelimiter, OneStack, TwoDelimiters, PathAndStack, BothSet, BothUnset, OtherVariable, FirstInConflict, SecondInConflict, ConflictByPart, ConflictByLetters, ConflictWithAnother, TwoVersions, TwoFiles, SetAndPushed, ExclusiveDelimiters, SetAndUnset, TwoValues, TwoFilesAndValues, OneValue, TwoUses, DelimitersInOne, ValuesInOne, ModulepathPushed, ModulepathParted, ModulepathExtended, OneWay, LoseByDelimiters, LoseByPathAndStack, LoseBySetAndPush, LoseByUnsetAndPush, LoseByBothSet, SetAndPushLeaveValue, StartsAgree};
+ghost use Rattle.sitecertificate.specs.Examples.{OneDelimiter, OneStack, TwoDelimiters, PathAndStack, BothSet};
+ghost use Rattle.sitecertificate.specs.Examples.{BothUnset, OtherVariable, FirstInConflict, SecondInConflict};
+ghost use Rattle.sitecertificate.specs.Examples.{ConflictByPart, ConflictByLetters, ConflictWithAnother, TwoVersions};
+ghost use Rattle.sitecertificate.specs.Examples.{TwoFiles, SetAndPushed, ExclusiveDelimiters, SetAndUnset, TwoValues};
+ghost use Rattle.sitecertificate.specs.Examples.{TwoFilesAndValues, OneValue, TwoUses, DelimitersInOne, ValuesInOne};
+ghost use Rattle.sitecertificate.specs.Examples.{ModulepathPushed, ModulepathParted, ModulepathExtended, OneWay};
+ghost use Rattle.sitecertificate.specs.Examples.{LoseByDelimiters, LoseByPathAndStack, LoseBySetAndPush};
+ghost use Rattle.sitecertificate.specs.Examples.{LoseByUnsetAndPush, LoseByBothSet, SetAndPushLeaveValue, StartsAgree};
 
 /// Two modules that don't exclude each other use one variable.
 pub fn clashes()

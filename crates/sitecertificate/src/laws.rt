@@ -1,5 +1,6 @@
 //! Laws of certificates. Each function does nothing: its contract is the law.
-ghost use Rattle.sitecertificate.specs.Laws.{CertifiedAreExact, EntriesHaveConflicts, CertifiedRunsStand, CertifiedMovesPreserve};
+ghost use Rattle.sitecertificate.specs.Laws.{CertifiedAreExact, EntriesHaveConflicts, CertifiedRunsStand};
+ghost use Rattle.sitecertificate.specs.Laws.{CertifiedMovesPreserve};
 
 /// The test of which modules of a list are certified finds exactly those of the definition.
 pub fn certified()

@@ -1,5 +1,6 @@
 //! Whether the texts of the loaded modules are in order.
-ghost use Rattle.std.specs.Prelude.{◌≡◌, ◌↔◌, ◌&&◌, true, false, map, string_bytes, IfOk, IfErr, IsTrue, length, nat_le};
+ghost use Rattle.std.specs.Prelude.{◌≡◌, ◌↔◌, ◌&&◌, true, false, map, string_bytes, IfOk, IfErr, IsTrue, length};
+ghost use Rattle.std.specs.Prelude.{nat_le};
 ghost use Rattle.std.specs.List.{list_all};
 ghost use Rattle.std.specs.Option.{option_map};
 ghost use Rattle.modulename.specs.ModuleName.{is_module_name};
@@ -13,7 +14,7 @@ ghost use Rattle.envloaded.specs.LoadedEntries.{entry_view};
 ghost use Rattle.sitecertificate.specs.Rewriting.{bare};
 
 use envloaded::{Loaded, add_loaded, drop_loaded, loaded};
-use envvars::{Env, EnvFault, Vars, Working};
+use envvars::{Env, EnvFault, Vars, WorkingCopy};
 use std::alloc::{AllocError, Global};
 
 /// The loaded modules; none where their texts don't fit together.
@@ -62,14 +63,14 @@ fn bare_entry(alloc: Global, name: &str) -> Result<Loaded, AllocError>
 }
 
 /// Whether the variable has one value in both, or is unset in both.
-fn is_unchanged(old: &Env, new: &Working<'_, Env>, name: &str) -> bool
+fn is_unchanged(old: &Env, new: &WorkingCopy<'_, Env>, name: &str) -> bool
     ensures { result ≡ same_value (lookup new.now.new name.now) (lookup old.now name.now) }
 {
     new.get(name) == old.get(name)
 }
 
 /// Whether the four variables of the list have the same values in both.
-fn is_list_unchanged(old: &Env, new: &Working<'_, Env>) -> bool
+fn is_list_unchanged(old: &Env, new: &WorkingCopy<'_, Env>) -> bool
     ensures { result ≡ (same_value (lookup new.now.new names_variable) (lookup old.now names_variable)
         && (same_value (lookup new.now.new files_variable) (lookup old.now files_variable)
         && (same_value (lookup new.now.new conflicts_variable) (lookup old.now conflicts_variable)
@@ -91,7 +92,7 @@ pub(crate) fn are_loaded_in_order(alloc: Global, env: &Env) -> Result<bool, EnvF
         return Ok(false);
     };
     let entry = bare_entry(alloc, unused_name(alloc, entries.as_slice())?.as_str())?;
-    let mut anew = Working::over(env);
+    let mut anew = WorkingCopy::over(env);
     add_loaded(alloc, &mut anew, &entry)?;
     drop_loaded(alloc, &mut anew, entry.name.as_str())?;
     Ok(is_list_unchanged(env, &anew))

@@ -88,7 +88,6 @@ fn use_by(alloc: Global, recorded: &Record) -> Result<Option<UsedVariable>, Allo
     }
 }
 
-/// Adds the use by a record, if it has one.
 fn push_use(
     alloc: Global,
     used: &mut Vec<UsedVariable>,

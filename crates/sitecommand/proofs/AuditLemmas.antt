@@ -14,20 +14,25 @@ use Rattle.siteaudit.specs.Walks.{HasCause}
 use Rattle.siteaudit.specs.declared.fault.WalkFault.{WalkFault}
 use Rattle.siteaudit.specs.declared.fault.WalkFault.TheVariants as walks
 use Rattle.sitecommand.specs.Arguments.{Wanted, wanted_of}
-use Rattle.sitecommand.specs.Audits.{EndsAudit, IsAuditFault, WritesAudit, no_directory, no_walk, given_up, report_text, all_certified}
+use Rattle.sitecommand.specs.Audits.{EndsAudit, IsAuditFault, WritesAudit, no_directory, no_walk, given_up, report_text}
+use Rattle.sitecommand.specs.Audits.{all_certified}
 use Rattle.sitecommand.specs.Steps.{IsGivenUp, IsPreparedAudit, IsWantedFault}
-use Rattle.sitecommand.specs.declared.running.Prepared.{Prepared}
+use Rattle.sitecommand.specs.declared.running.PreparedAudit.{PreparedAudit}
 use Rattle.sitecommand.specs.declared.audit_exit.AuditExit.{AuditExit}
 use Rattle.sitecommand.specs.declared.audit_fault.AuditFault.{AuditFault}
-use Rattle.sitecommand.specs.declared.audit_fault.AuditFault.TheVariants.{Refused, TooManyDirectories, NotADirectory, WriteFailed}
+use Rattle.sitecommand.specs.declared.audit_fault.AuditFault.TheVariants.{Refused, TooManyDirectories, NotADirectory}
+use Rattle.sitecommand.specs.declared.audit_fault.AuditFault.TheVariants.{WriteFailed}
 use Rattle.sitecommand.proofs.DirectoryLemmas.{applies_in}
 
 -- a cause of a walk holds of the whole, where what failed in the walk failed in the whole
-pub cause_in : (agrees : Files → Listings → Type 0) (P Q : Type 0) (limits : Limits) (e : Environment) (fault : WalkFault) → (P → Q) → HasCause agrees P limits e fault → HasCause agrees Q limits e fault
-cause_in agrees P Q limits e (walks.Refused refusal) f h = applies_in (cause_of refusal) P Q (λ (reason : RequestReason). (reason ≡ refused_edit (bad_edit edits.inconsistent)) × (loaded_in e ≡ None)) f h
+pub cause_in : (agrees : Files → Listings → Type 0) (P Q : Type 0) (limits : Limits) (e : Environment)
+    (fault : WalkFault) → (P → Q) → HasCause agrees P limits e fault → HasCause agrees Q limits e fault
+cause_in agrees P Q limits e (walks.Refused refusal) f h = applies_in (cause_of refusal) P Q
+    (λ (reason : RequestReason). (reason ≡ refused_edit (bad_edit edits.inconsistent)) × (loaded_in e ≡ None)) f h
 cause_in agrees P Q limits e walks.TooManyDirectories f h = h
 
-given_up_fault : (agrees : Files → Listings → Type 0) (failed : Type 0) (e : Environment) (arguments : List Text) (fault : AuditFault) → IsGivenUp failed fault → IsAuditFault agrees failed e arguments fault
+given_up_fault : (agrees : Files → Listings → Type 0) (failed : Type 0) (e : Environment) (arguments : List Text)
+    (fault : AuditFault) → IsGivenUp failed fault → IsAuditFault agrees failed e arguments fault
 given_up_fault agrees failed e arguments (Refused refusal) h = given_up refusal h
 given_up_fault agrees failed e arguments TooManyDirectories h = absurd h
 given_up_fault agrees failed e arguments (NotADirectory dir) h = absurd h
@@ -48,8 +53,11 @@ if_err_so (Ok x) P Q f h = tt
 if_err_so (Err e) P Q f h = f e h
 
 -- the end of an audit whose report was written, or the first part of it
-pub answered : (exit : AuditExit) (agrees : Files → Listings → Type 0) (failed : Type 0) (Fails : Bool → Type 0) (e : Environment) (arguments : List Text) (answer : Prepared) (out out' err err' : Option Text)
-    → IsPreparedAudit agrees e arguments answer → Fails false → WritesAudit exit answer.is_all_certified answer.report.items out out' err err' → EndsAudit exit agrees failed Fails e arguments out out' err err'
+pub answered : (exit : AuditExit) (agrees : Files → Listings → Type 0) (failed : Type 0) (Fails : Bool → Type 0)
+    (e : Environment) (arguments : List Text) (answer : PreparedAudit) (out out' err err' : Option Text)
+    → IsPreparedAudit agrees e arguments answer → Fails false
+    → WritesAudit exit answer.is_all_certified answer.report.items out out' err err'
+    → EndsAudit exit agrees failed Fails e arguments out out' err err'
 answered exit agrees failed Fails e arguments answer out out' err err' is none h =
     let found = is.prepared.found in
     inl (

@@ -1,5 +1,6 @@
 -- Directories that are judged one after another, and the faults of words that name none.
-use Rattle.std.proofs.Common.{◌≡◌, ℕ, zero, suc, ◌+◌, ◌<◌, ◌≤◌, Bool, false, List, [], ◌∷◌, ◌++◌, length, get_or, map, take, string_bytes, String, refl, sym, ap, ◌∙◌, subst, inl, inr, arith}
+use Rattle.std.proofs.Common.{◌≡◌, ℕ, zero, suc, ◌+◌, ◌<◌, ◌≤◌, Bool, false, List, [], ◌∷◌, ◌++◌, length, get_or, map}
+use Rattle.std.proofs.Common.{take, string_bytes, String, refl, sym, ap, ◌∙◌, subst, inl, inr, arith}
 use Rattle.std.proofs.lemmas.List.{take_more, map-append}
 use Rattle.std.specs.declared.alloc.Global.{Global}
 use Rattle.requests.specs.Reasons.{RequestReason}
@@ -16,7 +17,8 @@ use Rattle.sitecommand.specs.Faults.{is_failure, of_walk}
 use Rattle.sitecommand.specs.Looked.{AreThere, DirectoriesLookAt}
 use Rattle.sitecommand.specs.Steps.{IsGivenUp, NamesNoDirectory, IsDirectoryFault, AreDirectoriesFault}
 use Rattle.sitecommand.specs.declared.audit_fault.AuditFault.{AuditFault}
-use Rattle.sitecommand.specs.declared.audit_fault.AuditFault.TheVariants.{Refused, TooManyDirectories, NotADirectory, WriteFailed}
+use Rattle.sitecommand.specs.declared.audit_fault.AuditFault.TheVariants.{Refused, TooManyDirectories, NotADirectory}
+use Rattle.sitecommand.specs.declared.audit_fault.AuditFault.TheVariants.{WriteFailed}
 
 -- what failed in a later part failed in the whole
 pub fails_later : (a b c : ℕ) → a ≤ b → b < c → a < c
@@ -40,7 +42,8 @@ given_up_in (NotADirectory dir) P Q f h = h
 given_up_in WriteFailed P Q f h = h
 
 -- a word that names no directory, or want of memory
-pub fault_of_word : (agrees : Files → Listings → Type 0) (failed : Type 0) (fault : AuditFault) (word : Text) → IsNoDirectory agrees word → NamesNoDirectory fault word → IsDirectoryFault agrees failed word fault
+pub fault_of_word : (agrees : Files → Listings → Type 0) (failed : Type 0) (fault : AuditFault) (word : Text)
+    → IsNoDirectory agrees word → NamesNoDirectory fault word → IsDirectoryFault agrees failed word fault
 fault_of_word agrees failed fault word lacks (inl d) = inl (d.0, d.1, d.2, lacks)
 fault_of_word agrees failed fault word lacks (inr h) = inr (given_up_in fault ⊥ failed (λ x. absurd x) h)
 
@@ -64,7 +67,9 @@ and_one P (d ∷ dirs) dir h k = (h.0, and_one P dirs dir h.1 k)
 taken : (xs : List (String Global)) (i : ℕ) (x : String Global) → i < length xs → x ≡ get_or xs i x
     → map (λ (s : String Global). string_bytes s) (take (i + 1) xs) ≡ map (λ (s : String Global). string_bytes s) (take i xs) ++ string_bytes x ∷ []
 taken xs i x l e =
-    ap (map (λ (s : String Global). string_bytes s)) (take_more xs i x l ∙ ap (λ (y : String Global). take i xs ++ y ∷ []) (sym e)) ∙ map-append (λ (s : String Global). string_bytes s) (take i xs) (x ∷ [])
+    ap (map (λ (s : String Global). string_bytes s)) (take_more xs i x l ∙ ap
+    (λ (y : String Global). take i xs ++ y ∷ []) (sym e))
+    ∙ map-append (λ (s : String Global). string_bytes s) (take i xs) (x ∷ [])
 
 pub directory_more : (P Q : Files → Listings → Type 0) (xs : List (String Global)) (i : ℕ) (x : String Global) → i < length xs → x ≡ get_or xs i x → Narrows P Q
     → AreDirectories P (map (λ (s : String Global). string_bytes s) (take i xs)) → IsDirectory Q (string_bytes x) → AreDirectories Q (map (λ (s : String Global). string_bytes s) (take (i + 1) xs))
@@ -82,7 +87,9 @@ placed (y ∷ ys) zero x l e = (map (λ (s : String Global). string_bytes s) ys,
 placed (y ∷ ys) (suc i) x l e = let later = placed ys i x (omega arith) e in (later.0, ap (λ (words : List Text). string_bytes y ∷ words) later.1)
 
 pub fault_among : (before agrees : Files → Listings → Type 0) (failed all_failed : Type 0) (xs : List (String Global)) (i : ℕ) (x : String Global) (fault : AuditFault) → (failed → all_failed)
-    → i < length xs → x ≡ get_or xs i x → Narrows before agrees → AreDirectories before (map (λ (s : String Global). string_bytes s) (take i xs)) → IsDirectoryFault agrees failed (string_bytes x) fault
+    → i < length xs → x ≡ get_or xs i x → Narrows before agrees
+    → AreDirectories before (map (λ (s : String Global). string_bytes s) (take i xs))
+    → IsDirectoryFault agrees failed (string_bytes x) fault
     → AreDirectoriesFault agrees all_failed (map (λ (s : String Global). string_bytes s) xs) fault
 fault_among before agrees failed all_failed xs i x fault f l e n there (inl d) =
     let so_far = map (λ (s : String Global). string_bytes s) (take i xs) in

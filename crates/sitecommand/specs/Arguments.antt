@@ -1,5 +1,6 @@
 -- What the words of a command line ask an audit for (own; the option that ends options is POSIX's).
-use Rattle.std.specs.Prelude.{Bool, true, false, not, ◌||◌, List, [], ◌∷◌, ◌++◌, codes, bytes_eq, flat_map, nat_eq, if◌then◌else◌, Option, Some, None}
+use Rattle.std.specs.Prelude.{Bool, true, false, not, ◌||◌, List, [], ◌∷◌, ◌++◌, codes, bytes_eq, flat_map, nat_eq}
+use Rattle.std.specs.Prelude.{if◌then◌else◌, Option, Some, None}
 use Rattle.std.specs.List.{list_all, list_any, starts_with, before_first, after_first}
 use Rattle.envvars.specs.Texts.{Text}
 use Rattle.sitereport.specs.declared.selection.Selection.{Selection}
@@ -7,8 +8,8 @@ use Rattle.sitereport.specs.declared.selection.Selection.TheVariants.{Each, NotC
 use Rattle.sitecommand.specs.declared.arguments.Format.{Format}
 use Rattle.sitecommand.specs.declared.arguments.Format.TheVariants.{Lines, Document}
 
--- What is asked for: which modules the report names, how it is written, and the directories that are the MODULEPATH of the
--- audit.
+-- What is asked for: which modules the report names, how it is written, and the directories that are the MODULEPATH of
+-- the audit.
 pub record Wanted : Type 0 where
   pub selection : Selection
   pub format : Format

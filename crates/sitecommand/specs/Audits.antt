@@ -1,5 +1,6 @@
 -- What an audit writes to its two writers, and why there is none (own).
-use Rattle.std.specs.Prelude.{◌≡◌, ◌⊎◌, ℕ, Bool, true, false, List, [], ◌∷◌, ◌++◌, codes, Option, Some, None, IsSome, ◌==◌, string_bytes}
+use Rattle.std.specs.Prelude.{◌≡◌, ◌⊎◌, ℕ, Bool, true, false, List, [], ◌∷◌, ◌++◌, codes, Option, Some, None, IsSome}
+use Rattle.std.specs.Prelude.{◌==◌, string_bytes}
 use Rattle.std.specs.declared.alloc.Global.{Global}
 use Rattle.std.specs.declared.string.String.{String}
 use Rattle.std.specs.List.{join_with_byte, list_all, list_any}
@@ -25,7 +26,8 @@ use Rattle.sitecommand.specs.Faults.{is_failure, line_of, of_walk}
 use Rattle.sitecommand.specs.declared.arguments.Format.{Format}
 use Rattle.sitecommand.specs.declared.arguments.Format.TheVariants.{Lines, Document}
 use Rattle.sitecommand.specs.declared.audit_exit.AuditExit.{AuditExit}
-use Rattle.sitecommand.specs.declared.audit_exit.AuditExit.TheVariants.{AllCertified, SomeNotCertified, Reported, CutShort}
+use Rattle.sitecommand.specs.declared.audit_exit.AuditExit.TheVariants.{AllCertified, SomeNotCertified, Reported}
+use Rattle.sitecommand.specs.declared.audit_exit.AuditExit.TheVariants.{CutShort}
 use Rattle.sitecommand.specs.declared.audit_fault.AuditFault.{AuditFault}
 use Rattle.sitecommand.specs.declared.audit_fault.AuditFault.TheVariants.{Refused, NotADirectory, WriteFailed}
 
@@ -102,7 +104,8 @@ WritesFault Reported err err' fault = Appends err err' (line_of fault)
 WritesFault CutShort err err' fault = AppendsPart err err' (line_of fault)
 
 -- What is written of an audit: the report on standard output, and nothing on standard error; or where a write failed, a
--- first part of the report, and the line that says so. Where all is written, the exit says whether each module is certified.
+-- first part of the report, and the line that says so. Where all is written, the exit says whether each module is
+-- certified.
 abbrev pub WritesAudit : AuditExit → Bool → Text → Option Text → Option Text → Option Text → Option Text → Type 0
 WritesAudit AllCertified all text out out' err err' = (all ≡ true) × Appends out out' text × Keeps err err'
 WritesAudit SomeNotCertified all text out out' err err' = (all ≡ false) × Appends out out' text × Keeps err err'
@@ -117,9 +120,11 @@ pub data IsAuditFault (agrees : Files → Listings → Type 0) (failed : Type 0)
     : AuditFault → Type 0 where
   unknown_option : wanted_of arguments ≡ None → IsAuditFault agrees failed e arguments (Refused BadArguments)
   no_directory : (wanted : Wanted) (dir : String Global) → wanted_of arguments ≡ Some wanted
-      → IsFirstGone agrees wanted.directories (string_bytes dir) → IsAuditFault agrees failed e arguments (NotADirectory dir)
+      → IsFirstGone agrees wanted.directories (string_bytes dir)
+      → IsAuditFault agrees failed e arguments (NotADirectory dir)
   no_walk : (wanted : Wanted) (fault : WalkFault) → wanted_of arguments ≡ Some wanted
-      → AreDirectories agrees wanted.directories → HasCause agrees failed standard (judged_env e wanted.directories) fault
+      → AreDirectories agrees wanted.directories → HasCause agrees failed standard (judged_env e wanted.directories)
+      fault
       → IsAuditFault agrees failed e arguments (of_walk fault)
   given_up : (refusal : Refusal) → Applies (cause_of refusal) failed (λ reason. ⊥)
       → IsAuditFault agrees failed e arguments (Refused refusal)

@@ -1,20 +1,23 @@
 -- Why there is no audit: the texts of the faults, and the line on standard error (own).
-use Rattle.std.specs.Prelude.{Bool, false, codes, string_bytes}
+use Rattle.std.specs.Prelude.{Bool, false, [], codes, string_bytes}
 use Rattle.message.specs.Messages.{Text, quoting}
+use Rattle.message.specs.Refusals.{text_about}
+use Rattle.message.specs.declared.refusals.RefusalKind.TheVariants as kinds
 use Rattle.modules.specs.Answers as steps
 use Rattle.modules.specs.Messages as refusals
 use Rattle.siteaudit.specs.declared.fault.WalkFault.{WalkFault}
 use Rattle.siteaudit.specs.declared.fault.WalkFault.TheVariants as walks
 use Rattle.modulecmd.specs.Lines.{error_line}
 use Rattle.sitecommand.specs.declared.audit_fault.AuditFault.{AuditFault}
-use Rattle.sitecommand.specs.declared.audit_fault.AuditFault.TheVariants.{Refused, TooManyDirectories, NotADirectory, WriteFailed}
+use Rattle.sitecommand.specs.declared.audit_fault.AuditFault.TheVariants.{Refused, TooManyDirectories, NotADirectory}
+use Rattle.sitecommand.specs.declared.audit_fault.AuditFault.TheVariants.{WriteFailed}
 
 -- the text of each fault
 abbrev pub message_of : AuditFault → Text
 message_of (Refused refusal) = refusals.message_of refusal
 message_of TooManyDirectories = codes "Too many directories"
 message_of (NotADirectory dir) = quoting (codes "Not a directory: '") (string_bytes dir)
-message_of WriteFailed = codes "Writing failed"
+message_of WriteFailed = text_about kinds.WriteFailed []
 
 -- the whole line
 abbrev pub line_of : AuditFault → Text

@@ -13,11 +13,13 @@ use Rattle.siteaudit.specs.Audits.{IsAudit, CertificateStands}
 use Rattle.siteaudit.specs.declared.auditing.SiteAudit.{SiteAudit}
 use Rattle.modulecmd.specs.Command.{standard}
 use Rattle.sitecommand.specs.Arguments.{Wanted, wanted_of}
-use Rattle.sitecommand.specs.Audits.{AreDirectories, IsFirstGone, IsNoDirectory, IsAudited, judged_env, judged_site, report_text, all_certified}
+use Rattle.sitecommand.specs.Audits.{AreDirectories, IsFirstGone, IsNoDirectory, IsAudited, judged_env, judged_site}
+use Rattle.sitecommand.specs.Audits.{report_text, all_certified}
 use Rattle.sitecommand.specs.Faults.{of_walk}
-use Rattle.sitecommand.specs.declared.running.Prepared.{Prepared}
+use Rattle.sitecommand.specs.declared.running.PreparedAudit.{PreparedAudit}
 use Rattle.sitecommand.specs.declared.audit_fault.AuditFault.{AuditFault}
-use Rattle.sitecommand.specs.declared.audit_fault.AuditFault.TheVariants.{Refused, TooManyDirectories, NotADirectory, WriteFailed}
+use Rattle.sitecommand.specs.declared.audit_fault.AuditFault.TheVariants.{Refused, TooManyDirectories, NotADirectory}
+use Rattle.sitecommand.specs.declared.audit_fault.AuditFault.TheVariants.{WriteFailed}
 
 -- memory is wanting, or the device has failed
 abbrev pub IsGivenUp : Type 0 → AuditFault → Type 0
@@ -49,7 +51,8 @@ AreDirectoriesFault agrees failed words fault =
     ⊎ IsGivenUp failed fault
 
 -- What is to be written of an audit of what is asked for.
-pub record IsPrepared (agrees : Files → Listings → Type 0) (e : Environment) (wanted : Wanted) (answer : Prepared) : Type 0 where
+pub record IsPrepared (agrees : Files → Listings → Type 0) (e : Environment) (wanted : Wanted) (answer : PreparedAudit) :
+    Type 0 where
   pub found : SiteAudit
   pub directories : AreDirectories agrees wanted.directories
   pub exact : InEachPair agrees (λ files listings. IsAudit (judged_site e wanted files listings) found)
@@ -58,7 +61,8 @@ pub record IsPrepared (agrees : Files → Listings → Type 0) (e : Environment)
   pub report : answer.report.items ≡ report_text wanted found
 
 -- the same of an audit by its arguments
-pub record IsPreparedAudit (agrees : Files → Listings → Type 0) (e : Environment) (arguments : List Text) (answer : Prepared)
+pub record IsPreparedAudit (agrees : Files → Listings → Type 0) (e : Environment) (arguments : List Text)
+    (answer : PreparedAudit)
     : Type 0 where
   pub wanted : Wanted
   pub asked : wanted_of arguments ≡ Some wanted

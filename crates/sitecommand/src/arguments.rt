@@ -18,7 +18,7 @@ pub(crate) enum Format {
 
 /// What the arguments ask for.
 #[derive(Drop)]
-pub(crate) struct Wanted {
+pub(crate) struct AuditArguments {
     /// Which modules the report names.
     pub(crate) selection: Selection,
     /// How it is written.
@@ -135,7 +135,6 @@ fn push_directories(directories: &mut Vec<String>, words: &[String]) -> Result<(
     Ok(())
 }
 
-/// Adds all words.
 fn push_all(directories: &mut Vec<String>, words: &[String]) -> Result<(), AllocError>
     ensures { OnOk result (map string_bytes directories.new.items
         ≡ map string_bytes directories.old.items ++ map string_bytes words.now) }
@@ -146,7 +145,6 @@ fn push_all(directories: &mut Vec<String>, words: &[String]) -> Result<(), Alloc
     Ok(())
 }
 
-/// Whether each option is known.
 fn are_known(options: &[String]) -> bool
     ensures { result ≡ list_all spec.is_known (map string_bytes options.now) }
 {
@@ -161,14 +159,18 @@ fn are_known(options: &[String]) -> bool
 }
 
 /// What options and further words ask for.
-fn wanted_by(alloc: Global, options: &[String], others: &[String]) -> Result<Wanted, AllocError>
+fn wanted_by(
+    alloc: Global,
+    options: &[String],
+    others: &[String],
+) -> Result<AuditArguments, AllocError>
     ensures { IfOk result (λ wanted. wanted_view wanted
         ≡ spec.wanted_by (map string_bytes options.now) (map string_bytes others.now)) }
 {
     let mut directories = Vec::new(alloc);
     push_directories(&mut directories, options)?;
     push_all(&mut directories, others)?;
-    Ok(Wanted {
+    Ok(AuditArguments {
         selection: selection_of(options),
         format: format_of(options),
         directories,
@@ -176,7 +178,10 @@ fn wanted_by(alloc: Global, options: &[String], others: &[String]) -> Result<Wan
 }
 
 /// What the arguments ask for; none, where there is an option that nobody knows.
-pub(crate) fn wanted_of(alloc: Global, args: &[String]) -> Result<Option<Wanted>, AllocError>
+pub(crate) fn wanted_of(
+    alloc: Global,
+    args: &[String],
+) -> Result<Option<AuditArguments>, AllocError>
     ensures { IfOk result (λ wanted.
         option_map wanted_view wanted ≡ spec.wanted_of (map string_bytes args.now)) }
 {

@@ -10,7 +10,7 @@ ghost use Rattle.sitecommand.specs.Faults.{line_of, message_of, of_walk};
 
 use envvars::EnvFault;
 use filetree::TreeFault;
-use message::Message;
+use message::{Message, RefusalKind};
 use modulecmd::{WriteFault, write_error};
 use modules::Refusal;
 use siteaudit::WalkFault;
@@ -39,10 +39,10 @@ impl AuditFault {
         ensures { text_of result ≡ message_of self.now }
     {
         match self {
-            AuditFault::Refused(refusal) => refusal.message(),
+            AuditFault::Refused(refusal) => refusal.numbered().message,
             AuditFault::TooManyDirectories => Message::of_text("Too many directories"),
             AuditFault::NotADirectory(dir) => Message::quoting("Not a directory: '", dir.as_str()),
-            AuditFault::WriteFailed => Message::of_text("Writing failed"),
+            AuditFault::WriteFailed => RefusalKind::WriteFailed.plain().message,
         }
     }
 }

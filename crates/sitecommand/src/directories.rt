@@ -5,7 +5,8 @@ ghost use Rattle.sitecommand.specs.Audits as spec;
 ghost use Rattle.sitecommand.specs.Audits.{IsDirectory, AreDirectories};
 ghost use Rattle.sitecommand.specs.Faults.{is_failure};
 ghost use Rattle.sitecommand.specs.Looked.{DirectoriesLookAt};
-ghost use Rattle.sitecommand.specs.Steps.{IsGivenUp, IsListing, NamesNoDirectory, IsDirectoryFault, AreDirectoriesFault};
+ghost use Rattle.sitecommand.specs.Steps.{IsGivenUp, IsListing, NamesNoDirectory, IsDirectoryFault};
+ghost use Rattle.sitecommand.specs.Steps.{AreDirectoriesFault};
 
 use crate::audit_fault::AuditFault;
 use envvars::Env;

@@ -10,7 +10,7 @@ ghost use Rattle.sitecommand.specs.Faults.{is_failure};
 ghost use Rattle.sitecommand.specs.Looked.{AuditCommandLooksAt, WantedLooksAt};
 ghost use Rattle.sitecommand.specs.Steps.{IsPrepared, IsPreparedAudit, IsWantedFault};
 
-use crate::arguments::{Format, Wanted, wanted_of};
+use crate::arguments::{AuditArguments, Format, wanted_of};
 use crate::audit_exit::AuditExit;
 use crate::audit_fault::{AuditFault, write_fault};
 use crate::directories::{judge_directories, judged_env};
@@ -18,7 +18,7 @@ use envvars::Env;
 use filetree::Tree;
 use modulecmd::write_bytes;
 use modules::Refusal;
-use siteaudit::{AuditedModule, Progress, SiteAudit, Standing, audit};
+use siteaudit::{AuditedModule, SiteAudit, Standing, WalkProgress, audit};
 use sitereport::{json_report, line_report};
 use std::alloc::{AllocError, Global};
 use std::io::Write;
@@ -33,7 +33,7 @@ const STANDARD: Limits = Limits {
 
 /// What an audit is to write, and whether each module is certified.
 #[derive(Drop)]
-struct Prepared {
+struct PreparedAudit {
     /// Whether each module is certified.
     is_all_certified: bool,
     /// The report, for standard output.
@@ -41,7 +41,11 @@ struct Prepared {
 }
 
 /// The report that is asked for.
-fn report_of(alloc: Global, wanted: &Wanted, found: &SiteAudit) -> Result<Vec<u8>, AllocError>
+fn report_of(
+    alloc: Global,
+    wanted: &AuditArguments,
+    found: &SiteAudit,
+) -> Result<Vec<u8>, AllocError>
     ensures { IfOk result (λ report. report.items ≡ spec.report_text (wanted_view wanted.now) found.now) }
 {
     match wanted.format {
@@ -50,7 +54,6 @@ fn report_of(alloc: Global, wanted: &Wanted, found: &SiteAudit) -> Result<Vec<u8
     }
 }
 
-/// Whether each of the modules is certified.
 fn are_all_certified(modules: &[AuditedModule]) -> bool
     ensures { result ≡ list_all (λ m. is_certified m.standing) modules.now }
 {
@@ -60,13 +63,13 @@ fn are_all_certified(modules: &[AuditedModule]) -> bool
 }
 
 /// Audits the site that is asked for, and answers what is to be written; nothing is written yet.
-fn audit_wanted<T: Tree, P: Progress>(
+fn audit_wanted<T: Tree, P: WalkProgress>(
     alloc: Global,
-    wanted: &Wanted,
+    wanted: &AuditArguments,
     env: Env,
     tree: &mut T,
     progress: &mut P,
-) -> Result<Prepared, AuditFault>
+) -> Result<PreparedAudit, AuditFault>
     ensures reads { ReadsOn T.agrees T.failures tree.old tree.new }
     ensures answered { IfOk result (IsPrepared (T.agrees tree.new) env (wanted_view wanted.now)) }
     ensures refused { IfErr result (IsWantedFault (T.agrees tree.new) (T.failures tree.old < T.failures tree.new)
@@ -78,20 +81,20 @@ fn audit_wanted<T: Tree, P: Progress>(
     let judged = judged_env(alloc, env, wanted.directories.as_slice())?;
     let found = audit(alloc, &judged, tree, STANDARD, progress)?;
     let report = report_of(alloc, wanted, &found)?;
-    Ok(Prepared {
+    Ok(PreparedAudit {
         is_all_certified: are_all_certified(found.modules.as_slice()),
         report,
     })
 }
 
 /// Audits the site that the arguments ask for, as `audit_wanted` does.
-fn answer_of<T: Tree, P: Progress>(
+fn answer_of<T: Tree, P: WalkProgress>(
     alloc: Global,
     args: &[String],
     env: Env,
     tree: &mut T,
     progress: &mut P,
-) -> Result<Prepared, AuditFault>
+) -> Result<PreparedAudit, AuditFault>
     ensures reads { ReadsOn T.agrees T.failures tree.old tree.new }
     ensures answered { IfOk result (IsPreparedAudit (T.agrees tree.new) env (map string_bytes args.now)) }
     ensures refused { IfErr result (IsAuditFault (T.agrees tree.new) (T.failures tree.old < T.failures tree.new)
@@ -117,7 +120,7 @@ fn report_fault<E: Write>(fault: &AuditFault, err: &mut E) -> AuditExit
 }
 
 /// Writes the report. After a failed write the line that says so is tried once.
-fn write_report<W: Write, E: Write>(answer: &Prepared, out: &mut W, err: &mut E) -> AuditExit
+fn write_report<W: Write, E: Write>(answer: &PreparedAudit, out: &mut W, err: &mut E) -> AuditExit
     ensures { WritesAudit result answer.now.is_all_certified answer.now.report.items
         (W.contents out.old) (W.contents out.new) (E.contents err.old) (E.contents err.new) }
 {
@@ -140,7 +143,7 @@ fn write_report<W: Write, E: Write>(answer: &Prepared, out: &mut W, err: &mut E)
 /// failed at a path that the audit looks at.
 ///
 /// Where there is a fault before the report is made, nothing is written but the line that says why, to standard error.
-pub fn run_audit<T: Tree, P: Progress, W: Write, E: Write>(
+pub fn run_audit<T: Tree, P: WalkProgress, W: Write, E: Write>(
     alloc: Global,
     args: &[String],
     env: Env,

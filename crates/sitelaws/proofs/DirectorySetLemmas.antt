@@ -1,5 +1,6 @@
 -- Directories that are put together, each once, and the keys of the code's set.
-use Rattle.std.proofs.Common.{◌≡◌, ℕ, Bool, true, false, cond, ◌||◌, ◌+◌, ◌<◌, length, get_or, take, List, [], ◌∷◌, ◌++◌, String, Global, map, refl, sym, ap, ◌∙◌}
+use Rattle.std.proofs.Common.{◌≡◌, ℕ, Bool, true, false, cond, ◌||◌, ◌+◌, ◌<◌, length, get_or, take, List, [], ◌∷◌}
+use Rattle.std.proofs.Common.{◌++◌, String, Global, map, refl, sym, ap, ◌∙◌}
 use Rattle.std.specs.Prelude.{bytes_eq, string_bytes}
 use Rattle.std.specs.List.{list_any}
 use Rattle.std.specs.String.{string_eq}
@@ -13,7 +14,8 @@ with-append dirs [] ys = refl
 with-append dirs (x ∷ xs) ys = with-append (insert_key bytes_eq dirs x) xs ys
 
 -- with those of one item more
-pub dirs_turn : {X : Type 0} (of : List X → List Text) → ((xs ys : List X) → of (xs ++ ys) ≡ of xs ++ of ys) → (start old new piece : List Text) (xs : List X) (i : ℕ) (d x : X) → i < length xs → x ≡ get_or xs i d
+pub dirs_turn : {X : Type 0} (of : List X → List Text) → ((xs ys : List X) → of (xs ++ ys) ≡ of xs ++ of ys)
+    → (start old new piece : List Text) (xs : List X) (i : ℕ) (d x : X) → i < length xs → x ≡ get_or xs i d
     → of (x ∷ []) ≡ piece → old ≡ with_directories start (of (take i xs)) → new ≡ with_directories old piece → new ≡ with_directories start (of (take (i + 1) xs))
 dirs_turn {X} of append start old new piece xs i d x l e one h k =
     k ∙ (ap (λ (ds : List Text). with_directories ds piece) h

@@ -1,5 +1,6 @@
 -- A module of a site stands in one way alone.
-use Rattle.std.proofs.Common.{◌≡◌, ℕ, ◌==◌, inl, inr, true, false, List, [], ◌∷◌, Option, Some, None, Result, Ok, Err, refl, ap, sym, ◌∙◌, subst}
+use Rattle.std.proofs.Common.{◌≡◌, ℕ, ◌==◌, inl, inr, true, false, List, [], ◌∷◌, Option, Some, None, Result, Ok, Err}
+use Rattle.std.proofs.Common.{refl, ap, sym, ◌∙◌, subst}
 use Rattle.std.proofs.lemmas.Bool.{false≢true, eq-eqb}
 use Rattle.envvars.specs.Texts.{Text}
 use Rattle.envvars.specs.Fields.{colon}
@@ -19,7 +20,8 @@ use Rattle.requests.specs.Verdicts.{Verdict, plain, asked, one_way, verdict_of}
 use Rattle.sitecertificate.specs.RecordUses.{used_by, IsAmong, modulepath, same_use, AreInStep}
 use Rattle.sitecertificate.proofs.Exact.{use_itself}
 use Rattle.sitelaws.specs.Sites.{Site, SiteModule, over_site, EvaluatesTo, HasPlainRecords, with_records}
-use Rattle.sitelaws.specs.Standings.{Standing, Certified, Asks, OneWay, OutOfStep, Clashes, Refused, IsUsedTwice, ClashesWith, HasStanding, standing_word}
+use Rattle.sitelaws.specs.Standings.{Standing, Certified, Asks, OneWay, OutOfStep, Clashes, Refused, IsUsedTwice}
+use Rattle.sitelaws.specs.Standings.{ClashesWith, HasStanding, standing_word}
 use Rattle.sitelaws.specs.Laws.{OneStanding}
 
 -- an evaluation has one outcome
@@ -95,16 +97,20 @@ not_both rs v x y u s = by_second u.second
         not_alike x y u.differ (s.modulepath x (subst (λ (w : Text). IsAmong (w, x) (used_by rs)) name u.first) ∙ sym other)
     by_second (inr a) = not_alike x y u.differ (s.one_use v x y u.first a)
 
-certified_not_twice : files.OneOutcome → (site : Site) (ms : List Module) (m : SiteModule) (v : Text) (x y : VariableUse) → HasStanding site ms m Certified → HasStanding site ms m (OutOfStep v x y) → ⊥
+certified_not_twice : files.OneOutcome → (site : Site) (ms : List Module) (m : SiteModule) (v : Text)
+    (x y : VariableUse) → HasStanding site ms m Certified → HasStanding site ms m (OutOfStep v x y) → ⊥
 certified_not_twice one site ms m v x y (rs, p, c) (qs, q, u) =
     not_both rs v x y (subst (λ (l : List Record). IsUsedTwice l v x y) (sym (one_list one site m rs qs p q)) u) c.in_step.in_step
 
-certified_not_clash : files.OneOutcome → (site : Site) (ms : List Module) (m : SiteModule) (v : Text) (x y : VariableUse) (n : Module) → HasStanding site ms m Certified → HasStanding site ms m (Clashes v x y n) → ⊥
+certified_not_clash : files.OneOutcome → (site : Site) (ms : List Module) (m : SiteModule) (v : Text)
+    (x y : VariableUse) (n : Module) → HasStanding site ms m Certified → HasStanding site ms m (Clashes v x y n) → ⊥
 certified_not_clash one site ms m v x y n (rs, p, c) (qs, q, k) =
     let w : ClashesWith ms (with_records m rs) v x y n = subst (λ (l : List Record). ClashesWith ms (with_records m l) v x y n) (sym (one_list one site m rs qs p q)) k in
     c.no_clash n v x y w.listed w.other_in_step w.another w.clash
 
-twice_not_clash : files.OneOutcome → (site : Site) (ms : List Module) (m : SiteModule) (v w : Text) (x y a b : VariableUse) (n : Module) → HasStanding site ms m (OutOfStep v x y) → HasStanding site ms m (Clashes w a b n) → ⊥
+twice_not_clash : files.OneOutcome → (site : Site) (ms : List Module) (m : SiteModule) (v w : Text)
+    (x y a b : VariableUse) (n : Module) → HasStanding site ms m (OutOfStep v x y)
+    → HasStanding site ms m (Clashes w a b n) → ⊥
 twice_not_clash one site ms m v w x y a b n (rs, p, u) (qs, q, k) =
     let c : ClashesWith ms (with_records m rs) w a b n = subst (λ (l : List Record). ClashesWith ms (with_records m l) w a b n) (sym (one_list one site m rs qs p q)) k in
     not_both rs v x y u c.in_step.in_step
@@ -121,7 +127,8 @@ apart : (s t : Standing) → (number_of (said s) == number_of (said t)) ≡ fals
 apart s t f e =
     false≢true (sym f ∙ (ap (λ x. number_of (said s) == number_of x) (sym e) ∙ eq-eqb (number_of (said s)) (number_of (said s)) refl))
 
-by_said : files.OneOutcome → (site : Site) (ms : List Module) (m : SiteModule) (s t : Standing) → said s ≡ said t → HasStanding site ms m s → HasStanding site ms m t → standing_word s ≡ standing_word t
+by_said : files.OneOutcome → (site : Site) (ms : List Module) (m : SiteModule) (s t : Standing) → said s ≡ said t
+    → HasStanding site ms m s → HasStanding site ms m t → standing_word s ≡ standing_word t
 by_said one site ms m Certified Certified e h k = refl
 by_said one site ms m Certified (OutOfStep v x y) e h k = absurd (certified_not_twice one site ms m v x y h k)
 by_said one site ms m Certified (Clashes v x y n) e h k = absurd (certified_not_clash one site ms m v x y n h k)

@@ -1,5 +1,6 @@
 -- The plain modules of a site, by the outcomes of its evaluations.
-use Rattle.std.proofs.Common.{◌≡◌, ◌⊎◌, inl, inr, List, [], ◌∷◌, map, Option, Some, None, Result, Ok, Err, refl, ap, sym, ◌∙◌, subst}
+use Rattle.std.proofs.Common.{◌≡◌, ◌⊎◌, inl, inr, List, [], ◌∷◌, map, Option, Some, None, Result, Ok, Err, refl, ap}
+use Rattle.std.proofs.Common.{sym, ◌∙◌, subst}
 use Rattle.std.specs.Prelude.{filter_map}
 use Rattle.std.specs.List.{cons_option}
 use Rattle.modulefile.specs.Records.{Record}
@@ -9,7 +10,8 @@ use Rattle.modulefile.specs.Laws as files
 use Rattle.requests.specs.Reasons.{RequestReason}
 use Rattle.requests.specs.Verdicts.{Verdict, plain, asked, one_way, verdict_of}
 use Rattle.sitecertificate.specs.RecordUses.{IsAmong}
-use Rattle.sitelaws.specs.Sites.{Site, SiteModule, file_of, with_records, EvaluatesTo, HasPlainRecords, IsOfSite, Evaluated, plain_by, plain_of}
+use Rattle.sitelaws.specs.Sites.{Site, SiteModule, file_of, with_records, EvaluatesTo, HasPlainRecords, IsOfSite}
+use Rattle.sitelaws.specs.Sites.{Evaluated, plain_by, plain_of}
 use Rattle.sitelaws.specs.Laws.{PlainModulesFound}
 use Rattle.sitelaws.proofs.OneStanding.{one_outcome}
 
@@ -71,7 +73,8 @@ records_of site m (Ok ran) n h e =
 by_plain : (v : Verdict) (m : SiteModule) (rs : List Record) → v ≡ plain → plain_by v m rs ≡ Some (with_records m rs)
 by_plain v m rs e = ap (λ (w : Verdict). plain_by w m rs) e
 
-module_of : files.OneOutcome → (site : Site) (n : Module) (m : SiteModule) (o : Result Ran RequestReason) → m ≡ file_of n → HasPlainRecords site (file_of n) n.records → EvaluatesTo site m o → plain_of (m, o) ≡ Some n
+module_of : files.OneOutcome → (site : Site) (n : Module) (m : SiteModule) (o : Result Ran RequestReason)
+    → m ≡ file_of n → HasPlainRecords site (file_of n) n.records → EvaluatesTo site m o → plain_of (m, o) ≡ Some n
 module_of one site n m o same p h =
     let out : o ≡ Ok p.ran = one_outcome one site (file_of n) o (Ok p.ran) (subst (λ (k : SiteModule). EvaluatesTo site k o) same h) p.evaluated in
     ap (λ (k : SiteModule). plain_of (k, o)) same ∙ (ap (λ (x : Result Ran RequestReason). plain_of (file_of n, x)) out

@@ -28,8 +28,12 @@ unasked ran h = unasked_at ran.asked (list_all is_reversible ran.records) h
 
 pub evaluated : (site : Site) (m : SiteModule) (ran : Ran) → EvaluatesTo site m (Ok ran) → HasEvaluatedTo (over_site site) m.name m.path ran
 evaluated site m ran h =
-    let xs = went_on (Is (entries_of site.env)) (λ ys. Is (script_at m.path (modulefile (site.files m.path))) >> (λ text. RefusedAs file_refused (RunsFile site.limits (context_of (over_site site) modes.load false m.name m.name m.path ys site.env) text))) ran h in
-    let text = went_on (Is (script_at m.path (modulefile (site.files m.path)))) (λ t. RefusedAs file_refused (RunsFile site.limits (context_of (over_site site) modes.load false m.name m.name m.path xs.0 site.env) t)) ran xs.2 in
+    let xs = went_on (Is (entries_of site.env)) (λ ys. Is (script_at m.path (modulefile (site.files m.path))) >>
+    (λ text. RefusedAs file_refused (RunsFile site.limits
+    (context_of (over_site site) modes.load false m.name m.name m.path ys site.env) text))) ran h in
+    let text = went_on (Is (script_at m.path (modulefile (site.files m.path))))
+    (λ t. RefusedAs file_refused (RunsFile site.limits
+    (context_of (over_site site) modes.load false m.name m.name m.path xs.0 site.env) t)) ran xs.2 in
     let c = context_of (over_site site) modes.load false m.name m.name m.path xs.0 site.env in
     record { text = text.0; file = script_held m.path text.0 (modulefile (site.files m.path)) text.1; context = c; named = refl; at_path = refl; runs = ran_ok (over_site site) c text.0 ran text.2 }
 
@@ -40,7 +44,9 @@ agreed : (ran other : Ran) → IsSameOrRefused ran (Ok other) → other.records 
 agreed ran other (inl (again, same, records)) = let q : other ≡ again = (let r : Ok other ≡ Ok again = same in cc) in ap (λ (x : Ran). x.records) q ∙ records
 agreed ran other (inr (n, refusal, same)) = absurd (let r : Ok other ≡ Err (refused_by n refusal) = same in cc)
 
-same_records : PlainFilesAgree → (s : RequestContext) (name path : Text) (ran other : Ran) → HasEvaluatedTo s name path ran → ran.asked ≡ false → HasEvaluatedTo s name path other → other.records ≡ ran.records
+same_records : PlainFilesAgree → (s : RequestContext) (name path : Text) (ran other : Ran)
+    → HasEvaluatedTo s name path ran → ran.asked ≡ false → HasEvaluatedTo s name path other
+    → other.records ≡ ran.records
 same_records agree s name path ran other h none k =
     agreed ran other (agree s.limits h.context k.context h.text ran (Ok other) h.runs none (k.named ∙ sym h.named) (k.at_path ∙ sym h.at_path)
     (subst (λ (t : Text). RunsFile s.limits k.context t (Ok other)) (one_script s path k.text h.text k.file h.file) k.runs))

@@ -1,5 +1,6 @@
 -- Sessions and commands of certified modules, by the law of moves.
-use Rattle.std.proofs.Common.{◌≡◌, inl, inr, Bool, true, false, cond, List, [], ◌∷◌, ◌++◌, Some, Ok, refl, ap, sym, ◌∙◌, subst}
+use Rattle.std.proofs.Common.{◌≡◌, inl, inr, Bool, true, false, cond, List, [], ◌∷◌, ◌++◌, Some, Ok, refl, ap, sym, ◌∙◌}
+use Rattle.std.proofs.Common.{subst}
 use Rattle.std.specs.Prelude.{bytes_eq}
 use Rattle.std.specs.List.{list_any}
 use Rattle.envvars.specs.Texts.{Text}
@@ -22,10 +23,12 @@ use Rattle.requests.specs.Laws.{SessionsReach, StepsReach}
 use Rattle.sitecertificate.specs.RecordUses.{IsAmong, uses_by}
 use Rattle.sitecertificate.specs.Clashes.{in_conflict, in_conflict_with_entry}
 use Rattle.sitecertificate.specs.Certificates.{IsCertified, certified, certificate, AgreesWith}
-use Rattle.sitecertificate.specs.Laws.{CertifiedAreExact, AreCertified, EntriesHaveConflicts, CertifiedRunsStand, AreCertifiedTogether, CertifiedMovesPreserve}
+use Rattle.sitecertificate.specs.Laws.{CertifiedAreExact, AreCertified, EntriesHaveConflicts, CertifiedRunsStand}
+use Rattle.sitecertificate.specs.Laws.{AreCertifiedTogether, CertifiedMovesPreserve}
 use Rattle.sitelaws.specs.Sites.{Site, over_site, file_of, ArePlainModules}
 use Rattle.sitelaws.specs.Admitted.{IsAdmitted}
-use Rattle.sitelaws.specs.Laws.{PlainRecordsAreAll, IsOneOf, LoadsAreOf, SiteSessionsReturn, AuditsHold, SiteCommandsReturn}
+use Rattle.sitelaws.specs.Laws.{PlainRecordsAreAll, IsOneOf, LoadsAreOf, SiteSessionsReturn, AuditsHold}
+use Rattle.sitelaws.specs.Laws.{SiteCommandsReturn}
 use Rattle.sitelaws.proofs.Admissions.{IsFrom, TracedReach, traced, any_shell, session_traced}
 use Rattle.sitelaws.proofs.Forbidden.{no_conflict}
 use Rattle.requests.proofs.Undone.{same_list}
@@ -37,23 +40,28 @@ moved_left : (s : RequestContext) (a b c d : Text) (ran : Ran) → a ≡ b → c
 moved_left s a b c d ran e g h = subst (λ (x : Text). HasEvaluatedTo s x d ran) e (subst (λ (x : Text). HasEvaluatedTo s a x ran) g h)
 
 -- a move of a certified module has the records of it
-certified_records : PlainRecordsAreAll → (site : Site) (ms : List Module) (m c : Module) → ArePlainModules site ms → IsCertified ms c → m.name ≡ c.name → m.path ≡ c.path → IsFrom (over_site site) m → m.records ≡ c.records
+certified_records : PlainRecordsAreAll → (site : Site) (ms : List Module) (m c : Module) → ArePlainModules site ms
+    → IsCertified ms c → m.name ≡ c.name → m.path ≡ c.path → IsFrom (over_site site) m → m.records ≡ c.records
 certified_records all site ms m c plain certain name path (ran, left, is) =
     is ∙ all site (file_of c) c.records ran ((plain c).0 certain.listed).records (moved_left (over_site site) m.name c.name m.path c.path ran name path left)
 
 same_parts : (m c : Module) → c.name ≡ m.name → c.path ≡ m.path → c.records ≡ m.records → c ≡ m
 same_parts m c name path records = λ i. record { name = name i; path = path i; records = records i }
 
-loaded_certified : CertifiedAreExact → PlainRecordsAreAll → (site : Site) (ms : List Module) (m : Module) → ArePlainModules site ms → IsOneOf (certified ms) m.name m.path → IsFrom (over_site site) m → IsCertified ms m
+loaded_certified : CertifiedAreExact → PlainRecordsAreAll → (site : Site) (ms : List Module) (m : Module)
+    → ArePlainModules site ms → IsOneOf (certified ms) m.name m.path → IsFrom (over_site site) m → IsCertified ms m
 loaded_certified exact all site ms m plain (c, among, name, path) from =
     let certain : IsCertified ms c = (exact ms c).0 among in
     subst (IsCertified ms) (same_parts m c name path (sym (certified_records all site ms m c plain certain (sym name) (sym path) from))) certain
 
 -- conflicts
 
-none_in_conflict : EntriesHaveConflicts → (site : Site) (start old : Environment) (live : List Module) (m : Module) (first : List Entry) → loaded_in start ≡ Some first → IsStartWith (uses_by live) start live old → IsAdmitted (Loads m) old → (n : Module) → IsAmong n live → in_conflict m n ≡ false
+none_in_conflict : EntriesHaveConflicts → (site : Site) (start old : Environment) (live : List Module) (m : Module)
+    (first : List Entry) → loaded_in start ≡ Some first → IsStartWith (uses_by live) start live old
+    → IsAdmitted (Loads m) old → (n : Module) → IsAmong n live → in_conflict m n ≡ false
 none_in_conflict conflicts site start old live m first begin over (xs, read, none) =
-    conflicts first live m (subst (λ (ys : List Entry). list_any (in_conflict_with_entry m) ys ≡ false) (same_list xs (entries_over first live) (sym read ∙ over.entries first begin)) (no_conflict m xs none))
+    conflicts first live m (subst (λ (ys : List Entry). list_any (in_conflict_with_entry m) ys ≡ false)
+    (same_list xs (entries_over first live) (sym read ∙ over.entries first begin)) (no_conflict m xs none))
 
 -- unloads
 
@@ -82,10 +90,15 @@ undone all site ms live start old m plain agrees together order over from new fi
 same_env : (m : Move) (old a b : Environment) → moved m old ≡ Ok a → moved m old ≡ Ok b → b ≡ a
 same_env m old a b h k = let q : Ok b ≡ Ok a = sym k ∙ h in cc
 
-are_certified : CertifiedAreExact → EntriesHaveConflicts → CertifiedMovesPreserve → PlainRecordsAreAll → (site : Site) (ms live : List Module) (start old new : Environment) (todo : List Move) → ArePlainModules site ms → AgreesWith (certificate ms) start → AreCertifiedTogether ms live
-    → IsInOrder (uses_by live) old → IsStartWith (uses_by live) start live old → AreNew start todo → LoadsAreOf (certified ms) todo → TracedReach (over_site site) todo old new → MovesReach todo old new → AreCertified ms live todo
+are_certified : CertifiedAreExact → EntriesHaveConflicts → CertifiedMovesPreserve → PlainRecordsAreAll
+    → (site : Site) (ms live : List Module) (start old new : Environment) (todo : List Move) → ArePlainModules site ms
+    → AgreesWith (certificate ms) start → AreCertifiedTogether ms live
+    → IsInOrder (uses_by live) old → IsStartWith (uses_by live) start live old → AreNew start todo
+    → LoadsAreOf (certified ms) todo → TracedReach (over_site site) todo old new → MovesReach todo old new
+    → AreCertified ms live todo
 are_certified exact conflicts preserve all site ms live start old new [] plain agrees together order over news loads traces reach = tt
-are_certified exact conflicts preserve all site ms live start old new (Loads m ∷ todo) plain agrees together order over news loads ((admitted, from), (other, made, traces)) (fits, (mid, move, reach)) =
+are_certified exact conflicts preserve all site ms live start old new (Loads m ∷ todo) plain agrees together order over
+    news loads ((admitted, from), (other, made, traces)) (fits, (mid, move, reach)) =
     let first = list_in_order start agrees.loaded in
     let certain = loaded_certified exact all site ms m plain loads.0 from in
     let apart = none_in_conflict conflicts site start old live m first.0 first.1 over admitted in
@@ -95,7 +108,8 @@ are_certified exact conflicts preserve all site ms live start old new (Loads m �
       are_certified exact conflicts preserve all site ms (m ∷ live) start mid new todo plain agrees h.1 h.0.order h.0.start_with_live news.1 loads.1
           (subst (λ (e : Environment). TracedReach (over_site site) todo e new) (same_env (Loads m) old mid other move made) traces) reach,
     )
-are_certified exact conflicts preserve all site ms live start old new (Unloads m ∷ todo) plain agrees together order over news loads ((admitted, from), (other, made, traces)) (fits, (mid, move, reach)) =
+are_certified exact conflicts preserve all site ms live start old new (Unloads m ∷ todo) plain agrees together order
+    over news loads ((admitted, from), (other, made, traces)) (fits, (mid, move, reach)) =
     let u = undone all site ms live start old m plain agrees together order over from news.0 fits in
     let h = preserve ms start old mid live (Unloads m ∷ []) agrees together order over (u, tt) (fits, (mid, move, refl)) in (
       u,
@@ -155,7 +169,8 @@ site_sessions_return leads exact conflicts runs preserve all site ms plain start
     let of : LoadsAreOf (certified ms) todo = front_loads (certified ms) todo (session_moves after) (subst (λ (l : List Move). LoadsAreOf (certified ms) l) (moves_parts before after) loads) in
     let begin = at_start runs ms start agrees in
     (preserve ms start start end [] todo agrees tt begin.order begin.start_with_live
-    (are_certified exact conflicts preserve all site ms [] start start end todo plain agrees tt begin.order begin.start_with_live new of (session_traced (over_site site) start f.0 before f.1) reach) reach).0
+    (are_certified exact conflicts preserve all site ms [] start start end todo plain agrees tt begin.order
+    begin.start_with_live new of (session_traced (over_site site) start f.0 before f.1) reach) reach).0
 
 -- any certified modules, and more uses
 

@@ -1,5 +1,6 @@
 -- Each module of a site has a standing: the tests of the certificate find it.
-use Rattle.std.proofs.Common.{◌≡◌, ◌⊎◌, inl, inr, Bool, true, false, cond, not, ◌&&◌, ◌||◌, List, [], ◌∷◌, find, Some, Result, Ok, Err, refl, ap, sym, subst}
+use Rattle.std.proofs.Common.{◌≡◌, ◌⊎◌, inl, inr, Bool, true, false, cond, not, ◌&&◌, ◌||◌, List, [], ◌∷◌, find, Some}
+use Rattle.std.proofs.Common.{Result, Ok, Err, refl, ap, sym, subst}
 use Rattle.std.specs.Prelude.{bytes_eq}
 use Rattle.std.specs.List.{list_all, list_any}
 use Rattle.std.proofs.lemmas.Bool.{false≢true, and_parts}
@@ -17,14 +18,17 @@ use Rattle.reversal.specs.VariableUses.{VariableUse, Pathed, is_reversible}
 use Rattle.requests.specs.Refusals.{refused_as}
 use Rattle.requests.specs.Reasons.{RequestReason, file_refused}
 use Rattle.requests.specs.Steps.{entries_of, script_at, context_of}
-use Rattle.sitecertificate.specs.RecordUses.{UsedVariable, used_by, IsAmong, modulepath, same_use, use_alike, are_in_step, is_in_step, IsInStep}
+use Rattle.sitecertificate.specs.RecordUses.{UsedVariable, used_by, IsAmong, modulepath, same_use, use_alike}
+use Rattle.sitecertificate.specs.RecordUses.{are_in_step, is_in_step, IsInStep}
 use Rattle.sitecertificate.specs.Clashes.{exclude, uses_clash, do_clash}
 use Rattle.sitecertificate.specs.Certificates.{is_other, clashes_among}
 use Rattle.sitecertificate.specs.Laws.{CertifiedAreExact}
 use Rattle.sitecertificate.proofs.UsedLemmas.{by_test, by_cases}
 use Rattle.sitecertificate.proofs.Exact.{any_some, in_filter}
-use Rattle.sitelaws.specs.Sites.{Site, SiteModule, over_site, EvaluatesTo, HasPlainRecords, IsOfSite, ArePlainModules, with_records}
-use Rattle.sitelaws.specs.Standings.{Standing, Certified, Asks, OneWay, OutOfStep, Clashes, Refused, IsUsedTwice, ClashesWith, HasStanding}
+use Rattle.sitelaws.specs.Sites.{Site, SiteModule, over_site, EvaluatesTo, HasPlainRecords, IsOfSite, ArePlainModules}
+use Rattle.sitelaws.specs.Sites.{with_records}
+use Rattle.sitelaws.specs.Standings.{Standing, Certified, Asks, OneWay, OutOfStep, Clashes, Refused, IsUsedTwice}
+use Rattle.sitelaws.specs.Standings.{ClashesWith, HasStanding}
 use Rattle.sitelaws.specs.Laws.{EachStands}
 
 -- tests
@@ -73,7 +77,9 @@ unlike : (b s : Bool) → (not b || s) ≡ false → (b ≡ true) × (s ≡ fals
 unlike true s h = (refl, h)
 unlike false s h = absurd (false≢true (sym h))
 
-used_twice : (rs : List Record) (p q : UsedVariable) → IsAmong p (used_by rs) → IsAmong q ((modulepath, Pathed colon) ∷ used_by rs) → use_alike p q ≡ false → (v : Text) × (x : VariableUse) × (y : VariableUse) × IsUsedTwice rs v x y
+used_twice : (rs : List Record) (p q : UsedVariable) → IsAmong p (used_by rs)
+    → IsAmong q ((modulepath, Pathed colon) ∷ used_by rs) → use_alike p q ≡ false → (v : Text) × (x : VariableUse)
+    × (y : VariableUse) × IsUsedTwice rs v x y
 used_twice rs p q a b h =
     let u = unlike (bytes_eq p.0 q.0) (same_use p.1 q.1) h in
     let name : p.0 ≡ q.0 = same_text p.0 q.0 u.0 in
@@ -125,7 +131,9 @@ clash exact ms m s h =
 abbrev Stands : Site → List Module → SiteModule → Type 0
 Stands site ms m = (standing : Standing) × HasStanding site ms m standing
 
-plain_stands : CertifiedAreExact → (site : Site) (ms : List Module) (m : SiteModule) (rs : List Record) → ArePlainModules site ms → IsOfSite site m → HasPlainRecords site m rs → list_all is_reversible rs ≡ true → Stands site ms m
+plain_stands : CertifiedAreExact → (site : Site) (ms : List Module) (m : SiteModule) (rs : List Record)
+    → ArePlainModules site ms → IsOfSite site m → HasPlainRecords site m rs → list_all is_reversible rs ≡ true
+    → Stands site ms m
 plain_stands exact site ms m rs all of_site p reversible =
     let n : Module = with_records m rs in
     let listed : IsAmong n ms = (all n).1 (record { of_site = of_site; records = p }) in
@@ -144,7 +152,8 @@ accepted_stands exact site ms m ran all of_site h =
     (λ t. plain_stands exact site ms m ran.records all of_site (record { ran = ran; evaluated = h; plain = rw (f, t) refl; records = refl }) t)
     (λ g. let r = first_that_fails is_reversible ran.records g in (OneWay r.0, (ran, h, rw (f, g) refl, r.1))))
 
-evaluated_stands : CertifiedAreExact → (site : Site) (ms : List Module) (m : SiteModule) (o : Result Ran RequestReason) → ArePlainModules site ms → IsOfSite site m → EvaluatesTo site m o → Stands site ms m
+evaluated_stands : CertifiedAreExact → (site : Site) (ms : List Module) (m : SiteModule) (o : Result Ran RequestReason)
+    → ArePlainModules site ms → IsOfSite site m → EvaluatesTo site m o → Stands site ms m
 evaluated_stands exact site ms m (Ok ran) all of_site h = accepted_stands exact site ms m ran all of_site h
 evaluated_stands exact site ms m (Err reason) all of_site h = (Refused reason, h)
 

@@ -1,5 +1,6 @@
 -- What a walk over a site has when it ends: all directories, all modules below each, and all plain modules.
-use Rattle.std.proofs.Common.{◌≡◌, ◌⊎◌, inl, inr, Bool, true, false, ◌||◌, List, [], ◌∷◌, ◌++◌, map, refl, ap, sym, ◌∙◌, subst}
+use Rattle.std.proofs.Common.{◌≡◌, ◌⊎◌, inl, inr, Bool, true, false, ◌||◌, List, [], ◌∷◌, ◌++◌, map, refl, ap, sym, ◌∙◌}
+use Rattle.std.proofs.Common.{subst}
 use Rattle.std.specs.Prelude.{bytes_eq}
 use Rattle.std.specs.List.{list_any}
 use Rattle.std.proofs.lemmas.Bool.{false≢true}
@@ -8,7 +9,8 @@ use Rattle.envvars.proofs.TextLemmas.{same_text, bytes_eq-same}
 use Rattle.filetree.specs.Modulefiles.{path_of}
 use Rattle.search.specs.Listed.{names_of}
 use Rattle.sitecertificate.specs.RecordUses.{IsAmong}
-use Rattle.sitelaws.specs.Sites.{Site, SiteModule, module_below, IsIn, IsDirectory, first, added, IsClosed, AreNamesBelow, AreModulesIn}
+use Rattle.sitelaws.specs.Sites.{Site, SiteModule, module_below, IsIn, IsDirectory, first, added, IsClosed}
+use Rattle.sitelaws.specs.Sites.{AreNamesBelow, AreModulesIn}
 use Rattle.sitelaws.specs.Laws.{NamesListed, DirectoriesFound, ModulesFound}
 
 -- members of lists of texts, by the test

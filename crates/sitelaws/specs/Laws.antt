@@ -1,5 +1,5 @@
--- The laws of sites (own): loads are admitted, plain modules have one list of records, and sessions of certified modules
--- return to their start.
+-- The laws of sites (own): loads are admitted, plain modules have one list of records, and sessions of certified
+-- modules return to their start.
 use Rattle.std.specs.Prelude.{◌≡◌, ◌↔◌, List, [], ◌∷◌, ◌++◌, filter_map, Ok}
 use Rattle.envvars.specs.Texts.{Text}
 use Rattle.envvars.specs.Environment.{Environment}
@@ -20,7 +20,9 @@ use Rattle.requests.specs.PlainRuns.{HasEvaluatedTo}
 use Rattle.sitecertificate.specs.RecordUses.{UsedVariable, IsAmong, uses_by}
 use Rattle.sitecertificate.specs.Certificates.{IsCertified, certified, certificate, AgreesWith}
 use Rattle.sitecertificate.specs.Laws.{AreCertifiedTogether}
-use Rattle.sitelaws.specs.Sites.{Site, SiteModule, over_site, HasPlainRecords, IsDirectory, IsOfSite, with_records, ArePlainModules, IsClosed, AreDirectories, AreNamesBelow, AreModulesIn, Evaluated, plain_of, AreEvaluated}
+use Rattle.sitelaws.specs.Sites.{Site, SiteModule, over_site, HasPlainRecords, IsDirectory, IsOfSite, with_records}
+use Rattle.sitelaws.specs.Sites.{ArePlainModules, IsClosed, AreDirectories, AreNamesBelow, AreModulesIn, Evaluated}
+use Rattle.sitelaws.specs.Sites.{plain_of, AreEvaluated}
 use Rattle.sitelaws.specs.Standings.{Standing, Certified, standing_word, HasStanding}
 use Rattle.sitelaws.specs.Admitted.{AdmittedMovesReach}
 
@@ -60,8 +62,8 @@ PlainModulesFound =
     (site : Site) (outcomes : List Evaluated) → AreEvaluated site outcomes
     → ArePlainModules site (filter_map plain_of outcomes)
 
--- The records of a plain module are those that every accepted evaluation of its file leaves, in whatever mode, shell and
--- environment.
+-- The records of a plain module are those that every accepted evaluation of its file leaves, in whatever mode, shell
+-- and environment.
 abbrev pub PlainRecordsAreAll : Type 0
 PlainRecordsAreAll =
     (site : Site) (m : SiteModule) (rs : List Record) (ran : Ran) → HasPlainRecords site m rs
@@ -84,7 +86,8 @@ EachStands =
 -- It stands in one of the six ways alone.
 abbrev pub OneStanding : Type 0
 OneStanding =
-    (site : Site) (ms : List Module) (m : SiteModule) (s t : Standing) → HasStanding site ms m s → HasStanding site ms m t
+    (site : Site) (ms : List Module) (m : SiteModule) (s t : Standing) → HasStanding site ms m s
+    → HasStanding site ms m t
     → standing_word s ≡ standing_word t
 
 -- one of the modules has this name and this file
@@ -97,10 +100,10 @@ LoadsAreOf ms [] = Unit {0}
 LoadsAreOf ms (Loads m ∷ moves) = IsOneOf ms m.name m.path × LoadsAreOf ms moves
 LoadsAreOf ms (Unloads m ∷ moves) = LoadsAreOf ms moves
 
--- What a certificate promises of a site, for these modules and these uses of variables. A start agrees with the uses. In
--- a session over the files, the directories and the limits of the site, in whatever shells, each accepted load is of one
--- of the modules, and no module that is loaded at the start is unloaded. Then each environment of the session is in order
--- and is the start with the live modules layered on it; with none it is the start.
+-- What a certificate promises of a site, for these modules and these uses of variables. A start agrees with the uses.
+-- In a session over the files, the directories and the limits of the site, in whatever shells, each accepted load is of
+-- one of the modules, and no module that is loaded at the start is unloaded. Then each environment of the session is in
+-- order and is the start with the live modules layered on it; with none it is the start.
 abbrev pub CertificateHolds : Site → List Module → List UsedVariable → Type 0
 CertificateHolds site certain uses =
     (start : Environment) (rs : List Request) (before after : List Response)
@@ -109,28 +112,30 @@ CertificateHolds site certain uses =
     → Holds (uses_by (live_after [] (session_moves before))) start (live_after [] (session_moves before))
     (end_environment start before)
 
--- The theorem of sites: so it is for the certified modules among the plain ones of a site, and their certificate. Nothing
--- is asked of the records of loads and unloads, of their kinds, or of how the modules go together.
+-- The theorem of sites: so it is for the certified modules among the plain ones of a site, and their certificate.
+-- Nothing is asked of the records of loads and unloads, of their kinds, or of how the modules go together.
 abbrev pub SiteSessionsReturn : Type 0
 SiteSessionsReturn =
     (site : Site) (ms : List Module) → ArePlainModules site ms → CertificateHolds site (certified ms) (certificate ms)
 
--- The same for any modules that are certified, and any uses among which are those of the certificate: in whatever order an
--- audit has them.
+-- The same for any modules that are certified, and any uses among which are those of the certificate: in whatever order
+-- an audit has them.
 abbrev pub AuditsHold : Type 0
 AuditsHold =
     (site : Site) (ms certain : List Module) (uses : List UsedVariable) → ArePlainModules site ms
     → ((m : Module) → IsAmong m certain → IsCertified ms m)
     → ((p : UsedVariable) → IsAmong p (certificate ms) → IsAmong p uses) → CertificateHolds site certain uses
 
--- One command, in whatever shell, which knows no history: it begins in an environment in order that is such a start with
--- certified modules layered on it.
+-- One command, in whatever shell, which knows no history: it begins in an environment in order that is such a start
+-- with certified modules layered on it.
 abbrev pub SiteCommandsReturn : Type 0
 SiteCommandsReturn =
-    (site : Site) (ms : List Module) (shell : Shell) (start e : Environment) (live : List Module) (action : RequestedAction)
+    (site : Site) (ms : List Module) (shell : Shell) (start e : Environment) (live : List Module)
+    (action : RequestedAction)
     (d : Done)
     → ArePlainModules site ms → AgreesWith (certificate ms) start → AreCertifiedTogether ms live
     → IsInOrder (uses_by live) e → IsStartWith (uses_by live) start live e
-    → RequestStep (in_shell (over_site site) shell) e action (Ok d) → AreNew start d.moves → LoadsAreOf (certified ms) d.moves
+    → RequestStep (in_shell (over_site site) shell) e action (Ok d) → AreNew start d.moves
+    → LoadsAreOf (certified ms) d.moves
     → Holds (uses_by (live_after live d.moves)) start (live_after live d.moves) d.env
     × AreCertifiedTogether ms (live_after live d.moves)

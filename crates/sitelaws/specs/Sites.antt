@@ -1,5 +1,6 @@
 -- A whole site (own): its directories, its modules, and the records of those whose files are plain.
-use Rattle.std.specs.Prelude.{◌≡◌, ◌↔◌, false, List, [], ◌∷◌, ◌++◌, map, flat_map, bytes_eq, if◌then◌else◌, Option, Some, None, Result, Ok, Err}
+use Rattle.std.specs.Prelude.{◌≡◌, ◌↔◌, false, List, [], ◌∷◌, ◌++◌, map, flat_map, bytes_eq, if◌then◌else◌, Option}
+use Rattle.std.specs.Prelude.{Some, None, Result, Ok, Err}
 use Rattle.std.specs.List.Sorted.{IsStrictlySortedBy}
 use Rattle.modulename.specs.Versions.{version_order}
 use Rattle.envvars.specs.Texts.{Text}
@@ -127,8 +128,8 @@ pub record IsPlainModule (site : Site) (m : Module) : Type 0 where
 abbrev pub ArePlainModules : Site → List Module → Type 0
 ArePlainModules site ms = (m : Module) → IsAmong m ms ↔ IsPlainModule site m
 
--- The list of directories is closed: it has those of MODULEPATH, and each that a plain module adds which is in one of the
--- list.
+-- The list of directories is closed: it has those of MODULEPATH, and each that a plain module adds which is in one of
+-- the list.
 pub record IsClosed (site : Site) (dirs : List Text) : Type 0 where
   pub begins : (dir : Text) → IsAmong dir (first_directories site) → IsAmong dir dirs
   pub adds : (from dir : Text) (m : SiteModule) (rs : List Record) → IsAmong from dirs → IsIn site from m

@@ -20,8 +20,8 @@ pub data Standing : Type 0 where
   Asks : Standing
   -- it asked nothing, and this is the first of its records that unloading doesn't undo
   OneWay : (first : Record) → Standing
-  -- it is plain, and uses the variable in these two ways; or the variable is MODULEPATH, and the second way is that of a
-  -- path with colons
+  -- it is plain, and uses the variable in these two ways; or the variable is MODULEPATH, and the second way is that of
+  -- a path with colons
   OutOfStep : (variable : Text) (one other : VariableUse) → Standing
   -- it is plain and in step, and clashes with another such module in the variable, by its own use and that of the other
   Clashes : (variable : Text) (own theirs : VariableUse) (other : Module) → Standing
@@ -60,8 +60,8 @@ abbrev pub IsPlainAnd : Site → SiteModule → (Module → Type 0) → Type 0
 IsPlainAnd site m P = (rs : List Record) × HasPlainRecords site m rs × P (with_records m rs)
 
 -- A module of the site, whose plain modules are these, stands so. Each module stands in one of the six ways: its
--- evaluation is refused, or asks, or has a record that unloading doesn't undo, or it is plain; and a plain one is out of
--- step, or is in step and clashes, or is certified.
+-- evaluation is refused, or asks, or has a record that unloading doesn't undo, or it is plain; and a plain one is out
+-- of step, or is in step and clashes, or is certified.
 abbrev pub HasStanding : Site → List Module → SiteModule → Standing → Type 0
 HasStanding site ms m Certified = IsPlainAnd site m (λ n. IsCertified ms n)
 HasStanding site ms m Asks = (ran : Ran) × EvaluatesTo site m (Ok ran) × (verdict_of ran ≡ asked)

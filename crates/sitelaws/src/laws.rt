@@ -1,5 +1,7 @@
 //! Laws of sites. Each function does nothing: its contract is the law.
-ghost use Rattle.sitelaws.specs.Laws.{StepsAreAdmitted, SessionsAreAdmitted, NamesListed, DirectoriesFound, ModulesFound, PlainModulesFound, PlainRecordsAreAll, EachStands, OneStanding, CertifiedStand, SiteSessionsReturn, AuditsHold, SiteCommandsReturn};
+ghost use Rattle.sitelaws.specs.Laws.{StepsAreAdmitted, SessionsAreAdmitted, NamesListed, DirectoriesFound};
+ghost use Rattle.sitelaws.specs.Laws.{ModulesFound, PlainModulesFound, PlainRecordsAreAll, EachStands, OneStanding};
+ghost use Rattle.sitelaws.specs.Laws.{CertifiedStand, SiteSessionsReturn, AuditsHold, SiteCommandsReturn};
 
 /// Nothing that was loaded at the moment of an accepted load forbade it: neither a conflict that the loaded list records,
 /// nor a conflict of the module itself, nor a prereq. So it is for requests, and for sessions.

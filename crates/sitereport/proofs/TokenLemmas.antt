@@ -1,5 +1,6 @@
 -- The tokens of arrays and objects, by those of their parts, which are added one after another.
-use Rattle.std.proofs.Common.{◌≡◌, ℕ, Bool, true, false, List, [], ◌∷◌, ◌++◌, cond, flat_map, map, refl, ap, ◌∙◌, sym, subst, append_assoc}
+use Rattle.std.proofs.Common.{◌≡◌, ℕ, Bool, true, false, List, [], ◌∷◌, ◌++◌, cond, flat_map, map, refl, ap, ◌∙◌, sym}
+use Rattle.std.proofs.Common.{subst, append_assoc}
 use Rattle.std.specs.Prelude.{Result, Ok, Err, OnOk}
 use Rattle.json.specs.Json.{Json}
 use Rattle.json.specs.Token.{Token, key, begin_array, end_array, begin_object, end_object}
@@ -27,7 +28,9 @@ named_more true m ms ts e = ap (λ (l : List Token). json_tokens (module_value m
 named_more false m ms ts e = e
 
 -- the array of the modules that are named
-pub items_tokens-named : (selection : Selection) (ms : List AuditedModule) → items_tokens (items_of (map module_value (named_modules selection ms))) ≡ flat_map (named_tokens selection) ms ++ end_array ∷ []
+pub items_tokens-named : (selection : Selection) (ms : List AuditedModule)
+    → items_tokens (items_of (map module_value (named_modules selection ms))) ≡ flat_map (named_tokens selection) ms
+    ++ end_array ∷ []
 items_tokens-named selection [] = refl
 items_tokens-named selection (m ∷ ms) = named_more (is_named selection m.standing) m (named_modules selection ms) (flat_map (named_tokens selection) ms) (items_tokens-named selection ms)
 
@@ -54,11 +57,15 @@ pub adds_array : {E : Type 0} (r : Result (Unit {0}) E) (a b c d e : Written) (n
     → AddsTokens a b (key name ∷ []) → AddsTokens b c (begin_array ∷ []) → AddsTokens c d ts → OnOk r (AddsTokens d e (end_array ∷ [])) → OnOk r (AddsTokens a e (field_tokens (name, array_of values)))
 adds_array r a b c d e name values ts same named begun items ended =
     let P : List Token → Type 0 = λ l. OnOk r (AddsTokens a e (key name ∷ begin_array ∷ l)) in
-    subst P (sym same) (adds_more r a b e (key name ∷ []) (begin_array ∷ (ts ++ end_array ∷ [])) named (adds_more r b c e (begin_array ∷ []) (ts ++ end_array ∷ []) begun (adds_more r c d e ts (end_array ∷ []) items ended)))
+    subst P (sym same) (adds_more r a b e (key name ∷ []) (begin_array ∷ (ts ++ end_array ∷ [])) named
+    (adds_more r b c e (begin_array ∷ []) (ts ++ end_array ∷ []) begun
+    (adds_more r c d e ts (end_array ∷ []) items ended)))
 
 -- an object
 pub adds_object : {E : Type 0} (r : Result (Unit {0}) E) (a b c d : Written) (fields : List Field) → AddsTokens a b (begin_object ∷ []) → AddsTokens b c (fields_tokens fields)
     → OnOk r (AddsTokens c d (end_object ∷ [])) → OnOk r (AddsTokens a d (json_tokens (object_of fields)))
 adds_object r a b c d fields begun members ended =
     let P : List Token → Type 0 = λ l. OnOk r (AddsTokens a d (begin_object ∷ l)) in
-    subst P (sym (members_tokens-of fields)) (adds_more r a b d (begin_object ∷ []) (fields_tokens fields ++ end_object ∷ []) begun (adds_more r b c d (fields_tokens fields) (end_object ∷ []) members ended))
+    subst P (sym (members_tokens-of fields)) (adds_more r a b d (begin_object ∷ [])
+    (fields_tokens fields ++ end_object ∷ []) begun (adds_more r b c d (fields_tokens fields) (end_object ∷ [])
+    members ended))

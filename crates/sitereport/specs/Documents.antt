@@ -13,7 +13,8 @@ use Rattle.sitecertificate.specs.declared.uses.VariableUse.TheVariants.{Fixed, P
 use Rattle.modulefile.specs.declared.delimiter.Delimiter.{Delimiter}
 use Rattle.modules.specs.Messages.{message_of}
 use Rattle.sitecertificate.specs.declared.disagreement.Disagreement.{Disagreement}
-use Rattle.sitecertificate.specs.declared.disagreement.Disagreement.TheVariants.{LoadedTexts, IsSet, HasNotValue, PathNotInOrder, StackNotInOrder}
+use Rattle.sitecertificate.specs.declared.disagreement.Disagreement.TheVariants.{LoadedTexts, IsSet, HasNotValue}
+use Rattle.sitecertificate.specs.declared.disagreement.Disagreement.TheVariants.{PathNotInOrder, StackNotInOrder}
 use Rattle.siteaudit.specs.declared.auditing.AuditedModule.{AuditedModule}
 use Rattle.siteaudit.specs.declared.auditing.SiteAudit.{SiteAudit}
 use Rattle.siteaudit.specs.declared.auditing.UnknownNames.{UnknownNames}
@@ -124,7 +125,8 @@ disagreement_fields LoadedTexts = (codes "use", string (codes "loaded")) ∷ []
 disagreement_fields (IsSet variable) =
     (codes "variable", text_value variable) ∷ (codes "use", string (codes "set")) ∷ []
 disagreement_fields (HasNotValue variable value) =
-    (codes "variable", text_value variable) ∷ (codes "use", string (codes "unset")) ∷ (codes "value", text_value value) ∷ []
+    (codes "variable", text_value variable) ∷ (codes "use", string (codes "unset")) ∷ (codes "value", text_value value)
+    ∷ []
 disagreement_fields (PathNotInOrder variable delim) =
     (codes "variable", text_value variable) ∷ path_fields delim
 disagreement_fields (StackNotInOrder variable) =
@@ -147,7 +149,8 @@ modules_field selection modules = (codes "modules", array_of (map module_value (
 -- how many of the modules are certified, and how many there are
 abbrev pub count_fields : List AuditedModule → List Field
 count_fields modules =
-    (codes "certified", number (decimal (certified_count modules))) ∷ (codes "count", number (decimal (length modules))) ∷ []
+    (codes "certified", number (decimal (certified_count modules))) ∷ (codes "count", number (decimal (length modules)))
+    ∷ []
 
 -- what the certified modules use
 abbrev pub certificate_field : List UsedVariable → Field

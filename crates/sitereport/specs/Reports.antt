@@ -20,7 +20,8 @@ named_line selection m = if is_named selection m.standing then module_line m els
 -- how many of the modules are certified
 abbrev pub count_line : List AuditedModule → Text
 count_line modules =
-    codes "# " ++ (decimal (certified_count modules) ++ (codes " certified of " ++ (decimal (length modules) ++ codes "\n")))
+    codes "# " ++ (decimal (certified_count modules) ++
+    (codes " certified of " ++ (decimal (length modules) ++ codes "\n")))
 
 -- The whole report: the modules that it names, the count, and the remarks.
 abbrev pub report_of : Selection → SiteAudit → Text

@@ -1,6 +1,7 @@
--- What is said of a module in the report of an audit (own): how it stands in one word, and why; and how texts are spelled
--- in a line.
-use Rattle.std.specs.Prelude.{ℕ, ◌/◌, ◌%◌, ◌==◌, ◌||◌, nat_lt, Bool, true, not, if◌then◌else◌, List, [], ◌∷◌, ◌++◌, codes, count_by, flat_map, Some, None, string_bytes}
+-- What is said of a module in the report of an audit (own): how it stands in one word, and why; and how texts are
+-- spelled in a line.
+use Rattle.std.specs.Prelude.{ℕ, ◌/◌, ◌%◌, ◌==◌, ◌||◌, nat_lt, Bool, true, not, if◌then◌else◌, List, [], ◌∷◌, ◌++◌}
+use Rattle.std.specs.Prelude.{codes, count_by, flat_map, Some, None, string_bytes}
 use Rattle.std.specs.Char.{digit_char}
 use Rattle.envvars.specs.Texts.{Text}
 use Rattle.tcllist.specs.Lists.{list_text}

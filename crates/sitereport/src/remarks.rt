@@ -86,14 +86,12 @@ pub(crate) fn push_unknowns(
     Ok(())
 }
 
-/// A variable, and what is said of it.
 fn said_of(alloc: Global, variable: &str, what: &str) -> Result<String, AllocError>
     ensures { IfOk result (λ words. string_bytes words ≡ variable.now ++ what.now) }
 {
     format!(in alloc; "{variable}{what}")
 }
 
-/// A delimiter in quotes.
 fn quoted_delimiter(alloc: Global, delim: Delimiter) -> Result<String, AllocError>
     ensures { IfOk result (λ words. string_bytes words ≡ spec.delimiter delim) }
 {

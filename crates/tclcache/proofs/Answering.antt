@@ -1,5 +1,6 @@
 -- What is answered to a text, from the list of the program.
-use Rattle.std.proofs.Common.{◌≡◌, ℕ, true, false, [], ◌∷◌, ◌++◌, length, Option, Some, None, Result, Ok, Err, refl, sym, ap, ◌∙◌}
+use Rattle.std.proofs.Common.{◌≡◌, ℕ, true, false, [], ◌∷◌, ◌++◌, length, Option, Some, None, Result, Ok, Err, refl}
+use Rattle.std.proofs.Common.{sym, ap, ◌∙◌}
 use Rattle.std.specs.Prelude.{bytes_eq, IsErrAnd}
 use Rattle.std.specs.List.{position}
 use Rattle.std.proofs.lemmas.List.{map-append}
@@ -61,11 +62,14 @@ module _ {T U : Type 0} (view : T → U) where
         added = λ p q. (g, refl);
       }
 
-      pub passed_answers : (fault : TextFault) (res : Result (Option ℕ) TextFault) → IsErrAnd res (λ f. f ≡ fault) → FailsWith fault (read t) → AnswersIndex read (map_trees view es) t res (map_trees view es)
+      pub passed_answers : (fault : TextFault) (res : Result (Option ℕ) TextFault) → IsErrAnd res (λ f. f ≡ fault)
+          → FailsWith fault (read t) → AnswersIndex read (map_trees view es) t res (map_trees view es)
       passed_answers fault (Ok p) e g = absurd e
       passed_answers fault (Err f) e g = rw e (fails_answers fault g)
 
-      pub added_answers : (new : Trees T) (tree : T) (entry_index : ℕ) → read t ≡ Ok (view tree) → entry_index ≡ length es → new ≡ es ++ (t, tree) ∷ [] → AnswersIndex read (map_trees view es) t (Ok (Some entry_index)) (map_trees view new)
+      pub added_answers : (new : Trees T) (tree : T) (entry_index : ℕ) → read t ≡ Ok (view tree)
+          → entry_index ≡ length es → new ≡ es ++ (t, tree) ∷ []
+          → AnswersIndex read (map_trees view es) t (Ok (Some entry_index)) (map_trees view new)
       added_answers new tree entry_index g n e = record {
         there = λ j p. absurd (none_some j (sym h ∙ sym (place_seen es t) ∙ p));
         full = λ p q. absurd (true_false (sym q ∙ full_seen es t ∙ f));

@@ -1,5 +1,7 @@
 -- Maps of strings read as texts with trees.
-use Rattle.std.proofs.Common.{◌≡◌, ℕ, suc, ◌+◌, ◌<◌, ◌≤◌, Bool, true, false, cond, not, nat_lt, ◌||◌, List, [], ◌∷◌, ◌++◌, map, length, get_or, slice_get, Contains, Some, None, String, Global, refl, sym, ap, ◌∙◌, arith, length-append}
+use Rattle.std.proofs.Common.{◌≡◌, ℕ, suc, ◌+◌, ◌<◌, ◌≤◌, Bool, true, false, cond, not, nat_lt, ◌||◌, List, [], ◌∷◌}
+use Rattle.std.proofs.Common.{◌++◌, map, length, get_or, slice_get, Contains, Some, None, String, Global, refl, sym, ap}
+use Rattle.std.proofs.Common.{◌∙◌, arith, length-append}
 use Rattle.std.specs.Prelude.{string_bytes, bytes_eq}
 use Rattle.std.specs.declared.rc.Rc.{Rc}
 use Rattle.std.specs.String.{string_eq}
@@ -39,7 +41,8 @@ module _ {X : Type 0} (p : X → Bool) where
   absent [] h = tt
   absent (x ∷ xs) h = go (absent xs) (p x) refl h
     where
-      go : (length xs ≤ position_or_len p xs → AllByRecursion (λ y. p y ≡ false) xs) → (b : Bool) → p x ≡ b → length (x ∷ xs) ≤ cond (not b) (1 + position_or_len p xs) 0 → AllByRecursion (λ y. p y ≡ false) (x ∷ xs)
+      go : (length xs ≤ position_or_len p xs → AllByRecursion (λ y. p y ≡ false) xs) → (b : Bool) → p x ≡ b
+          → length (x ∷ xs) ≤ cond (not b) (1 + position_or_len p xs) 0 → AllByRecursion (λ y. p y ≡ false) (x ∷ xs)
       go k true e g = absurd (omega arith)
       go k false e g = (e, k (omega arith))
 
@@ -48,7 +51,9 @@ module _ {X : Type 0} (p : X → Bool) (d : X) where
   passes [] h = absurd (omega arith)
   passes (x ∷ xs) h = go (passes xs) (p x) refl h
     where
-      go : (position_or_len p xs < length xs → p (get_or xs (position_or_len p xs) d) ≡ true) → (b : Bool) → p x ≡ b → cond (not b) (1 + position_or_len p xs) 0 < length (x ∷ xs) → p (get_or (x ∷ xs) (cond (not (p x)) (1 + position_or_len p xs) 0) d) ≡ true
+      go : (position_or_len p xs < length xs → p (get_or xs (position_or_len p xs) d) ≡ true) → (b : Bool) → p x ≡ b
+          → cond (not b) (1 + position_or_len p xs) 0 < length (x ∷ xs)
+          → p (get_or (x ∷ xs) (cond (not (p x)) (1 + position_or_len p xs) 0) d) ≡ true
       go k true e g = rw e e
       go k false e g =
           let n : 1 + position_or_len p xs ≡ suc (position_or_len p xs) = omega arith in
@@ -78,11 +83,13 @@ module _ {T : Type 0} where
   distinct_entries [] h = tt
   distinct_entries (e ∷ es) h = (others es h.0, distinct_entries es h.1)
     where
-      others : (fs : List (String Global × Rc T Global)) → AllByRecursion (λ k. string_eq e.0 k ≡ false) (keys_of fs) → AllByRecursion (λ t. bytes_eq (string_bytes e.0) t ≡ false) (texts_of (entries_view fs))
+      others : (fs : List (String Global × Rc T Global)) → AllByRecursion (λ k. string_eq e.0 k ≡ false) (keys_of fs)
+          → AllByRecursion (λ t. bytes_eq (string_bytes e.0) t ≡ false) (texts_of (entries_view fs))
       others [] g = tt
       others (f ∷ fs) g = (g.0, others fs g.1)
 
-  pub insert_last : (es : List (String Global × Rc T Global)) (k : String Global) (v : Rc T Global) → index_of (entries_view es) (string_bytes k) ≡ None → insert_entry string_eq es k v ≡ es ++ (k, v) ∷ []
+  pub insert_last : (es : List (String Global × Rc T Global)) (k : String Global) (v : Rc T Global)
+      → index_of (entries_view es) (string_bytes k) ≡ None → insert_entry string_eq es k v ≡ es ++ (k, v) ∷ []
   insert_last es k v h = go es (absent (bytes_eq (string_bytes k)) (texts_of (entries_view es)) (beyond (bytes_eq (string_bytes k)) (texts_of (entries_view es)) h))
     where
       go : (fs : List (String Global × Rc T Global)) → AllByRecursion (λ t. bytes_eq (string_bytes k) t ≡ false) (texts_of (entries_view fs)) → insert_entry string_eq fs k v ≡ fs ++ (k, v) ∷ []
@@ -92,7 +99,9 @@ module _ {T : Type 0} where
   pub view_push : (es : List (String Global × Rc T Global)) (k : String Global) (v : Rc T Global) → entries_view (es ++ (k, v) ∷ []) ≡ entries_view es ++ (string_bytes k, v.value) ∷ []
   view_push es k v = map-append _ es _
 
-  pub entries_added : (es fs : List (String Global × Rc T Global)) (k : String Global) (v : Rc T Global) (t : Text) (x : T) → fs ≡ insert_entry string_eq es k v → string_bytes k ≡ t → v.value ≡ x → index_of (entries_view es) t ≡ None → entries_view fs ≡ entries_view es ++ (t, x) ∷ []
+  pub entries_added : (es fs : List (String Global × Rc T Global)) (k : String Global) (v : Rc T Global) (t : Text)
+      (x : T) → fs ≡ insert_entry string_eq es k v → string_bytes k ≡ t → v.value ≡ x
+      → index_of (entries_view es) t ≡ None → entries_view fs ≡ entries_view es ++ (t, x) ∷ []
   entries_added es fs k v t x e f g h =
       ap entries_view (e ∙ insert_last es k v (rw f h)) ∙ view_push es k v ∙ rw (f, g) refl
 
@@ -110,11 +119,18 @@ module _ {T : Type 0} where
       go false true e f g = absurd (cc)
       go false false e f g = (grind (arith, nat_tests), grind (arith, nat_tests))
 
-  pub made_there : (es : List (String Global × Rc T Global)) (t : Text) (i : ℕ) (k : String Global) (v : Rc T Global) → position (λ k. bytes_eq t (string_bytes k)) (keys_of es) ≡ Some i → slice_get es i ≡ Some (k, v) → Contains (entries_view es) (t, v.value)
+  pub made_there : (es : List (String Global × Rc T Global)) (t : Text) (i : ℕ) (k : String Global) (v : Rc T Global)
+      → position (λ k. bytes_eq t (string_bytes k)) (keys_of es) ≡ Some i → slice_get es i ≡ Some (k, v)
+      → Contains (entries_view es) (t, v.value)
   made_there es t i k v h g =
       let l : i < length es = slice_get_within es i (k, v) g in
       let e : get_or es i (k, v) ≡ (k, v) = get_or_from_slice_get es i (k, v) (k, v) g in
       let n : get_or (keys_of es) i k ≡ k = get_or-map (λ (e : String Global × Rc T Global). e.0) es i (k, v) k l ∙ ap (λ (e : String Global × Rc T Global). e.0) e in
       let same : t ≡ string_bytes k = (bytes_eq-Decides t (string_bytes k)).0 (rw n at (at_place (λ (k : String Global). bytes_eq t (string_bytes k)) k (keys_of es) i h)) in
-      let m : length (entries_view es) ≡ length es = length-map es (λ (e : String Global × Rc T Global). (string_bytes e.0, e.1.value)) in
-      (i, rw m l, get_or-map (λ (e : String Global × Rc T Global). (string_bytes e.0, e.1.value)) es i (k, v) (t, v.value) l ∙ ap (λ (e : String Global × Rc T Global). (string_bytes e.0, e.1.value)) e ∙ ap (λ (x : Text). (x, v.value)) (sym same))
+      let m : length (entries_view es) ≡ length es = length-map es (λ (e : String Global × Rc T Global). (string_bytes e.0, e.1.value)) in (
+        i,
+        rw m l,
+        get_or-map (λ (e : String Global × Rc T Global). (string_bytes e.0, e.1.value)) es i (k, v)
+            (t, v.value) l ∙ ap (λ (e : String Global × Rc T Global). (string_bytes e.0, e.1.value)) e
+            ∙ ap (λ (x : Text). (x, v.value)) (sym same),
+      )

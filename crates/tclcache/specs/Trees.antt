@@ -1,5 +1,6 @@
 -- Texts with their trees, in the order of their coming, and how a request for one changes them. Own.
-use Rattle.std.specs.Prelude.{◌≡◌, ℕ, ◌+◌, ◌≤◌, List, [], ◌∷◌, ◌++◌, Bool, true, false, ◌||◌, nat_lt, length, map, bytes_eq, Option, Some, None, Result, Ok, Err}
+use Rattle.std.specs.Prelude.{◌≡◌, ℕ, ◌+◌, ◌≤◌, List, [], ◌∷◌, ◌++◌, Bool, true, false, ◌||◌, nat_lt, length, map}
+use Rattle.std.specs.Prelude.{bytes_eq, Option, Some, None, Result, Ok, Err}
 use Rattle.std.specs.List.{Contains, IsDistinct, position, sum_by}
 use Rattle.tclchars.specs.Runs.{Text}
 use Rattle.tclchars.specs.Whole.{FailsWith}

@@ -19,12 +19,12 @@ use tclscript::OwnedScript;
 /// Texts that were evaluated as scripts, and texts that were evaluated as expressions, each with its tree: of each kind
 /// at most 1,024 texts, of at most 8,388,608 bytes together. Nothing is ever dropped.
 #[derive(Drop)]
-pub struct Kept {
+pub struct KeptTrees {
     scripts: Texts<OwnedScript>,
     expressions: Texts<OwnedExpr>,
 }
 
-impl Model for Kept {
+impl Model for KeptTrees {
     ghost use Rattle.tclcache.specs.Kept as trees;
     ghost use Rattle.std.specs.Coded.{codes};
     ghost use Rattle.tclscript.specs.contracts.owned.OwnedScript as owned_script;
@@ -41,14 +41,14 @@ impl Model for Kept {
     ghost invariant = { IsSound };
 }
 
-impl Kept {
+impl KeptTrees {
     /// The empty cache.
-    pub fn new(alloc: Global) -> Kept
+    pub fn new(alloc: Global) -> KeptTrees
         ensures scripts { result.scripts ≡ [] }
         ensures expressions { result.expressions ≡ [] }
         ensures valid { IsValidKept result }
     {
-        Kept {
+        KeptTrees {
             scripts: Texts::new(alloc),
             expressions: Texts::new(alloc),
         }

@@ -1,4 +1,4 @@
-//! `Kept`, the parsed texts: scripts and expressions with their trees, so that nothing is parsed twice.
+//! `KeptTrees`, the parsed texts: scripts and expressions with their trees, so that nothing is parsed twice.
 //! Takes memory and touches nothing else.
 #![tactic(auto)]
 
@@ -6,4 +6,4 @@ mod kept;
 mod parsed;
 mod texts;
 
-pub use kept::Kept;
+pub use kept::KeptTrees;

@@ -1,8 +1,10 @@
 //! Distinct texts in the order of their coming, each with its tree.
-ghost use Rattle.std.specs.Prelude.{◌≡◌, [], ◌∷◌, ◌++◌, false, length, ℕ, None, Some, IfOk, IfSome, IsNone, OnOk, OnErr};
+ghost use Rattle.std.specs.Prelude.{◌≡◌, [], ◌∷◌, ◌++◌, false, length, ℕ, None, Some, IfOk, IfSome, IsNone, OnOk};
+ghost use Rattle.std.specs.Prelude.{OnErr};
 ghost use Rattle.std.specs.List.{All, Contains};
 ghost use Rattle.tclchars.specs.Whole.{Reads};
-ghost use Rattle.tclcache.specs.Trees.{AnswersIndex, AreLimited, BeginsWith, CachesTree, IsTreeOfText, index_of, is_full, map_trees};
+ghost use Rattle.tclcache.specs.Trees.{AnswersIndex, AreLimited, BeginsWith, CachesTree, IsTreeOfText, index_of};
+ghost use Rattle.tclcache.specs.Trees.{is_full, map_trees};
 
 use crate::parsed::{Parsed, parse_copy, shared};
 use indexmap::IndexMap;
@@ -62,7 +64,6 @@ impl<T: Drop> Texts<T> {
         self.made.get_index_of(text)
     }
 
-    /// The tree of a text.
     fn tree_of(&self, text: &str) -> Option<&Rc<T>>
         ensures found { IfSome result (λ made. Contains self.now (text.now, made.now.value)) }
         ensures there { IfSome result (λ _. (entry_index : ℕ) × (index_of self.now text.now ≡ Some entry_index)) }

@@ -1,5 +1,6 @@
 -- Digits and characters behind a backslash.
-use Rattle.std.proofs.Common.{◌≡◌, ◌≢◌, ℕ, zero, suc, ◌+◌, ◌*◌, ◌-◌, ◌^◌, ◌<◌, ◌≤◌, [], ◌∷◌, ◌++◌, length, Bool, true, false, Some, refl, sym, ap, ap₂, subst, ◌∙◌, ◌/◌, ◌%◌, ◌==◌, nat_lt, nat_le, arith}
+use Rattle.std.proofs.Common.{◌≡◌, ◌≢◌, ℕ, zero, suc, ◌+◌, ◌*◌, ◌-◌, ◌^◌, ◌<◌, ◌≤◌, [], ◌∷◌, ◌++◌, length, Bool, true}
+use Rattle.std.proofs.Common.{false, Some, refl, sym, ap, ap₂, subst, ◌∙◌, ◌/◌, ◌%◌, ◌==◌, nat_lt, nat_le, arith}
 use Rattle.std.proofs.lemmas.Bool.Decides.{nat_tests}
 use Rattle.std.specs.Char.{digit_value}
 use Rattle.tclchars.specs.Runs.{Text, take_while, drop_while}
@@ -9,7 +10,8 @@ use Rattle.tclchars.specs.Bytes.{is_continuation}
 use lib.Dec.{T, ltb, ltb→lt}
 use Rattle.std.proofs.lemmas.Str.{encode_ascii}
 use Rattle.tclchars.specs.Backslash.{digit_at, letter_value, is_octal, after_backslash, begins_wide}
-use Rattle.tclchars.proofs.RunLemmas.{take_while-cons_true, take_while-cons_false, drop_while-cons_true, drop_while-cons_false}
+use Rattle.tclchars.proofs.RunLemmas.{take_while-cons_true, take_while-cons_false, drop_while-cons_true}
+use Rattle.tclchars.proofs.RunLemmas.{drop_while-cons_false}
 
 pub digit_small : (b : ℕ) → digit_value b < 36 → b < 128
 digit_small b h = grind (arith, nat_tests)
@@ -85,7 +87,9 @@ wide_read c rest h clean = cases (ltb c 128) (ltb c 2048) (ltb c 65536) refl ref
   cases true u v t' u' v' = absurd (let small : c < 128 = ltb→lt c 128 (subst T (sym t') tt) in omega arith)
   cases false true v t' u' v' = rw (t', u') (wide_runs (192 + c / 64) _ rest (omega arith) (runs_more c [] rest (runs_none rest clean)))
   cases false false true t' u' v' = rw (t', u', v') (wide_runs (224 + c / 4096) _ rest (omega arith) (runs_more (c / 64) _ rest (runs_more c [] rest (runs_none rest clean))))
-  cases false false false t' u' v' = rw (t', u', v') (wide_runs (240 + c / 262144) _ rest (omega arith) (runs_more (c / 4096) _ rest (runs_more (c / 64) _ rest (runs_more c [] rest (runs_none rest clean)))))
+  cases false false false t' u' v' = rw (t', u', v')
+      (wide_runs (240 + c / 262144) _ rest (omega arith)
+      (runs_more (c / 4096) _ rest (runs_more (c / 64) _ rest (runs_more c [] rest (runs_none rest clean)))))
 
 pub within_none : (n : ℕ) → n ≤ 4 → 0 < 16 ^ (4 - n)
 within_none zero h = omega arith

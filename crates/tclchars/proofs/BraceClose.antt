@@ -1,7 +1,9 @@
 -- The brace that closes is the first one behind a text whose braces match.
-use Rattle.std.proofs.Common.{◌≡◌, ◌≢◌, ℕ, zero, suc, List, [], ◌∷◌, ◌++◌, Bool, true, false, ◌==◌, Option, Some, None, refl, sym, ap, ap₂, subst, ◌∙◌, arith, append_assoc, append-nil}
+use Rattle.std.proofs.Common.{◌≡◌, ◌≢◌, ℕ, zero, suc, List, [], ◌∷◌, ◌++◌, Bool, true, false, ◌==◌, Option, Some, None}
+use Rattle.std.proofs.Common.{refl, sym, ap, ap₂, subst, ◌∙◌, arith, append_assoc, append-nil}
 use Rattle.std.proofs.lemmas.Bool.Decides.{nat_tests}
-use Rattle.tclchars.specs.Braces.{Balanced, nothing, other, escaped, inner, brace_step, after_step, with_first, braced_at}
+use Rattle.tclchars.specs.Braces.{Balanced, nothing, other, escaped, inner, brace_step, after_step, with_first}
+use Rattle.tclchars.specs.Braces.{braced_at}
 use Rattle.tclchars.proofs.BraceLemmas.{Found, behind_all, behind_all-nil, braced_at-nil, braced_at-cons}
 
 -- Braces: what closes behind so many more
@@ -67,13 +69,16 @@ pub brace_step-less : (d b : ℕ) → (b == 92) ≡ false → (b == 123) ≡ fal
 brace_step-less d b h k l = rw (h, k, l) refl
 
 -- one byte that doesn't close
-close_more : (b : ℕ) (bs : List ℕ) (e : Bool) (d : ℕ) (f r : List ℕ) → AllClose bs → with_first b (braced_at e d bs) ≡ Some (f, r) → (g : List ℕ) × (f ≡ b ∷ g) × (b ∷ bs ≡ f ++ 125 ∷ r) × ClosesAfter e d g
+close_more : (b : ℕ) (bs : List ℕ) (e : Bool) (d : ℕ) (f r : List ℕ) → AllClose bs
+    → with_first b (braced_at e d bs) ≡ Some (f, r) → (g : List ℕ) × (f ≡ b ∷ g) × (b ∷ bs ≡ f ++ 125 ∷ r)
+    × ClosesAfter e d g
 close_more b bs e d f r all h =
     let found = behind_some b (braced_at e d bs) f r h in
     let so = all e d found.0 r found.1 in
     (found.0, found.2, ap (λ xs. b ∷ xs) so.0 ∙ ap (λ xs. xs ++ 125 ∷ r) (sym found.2), so.1)
 
-after_some : (b : ℕ) (bs : List ℕ) (e : Bool) (d : ℕ) (step : Option (Bool × ℕ)) (f r : List ℕ) → step ≡ Some (e, d) → after_step b bs (λ e d. braced_at e d bs) step ≡ Some (f, r) → with_first b (braced_at e d bs) ≡ Some (f, r)
+after_some : (b : ℕ) (bs : List ℕ) (e : Bool) (d : ℕ) (step : Option (Bool × ℕ)) (f r : List ℕ) → step ≡ Some (e, d)
+    → after_step b bs (λ e d. braced_at e d bs) step ≡ Some (f, r) → with_first b (braced_at e d bs) ≡ Some (f, r)
 after_some b bs e d step f r is h = sym (ap (after_step b bs (λ e d. braced_at e d bs)) is) ∙ h
 
 close_cases : (b : ℕ) (bs : List ℕ) (d : ℕ) (f r : List ℕ) (t u v : Bool) → (b == 92) ≡ t → (b == 123) ≡ u → (b == 125) ≡ v → AllClose bs
@@ -136,7 +141,10 @@ balanced_read (escaped {b} {bs} h) d rest =
 balanced_read (inner {inside} {bs} h k) d rest =
     ap (λ xs. braced_at false d (123 ∷ xs)) (append_assoc inside (125 ∷ bs) rest)
     ∙ step_on false false d (suc d) 123 (inside ++ 125 ∷ (bs ++ rest)) (brace_step-open d 123 refl refl)
-    ∙ ap (with_first 123) (balanced_read h (suc d) (125 ∷ (bs ++ rest)) ∙ ap (behind_all inside) (step_on false false (suc d) d 125 (bs ++ rest) (brace_step-less d 125 refl refl refl) ∙ ap (with_first 125) (balanced_read k d rest) ∙ behind_all-cons 125 bs _) ∙ behind_all-append inside (125 ∷ bs) _)
+    ∙ ap (with_first 123) (balanced_read h (suc d) (125 ∷ (bs ++ rest))
+    ∙ ap (behind_all inside) (step_on false false (suc d) d 125 (bs ++ rest) (brace_step-less d 125 refl refl refl)
+    ∙ ap (with_first 125) (balanced_read k d rest) ∙ behind_all-cons 125 bs _)
+    ∙ behind_all-append inside (125 ∷ bs) _)
     ∙ behind_all-cons 123 (inside ++ 125 ∷ bs) _
 
 pub found_close : (inside rest : List ℕ) → Balanced inside → braced_at false 0 (inside ++ 125 ∷ rest) ≡ Some (inside, rest)

@@ -1,5 +1,6 @@
 -- Texts in braces: runs without a backslash, and what a backslash does.
-use Rattle.std.proofs.Common.{◌≡◌, ℕ, suc, ◌≤◌, [], ◌∷◌, ◌++◌, length, Bool, true, false, ◌==◌, refl, sym, ap, ◌∙◌, arith, append_assoc, append-nil, subst, ◌⊎◌, inl, inr}
+use Rattle.std.proofs.Common.{◌≡◌, ℕ, suc, ◌≤◌, [], ◌∷◌, ◌++◌, length, Bool, true, false, ◌==◌, refl, sym, ap, ◌∙◌}
+use Rattle.std.proofs.Common.{arith, append_assoc, append-nil, subst, ◌⊎◌, inl, inr}
 use Rattle.std.proofs.lemmas.Bool.Decides.{nat_tests}
 use Rattle.tclchars.specs.Bytes.{backslash, newline}
 use Rattle.tclchars.specs.Runs.{Text, take_while, drop_while, begins}
@@ -18,7 +19,9 @@ pub run_text : (bs : Text) → braced_text bs ≡ take_while (in_class Unescaped
 run_text [] = refl
 run_text (b ∷ bs) = run_cases b bs (b == backslash) refl (run_text bs)
 
-newline_cases : (b : ℕ) (bs : Text) (t : Bool) → is_blank_or_tab b ≡ t → braced_after_newline bs ≡ braced_text (drop_while is_blank_or_tab bs) → braced_after_newline (b ∷ bs) ≡ braced_text (drop_while is_blank_or_tab (b ∷ bs))
+newline_cases : (b : ℕ) (bs : Text) (t : Bool) → is_blank_or_tab b ≡ t
+    → braced_after_newline bs ≡ braced_text (drop_while is_blank_or_tab bs)
+    → braced_after_newline (b ∷ bs) ≡ braced_text (drop_while is_blank_or_tab (b ∷ bs))
 newline_cases b bs true e so = rw e so
 newline_cases b bs false e so = rw e refl
 
@@ -32,13 +35,18 @@ pub other_text : (bs : Text) → begins newline bs ≡ false → begins backslas
 other_text [] h k = refl
 other_text (b ∷ bs) h k = rw (h, k) refl
 
-pub escaped_newline : (old new after next rest : Text) → new ≡ old ++ 32 ∷ [] → after ≡ newline ∷ next → rest ≡ drop_while is_blank_or_tab next → new ++ braced_text rest ≡ old ++ braced_after_backslash after
+pub escaped_newline : (old new after next rest : Text) → new ≡ old ++ 32 ∷ [] → after ≡ newline ∷ next
+    → rest ≡ drop_while is_blank_or_tab next → new ++ braced_text rest ≡ old ++ braced_after_backslash after
 escaped_newline old new after next rest n a r = rw (n, a, r) (append_assoc old (32 ∷ []) (braced_text (drop_while is_blank_or_tab next)) ∙ ap (λ xs. old ++ 32 ∷ xs) (sym (newline_text next)))
 
-pub escaped_backslash : (old mid new after next : Text) → mid ≡ old ++ backslash ∷ [] → new ≡ mid ++ backslash ∷ [] → after ≡ backslash ∷ next → new ++ braced_text next ≡ old ++ braced_after_backslash after
-escaped_backslash old mid new after next m n a = rw (n, m, a) (append_assoc (old ++ backslash ∷ []) (backslash ∷ []) (braced_text next) ∙ append_assoc old (backslash ∷ []) (backslash ∷ braced_text next))
+pub escaped_backslash : (old mid new after next : Text) → mid ≡ old ++ backslash ∷ [] → new ≡ mid ++ backslash ∷ []
+    → after ≡ backslash ∷ next → new ++ braced_text next ≡ old ++ braced_after_backslash after
+escaped_backslash old mid new after next m n a = rw (n, m, a)
+    (append_assoc (old ++ backslash ∷ []) (backslash ∷ []) (braced_text next)
+    ∙ append_assoc old (backslash ∷ []) (backslash ∷ braced_text next))
 
-pub escaped_other : (old new after : Text) → new ≡ old ++ backslash ∷ [] → begins newline after ≡ false → begins backslash after ≡ false → new ++ braced_text after ≡ old ++ braced_after_backslash after
+pub escaped_other : (old new after : Text) → new ≡ old ++ backslash ∷ [] → begins newline after ≡ false
+    → begins backslash after ≡ false → new ++ braced_text after ≡ old ++ braced_after_backslash after
 escaped_other old new after n h k = rw n (append_assoc old (backslash ∷ []) (braced_text after) ∙ ap (λ xs. old ++ xs) (sym (other_text after h k)))
 
 pub back_no_longer : (p : ℕ → Bool) (bs : Text) → length (drop_while p bs) ≤ length bs
@@ -67,10 +75,16 @@ run_stops (b ∷ bs) = cases (b == backslash) refl (run_stops bs) where
   cases true e so = inr (bs, rw e (ap (λ (x : ℕ). x ∷ bs) (is_byte b e)))
   cases false e so = rw e so
 
-pub run_added : (value run rest following : Text) → run ≡ take_while (in_class Unescaped) following → rest ≡ drop_while (in_class Unescaped) following → (value ++ run) ++ braced_text rest ≡ value ++ braced_text following
-run_added value run rest following r e = rw (r, e) (append_assoc value (take_while (in_class Unescaped) following) (braced_text (drop_while (in_class Unescaped) following)) ∙ ap (λ xs. value ++ xs) (sym (run_text following)))
+pub run_added : (value run rest following : Text) → run ≡ take_while (in_class Unescaped) following
+    → rest ≡ drop_while (in_class Unescaped) following → (value ++ run) ++ braced_text rest ≡ value
+    ++ braced_text following
+run_added value run rest following r e = rw (r, e)
+    (append_assoc value (take_while (in_class Unescaped) following)
+    (braced_text (drop_while (in_class Unescaped) following)) ∙ ap (λ xs. value ++ xs) (sym (run_text following)))
 
-pub so_far-run : (whole value run rest following : Text) → run ≡ take_while (in_class Unescaped) following → rest ≡ drop_while (in_class Unescaped) following → value ++ braced_text following ≡ whole → SoFar whole (value ++ run) rest
+pub so_far-run : (whole value run rest following : Text) → run ≡ take_while (in_class Unescaped) following
+    → rest ≡ drop_while (in_class Unescaped) following → value ++ braced_text following ≡ whole
+    → SoFar whole (value ++ run) rest
 so_far-run whole value run rest following r e so = record {
   same = run_added value run rest following r e ∙ so;
   stands = subst (λ (xs : Text). (xs ≡ []) ⊎ ((more : Text) × (xs ≡ backslash ∷ more))) (sym e) (run_stops following);

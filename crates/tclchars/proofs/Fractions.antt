@@ -1,5 +1,7 @@
 -- The class of a text is that of a fraction exactly where the text is a number with one.
-use Rattle.std.proofs.Common.{◌≡◌, ◌≢◌, ℕ, zero, suc, ◌+◌, ◌^◌, ◌<◌, ◌≤◌, [], ◌∷◌, ◌++◌, map, Bool, true, false, not, ◌||◌, ◌&&◌, ◌==◌, nat_lt, Option, Some, None, refl, sym, ap, subst, ◌∙◌, arith, append-nil, ◌⊎◌, inl, inr, lit≤}
+use Rattle.std.proofs.Common.{◌≡◌, ◌≢◌, ℕ, zero, suc, ◌+◌, ◌^◌, ◌<◌, ◌≤◌, [], ◌∷◌, ◌++◌, map, Bool, true, false, not}
+use Rattle.std.proofs.Common.{◌||◌, ◌&&◌, ◌==◌, nat_lt, Option, Some, None, refl, sym, ap, subst, ◌∙◌, arith}
+use Rattle.std.proofs.Common.{append-nil, ◌⊎◌, inl, inr, lit≤}
 use Rattle.std.specs.Prelude.{codes, bytes_eq, pos, negsuc}
 use Rattle.std.specs.Char.{to_ascii_lowercase, digit_value}
 use Rattle.std.proofs.lemmas.Slice.Eq.{bytes_eq-Decides}
@@ -8,10 +10,13 @@ use Rattle.std.specs.Str.Parse.{AllDigits}
 use Rattle.tclchars.specs.Bytes.{is_space, AllPass}
 use Rattle.tclchars.specs.Runs.{Text, take_while, drop_while}
 use Rattle.tclchars.specs.declared.number.Numeral.TheVariants as numerals
-use Rattle.tclchars.specs.Numerals.{trimmed, is_minus, is_sign, without_sign, base_of, magnitude, is_digit, begins_digit, is_nil, are_digits, whole_of, is_exponent, may_be_exponent, is_fraction_end, is_number_name, is_fraction, class_of, numeral_of, numeral}
+use Rattle.tclchars.specs.Numerals.{trimmed, is_minus, is_sign, without_sign, base_of, magnitude, is_digit}
+use Rattle.tclchars.specs.Numerals.{begins_digit, is_nil, are_digits, whole_of, is_exponent, may_be_exponent}
+use Rattle.tclchars.specs.Numerals.{is_fraction_end, is_number_name, is_fraction, class_of, numeral_of, numeral}
 use Rattle.tclchars.specs.Numbers as numbers
 use Rattle.tclchars.specs.Numbers.{IsMagnitude, IsSigned, IsExponent, IsFraction, IsFractional}
-use Rattle.tclchars.proofs.WholeNumbers.{not_true, either, no_sign, magnitude_read, magnitude_found, Unspaced, signed_found, trimmed_is, spaced}
+use Rattle.tclchars.proofs.WholeNumbers.{not_true, either, no_sign, magnitude_read, magnitude_found, Unspaced}
+use Rattle.tclchars.proofs.WholeNumbers.{signed_found, trimmed_is, spaced}
 
 none_some : {A : Type 0} {x : A} → (let none : Option A = None in none) ≡ Some x → ⊥
 none_some h = cc
@@ -231,7 +236,9 @@ named_is t h = go (bytes_eq (map to_ascii_lowercase t) (codes "inf")) (bytes_eq 
   equal : (w : Text) → bytes_eq (map to_ascii_lowercase t) w ≡ true → map to_ascii_lowercase t ≡ w
   equal w e = (bytes_eq-Decides (map to_ascii_lowercase t) w).0 e
 
-  go : (x y z : Bool) → bytes_eq (map to_ascii_lowercase t) (codes "inf") ≡ x → bytes_eq (map to_ascii_lowercase t) (codes "infinity") ≡ y → bytes_eq (map to_ascii_lowercase t) (codes "nan") ≡ z → Named t
+  go : (x y z : Bool) → bytes_eq (map to_ascii_lowercase t) (codes "inf") ≡ x
+      → bytes_eq (map to_ascii_lowercase t) (codes "infinity") ≡ y
+      → bytes_eq (map to_ascii_lowercase t) (codes "nan") ≡ z → Named t
   go true y z a b c = named_by t (codes "nf") 105 first_i (equal (codes "inf") a) (lit≤ tt, (lit≤ tt, (lit≤ tt, tt)))
   go false true z a b c = named_by t (codes "nfinity") 105 first_i (equal (codes "infinity") b) (lit≤ tt, (lit≤ tt, (lit≤ tt, (lit≤ tt, (lit≤ tt, (lit≤ tt, (lit≤ tt, (lit≤ tt, tt))))))))
   go false false true a b c = named_by t (codes "an") 110 first_n (equal (codes "nan") c) (lit≤ tt, (lit≤ tt, (lit≤ tt, tt)))
@@ -249,7 +256,9 @@ exponent_stops (b ∷ bs) (inl e) = cc
 exponent_stops (b ∷ bs) (inr h) = (stops b bs (exponent_letter b h.0).1, exponent_test (b ∷ bs) h)
 
 fraction_no_magnitude : {t : Text} → IsFraction t → magnitude t ≡ None
-fraction_no_magnitude (numbers.IsFraction.pointed whole part exponent all also some exp) = no_number (whole ++ 46 ∷ (part ++ exponent)) (λ n m. no_magnitude whole 46 (part ++ exponent) (whole ++ 46 ∷ (part ++ exponent)) n m refl all (lit≤ tt) refl)
+fraction_no_magnitude (numbers.IsFraction.pointed whole part exponent all also some exp) = no_number
+    (whole ++ 46 ∷ (part ++ exponent)) (λ n m. no_magnitude whole 46 (part ++ exponent)
+    (whole ++ 46 ∷ (part ++ exponent)) n m refl all (lit≤ tt) refl)
 fraction_no_magnitude (numbers.IsFraction.scaled whole exponent some all exp) = go exponent exp where
   go : (exponent : Text) → IsExponent exponent → magnitude (whole ++ exponent) ≡ None
   go [] exp = absurd exp
@@ -312,9 +321,12 @@ end_found t (b ∷ bs) whole all none h = go (b == 46) refl where
       let same : b ≡ 46 = grind (arith, nat_tests) in
       let k = both (begins_digit t || begins_digit bs) (may_be_exponent (drop_while is_digit bs)) (rw e at h) in
       let parts = split_digits bs in
-      let some : (take_while is_digit t ≢ []) ⊎ (take_while is_digit bs ≢ []) = elim (either_true (begins_digit t) (begins_digit bs) k.0) [ inl x ↦ inl (begins_front t x) | inr x ↦ inr (begins_front bs x) ] in
+      let some : (take_while is_digit t ≢ []) ⊎ (take_while is_digit bs ≢ []) = elim
+      (either_true (begins_digit t) (begins_digit bs) k.0)
+      [ inl x ↦ inl (begins_front t x) | inr x ↦ inr (begins_front bs x) ] in
       subst IsFraction (ap (λ c. take_while is_digit t ++ c ∷ (take_while is_digit bs ++ drop_while is_digit bs)) (sym same) ∙ ap (λ xs. take_while is_digit t ++ b ∷ xs) (sym parts.0) ∙ sym whole)
-      (numbers.IsFraction.pointed (take_while is_digit t) (take_while is_digit bs) (drop_while is_digit bs) all parts.1 (nonempty (take_while is_digit t) (take_while is_digit bs) some) (exponents (drop_while is_digit bs) k.1))
+      (numbers.IsFraction.pointed (take_while is_digit t) (take_while is_digit bs) (drop_while is_digit bs) all parts.1
+      (nonempty (take_while is_digit t) (take_while is_digit bs) some) (exponents (drop_while is_digit bs) k.1))
   go false e =
       let k = both (begins_digit t) (is_exponent (b ∷ bs)) (rw e at h) in
       subst IsFraction (sym whole) (numbers.IsFraction.scaled (take_while is_digit t) (b ∷ bs) (begins_front t k.0) all (exponent_found (b ∷ bs) k.1))
@@ -396,7 +408,17 @@ unspaced [] some h = absurd (some refl)
 unspaced (b ∷ []) some h = record { c = b; cs = []; initial = []; last = b; begins = refl; finishes = refl; no_space_first = not_true (is_space b) h.0; no_space_last = not_true (is_space b) h.0 }
 unspaced (b ∷ (d ∷ t)) some h =
     let k = unspaced (d ∷ t) (λ e. cc) h.1 in
-    record { c = b; cs = d ∷ t; initial = b ∷ k.initial; last = k.last; begins = refl; finishes = ap (λ xs. b ∷ xs) k.finishes; no_space_first = not_true (is_space b) h.0; no_space_last = k.no_space_last }
+    record {
+      c = b;
+      cs = d ∷ t;
+      initial = b ∷ k.initial;
+      last = k.last;
+      begins = refl;
+      finishes = ap (λ xs. b ∷ xs)
+          k.finishes;
+      no_space_first = not_true (is_space b) h.0;
+      no_space_last = k.no_space_last;
+    }
 
 -- The law
 

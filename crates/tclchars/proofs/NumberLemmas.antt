@@ -1,5 +1,7 @@
 -- Reading numbers.
-use Rattle.std.proofs.Common.{◌≡◌, ℕ, zero, suc, ◌+◌, ◌-◌, ◌*◌, ◌^◌, ◌<◌, ◌≤◌, min, List, [], ◌∷◌, ◌++◌, length, get_or, take, drop, cond, Bool, true, false, nat_lt, Option, Some, None, option_map, refl, sym, ap, ◌∙◌, arith, ◌⊎◌, inl, inr}
+use Rattle.std.proofs.Common.{◌≡◌, ℕ, zero, suc, ◌+◌, ◌-◌, ◌*◌, ◌^◌, ◌<◌, ◌≤◌, min, List, [], ◌∷◌, ◌++◌, length, get_or}
+use Rattle.std.proofs.Common.{take, drop, cond, Bool, true, false, nat_lt, Option, Some, None, option_map, refl, sym}
+use Rattle.std.proofs.Common.{ap, ◌∙◌, arith, ◌⊎◌, inl, inr}
 use Rattle.std.proofs.Math.Nat.{mul-le-mul_left}
 use Rattle.std.proofs.lemmas.List.{drop_more, take_more}
 use Rattle.std.proofs.Math.Seq.{take-length}
@@ -8,7 +10,8 @@ use Rattle.std.proofs.lemmas.Bool.Decides.{nat_tests}
 use Rattle.std.specs.Char.{digit_value}
 use Rattle.tclchars.specs.declared.number.Numeral.{Numeral}
 use Rattle.tclchars.specs.declared.number.Numeral.TheVariants.{TooLarge, Fraction, Text}
-use Rattle.tclchars.specs.Numerals.{before_trimmed, trimmed_end, trimmed, digits_from, digits_in, is_minus, without_sign, magnitude, is_fraction, whole_of, class_of, numeral_of, numeral}
+use Rattle.tclchars.specs.Numerals.{before_trimmed, trimmed_end, trimmed, digits_from, digits_in, is_minus}
+use Rattle.tclchars.specs.Numerals.{without_sign, magnitude, is_fraction, whole_of, class_of, numeral_of, numeral}
 use Rattle.tclchars.specs.Bytes.{is_space}
 
 pub trimmed_end-space : (xs : List ℕ) (b : ℕ) → is_space b ≡ true → trimmed_end (xs ++ b ∷ []) ≡ trimmed_end xs
@@ -55,7 +58,9 @@ digit-more base n d ds h = let t : nat_lt (digit_value d) base ≡ true = grind 
 digit-bad : (base n d : ℕ) (ds : List ℕ) → base ≤ digit_value d → digits_from base n (d ∷ ds) ≡ None
 digit-bad base n d ds h = let t : nat_lt (digit_value d) base ≡ false = grind (arith, nat_tests) in rw t refl
 
-pub digits-more : (base : ℕ) (ds : List ℕ) (i n d n' : ℕ) → 1 ≤ base → i < length ds → d ≡ digit_value (get_or ds i 0) → d < base → n' ≡ min (min (n * base) (2 ^ 64 - 1) + d) (2 ^ 64 - 1) → DigitsSoFar base ds i n → DigitsSoFar base ds (i + 1) n'
+pub digits-more : (base : ℕ) (ds : List ℕ) (i n d n' : ℕ) → 1 ≤ base → i < length ds → d ≡ digit_value (get_or ds i 0)
+    → d < base → n' ≡ min (min (n * base) (2 ^ 64 - 1) + d) (2 ^ 64 - 1) → DigitsSoFar base ds i n
+    → DigitsSoFar base ds (i + 1) n'
 digits-more base ds i n d n' k lt e h e' s =
     let fits : digit_value (get_or ds i 0) < base = omega (arith, e) in
     record {

@@ -1,16 +1,21 @@
 -- Runs of bytes at the front of a text.
-use Rattle.std.proofs.Common.{◌≡◌, ℕ, zero, suc, ◌+◌, ◌<◌, ◌≤◌, List, [], ◌∷◌, ◌++◌, length, get_or, take, drop, Bool, true, false, refl, sym, ap, ◌∙◌, subst, arith, add-one, append_assoc, not, cond, ltb, Some, None, unwrap_or}
+use Rattle.std.proofs.Common.{◌≡◌, ℕ, zero, suc, ◌+◌, ◌<◌, ◌≤◌, List, [], ◌∷◌, ◌++◌, length, get_or, take, drop, Bool}
+use Rattle.std.proofs.Common.{true, false, refl, sym, ap, ◌∙◌, subst, arith, add-one, append_assoc, not, cond, ltb}
+use Rattle.std.proofs.Common.{Some, None, unwrap_or}
 use borrow.Author.Count.{below_more}
 use Rattle.std.specs.List.{prefix_len, position_or_len}
 use Rattle.std.proofs.lemmas.List.{drop_more, take_more}
 use Rattle.std.proofs.lemmas.List.Sums.{prefix_len-le-length, prefix_len_passes, prefix_len_stops, take_while-cons}
 use Rattle.std.proofs.lemmas.Bool.Decides.{nat_tests}
 use Rattle.std.specs.Str.{IsUtf8, IsCharBoundary}
-use Rattle.std.proofs.lemmas.Str.{IsCharBoundary-start, IsCharBoundary-after_ascii, IsCharBoundary-before_ascii, IsUtf8-drop}
+use Rattle.std.proofs.lemmas.Str.{IsCharBoundary-start, IsCharBoundary-after_ascii, IsCharBoundary-before_ascii}
+use Rattle.std.proofs.lemmas.Str.{IsUtf8-drop}
 use Rattle.tclchars.specs.Runs.{take_while, drop_while}
 use Rattle.tclchars.specs.Classes.{in_class}
 use Rattle.tclchars.specs.declared.runs.Class.{Class}
-use Rattle.tclchars.specs.declared.runs.Class.TheVariants.{Blank, Gap, Space, BlankOrTab, Literal, BareScript, BareBracket, BareIndex, BareQuote, BareElement, QuotedElement, Name, InBracedName, Unescaped}
+use Rattle.tclchars.specs.declared.runs.Class.TheVariants.{Blank, Gap, Space, BlankOrTab, Literal, BareScript}
+use Rattle.tclchars.specs.declared.runs.Class.TheVariants.{BareBracket, BareIndex, BareQuote, BareElement}
+use Rattle.tclchars.specs.declared.runs.Class.TheVariants.{QuotedElement, Name, InBracedName, Unescaped}
 
 pub take_while-cons_true : (p : ℕ → Bool) (b : ℕ) (bs : List ℕ) → p b ≡ true → take_while p (b ∷ bs) ≡ b ∷ take_while p bs
 take_while-cons_true p b bs h = rw h refl

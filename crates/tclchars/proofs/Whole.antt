@@ -1,5 +1,6 @@
 -- What a parser of whole texts promises follows from what is read and from its faults.
-use Rattle.std.proofs.Common.{◌≡◌, ◌≢◌, ℕ, ◌+◌, ◌-◌, ◌<◌, ◌≤◌, length, Bool, true, false, Result, Ok, Err, refl, sym, ap, subst, ◌∙◌, arith, ◌⊎◌, inl, inr}
+use Rattle.std.proofs.Common.{◌≡◌, ◌≢◌, ℕ, ◌+◌, ◌-◌, ◌<◌, ◌≤◌, length, Bool, true, false, Result, Ok, Err, refl, sym}
+use Rattle.std.proofs.Common.{ap, subst, ◌∙◌, arith, ◌⊎◌, inl, inr}
 use Rattle.std.specs.Prelude.{nat_lt, IfOk, IfErr, MatchResult}
 use Rattle.std.proofs.lemmas.Bool.Decides.{nat_tests}
 use Rattle.tclchars.specs.Runs.{Text}
@@ -9,7 +10,9 @@ use Rattle.tclchars.specs.Whole.{IsFaultAt, IsFaultOf, reading_with_offset, whol
 use Rattle.tclchars.specs.declared.fault.Fault.{Fault}
 use Rattle.tclchars.specs.declared.fault.Fault.TheVariants as marks
 use Rattle.tclchars.specs.declared.fault.TextFault.{TextFault}
-use Rattle.tclchars.specs.declared.fault.TextFault.TheVariants.{OutOfMemory, OpenBrace, OpenQuote, OpenBracket, JoinedToClose, TooDeep, BadCharacter, BadExpression, TooLong}
+use Rattle.tclchars.specs.declared.fault.TextFault.TheVariants.{OutOfMemory, OpenBrace, OpenQuote, OpenBracket}
+use Rattle.tclchars.specs.declared.fault.TextFault.TheVariants.{JoinedToClose, TooDeep, BadCharacter, BadExpression}
+use Rattle.tclchars.specs.declared.fault.TextFault.TheVariants.{TooLong}
 use Rattle.tclchars.proofs.Results.{ok_same, err_same, ok_err, err_ok}
 
 long_or_not : (n : ℕ) → (max_bytes < n) ⊎ (n ≤ max_bytes)
@@ -79,7 +82,9 @@ module _ {A : Type 0} (read : Text → Result A Fault) (Is : Text → Fault → 
     long_memory : TooLong ≢ OutOfMemory
     long_memory = λ h. cc
 
-  placed_met : (bs : Text) (at : ℕ) (mark : ℕ → Fault) (said : ℕ → TextFault) → ((remaining : ℕ) → with_offset (length bs) (mark remaining) ≡ said (length bs - remaining)) → IsFaultAt Is bs at mark → whole_of read bs ≡ Err (said at)
+  placed_met : (bs : Text) (at : ℕ) (mark : ℕ → Fault) (said : ℕ → TextFault)
+      → ((remaining : ℕ) → with_offset (length bs) (mark remaining) ≡ said (length bs - remaining))
+      → IsFaultAt Is bs at mark → whole_of read bs ≡ Err (said at)
   placed_met bs at mark said same h =
       not_long read bs h.0 ∙ ap (reading_with_offset bs) (met bs (mark h.1) h.3) ∙ ap (λ f. Err f) (same h.1 ∙ ap said (place_same (length bs) at h.1 h.2))
 

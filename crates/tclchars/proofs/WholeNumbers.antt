@@ -1,5 +1,7 @@
 -- The class of a text is that of a whole number exactly where the text is one.
-use Rattle.std.proofs.Common.{◌≡◌, ◌≢◌, ℕ, ◌+◌, ◌*◌, ◌^◌, ◌<◌, ◌≤◌, [], ◌∷◌, ◌++◌, length, get_or, Bool, true, false, not, ◌||◌, ◌==◌, nat_lt, Option, Some, None, refl, sym, ap, subst, ◌∙◌, arith, append_assoc, append-nil, ◌⊎◌, inl, inr, lit≤, lit<}
+use Rattle.std.proofs.Common.{◌≡◌, ◌≢◌, ℕ, ◌+◌, ◌*◌, ◌^◌, ◌<◌, ◌≤◌, [], ◌∷◌, ◌++◌, length, get_or, Bool, true, false}
+use Rattle.std.proofs.Common.{not, ◌||◌, ◌==◌, nat_lt, Option, Some, None, refl, sym, ap, subst, ◌∙◌, arith}
+use Rattle.std.proofs.Common.{append_assoc, append-nil, ◌⊎◌, inl, inr, lit≤, lit<}
 use Rattle.std.proofs.lemmas.Bool.{ne_eqb}
 use Rattle.std.proofs.lemmas.Bool.Decides.{nat_tests}
 use Rattle.std.specs.Prelude.{pos}
@@ -8,7 +10,9 @@ use Rattle.std.specs.Str.Parse.{AllDigits, digits_value_after}
 use Rattle.tclchars.specs.Bytes.{is_space, AllPass, DoesBegin}
 use Rattle.tclchars.specs.Runs.{Text, take_while, drop_while}
 use Rattle.tclchars.specs.declared.number.Numeral.TheVariants as numerals
-use Rattle.tclchars.specs.Numerals.{before_trimmed, trimmed_end, trimmed, is_minus, is_sign, without_sign, digits_from, digits_in, base_of, prefixed, after_zero, magnitude, is_fraction, whole_of, class_of, numeral_of, numeral}
+use Rattle.tclchars.specs.Numerals.{before_trimmed, trimmed_end, trimmed, is_minus, is_sign, without_sign, digits_from}
+use Rattle.tclchars.specs.Numerals.{digits_in, base_of, prefixed, after_zero, magnitude, is_fraction, whole_of}
+use Rattle.tclchars.specs.Numerals.{class_of, numeral_of, numeral}
 use Rattle.tclchars.specs.Numbers as numbers
 use Rattle.tclchars.specs.Numbers.{IsDigits, IsMagnitude, IsSigned, IsSpaced, IsWhole}
 use Rattle.tclchars.proofs.NumberLemmas.{trimmed_end-space, trimmed_end-other}
@@ -133,7 +137,16 @@ pub record Ends (ds : Text) : Type 0 where
   pub last_digit : digit_value last < 36
 
 pub digits_end : (base : ℕ) (d : ℕ) (ds : Text) → base ≤ 36 → AllDigits base (d ∷ ds) → Ends (d ∷ ds)
-digits_end base d [] small all = (let less = all.0 in record { b = d; bs = []; initial = []; last = d; begins = refl; finishes = refl; first_digit = omega (arith, small, less); last_digit = omega (arith, small, less) })
+digits_end base d [] small all = (let less = all.0 in record {
+  b = d;
+  bs = [];
+  initial = [];
+  last = d;
+  begins = refl;
+  finishes = refl;
+  first_digit = omega (arith, small, less);
+  last_digit = omega (arith, small, less);
+})
 digits_end base d (e ∷ ds) small all =
     let k = digits_end base e ds small all.1 in
     let less = all.0 in
@@ -229,7 +242,9 @@ without_after xs (b ∷ after) all = ap trimmed_end (sym (append_assoc xs (b ∷
 pub trimmed_is : (t core : Text) → IsSpaced t core → Unspaced core → trimmed t ≡ core
 trimmed_is t core s k =
     let after = s.1 in
-    let begun : drop_while is_space (core ++ after) ≡ core ++ after = ap (λ xs. drop_while is_space (xs ++ after)) k.begins ∙ stop k.c (k.cs ++ after) k.no_space_first ∙ ap (λ xs. xs ++ after) (sym k.begins) in
+    let begun : drop_while is_space (core ++ after) ≡ core
+    ++ after = ap (λ xs. drop_while is_space (xs ++ after)) k.begins ∙ stop k.c (k.cs ++ after) k.no_space_first
+    ∙ ap (λ xs. xs ++ after) (sym k.begins) in
     ap (λ xs. trimmed_end (drop_while is_space xs)) s.2
     ∙ ap trimmed_end (back_over s.0 (core ++ after) s.3 ∙ begun)
     ∙ without_after core after s.4

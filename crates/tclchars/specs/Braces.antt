@@ -1,5 +1,6 @@
 -- Braces that match (Tcl(n), rule 6: a backslash and the character after it count for none).
-use Rattle.std.specs.Prelude.{◌≢◌, ℕ, zero, suc, [], ◌∷◌, ◌++◌, Bool, true, false, ◌==◌, if◌then◌else◌, Option, Some, None, option_map}
+use Rattle.std.specs.Prelude.{◌≢◌, ℕ, zero, suc, [], ◌∷◌, ◌++◌, Bool, true, false, ◌==◌, if◌then◌else◌, Option, Some}
+use Rattle.std.specs.Prelude.{None, option_map}
 use Rattle.tclchars.specs.Bytes.{backslash, left_brace, right_brace}
 use Rattle.tclchars.specs.Runs.{Text}
 

@@ -1,10 +1,13 @@
 -- The classes of bytes that runs are made of (Tcl(n), rules 1 to 9), by the code's names for them.
 use Rattle.std.specs.Prelude.{ℕ, [], ◌∷◌, Bool, false, not, ◌||◌, ◌&&◌, ◌==◌, nat_le}
-use Rattle.tclchars.specs.Bytes.{quote, dollar, right_parenthesis, left_bracket, right_bracket, right_brace, is_blank, is_gap, is_literal, is_space, backslash}
+use Rattle.tclchars.specs.Bytes.{quote, dollar, right_parenthesis, left_bracket, right_bracket, right_brace, is_blank}
+use Rattle.tclchars.specs.Bytes.{is_gap, is_literal, is_space, backslash}
 use Rattle.tclchars.specs.Runs.{Text}
 use Rattle.tclchars.specs.Backslash.{is_blank_or_tab}
 use Rattle.tclchars.specs.declared.runs.Class.{Class}
-use Rattle.tclchars.specs.declared.runs.Class.TheVariants.{Blank, Gap, Space, BlankOrTab, Literal, BareScript, BareBracket, BareIndex, BareQuote, BareElement, QuotedElement, Name, InBracedName, Unescaped}
+use Rattle.tclchars.specs.declared.runs.Class.TheVariants.{Blank, Gap, Space, BlankOrTab, Literal, BareScript}
+use Rattle.tclchars.specs.declared.runs.Class.TheVariants.{BareBracket, BareIndex, BareQuote, BareElement}
+use Rattle.tclchars.specs.declared.runs.Class.TheVariants.{QuotedElement, Name, InBracedName, Unescaped}
 
 -- letters, digits and the underscore, of which the names of variables are made
 abbrev pub is_name : ℕ → Bool

@@ -1,5 +1,6 @@
 -- Quotients of whole numbers without bound (expr(n), OPERATORS), and which numbers have 64 bits.
-use Rattle.std.specs.Prelude.{ℕ, suc, ◌/◌, ◌^◌, Bool, true, false, nat_lt, if◌then◌else◌, Option, Some, None, ℤ, pos, negsuc, neg_ℤ}
+use Rattle.std.specs.Prelude.{ℕ, suc, ◌/◌, ◌^◌, Bool, true, false, nat_lt, if◌then◌else◌, Option, Some, None, ℤ, pos}
+use Rattle.std.specs.Prelude.{negsuc, neg_ℤ}
 use Rattle.std.specs.Int.{div_ceil}
 
 -- a number of 64 bits with a sign

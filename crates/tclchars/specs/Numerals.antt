@@ -1,5 +1,6 @@
 -- The class of a text as a number, and its value (Tcl(n) and expr(n); the classes are own).
-use Rattle.std.specs.Prelude.{ℕ, pos, negsuc, zero, suc, ◌+◌, ◌*◌, ◌^◌, [], ◌∷◌, Bool, true, false, ◌||◌, ◌&&◌, ◌==◌, nat_lt, nat_le, if◌then◌else◌, Option, Some, None, map, codes, bytes_eq}
+use Rattle.std.specs.Prelude.{ℕ, pos, negsuc, zero, suc, ◌+◌, ◌*◌, ◌^◌, [], ◌∷◌, Bool, true, false, ◌||◌, ◌&&◌, ◌==◌}
+use Rattle.std.specs.Prelude.{nat_lt, nat_le, if◌then◌else◌, Option, Some, None, map, codes, bytes_eq}
 use Rattle.std.specs.Char.{digit_value, to_ascii_lowercase}
 use Rattle.tclchars.specs.Bytes.{is_space}
 use Rattle.tclchars.specs.Runs.{Text, drop_while, begins}

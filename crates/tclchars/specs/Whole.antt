@@ -5,7 +5,8 @@ use Rattle.tclchars.specs.Runs.{Text}
 use Rattle.tclchars.specs.Faults.{max_bytes}
 use Rattle.tclchars.specs.Reading.{with_offset}
 use Rattle.tclchars.specs.declared.fault.Fault.{Fault}
-use Rattle.tclchars.specs.declared.fault.Fault.TheVariants.{OpenBrace, OpenQuote, OpenBracket, JoinedToClose, TooDeep, BadCharacter, BadExpression}
+use Rattle.tclchars.specs.declared.fault.Fault.TheVariants.{OpenBrace, OpenQuote, OpenBracket, JoinedToClose, TooDeep}
+use Rattle.tclchars.specs.declared.fault.Fault.TheVariants.{BadCharacter, BadExpression}
 use Rattle.tclchars.specs.declared.fault.TextFault.{TextFault}
 use Rattle.tclchars.specs.declared.fault.TextFault.TheVariants as faults
 

@@ -1,7 +1,8 @@
 //! What a backslash and the characters after it stand for (Tcl(n), rule 9).
 ghost use Rattle.std.specs.Prelude.{true, ◌≡◌, ◌<◌, ◌≤◌, ◌^◌, ◌-◌, encode_utf8, option_map};
 ghost use Rattle.std.specs.Char.{digit_value};
-ghost use Rattle.tclchars.specs.Backslash.{after_backslash, letter_value, is_octal, begins_wide, digit_at, octal_at, hexadecimal_at, character, code_at, wide_code_at, begins_hexadecimal};
+ghost use Rattle.tclchars.specs.Backslash.{after_backslash, letter_value, is_octal, begins_wide, digit_at, octal_at};
+ghost use Rattle.tclchars.specs.Backslash.{hexadecimal_at, character, code_at, wide_code_at, begins_hexadecimal};
 
 use crate::runs::{Class, split_run};
 

@@ -1,11 +1,11 @@
 //! The faults of texts, with their byte offsets.
 ghost use Rattle.std.specs.Prelude.{◌≡◌, ◌≤◌, length, suc, Some};
-ghost use Rattle.message.specs.Messages.{text_of};
-ghost use Rattle.tclchars.specs.Faults.{fault_message, fault_number};
+ghost use Rattle.message.specs.Refusals.{numbered_text};
+ghost use Rattle.tclchars.specs.Faults.{refusal_of};
 ghost use Rattle.tclchars.specs.Reading.{remaining_of, with_offset};
 ghost use Rattle.tclchars.specs.declared.fault.ReadError.TheVariants.{Memory};
 
-use message::{Message, out_of_memory};
+use message::{NumberedMessage, RefusalKind};
 use std::alloc::{AllocError, AllocFailed};
 use std::error::Error;
 use std::fmt;
@@ -35,48 +35,36 @@ pub enum TextFault {
 }
 
 impl TextFault {
-    /// The number of the fault: 1 to 9, in the order above.
-    pub fn number(&self) -> u16
-        ensures { result ≡ fault_number self.now }
+    /// The number of the fault, from 1 to 9, and its text.
+    pub fn numbered(&self) -> NumberedMessage<'static>
+        ensures { numbered_text result ≡ refusal_of self.now }
     {
         match self {
-            TextFault::OutOfMemory => 1,
-            TextFault::OpenBrace(_) => 2,
-            TextFault::OpenQuote(_) => 3,
-            TextFault::OpenBracket(_) => 4,
-            TextFault::JoinedToClose(_) => 5,
-            TextFault::TooDeep => 6,
-            TextFault::BadCharacter(_) => 7,
-            TextFault::BadExpression(_) => 8,
-            TextFault::TooLong => 9,
+            TextFault::OutOfMemory => RefusalKind::MemoryForText.plain(),
+            TextFault::OpenBrace(at) => RefusalKind::OpenBrace.numbering(*at),
+            TextFault::OpenQuote(at) => RefusalKind::OpenQuote.numbering(*at),
+            TextFault::OpenBracket(at) => RefusalKind::OpenBracket.numbering(*at),
+            TextFault::JoinedToClose(at) => RefusalKind::JoinedToClose.numbering(*at),
+            TextFault::TooDeep => RefusalKind::TextTooDeep.plain(),
+            TextFault::BadCharacter(at) => RefusalKind::BadCharacter.numbering(*at),
+            TextFault::BadExpression(at) => RefusalKind::BadExpression.numbering(*at),
+            TextFault::TooLong => RefusalKind::TooLong.plain(),
         }
     }
 
-    /// The text of the fault.
-    pub fn message(&self) -> Message<'static>
-        ensures { text_of result ≡ fault_message self.now }
+    /// The number of the fault, from 1 to 9.
+    pub fn number(&self) -> u16
+        ensures { result ≡ (refusal_of self.now).number }
     {
-        match self {
-            TextFault::OutOfMemory => out_of_memory(),
-            TextFault::OpenBrace(at) => Message::at_byte("Missing close-brace at byte ", *at),
-            TextFault::OpenQuote(at) => Message::at_byte("Missing close-quote at byte ", *at),
-            TextFault::OpenBracket(at) => Message::at_byte("Missing close-bracket at byte ", *at),
-            TextFault::JoinedToClose(at) => {
-                Message::at_byte("Extra characters after a close at byte ", *at)
-            }
-            TextFault::TooDeep => Message::of_text("Text is nested too deeply"),
-            TextFault::BadCharacter(at) => Message::at_byte("Bad character at byte ", *at),
-            TextFault::BadExpression(at) => Message::at_byte("Bad expression at byte ", *at),
-            TextFault::TooLong => Message::of_text("Text is too long"),
-        }
+        self.numbered().number
     }
 }
 
 impl fmt::Display for TextFault {
-    ghost output = { λ fault. Some (fault_message fault) };
+    ghost output = { λ fault. Some (refusal_of fault).text };
 
     fn fmt<W: fmt::Write>(&self, f: &mut fmt::Formatter<W>) -> fmt::Result {
-        self.message().fmt(f)
+        self.numbered().message.fmt(f)
     }
 }
 

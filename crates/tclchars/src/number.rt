@@ -2,7 +2,10 @@
 ghost use Rattle.std.specs.Prelude.{◌≡◌, ◌≤◌, ◌<◌, ◌-◌, ◌^◌, min, option_map, true, false, IfSome, Some};
 ghost use Rattle.std.specs.List.{prefix_len};
 ghost use Rattle.tclchars.specs.Runs.{drop_while};
-ghost use Rattle.tclchars.specs.Numerals.{trimmed, trimmed_end, is_minus, without_sign, digits_in, base_of, magnitude, digits_from, after_zero, is_digit, begins_digit, are_digits, is_exponent, may_be_exponent, is_fraction_end, is_number_name, is_fraction, whole_of, numeral};
+ghost use Rattle.tclchars.specs.Numerals.{trimmed, trimmed_end, is_minus, without_sign, digits_in, base_of, magnitude};
+ghost use Rattle.tclchars.specs.Numerals.{digits_from, after_zero, is_digit, begins_digit, are_digits, is_exponent};
+ghost use Rattle.tclchars.specs.Numerals.{may_be_exponent, is_fraction_end, is_number_name, is_fraction, whole_of};
+ghost use Rattle.tclchars.specs.Numerals.{numeral};
 ghost use Rattle.tclchars.specs.declared.number.Numeral.TheVariants.{Whole};
 
 use crate::backslash::digit_value;

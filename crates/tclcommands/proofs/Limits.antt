@@ -39,7 +39,9 @@ too_long limit t f h = go (nat_le (length t) limit) refl h
     go false e h = (cc, not_within (length t) limit e)
 
 -- a text that passes the limit, or want of memory
-pub limited_stops : {most : ℕ} {r : Job → Step} {x : Point} (e : ValueFault) (limit : ℕ) (t : Text) (p : Step) (s : State) → IfSome (reason_of e) (λ f. limited limit t ≡ Err f) → Simulates most r (sized limit t p) x (stopped (stop_of e) s) x
+pub limited_stops : {most : ℕ} {r : Job → Step} {x : Point} (e : ValueFault) (limit : ℕ) (t : Text) (p : Step)
+    (s : State) → IfSome (reason_of e) (λ f. limited limit t ≡ Err f)
+    → Simulates most r (sized limit t p) x (stopped (stop_of e) s) x
 limited_stops faults.OutOfMemory limit t p s h = starve
 limited_stops (faults.Text f) limit t p s h = let e = (too_long limit t _ h).0 in cc
 limited_stops (faults.TclError m) limit t p s h = let e = (too_long limit t _ h).0 in cc

@@ -1,10 +1,12 @@
 -- The texts of lists that grow.
-use Rattle.std.proofs.Common.{◌≡◌, ℕ, map, ◌≤◌, ◌==◌, Bool, true, false, cond, List, [], ◌∷◌, ◌++◌, Option, Some, None, length, Ok, flat_map, refl, sym, ap, ◌∙◌}
+use Rattle.std.proofs.Common.{◌≡◌, ℕ, map, ◌≤◌, ◌==◌, Bool, true, false, cond, List, [], ◌∷◌, ◌++◌, Option, Some, None}
+use Rattle.std.proofs.Common.{length, Ok, flat_map, refl, sym, ap, ◌∙◌}
 use Rattle.std.proofs.lemmas.List.{append_assoc}
 use Rattle.tclchars.specs.Bytes.{backslash, space, hash}
 use Rattle.tclchars.specs.Runs.{Text}
 use Rattle.tclchars.specs.Faults.{max_bytes}
-use Rattle.tcllist.specs.Lists.{is_bare, balances, escape, needs_escape, letter_of, escaped, braced, element_text, list_rest, list_text}
+use Rattle.tcllist.specs.Lists.{is_bare, balances, escape, needs_escape, letter_of, escaped, braced, element_text}
+use Rattle.tcllist.specs.Lists.{list_rest, list_text}
 use Rattle.tcllist.specs.ListReading.{list_of}
 use Rattle.tcllist.proofs.ListAnswers.{elements_law}
 use Rattle.tcllist.proofs.RoundTrip.{list_is}

@@ -14,7 +14,8 @@ use Rattle.tclchars.specs.Numerals.{numeral}
 use Rattle.tcloperators.specs.Operators.{truth}
 use Rattle.tclrules.specs.Expressions.{fault_of, expr, normal}
 use Rattle.tclrules.specs.Variables.{State}
-use Rattle.tclrules.specs.Plans.{Completion, Normal, Raised, Returned, Broken, Continued, Bounds, Next, Step, ended, halt, given, sized}
+use Rattle.tclrules.specs.Plans.{Completion, Normal, Raised, Returned, Broken, Continued, Bounds, Next, Step, ended}
+use Rattle.tclrules.specs.Plans.{halt, given, sized}
 use Rattle.tclrules.specs.Rules.{turn}
 use Rattle.tclsubstitution.specs.Stops.{error_or_halt}
 use Rattle.tclsubstitution.specs.declared.stop.Stop.{Stop}

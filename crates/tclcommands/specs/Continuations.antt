@@ -33,8 +33,8 @@ command_name (w ∷ ws) = w
 abbrev pub named_values : List (Bor (List ℕ) × String Global) → List (Text × Text)
 named_values ps = map (λ p. (p.0.now, string_bytes p.1)) ps
 
--- Below, p is the plan by the rules, b its bounds, k what follows it, r the plan of each job, x and y points (how far the
--- evaluation has come), and used how many commands were counted before.
+-- Below, p is the plan by the rules, b its bounds, k what follows it, r the plan of each job, x and y points (how far
+-- the evaluation has come), and used how many commands were counted before.
 
 -- the plan continues with the text of the result, over the variables after the call; the host may have been asked
 abbrev pub ContinuesWithResult : (Bounds → Next → plans.Step) → Result Value Stop → State → (ℕ → Point) →

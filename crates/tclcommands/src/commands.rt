@@ -23,7 +23,7 @@ use crate::unsetting::unset;
 use crate::value::Value;
 use crate::writing::{append, increase, set};
 use std::alloc::Global;
-use tclforms::{Simple, is_unsupported};
+use tclforms::{SimpleForm, is_unsupported};
 use tcloperators::unsupported;
 use tclrules::{EvalFault, Host, Limits};
 use tclsubstitution::Stop;
@@ -58,7 +58,7 @@ fn simple_value<'a, H: Host>(
     variables: &mut Variables,
     host: &mut H,
     limits: Limits,
-    form: Simple<'a>,
+    form: SimpleForm<'a>,
 ) -> Result<Value<'a>, Stop>
     ensures { (most remaining used : ℕ) (r : Job → plans.Step) (k : Next) → Simulates most r
         (rules.form (bounds limits.value_bytes remaining) (simple_view form.entry) variables.old k)
@@ -68,21 +68,23 @@ fn simple_value<'a, H: Host>(
 {
     let limit = limits.value_bytes;
     match form {
-        Simple::Get(name) => get(alloc, variables, host, name),
-        Simple::Set(name, value) => set(alloc, variables, limit, name, value),
-        Simple::Append(name, values) => append(alloc, variables, limit, name, values),
-        Simple::ListAppend(name, values) => list_append(alloc, variables, limit, name, values),
-        Simple::Increase(name, numbers) => increase(alloc, variables, limit, name, numbers),
-        Simple::Exists(name) => exists(alloc, variables, host, name),
-        Simple::Global(names) => global(alloc, variables, names),
-        Simple::Unset(missing, names) => unset(alloc, variables, missing, names),
-        Simple::Define(name, parameters, body) => define(alloc, variables, name, parameters, body),
-        Simple::Put(words) => put(alloc, variables, host, words),
-        Simple::Return(text) => Err(returned(alloc, text)),
-        Simple::Error(message) => Err(raised(alloc, message)),
-        Simple::Break => Err(Stop::Broken),
-        Simple::Continue => Err(Stop::Continued),
-        Simple::Exit => Err(Stop::Fault(EvalFault::Stopped)),
+        SimpleForm::Get(name) => get(alloc, variables, host, name),
+        SimpleForm::Set(name, value) => set(alloc, variables, limit, name, value),
+        SimpleForm::Append(name, values) => append(alloc, variables, limit, name, values),
+        SimpleForm::ListAppend(name, values) => list_append(alloc, variables, limit, name, values),
+        SimpleForm::Increase(name, numbers) => increase(alloc, variables, limit, name, numbers),
+        SimpleForm::Exists(name) => exists(alloc, variables, host, name),
+        SimpleForm::Global(names) => global(alloc, variables, names),
+        SimpleForm::Unset(missing, names) => unset(alloc, variables, missing, names),
+        SimpleForm::Define(name, parameters, body) => define(
+            alloc, variables, name, parameters, body,
+        ),
+        SimpleForm::Put(words) => put(alloc, variables, host, words),
+        SimpleForm::Return(text) => Err(returned(alloc, text)),
+        SimpleForm::Error(message) => Err(raised(alloc, message)),
+        SimpleForm::Break => Err(Stop::Broken),
+        SimpleForm::Continue => Err(Stop::Continued),
+        SimpleForm::Exit => Err(Stop::Fault(EvalFault::Stopped)),
     }
 }
 
@@ -122,7 +124,7 @@ pub fn simple_command<H: Host>(
     host: &mut H,
     limits: Limits,
     result_use: ResultUse,
-    form: Simple<'_>,
+    form: SimpleForm<'_>,
 ) -> Result<String, Stop>
     ensures { EvaluatesToText result_use limits.value_bytes result
         (λ t. (most remaining used : ℕ) (r : Job → plans.Step) (k : Next)

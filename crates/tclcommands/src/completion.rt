@@ -48,7 +48,7 @@ pub fn after_next(outcome: Result<String, Stop>) -> Result<bool, Stop>
 
 /// What catch(n) makes of a completion.
 #[derive(Drop)]
-struct Caught {
+struct CaughtCompletion {
     /// The completion code, from `0` to `4`, which is the result of catch(n).
     code: &'static str,
     /// The result or the message, for the variable.
@@ -56,7 +56,7 @@ struct Caught {
 }
 
 /// The completion of a script as catch(n) has it; a halt isn't caught.
-fn catch_outcome(alloc: Global, outcome: Result<String, Stop>) -> Result<Caught, Stop>
+fn catch_outcome(alloc: Global, outcome: Result<String, Stop>) -> Result<CaughtCompletion, Stop>
     ensures { (b : Bounds) (v : Option Text) (k : Next) (s : State)
         → completed outcome (caught b v k) s
         ≡ after result (λ c s'. catch_into b v c.code.now (string_bytes c.value) s' k) s }
@@ -71,7 +71,7 @@ fn catch_outcome(alloc: Global, outcome: Result<String, Stop>) -> Result<Caught,
             fault => return Err(Stop::Fault(fault)),
         },
     };
-    Ok(Caught { code, value })
+    Ok(CaughtCompletion { code, value })
 }
 
 /// Writes the result or the message into the variable, where one is named, and answers the code.
@@ -80,14 +80,14 @@ fn store_caught(
     variables: &mut Variables,
     limits: Limits,
     name: Option<&str>,
-    caught: Caught,
+    caught: CaughtCompletion,
 ) -> Result<String, Stop>
     ensures { (most remaining : ℕ) (r : Job → plans.Step) (k : Next) (x : Point) → Simulates most r
         (catch_into (bounds limits.value_bytes remaining) (option_map (λ v. v.now) name.entry) caught.code.now
         (string_bytes caught.value) variables.old k) x
         (after result (λ t s. k (string_bytes t) s) variables.new) x }
 {
-    let Caught { code, value } = caught;
+    let CaughtCompletion { code, value } = caught;
     match name {
         None => Ok(String::from_str(alloc, code)?),
         Some(name) => {

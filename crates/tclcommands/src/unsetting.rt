@@ -9,7 +9,7 @@ ghost use Rattle.tclcommands.specs.Continuations.{ContinuesWithoutHost, Continue
 
 use crate::value::Value;
 use std::alloc::Global;
-use tclforms::{Missing, cannot_unset};
+use tclforms::{WhenMissing, cannot_unset};
 use tclsubstitution::Stop;
 use tclvariables::{Variables, writable};
 
@@ -18,7 +18,7 @@ use tclvariables::{Variables, writable};
 fn unset_one(
     alloc: Global,
     variables: &mut Variables,
-    missing: Missing,
+    missing: WhenMissing,
     name: &str,
 ) -> Result<(), Stop>
     ensures { ContinuesWithVariables (λ k. given (writable variables.old name.now) variables.old
@@ -31,8 +31,8 @@ fn unset_one(
         return Ok(());
     }
     match missing {
-        Missing::Ignored => Ok(()),
-        Missing::IsError => Err(Stop::from(cannot_unset(alloc, name))),
+        WhenMissing::Ignored => Ok(()),
+        WhenMissing::IsError => Err(Stop::from(cannot_unset(alloc, name))),
     }
 }
 
@@ -41,7 +41,7 @@ fn unset_one(
 fn unset_each(
     alloc: Global,
     variables: &mut Variables,
-    missing: Missing,
+    missing: WhenMissing,
     names: &[String],
 ) -> Result<(), Stop>
     ensures { ContinuesWithVariables (unset (is_ignored missing) (map string_bytes names.now) variables.old)
@@ -62,7 +62,7 @@ fn unset_each(
 pub fn unset<'a>(
     alloc: Global,
     variables: &mut Variables,
-    missing: Missing,
+    missing: WhenMissing,
     names: &'a [String],
 ) -> Result<Value<'a>, Stop>
     ensures { ContinuesWithoutHost (λ b. form b (Unset (is_ignored missing)

@@ -10,7 +10,8 @@ ghost use Rattle.tclrules.specs.Variables.{with_value};
 ghost use Rattle.tclrules.specs.Forms.{Set, Append, Increase};
 ghost use Rattle.tclrules.specs.Rules.{write_at, write, assign, form, value_or, increased};
 ghost use Rattle.tclcommands.specs.Increments.{increment_text};
-ghost use Rattle.tclcommands.specs.Continuations.{named_values, increase_at, ContinuesWithVariablesWithin, ContinuesWithText, ContinuesWithNumber, ContinuesWithinLimit};
+ghost use Rattle.tclcommands.specs.Continuations.{named_values, increase_at, ContinuesWithVariablesWithin};
+ghost use Rattle.tclcommands.specs.Continuations.{ContinuesWithText, ContinuesWithNumber, ContinuesWithinLimit};
 ghost use Rattle.tclvariables.specs.Locations.{scalar_view};
 
 use crate::increment::Increment;

@@ -8,8 +8,8 @@ use Rattle.tclchars.specs.declared.number.Numeral.TheVariants as numerals
 use Rattle.tclexpr.specs.Tree.{Expr}
 use Rattle.tclexpr.specs.Operands.{Operand}
 use Rattle.tcloperators.specs.Values.{computed_text}
-use Rattle.tcloperators.specs.declared.operators.Computed.{Computed}
-use Rattle.tcloperators.specs.declared.operators.Computed.TheVariants.{Truth}
+use Rattle.tcloperators.specs.declared.operators.ComputedValue.{ComputedValue}
+use Rattle.tcloperators.specs.declared.operators.ComputedValue.TheVariants.{Truth}
 use Rattle.tcloperators.specs.Operators.{truth, truth_of, truth_text}
 use Rattle.tclrules.specs.Variables.{State}
 use Rattle.tclrules.specs.Plans.{Job, Step, Next, given, sized}
@@ -53,7 +53,7 @@ held limit s k b h =
     (given_on _ _ s (λ u. sized limit u (given (truth u) s (λ holds. k holds s))) (normal_truth b))
     (continue_with (sized_on limit (truth_text b) _ (short_truth limit b h)) (given_on _ _ s (λ holds. k holds s) (truth_truth b)))
 
-pub held_found : (res : Option Bool) (made : Computed) (limit : ℕ) (e : Expr Operand) (s : State) → IfSome res (λ b. (made ≡ Truth b) × (1 ≤ limit))
+pub held_found : (res : Option Bool) (made : ComputedValue) (limit : ℕ) (e : Expr Operand) (s : State) → IfSome res (λ b. (made ≡ Truth b) × (1 ≤ limit))
     → ((most remaining : ℕ) (r : Job → Step) (k : Next) (x : Point) → Simulates most r (expr (bounds limit remaining) e s k) x (k (computed_text made) s) x)
     → IfSome res (λ b. (most remaining : ℕ) (r : Job → Step) (k : Bool → State → Step) (x : Point) → Simulates most r (condition_plan (bounds limit remaining) e s k) x (k b s) x)
 held_found None made limit e s h m = tt

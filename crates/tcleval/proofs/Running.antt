@@ -1,5 +1,7 @@
 -- How an evaluation comes on in a derivation, besides the steps of words and expressions.
-use Rattle.std.proofs.Common.{◌≡◌, ℕ, ◌+◌, ◌<◌, ◌≤◌, Bool, true, false, List, [], ◌∷◌, length, get_or, drop, drop-cons, add-one, suc, map, String, Global, Vec, Result, Ok, Err, Option, Some, None, Bor, refl, sym, ◌∙◌, ap, ◌++◌, append_assoc, append-nil, arith, rules}
+use Rattle.std.proofs.Common.{◌≡◌, ℕ, ◌+◌, ◌<◌, ◌≤◌, Bool, true, false, List, [], ◌∷◌, length, get_or, drop, drop-cons}
+use Rattle.std.proofs.Common.{add-one, suc, map, String, Global, Vec, Result, Ok, Err, Option, Some, None, Bor, refl}
+use Rattle.std.proofs.Common.{sym, ◌∙◌, ap, ◌++◌, append_assoc, append-nil, arith, rules}
 use Rattle.std.specs.Prelude.{string_bytes, IsErrAnd, IfOk, IfSome, if◌then◌else◌, nat_le}
 use Rattle.std.proofs.lemmas.Bool.Decides.{nat_tests}
 use Rattle.std.proofs.lemmas.Bool.{ne_eqb}
@@ -14,7 +16,8 @@ use Rattle.tclscript.specs.declared.tree.Part.{Part}
 use Rattle.tclrules.specs.Derivation.{Runs, TooDeep}
 use Rattle.tclrules.specs.Variables.{State}
 use Rattle.tclrules.specs.Plans as plans
-use Rattle.tclrules.specs.Plans.{Bounds, Completion, Normal, Raised, Items, ended, Job, Step, Next, on_normal, begin, halt, sized}
+use Rattle.tclrules.specs.Plans.{Bounds, Completion, Normal, Raised, Items, ended, Job, Step, Next, on_normal, begin}
+use Rattle.tclrules.specs.Plans.{halt, sized}
 use Rattle.tclrules.specs.Simulates.{Point, Simulates}
 use Rattle.tclrules.proofs.Leading.{stay, continue_with, starve, run_on, run_halts}
 use Rattle.tclchars.specs.Runs.{Text}
@@ -25,7 +28,8 @@ use Rattle.tcloperators.specs.Faults.{Answer, ValueReason, HasReason, reason_of,
 use Rattle.tclvalue.specs.Limits.{limited}
 use Rattle.tcloperators.specs.declared.fault.ValueFault.{ValueFault}
 use Rattle.tcloperators.specs.declared.fault.ValueFault.TheVariants as faults
-use Rattle.tclrules.specs.Rules.{parsed, core_command, body, branches, are_done, foreach_turns, assign, turn_pairs, turn, shortened, after_turn, after_next}
+use Rattle.tclrules.specs.Rules.{parsed, core_command, body, branches, are_done, foreach_turns, assign, turn_pairs}
+use Rattle.tclrules.specs.Rules.{turn, shortened, after_turn, after_next}
 use Rattle.tclrules.specs.Expressions.{decide}
 use Rattle.tclrules.specs.Forms.{Form}
 use Rattle.tclforms.specs.Views.{transposed, pair_texts}
@@ -44,7 +48,9 @@ use Rattle.tcleval.specs.OnlyGrows.{OnlyGrows}
 use Rattle.tcleval.specs.declared.evaluator.Evaluator.{Evaluator}
 
 -- a job that stopped by a fault: an error goes on, all else halts
-fault_on : {most : ℕ} {r : Job → Step} {j : Job} {x y : Point} (k : Completion → Step) (s : State) (f : EvalFault) → Simulates most r (r j) x (stopped (stops.Fault f) s) y → Simulates most r (Runs j k) x (error_or_halt (λ m. k (Raised m s)) halt f) y
+fault_on : {most : ℕ} {r : Job → Step} {j : Job} {x y : Point} (k : Completion → Step) (s : State) (f : EvalFault)
+    → Simulates most r (r j) x (stopped (stops.Fault f) s) y
+    → Simulates most r (Runs j k) x (error_or_halt (λ m. k (Raised m s)) halt f) y
 fault_on k s evals.OutOfMemory h = run_halts h
 fault_on k s (evals.Text t) h = run_halts h
 fault_on k s (evals.TclError m line) h = run_on h
@@ -58,7 +64,9 @@ fault_on k s evals.Stopped h = run_halts h
 fault_on k s (evals.Host n) h = run_halts h
 
 -- a file that was evaluated, in what goes on with how it ended
-pub run_after : {most : ℕ} {r : Job → Step} {j : Job} {x y : Point} (k : Completion → Step) (s : State) (res : Result (String Global) Stop) → Simulates most r (r j) x (after res (λ v s'. finish (string_bytes v) s') s) y → Simulates most r (Runs j k) x (completed res k s) y
+pub run_after : {most : ℕ} {r : Job → Step} {j : Job} {x y : Point} (k : Completion → Step) (s : State)
+    (res : Result (String Global) Stop) → Simulates most r (r j) x (after res (λ v s'. finish (string_bytes v) s') s) y
+    → Simulates most r (Runs j k) x (completed res k s) y
 run_after k s (Ok v) h = run_on h
 run_after k s (Err (stops.Returned u)) h = run_on h
 run_after k s (Err stops.Broken) h = run_on h
@@ -66,14 +74,20 @@ run_after k s (Err stops.Continued) h = run_on h
 run_after k s (Err (stops.Fault f)) h = fault_on k s f h
 
 -- a script whose result is wanted, in what goes on with how it ended, and with its result alone
-pub run_known : {most : ℕ} {r : Job → Step} {j : Job} {x y : Point} (k : Completion → Step) (s : State) (limit : ℕ) (res : Result (String Global) Stop) → EvaluatesToText Needed limit res (λ u. Simulates most r (r j) x (after res (λ v s'. finish u s') s) y) → Simulates most r (Runs j k) x (completed res k s) y
+pub run_known : {most : ℕ} {r : Job → Step} {j : Job} {x y : Point} (k : Completion → Step) (s : State) (limit : ℕ)
+    (res : Result (String Global) Stop) → EvaluatesToText Needed limit res
+    (λ u. Simulates most r (r j) x (after res (λ v s'. finish u s') s) y)
+    → Simulates most r (Runs j k) x (completed res k s) y
 run_known k s limit (Ok v) h = rw (h.1.1 refl) (run_on h.2)
 run_known k s limit (Err (stops.Returned u)) h = run_on h.2
 run_known k s limit (Err stops.Broken) h = run_on h.2
 run_known k s limit (Err stops.Continued) h = run_on h.2
 run_known k s limit (Err (stops.Fault f)) h = fault_on k s f h.2
 
-pub run_normal : {most : ℕ} {r : Job → Step} {j : Job} {x y : Point} (k : Next) (s : State) (limit : ℕ) (res : Result (String Global) Stop) → EvaluatesToText Needed limit res (λ u. Simulates most r (r j) x (after res (λ v s'. finish u s') s) y) → Simulates most r (Runs j (on_normal k)) x (after res (λ v s'. k (string_bytes v) s') s) y
+pub run_normal : {most : ℕ} {r : Job → Step} {j : Job} {x y : Point} (k : Next) (s : State) (limit : ℕ)
+    (res : Result (String Global) Stop) → EvaluatesToText Needed limit res
+    (λ u. Simulates most r (r j) x (after res (λ v s'. finish u s') s) y)
+    → Simulates most r (Runs j (on_normal k)) x (after res (λ v s'. k (string_bytes v) s') s) y
 run_normal k s limit (Ok v) h = rw (h.1.1 refl) (run_on h.2)
 run_normal k s limit (Err (stops.Returned u)) h = run_on h.2
 run_normal k s limit (Err stops.Broken) h = run_on h.2
@@ -81,7 +95,11 @@ run_normal k s limit (Err stops.Continued) h = run_on h.2
 run_normal k s limit (Err (stops.Fault f)) h = fault_on (on_normal k) s f h.2
 
 -- a script whose result is that of a command
-pub run_comes : {most : ℕ} {r : Job → Step} {j : Job} {x y : Point} (result_use : ResultUse) (limit : ℕ) (s : State) (res : Result (String Global) Stop) → EvaluatesToText result_use limit res (λ u. Simulates most r (r j) x (after res (λ v s'. finish u s') s) y) → EvaluatesToText result_use limit res (λ u. (k : Next) → Simulates most r (Runs j (on_normal (sized_next limit k))) x (after res (λ v s'. k u s') s) y)
+pub run_comes : {most : ℕ} {r : Job → Step} {j : Job} {x y : Point} (result_use : ResultUse) (limit : ℕ) (s : State)
+    (res : Result (String Global) Stop) → EvaluatesToText result_use limit res
+    (λ u. Simulates most r (r j) x (after res (λ v s'. finish u s') s) y)
+    → EvaluatesToText result_use limit res (λ u. (k : Next) → Simulates most r (Runs j (on_normal (sized_next limit k)))
+    x (after res (λ v s'. k u s') s) y)
 run_comes result_use limit s (Ok v) h = (h.0, h.1, λ k. continue_with (run_on h.2) (sized_on limit h.0 _ h.1.0))
 run_comes result_use limit s (Err (stops.Returned u)) h = (h.0, h.1, λ k. run_on h.2)
 run_comes result_use limit s (Err stops.Broken) h = (h.0, h.1, λ k. run_on h.2)
@@ -89,14 +107,20 @@ run_comes result_use limit s (Err stops.Continued) h = (h.0, h.1, λ k. run_on h
 run_comes result_use limit s (Err (stops.Fault f)) h = (h.0, h.1, λ k. fault_on (on_normal (sized_next limit k)) s f h.2)
 
 -- a script whose result nobody looks at: a turn of a loop, and what stands between turns
-pub run_turn : {most : ℕ} {r : Job → Step} {j : Job} {x y : Point} (again : State → Step) (s : State) (limit : ℕ) (res : Result (String Global) Stop) → EvaluatesToText Dropped limit res (λ u. Simulates most r (r j) x (after res (λ v s'. finish u s') s) y) → Simulates most r (Runs j (after_turn again)) x (completed res (after_turn again) s) y
+pub run_turn : {most : ℕ} {r : Job → Step} {j : Job} {x y : Point} (again : State → Step) (s : State) (limit : ℕ)
+    (res : Result (String Global) Stop) → EvaluatesToText Dropped limit res
+    (λ u. Simulates most r (r j) x (after res (λ v s'. finish u s') s) y)
+    → Simulates most r (Runs j (after_turn again)) x (completed res (after_turn again) s) y
 run_turn again s limit (Ok v) h = run_on h.2
 run_turn again s limit (Err (stops.Returned u)) h = run_on h.2
 run_turn again s limit (Err stops.Broken) h = run_on h.2
 run_turn again s limit (Err stops.Continued) h = run_on h.2
 run_turn again s limit (Err (stops.Fault f)) h = fault_on (after_turn again) s f h.2
 
-pub run_next : {most : ℕ} {r : Job → Step} {j : Job} {x y : Point} (again : State → Step) (s : State) (limit : ℕ) (res : Result (String Global) Stop) → EvaluatesToText Dropped limit res (λ u. Simulates most r (r j) x (after res (λ v s'. finish u s') s) y) → Simulates most r (Runs j (after_next again)) x (completed res (after_next again) s) y
+pub run_next : {most : ℕ} {r : Job → Step} {j : Job} {x y : Point} (again : State → Step) (s : State) (limit : ℕ)
+    (res : Result (String Global) Stop) → EvaluatesToText Dropped limit res
+    (λ u. Simulates most r (r j) x (after res (λ v s'. finish u s') s) y)
+    → Simulates most r (Runs j (after_next again)) x (completed res (after_next again) s) y
 run_next again s limit (Ok v) h = run_on h.2
 run_next again s limit (Err (stops.Returned u)) h = run_on h.2
 run_next again s limit (Err stops.Broken) h = run_on h.2
@@ -104,16 +128,26 @@ run_next again s limit (Err stops.Continued) h = run_on h.2
 run_next again s limit (Err (stops.Fault f)) h = fault_on (after_next again) s f h.2
 
 -- a command that stops, and a script
-pub comes_stopped : {most : ℕ} {r : Job → Step} {p : Next → Step} {x y : Point} (result_use : ResultUse) (limit : ℕ) (s : State) (e : Stop) (res : Result (String Global) Stop) → IsErrAnd res (λ f. f ≡ e) → ((k : Next) → Simulates most r (p k) x (stopped e s) y) → EvaluatesToText result_use limit res (λ u. (k : Next) → Simulates most r (p k) x (after res (λ v s'. k u s') s) y)
+pub comes_stopped : {most : ℕ} {r : Job → Step} {p : Next → Step} {x y : Point} (result_use : ResultUse) (limit : ℕ)
+    (s : State) (e : Stop) (res : Result (String Global) Stop) → IsErrAnd res (λ f. f ≡ e)
+    → ((k : Next) → Simulates most r (p k) x (stopped e s) y)
+    → EvaluatesToText result_use limit res (λ u. (k : Next) → Simulates most r (p k) x (after res (λ v s'. k u s') s) y)
 comes_stopped result_use limit s e (Ok v) h l = absurd h
 comes_stopped result_use limit s e (Err f) h l = ([], tt, λ k. rw h (l k))
 
-pub comes_cut : {most : ℕ} {r : Job → Step} {p : Step} {x y : Point} (result_use : ResultUse) (limit : ℕ) (s : State) (e : Stop) (res : Result (String Global) Stop) → IsErrAnd res (λ f. f ≡ e) → Simulates most r p x (stopped e s) y → EvaluatesToText result_use limit res (λ u. Simulates most r p x (after res (λ v s'. finish u s') s) y)
+pub comes_cut : {most : ℕ} {r : Job → Step} {p : Step} {x y : Point} (result_use : ResultUse) (limit : ℕ) (s : State)
+    (e : Stop) (res : Result (String Global) Stop) → IsErrAnd res (λ f. f ≡ e) → Simulates most r p x (stopped e s) y
+    → EvaluatesToText result_use limit res (λ u. Simulates most r p x (after res (λ v s'. finish u s') s) y)
 comes_cut result_use limit s e (Ok v) h l = absurd h
 comes_cut result_use limit s e (Err f) h l = ([], tt, rw h l)
 
 -- a result within the limit
-pub sized_comes : (result_use : ResultUse) (limit : ℕ) (s : State) (p : Next → Step) (res : Result (String Global) Stop) → IfOk res (λ v. length (string_bytes v) ≤ limit) → ((most : ℕ) (r : Job → Step) (k : Next) (x : Point) → Simulates most r (p k) x (after res (λ v s'. k (string_bytes v) s') s) x) → EvaluatesToText result_use limit res (λ u. (most : ℕ) (r : Job → Step) (k : Next) (x : Point) → Simulates most r (p k) x (after res (λ v s'. k u s') s) x)
+pub sized_comes : (result_use : ResultUse) (limit : ℕ) (s : State) (p : Next → Step) (res : Result (String Global) Stop)
+    → IfOk res (λ v. length (string_bytes v) ≤ limit) →
+    ((most : ℕ) (r : Job → Step) (k : Next) (x : Point)
+    → Simulates most r (p k) x (after res (λ v s'. k (string_bytes v) s') s) x)
+    → EvaluatesToText result_use limit res (λ u. (most : ℕ) (r : Job → Step) (k : Next) (x : Point) → Simulates most r
+    (p k) x (after res (λ v s'. k u s') s) x)
 sized_comes result_use limit s p (Ok v) h l = (string_bytes v, (h, λ e. refl), l)
 sized_comes result_use limit s p (Err f) h l = ([], tt, l)
 
@@ -135,14 +169,22 @@ drop_at xs i d h = rw add-one (drop-cons xs i d h)
 abbrev pub on_branch : Bounds → Text → List (Text × Text) → Option Text → Next → Bool → State → Step
 on_branch b t ps other k = elim [ true ↦ (λ s. body b t s (on_normal k)) | false ↦ (λ s. branches b ps other s k) ]
 
-pub branch_on : {most : ℕ} {r : Job → Step} {p : Step} {x y : Point} (b : Bounds) (xs : List (Bor (List ℕ) × Bor (List ℕ))) (i : ℕ) (d : Bor (List ℕ) × Bor (List ℕ)) (other : Option Text) (s : State) (k : Next) → i < length xs → Simulates most r p x (branches b (pair_texts (drop i xs)) other s k) y → Simulates most r p x (decide b (get_or xs i d).0.now s (on_branch b (get_or xs i d).1.now (pair_texts (drop (i + 1) xs)) other k)) y
+pub branch_on : {most : ℕ} {r : Job → Step} {p : Step} {x y : Point} (b : Bounds)
+    (xs : List (Bor (List ℕ) × Bor (List ℕ))) (i : ℕ) (d : Bor (List ℕ) × Bor (List ℕ)) (other : Option Text)
+    (s : State) (k : Next) → i < length xs → Simulates most r p x (branches b (pair_texts (drop i xs)) other s k) y
+    → Simulates most r p x (decide b (get_or xs i d).0.now s
+    (on_branch b (get_or xs i d).1.now (pair_texts (drop (i + 1) xs)) other k)) y
 branch_on b xs i d other s k h l = rw (drop_at xs i d h) at l
 
 -- a foreach that is done, and one that goes on
-pub foreach_done : {most : ℕ} {r : Job → Step} {x : Point} (b : Bounds) (ls : List Items) (t : Text) (s : State) → are_done ls ≡ true → Simulates most r (foreach_turns b ls t s) x (ended (Normal [] s)) x
+pub foreach_done : {most : ℕ} {r : Job → Step} {x : Point} (b : Bounds) (ls : List Items) (t : Text) (s : State)
+    → are_done ls ≡ true → Simulates most r (foreach_turns b ls t s) x (ended (Normal [] s)) x
 foreach_done b ls t s e = rw e stay
 
-pub foreach_more : {most : ℕ} {r : Job → Step} {x : Point} (b : Bounds) (ls : List Items) (t : Text) (s : State) → are_done ls ≡ false → Simulates most r (foreach_turns b ls t s) x (assign b (turn_pairs ls) s (λ s1. turn b t s1 (λ s2. Runs (plans.Foreach b.remaining (shortened ls) t s2) ended))) x
+pub foreach_more : {most : ℕ} {r : Job → Step} {x : Point} (b : Bounds) (ls : List Items) (t : Text) (s : State)
+    → are_done ls ≡ false → Simulates most r (foreach_turns b ls t s) x
+    (assign b (turn_pairs ls) s (λ s1. turn b t s1 (λ s2. Runs (plans.Foreach b.remaining (shortened ls) t s2) ended)))
+    x
 foreach_more b ls t s e = rw e stay
 
 -- trees, level by level
@@ -203,7 +245,9 @@ pub later_beside : {a a' b b' : Evaluator} → a'.used ≡ a.used → a'.cache �
 later_beside u k v l h = later_on (later_still u k) (later_on h (later_still (sym v) (sym l)))
 
 -- a text that is no script
-pub text_stops : {most : ℕ} {r : Job → Step} {x : Point} (f : TextFault) (read : Result tree.Commands TextFault) (k : tree.Commands → Step) (s : State) → FailsWith f read → Simulates most r (parsed read k) x (stopped (text_stop f) s) x
+pub text_stops : {most : ℕ} {r : Job → Step} {x : Point} (f : TextFault) (read : Result tree.Commands TextFault)
+    (k : tree.Commands → Step) (s : State) → FailsWith f read
+    → Simulates most r (parsed read k) x (stopped (text_stop f) s) x
 text_stops texts.OutOfMemory read k s h = starve
 text_stops (texts.OpenBrace at) read k s h = rw h stay
 text_stops (texts.OpenQuote at) read k s h = rw h stay
@@ -235,7 +279,9 @@ too_long_by : (b : Bool) (t : Text) (r : ValueReason) → limited_if b t ≡ Err
 too_long_by true t r h = absurd (cc)
 too_long_by false t r h = (refl, cc)
 
-pub limited_stops : {most : ℕ} {r : Job → Step} {x : Point} (limit : ℕ) (t : Text) (e : ValueFault) (p : Step) (s : State) → IfSome (reason_of e) (λ f. limited limit t ≡ Err f) → Simulates most r (sized limit t p) x (stopped (stop_of e) s) x
+pub limited_stops : {most : ℕ} {r : Job → Step} {x : Point} (limit : ℕ) (t : Text) (e : ValueFault) (p : Step)
+    (s : State) → IfSome (reason_of e) (λ f. limited limit t ≡ Err f)
+    → Simulates most r (sized limit t p) x (stopped (stop_of e) s) x
 limited_stops limit t faults.OutOfMemory p s h = starve
 limited_stops limit t (faults.Text f) p s h = absurd (let q = (too_long_by (nat_le (length t) limit) t _ h).1 in cc)
 limited_stops limit t (faults.TclError m) p s h = absurd (let q = (too_long_by (nat_le (length t) limit) t _ h).1 in cc)
@@ -274,7 +320,9 @@ turned_none (Some (Ok y)) h = absurd (cc)
 turned_none (Some (Err g)) h = absurd (cc)
 
 -- a core command whose words are wrong
-pub core_stops : {most : ℕ} {r : Job → Step} {x : Point} (b : Bounds) (name : Text) (ws : List Text) (s : State) (k : Next) (e : ValueFault) (o : Option (Answer Form)) → IfSome (reason_of e) (λ f. transposed o ≡ Err f) → Simulates most r (core_command b name ws s k o) x (stopped (stop_of e) s) x
+pub core_stops : {most : ℕ} {r : Job → Step} {x : Point} (b : Bounds) (name : Text) (ws : List Text) (s : State)
+    (k : Next) (e : ValueFault) (o : Option (Answer Form)) → IfSome (reason_of e) (λ f. transposed o ≡ Err f)
+    → Simulates most r (core_command b name ws s k o) x (stopped (stop_of e) s) x
 core_stops b name ws s k faults.OutOfMemory o h = starve
 core_stops b name ws s k (faults.Text f) o h = rw (turned_err o _ h) stay
 core_stops b name ws s k (faults.TclError m) o h = rw (turned_err o _ h) stay

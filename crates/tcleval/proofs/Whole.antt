@@ -2,7 +2,8 @@
 use Rattle.std.proofs.Common.{◌≡◌, ℕ, true, false, List, Result, Ok, Err, String, Global, refl, subst}
 use Rattle.tclchars.specs.Runs.{Text}
 use Rattle.tclrules.specs.Oracle.{Oracle, Trace}
-use Rattle.tclrules.specs.Derivation.{OutOfMemory, EvaluationOutcome, Halted, Plan, Ends, World, Eval, ends, lacks_memory}
+use Rattle.tclrules.specs.Derivation.{OutOfMemory, EvaluationOutcome, Halted, Plan, Ends, World, Eval, ends}
+use Rattle.tclrules.specs.Derivation.{lacks_memory}
 use Rattle.tclrules.specs.Variables.{Variables, State}
 use Rattle.tclrules.specs.Plans as plans
 use Rattle.tclrules.specs.Rules.{rule}
@@ -31,7 +32,9 @@ cut_ends fault.Stopped s = refl
 cut_ends (fault.Host n) s = refl
 
 -- a fault that isn't want of memory reports an outcome that memory has no part in
-fed : {J : Type 0} {oracle : Oracle} {most : ℕ} {r : J → Plan J plans.Completion} {p : Plan J plans.Completion} {w w' : World} {o : EvaluationOutcome plans.Completion} (script : Text) (f : EvalFault) → ReportsFault script f o → Eval true oracle most r p w o w' → Eval (is_out_of_memory f) oracle most r p w o w'
+fed : {J : Type 0} {oracle : Oracle} {most : ℕ} {r : J → Plan J plans.Completion} {p : Plan J plans.Completion}
+    {w w' : World} {o : EvaluationOutcome plans.Completion} (script : Text) (f : EvalFault) → ReportsFault script f o
+    → Eval true oracle most r p w o w' → Eval (is_out_of_memory f) oracle most r p w o w'
 fed script fault.OutOfMemory h d = d
 fed script (fault.Text t) h d = unstarved d (λ e. cc)
 fed script (fault.TclError m n) h d = unstarved d (λ e. let q = h.1 in cc)
@@ -44,14 +47,29 @@ fed script (fault.LeftOut name) h d = unstarved d (λ e. cc)
 fed script fault.Stopped h d = unstarved d (λ e. cc)
 fed script (fault.Host n) h d = unstarved d (λ e. cc)
 
-evaluated : (l : Limits) (script : Text) (globals : Variables) (oracle oracle' : Oracle) (trace trace' : Trace) (s : State) (used : ℕ) (res : Result (String Global) EvalFault) (result : Result Ending EvalFault) → Simulates l.commands (rule l.value_bytes) (plan_of l script oracle.reserved globals) (point oracle trace 0) (after_file res s) (point oracle' trace' used) → AnswersFile script s used res result → Evaluates l script globals oracle trace result trace'
+evaluated : (l : Limits) (script : Text) (globals : Variables) (oracle oracle' : Oracle) (trace trace' : Trace)
+    (s : State) (used : ℕ) (res : Result (String Global) EvalFault) (result : Result Ending EvalFault)
+    → Simulates l.commands (rule l.value_bytes) (plan_of l script oracle.reserved globals) (point oracle trace 0)
+    (after_file res s) (point oracle' trace' used) → AnswersFile script s used res result
+    → Evaluates l script globals oracle trace result trace'
 evaluated l script globals oracle oracle' trace trace' s used (Ok t) (Ok end) led a = (s, rw (a.0, a.1) (unstarved (led.by _ _ ends) (λ q. cc)), a.2)
-evaluated l script globals oracle oracle' trace trace' s used (Ok t) (Err f) led a = rw a (Halted OutOfMemory, used, refl, led.by (Halted OutOfMemory) (record { used = used; trace = trace' }) (lacks_memory false refl))
+evaluated l script globals oracle oracle' trace trace' s used (Ok t) (Err f) led a = rw a (
+  Halted OutOfMemory,
+  used,
+  refl,
+  led.by (Halted OutOfMemory) (record { used = used; trace = trace' })
+      (lacks_memory false refl),
+)
 evaluated l script globals oracle oracle' trace trace' s used (Err failure) (Ok end) led a = absurd a
 evaluated l script globals oracle oracle' trace trace' s used (Err failure) (Err f) led a = (failure_outcome failure s, used, a, fed script f a (led.by _ _ (rw (cut_ends failure s) ends)))
 
 -- the same for a plan that begins with equal names that no procedure may have
-pub evaluated_alike : (names : List Text) (l : Limits) (script : Text) (globals : Variables) (oracle oracle' : Oracle) (trace trace' : Trace) (s : State) (used : ℕ) (res : Result (String Global) EvalFault) (result : Result Ending EvalFault) → names ≡ oracle.reserved → Simulates l.commands (rule l.value_bytes) (plan_of l script names globals) (point oracle trace 0) (after_file res s) (point oracle' trace' used) → AnswersFile script s used res result → Evaluates l script globals oracle trace result trace'
+pub evaluated_alike : (names : List Text) (l : Limits) (script : Text) (globals : Variables) (oracle oracle' : Oracle)
+    (trace trace' : Trace) (s : State) (used : ℕ) (res : Result (String Global) EvalFault)
+    (result : Result Ending EvalFault) → names ≡ oracle.reserved
+    → Simulates l.commands (rule l.value_bytes) (plan_of l script names globals) (point oracle trace 0)
+    (after_file res s) (point oracle' trace' used) → AnswersFile script s used res result
+    → Evaluates l script globals oracle trace result trace'
 evaluated_alike names l script globals oracle oracle' trace trace' s used res result same led a =
     evaluated l script globals oracle oracle' trace trace' s used res result
     (subst (λ (ns : List Text). Simulates l.commands (rule l.value_bytes) (plan_of l script ns globals) (point oracle trace 0) (after_file res s) (point oracle' trace' used)) same led) a

@@ -1,6 +1,7 @@
 //! Scripts, commands, words and expressions, which evaluate one another: one cycle of methods, which ends since each
 //! script in another has less depth remaining, and each command and each turn of a loop is counted.
-ghost use Rattle.std.specs.Prelude.{◌≡◌, ◌<◌, ◌∷◌, [], Bool, true, false, List, drop, map, option_map, IfOk, string_bytes};
+ghost use Rattle.std.specs.Prelude.{◌≡◌, ◌<◌, ◌∷◌, [], Bool, true, false, List, drop, map, option_map, IfOk};
+ghost use Rattle.std.specs.Prelude.{string_bytes};
 ghost use Rattle.tclchars.specs.Runs.{Text};
 ghost use Rattle.tclscript.specs.Tree.{commands_of, words_of};
 ghost use Rattle.tclscript.specs.View.{script_view, command_view, word_view, content_view, parts_view};
@@ -19,7 +20,8 @@ ghost use Rattle.tclsubstitution.specs.Machine.{range_text, control_plan};
 ghost use Rattle.tclexpr.specs.Owned as expression;
 ghost use Rattle.tclcommands.specs.CommandTexts.{name_of};
 ghost use Rattle.tclcommands.specs.declared.result_use.ResultUse.TheVariants.{Dropped};
-ghost use Rattle.tclcommands.specs.Completions.{EvaluatesToText, finish, sized_next, loop_continuation, guarded, expression_plan, condition_plan};
+ghost use Rattle.tclcommands.specs.Completions.{EvaluatesToText, finish, sized_next, loop_continuation, guarded};
+ghost use Rattle.tclcommands.specs.Completions.{expression_plan, condition_plan};
 ghost use Rattle.tcleval.specs.Continues.{Continues, bounds_of, with_text};
 ghost use Rattle.tcleval.specs.LoopBodies.{HasItsTree, IsSameBody};
 ghost use Rattle.tcleval.specs.OnlyGrows.{OnlyGrows};
@@ -28,7 +30,7 @@ use crate::bounds::Bounds;
 use crate::evaluator::{Evaluator, sized, within};
 use crate::literals::literal_form;
 use crate::loop_body::LoopBody;
-use crate::sourced::Sourced;
+use crate::sourced::SourcedTree;
 use crate::trees::{expression_tree, normal};
 use crate::turns::begin_turn;
 use crate::words::{braced_value, copied, literal_part, push_words};
@@ -37,7 +39,7 @@ use tclcommands::{
     simple_command, unknown_command,
 };
 use tclexpr::OwnedExpr;
-use tclforms::{ForLoop, Form, Loops, Simple, WhileLoop, chosen, core_form, parameter_values};
+use tclforms::{ForLoop, Form, Loops, SimpleForm, WhileLoop, chosen, core_form, parameter_values};
 use tcloperators::truth;
 use tclrules::Host;
 use tclscript::{ByteRange, Command, Part, Script, Word, WordContent};
@@ -65,7 +67,7 @@ impl Evaluator {
         let inside = bounds.inside()?;
         match self.cache.script_tree(text) {
             Ok(tree) => {
-                let script = Sourced {
+                let script = SourcedTree {
                     source: tree.text.as_str(),
                     tree: &tree.script,
                 };
@@ -96,7 +98,7 @@ impl Evaluator {
         let inside = bounds.inside()?;
         match body.tree(&mut self.cache) {
             Ok(tree) => {
-                let script = Sourced {
+                let script = SourcedTree {
                     source: tree.text.as_str(),
                     tree: &tree.script,
                 };
@@ -113,7 +115,7 @@ impl Evaluator {
         &mut self,
         host: &mut H,
         bounds: Bounds,
-        script: Sourced<'_, &Script<ByteRange>>,
+        script: SourcedTree<'_, &Script<ByteRange>>,
     ) -> Result<String, Stop>
         ensures evaluates_to { (k : Next) → Continues H.oracle H.trace bounds
             (Runs (plans.Bracket bounds.remaining
@@ -131,7 +133,7 @@ impl Evaluator {
         &mut self,
         host: &mut H,
         bounds: Bounds,
-        script: Sourced<'_, &Script<ByteRange>>,
+        script: SourcedTree<'_, &Script<ByteRange>>,
         result_use: ResultUse,
     ) -> Result<String, Stop>
         ensures evaluates_to { EvaluatesToText result_use bounds.limits.value_bytes result
@@ -143,7 +145,7 @@ impl Evaluator {
     {
         let mut last = String::new(self.alloc);
         for command in &script.tree.commands {
-            let command = Sourced {
+            let command = SourcedTree {
                 source: script.source,
                 tree: command,
             };
@@ -161,7 +163,7 @@ impl Evaluator {
         &mut self,
         host: &mut H,
         bounds: Bounds,
-        command: Sourced<'_, &Command<ByteRange>>,
+        command: SourcedTree<'_, &Command<ByteRange>>,
         result_use: ResultUse,
     ) -> Result<String, Stop>
         ensures evaluates_to { EvaluatesToText result_use bounds.limits.value_bytes result
@@ -173,7 +175,7 @@ impl Evaluator {
         ensures only_grows { OnlyGrows self.old self.new }
     {
         self.count(bounds.limits)?;
-        let words = Sourced {
+        let words = SourcedTree {
             source: command.source,
             tree: command.tree.words.as_slice(),
         };
@@ -191,7 +193,7 @@ impl Evaluator {
         &mut self,
         host: &mut H,
         bounds: Bounds,
-        words: Sourced<'_, &[Word<ByteRange>]>,
+        words: SourcedTree<'_, &[Word<ByteRange>]>,
     ) -> Result<Vec<String>, Stop>
         ensures evaluates_to { (k : List Text → State → plans.Step) → Continues H.oracle H.trace bounds
             (pieces.words (bounds_of bounds)
@@ -202,7 +204,7 @@ impl Evaluator {
     {
         let mut texts = Vec::new(self.alloc);
         for word in words.tree {
-            let content = Sourced {
+            let content = SourcedTree {
                 source: words.source,
                 tree: &word.content,
             };
@@ -219,7 +221,7 @@ impl Evaluator {
         &mut self,
         host: &mut H,
         bounds: Bounds,
-        word: Sourced<'_, &WordContent<ByteRange>>,
+        word: SourcedTree<'_, &WordContent<ByteRange>>,
     ) -> Result<String, Stop>
         ensures evaluates_to { (k : Next) → Continues H.oracle H.trace bounds
             (pieces.parts (bounds_of bounds) (content_view (range_text word.entry.source.now) word.entry.tree.now) []
@@ -233,7 +235,7 @@ impl Evaluator {
                 braced_value(self.alloc, bounds.limits, range.of(word.source))
             }
             WordContent::Parts(parts) => {
-                let parts = Sourced {
+                let parts = SourcedTree {
                     source: word.source,
                     tree: parts.as_slice(),
                 };
@@ -249,7 +251,7 @@ impl Evaluator {
         &mut self,
         host: &mut H,
         bounds: Bounds,
-        parts: Sourced<'_, &[Part<ByteRange>]>,
+        parts: SourcedTree<'_, &[Part<ByteRange>]>,
     ) -> Result<String, Stop>
         ensures evaluates_to { (k : Next) → Continues H.oracle H.trace bounds
             (pieces.parts (bounds_of bounds) (parts_view (range_text parts.entry.source.now) parts.entry.tree.now) []
@@ -293,7 +295,7 @@ impl Evaluator {
                 Step::Next(next) => control = next,
                 Step::Done(value) => return Ok(value),
                 Step::Bracket(tree) => {
-                    let value = self.bracket(host, bounds, Sourced { source, tree })?;
+                    let value = self.bracket(host, bounds, SourcedTree { source, tree })?;
                     control = Control::Value(value);
                 }
             }
@@ -589,7 +591,7 @@ impl Evaluator {
         &mut self,
         host: &mut H,
         bounds: Bounds,
-        form: Simple<'_>,
+        form: SimpleForm<'_>,
         result_use: ResultUse,
     ) -> Result<String, Stop>
         ensures evaluates_to { EvaluatesToText result_use bounds.limits.value_bytes result
@@ -628,7 +630,7 @@ impl Evaluator {
     {
         let limits = bounds.limits;
         match form {
-            Form::Simple(form) => self.simple(host, bounds, form, result_use),
+            Form::SimpleForm(form) => self.simple(host, bounds, form, result_use),
             Form::Express(words) => within(limits, self.express_words(host, bounds, words)),
             Form::If(branches, other) => {
                 self.branches(host, bounds, branches.as_slice(), other, result_use)

@@ -1,5 +1,6 @@
 //! The state of an evaluation, the count of commands, and results within the limit on values.
-ghost use Rattle.std.specs.Prelude.{◌≡◌, ◌≤◌, ◌<◌, ◌+◌, ℕ, Bool, MatchResult, IfOk, IfErr, IfSome, length, string_bytes};
+ghost use Rattle.std.specs.Prelude.{◌≡◌, ◌≤◌, ◌<◌, ◌+◌, ℕ, Bool, MatchResult, IfOk, IfErr, IfSome, length};
+ghost use Rattle.std.specs.Prelude.{string_bytes};
 ghost use Rattle.tclrules.specs.Simulates.{Simulates, Point};
 ghost use Rattle.tclrules.specs.Variables.{State};
 ghost use Rattle.tclrules.specs.Plans as plans;
@@ -9,14 +10,14 @@ ghost use Rattle.tclexpr.specs.Owned as expression;
 ghost use Rattle.tclsubstitution.specs.Machine.{bounds};
 ghost use Rattle.tclcommands.specs.declared.result_use.ResultUse.{ResultUse};
 ghost use Rattle.tclcommands.specs.Completions.{EvaluatesToText, condition_plan};
-ghost use Rattle.tcloperators.specs.declared.operators.Computed.TheVariants.{Truth};
+ghost use Rattle.tcloperators.specs.declared.operators.ComputedValue.TheVariants.{Truth};
 ghost use Rattle.tclsubstitution.specs.declared.stop.Stop.TheVariants.{Fault};
 ghost use Rattle.tclrules.specs.declared.outcome.EvalFault.TheVariants.{TooManyCommands};
 
 use std::alloc::Global;
-use tclcache::Kept;
+use tclcache::KeptTrees;
 use tclexpr::OwnedExpr;
-use tcloperators::Computed;
+use tcloperators::ComputedValue;
 use tclrules::{EvalFault, Limits};
 use tclsubstitution::{Stop, SubstitutionContext, compute_borrowed};
 use tclvariables::Variables;
@@ -27,7 +28,7 @@ pub struct Evaluator {
     /// The allocator.
     pub alloc: Global,
     /// The trees of texts that were parsed before.
-    pub cache: Kept,
+    pub cache: KeptTrees,
     /// The variables and procedures, and the byte offset of the file's current command.
     pub variables: Variables,
     /// How many commands and turns of loops were counted.
@@ -80,12 +81,12 @@ impl Evaluator {
 
 /// The truth value that an operator computed, where its text, which has one byte, is within the limit on values; None
 /// of a number.
-fn truth_of(limits: Limits, made: Computed) -> Option<bool>
+fn truth_of(limits: Limits, made: ComputedValue) -> Option<bool>
     ensures { IfSome result (λ holds. (made ≡ Truth holds) × (1 ≤ limits.value_bytes)) }
 {
     match made {
-        Computed::Truth(holds) if limits.value_bytes > 0 => Some(holds),
-        Computed::Truth(_) | Computed::Whole(_) => None,
+        ComputedValue::Truth(holds) if limits.value_bytes > 0 => Some(holds),
+        ComputedValue::Truth(_) | ComputedValue::Whole(_) => None,
     }
 }
 

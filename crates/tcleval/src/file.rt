@@ -16,10 +16,10 @@ ghost use Rattle.tcleval.specs.Files.{after_file, ReportsFailure, AnswersFile};
 
 use crate::bounds::Bounds;
 use crate::evaluator::Evaluator;
-use crate::sourced::Sourced;
+use crate::sourced::SourcedTree;
 use std::alloc::Global;
 use std::mem;
-use tclcache::Kept;
+use tclcache::KeptTrees;
 use tclcommands::{ResultUse, initial_variables};
 use tclrules::{Ending, EvalFault, Host, Limits};
 use tclscript::{ByteRange, Script};
@@ -32,7 +32,7 @@ fn file_commands<H: Host>(
     evaluator: &mut Evaluator,
     host: &mut H,
     bounds: Bounds,
-    file: Sourced<'_, &Script<ByteRange>>,
+    file: SourcedTree<'_, &Script<ByteRange>>,
 ) -> Result<String, Stop>
     ensures evaluates_to { Continues H.oracle H.trace bounds
         (rules.file_commands (bounds_of bounds) (script_view (range_text file.entry.source.now) file.entry.tree.now) []
@@ -43,7 +43,7 @@ fn file_commands<H: Host>(
     let mut last = String::new(evaluator.alloc);
     for command in &file.tree.commands {
         evaluator.variables.set_offset(command.offset);
-        let command = Sourced {
+        let command = SourcedTree {
             source: file.source,
             tree: command,
         };
@@ -68,7 +68,7 @@ fn run_file<H: Host>(
     let inside = bounds.inside()?;
     match evaluator.cache.script_tree(text) {
         Ok(tree) => {
-            let file = Sourced {
+            let file = SourcedTree {
                 source: tree.text.as_str(),
                 tree: &tree.script,
             };
@@ -170,7 +170,7 @@ fn file_answer(
 #[tactic(none)]
 pub fn evaluate_with<H: Host>(
     alloc: Global,
-    cache: &mut Kept,
+    cache: &mut KeptTrees,
     script: &str,
     globals: Vec<(String, String)>,
     host: &mut H,
@@ -184,7 +184,7 @@ pub fn evaluate_with<H: Host>(
     let variables = initial_variables(alloc, host.reserved(), globals)?;
     let mut evaluator = Evaluator {
         alloc,
-        cache: mem::replace(cache, Kept::new(alloc)),
+        cache: mem::replace(cache, KeptTrees::new(alloc)),
         variables,
         used: 0,
     };
@@ -224,6 +224,6 @@ pub fn evaluate<H: Host>(
         result (H.trace host.new) }
     ensures same { H.oracle host.new ≡ H.oracle host.old }
 {
-    let mut cache = Kept::new(alloc);
+    let mut cache = KeptTrees::new(alloc);
     evaluate_with(alloc, &mut cache, script, globals, host, limits)
 }

@@ -14,9 +14,9 @@ ghost use Rattle.tclrules.specs.Forms.{core_form};
 ghost use Rattle.tclforms.specs.Views.{simple_view};
 ghost use Rattle.tclsubstitution.specs.Machine.{range_text, bounds};
 
-use crate::sourced::Sourced;
+use crate::sourced::SourcedTree;
 use crate::words::literal;
-use tclforms::Simple;
+use tclforms::SimpleForm;
 use tclrules::Limits;
 use tclscript::{ByteRange, Word};
 
@@ -38,40 +38,40 @@ fn literal_text<'t>(limits: Limits, source: &'t str, word: &Word<ByteRange>) -> 
 
 /// The form of such a command that is its name alone.
 #[tactic(auto, unfolding(tclrules::specs::Forms::core_form))]
-fn form_alone(name: &str) -> Option<Simple<'_>>
+fn form_alone(name: &str) -> Option<SimpleForm<'_>>
     ensures { IfSome result (λ form. (limit : ℕ) → (core_form name.entry.now [] ≡ Some (Ok (simple_view form)))
         × (command_value (name.entry.now ∷ []) limit ≡ Ok None)) }
 {
     match name {
-        "break" => Some(Simple::Break),
-        "continue" => Some(Simple::Continue),
+        "break" => Some(SimpleForm::Break),
+        "continue" => Some(SimpleForm::Continue),
         _ => None,
     }
 }
 
 /// The form of such a command with one word after its name.
 #[tactic(auto, unfolding(tclrules::specs::Forms::core_form))]
-fn form_of_one<'t>(name: &str, word: &'t str) -> Option<Simple<'t>>
+fn form_of_one<'t>(name: &str, word: &'t str) -> Option<SimpleForm<'t>>
     ensures { IfSome result (λ form. (limit : ℕ)
         → (core_form name.now (word.entry.now ∷ []) ≡ Some (Ok (simple_view form)))
         × (command_value (name.now ∷ word.entry.now ∷ []) limit ≡ Ok None)) }
 {
     match name {
-        "incr" => Some(Simple::Increase(word, &[])),
-        "set" => Some(Simple::Get(word)),
+        "incr" => Some(SimpleForm::Increase(word, &[])),
+        "set" => Some(SimpleForm::Get(word)),
         _ => None,
     }
 }
 
 /// The form of such a command with two words after its name.
 #[tactic(auto, unfolding(tclrules::specs::Forms::core_form))]
-fn form_of_two<'t>(name: &str, first: &'t str, second: &'t str) -> Option<Simple<'t>>
+fn form_of_two<'t>(name: &str, first: &'t str, second: &'t str) -> Option<SimpleForm<'t>>
     ensures { IfSome result (λ form. (limit : ℕ)
         → (core_form name.now (first.entry.now ∷ second.entry.now ∷ []) ≡ Some (Ok (simple_view form)))
         × (command_value (name.now ∷ first.entry.now ∷ second.entry.now ∷ []) limit ≡ Ok None)) }
 {
     match name {
-        "set" => Some(Simple::Set(first, second)),
+        "set" => Some(SimpleForm::Set(first, second)),
         _ => None,
     }
 }
@@ -79,8 +79,8 @@ fn form_of_two<'t>(name: &str, first: &'t str, second: &'t str) -> Option<Simple
 /// The form of such a command; None for any other command, whose words are substituted.
 pub(crate) fn literal_form<'t>(
     limits: Limits,
-    words: Sourced<'t, &'t [Word<ByteRange>]>,
-) -> Option<Simple<'t>>
+    words: SourcedTree<'t, &'t [Word<ByteRange>]>,
+) -> Option<SimpleForm<'t>>
     ensures { IfSome result (λ form. (remaining : ℕ) (s : State) (k : Next)
         → pieces.words (bounds limits.value_bytes remaining)
         (words_of (map (word_view (range_text words.entry.source.now)) words.entry.tree.now)) [] s

@@ -2,7 +2,7 @@
 
 /// A piece of a tree, or several, beside the source text of which the pieces of the tree are ranges.
 #[derive(Clone, Copy)]
-pub struct Sourced<'s, T> {
+pub struct SourcedTree<'s, T> {
     /// The text that was parsed.
     pub source: &'s str,
     /// The piece of its tree.

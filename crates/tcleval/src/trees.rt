@@ -8,7 +8,8 @@ ghost use Rattle.tclchars.specs.Numerals.{numeral};
 ghost use Rattle.message.specs.Answers.{Gives};
 ghost use Rattle.tcloperators.specs.Faults.{reason_of, GivesText};
 ghost use Rattle.tclchars.specs.Runs.{begins, take_while};
-ghost use Rattle.tclexpr.specs.UnsupportedSyntax.{begins_power, is_letter, is_operator_word, names_function, unsupported_at};
+ghost use Rattle.tclexpr.specs.UnsupportedSyntax.{begins_power, is_letter, is_operator_word, names_function};
+ghost use Rattle.tclexpr.specs.UnsupportedSyntax.{unsupported_at};
 ghost use Rattle.tclchars.specs.Classes.{is_name, begins_in};
 ghost use Rattle.tclrules.specs.Expressions.{fault_of, parsed, normal};
 ghost use Rattle.tclcache.specs.Kept.{BeginWith};
@@ -16,7 +17,7 @@ ghost use Rattle.tclcommands.specs.Completions.{IsExpressionFault, value_fault};
 
 use std::alloc::{AllocError, Global};
 use std::rc::Rc;
-use tclcache::Kept;
+use tclcache::KeptTrees;
 use tclchars::{Class, Numeral, TextFault, read_number, split_run};
 use tclexpr::OwnedExpr;
 use tcloperators::{ValueFault, unsupported};
@@ -129,7 +130,7 @@ fn expression_fault(alloc: Global, text: &str, fault: TextFault) -> ValueFault
 /// fault of the text; `OutOfMemory`.
 pub(crate) fn expression_tree(
     alloc: Global,
-    cache: &mut Kept,
+    cache: &mut KeptTrees,
     text: &str,
 ) -> Result<Rc<OwnedExpr>, ValueFault>
     ensures tree { Gives reason_of (λ o. expressions.owned_view o.value) result (parsed text.now (expr_of text.now)) }

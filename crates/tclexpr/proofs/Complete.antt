@@ -1,5 +1,7 @@
 -- What is in the grammar is read.
-use Rattle.std.proofs.Common.{◌≡◌, ◌<◌, ◌≤◌, ◌-◌, ℕ, zero, suc, max, List, [], ◌∷◌, ◌++◌, length, Bool, true, false, cond, nat_lt, nat_le, if◌then◌else◌, Option, Some, None, Result, Ok, Err, refl, sym, ap, subst, ◌∙◌, arith}
+use Rattle.std.proofs.Common.{◌≡◌, ◌<◌, ◌≤◌, ◌-◌, ℕ, zero, suc, max, List, [], ◌∷◌, ◌++◌, length, Bool, true, false}
+use Rattle.std.proofs.Common.{cond, nat_lt, nat_le, if◌then◌else◌, Option, Some, None, Result, Ok, Err, refl, sym, ap}
+use Rattle.std.proofs.Common.{subst, ◌∙◌, arith}
 use Rattle.std.proofs.lemmas.Bool.Decides.{nat_tests}
 use Rattle.tclchars.specs.Runs.{Text}
 use Rattle.tclchars.specs.declared.fault.Fault.{Fault}
@@ -10,11 +12,15 @@ use Rattle.tclexpr.specs.declared.operators.Infix.{Infix}
 use Rattle.tclexpr.specs.declared.operators.Mark.{Mark}
 use Rattle.tclexpr.specs.declared.operators.Mark.TheVariants as marks
 use Rattle.tclexpr.specs.Tree.{Expr, operand, unary, choice, Token, mark}
-use Rattle.tclexpr.specs.Grammar.{level, sign_of, IsExpr, simple, choosing, IsChain, single, in_parentheses, signed, joining}
+use Rattle.tclexpr.specs.Grammar.{level, sign_of, IsExpr, simple, choosing, IsChain, single, in_parentheses, signed}
+use Rattle.tclexpr.specs.Grammar.{joining}
 use Rattle.tclexpr.specs.Marks.{after_white, mark_at}
 use Rattle.tclexpr.specs.TokenList.{AreTokens, IsExprText}
 use Rattle.tclexpr.specs.Faults.{Follows, NextIsNot, MayFollow}
-use Rattle.tclexpr.specs.Reading.{Extent, whole, chain, is_close, is_colon, is_question_mark, is_open, infix_of, after_expected, expect, signed_at, enclosed_at, marked_at, begun_at, prefix_at, join, next_at, going_at, climb_at, chain_at, branches_at, choosing_at, whole_at, below_at, ended, expr_at}
+use Rattle.tclexpr.specs.Reading.{Extent, whole, chain, is_close, is_colon, is_question_mark, is_open, infix_of}
+use Rattle.tclexpr.specs.Reading.{after_expected, expect, signed_at, enclosed_at, marked_at, begun_at, prefix_at, join}
+use Rattle.tclexpr.specs.Reading.{next_at, going_at, climb_at, chain_at, branches_at, choosing_at, whole_at, below_at}
+use Rattle.tclexpr.specs.Reading.{ended, expr_at}
 use Rattle.tclexpr.proofs.Results.{found_once, found_none, infix_once}
 use Rattle.tclexpr.proofs.Rows.{row_cut, row_shorter}
 use Rattle.tclexpr.proofs.Sound.{level_more, infix_is, question_is}
@@ -51,11 +57,14 @@ module _ {O : Type 0} (read_operand : ℕ → Text → Read (O × ℕ)) where
   below_whole d bs = refl
 
   module _ (d : ℕ) (below : Extent → Text → Read (Expr O × ℕ)) where
-    pub prefix_operand : (bs : Text) (o : O × ℕ) (rest : Text) → mark_at (after_white bs) ≡ None → read_operand d (after_white bs) ≡ Ok (o, rest) → prefix_at read_operand d below bs ≡ Ok ((operand o.0, o.1), rest)
+    pub prefix_operand : (bs : Text) (o : O × ℕ) (rest : Text) → mark_at (after_white bs) ≡ None
+        → read_operand d (after_white bs) ≡ Ok (o, rest) → prefix_at read_operand d below bs ≡ Ok
+        ((operand o.0, o.1), rest)
     unfolding prefix_at
     prefix_operand bs o rest none h = ap (begun_at read_operand d below (after_white bs)) none ∙ ap (read_map (λ (o : O × ℕ). let made : Expr O × ℕ = (operand o.0, o.1) in made)) h
 
-    pub prefix_marked : (bs : Text) (m : Mark) (after : Text) → mark_at (after_white bs) ≡ Some (m, after) → prefix_at read_operand d below bs ≡ marked_at read_operand below (length (after_white bs)) m after
+    pub prefix_marked : (bs : Text) (m : Mark) (after : Text) → mark_at (after_white bs) ≡ Some (m, after)
+        → prefix_at read_operand d below bs ≡ marked_at read_operand below (length (after_white bs)) m after
     unfolding prefix_at
     prefix_marked bs m after is = ap (begun_at read_operand d below (after_white bs)) is
 
@@ -65,10 +74,13 @@ module _ {O : Type 0} (read_operand : ℕ → Text → Read (O × ℕ)) where
     pub marked_other : (left : ℕ) (m : Mark) (after : Text) → is_open m ≡ false → marked_at read_operand below left m after ≡ signed_at read_operand below left after (sign_of m)
     marked_other left m after h = rw h refl
 
-    pub marked_sign : (left : ℕ) (m : Mark) (u : UnaryOperator) (after : Text) → sign_of m ≡ Some u → marked_at read_operand below left m after ≡ read_map (λ x. (unary u x.0, suc x.1)) (below (chain 1) after)
+    pub marked_sign : (left : ℕ) (m : Mark) (u : UnaryOperator) (after : Text) → sign_of m ≡ Some u
+        → marked_at read_operand below left m after ≡ read_map (λ x. (unary u x.0, suc x.1)) (below (chain 1) after)
     marked_sign left m u after s = marked_other left m after (sign_no_open m u s) ∙ ap (signed_at read_operand below left after) s
 
-    pub chain_from : (n : ℕ) (bs : Text) (x : Expr O × ℕ) (rest : Text) → prefix_at read_operand d below bs ≡ Ok (x, rest) → chain_at read_operand d below n bs ≡ climb_at read_operand d below n (suc (length rest)) x rest
+    pub chain_from : (n : ℕ) (bs : Text) (x : Expr O × ℕ) (rest : Text)
+        → prefix_at read_operand d below bs ≡ Ok (x, rest)
+        → chain_at read_operand d below n bs ≡ climb_at read_operand d below n (suc (length rest)) x rest
     unfolding chain_at
     chain_from n bs x rest h = ap (λ r. r >>= (λ x. climb_at read_operand d below n (suc (length x.1)) x.0 x.1)) h
 
@@ -115,10 +127,13 @@ module _ {O : Type 0} (read_operand : ℕ → Text → Read (O × ℕ)) where
         by_test true s = absurd (ends marks.QuestionMark p.1 (is ∙ ap (λ m. Some (m, p.1)) (question_is p.0 s)) tt)
         by_test false s = refl
 
-    pub choosing_goes : (x : Expr O × ℕ) (rest after : Text) → mark_at (after_white rest) ≡ Some (marks.QuestionMark, after) → x.1 < d → choosing_at read_operand d below x rest (mark_at (after_white rest)) ≡ branches_at read_operand below x after
+    pub choosing_goes : (x : Expr O × ℕ) (rest after : Text)
+        → mark_at (after_white rest) ≡ Some (marks.QuestionMark, after) → x.1 < d
+        → choosing_at read_operand d below x rest (mark_at (after_white rest)) ≡ branches_at read_operand below x after
     choosing_goes x rest after is less = ap (choosing_at read_operand d below x rest) is ∙ (let t : nat_lt x.1 d ≡ true = lt_true x.1 d less in rw t refl)
 
-    pub whole_from : (bs : Text) (x : Expr O × ℕ) (rest : Text) → chain_at read_operand d below 13 bs ≡ Ok (x, rest) → whole_at read_operand d below bs ≡ choosing_at read_operand d below x rest (mark_at (after_white rest))
+    pub whole_from : (bs : Text) (x : Expr O × ℕ) (rest : Text) → chain_at read_operand d below 13 bs ≡ Ok (x, rest)
+        → whole_at read_operand d below bs ≡ choosing_at read_operand d below x rest (mark_at (after_white rest))
     unfolding whole_at
     whole_from bs x rest h = ap (λ r. r >>= (λ x. choosing_at read_operand d below x.0 x.1 (mark_at (after_white x.1)))) h
 
@@ -159,10 +174,13 @@ module _ (O : Type 0) (IsOperand : Text → Text → O → ℕ → Type 0) (read
   pub reaches_end : (d n : ℕ) (bs : Text) (x : Expr O × ℕ) (rest : Text) → Reaches d n bs x rest → Follows (suc n) rest → chain_at read_operand d (below_at read_operand d) n bs ≡ Ok (x, rest)
   reaches_end d n bs x rest r f = r.2 ∙ climb_stops read_operand d (below_at read_operand d) n r.0 x rest (omega (arith, r.1)) f
 
-  reaches_more : (d n : ℕ) (bs : Text) (x : Expr O × ℕ) (rest : Text) → Reaches (suc d) n bs x rest → (i : Infix) (after : Text) → mark_at (after_white rest) ≡ Some (marks.Infix i, after) → level i ≤ n → x.1 ≤ d
+  reaches_more : (d n : ℕ) (bs : Text) (x : Expr O × ℕ) (rest : Text) → Reaches (suc d) n bs x rest
+      → (i : Infix) (after : Text) → mark_at (after_white rest) ≡ Some (marks.Infix i, after) → level i ≤ n → x.1 ≤ d
       → (y : Expr O × ℕ) (end : Text) → chain_at read_operand d (below_at read_operand d) (level i - 1) after ≡ Ok (y, end) → length end < length rest → Reaches (suc d) n bs (join i x y) end
   reaches_more d n bs x rest r i after is within deep y end h less = more r.0 r.1 r.2 where
-    more : (turns : ℕ) → length rest < turns → chain_at read_operand (suc d) (below_at read_operand (suc d)) n bs ≡ climb_at read_operand (suc d) (below_at read_operand (suc d)) n turns x rest → Reaches (suc d) n bs (join i x y) end
+    more : (turns : ℕ) → length rest < turns → chain_at read_operand (suc d) (below_at read_operand (suc d)) n bs ≡
+        climb_at read_operand (suc d) (below_at read_operand (suc d)) n turns x rest
+        → Reaches (suc d) n bs (join i x y) end
     more zero enough h' = absurd (omega arith)
     more (suc turns) enough h' = (
       turns,
@@ -172,7 +190,8 @@ module _ (O : Type 0) (IsOperand : Text → Text → O → ℕ → Type 0) (read
     )
 
   mutual
-    pub chain_again : {h n : ℕ} {ts : List (Token O)} {e : Expr O} → IsChain O h n ts e → (d m : ℕ) → h ≤ d → n ≤ m → (bs rest : Text) → AreTokens O IsOperand bs rest ts → Follows n rest → Reaches d m bs (e, h) rest
+    pub chain_again : {h n : ℕ} {ts : List (Token O)} {e : Expr O} → IsChain O h n ts e → (d m : ℕ) → h ≤ d → n ≤ m
+        → (bs rest : Text) → AreTokens O IsOperand bs rest ts → Follows n rest → Reaches d m bs (e, h) rest
     chain_again (single {h} o) d m deep above bs rest are_tokens f =
         let row_ends = are_tokens.2 in
         let reads = again d (after_white bs) are_tokens.0 o h are_tokens.1.0 are_tokens.1.1 deep in (
@@ -197,12 +216,15 @@ module _ (O : Type 0) (IsOperand : Text → Text → O → ℕ → Type 0) (read
         let below = below_at read_operand (suc d) in
         let inner : below (chain 1) are_tokens.0 ≡ Ok ((e, h), rest) =
         below_chain read_operand d 1 are_tokens.0
-        ∙ reaches_end d 1 are_tokens.0 (e, h) rest (chain_again is d 1 (omega arith) (omega arith) are_tokens.0 rest are_tokens.2 (λ i more is. omega (arith, level_more i))) (λ i more is. omega (arith, level_more i))
+        ∙ reaches_end d 1 are_tokens.0 (e, h) rest (chain_again is d 1 (omega arith) (omega arith) are_tokens.0 rest
+        are_tokens.2 (λ i more is. omega (arith, level_more i))) (λ i more is. omega (arith, level_more i))
         in (
           suc (length rest),
           omega arith,
           chain_from read_operand (suc d) below m bs (unary u e, suc h) rest
-              (prefix_marked read_operand (suc d) below bs k are_tokens.0 are_tokens.1 ∙ marked_sign read_operand (suc d) below (length (after_white bs)) k u are_tokens.0 s ∙ ap (read_map (λ (x : Expr O × ℕ). let made : Expr O × ℕ = (unary u x.0, suc x.1) in made)) inner),
+              (prefix_marked read_operand (suc d) below bs k are_tokens.0 are_tokens.1
+              ∙ marked_sign read_operand (suc d) below (length (after_white bs)) k u are_tokens.0 s
+              ∙ ap (read_map (λ (x : Expr O × ℕ). let made : Expr O × ℕ = (unary u x.0, suc x.1) in made)) inner),
         )
     chain_again (joining i ls rs within l r) zero m deep above bs rest are_tokens f = absurd (omega arith)
     chain_again (joining {h} {j} {n} i ls rs {l = x} {r = y} within l r) (suc d) m deep above bs rest are_tokens f =
@@ -216,10 +238,14 @@ module _ (O : Type 0) (IsOperand : Text → Text → O → ℕ → Type 0) (read
         in
         reaches_more d m bs (x, h) cut.0 left i after cut.2.1 (omega arith) (omega arith) (y, j) rest right (row_shorter O IsOperand shorter (mark (marks.Infix i)) rs cut.0 rest cut.2)
 
-    pub expr_again : {h : ℕ} {ts : List (Token O)} {e : Expr O} → IsExpr O h ts e → (d : ℕ) → h ≤ d → (bs rest : Text) → AreTokens O IsOperand bs rest ts → NextIsNot MayFollow rest → whole_at read_operand d (below_at read_operand d) bs ≡ Ok ((e, h), rest)
+    pub expr_again : {h : ℕ} {ts : List (Token O)} {e : Expr O} → IsExpr O h ts e → (d : ℕ) → h ≤ d → (bs rest : Text)
+        → AreTokens O IsOperand bs rest ts → NextIsNot MayFollow rest
+        → whole_at read_operand d (below_at read_operand d) bs ≡ Ok ((e, h), rest)
     expr_again (simple {h} {ts} {e} is) d deep bs rest are_tokens ends =
         let below = below_at read_operand d in
-        whole_from read_operand d below bs (e, h) rest (reaches_end d 13 bs (e, h) rest (chain_again is d 13 deep (omega arith) bs rest are_tokens (ends_follow 13 rest ends)) (ends_follow 14 rest ends))
+        whole_from read_operand d below bs (e, h) rest (reaches_end d 13 bs (e, h) rest
+        (chain_again is d 13 deep (omega arith) bs rest are_tokens (ends_follow 13 rest ends))
+        (ends_follow 14 rest ends))
         ∙ choosing_stops read_operand d below (e, h) rest ends
     expr_again (choosing cs ys ns c y n) zero deep bs rest are_tokens ends = absurd (omega arith)
     expr_again (choosing {h} {i} {j} cs ys ns {c = ce} {y = ye} {n = ne} c y n) (suc d) deep bs rest are_tokens ends =

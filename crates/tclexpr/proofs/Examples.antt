@@ -7,7 +7,8 @@ use Rattle.tclexpr.specs.declared.operators.BinaryOperator.TheVariants.{Add, Sub
 use Rattle.tclexpr.specs.declared.operators.UnaryOperator.TheVariants.{Minus}
 use Rattle.tclexpr.specs.Tree.{Expr, operand, unary, binary, choice}
 use Rattle.tclexpr.specs.Marks.{mark_at, after_white}
-use Rattle.tclexpr.specs.Operands.{Operand, number, word, braced, operand_at, after_number, after_digits, is_truth, word_at, braced_text_at}
+use Rattle.tclexpr.specs.Operands.{Operand, number, word, braced, operand_at, after_number, after_digits, is_truth}
+use Rattle.tclexpr.specs.Operands.{word_at, braced_text_at}
 use Rattle.tclexpr.specs.Reading.{expr_at, whole_at, chain_at, climb_at, prefix_at, below_at}
 
 abbrev Tree : Type 0

@@ -1,5 +1,6 @@
 -- The first fault of a text is the one that is met.
-use Rattle.std.proofs.Common.{◌≡◌, ◌≢◌, ◌<◌, ◌≤◌, ◌-◌, ℕ, zero, suc, max, List, [], ◌∷◌, ◌++◌, length, Bool, true, false, nat_lt, Option, Some, None, Result, Ok, Err, refl, sym, ap, ◌∙◌, arith, inl, inr}
+use Rattle.std.proofs.Common.{◌≡◌, ◌≢◌, ◌<◌, ◌≤◌, ◌-◌, ℕ, zero, suc, max, List, [], ◌∷◌, ◌++◌, length, Bool, true}
+use Rattle.std.proofs.Common.{false, nat_lt, Option, Some, None, Result, Ok, Err, refl, sym, ap, ◌∙◌, arith, inl, inr}
 use Rattle.tclchars.specs.Runs.{Text}
 use Rattle.tclchars.specs.declared.fault.Fault.{Fault}
 use Rattle.tclchars.specs.declared.fault.Fault.TheVariants.{TooDeep, BadExpression}
@@ -12,11 +13,17 @@ use Rattle.tclexpr.specs.Tree.{Expr, operand, unary, choice, Token, mark}
 use Rattle.tclexpr.specs.Grammar.{level, sign_of, IsChain}
 use Rattle.tclexpr.specs.Marks.{after_white, mark_at}
 use Rattle.tclexpr.specs.TokenList.{AreTokens, IsExprText}
-use Rattle.tclexpr.specs.Faults.{NextIsNot, MayFollow, MayFollowOr, BeginsOperand, bad_next, ExprFault, in_condition, deep_choice, in_yes, no_colon, in_no, ChainFault, in_operand, no_operand, deep_prefix, in_signed, in_open, no_close, deep_operator, in_right, ExprTextFault, inside, trailing}
-use Rattle.tclexpr.specs.Reading.{Extent, whole, chain, is_close, is_colon, is_open, after_expected, expect, signed_at, enclosed_at, begun_at, prefix_at, join, climb_at, chain_at, branches_at, choosing_at, whole_at, below_at, ended, expr_at}
+use Rattle.tclexpr.specs.Faults.{NextIsNot, MayFollow, MayFollowOr, BeginsOperand, bad_next, ExprFault, in_condition}
+use Rattle.tclexpr.specs.Faults.{deep_choice, in_yes, no_colon, in_no, ChainFault, in_operand, no_operand, deep_prefix}
+use Rattle.tclexpr.specs.Faults.{in_signed, in_open, no_close, deep_operator, in_right, ExprTextFault, inside, trailing}
+use Rattle.tclexpr.specs.Reading.{Extent, whole, chain, is_close, is_colon, is_open, after_expected, expect, signed_at}
+use Rattle.tclexpr.specs.Reading.{enclosed_at, begun_at, prefix_at, join, climb_at, chain_at, branches_at, choosing_at}
+use Rattle.tclexpr.specs.Reading.{whole_at, below_at, ended, expr_at}
 use Rattle.tclexpr.proofs.Rows.{row_cut}
 use Rattle.tclexpr.proofs.Sound.{open_is, close_is, colon_is}
-use Rattle.tclexpr.proofs.Complete.{below_chain, below_whole, prefix_marked, marked_other, marked_sign, climb_operator, climb_goes, choosing_goes, whole_from, no_operator, no_goes_on, operator_follows, Reaches, reaches_end, chain_again, expr_again, complete, lt_false}
+use Rattle.tclexpr.proofs.Complete.{below_chain, below_whole, prefix_marked, marked_other, marked_sign, climb_operator}
+use Rattle.tclexpr.proofs.Complete.{climb_goes, choosing_goes, whole_from, no_operator, no_goes_on, operator_follows}
+use Rattle.tclexpr.proofs.Complete.{Reaches, reaches_end, chain_again, expr_again, complete, lt_false}
 
 marked_false : (test : Mark → Bool) (expected : Mark) → ((m : Mark) → test m ≡ true → m ≡ expected) → (m : Mark) → (m ≡ expected → ⊥) → (t : Bool) → test m ≡ t → test m ≡ false
 marked_false test expected only m other true is = absurd (other (only m is))
@@ -58,7 +65,9 @@ module _ {O : Type 0} (read_operand : ℕ → Text → Read (O × ℕ)) (d : ℕ
   open_err : (n : ℕ) (bs after : Text) (f : Fault) → mark_at (after_white bs) ≡ Some (marks.Open, after) → enclosed_at read_operand below after ≡ Err f → chain_at read_operand d below n bs ≡ Err f
   open_err n bs after f is h = prefix_err n bs f (prefix_marked read_operand d below bs marks.Open after is ∙ h)
 
-  sign_err : (n : ℕ) (bs : Text) (m : Mark) (u : UnaryOperator) (after : Text) (f : Fault) → mark_at (after_white bs) ≡ Some (m, after) → sign_of m ≡ Some u → below (chain 1) after ≡ Err f → chain_at read_operand d below n bs ≡ Err f
+  sign_err : (n : ℕ) (bs : Text) (m : Mark) (u : UnaryOperator) (after : Text) (f : Fault)
+      → mark_at (after_white bs) ≡ Some (m, after) → sign_of m ≡ Some u → below (chain 1) after ≡ Err f
+      → chain_at read_operand d below n bs ≡ Err f
   sign_err n bs m u after f is s h =
       prefix_err n bs f (prefix_marked read_operand d below bs m after is ∙ marked_sign read_operand d below (length (after_white bs)) m u after s
       ∙ ap (read_map (λ (x : Expr O × ℕ). let made : Expr O × ℕ = (unary u x.0, suc x.1) in made)) h)
@@ -69,10 +78,13 @@ module _ {O : Type 0} (read_operand : ℕ → Text → Read (O × ℕ)) (d : ℕ
       prefix_err n bs (bad_next bs) (prefix_marked read_operand d below bs m after is ∙ marked_other read_operand d below (length (after_white bs)) m after two.0
       ∙ ap (signed_at read_operand below (length (after_white bs)) after) two.1)
 
-  choosing_deep : (x : Expr O × ℕ) (rest after : Text) → mark_at (after_white rest) ≡ Some (marks.QuestionMark, after) → d ≤ x.1 → choosing_at read_operand d below x rest (mark_at (after_white rest)) ≡ Err TooDeep
+  choosing_deep : (x : Expr O × ℕ) (rest after : Text) → mark_at (after_white rest) ≡ Some (marks.QuestionMark, after)
+      → d ≤ x.1 → choosing_at read_operand d below x rest (mark_at (after_white rest)) ≡ Err TooDeep
   choosing_deep x rest after is tall = ap (choosing_at read_operand d below x rest) is ∙ (let t : nat_lt x.1 d ≡ false = lt_false x.1 d tall in rw t refl)
 
-  climb_deep : (n turns : ℕ) (x : Expr O × ℕ) (rest : Text) (i : Infix) (after : Text) → 0 < turns → mark_at (after_white rest) ≡ Some (marks.Infix i, after) → level i ≤ n → d ≤ x.1 → climb_at read_operand d below n turns x rest ≡ Err TooDeep
+  climb_deep : (n turns : ℕ) (x : Expr O × ℕ) (rest : Text) (i : Infix) (after : Text) → 0 < turns
+      → mark_at (after_white rest) ≡ Some (marks.Infix i, after) → level i ≤ n → d ≤ x.1
+      → climb_at read_operand d below n turns x rest ≡ Err TooDeep
   climb_deep n zero x rest i after some is within tall = absurd (omega arith)
   climb_deep n (suc turns) x rest i after some is within tall =
       climb_operator read_operand d below n turns x rest i after is within ∙ (let t : nat_lt x.1 d ≡ false = lt_false x.1 d tall in rw t refl)
@@ -91,7 +103,8 @@ module _ {O : Type 0} (read_operand : ℕ → Text → Read (O × ℕ)) (d : ℕ
       ap (λ r. r >>= (λ y. expect is_colon y.1 >>= (λ after. below whole after >>= (λ z. Ok ((choice x.0 y.0.0 z.0.0, suc (max x.1 (max y.0.1 z.0.1))), z.1))))) h
       ∙ ap (λ r. r >>= (λ after. below whole after >>= (λ z. Ok ((choice x.0 y.0 z.0.0, suc (max x.1 (max y.1 z.0.1))), z.1)))) k
 
-  no_err : (x y : Expr O × ℕ) (after end last : Text) (f : Fault) → below whole after ≡ Ok (y, end) → expect is_colon end ≡ Ok last → below whole last ≡ Err f → branches_at read_operand below x after ≡ Err f
+  no_err : (x y : Expr O × ℕ) (after end last : Text) (f : Fault) → below whole after ≡ Ok (y, end)
+      → expect is_colon end ≡ Ok last → below whole last ≡ Err f → branches_at read_operand below x after ≡ Err f
   no_err x y after end last f h k l =
       ap (λ r. r >>= (λ y. expect is_colon y.1 >>= (λ after. below whole after >>= (λ z. Ok ((choice x.0 y.0.0 z.0.0, suc (max x.1 (max y.0.1 z.0.1))), z.1))))) h
       ∙ ap (λ r. r >>= (λ after. below whole after >>= (λ z. Ok ((choice x.0 y.0 z.0.0, suc (max x.1 (max y.1 z.0.1))), z.1)))) k
@@ -109,11 +122,14 @@ module _ (O : Type 0) (IsOperand : Text → Text → O → ℕ → Type 0) (Oper
       let cut = row_cut O IsOperand cs (mark marks.QuestionMark ∷ us) bs last are_tokens in
       let asks : mark_at (after_white cut.0) ≡ Some (marks.QuestionMark, cut.2.0) = cut.2.1 in
       let none = no_operator marks.QuestionMark cut.0 cut.2.0 asks refl in
-      let read = reaches_end O IsOperand read_operand again shorter d 13 bs (c, h) cut.0 (chain_again O IsOperand read_operand again shorter is d 13 deep (omega arith) bs cut.0 cut.1 (none 13)) (none 14) in
+      let read = reaches_end O IsOperand read_operand again shorter d 13 bs (c, h) cut.0
+      (chain_again O IsOperand read_operand again shorter is d 13 deep (omega arith) bs cut.0 cut.1 (none 13))
+      (none 14) in
       (cut.0, cut.2.0, asks, cut.2.2, whole_from read_operand d (below_at read_operand d) bs (c, h) cut.0 read)
 
   -- a left operand, read
-  left_read : (d h n : ℕ) (bs : Text) (i : Infix) (ls : List (Token O)) (l : Expr O) (after : Text) → level i ≤ n → IsChain O h (level i) ls l → h ≤ d → AreTokens O IsOperand bs after (ls ++ mark (marks.Infix i) ∷ [])
+  left_read : (d h n : ℕ) (bs : Text) (i : Infix) (ls : List (Token O)) (l : Expr O) (after : Text) → level i ≤ n
+      → IsChain O h (level i) ls l → h ≤ d → AreTokens O IsOperand bs after (ls ++ mark (marks.Infix i) ∷ [])
       → (rest : Text) × (mark_at (after_white rest) ≡ Some (marks.Infix i, after)) × Reaches O IsOperand read_operand again shorter d n bs (l, h) rest
   left_read d h n bs i ls l after within is deep are_tokens =
       let cut = row_cut O IsOperand ls (mark (marks.Infix i) ∷ []) bs after are_tokens in
@@ -139,7 +155,9 @@ module _ (O : Type 0) (IsOperand : Text → Text → O → ℕ → Type 0) (Oper
         let below = below_at read_operand (suc d) in
         let r = first_read (suc d) h bs cs ys c after is (omega arith) are_tokens in
         let read = below_whole read_operand d r.1 ∙ expr_again O IsOperand read_operand again shorter is' d deep' r.1 after r.3 (ends_left marks.Colon after none) in
-        r.4 ∙ choosing_goes read_operand (suc d) below (c, h) r.0 r.1 r.2 (omega arith) ∙ colon_err read_operand (suc d) below (c, h) (y, i) r.1 after (bad_next after) read (expect_err is_colon marks.Colon colon_is after none)
+        r.4 ∙ choosing_goes read_operand (suc d) below (c, h) r.0 r.1 r.2 (omega arith)
+        ∙ colon_err read_operand (suc d) below (c, h) (y, i) r.1 after (bad_next after) read
+        (expect_err is_colon marks.Colon colon_is after none)
     expr_met (in_no {d} {bs} {f} cs c h ys y i after is deep is' deep' are_tokens fault) =
         let below = below_at read_operand (suc d) in
         let r = first_read (suc d) h bs cs (ys ++ mark marks.Colon ∷ []) c after is (omega arith) are_tokens in
@@ -155,7 +173,8 @@ module _ (O : Type 0) (IsOperand : Text → Text → O → ℕ → Type 0) (Oper
         prefix_err read_operand d (below_at read_operand d) n bs f (operand_err read_operand d (below_at read_operand d) bs f none (operand_met d (after_white bs) f none h))
     chain_met (no_operand {d} {n} {bs} m after is none) = other_err read_operand d (below_at read_operand d) n bs m after is none
     chain_met (deep_prefix {n} {bs} m after is begins) = elim begins [
-      | inl e ↦ open_err read_operand 0 (below_at read_operand 0) n bs after TooDeep (is ∙ ap (λ m. Some (m, after)) e) (enclosed_err read_operand 0 (below_at read_operand 0) after TooDeep (too_deep whole after))
+      | inl e ↦ open_err read_operand 0 (below_at read_operand 0) n bs after TooDeep (is ∙ ap (λ m. Some (m, after)) e)
+          (enclosed_err read_operand 0 (below_at read_operand 0) after TooDeep (too_deep whole after))
       | inr s ↦ sign_err read_operand 0 (below_at read_operand 0) n bs m s.0 after TooDeep is s.1 (too_deep (chain 1) after)
     ]
     chain_met (in_signed {d} {n} {bs} {f} m u after is s h) = sign_err read_operand (suc d) (below_at read_operand (suc d)) n bs m u after f is s (below_chain read_operand d 1 after ∙ chain_met h)
@@ -175,7 +194,9 @@ module _ (O : Type 0) (IsOperand : Text → Text → O → ℕ → Type 0) (Oper
         r.2.2 ∙ climb_deep read_operand d (below_at read_operand d) n r.2.0 (l, d) r.0 i after (omega (arith, r.2.1)) r.1 within (omega arith)
     chain_met (in_right {d} {n} {bs} {f} i ls l h after within is deep are_tokens fault) =
         let r = left_read (suc d) h n bs i ls l after within is (omega arith) are_tokens in
-        r.2.2 ∙ climb_err read_operand (suc d) (below_at read_operand (suc d)) n r.2.0 (l, h) r.0 i after f (omega (arith, r.2.1)) r.1 within (omega arith) (below_chain read_operand d (level i - 1) after ∙ chain_met fault)
+        r.2.2 ∙ climb_err read_operand (suc d) (below_at read_operand (suc d)) n r.2.0 (l, h) r.0 i after f
+        (omega (arith, r.2.1)) r.1 within (omega arith) (below_chain read_operand d (level i - 1) after ∙ chain_met
+        fault)
 
   left_err : (e : Expr O) (bs : Text) → bs ≢ [] → ended e bs ≡ Err (BadExpression (length bs))
   left_err e [] some = absurd (some refl)

@@ -1,5 +1,7 @@
 -- A fault that is met is the first in the text.
-use Rattle.std.proofs.Common.{◌≡◌, ◌≢◌, ◌<◌, ◌≤◌, ◌-◌, ℕ, zero, suc, max, [], ◌∷◌, ◌++◌, length, Bool, true, false, cond, nat_lt, nat_le, Option, Some, None, Result, Ok, Err, refl, sym, ap, subst, ◌∙◌, arith, inl, inr}
+use Rattle.std.proofs.Common.{◌≡◌, ◌≢◌, ◌<◌, ◌≤◌, ◌-◌, ℕ, zero, suc, max, [], ◌∷◌, ◌++◌, length, Bool, true, false}
+use Rattle.std.proofs.Common.{cond, nat_lt, nat_le, Option, Some, None, Result, Ok, Err, refl, sym, ap, subst, ◌∙◌}
+use Rattle.std.proofs.Common.{arith, inl, inr}
 use Rattle.tclchars.specs.Runs.{Text}
 use Rattle.tclchars.specs.declared.fault.Fault.{Fault}
 use Rattle.tclchars.specs.declared.fault.Fault.TheVariants.{TooDeep, BadExpression}
@@ -13,11 +15,18 @@ use Rattle.tclexpr.specs.Tree.{Expr, operand, unary, choice, mark}
 use Rattle.tclexpr.specs.Grammar.{level, sign_of, IsChain}
 use Rattle.tclexpr.specs.Marks.{after_white, mark_at}
 use Rattle.tclexpr.specs.TokenList.{AreTokens}
-use Rattle.tclexpr.specs.Faults.{NextIsNot, MayFollow, MayFollowOr, BeginsOperand, bad_next, ExprFault, in_condition, deep_choice, in_yes, no_colon, in_no, ChainFault, in_operand, no_operand, deep_prefix, in_signed, in_open, no_close, deep_operator, in_right, ExprTextFault, inside, trailing}
-use Rattle.tclexpr.specs.Reading.{Extent, whole, chain, is_close, is_colon, is_question_mark, is_open, infix_of, after_expected, expect, signed_at, enclosed_at, begun_at, prefix_at, join, next_at, going_at, climb_at, chain_at, branches_at, choosing_at, whole_at, below_at, ended, expr_at}
+use Rattle.tclexpr.specs.Faults.{NextIsNot, MayFollow, MayFollowOr, BeginsOperand, bad_next, ExprFault, in_condition}
+use Rattle.tclexpr.specs.Faults.{deep_choice, in_yes, no_colon, in_no, ChainFault, in_operand, no_operand, deep_prefix}
+use Rattle.tclexpr.specs.Faults.{in_signed, in_open, no_close, deep_operator, in_right, ExprTextFault, inside, trailing}
+use Rattle.tclexpr.specs.Reading.{Extent, whole, chain, is_close, is_colon, is_question_mark, is_open, infix_of}
+use Rattle.tclexpr.specs.Reading.{after_expected, expect, signed_at, enclosed_at, begun_at, prefix_at, join, next_at}
+use Rattle.tclexpr.specs.Reading.{going_at, climb_at, chain_at, branches_at, choosing_at, whole_at, below_at, ended}
+use Rattle.tclexpr.specs.Reading.{expr_at}
 use Rattle.tclexpr.proofs.Results.{found_once, found_none}
 use Rattle.tclexpr.proofs.Rows.{row_join, row_no_longer, after_white_no_longer, mark_shorter}
-use Rattle.tclexpr.proofs.Sound.{SoundBelow, TookChain, TookWhole, TookFront, front_more, prefix_front, prefix_sound, chain_sound, whole_sound, below_sound, chain_weaker, expected_ok, open_is, colon_is, question_is, infix_is, true_false, lt_is, lt_not, le_is}
+use Rattle.tclexpr.proofs.Sound.{SoundBelow, TookChain, TookWhole, TookFront, front_more, prefix_front, prefix_sound}
+use Rattle.tclexpr.proofs.Sound.{chain_sound, whole_sound, below_sound, chain_weaker, expected_ok, open_is, colon_is}
+use Rattle.tclexpr.proofs.Sound.{question_is, infix_is, true_false, lt_is, lt_not, le_is}
 
 no_ok : {A : Type 0} (x : A) (f : Fault) → (let ok : Result A Fault = Ok x in ok) ≡ Err f → ⊥
 no_ok x f h = cc
@@ -26,15 +35,20 @@ one_err : {A : Type 0} (e f : Fault) → (let err : Result A Fault = Err e in er
 one_err e f h = cc
 
 -- a mark that had to come next, did not
-expected_err : (expected : Mark → Bool) (left : ℕ) (found : Option (Mark × Text)) (f : Fault) → after_expected expected left found ≡ Err f → (BadExpression left ≡ f) × ((m : Mark) (rest : Text) → found ≡ Some (m, rest) → expected m ≡ true → ⊥)
+expected_err : (expected : Mark → Bool) (left : ℕ) (found : Option (Mark × Text)) (f : Fault)
+    → after_expected expected left found ≡ Err f → (BadExpression left ≡ f)
+    × ((m : Mark) (rest : Text) → found ≡ Some (m, rest) → expected m ≡ true → ⊥)
 expected_err expected left None f h = (one_err {A = Text} (BadExpression left) f h, λ m rest is t. found_none {A = Mark} None m rest refl is)
 expected_err expected left (Some p) f h = tested (expected p.0) refl h where
-  tested : (t : Bool) → expected p.0 ≡ t → cond t (let ok : Result Text Fault = Ok p.1 in ok) (Err (BadExpression left)) ≡ Err f → (BadExpression left ≡ f) × ((m : Mark) (rest : Text) → Some p ≡ Some (m, rest) → expected m ≡ true → ⊥)
+  tested : (t : Bool) → expected p.0 ≡ t → cond t (let ok : Result Text Fault = Ok p.1 in ok) (Err (BadExpression left))
+      ≡ Err f → (BadExpression left ≡ f) × ((m : Mark) (rest : Text) → Some p ≡ Some (m, rest) → expected m ≡ true → ⊥)
   tested true t h = absurd (no_ok p.1 f h)
   tested false t h = (one_err {A = Text} (BadExpression left) f h, λ m rest is s. true_false (sym s ∙ ap expected (sym (found_once (Some p) p.0 m p.1 rest refl is).0) ∙ t))
 
 -- neither what an expression goes on with nor the mark
-goes_or : (expected : Mark) (test : Mark → Bool) → test expected ≡ true → (rest : Text) → NextIsNot MayFollow rest → ((m : Mark) (after : Text) → mark_at (after_white rest) ≡ Some (m, after) → test m ≡ true → ⊥) → NextIsNot (MayFollowOr expected) rest
+goes_or : (expected : Mark) (test : Mark → Bool) → test expected ≡ true → (rest : Text) → NextIsNot MayFollow rest
+    → ((m : Mark) (after : Text) → mark_at (after_white rest) ≡ Some (m, after) → test m ≡ true → ⊥)
+    → NextIsNot (MayFollowOr expected) rest
 goes_or expected test is rest ends none = λ m after found goes. elim goes [ inl g ↦ ends m after found g | inr e ↦ none m after found (ap test e ∙ is) ]
 
 no_sign : (m : Mark) → is_open m ≡ false → sign_of m ≡ None → BeginsOperand m → ⊥
@@ -60,18 +74,23 @@ module _ (O : Type 0) (IsOperand : Text → Text → O → ℕ → Type 0) (Oper
     signed_below zero n faulty bs m u after f is s h = subst (ChainFault O IsOperand OperandFault zero n bs) (faulty (chain 1) after f h) (deep_prefix m after is (inr (u, s)))
     signed_below (suc d) n faulty bs m u after f is s h = in_signed m u after is s (faulty (chain 1) after f h)
 
-    signed_faulty : (d n : ℕ) → FaultBelow d below → (bs : Text) (m : Mark) (after : Text) (f : Fault) → mark_at (after_white bs) ≡ Some (m, after) → is_open m ≡ false → (s : Option UnaryOperator) → sign_of m ≡ s
+    signed_faulty : (d n : ℕ) → FaultBelow d below → (bs : Text) (m : Mark) (after : Text) (f : Fault)
+        → mark_at (after_white bs) ≡ Some (m, after) → is_open m ≡ false → (s : Option UnaryOperator) → sign_of m ≡ s
         → signed_at read_operand below (length (after_white bs)) after s ≡ Err f → ChainFault O IsOperand OperandFault d n bs f
     signed_faulty d n faulty bs m after f is shut None s h =
         subst (ChainFault O IsOperand OperandFault d n bs) (one_err {A = (Expr O × ℕ) × Text} (bad_next bs) f h) (no_operand m after is (no_sign m shut s))
     signed_faulty d n faulty bs m after f is shut (Some u) s h =
         signed_below d n faulty bs m u after f is s (read_map_err (λ (x : Expr O × ℕ). let made : Expr O × ℕ = (unary u x.0, suc x.1) in made) (below (chain 1) after) f h)
 
-    enclosed_below : (d n : ℕ) → FaultBelow d below → (bs after : Text) (f : Fault) → mark_at (after_white bs) ≡ Some (marks.Open, after) → below whole after ≡ Err f → ChainFault O IsOperand OperandFault d n bs f
+    enclosed_below : (d n : ℕ) → FaultBelow d below → (bs after : Text) (f : Fault)
+        → mark_at (after_white bs) ≡ Some (marks.Open, after) → below whole after ≡ Err f
+        → ChainFault O IsOperand OperandFault d n bs f
     enclosed_below zero n faulty bs after f is h = subst (ChainFault O IsOperand OperandFault zero n bs) (faulty whole after f h) (deep_prefix marks.Open after is (inl refl))
     enclosed_below (suc d) n faulty bs after f is h = in_open after is (faulty whole after f h)
 
-    enclosed_open : (d n : ℕ) (bs after : Text) (x : Expr O × ℕ) (rest : Text) (f : Fault) → mark_at (after_white bs) ≡ Some (marks.Open, after) → TookWhole O IsOperand d after x rest → expect is_close rest ≡ Err f
+    enclosed_open : (d n : ℕ) (bs after : Text) (x : Expr O × ℕ) (rest : Text) (f : Fault)
+        → mark_at (after_white bs) ≡ Some (marks.Open, after) → TookWhole O IsOperand d after x rest
+        → expect is_close rest ≡ Err f
         → ChainFault O IsOperand OperandFault d n bs f
     enclosed_open zero n bs after x rest f is t h = absurd (omega (arith, t.deep))
     enclosed_open (suc d) n bs after x rest f is t h =
@@ -80,7 +99,8 @@ module _ (O : Type 0) (IsOperand : Text → Text → O → ℕ → Type 0) (Oper
         (no_close t.tokens x.0 x.1 rest t.is (omega (arith, t.deep)) (after, is, t.are_tokens) (goes_or marks.Close is_close refl rest t.ends e.1))
 
     module _ (d : ℕ) (sound : SoundBelow O IsOperand d below) (faulty : FaultBelow d below) where
-      enclosed_faulty : (n : ℕ) (bs after : Text) (f : Fault) → mark_at (after_white bs) ≡ Some (marks.Open, after) → enclosed_at read_operand below after ≡ Err f → ChainFault O IsOperand OperandFault d n bs f
+      enclosed_faulty : (n : ℕ) (bs after : Text) (f : Fault) → mark_at (after_white bs) ≡ Some (marks.Open, after)
+          → enclosed_at read_operand below after ≡ Err f → ChainFault O IsOperand OperandFault d n bs f
       enclosed_faulty n bs after f is h =
           elim (bind_err (below whole after) (λ x. expect is_close x.1 >>= (λ after. Ok ((x.0.0, suc x.0.1), after))) f h) [
             | inl e ↦ enclosed_below d n faulty bs after f is e
@@ -95,8 +115,11 @@ module _ (O : Type 0) (IsOperand : Text → Text → O → ℕ → Type 0) (Oper
       marked_faulty n bs m after f is true t h = enclosed_faulty n bs after f (is ∙ ap (λ m. Some (m, after)) (open_is m t)) h
       marked_faulty n bs m after f is false t h = signed_faulty d n faulty bs m after f is t (sign_of m) refl h
 
-      begun_faulty : (n : ℕ) (bs : Text) (f : Fault) (found : Option (Mark × Text)) → mark_at (after_white bs) ≡ found → begun_at read_operand d below (after_white bs) found ≡ Err f → ChainFault O IsOperand OperandFault d n bs f
-      begun_faulty n bs f None is h = in_operand is (operand_faulty d (after_white bs) f is (read_map_err (λ (o : O × ℕ). let made : Expr O × ℕ = (operand o.0, o.1) in made) (read_operand d (after_white bs)) f h))
+      begun_faulty : (n : ℕ) (bs : Text) (f : Fault) (found : Option (Mark × Text)) → mark_at (after_white bs) ≡ found
+          → begun_at read_operand d below (after_white bs) found ≡ Err f → ChainFault O IsOperand OperandFault d n bs f
+      begun_faulty n bs f None is h = in_operand is (operand_faulty d (after_white bs) f is
+          (read_map_err (λ (o : O × ℕ). let made : Expr O × ℕ = (operand o.0, o.1) in made)
+          (read_operand d (after_white bs)) f h))
       begun_faulty n bs f (Some p) is h = marked_faulty n bs p.0 p.1 f is (is_open p.0) refl h
 
       prefix_faulty : (n : ℕ) (bs : Text) (f : Fault) → prefix_at read_operand d below bs ≡ Err f → ChainFault O IsOperand OperandFault d n bs f
@@ -113,7 +136,9 @@ module _ (O : Type 0) (IsOperand : Text → Text → O → ℕ → Type 0) (Oper
           deep_operator i t.tokens x.0 after within (subst (λ h. IsChain O h (level i) t.tokens x.0) all (chain_weaker t.is (level i) (t.follows i after is)))
           (row_join O IsOperand t.tokens (mark (marks.Infix i) ∷ []) bs rest after t.are_tokens (after, is, refl))
 
-      right_here : (k n : ℕ) (bs : Text) (x : Expr O × ℕ) (rest : Text) → k ≡ d → Front n bs x rest → (i : Infix) (after : Text) → mark_at (after_white rest) ≡ Some (marks.Infix i, after) → level i ≤ n → x.1 < k → (f : Fault)
+      right_here : (k n : ℕ) (bs : Text) (x : Expr O × ℕ) (rest : Text) → k ≡ d → Front n bs x rest
+          → (i : Infix) (after : Text) → mark_at (after_white rest) ≡ Some (marks.Infix i, after) → level i ≤ n
+          → x.1 < k → (f : Fault)
           → BelowFault k (chain (level i - 1)) after f → ChainFault O IsOperand OperandFault k n bs f
       right_here zero n bs x rest same t i after is within less f h = absurd (omega arith)
       right_here (suc k) n bs x rest same t i after is within less f h =
@@ -124,7 +149,8 @@ module _ (O : Type 0) (IsOperand : Text → Text → O → ℕ → Type 0) (Oper
       abbrev Rests : ℕ → Text → ℕ → (Expr O × ℕ → Text → Read (Expr O × ℕ)) → Type 0
       Rests n bs turns more = (x : Expr O × ℕ) (rest : Text) → Front n bs x rest → length rest < turns → (f : Fault) → more x rest ≡ Err f → ChainFault O IsOperand OperandFault d n bs f
 
-      operator_faulty : (n : ℕ) (bs : Text) (turns : ℕ) (more : Expr O × ℕ → Text → Read (Expr O × ℕ)) → Rests n bs turns more → (x : Expr O × ℕ) (rest : Text) → Front n bs x rest → length rest ≤ turns
+      operator_faulty : (n : ℕ) (bs : Text) (turns : ℕ) (more : Expr O × ℕ → Text → Read (Expr O × ℕ))
+          → Rests n bs turns more → (x : Expr O × ℕ) (rest : Text) → Front n bs x rest → length rest ≤ turns
           → (i : Infix) (after : Text) → mark_at (after_white rest) ≡ Some (marks.Infix i, after) → level i ≤ n → (f : Fault) (s : Bool) → nat_lt x.1 d ≡ s
           → cond s (below (chain (level i - 1)) after >>= (λ y. more (join i x y.0) y.1)) (Err TooDeep) ≡ Err f → ChainFault O IsOperand OperandFault d n bs f
       operator_faulty n bs turns more all x rest t enough i after is within f true s h =
@@ -164,16 +190,22 @@ module _ (O : Type 0) (IsOperand : Text → Text → O → ℕ → Type 0) (Oper
           elim (bind_err (prefix_at read_operand d below bs) (λ x. climb_at read_operand d below n (suc (length x.1)) x.0 x.1) f h) [
             | inl e ↦ prefix_faulty n bs f e
             | inr y ↦ climb_faulty n bs (suc (length y.0.1)) y.0.0 y.0.1
-                (prefix_front O IsOperand read_operand operand_sound d below sound n bs y.0.0 y.0.1 (prefix_sound O IsOperand read_operand operand_sound d below sound bs y.0.0 y.0.1 y.1)) (omega arith) f y.2
+                (prefix_front O IsOperand read_operand operand_sound d below sound n bs y.0.0 y.0.1
+                (prefix_sound O IsOperand read_operand operand_sound d below sound bs y.0.0 y.0.1 y.1))
+                (omega arith) f y.2
           ]
 
       abbrev First : Text → Expr O × ℕ → Text → Type 0
       First bs x rest = TookChain O IsOperand (suc d) 13 bs x rest
 
-      asked : (bs : Text) (x : Expr O × ℕ) (rest : Text) (t : First bs x rest) (after : Text) → mark_at (after_white rest) ≡ Some (marks.QuestionMark, after) → AreTokens O IsOperand bs after (t.tokens ++ mark marks.QuestionMark ∷ [])
+      asked : (bs : Text) (x : Expr O × ℕ) (rest : Text) (t : First bs x rest) (after : Text)
+          → mark_at (after_white rest) ≡ Some (marks.QuestionMark, after)
+          → AreTokens O IsOperand bs after (t.tokens ++ mark marks.QuestionMark ∷ [])
       asked bs x rest t after is = row_join O IsOperand t.tokens (mark marks.QuestionMark ∷ []) bs rest after t.are_tokens (after, is, refl)
 
-      deep_question : (bs : Text) (x : Expr O × ℕ) (rest : Text) → First bs x rest → (after : Text) → mark_at (after_white rest) ≡ Some (marks.QuestionMark, after) → d ≤ x.1 → ExprFault O IsOperand OperandFault d bs TooDeep
+      deep_question : (bs : Text) (x : Expr O × ℕ) (rest : Text) → First bs x rest → (after : Text)
+          → mark_at (after_white rest) ≡ Some (marks.QuestionMark, after) → d ≤ x.1
+          → ExprFault O IsOperand OperandFault d bs TooDeep
       deep_question bs x rest t after is tall =
           let all : x.1 ≡ d = omega (arith, t.deep) in
           deep_choice t.tokens x.0 after (subst (λ h. IsChain O h 13 t.tokens x.0) all t.is) (asked bs x rest t after is)
@@ -193,12 +225,15 @@ module _ (O : Type 0) (IsOperand : Text → Text → O → ℕ → Type 0) (Oper
           (row_join O IsOperand t.tokens (mark marks.QuestionMark ∷ r.tokens) bs rest end t.are_tokens (after, is, r.are_tokens)) (goes_or marks.Colon is_colon refl end r.ends e.1))
 
       no_here : (k : ℕ) (bs : Text) (x : Expr O × ℕ) (rest : Text) → k ≡ d → First bs x rest → (after : Text) → mark_at (after_white rest) ≡ Some (marks.QuestionMark, after) → x.1 < k
-          → (y : Expr O × ℕ) (end : Text) → TookWhole O IsOperand k after y end → (last : Text) → expect is_colon end ≡ Ok last → (f : Fault) → BelowFault k whole last f → ExprFault O IsOperand OperandFault k bs f
+          → (y : Expr O × ℕ) (end : Text) → TookWhole O IsOperand k after y end → (last : Text)
+          → expect is_colon end ≡ Ok last → (f : Fault) → BelowFault k whole last f
+          → ExprFault O IsOperand OperandFault k bs f
       no_here zero bs x rest same t after is less y end r last colon f h = absurd (omega arith)
       no_here (suc k) bs x rest same t after is less y end r last colon f h =
           let c = expected_ok is_colon (length (after_white end)) (mark_at (after_white end)) last colon in
           let parts : mark_at (after_white end) ≡ Some (marks.Colon, last) = c.1 ∙ ap (λ m. Some (m, last)) (colon_is c.0 c.2) in
-          let following : AreTokens O IsOperand after last (r.tokens ++ mark marks.Colon ∷ []) = row_join O IsOperand r.tokens (mark marks.Colon ∷ []) after end last r.are_tokens (last, parts, refl) in
+          let following : AreTokens O IsOperand after last (r.tokens ++ mark marks.Colon ∷ []) = row_join O IsOperand
+          r.tokens (mark marks.Colon ∷ []) after end last r.are_tokens (last, parts, refl) in
           in_no t.tokens x.0 x.1 r.tokens y.0 y.1 last t.is (omega arith) r.is (omega (arith, r.deep))
           (row_join O IsOperand t.tokens (mark marks.QuestionMark ∷ (r.tokens ++ mark marks.Colon ∷ [])) bs rest last t.are_tokens (after, is, following)) h
 
@@ -209,10 +244,12 @@ module _ (O : Type 0) (IsOperand : Text → Text → O → ℕ → Type 0) (Oper
             | inl e ↦ yes_here d bs x rest refl t after is less f (faulty whole after f e)
             | inr y ↦ elim (bind_err (expect is_colon y.0.1) (λ after. below whole after >>= (λ z. Ok ((choice x.0 y.0.0.0 z.0.0, suc (max x.1 (max y.0.0.1 z.0.1))), z.1))) f y.2) [
               | inl e ↦ colon_here d bs x rest refl t after is less y.0.0 y.0.1 (sound whole after y.0.0 y.0.1 y.1) f e
-              | inr k ↦ elim (bind_err (below whole k.0) (λ (z : (Expr O × ℕ) × Text). let ok : Result ((Expr O × ℕ) × Text) Fault = Ok ((choice x.0 y.0.0.0 z.0.0, suc (max x.1 (max y.0.0.1 z.0.1))), z.1) in ok) f k.2) [
-                | inl e ↦ no_here d bs x rest refl t after is less y.0.0 y.0.1 (sound whole after y.0.0 y.0.1 y.1) k.0 k.1 f (faulty whole k.0 f e)
-                | inr z ↦ absurd (no_ok {A = (Expr O × ℕ) × Text} ((choice x.0 y.0.0.0 z.0.0.0, suc (max x.1 (max y.0.0.1 z.0.0.1))), z.0.1) f z.2)
-              ]
+              | inr k ↦ elim (bind_err (below whole k.0) (λ (z : (Expr O × ℕ) × Text). let ok : Result
+                  ((Expr O × ℕ) × Text) Fault = Ok ((choice x.0 y.0.0.0 z.0.0, suc (max x.1 (max y.0.0.1 z.0.1))), z.1)
+                  in ok) f k.2) [
+                    | inl e ↦ no_here d bs x rest refl t after is less y.0.0 y.0.1 (sound whole after y.0.0 y.0.1 y.1) k.0 k.1 f (faulty whole k.0 f e)
+                    | inr z ↦ absurd (no_ok {A = (Expr O × ℕ) × Text} ((choice x.0 y.0.0.0 z.0.0.0, suc (max x.1 (max y.0.0.1 z.0.0.1))), z.0.1) f z.2)
+                  ]
             ]
           ]
 
@@ -220,11 +257,15 @@ module _ (O : Type 0) (IsOperand : Text → Text → O → ℕ → Type 0) (Oper
           → choosing_at read_operand d below x rest found ≡ Err f → ExprFault O IsOperand OperandFault d bs f
       choosing_faulty bs x rest t f None is h = absurd (no_ok {A = (Expr O × ℕ) × Text} (x, rest) f h)
       choosing_faulty bs x rest t f (Some p) is h = by_question (is_question_mark p.0) refl h where
-        by_depth : mark_at (after_white rest) ≡ Some (marks.QuestionMark, p.1) → (s : Bool) → nat_lt x.1 d ≡ s → cond s (branches_at read_operand below x p.1) (Err TooDeep) ≡ Err f → ExprFault O IsOperand OperandFault d bs f
+        by_depth : mark_at (after_white rest) ≡ Some (marks.QuestionMark, p.1) → (s : Bool) → nat_lt x.1 d ≡ s
+            → cond s (branches_at read_operand below x p.1) (Err TooDeep) ≡ Err f
+            → ExprFault O IsOperand OperandFault d bs f
         by_depth is true s h = branches_faulty bs x rest t p.1 is (lt_is x.1 d s) f h
         by_depth is false s h = subst (ExprFault O IsOperand OperandFault d bs) (one_err {A = (Expr O × ℕ) × Text} TooDeep f h) (deep_question bs x rest t p.1 is (lt_not x.1 d s))
 
-        by_question : (s : Bool) → is_question_mark p.0 ≡ s → cond s (cond (nat_lt x.1 d) (branches_at read_operand below x p.1) (Err TooDeep)) (Ok (x, rest)) ≡ Err f → ExprFault O IsOperand OperandFault d bs f
+        by_question : (s : Bool) → is_question_mark p.0 ≡ s
+            → cond s (cond (nat_lt x.1 d) (branches_at read_operand below x p.1) (Err TooDeep)) (Ok (x, rest)) ≡ Err f
+            → ExprFault O IsOperand OperandFault d bs f
         by_question true s h = by_depth (is ∙ ap (λ m. Some (m, p.1)) (question_is p.0 s)) (nat_lt x.1 d) refl h
         by_question false s h = absurd (no_ok {A = (Expr O × ℕ) × Text} (x, rest) f h)
 

@@ -10,7 +10,8 @@ use Rattle.tclscript.specs.declared.tree.Word as rust_word
 use Rattle.tclscript.specs.declared.tree.Command as rust_command
 use Rattle.tclscript.specs.declared.tree.Script as rust_script
 use Rattle.tclexpr.specs.View.{words_view}
-use Rattle.tclscript.specs.Tree.{Command, Word, Part, nesting, words_nesting, word_nesting, parts_nesting, part_nesting, commands_of, words_of, parts_of}
+use Rattle.tclscript.specs.Tree.{Command, Word, Part, nesting, words_nesting, word_nesting, parts_nesting, part_nesting}
+use Rattle.tclscript.specs.Tree.{commands_of, words_of, parts_of}
 
 -- the larger of two, as the code's method has it
 pub max_of : (a b : ℕ) → ord_max nat_cmp a b ≡ max a b
@@ -42,14 +43,26 @@ tallest_more limit height h n m k e x y less =
     omega arith
 
 module _ {P : Type 0} (shown : P → Text) where
-  pub parts_step : (xs ys : List (rust_part.Part P)) (x : rust_part.Part P) → ys ≡ xs ++ x ∷ [] → parts_nesting (parts_view shown ys) ≡ max (parts_nesting (parts_view shown xs)) (part_nesting (part_view shown x))
-  parts_step xs ys x e = ap (λ zs. parts_nesting (parts_view shown zs)) e ∙ ap (λ ps. parts_nesting (parts_of ps)) (map_push (part_view shown) xs x) ∙ parts_more (map (part_view shown) xs) (part_view shown x)
+  pub parts_step : (xs ys : List (rust_part.Part P)) (x : rust_part.Part P) → ys ≡ xs ++ x ∷ []
+      → parts_nesting (parts_view shown ys) ≡ max (parts_nesting (parts_view shown xs))
+      (part_nesting (part_view shown x))
+  parts_step xs ys x e = ap (λ zs. parts_nesting (parts_view shown zs)) e
+      ∙ ap (λ ps. parts_nesting (parts_of ps)) (map_push (part_view shown) xs x)
+      ∙ parts_more (map (part_view shown) xs) (part_view shown x)
 
-  pub words_step : (xs ys : List (rust_word.Word P)) (x : rust_word.Word P) → ys ≡ xs ++ x ∷ [] → words_nesting (words_view shown ys) ≡ max (words_nesting (words_view shown xs)) (word_nesting (word_view shown x))
-  words_step xs ys x e = ap (λ zs. words_nesting (words_view shown zs)) e ∙ ap (λ ps. words_nesting (words_of ps)) (map_push (word_view shown) xs x) ∙ words_more (map (word_view shown) xs) (word_view shown x)
+  pub words_step : (xs ys : List (rust_word.Word P)) (x : rust_word.Word P) → ys ≡ xs ++ x ∷ []
+      → words_nesting (words_view shown ys) ≡ max (words_nesting (words_view shown xs))
+      (word_nesting (word_view shown x))
+  words_step xs ys x e = ap (λ zs. words_nesting (words_view shown zs)) e
+      ∙ ap (λ ps. words_nesting (words_of ps)) (map_push (word_view shown) xs x)
+      ∙ words_more (map (word_view shown) xs) (word_view shown x)
 
-  pub commands_step : (xs ys : List (rust_command.Command P)) (x : rust_command.Command P) → ys ≡ xs ++ x ∷ [] → nesting (commands_of (map (command_view shown) ys)) ≡ max (nesting (commands_of (map (command_view shown) xs))) (words_nesting (command_view shown x).words)
-  commands_step xs ys x e = ap (λ zs. nesting (commands_of (map (command_view shown) zs))) e ∙ ap (λ ps. nesting (commands_of ps)) (map_push (command_view shown) xs x) ∙ commands_more (map (command_view shown) xs) (command_view shown x)
+  pub commands_step : (xs ys : List (rust_command.Command P)) (x : rust_command.Command P) → ys ≡ xs ++ x ∷ []
+      → nesting (commands_of (map (command_view shown) ys)) ≡ max (nesting (commands_of (map (command_view shown) xs)))
+      (words_nesting (command_view shown x).words)
+  commands_step xs ys x e = ap (λ zs. nesting (commands_of (map (command_view shown) zs))) e
+      ∙ ap (λ ps. nesting (commands_of ps)) (map_push (command_view shown) xs x)
+      ∙ commands_more (map (command_view shown) xs) (command_view shown x)
 
   pub words_of_command : (c : rust_command.Command P) → (command_view shown c).words ≡ words_view shown (rust_command.out-Command P c).words.items
   words_of_command c = search (rules, rust_command.the_lemmas)

@@ -1,5 +1,7 @@
 -- Where no operand begins, the fault that is met is the one that is there; and an operand that is there is read.
-use Rattle.std.proofs.Common.{◌≡◌, ℕ, zero, suc, ◌≤◌, [], ◌∷◌, ◌++◌, length, take, Bool, true, false, cond, not, ◌||◌, ◌&&◌, ◌==◌, Option, Some, None, Result, Ok, Err, refl, sym, ap, ap₂, subst, ◌∙◌, arith, append_assoc, inl, inr}
+use Rattle.std.proofs.Common.{◌≡◌, ℕ, zero, suc, ◌≤◌, [], ◌∷◌, ◌++◌, length, take, Bool, true, false, cond, not, ◌||◌}
+use Rattle.std.proofs.Common.{◌&&◌, ◌==◌, Option, Some, None, Result, Ok, Err, refl, sym, ap, ap₂, subst, ◌∙◌, arith}
+use Rattle.std.proofs.Common.{append_assoc, inl, inr}
 use Rattle.std.proofs.lemmas.Bool.Decides.{nat_tests}
 use Rattle.tclchars.specs.Runs.{Text, take_while, drop_while, begins}
 use Rattle.tclchars.specs.Bytes.{AllPass, MayBegin, DoesBegin}
@@ -28,10 +30,15 @@ use Rattle.tclscript.proofs.Whole as script_whole
 use Rattle.tclscript.proofs.Whole.{inner_exact}
 use Rattle.tclscript.proofs.Marks.{Without, run_taken, front_run, back_run, true_false}
 use Rattle.tclexpr.specs.declared.numbers.Digits.TheVariants.{Decimal}
-use Rattle.tclexpr.specs.Operands.{Operand, number, word, variable, indexed, bracket, quoted, braced, is_digit, begins_digit, announced, after_announced, after_based, begins_point, after_exponent, after_fraction, after_digits, after_decimal, first_of_both, after_number, is_truth, operand_of, substituted, quoted_at, operand_in_braces, word_at, numeric, operand_at}
-use Rattle.tclexpr.specs.OperandGrammar.{IsSubstitution, IsTruthWord, IsOperand, is_opening, OperandFault, in_substitution, lone_dollar, open_brace, in_quotes, open_quote, no_operand}
+use Rattle.tclexpr.specs.Operands.{Operand, number, word, variable, indexed, bracket, quoted, braced, is_digit}
+use Rattle.tclexpr.specs.Operands.{begins_digit, announced, after_announced, after_based, begins_point, after_exponent}
+use Rattle.tclexpr.specs.Operands.{after_fraction, after_digits, after_decimal, first_of_both, after_number, is_truth}
+use Rattle.tclexpr.specs.Operands.{operand_of, substituted, quoted_at, operand_in_braces, word_at, numeric, operand_at}
+use Rattle.tclexpr.specs.OperandGrammar.{IsSubstitution, IsTruthWord, IsOperand, is_opening, OperandFault}
+use Rattle.tclexpr.specs.OperandGrammar.{in_substitution, lone_dollar, open_brace, in_quotes, open_quote, no_operand}
 use Rattle.tclexpr.proofs.OperandSteps.{word-read, word-false, word-called}
-use Rattle.tclexpr.proofs.OperandSound.{operand_dollar, operand_bracket, operand_quote, operand_brace, operand_other, Opening, dollar, square, quote, brace, other, opening}
+use Rattle.tclexpr.proofs.OperandSound.{operand_dollar, operand_bracket, operand_quote, operand_brace, operand_other}
+use Rattle.tclexpr.proofs.OperandSound.{Opening, dollar, square, quote, brace, other, opening}
 
 abbrev script_run : ℕ → Bool
 script_run = in_class (class_of InQuotes)
@@ -42,12 +49,16 @@ part_read : (d : ℕ) (p : Part) (t rest : Text) → IsPart InQuotes p t rest �
 part_read d p t rest is deep = part_again d (inner_at d) (inner_exact d) InQuotes p t rest (is, deep)
 
 -- a part that begins as a variable or a script does, read as an operand
-from_dollar : (d : ℕ) (xs rest : Text) (p : Part) (o : Operand × ℕ) → part_at InQuotes (inner_at d) (36 ∷ xs) ≡ Ok (p, rest) → operand_of (suc (length xs)) p ≡ Ok o → operand_at d (36 ∷ xs) ≡ Ok (o, rest)
+from_dollar : (d : ℕ) (xs rest : Text) (p : Part) (o : Operand × ℕ)
+    → part_at InQuotes (inner_at d) (36 ∷ xs) ≡ Ok (p, rest) → operand_of (suc (length xs)) p ≡ Ok o
+    → operand_at d (36 ∷ xs) ≡ Ok (o, rest)
 from_dollar d xs rest p o h k =
     operand_dollar d xs ∙ ap (λ r. r >>= substituted (suc (length xs))) (sym (at_dollar d (inner_at d) (inner_exact d) InQuotes xs) ∙ h)
     ∙ ap (λ (o : Result (Operand × ℕ) Fault). o >>= (λ o. let found : Read (Operand × ℕ) = Ok (o, rest) in found)) k
 
-from_square : (d : ℕ) (xs rest : Text) (p : Part) (o : Operand × ℕ) → part_at InQuotes (inner_at d) (91 ∷ xs) ≡ Ok (p, rest) → operand_of (suc (length xs)) p ≡ Ok o → operand_at d (91 ∷ xs) ≡ Ok (o, rest)
+from_square : (d : ℕ) (xs rest : Text) (p : Part) (o : Operand × ℕ)
+    → part_at InQuotes (inner_at d) (91 ∷ xs) ≡ Ok (p, rest) → operand_of (suc (length xs)) p ≡ Ok o
+    → operand_at d (91 ∷ xs) ≡ Ok (o, rest)
 from_square d xs rest p o h k =
     operand_bracket d xs ∙ ap (λ r. r >>= substituted (suc (length xs))) (sym (at_bracket d (inner_at d) (inner_exact d) InQuotes xs) ∙ h)
     ∙ ap (λ (o : Result (Operand × ℕ) Fault). o >>= (λ o. let found : Read (Operand × ℕ) = Ok (o, rest) in found)) k
@@ -61,21 +72,25 @@ variable_again : (d : ℕ) (bs rest name : Text) (k : ℕ) → IsSubstitution bs
 variable_again d bs rest name k h deep =
     let first = dollar_first name h.0 rest h.2 in
     let at : h.0 ++ rest ≡ 36 ∷ (first.0 ++ rest) = ap (λ t. t ++ rest) first.1 in
-    let read : part_at InQuotes (inner_at d) (36 ∷ (first.0 ++ rest)) ≡ Ok (tree.variable name, rest) = ap (part_at InQuotes (inner_at d)) (sym at) ∙ part_read d (tree.variable name) h.0 rest h.2 (omega arith) in
+    let read : part_at InQuotes (inner_at d) (36 ∷ (first.0 ++ rest)) ≡ Ok (tree.variable name, rest) = ap
+    (part_at InQuotes (inner_at d)) (sym at) ∙ part_read d (tree.variable name) h.0 rest h.2 (omega arith) in
     ap (operand_at d) (h.1 ∙ at) ∙ from_dollar d (first.0 ++ rest) rest (tree.variable name) (variable name, 0) read refl ∙ ap (λ n. Ok ((variable name, n), rest)) (sym h.3)
 
 indexed_again : (d : ℕ) (bs rest name : Text) (ps : Parts) (k : ℕ) → IsSubstitution bs rest (tree.indexed name ps) k → k ≤ d → operand_at d bs ≡ Ok ((indexed name ps, k), rest)
 indexed_again d bs rest name ps k h deep =
     let ys = name ++ 40 ∷ (h.2.0 ++ 41 ∷ []) in
     let at : h.0 ++ rest ≡ 36 ∷ (ys ++ rest) = ap (λ t. t ++ rest) h.2.1 in
-    let read : part_at InQuotes (inner_at d) (36 ∷ (ys ++ rest)) ≡ Ok (tree.indexed name ps, rest) = ap (part_at InQuotes (inner_at d)) (sym at) ∙ part_read d (tree.indexed name ps) h.0 rest h.2 (omega (arith, h.3)) in
+    let read : part_at InQuotes (inner_at d) (36 ∷ (ys ++ rest)) ≡ Ok (tree.indexed name ps, rest) = ap
+    (part_at InQuotes (inner_at d)) (sym at) ∙ part_read d (tree.indexed name ps) h.0 rest h.2 (omega (arith, h.3))
+    in
     ap (operand_at d) (h.1 ∙ at) ∙ from_dollar d (ys ++ rest) rest (tree.indexed name ps) (indexed name ps, suc (parts_nesting ps)) read refl ∙ ap (λ n. Ok ((indexed name ps, n), rest)) (sym h.3)
 
 bracket_again : (d : ℕ) (bs rest : Text) (s : tree.Commands) (k : ℕ) → IsSubstitution bs rest (tree.bracket s) k → k ≤ d → operand_at d bs ≡ Ok ((bracket s, k), rest)
 bracket_again d bs rest s k h deep =
     let ys = h.2.0 ++ 93 ∷ [] in
     let at : h.0 ++ rest ≡ 91 ∷ (ys ++ rest) = ap (λ t. t ++ rest) h.2.1 in
-    let read : part_at InQuotes (inner_at d) (91 ∷ (ys ++ rest)) ≡ Ok (tree.bracket s, rest) = ap (part_at InQuotes (inner_at d)) (sym at) ∙ part_read d (tree.bracket s) h.0 rest h.2 (omega (arith, h.3)) in
+    let read : part_at InQuotes (inner_at d) (91 ∷ (ys ++ rest)) ≡ Ok (tree.bracket s, rest) = ap
+    (part_at InQuotes (inner_at d)) (sym at) ∙ part_read d (tree.bracket s) h.0 rest h.2 (omega (arith, h.3)) in
     ap (operand_at d) (h.1 ∙ at) ∙ from_square d (ys ++ rest) rest (tree.bracket s) (bracket s, suc (nesting s)) read refl ∙ ap (λ n. Ok ((bracket s, n), rest)) (sym h.3)
 
 quoted_again : (d : ℕ) (bs rest : Text) (ps : Parts) (k : ℕ) → IsOperand bs rest (quoted ps) k → k ≤ d → operand_at d bs ≡ Ok ((quoted ps, k), rest)
@@ -125,7 +140,9 @@ number_first b bs rest h = both (after_based (b ∷ bs)) (after_decimal (b ∷ b
 
   decimal : (b : ℕ) (bs r : Text) → after_decimal (b ∷ bs) ≡ Some r → (is_digit Decimal b || b == 46) ≡ true
   decimal b bs r h = go (begins_digit Decimal (b ∷ bs) || begins_point (b ∷ bs)) refl h where
-    go : (t : Bool) → (begins_digit Decimal (b ∷ bs) || begins_point (b ∷ bs)) ≡ t → cond t (Some (after_exponent (after_fraction (after_digits Decimal (b ∷ bs))))) None ≡ Some r → (is_digit Decimal b || b == 46) ≡ true
+    go : (t : Bool) → (begins_digit Decimal (b ∷ bs) || begins_point (b ∷ bs)) ≡ t
+        → cond t (Some (after_exponent (after_fraction (after_digits Decimal (b ∷ bs))))) None ≡ Some r
+        → (is_digit Decimal b || b == 46) ≡ true
     go true t h = decimal_byte b (begins_digit Decimal bs) t
     go false t h = cc
 
@@ -232,7 +249,8 @@ literal_fault d xs rest t (b ∷ taken) f e (same, is) k = by_kind is where
       subst (OperandFault d (36 ∷ xs)) k (lone_dollar (refl, subst (IsLongestName []) (sym all) alone.1, subst (MayBegin (λ b. not (b == 40 || b == 123))) (sym all) alone.2))
   by_kind (inr (inr last)) = absurd (apart 36 92 taken [] (ap (λ c. c ∷ taken) (sym first) ∙ same ∙ last.0) (λ e. omega arith))
 
-dollar_substituted : (d : ℕ) (xs rest taken : Text) (p : Part) (f : Fault) → 36 ∷ xs ≡ taken ++ rest → IsPart InQuotes p taken rest → substituted (suc (length xs)) (p, rest) ≡ Err f → OperandFault d (36 ∷ xs) f
+dollar_substituted : (d : ℕ) (xs rest taken : Text) (p : Part) (f : Fault) → 36 ∷ xs ≡ taken ++ rest
+    → IsPart InQuotes p taken rest → substituted (suc (length xs)) (p, rest) ≡ Err f → OperandFault d (36 ∷ xs) f
 dollar_substituted d xs rest taken (tree.literal t) f e is h = literal_fault d xs rest t taken f e is (err_one {A = (Operand × ℕ) × Text} (BadExpression (suc (length xs))) f h)
 dollar_substituted d xs rest taken (tree.braced t) f e is h = absurd is
 dollar_substituted d xs rest taken (tree.backslash v) f e is h = absurd (apart 36 92 xs (is.0 ++ rest) (e ∙ ap (λ ys. ys ++ rest) is.1) (λ e. omega arith))
@@ -248,7 +266,8 @@ square_literal xs rest t taken e (same, inl run) = go taken e (subst (DoesBegin 
 square_literal xs rest t taken e (same, inr (inl alone)) = apart 91 36 xs rest (e ∙ ap (λ ys. ys ++ rest) (same ∙ alone.0)) (λ e. omega arith)
 square_literal xs rest t taken e (same, inr (inr last)) = apart 91 92 xs rest (e ∙ ap (λ ys. ys ++ rest) (same ∙ last.0)) (λ e. omega arith)
 
-square_substituted : (d : ℕ) (xs rest taken : Text) (p : Part) (f : Fault) → 91 ∷ xs ≡ taken ++ rest → IsPart InQuotes p taken rest → substituted (suc (length xs)) (p, rest) ≡ Err f → OperandFault d (91 ∷ xs) f
+square_substituted : (d : ℕ) (xs rest taken : Text) (p : Part) (f : Fault) → 91 ∷ xs ≡ taken ++ rest
+    → IsPart InQuotes p taken rest → substituted (suc (length xs)) (p, rest) ≡ Err f → OperandFault d (91 ∷ xs) f
 square_substituted d xs rest taken (tree.literal t) f e is h = absurd (square_literal xs rest t taken e is)
 square_substituted d xs rest taken (tree.braced t) f e is h = absurd is
 square_substituted d xs rest taken (tree.backslash v) f e is h = absurd (apart 91 92 xs (is.0 ++ rest) (e ∙ ap (λ ys. ys ++ rest) is.1) (λ e. omega arith))
@@ -279,7 +298,9 @@ square_faulty d xs f h =
 quote_faulty : (d : ℕ) (xs : Text) (f : Fault) → quoted_at d xs ≡ Err f → OperandFault d (34 ∷ xs) f
 unfolding quoted_at
 quote_faulty d xs f h =
-    elim ((quotes_exact d (inner_at d) (inner_exact d)).faulty xs f tt (read_map_err (λ (ps : Parts). let made : Operand × ℕ = (quoted ps, parts_nesting ps) in made) (quotes_at (inner_at d) xs) f h)) [
+    elim ((quotes_exact d (inner_at d) (inner_exact d)).faulty xs f tt
+    (read_map_err (λ (ps : Parts). let made : Operand × ℕ = (quoted ps, parts_nesting ps) in made)
+    (quotes_at (inner_at d) xs) f h)) [
       | inl k ↦ in_quotes k
       | inr k ↦ subst (OperandFault d (34 ∷ xs)) k.3 (open_quote k.0 k.1 k.2)
     ]
@@ -363,7 +384,9 @@ operand_met d [] f (in_substitution opens h) = absurd opens
 operand_met d (b ∷ xs) f (in_substitution opens h) = part_fails d b xs f opens h
 operand_met d _ f (lone_dollar {bs = xs} h) = operand_dollar d xs ∙ ap (λ r. r >>= substituted (suc (length xs))) (dollar_alone d (inner_at d) (inner_exact d) xs h.1 h.2)
 operand_met d _ f (open_brace {bs = xs} h) = operand_brace d xs ∙ ap (operand_in_braces (suc (length xs))) (none_found xs (braced_at false 0 xs) refl h)
-operand_met d _ f (in_quotes {bs = xs} h) = operand_quote d xs ∙ ap (read_map (λ (ps : Parts). let made : Operand × ℕ = (quoted ps, parts_nesting ps) in made)) ((quotes_exact d (inner_at d) (inner_exact d)).met xs f (inl h))
+operand_met d _ f (in_quotes {bs = xs} h) = operand_quote d xs
+    ∙ ap (read_map (λ (ps : Parts). let made : Operand × ℕ = (quoted ps, parts_nesting ps) in made))
+    ((quotes_exact d (inner_at d) (inner_exact d)).met xs f (inl h))
 operand_met d _ f (open_quote {bs = xs} ps h k) =
     operand_quote d xs ∙ ap (read_map (λ (ps : Parts). let made : Operand × ℕ = (quoted ps, parts_nesting ps) in made)) ((quotes_exact d (inner_at d) (inner_exact d)).met xs f (inr (ps, h, k, refl)))
 operand_met d bs f (no_operand free none others) = at_other d bs free ∙ ap (numeric bs) none ∙ no_word_there bs others

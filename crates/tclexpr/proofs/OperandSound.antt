@@ -1,5 +1,7 @@
 -- An operand that is read is one.
-use Rattle.std.proofs.Common.{◌≡◌, ℕ, zero, suc, ◌≤◌, [], ◌∷◌, ◌++◌, length, take, Bool, true, false, cond, not, ◌||◌, ◌&&◌, ◌==◌, Option, Some, None, Ok, Err, refl, sym, ap, subst, ◌∙◌, arith, append_assoc, inl, inr}
+use Rattle.std.proofs.Common.{◌≡◌, ℕ, zero, suc, ◌≤◌, [], ◌∷◌, ◌++◌, length, take, Bool, true, false, cond, not, ◌||◌}
+use Rattle.std.proofs.Common.{◌&&◌, ◌==◌, Option, Some, None, Ok, Err, refl, sym, ap, subst, ◌∙◌, arith, append_assoc}
+use Rattle.std.proofs.Common.{inl, inr}
 use Rattle.tclchars.specs.Runs.{Text, take_while, drop_while, begins}
 use Rattle.tclchars.specs.Classes.{is_name}
 use Rattle.tclchars.specs.Braces.{braced_at}
@@ -13,7 +15,8 @@ use Rattle.tclscript.specs.Tree.{Part, Parts, parts_nesting, part_nesting}
 use Rattle.tclscript.specs.Grammar.{IsPart, IsParts}
 use Rattle.tclscript.specs.Ends.{parts_end}
 use Rattle.tclscript.specs.Pieces.{IsSuffixOf}
-use Rattle.tclscript.specs.Reading.{on_mark, after_closing, inner_at, dollar_at, bracket_at, parts_with, part_at, quotes_at, taken}
+use Rattle.tclscript.specs.Reading.{on_mark, after_closing, inner_at, dollar_at, bracket_at, parts_with, part_at}
+use Rattle.tclscript.specs.Reading.{quotes_at, taken}
 use Rattle.tclscript.proofs.Ends.{end_through, end_length}
 use Rattle.tclscript.proofs.Escapes.{back_end}
 use Rattle.tclscript.proofs.PartsExact.{part_sound, at_dollar, at_bracket}
@@ -23,7 +26,11 @@ use Rattle.tclscript.proofs.Marks as script_marks
 use Rattle.tclscript.proofs.Marks.{Without, on_mark-not, closed_ok, run_taken}
 use Rattle.tclexpr.specs.declared.numbers.Digits.{Digits}
 use Rattle.tclexpr.specs.declared.numbers.Digits.TheVariants.{Decimal}
-use Rattle.tclexpr.specs.Operands.{Operand, number, word, variable, indexed, bracket, quoted, braced, is_digit, begins_digit, after_digits, announced, after_announced, after_based, is_sign, after_sign, after_exponent, after_fraction, begins_point, after_decimal, first_of_both, after_number, is_truth, substituted, quoted_at, operand_in_braces, braced_text_at, word_at, numeric, operand_at}
+use Rattle.tclexpr.specs.Operands.{Operand, number, word, variable, indexed, bracket, quoted, braced, is_digit}
+use Rattle.tclexpr.specs.Operands.{begins_digit, after_digits, announced, after_announced, after_based, is_sign}
+use Rattle.tclexpr.specs.Operands.{after_sign, after_exponent, after_fraction, begins_point, after_decimal}
+use Rattle.tclexpr.specs.Operands.{first_of_both, after_number, is_truth, substituted, quoted_at, operand_in_braces}
+use Rattle.tclexpr.specs.Operands.{braced_text_at, word_at, numeric, operand_at}
 use Rattle.tclexpr.specs.OperandGrammar.{IsOperand}
 
 -- What is read at each first byte
@@ -113,7 +120,8 @@ bracket_found d bs o rest h =
 
 -- Quotes and braces
 
-pub quotes_sound : (d : ℕ) (bs : Text) (ps : Parts) (rest : Text) → quotes_at (inner_at d) bs ≡ Ok (ps, rest) → (inside : Text) × (bs ≡ inside ++ 34 ∷ rest) × IsParts InQuotes ps inside (34 ∷ rest) × (parts_nesting ps ≤ d)
+pub quotes_sound : (d : ℕ) (bs : Text) (ps : Parts) (rest : Text) → quotes_at (inner_at d) bs ≡ Ok (ps, rest)
+    → (inside : Text) × (bs ≡ inside ++ 34 ∷ rest) × IsParts InQuotes ps inside (34 ∷ rest) × (parts_nesting ps ≤ d)
 unfolding quotes_at
 quotes_sound d bs ps rest h =
     let mark = OpenQuote (suc (length bs)) in
@@ -132,7 +140,9 @@ quote_found d bs o rest h =
     let t = quotes_sound d bs x.0 rest x.1 in
     subst (λ o. Found d (34 ∷ bs) o rest) x.2 ((t.0, ap (λ xs. 34 ∷ xs) t.1, t.2, refl), t.3)
 
-brace_found : (d : ℕ) (bs : Text) (o : Operand × ℕ) (rest : Text) (found : Option (Text × Text)) → braced_at false 0 bs ≡ found → operand_in_braces (suc (length bs)) found ≡ Ok (o, rest) → Found d (123 ∷ bs) o rest
+brace_found : (d : ℕ) (bs : Text) (o : Operand × ℕ) (rest : Text) (found : Option (Text × Text))
+    → braced_at false 0 bs ≡ found → operand_in_braces (suc (length bs)) found ≡ Ok (o, rest)
+    → Found d (123 ∷ bs) o rest
 brace_found d bs o rest None is h = cc
 brace_found d bs o rest (Some p) is h =
     let two = ok_pair ((braced p.0, 0), p.1) (o, rest) h in
@@ -178,7 +188,9 @@ decimal_end bs rest h = go (begins_digit Decimal bs || begins_point bs) h where
   go true h =
       let same : after_exponent (after_fraction (after_digits Decimal bs)) ≡ rest = cc in
       let digits = after_digits Decimal bs in
-      subst (IsSuffixOf bs) same (end_through bs (after_fraction digits) (after_exponent (after_fraction digits)) (end_through bs digits (after_fraction digits) (digits_end Decimal bs) (fraction_end digits)) (exponent_end (after_fraction digits)))
+      subst (IsSuffixOf bs) same (end_through bs (after_fraction digits) (after_exponent (after_fraction digits))
+      (end_through bs digits (after_fraction digits) (digits_end Decimal bs) (fraction_end digits))
+      (exponent_end (after_fraction digits)))
   go false h = cc
 
 pub announced_end : (bs rest : Text) (found : Option Digits) → after_announced bs found ≡ Some rest → IsSuffixOf bs rest
@@ -196,7 +208,8 @@ based_end (b ∷ (c ∷ bs)) rest h = go (b == 48) h where
   go true h = end_first b (c ∷ bs) rest (end_first c bs rest (announced_end bs rest (announced c) h))
   go false h = cc
 
-both_end : (bs rest : Text) (one two : Option Text) → ((r : Text) → one ≡ Some r → IsSuffixOf bs r) → ((r : Text) → two ≡ Some r → IsSuffixOf bs r) → first_of_both one two ≡ Some rest → IsSuffixOf bs rest
+both_end : (bs rest : Text) (one two : Option Text) → ((r : Text) → one ≡ Some r → IsSuffixOf bs r)
+    → ((r : Text) → two ≡ Some r → IsSuffixOf bs r) → first_of_both one two ≡ Some rest → IsSuffixOf bs rest
 both_end bs rest None two x y h = y rest h
 both_end bs rest (Some r) two x y h = x rest h
 

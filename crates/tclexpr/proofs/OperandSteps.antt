@@ -1,5 +1,6 @@
 -- The steps of the reader of operands, as the code takes them.
-use Rattle.std.proofs.Common.{◌≡◌, ◌<◌, ◌≤◌, ◌&&◌, ℕ, suc, [], ◌∷◌, length, Bool, true, false, cond, not, Some, None, Result, Ok, Err, Vec, refl, sym, ap, ap₂, ◌∙◌, arith, rules}
+use Rattle.std.proofs.Common.{◌≡◌, ◌<◌, ◌≤◌, ◌&&◌, ℕ, suc, [], ◌∷◌, length, Bool, true, false, cond, not, Some, None}
+use Rattle.std.proofs.Common.{Result, Ok, Err, Vec, refl, sym, ap, ap₂, ◌∙◌, arith, rules}
 use Rattle.std.specs.declared.alloc.Global.{Global}
 use Rattle.tclchars.specs.Runs.{Text, take_while, drop_while, begins}
 use Rattle.tclchars.specs.Classes.{is_name}
@@ -18,8 +19,11 @@ use Rattle.tclscript.specs.declared.tree.Part as rust
 use Rattle.tclscript.specs.declared.tree.Script.{Script}
 use Rattle.tclscript.proofs.PartsExact.{part_sound, at_dollar, at_bracket}
 use Rattle.tclscript.proofs.Whole.{inner_exact}
-use Rattle.tclexpr.specs.Operands.{Operand, word, is_truth, word_at, indexed, bracket, quoted, braced, operand_of, substituted, quoted_at, operand_in_braces, braced_text_at, variable_operand_at, bracket_operand_at, operand_at, numeric, after_number}
-use Rattle.tclexpr.proofs.OperandSound.{quotes_sound, operand_dollar, operand_bracket, operand_quote, operand_brace, operand_other}
+use Rattle.tclexpr.specs.Operands.{Operand, word, is_truth, word_at, indexed, bracket, quoted, braced, operand_of}
+use Rattle.tclexpr.specs.Operands.{substituted, quoted_at, operand_in_braces, braced_text_at, variable_operand_at}
+use Rattle.tclexpr.specs.Operands.{bracket_operand_at, operand_at, numeric, after_number}
+use Rattle.tclexpr.proofs.OperandSound.{quotes_sound, operand_dollar, operand_bracket, operand_quote, operand_brace}
+use Rattle.tclexpr.proofs.OperandSound.{operand_other}
 use Rattle.tclscript.proofs.Marks.{Without}
 
 -- How deep what is read nests
@@ -40,7 +44,8 @@ substituted-read left r p rest o h k = ap (λ r. r >>= substituted left) h ∙ a
 
 pub substituted-fails : (left : ℕ) (r : Read Part) (p : Part) (rest : Text) (e : ReadError) → r ≡ Ok (p, rest) → Fails e (operand_of left p) → Fails e (r >>= substituted left)
 substituted-fails left r p rest errors.Memory h k = tt
-substituted-fails left r p rest (errors.Fault f) h k = ap (λ r. r >>= substituted left) h ∙ ap (λ (o : Result (Operand × ℕ) Fault). o >>= (λ o. let found : Read (Operand × ℕ) = Ok (o, rest) in found)) k
+substituted-fails left r p rest (errors.Fault f) h k = ap (λ r. r >>= substituted left) h
+    ∙ ap (λ (o : Result (Operand × ℕ) Fault). o >>= (λ o. let found : Read (Operand × ℕ) = Ok (o, rest) in found)) k
 
 module _ {P : Type 0} (shown : P → Text) where
   view_indexed : (name : P) (ps : Vec (rust.Part P) Global) → part_view shown (rust.Indexed name ps) ≡ tree.indexed (shown name) (parts_view shown ps.items)
@@ -50,7 +55,9 @@ module _ {P : Type 0} (shown : P → Text) where
   view_bracket s = search (rules, rust.the_lemmas)
 
   pub indexed-of : (part : rust.Part P) (name : P) (ps : Vec (rust.Part P) Global) (left m h limit : ℕ) → part ≡ rust.Indexed name ps → part_nesting (part_view shown part) ≤ limit
-      → (parts_nesting (parts_view shown ps.items) ≤ limit → m ≡ parts_nesting (parts_view shown ps.items)) → (m < limit → h ≡ suc m) → operand_of left (part_view shown part) ≡ Ok (indexed (shown name) (parts_view shown ps.items), h)
+      → (parts_nesting (parts_view shown ps.items) ≤ limit → m ≡ parts_nesting (parts_view shown ps.items))
+      → (m < limit → h ≡ suc m) → operand_of left (part_view shown part) ≡ Ok
+      (indexed (shown name) (parts_view shown ps.items), h)
   indexed-of part name ps left m h limit e small k l =
       let v = ap (part_view shown) e ∙ view_indexed name ps in
       let n : part_nesting (part_view shown part) ≡ suc (parts_nesting (parts_view shown ps.items)) = ap part_nesting v in

@@ -1,5 +1,6 @@
 -- Rows of tokens, cut and joined.
-use Rattle.std.proofs.Common.{◌≡◌, ◌<◌, ◌≤◌, ℕ, suc, List, [], ◌∷◌, ◌++◌, length, Bool, true, false, cond, ◌||◌, ◌&&◌, ◌==◌, Option, Some, None, refl, sym, ap, subst, arith, length-append, ◌⊎◌, inl, inr}
+use Rattle.std.proofs.Common.{◌≡◌, ◌<◌, ◌≤◌, ℕ, suc, List, [], ◌∷◌, ◌++◌, length, Bool, true, false, cond, ◌||◌, ◌&&◌}
+use Rattle.std.proofs.Common.{◌==◌, Option, Some, None, refl, sym, ap, subst, arith, length-append, ◌⊎◌, inl, inr}
 use Rattle.tclexpr.proofs.Results.{found_once}
 use Rattle.tclexpr.proofs.Runs.{front_back}
 use Rattle.tclchars.specs.Runs.{Text, take_while, drop_while, begins}

@@ -1,7 +1,8 @@
 -- A run and what follows it.
 use Rattle.std.proofs.Common.{◌≡◌, ℕ, [], ◌∷◌, ◌++◌, Bool, true, false, refl, ap}
 use Rattle.tclchars.specs.Runs.{Text, take_while, drop_while}
-use Rattle.tclchars.proofs.RunLemmas.{take_while-nil, drop_while-nil, take_while-cons_true, take_while-cons_false, drop_while-cons_true, drop_while-cons_false}
+use Rattle.tclchars.proofs.RunLemmas.{take_while-nil, drop_while-nil, take_while-cons_true, take_while-cons_false}
+use Rattle.tclchars.proofs.RunLemmas.{drop_while-cons_true, drop_while-cons_false}
 
 front_back-cons : (p : ℕ → Bool) (b : ℕ) (bs : Text) (t : Bool) → p b ≡ t → bs ≡ take_while p bs ++ drop_while p bs → b ∷ bs ≡ take_while p (b ∷ bs) ++ drop_while p (b ∷ bs)
 front_back-cons p b bs true t so = rw (take_while-cons_true p b bs t, drop_while-cons_true p b bs t) (ap (λ xs. b ∷ xs) so)

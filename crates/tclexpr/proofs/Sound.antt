@@ -1,5 +1,7 @@
 -- What is read is in the grammar.
-use Rattle.std.proofs.Common.{◌≡◌, ◌<◌, ◌≤◌, ◌-◌, ℕ, zero, suc, max, List, [], ◌∷◌, ◌++◌, length, Bool, true, false, cond, nat_lt, nat_le, Option, Some, None, Result, Ok, Err, refl, sym, ap, subst, ◌∙◌, arith}
+use Rattle.std.proofs.Common.{◌≡◌, ◌<◌, ◌≤◌, ◌-◌, ℕ, zero, suc, max, List, [], ◌∷◌, ◌++◌, length, Bool, true, false}
+use Rattle.std.proofs.Common.{cond, nat_lt, nat_le, Option, Some, None, Result, Ok, Err, refl, sym, ap, subst, ◌∙◌}
+use Rattle.std.proofs.Common.{arith}
 use Rattle.std.proofs.lemmas.Bool.Decides.{nat_tests}
 use Rattle.tclchars.specs.Runs.{Text}
 use Rattle.tclchars.specs.declared.fault.Fault.{Fault}
@@ -13,11 +15,15 @@ use Rattle.tclexpr.specs.declared.operators.Infix.TheVariants as infixes
 use Rattle.tclexpr.specs.declared.operators.Mark.{Mark}
 use Rattle.tclexpr.specs.declared.operators.Mark.TheVariants as marks
 use Rattle.tclexpr.specs.Tree.{Expr, operand, unary, choice, Token, value, mark}
-use Rattle.tclexpr.specs.Grammar.{level, sign_of, IsExpr, simple, choosing, IsChain, single, in_parentheses, signed, joining}
+use Rattle.tclexpr.specs.Grammar.{level, sign_of, IsExpr, simple, choosing, IsChain, single, in_parentheses, signed}
+use Rattle.tclexpr.specs.Grammar.{joining}
 use Rattle.tclexpr.specs.Marks.{after_white, mark_at}
 use Rattle.tclexpr.specs.TokenList.{AreTokens, IsExprText}
 use Rattle.tclexpr.specs.Faults.{NextIsNot, MayFollow, Follows}
-use Rattle.tclexpr.specs.Reading.{Extent, whole, chain, is_close, is_colon, is_question_mark, is_open, infix_of, after_expected, expect, signed_at, enclosed_at, begun_at, prefix_at, join, next_at, going_at, climb_at, chain_at, branches_at, choosing_at, whole_at, below_at, ended, expr_at}
+use Rattle.tclexpr.specs.Reading.{Extent, whole, chain, is_close, is_colon, is_question_mark, is_open, infix_of}
+use Rattle.tclexpr.specs.Reading.{after_expected, expect, signed_at, enclosed_at, begun_at, prefix_at, join, next_at}
+use Rattle.tclexpr.specs.Reading.{going_at, climb_at, chain_at, branches_at, choosing_at, whole_at, below_at, ended}
+use Rattle.tclexpr.specs.Reading.{expr_at}
 use Rattle.tclexpr.proofs.Results.{found_once, found_none, infix_once}
 use Rattle.tclexpr.proofs.Rows.{row_join}
 
@@ -133,7 +139,8 @@ pub le_not : (a b : ℕ) → nat_le a b ≡ false → b < a
 le_not a b h = grind (arith, nat_tests)
 
 -- a mark that had to come next, came
-pub expected_ok : (expected : Mark → Bool) (left : ℕ) (found : Option (Mark × Text)) (rest : Text) → after_expected expected left found ≡ Ok rest → (m : Mark) × (found ≡ Some (m, rest)) × (expected m ≡ true)
+pub expected_ok : (expected : Mark → Bool) (left : ℕ) (found : Option (Mark × Text)) (rest : Text)
+    → after_expected expected left found ≡ Ok rest → (m : Mark) × (found ≡ Some (m, rest)) × (expected m ≡ true)
 expected_ok expected left None rest h = cc
 expected_ok expected left (Some p) rest h = tested (expected p.0) refl h where
   tested : (t : Bool) → expected p.0 ≡ t → cond t (let ok : Result Text Fault = Ok p.1 in ok) (Err (BadExpression left)) ≡ Ok rest → (m : Mark) × (Some p ≡ Some (m, rest)) × (expected m ≡ true)
@@ -189,7 +196,8 @@ module _ (O : Type 0) (IsOperand : Text → Text → O → ℕ → Type 0) where
           let made : TookPrefix bs (unary u y.0.0, suc y.0.1) rest = record { tokens = mark m ∷ t.tokens; are_tokens = (after, is, t.are_tokens); is = signed u s t.is; deep = t.deep } in
           subst (λ x. TookPrefix bs x rest) y.2 made
 
-      enclosed_sound : (bs after : Text) → mark_at (after_white bs) ≡ Some (marks.Open, after) → (x : Expr O × ℕ) (rest : Text) → enclosed_at read_operand below after ≡ Ok (x, rest) → TookPrefix bs x rest
+      enclosed_sound : (bs after : Text) → mark_at (after_white bs) ≡ Some (marks.Open, after)
+          → (x : Expr O × ℕ) (rest : Text) → enclosed_at read_operand below after ≡ Ok (x, rest) → TookPrefix bs x rest
       enclosed_sound bs after is x rest h =
           let y = bind_ok (below whole after) (λ x. expect is_close x.1 >>= (λ after. Ok ((x.0.0, suc x.0.1), after))) (x, rest) h in
           let z = bind_ok (expect is_close y.0.1) (λ (after : Text). let ok : Result ((Expr O × ℕ) × Text) Fault = Ok ((y.0.0.0, suc y.0.0.1), after) in ok) (x, rest) y.2 in
@@ -210,7 +218,9 @@ module _ (O : Type 0) (IsOperand : Text → Text → O → ℕ → Type 0) where
       marked_sound bs left m after is x rest true t h = enclosed_sound bs after (is ∙ ap (λ m. Some (m, after)) (open_is m t)) x rest h
       marked_sound bs left m after is x rest false t h = signed_sound bs left m after is x rest (sign_of m) refl h
 
-      begun_sound : (bs : Text) (x : Expr O × ℕ) (rest : Text) (found : Option (Mark × Text)) → mark_at (after_white bs) ≡ found → begun_at read_operand d below (after_white bs) found ≡ Ok (x, rest) → TookPrefix bs x rest
+      begun_sound : (bs : Text) (x : Expr O × ℕ) (rest : Text) (found : Option (Mark × Text))
+          → mark_at (after_white bs) ≡ found → begun_at read_operand d below (after_white bs) found ≡ Ok (x, rest)
+          → TookPrefix bs x rest
       begun_sound bs x rest None is h =
           let y = read_map_ok (λ (o : O × ℕ). let made : Expr O × ℕ = (operand o.0, o.1) in made) (read_operand d (after_white bs)) x rest h in
           let s = operand_sound d (after_white bs) y.0 rest y.1 in
@@ -236,7 +246,9 @@ module _ (O : Type 0) (IsOperand : Text → Text → O → ℕ → Type 0) where
       chain_ends n bs x rest t f = record { tokens = t.tokens; are_tokens = t.are_tokens; is = chain_weaker t.is n t.within; deep = omega (arith, t.deep); follows = f }
 
       -- one operator more
-      pub front_more : (n : ℕ) (bs : Text) (x : Expr O × ℕ) (rest : Text) → TookFront n bs x rest → (i : Infix) (after : Text) → mark_at (after_white rest) ≡ Some (marks.Infix i, after) → level i ≤ n → x.1 < d
+      pub front_more : (n : ℕ) (bs : Text) (x : Expr O × ℕ) (rest : Text) → TookFront n bs x rest
+          → (i : Infix) (after : Text) → mark_at (after_white rest) ≡ Some (marks.Infix i, after) → level i ≤ n
+          → x.1 < d
           → (y : Expr O × ℕ) (end : Text) → below (chain (level i - 1)) after ≡ Ok (y, end) → TookFront n bs (join i x y) end
       front_more n bs x rest t i after is within deep y end h =
           let r = sound (chain (level i - 1)) after y end h in
@@ -281,7 +293,8 @@ module _ (O : Type 0) (IsOperand : Text → Text → O → ℕ → Type 0) where
 
       going_sound : (n : ℕ) (bs : Text) (x : Expr O × ℕ) (rest : Text) → TookFront n bs x rest → (more : Expr O × ℕ → Text → Read (Expr O × ℕ))
           → ((x : Expr O × ℕ) (rest : Text) → TookFront n bs x rest → (y : Expr O × ℕ) (end : Text) → more x rest ≡ Ok (y, end) → TookChain (suc d) n bs y end)
-          → (y : Expr O × ℕ) (end : Text) (found : Option (Mark × Text)) → mark_at (after_white rest) ≡ found → going_at read_operand d below n more x rest found ≡ Ok (y, end) → TookChain (suc d) n bs y end
+          → (y : Expr O × ℕ) (end : Text) (found : Option (Mark × Text)) → mark_at (after_white rest) ≡ found
+          → going_at read_operand d below n more x rest found ≡ Ok (y, end) → TookChain (suc d) n bs y end
       going_sound n bs x rest t more all y end None is h =
           let two = ok_pair (x, rest) (y, end) h in
           let stops : Follows (suc n) rest = λ j rest' is'. absurd (none_some (sym is ∙ is')) in
@@ -297,7 +310,9 @@ module _ (O : Type 0) (IsOperand : Text → Text → O → ℕ → Type 0) where
             subst (λ x. TookChain (suc d) n bs x end) two.0 (subst (λ r. TookChain (suc d) n bs x r) two.1 (chain_ends n bs x rest t stops))
         by_infix (Some i) s h = next_sound n bs x rest t more all i p.1 (is ∙ ap (λ m. Some (m, p.1)) (infix_is p.0 i s)) y end (nat_le (level i) n) refl h
 
-      pub climb_sound : (n turns : ℕ) (bs : Text) (x : Expr O × ℕ) (rest : Text) → TookFront n bs x rest → (y : Expr O × ℕ) (end : Text) → climb_at read_operand d below n turns x rest ≡ Ok (y, end) → TookChain (suc d) n bs y end
+      pub climb_sound : (n turns : ℕ) (bs : Text) (x : Expr O × ℕ) (rest : Text) → TookFront n bs x rest
+          → (y : Expr O × ℕ) (end : Text) → climb_at read_operand d below n turns x rest ≡ Ok (y, end)
+          → TookChain (suc d) n bs y end
       unfolding climb_at
       climb_sound n zero bs x rest t y end h = cc
       climb_sound n (suc turns) bs x rest t y end h =
@@ -313,7 +328,9 @@ module _ (O : Type 0) (IsOperand : Text → Text → O → ℕ → Type 0) where
           climb_sound n (suc (length y.0.1)) bs y.0.0 y.0.1 (prefix_front n bs y.0.0 y.0.1 (prefix_sound bs y.0.0 y.0.1 y.1)) x rest y.2
 
       -- Whole expressions
-      expression_ends : (bs : Text) (x : Expr O × ℕ) (rest : Text) → TookChain (suc d) 13 bs x rest → ((after : Text) → mark_at (after_white rest) ≡ Some (marks.QuestionMark, after) → ⊥) → TookWhole (suc d) bs x rest
+      expression_ends : (bs : Text) (x : Expr O × ℕ) (rest : Text) → TookChain (suc d) 13 bs x rest
+          → ((after : Text) → mark_at (after_white rest) ≡ Some (marks.QuestionMark, after) → ⊥)
+          → TookWhole (suc d) bs x rest
       expression_ends bs x rest t none = record { tokens = t.tokens; are_tokens = t.are_tokens; is = simple t.is; deep = t.deep; ends = ends } where
         ends : NextIsNot MayFollow rest
         ends marks.Open after is h = h
@@ -329,7 +346,8 @@ module _ (O : Type 0) (IsOperand : Text → Text → O → ℕ → Type 0) where
       branches_sound bs x rest t less after is w end h =
           let y = bind_ok (below whole after) (λ y. expect is_colon y.1 >>= (λ after. below whole after >>= (λ z. Ok ((choice x.0 y.0.0 z.0.0, suc (max x.1 (max y.0.1 z.0.1))), z.1)))) (w, end) h in
           let k = bind_ok (expect is_colon y.0.1) (λ after. below whole after >>= (λ z. Ok ((choice x.0 y.0.0.0 z.0.0, suc (max x.1 (max y.0.0.1 z.0.1))), z.1))) (w, end) y.2 in
-          let z = bind_ok (below whole k.0) (λ (z : (Expr O × ℕ) × Text). let ok : Result ((Expr O × ℕ) × Text) Fault = Ok ((choice x.0 y.0.0.0 z.0.0, suc (max x.1 (max y.0.0.1 z.0.1))), z.1) in ok) (w, end) k.2 in
+          let z = bind_ok (below whole k.0) (λ (z : (Expr O × ℕ) × Text). let ok : Result ((Expr O × ℕ) × Text) Fault =
+          Ok ((choice x.0 y.0.0.0 z.0.0, suc (max x.1 (max y.0.0.1 z.0.1))), z.1) in ok) (w, end) k.2 in
           let two = ok_pair ((choice x.0 y.0.0.0 z.0.0.0, suc (max x.1 (max y.0.0.1 z.0.0.1))), z.0.1) (w, end) z.2 in
           let c = expected_ok is_colon (length (after_white y.0.1)) (mark_at (after_white y.0.1)) k.0 k.1 in
           let ty = sound whole after y.0.0 y.0.1 y.1 in
@@ -355,9 +373,13 @@ module _ (O : Type 0) (IsOperand : Text → Text → O → ℕ → Type 0) where
           → choosing_at read_operand d below x rest found ≡ Ok (y, end) → TookWhole (suc d) bs y end
       choosing_sound bs x rest t y end None is h =
           let two = ok_pair (x, rest) (y, end) h in
-          subst (λ x. TookWhole (suc d) bs x end) two.0 (subst (λ r. TookWhole (suc d) bs x r) two.1 (expression_ends bs x rest t (λ after is'. found_none (mark_at (after_white rest)) marks.QuestionMark after is is')))
+          subst (λ x. TookWhole (suc d) bs x end) two.0 (subst (λ r. TookWhole (suc d) bs x r) two.1
+          (expression_ends bs x rest t (λ after is'. found_none (mark_at (after_white rest)) marks.QuestionMark
+          after is is')))
       choosing_sound bs x rest t y end (Some p) is h = by_question (is_question_mark p.0) refl h where
-        by_question : (s : Bool) → is_question_mark p.0 ≡ s → cond s (cond (nat_lt x.1 d) (branches_at read_operand below x p.1) (Err TooDeep)) (Ok (x, rest)) ≡ Ok (y, end) → TookWhole (suc d) bs y end
+        by_question : (s : Bool) → is_question_mark p.0 ≡ s
+            → cond s (cond (nat_lt x.1 d) (branches_at read_operand below x p.1) (Err TooDeep)) (Ok (x, rest)) ≡ Ok
+            (y, end) → TookWhole (suc d) bs y end
         by_question true s h = deep_enough bs x rest t p.1 (is ∙ ap (λ m. Some (m, p.1)) (question_is p.0 s)) y end (nat_lt x.1 d) refl h
         by_question false s h =
             let two = ok_pair (x, rest) (y, end) h in

@@ -1,5 +1,7 @@
 -- What readers of expressions leave, and the turns of the loop that reads a chain.
-use Rattle.std.proofs.Common.{◌≡◌, ◌<◌, ◌≤◌, ◌-◌, ℕ, zero, suc, List, [], ◌∷◌, length, Bool, true, false, cond, nat_lt, if◌then◌else◌, ◌&&◌, ◌==◌, inl, inr, Some, None, Ok, Err, refl, sym, ap, subst, ◌∙◌, arith}
+use Rattle.std.proofs.Common.{◌≡◌, ◌<◌, ◌≤◌, ◌-◌, ℕ, zero, suc, List, [], ◌∷◌, length, Bool, true, false, cond, nat_lt}
+use Rattle.std.proofs.Common.{if◌then◌else◌, ◌&&◌, ◌==◌, inl, inr, Some, None, Ok, Err, refl, sym, ap, subst, ◌∙◌}
+use Rattle.std.proofs.Common.{arith}
 use Rattle.tclchars.specs.Runs.{Text, take_while, drop_while}
 use Rattle.tclchars.specs.Classes.{is_name}
 use Rattle.tclchars.specs.declared.fault.Fault.{Fault}
@@ -15,7 +17,8 @@ use Rattle.tclexpr.specs.declared.operators.Mark.{Mark}
 use Rattle.tclexpr.specs.declared.operators.Mark.TheVariants as marks
 use Rattle.tclexpr.specs.Tree.{Token, value, mark}
 use Rattle.tclexpr.specs.Grammar.{level}
-use Rattle.tclexpr.specs.Marks.{begins_white, after_white, mark_at, before, longest, symbol_at, word_mark, one_byte, two_bytes}
+use Rattle.tclexpr.specs.Marks.{begins_white, after_white, mark_at, before, longest, symbol_at, word_mark, one_byte}
+use Rattle.tclexpr.specs.Marks.{two_bytes}
 use Rattle.tclexpr.specs.TokenList.{AreTokens}
 use Rattle.tclexpr.specs.Faults.{Follows}
 use Rattle.tclexpr.specs.Operands.{Operand, operand_at}
@@ -92,7 +95,9 @@ expect_end expected bs rest h = let c = expected_ok expected (length (after_whit
 abbrev pub right_at : ℕ → ℕ → ℕ → Text → Read (WithHeight Operand)
 right_at d h n bs = if nat_lt h d then below_at operand_at d (chain n) bs else Err TooDeep
 
-right_is : (d h n : ℕ) (bs : Text) (x : WithHeight Operand) (rest : Text) (t : Bool) → nat_lt h d ≡ t → cond t (below_at operand_at d (chain n) bs) (Err TooDeep) ≡ Ok (x, rest) → (h < d) × IsSuffixOf bs rest × (x.1 < d)
+right_is : (d h n : ℕ) (bs : Text) (x : WithHeight Operand) (rest : Text) (t : Bool) → nat_lt h d ≡ t
+    → cond t (below_at operand_at d (chain n) bs) (Err TooDeep) ≡ Ok (x, rest) → (h < d) × IsSuffixOf bs rest
+    × (x.1 < d)
 right_is zero h n bs x rest true t k = absurd (omega (arith, lt_is h 0 t))
 right_is (suc d) h n bs x rest true t k =
     let l = chain_leaves d n bs x rest (sym (below_chain operand_at d n bs) ∙ k) in
@@ -124,7 +129,9 @@ chain-starts d n bs (errors.Fault f) h = ap (λ r. r >>= (λ x. climb_at operand
 pub chain-end : (d n : ℕ) (bs : Text) (x : WithHeight Operand) (rest : Text) → ChainSoFar d n bs x rest → Follows (suc n) rest → chain_at operand_at d (below_at operand_at d) n bs ≡ Ok (x, rest)
 chain-end d n bs x rest s f = s.is ∙ climb_stops operand_at d (below_at operand_at d) n s.turns x rest (omega (arith, s.enough)) f
 
-split : (d h n : ℕ) (bs : Text) (more : WithHeight Operand × Text → Read (WithHeight Operand)) (t : Bool) → cond t (below_at operand_at d (chain n) bs >>= more) (Err TooDeep) ≡ (cond t (below_at operand_at d (chain n) bs) (Err TooDeep) >>= more)
+split : (d h n : ℕ) (bs : Text) (more : WithHeight Operand × Text → Read (WithHeight Operand)) (t : Bool)
+    → cond t (below_at operand_at d (chain n) bs >>= more) (Err TooDeep) ≡
+    (cond t (below_at operand_at d (chain n) bs) (Err TooDeep) >>= more)
 split d h n bs more true = refl
 split d h n bs more false = refl
 
@@ -143,13 +150,15 @@ turn d n bs x rest s i after found within = go s.turns s.enough s.is where
         ∙ split d x.1 (level i - 1) after (λ y. climb_at operand_at d (below_at operand_at d) n turns (join i x y.0) y.1) (nat_lt x.1 d),
   )
 
-pub chain-fail : (d n : ℕ) (bs : Text) (x : WithHeight Operand) (rest : Text) → ChainSoFar d n bs x rest → (i : Infix) (after : Text) → mark_at (after_white rest) ≡ Some (marks.Infix i, after) → level i ≤ n
+pub chain-fail : (d n : ℕ) (bs : Text) (x : WithHeight Operand) (rest : Text) → ChainSoFar d n bs x rest
+    → (i : Infix) (after : Text) → mark_at (after_white rest) ≡ Some (marks.Infix i, after) → level i ≤ n
     → (f : Fault) → right_at d x.1 (level i - 1) after ≡ Err f → chain_at operand_at d (below_at operand_at d) n bs ≡ Err f
 chain-fail d n bs x rest s i after found within f h =
     let t = turn d n bs x rest s i after found within in
     t.2 ∙ ap (λ r. r >>= (λ y. climb_at operand_at d (below_at operand_at d) n t.0 (join i x y.0) y.1)) h
 
-pub chain-fails : (d n : ℕ) (bs : Text) (x : WithHeight Operand) (rest : Text) → ChainSoFar d n bs x rest → (i : Infix) (after : Text) → mark_at (after_white rest) ≡ Some (marks.Infix i, after) → level i ≤ n
+pub chain-fails : (d n : ℕ) (bs : Text) (x : WithHeight Operand) (rest : Text) → ChainSoFar d n bs x rest
+    → (i : Infix) (after : Text) → mark_at (after_white rest) ≡ Some (marks.Infix i, after) → level i ≤ n
     → (e : ReadError) → Fails e (right_at d x.1 (level i - 1) after) → Fails e (chain_at operand_at d (below_at operand_at d) n bs)
 chain-fails d n bs x rest s i after found within errors.Memory h = tt
 chain-fails d n bs x rest s i after found within (errors.Fault f) h = chain-fail d n bs x rest s i after found within f h
@@ -160,7 +169,8 @@ chain-shorter d x rest i after found y end h =
     let r = right_leaves d x.1 (level i - 1) after y end h in
     omega (arith, after_white_no_longer rest, mark_shorter (after_white rest) (marks.Infix i) after found, end_no_longer after end r.1)
 
-pub chain-more : (d n : ℕ) (bs : Text) (x : WithHeight Operand) (rest : Text) → ChainSoFar d n bs x rest → (i : Infix) (after : Text) → mark_at (after_white rest) ≡ Some (marks.Infix i, after) → level i ≤ n
+pub chain-more : (d n : ℕ) (bs : Text) (x : WithHeight Operand) (rest : Text) → ChainSoFar d n bs x rest
+    → (i : Infix) (after : Text) → mark_at (after_white rest) ≡ Some (marks.Infix i, after) → level i ≤ n
     → (y : WithHeight Operand) (end : Text) → right_at d x.1 (level i - 1) after ≡ Ok (y, end) → (z : WithHeight Operand) → z ≡ join i x y → ChainSoFar d n bs z end
 chain-more d n bs x rest s i after found within y end h z made =
     let t = turn d n bs x rest s i after found within in

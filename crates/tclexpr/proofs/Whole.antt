@@ -1,5 +1,6 @@
 -- The tree and the fault of a whole text.
-use Rattle.std.proofs.Common.{◌≡◌, ◌≢◌, ℕ, ◌<◌, ◌≤◌, [], ◌∷◌, ◌++◌, length, Bool, true, false, cond, ◌||◌, ◌&&◌, ◌==◌, Option, Some, None, Result, Ok, Err, refl, sym, ap, subst, ◌∙◌, arith, length-append}
+use Rattle.std.proofs.Common.{◌≡◌, ◌≢◌, ℕ, ◌<◌, ◌≤◌, [], ◌∷◌, ◌++◌, length, Bool, true, false, cond, ◌||◌, ◌&&◌, ◌==◌}
+use Rattle.std.proofs.Common.{Option, Some, None, Result, Ok, Err, refl, sym, ap, subst, ◌∙◌, arith, length-append}
 use Rattle.tclchars.specs.Runs.{Text}
 use Rattle.tclchars.specs.Reading.{◌>>=◌, Fails, remaining_of}
 use Rattle.tclchars.specs.declared.fault.Fault.{Fault}
@@ -9,7 +10,9 @@ use Rattle.tclchars.specs.declared.fault.ReadError.TheVariants as errors
 use Rattle.tclexpr.specs.declared.operators.Mark.TheVariants as marks_of
 use Rattle.tclexpr.specs.Tree.{Expr, mark}
 use Rattle.tclexpr.specs.Marks.{after_white}
-use Rattle.tclexpr.specs.Faults.{ExprFault, in_condition, deep_choice, in_yes, no_colon, in_no, ChainFault, in_operand, no_operand, deep_prefix, in_signed, in_open, no_close, deep_operator, in_right, inside, trailing}
+use Rattle.tclexpr.specs.Faults.{ExprFault, in_condition, deep_choice, in_yes, no_colon, in_no, ChainFault, in_operand}
+use Rattle.tclexpr.specs.Faults.{no_operand, deep_prefix, in_signed, in_open, no_close, deep_operator, in_right, inside}
+use Rattle.tclexpr.specs.Faults.{trailing}
 use Rattle.tclchars.specs.Bytes.{DoesBegin}
 use Rattle.tclchars.specs.Classes.{is_name}
 use Rattle.tclscript.specs.declared.context.Context.TheVariants.{InQuotes}
@@ -17,7 +20,9 @@ use Rattle.tclscript.specs.Tree as tree
 use Rattle.tclscript.proofs.Ends.{end_through, end_no_longer}
 use Rattle.tclscript.proofs.PartsExact.{part_some}
 use Rattle.tclexpr.specs.declared.numbers.Digits.TheVariants.{Decimal}
-use Rattle.tclexpr.specs.Operands.{Operand, number, word, variable, indexed, bracket, quoted, braced, operand_at, is_digit, begins_digit, after_digits, after_exponent, after_fraction, after_decimal, announced, after_announced, after_based, after_number, first_of_both}
+use Rattle.tclexpr.specs.Operands.{Operand, number, word, variable, indexed, bracket, quoted, braced, operand_at}
+use Rattle.tclexpr.specs.Operands.{is_digit, begins_digit, after_digits, after_exponent, after_fraction, after_decimal}
+use Rattle.tclexpr.specs.Operands.{announced, after_announced, after_based, after_number, first_of_both}
 use Rattle.tclexpr.proofs.MarkLemmas.{digits_more}
 use Rattle.tclexpr.proofs.MarkLemmas as mark_lemmas
 use Rattle.tclexpr.specs.OperandGrammar.{IsOperand, OperandFault}
@@ -38,11 +43,14 @@ decimal_shorter b bs rest h = go (is_digit Decimal b) refl (b == 46) refl h wher
   ends : (middle : Text) → IsSuffixOf bs middle → after_exponent middle ≡ rest → IsSuffixOf bs rest
   ends middle e same = subst (IsSuffixOf bs) same (end_through bs middle (after_exponent middle) e (exponent_end middle))
 
-  go : (s : Bool) → is_digit Decimal b ≡ s → (t : Bool) → (b == 46) ≡ t → cond (s || (t && begins_digit Decimal bs)) (Some (after_exponent (after_fraction (after_digits Decimal (b ∷ bs))))) None ≡ Some rest → IsSuffixOf bs rest
+  go : (s : Bool) → is_digit Decimal b ≡ s → (t : Bool) → (b == 46) ≡ t
+      → cond (s || (t && begins_digit Decimal bs)) (Some
+      (after_exponent (after_fraction (after_digits Decimal (b ∷ bs))))) None ≡ Some rest → IsSuffixOf bs rest
   go true s t' t h =
       let same : after_exponent (after_fraction (after_digits Decimal (b ∷ bs))) ≡ rest = cc in
       let on : after_digits Decimal (b ∷ bs) ≡ after_digits Decimal bs = digits_more Decimal (b ∷ bs) s in
-      ends (after_fraction (after_digits Decimal bs)) (end_through bs (after_digits Decimal bs) (after_fraction (after_digits Decimal bs)) (digits_end Decimal bs) (fraction_end (after_digits Decimal bs)))
+      ends (after_fraction (after_digits Decimal bs)) (end_through bs (after_digits Decimal bs)
+      (after_fraction (after_digits Decimal bs)) (digits_end Decimal bs) (fraction_end (after_digits Decimal bs)))
       (ap (λ ys. after_exponent (after_fraction ys)) (sym on) ∙ same)
   go false s true t h = pointed (begins_digit Decimal bs) h where
     pointed : (u : Bool) → cond u (Some (after_exponent (after_fraction (after_digits Decimal (b ∷ bs))))) None ≡ Some rest → IsSuffixOf bs rest
@@ -112,9 +120,20 @@ mutual
   expr_within : {d : ℕ} {bs : Text} {f : Fault} → ExprFault Operand IsOperand OperandFault d bs f → remaining_of f ≤ length bs
   expr_within (in_condition h) = chain_within h
   expr_within (deep_choice cs c after is are_tokens) = omega arith
-  expr_within (in_yes {d} {bs} {f} cs c h after is deep are_tokens fault) = omega (arith, row_no_longer Operand IsOperand operand_shorter (cs ++ mark marks_of.QuestionMark ∷ []) bs after are_tokens, expr_within fault)
-  expr_within (no_colon {d} {bs} cs c h ys y i after is deep is' deep' are_tokens none) = left_after bs after (row_no_longer Operand IsOperand operand_shorter (cs ++ mark marks_of.QuestionMark ∷ ys) bs after are_tokens)
-  expr_within (in_no {d} {bs} {f} cs c h ys y i after is deep is' deep' are_tokens fault) = omega (arith, row_no_longer Operand IsOperand operand_shorter (cs ++ mark marks_of.QuestionMark ∷ (ys ++ mark marks_of.Colon ∷ [])) bs after are_tokens, expr_within fault)
+  expr_within (in_yes {d} {bs} {f} cs c h after is deep are_tokens fault) = omega (
+    arith,
+    row_no_longer Operand IsOperand operand_shorter (cs ++ mark marks_of.QuestionMark ∷ []) bs after
+        are_tokens,
+    expr_within fault,
+  )
+  expr_within (no_colon {d} {bs} cs c h ys y i after is deep is' deep' are_tokens none) = left_after bs after
+      (row_no_longer Operand IsOperand operand_shorter (cs ++ mark marks_of.QuestionMark ∷ ys) bs after are_tokens)
+  expr_within (in_no {d} {bs} {f} cs c h ys y i after is deep is' deep' are_tokens fault) = omega (
+    arith,
+    row_no_longer Operand IsOperand operand_shorter
+        (cs ++ mark marks_of.QuestionMark ∷ (ys ++ mark marks_of.Colon ∷ [])) bs after are_tokens,
+    expr_within fault,
+  )
 
   chain_within : {d n : ℕ} {bs : Text} {f : Fault} → ChainFault Operand IsOperand OperandFault d n bs f → remaining_of f ≤ length bs
   chain_within (in_operand {d} {n} {bs} none h) = omega (arith, after_white_no_longer bs, operand_within h)
@@ -124,7 +143,11 @@ mutual
   chain_within (in_open {d} {n} {bs} after is h) = omega (arith, after_white_no_longer bs, mark_shorter (after_white bs) marks_of.Open after is, expr_within h)
   chain_within (no_close {d} {n} {bs} ts e h after is deep are_tokens none) = left_after bs after (row_no_longer Operand IsOperand operand_shorter (mark marks_of.Open ∷ ts) bs after are_tokens)
   chain_within (deep_operator i ls l after within is are_tokens) = omega arith
-  chain_within (in_right {d} {n} {bs} i ls l h after within is deep are_tokens fault) = omega (arith, row_no_longer Operand IsOperand operand_shorter (ls ++ mark (marks_of.Infix i) ∷ []) bs after are_tokens, chain_within fault)
+  chain_within (in_right {d} {n} {bs} i ls l h after within is deep are_tokens fault) = omega (
+    arith,
+    row_no_longer Operand IsOperand operand_shorter (ls ++ mark (marks_of.Infix i) ∷ []) bs after are_tokens,
+    chain_within fault,
+  )
 
 fault_within : {d : ℕ} {bs : Text} {f : Fault} → IsFault d bs f → remaining_of f ≤ length bs
 fault_within (inside h) = expr_within h
@@ -143,15 +166,20 @@ unfolding expr_at
 expr-fails d bs text errors.Memory same h = tt
 expr-fails d bs text (errors.Fault f) same h = ap (λ r. r >>= end_from) (ap (whole_at operand_at d (below_at operand_at d)) (sym same) ∙ h)
 
-expr-step : (d : ℕ) (bs text : Text) (x : WithHeight Operand) (rest end : Text) → text ≡ bs → whole_at operand_at d (below_at operand_at d) text ≡ Ok (x, rest) → end ≡ after_white rest → expr_at operand_at d bs ≡ ended x.0 end
+expr-step : (d : ℕ) (bs text : Text) (x : WithHeight Operand) (rest end : Text) → text ≡ bs
+    → whole_at operand_at d (below_at operand_at d) text ≡ Ok (x, rest) → end ≡ after_white rest
+    → expr_at operand_at d bs ≡ ended x.0 end
 unfolding expr_at
 expr-step d bs text x rest end same h e = ap (λ r. r >>= end_from) (ap (whole_at operand_at d (below_at operand_at d)) (sym same) ∙ h) ∙ ap (ended x.0) (sym e)
 
-pub expr-ends : (d : ℕ) (bs text : Text) (x : WithHeight Operand) (rest end : Text) → text ≡ bs → whole_at operand_at d (below_at operand_at d) text ≡ Ok (x, rest) → end ≡ after_white rest → length end ≡ 0 → expr_at operand_at d bs ≡ Ok x.0
+pub expr-ends : (d : ℕ) (bs text : Text) (x : WithHeight Operand) (rest end : Text) → text ≡ bs
+    → whole_at operand_at d (below_at operand_at d) text ≡ Ok (x, rest) → end ≡ after_white rest → length end ≡ 0
+    → expr_at operand_at d bs ≡ Ok x.0
 expr-ends d bs text x rest [] same h e n = expr-step d bs text x rest [] same h e
 expr-ends d bs text x rest (b ∷ end) same h e n = absurd (omega arith)
 
-pub expr-left : (d : ℕ) (bs text : Text) (x : WithHeight Operand) (rest end : Text) → text ≡ bs → whole_at operand_at d (below_at operand_at d) text ≡ Ok (x, rest) → end ≡ after_white rest → length end ≢ 0
+pub expr-left : (d : ℕ) (bs text : Text) (x : WithHeight Operand) (rest end : Text) → text ≡ bs
+    → whole_at operand_at d (below_at operand_at d) text ≡ Ok (x, rest) → end ≡ after_white rest → length end ≢ 0
     → expr_at operand_at d bs ≡ Err (marks.BadExpression (length end))
 expr-left d bs text x rest [] same h e n = absurd (n refl)
 expr-left d bs text x rest (b ∷ end) same h e n = expr-step d bs text x rest (b ∷ end) same h e

@@ -55,7 +55,8 @@ mutual
         → ExprFault O IsOperand OperandFault d after f → ExprFault O IsOperand OperandFault (suc d) bs f
     no_colon : {d : ℕ} {bs : Text} (cs : List (Token O)) (c : Expr O) (h : ℕ) (ys : List (Token O)) (y : Expr O) (i : ℕ)
         (after : Text) → IsChain O h 13 cs c → h ≤ d → IsExpr O i ys y → i ≤ d
-        → AreTokens O IsOperand bs after (cs ++ mark marks.QuestionMark ∷ ys) → NextIsNot (MayFollowOr marks.Colon) after
+        → AreTokens O IsOperand bs after (cs ++ mark marks.QuestionMark ∷ ys)
+        → NextIsNot (MayFollowOr marks.Colon) after
         → ExprFault O IsOperand OperandFault (suc d) bs (bad_next after)
     in_no : {d : ℕ} {bs : Text} {f : Fault} (cs : List (Token O)) (c : Expr O) (h : ℕ) (ys : List (Token O))
         (y : Expr O) (i : ℕ) (after : Text) → IsChain O h 13 cs c → h ≤ d → IsExpr O i ys y → i ≤ d

@@ -3,7 +3,10 @@ use Rattle.std.specs.Prelude.{◌≡◌, ◌≤◌, ◌-◌, ℕ, suc, max, List
 use Rattle.tclexpr.specs.declared.operators.UnaryOperator.{UnaryOperator}
 use Rattle.tclexpr.specs.declared.operators.UnaryOperator.TheVariants as signs
 use Rattle.tclexpr.specs.declared.operators.BinaryOperator.{BinaryOperator}
-use Rattle.tclexpr.specs.declared.operators.BinaryOperator.TheVariants.{Multiply, Divide, Remainder, Add, Subtract, ShiftLeft, ShiftRight, Less, Greater, LessEqual, GreaterEqual, Equal, NotEqual, TextEqual, TextNotEqual, In, NotIn, BitAnd, BitXor, BitOr}
+use Rattle.tclexpr.specs.declared.operators.BinaryOperator.TheVariants.{Multiply, Divide, Remainder, Add, Subtract}
+use Rattle.tclexpr.specs.declared.operators.BinaryOperator.TheVariants.{ShiftLeft, ShiftRight, Less, Greater, LessEqual}
+use Rattle.tclexpr.specs.declared.operators.BinaryOperator.TheVariants.{GreaterEqual, Equal, NotEqual, TextEqual}
+use Rattle.tclexpr.specs.declared.operators.BinaryOperator.TheVariants.{TextNotEqual, In, NotIn, BitAnd, BitXor, BitOr}
 use Rattle.tclexpr.specs.declared.operators.Infix.{Infix}
 use Rattle.tclexpr.specs.declared.operators.Infix.TheVariants.{Operator, And, Or}
 use Rattle.tclexpr.specs.declared.operators.Mark.{Mark}
@@ -52,7 +55,8 @@ mutual
     simple : {h : ℕ} {ts : List (Token O)} {e : Expr O} → IsChain O h 13 ts e → IsExpr O h ts e
     choosing : {h i j : ℕ} (cs ys ns : List (Token O)) {c y n : Expr O} → IsChain O h 13 cs c → IsExpr O i ys y
         → IsExpr O j ns n
-        → IsExpr O (suc (max h (max i j))) (cs ++ mark marks.QuestionMark ∷ (ys ++ mark marks.Colon ∷ ns)) (choice c y n)
+        → IsExpr O (suc (max h (max i j))) (cs ++ mark marks.QuestionMark ∷ (ys ++ mark marks.Colon ∷ ns))
+        (choice c y n)
 
   -- the same, where no operator between two operands, outside parentheses, is of a level above the second number;
   -- operators group to the left

@@ -3,7 +3,10 @@ use Rattle.std.specs.Prelude.{ℕ, [], ◌∷◌, Bool, false, ◌||◌, ◌&&�
 use Rattle.tclchars.specs.Runs.{Text, take_while, drop_while, begins}
 use Rattle.tclchars.specs.Bytes.{is_space, newline, backslash, left_parenthesis, right_parenthesis, star, colon}
 use Rattle.tclchars.specs.Classes.{is_name}
-use Rattle.tclexpr.specs.declared.operators.BinaryOperator.TheVariants.{Multiply, Divide, Remainder, Add, Subtract, ShiftLeft, ShiftRight, Less, Greater, LessEqual, GreaterEqual, Equal, NotEqual, TextEqual, TextNotEqual, In, NotIn, BitAnd, BitXor, BitOr}
+use Rattle.tclexpr.specs.declared.operators.BinaryOperator.TheVariants.{Multiply, Divide, Remainder, Add, Subtract}
+use Rattle.tclexpr.specs.declared.operators.BinaryOperator.TheVariants.{ShiftLeft, ShiftRight, Less, Greater, LessEqual}
+use Rattle.tclexpr.specs.declared.operators.BinaryOperator.TheVariants.{GreaterEqual, Equal, NotEqual, TextEqual}
+use Rattle.tclexpr.specs.declared.operators.BinaryOperator.TheVariants.{TextNotEqual, In, NotIn, BitAnd, BitXor, BitOr}
 use Rattle.tclexpr.specs.declared.operators.Infix.TheVariants.{Operator, And, Or}
 use Rattle.tclexpr.specs.declared.operators.Mark.{Mark}
 use Rattle.tclexpr.specs.declared.operators.Mark.TheVariants.{Open, Close, QuestionMark, Colon, Complement, Not, Infix}

@@ -1,7 +1,8 @@
 -- The grammar of operands (expr(n), OPERANDS): which texts begin with an operand, and what is wrong where none does.
 use Rattle.std.specs.Prelude.{◌≡◌, ◌≤◌, ℕ, suc, [], ◌∷◌, ◌++◌, length, Bool, true, false, not, ◌||◌, ◌==◌, Some, None}
 use Rattle.tclchars.specs.Runs.{Text, begins}
-use Rattle.tclchars.specs.Bytes.{AllPass, MayBegin, DoesBegin, quote, dollar, left_parenthesis, left_bracket, left_brace, right_brace}
+use Rattle.tclchars.specs.Bytes.{AllPass, MayBegin, DoesBegin, quote, dollar, left_parenthesis, left_bracket}
+use Rattle.tclchars.specs.Bytes.{left_brace, right_brace}
 use Rattle.tclchars.specs.Classes.{is_name}
 use Rattle.tclchars.specs.Braces.{Balanced}
 use Rattle.tclchars.specs.declared.fault.Fault.{Fault}
@@ -11,7 +12,8 @@ use Rattle.tclscript.specs.Tree as tree
 use Rattle.tclscript.specs.Tree.{Part, Parts, part_nesting, parts_nesting}
 use Rattle.tclscript.specs.Grammar.{IsPart, IsParts, IsLiteralDollar}
 use Rattle.tclscript.specs.Faults.{PartFault, PartsFault, NeverCloses}
-use Rattle.tclexpr.specs.Operands.{Operand, number, word, variable, indexed, bracket, quoted, braced, after_number, is_truth}
+use Rattle.tclexpr.specs.Operands.{Operand, number, word, variable, indexed, bracket, quoted, braced, after_number}
+use Rattle.tclexpr.specs.Operands.{is_truth}
 
 -- a substitution, as in scripts
 abbrev pub IsSubstitution : Text → Text → Part → ℕ → Type 0

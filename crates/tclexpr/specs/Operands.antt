@@ -1,6 +1,7 @@
 -- The operands of expressions (expr(n), OPERANDS), as functions that compute: numbers, truth words, and the
 -- substitutions, quoted and braced texts of scripts.
-use Rattle.std.specs.Prelude.{ℕ, suc, ◌+◌, [], ◌∷◌, length, Bool, true, false, not, ◌||◌, ◌&&◌, ◌==◌, nat_le, if◌then◌else◌, Option, Some, None, Result, Ok, Err}
+use Rattle.std.specs.Prelude.{ℕ, suc, ◌+◌, [], ◌∷◌, length, Bool, true, false, not, ◌||◌, ◌&&◌, ◌==◌, nat_le}
+use Rattle.std.specs.Prelude.{if◌then◌else◌, Option, Some, None, Result, Ok, Err}
 use Rattle.tclchars.specs.Bytes.{quote, dollar, left_parenthesis, left_bracket, left_brace}
 use Rattle.tclchars.specs.Runs.{Text, take_while, drop_while, begins}
 use Rattle.tclchars.specs.Classes.{is_name, begins_in}

@@ -1,6 +1,7 @@
 -- Reading an expression from left to right, with the first fault that is met: the grammar as functions that compute,
 -- which the code follows step by step. By the law `expr_of_grammar` they agree with the grammar.
-use Rattle.std.specs.Prelude.{◌-◌, ℕ, zero, suc, max, [], ◌∷◌, length, Bool, true, false, nat_lt, nat_le, if◌then◌else◌, Option, Some, None, Result, Ok, Err}
+use Rattle.std.specs.Prelude.{◌-◌, ℕ, zero, suc, max, [], ◌∷◌, length, Bool, true, false, nat_lt, nat_le, if◌then◌else◌}
+use Rattle.std.specs.Prelude.{Option, Some, None, Result, Ok, Err}
 use Rattle.tclchars.specs.Runs.{Text}
 use Rattle.tclchars.specs.declared.fault.Fault.{Fault}
 use Rattle.tclchars.specs.declared.fault.Fault.TheVariants.{TooDeep, BadExpression}

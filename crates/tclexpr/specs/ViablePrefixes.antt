@@ -3,7 +3,8 @@
 use Rattle.std.specs.Prelude.{◌≡◌, ◌+◌, ℕ, List, ◌++◌, length}
 use Rattle.tclchars.specs.Runs.{Text}
 use Rattle.tclchars.specs.declared.fault.Fault.{Fault}
-use Rattle.tclchars.specs.declared.fault.Fault.TheVariants.{OpenBrace, OpenQuote, OpenBracket, JoinedToClose, TooDeep, BadCharacter, BadExpression}
+use Rattle.tclchars.specs.declared.fault.Fault.TheVariants.{OpenBrace, OpenQuote, OpenBracket, JoinedToClose, TooDeep}
+use Rattle.tclchars.specs.declared.fault.Fault.TheVariants.{BadCharacter, BadExpression}
 use Rattle.tclexpr.specs.Tree.{Expr, Token}
 use Rattle.tclexpr.specs.Grammar.{IsExpr}
 use Rattle.tclexpr.specs.Marks.{after_white}

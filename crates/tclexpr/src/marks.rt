@@ -53,7 +53,6 @@ fn two_bytes(b: u8, c: u8) -> Option<Mark>
     }
 }
 
-/// The mark of this byte.
 fn one_byte(b: u8) -> Option<Mark>
     ensures { result ≡ one_byte b }
 {

@@ -1,6 +1,7 @@
 //! How numbers are spelled in expressions (expr(n), OPERANDS).
 ghost use Rattle.std.specs.Prelude.{◌≡◌, ◌<◌, option_map};
-ghost use Rattle.tclexpr.specs.Operands.{is_digit, begins_digit, after_digits, announced, after_based, after_sign, after_exponent, after_fraction, begins_point, after_decimal, after_number};
+ghost use Rattle.tclexpr.specs.Operands.{is_digit, begins_digit, after_digits, announced, after_based, after_sign};
+ghost use Rattle.tclexpr.specs.Operands.{after_exponent, after_fraction, begins_point, after_decimal, after_number};
 
 use crate::marks::after_first;
 

@@ -6,7 +6,9 @@ ghost use Rattle.tclchars.specs.Reading.{stopped_by};
 ghost use Rattle.tclscript.specs.Pieces.{IsSuffixOf};
 ghost use Rattle.tclscript.specs.Tree.{part_nesting};
 ghost use Rattle.tclscript.specs.View.{part_view};
-ghost use Rattle.tclexpr.specs.Operands.{after_number, lower, is_prefix, is_truth_prefix, is_switch_prefix, is_truth, operand_of, variable_operand_at, bracket_operand_at, quoted_at, braced_text_at, word_at, numeric, operand_at};
+ghost use Rattle.tclexpr.specs.Operands.{after_number, lower, is_prefix, is_truth_prefix, is_switch_prefix, is_truth};
+ghost use Rattle.tclexpr.specs.Operands.{operand_of, variable_operand_at, bracket_operand_at, quoted_at};
+ghost use Rattle.tclexpr.specs.Operands.{braced_text_at, word_at, numeric, operand_at};
 ghost use Rattle.tclexpr.specs.View.{operand_view};
 
 use crate::nesting::{parts_nesting, script_nesting};

@@ -11,7 +11,9 @@ ghost use Rattle.tclexpr.specs.Grammar.{level};
 ghost use Rattle.tclexpr.specs.Marks.{mark_at, after_white};
 ghost use Rattle.tclexpr.specs.Faults.{Follows};
 ghost use Rattle.tclexpr.specs.Operands.{operand_at};
-ghost use Rattle.tclexpr.specs.Reading.{chain, is_close, is_colon, is_open, is_question_mark, expect, join, prefix_at, leaf_of, unary_of, choice_of, enclosed_at, branches_at, chain_at, whole_at, below_at};
+ghost use Rattle.tclexpr.specs.Reading.{chain, is_close, is_colon, is_open, is_question_mark, expect, join, prefix_at};
+ghost use Rattle.tclexpr.specs.Reading.{leaf_of, unary_of, choice_of, enclosed_at, branches_at, chain_at, whole_at};
+ghost use Rattle.tclexpr.specs.Reading.{below_at};
 ghost use Rattle.tclexpr.specs.View.{with_height_view, expr_view};
 
 use crate::marks::{level, read_mark, sign_of, skip_white};
@@ -79,7 +81,6 @@ fn right_level(between: Infix) -> usize
     level(between) - 1
 }
 
-/// An operator and its operand.
 fn unary<P: Drop>(
     alloc: Global,
     operator: UnaryOperator,

@@ -14,7 +14,9 @@ of_then c (b ∷ ws) f h =
     let e : f ≡ (c, b, ws) = cc in
     rw e refl
 
-of_words : (c w : Text) (ws : List Text) (f : FirstBranch) (t : Bool) → bytes_eq w (codes "then") ≡ t → (if t then after_then c ws else Some (c, w, ws)) ≡ Some f → after_condition c (w ∷ ws) ≡ branch f.0 f.1 (after_body f.2)
+of_words : (c w : Text) (ws : List Text) (f : FirstBranch) (t : Bool) → bytes_eq w (codes "then") ≡ t
+    → (if t then after_then c ws else Some (c, w, ws)) ≡ Some f
+    → after_condition c (w ∷ ws) ≡ branch f.0 f.1 (after_body f.2)
 of_words c w ws f true e h = rw e (of_then c ws f h)
 of_words c w ws f false e h =
     let g : f ≡ (c, w, ws) = cc in
@@ -50,7 +52,9 @@ at_last (w ∷ ws) h = tested (bytes_eq w (codes "elseif")) refl h
     tested false e g = rw e refl
 
 -- a branch with elseif after it
-pub goes_on : (all rest rs more : List Text) (ps : List (Text × Text)) (c b : Text) → branches all ≡ prefixed_pairs ps (branches rest) → first_branch rest ≡ Some (c, b, rs) → after_elseif rs ≡ Some more
+pub goes_on : (all rest rs more : List Text) (ps : List (Text × Text)) (c b : Text)
+    → branches all ≡ prefixed_pairs ps (branches rest) → first_branch rest ≡ Some (c, b, rs)
+    → after_elseif rs ≡ Some more
     → branches all ≡ prefixed_pairs (ps ++ (c, b) ∷ []) (branches more)
 goes_on all rest rs more ps c b i f h =
     i ∙ ap (prefixed_pairs ps) (of_first rest (c, b, rs) f ∙ ap (branch c b) (at_elseif rs more h)) ∙ one_more ps c b (branches more)

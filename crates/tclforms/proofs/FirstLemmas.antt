@@ -1,5 +1,7 @@
 -- Of a name that comes again the first value.
-use Rattle.std.proofs.Common.{◌≡◌, ℕ, ◌==◌, ◌-◌, ◌<◌, ◌≤◌, length, take, drop, get_or, arith, Bool, true, false, not, cond, List, [], ◌∷◌, ◌++◌, map, String, Global, Bor, Ok, Err, refl, sym, ap, ◌∙◌, append_assoc, append-nil, ◌||◌}
+use Rattle.std.proofs.Common.{◌≡◌, ℕ, ◌==◌, ◌-◌, ◌<◌, ◌≤◌, length, take, drop, get_or, arith, Bool, true, false, not}
+use Rattle.std.proofs.Common.{cond, List, [], ◌∷◌, ◌++◌, map, String, Global, Bor, Ok, Err, refl, sym, ap, ◌∙◌}
+use Rattle.std.proofs.Common.{append_assoc, append-nil, ◌||◌}
 use Rattle.std.specs.Prelude.{string_bytes}
 use Rattle.std.specs.List.{list_any}
 use Rattle.std.specs.Str.{bytes_eq}
@@ -51,7 +53,10 @@ passed_over : (ds vs : Variables) (n v : Text) → list_any (bytes_eq n) (map (�
 passed_over [] vs n v h = cc
 passed_over (d ∷ ds) vs n v h = go (passed_over ds (without vs d.0) n v) (bytes_eq d.0 n) refl
   where
-    go : (list_any (bytes_eq n) (map (λ d. d.0) ds) ≡ true → except ds ((n, v) ∷ without (without vs d.0) n) ≡ except ds (without vs d.0)) → (b : Bool) → bytes_eq d.0 n ≡ b → except ds (cond b (without vs n) ((n, v) ∷ without (without vs n) d.0)) ≡ except ds (without vs d.0)
+    go : (list_any (bytes_eq n) (map (λ d. d.0) ds) ≡ true
+        → except ds ((n, v) ∷ without (without vs d.0) n) ≡ except ds (without vs d.0)) → (b : Bool)
+        → bytes_eq d.0 n ≡ b → except ds (cond b (without vs n) ((n, v) ∷ without (without vs n) d.0)) ≡ except ds
+        (without vs d.0)
     go k true e = ap (λ x. except ds (without vs x)) (sym (same d.0 n e))
     go k false e = let f : bytes_eq n d.0 ≡ false = transposed n d.0 ∙ e in ap (λ r. except ds ((n, v) ∷ r)) (without_both vs n d.0) ∙ k (rw f at h)
 
@@ -60,7 +65,9 @@ passed_on : (ds vs : Variables) (n v : Text) → list_any (bytes_eq n) (map (λ 
 passed_on [] vs n v h = refl
 passed_on (d ∷ ds) vs n v h = go (passed_on ds (without vs d.0) n v) (bytes_eq d.0 n) refl
   where
-    go : (list_any (bytes_eq n) (map (λ d. d.0) ds) ≡ false → except ds ((n, v) ∷ without vs d.0) ≡ (n, v) ∷ except ds (without vs d.0)) → (b : Bool) → bytes_eq d.0 n ≡ b → except ds (cond b vs ((n, v) ∷ without vs d.0)) ≡ (n, v) ∷ except ds (without vs d.0)
+    go : (list_any (bytes_eq n) (map (λ d. d.0) ds) ≡ false
+        → except ds ((n, v) ∷ without vs d.0) ≡ (n, v) ∷ except ds (without vs d.0)) → (b : Bool) → bytes_eq d.0 n ≡ b
+        → except ds (cond b vs ((n, v) ∷ without vs d.0)) ≡ (n, v) ∷ except ds (without vs d.0)
     go k true e =
         let f : bytes_eq n d.0 ≡ true = transposed n d.0 ∙ e in
         let g : true ≡ false = rw f at h in
@@ -70,14 +77,18 @@ passed_on (d ∷ ds) vs n v h = go (passed_on ds (without vs d.0) n v) (bytes_eq
 first_on : (done rest : Variables) (n v : Text) → done ++ except done ((n, v) ∷ without rest n) ≡ with_first done n v ++ except (with_first done n v) rest
 first_on done rest n v = go (list_any (bytes_eq n) (map (λ d. d.0) done)) refl
   where
-    go : (b : Bool) → list_any (bytes_eq n) (map (λ d. d.0) done) ≡ b → done ++ except done ((n, v) ∷ without rest n) ≡ (cond b done (done ++ (n, v) ∷ [])) ++ except (cond b done (done ++ (n, v) ∷ [])) rest
+    go : (b : Bool) → list_any (bytes_eq n) (map (λ d. d.0) done) ≡ b → done
+        ++ except done ((n, v) ∷ without rest n) ≡ (cond b done (done ++ (n, v) ∷ []))
+        ++ except (cond b done (done ++ (n, v) ∷ [])) rest
     go true e = ap (λ r. done ++ r) (passed_over done rest n v e)
     go false e =
         ap (λ r. done ++ r) (passed_on done (without rest n) n v e ∙ ap (λ r. (n, v) ∷ r) (but_for_without done rest n ∙ sym (but_for_last done rest (n, v))))
         ∙ sym (append_assoc done ((n, v) ∷ []) (except (done ++ (n, v) ∷ []) rest))
 
 -- a parameter more has its words
-allotted_on : (name : Text) (p : Parameter) (ps : List Parameter) (ws : List Text) (a : Text × List Text) (done next : Variables) → parameter_value name p ps ws ≡ Ok a → next ≡ with_first done p.0 a.0 → prefixed_firsts done (parameter_values name (p ∷ ps) ws) ≡ prefixed_firsts next (parameter_values name ps a.1)
+allotted_on : (name : Text) (p : Parameter) (ps : List Parameter) (ws : List Text) (a : Text × List Text)
+    (done next : Variables) → parameter_value name p ps ws ≡ Ok a → next ≡ with_first done p.0 a.0
+    → prefixed_firsts done (parameter_values name (p ∷ ps) ws) ≡ prefixed_firsts next (parameter_values name ps a.1)
 allotted_on name p ps ws a done next t n = rw (t, n) (go (parameter_values name ps a.1))
   where
     go : (more : Answer Variables) → prefixed_firsts done (more >>= (λ vs. Ok ((p.0, a.0) ∷ without vs p.0))) ≡ prefixed_firsts (with_first done p.0 a.0) more
@@ -112,8 +123,14 @@ kept_first ks vs n v r a h = go (list_any (λ k. bytes_eq n.now k.now) ks) refl
         (λ t. rw (among ∙ e) (map-append (λ w. (w.0.now, string_bytes w.1)) vs ((n, v) ∷ [])), λ t. let d : true ≡ false = sym f ∙ t in cc)
 
 -- a turn over the parameters
-pub allotted_step : (name : Text) (all : Answer Variables) (rest : List program.Parameter) (p : program.Parameter) (ws : List Text) (a : Text × List Text) (done next : Variables) → all ≡ prefixed_firsts done (parameter_values name (map parameter_view rest) ws) → 1 ≤ length rest → p ≡ get_or rest 0 p
-    → parameter_value name (parameter_view p) (map parameter_view (take (length rest - 1) (drop 1 rest))) ws ≡ Ok a → next ≡ with_first done (string_bytes p.name) a.0 → all ≡ prefixed_firsts next (parameter_values name (map parameter_view (take (length rest - 1) (drop 1 rest))) a.1)
+pub allotted_step : (name : Text) (all : Answer Variables) (rest : List program.Parameter) (p : program.Parameter)
+    (ws : List Text) (a : Text × List Text) (done next : Variables)
+    → all ≡ prefixed_firsts done (parameter_values name (map parameter_view rest) ws) → 1 ≤ length rest
+    → p ≡ get_or rest 0 p
+    → parameter_value name (parameter_view p) (map parameter_view (take (length rest - 1) (drop 1 rest))) ws ≡ Ok a
+    → next ≡ with_first done (string_bytes p.name) a.0
+    → all ≡ prefixed_firsts next (parameter_values name (map parameter_view (take (length rest - 1) (drop 1 rest)))
+    a.1)
 allotted_step name all [] p ws a done next i l e t n = absurd (omega arith)
 allotted_step name all (q ∷ qs) p ws a done next i l e t n =
     let c : take (length (q ∷ qs) - 1) qs ≡ qs = take_all _ qs (omega arith) in
@@ -123,7 +140,9 @@ is_zero : (n : ℕ) → true ≡ (n == 0) → n ≡ 0
 is_zero n h = grind (arith, nat_tests)
 
 -- and its end
-pub allotted_end : (name : Text) (all : Answer Variables) (ps : List program.Parameter) (ws : List (String Global)) (done : Variables) → all ≡ prefixed_firsts done (parameter_values name (map parameter_view ps) (map string_bytes ws)) → length ps < 1 → true ≡ (length ws == 0) → all ≡ Ok done
+pub allotted_end : (name : Text) (all : Answer Variables) (ps : List program.Parameter) (ws : List (String Global))
+    (done : Variables) → all ≡ prefixed_firsts done (parameter_values name (map parameter_view ps)
+    (map string_bytes ws)) → length ps < 1 → true ≡ (length ws == 0) → all ≡ Ok done
 allotted_end name all [] [] done i p w = i ∙ firsts_done done
 allotted_end name all (q ∷ qs) ws done i p w = absurd (omega arith)
 allotted_end name all [] (v ∷ vs) done i p w = let z : length (v ∷ vs) ≡ 0 = is_zero (length (v ∷ vs)) w in absurd (omega arith)

@@ -1,5 +1,7 @@
 -- The items of lists that remain after turns.
-use Rattle.std.proofs.Common.{◌≡◌, ℕ, zero, suc, ◌+◌, ◌-◌, ◌*◌, ◌^◌, ◌<◌, ◌≤◌, min, Bool, true, false, nat_lt, List, [], ◌∷◌, ◌++◌, length, map, take, drop, get_or, String, Global, Bor, Ok, Err, refl, sym, ap, ◌∙◌, add-one, append_assoc, arith, length-drop}
+use Rattle.std.proofs.Common.{◌≡◌, ℕ, zero, suc, ◌+◌, ◌-◌, ◌*◌, ◌^◌, ◌<◌, ◌≤◌, min, Bool, true, false, nat_lt, List, []}
+use Rattle.std.proofs.Common.{◌∷◌, ◌++◌, length, map, take, drop, get_or, String, Global, Bor, Ok, Err, refl, sym, ap}
+use Rattle.std.proofs.Common.{◌∙◌, add-one, append_assoc, arith, length-drop}
 use Rattle.std.specs.Prelude.{string_bytes}
 use Rattle.std.proofs.lemmas.Bool.Decides.{nat_tests}
 use Rattle.std.proofs.Math.Nat.{mul-suc, suc-mul}
@@ -45,18 +47,31 @@ items_more ts n turns more p s e = go (nat_lt (turns + 1) (2 ^ 64)) refl ∙ sym
         let k : turns ≤ turns * n = at_least turns n p in
         drop_both ts (more * n) (turns * n + n) (omega arith) (omega arith)
 
-one_more : (l : program.Items) (turns more : ℕ) → more ≡ min (turns + 1) (2 ^ 64 - 1) → remaining_after more l ≡ (texts_of l.names.items, drop (length (texts_of l.names.items)) (remaining_after turns l).1)
+one_more : (l : program.Items) (turns more : ℕ) → more ≡ min (turns + 1) (2 ^ 64 - 1)
+    → remaining_after more l ≡ (
+      texts_of l.names.items,
+      drop (length (texts_of l.names.items))
+          (remaining_after turns l).1,
+    )
 one_more l turns more e =
-    rw (length_texts l.names.items) (ap (λ (ts : List Text). (texts_of l.names.items, ts)) (items_more (texts_of l.items.items) (length l.names.items) turns more l.named (rw (length_texts l.items.items) l.few) e))
+    rw (length_texts l.names.items) (ap (λ (ts : List Text). (texts_of l.names.items, ts))
+    (items_more (texts_of l.items.items) (length l.names.items) turns more l.named
+    (rw (length_texts l.items.items) l.few) e))
 
 pub shortened_more : (ls : List program.Items) (turns more : ℕ) → more ≡ min (turns + 1) (2 ^ 64 - 1) → map (remaining_after more) ls ≡ shortened (map (remaining_after turns) ls)
 shortened_more [] turns more e = refl
 shortened_more (l ∷ ls) turns more e = rw (one_more l turns more e, shortened_more ls turns more e) refl
 
-pub left_before : (l : program.Items) (turns passed : ℕ) (ts : List (String Global)) → passed ≡ min (turns * length l.names.items) (2 ^ 64 - 1) → ts ≡ l.items.items → length l.items.items < 2 ^ 64 → passed < length l.items.items → (texts_of l.names.items, texts_of (take (length ts - passed) (drop passed ts))) ≡ remaining_after turns l
+pub left_before : (l : program.Items) (turns passed : ℕ) (ts : List (String Global))
+    → passed ≡ min (turns * length l.names.items) (2 ^ 64 - 1) → ts ≡ l.items.items → length l.items.items < 2 ^ 64
+    → passed < length l.items.items → (texts_of l.names.items, texts_of (take (length ts - passed) (drop passed ts))) ≡
+    remaining_after turns l
 left_before l turns passed ts e t s h =
     let f : passed ≡ turns * length l.names.items = omega arith in
-    let g : take (length ts - passed) (drop passed ts) ≡ drop passed l.items.items = ap (λ us. take (length us - passed) (drop passed us)) t ∙ take_all (length l.items.items - passed) (drop passed l.items.items) (omega (arith, length-drop passed l.items.items)) in
+    let g : take (length ts - passed) (drop passed ts) ≡ drop passed l.items.items = ap
+    (λ us. take (length us - passed) (drop passed us)) t
+    ∙ take_all (length l.items.items - passed) (drop passed l.items.items)
+    (omega (arith, length-drop passed l.items.items)) in
     ap (λ (us : List Text). (texts_of l.names.items, us)) (ap texts_of g ∙ sym (drop-map string_bytes passed l.items.items) ∙ ap (λ n. drop n (texts_of l.items.items)) f)
 
 -- the first list of a foreach
@@ -67,7 +82,8 @@ loops_first p ps = go (elements_of p.0 >>= named)
     goes vs (Ok es) = refl
     goes vs (Err f) = refl
 
-    go : (a : Answer (List Text)) → a >>= (λ vs. elements_of p.1 >>= (λ es. loops ps >>= (λ ls. Ok ((vs, es) ∷ ls)))) ≡ (a >>= (λ vs. elements_of p.1 >>= (λ es. Ok (vs, es)))) >>= (λ l. loops ps >>= (λ ls. Ok (l ∷ ls)))
+    go : (a : Answer (List Text)) → a >>= (λ vs. elements_of p.1 >>= (λ es. loops ps >>= (λ ls. Ok ((vs, es) ∷ ls)))) ≡
+        (a >>= (λ vs. elements_of p.1 >>= (λ es. Ok (vs, es)))) >>= (λ l. loops ps >>= (λ ls. Ok (l ∷ ls)))
     go (Ok vs) = goes vs (elements_of p.1)
     go (Err f) = refl
 
@@ -79,7 +95,10 @@ loops_prefixed done p ps l e = ap (prefixed done) (loops_first p ps ∙ rw e ref
     go (Err f) = refl
 
 -- a step over the lists
-pub loops_step : (all rest : List (Bor (List ℕ) × Bor (List ℕ))) (read new : List program.Items) (d : Bor (List ℕ) × Bor (List ℕ)) (l : program.Items) → loops (pair_texts all) ≡ prefixed (map (remaining_after 0) read) (loops (pair_texts rest)) → 1 ≤ length rest → one_loop ((get_or rest 0 d).0.now, (get_or rest 0 d).1.now) ≡ Ok (remaining_after 0 l) → new ≡ read ++ l ∷ []
+pub loops_step : (all rest : List (Bor (List ℕ) × Bor (List ℕ))) (read new : List program.Items)
+    (d : Bor (List ℕ) × Bor (List ℕ)) (l : program.Items)
+    → loops (pair_texts all) ≡ prefixed (map (remaining_after 0) read) (loops (pair_texts rest)) → 1 ≤ length rest
+    → one_loop ((get_or rest 0 d).0.now, (get_or rest 0 d).1.now) ≡ Ok (remaining_after 0 l) → new ≡ read ++ l ∷ []
     → loops (pair_texts all) ≡ prefixed (map (remaining_after 0) new) (loops (pair_texts (take (length rest - 1) (drop 1 rest))))
 loops_step all [] read new d l i n e f = absurd (omega arith)
 loops_step all (p ∷ ps) read new d l i n e f =

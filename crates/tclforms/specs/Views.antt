@@ -1,5 +1,6 @@
 -- What the forms of the program stand for in the rules (tclrules/specs/Forms.antt). Own.
-use Rattle.std.specs.Prelude.{ℕ, Bool, true, false, List, [], ◌∷◌, map, string_bytes, String, Option, Some, None, Ok, Err}
+use Rattle.std.specs.Prelude.{ℕ, Bool, true, false, List, [], ◌∷◌, map, string_bytes, String, Option, Some, None, Ok}
+use Rattle.std.specs.Prelude.{Err}
 use Rattle.std.specs.Borrow.{Bor}
 use Rattle.std.specs.Option.{option_map}
 use Rattle.std.specs.declared.alloc.Global.{Global}
@@ -8,12 +9,12 @@ use Rattle.tcloperators.specs.Faults.{Answer}
 use Rattle.tclrules.specs.Forms as forms
 use Rattle.tclforms.specs.declared.form.Form.{Form}
 use Rattle.tclforms.specs.declared.form.Form.TheVariants as form
-use Rattle.tclforms.specs.declared.form.Simple.{Simple}
-use Rattle.tclforms.specs.declared.form.Simple.TheVariants as simple
+use Rattle.tclforms.specs.declared.form.SimpleForm.{SimpleForm}
+use Rattle.tclforms.specs.declared.form.SimpleForm.TheVariants as simple
 use Rattle.tclforms.specs.declared.form.Comparison.{Comparison}
 use Rattle.tclforms.specs.declared.form.Comparison.TheVariants as comparisons
-use Rattle.tclforms.specs.declared.form.Missing.{Missing}
-use Rattle.tclforms.specs.declared.form.Missing.TheVariants as missing
+use Rattle.tclforms.specs.declared.form.WhenMissing.{WhenMissing}
+use Rattle.tclforms.specs.declared.form.WhenMissing.TheVariants as missing
 use Rattle.tclforms.specs.declared.form.Patterns.{Patterns}
 use Rattle.tclforms.specs.declared.form.Patterns.TheVariants as patterns
 
@@ -42,12 +43,12 @@ is_glob comparisons.Exact = false
 is_glob comparisons.Glob = true
 
 -- unset makes nothing of a variable that isn't set
-abbrev pub is_ignored : Missing → Bool
+abbrev pub is_ignored : WhenMissing → Bool
 is_ignored missing.Ignored = true
 is_ignored missing.IsError = false
 
 -- a form of a command that evaluates no script
-abbrev pub simple_view : Simple → forms.Form
+abbrev pub simple_view : SimpleForm → forms.Form
 simple_view (simple.Get v) = forms.Get v.now
 simple_view (simple.Set v x) = forms.Set v.now x.now
 simple_view (simple.Unset absent vs) = forms.Unset (is_ignored absent) (texts_of vs.now)

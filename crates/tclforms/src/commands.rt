@@ -8,7 +8,7 @@ ghost use Rattle.tclforms.specs.Views.{form_view, transposed};
 
 use crate::conditional::if_form;
 use crate::foreach::foreach_form;
-use crate::form::{Form, Simple};
+use crate::form::{Form, SimpleForm};
 use crate::switch::switch_form;
 use crate::words::{
     append_form, catch_form, error_form, exit_form, expr_form, for_form, incr_form, info_form,
@@ -46,15 +46,21 @@ pub fn core_form<'a>(
         "switch" => switch_form(alloc, words).map(Some),
         "proc" => proc_form(alloc, words).map(Some),
         "return" => return_form(alloc, words).map(Some),
-        "break" => without_words(alloc, "break", Form::Simple(Simple::Break), words).map(Some),
-        "continue" => without_words(alloc, "continue", Form::Simple(Simple::Continue), words).map(
+        "break" => without_words(alloc, "break", Form::SimpleForm(SimpleForm::Break), words).map(
             Some,
         ),
+        "continue" => without_words(
+            alloc,
+            "continue",
+            Form::SimpleForm(SimpleForm::Continue),
+            words,
+        )
+        .map(Some),
         "exit" => exit_form(alloc, words).map(Some),
         "error" => error_form(alloc, words).map(Some),
         "catch" => catch_form(alloc, words).map(Some),
         "info" => info_form(alloc, words).map(Some),
-        "global" => Ok(Some(Form::Simple(Simple::Global(words)))),
+        "global" => Ok(Some(Form::SimpleForm(SimpleForm::Global(words)))),
         "puts" => puts_form(alloc, words).map(Some),
         _ => Ok(None),
     }

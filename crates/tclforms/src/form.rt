@@ -6,7 +6,7 @@ ghost use Rattle.std.specs.Prelude.{◌≡◌, map, string_bytes};
 #[derive(Drop)]
 pub enum Form<'a> {
     /// A command that evaluates no script.
-    Simple(Simple<'a>),
+    SimpleForm(SimpleForm<'a>),
     /// `expr a...`
     Express(&'a [String]),
     /// `if`: conditions with their bodies, and the last body.
@@ -56,7 +56,7 @@ pub enum Comparison {
 
 /// What unset(n) makes of a variable that isn't set.
 #[derive(Clone, Copy)]
-pub enum Missing {
+pub enum WhenMissing {
     /// Nothing (`-nocomplain`).
     Ignored,
     /// An error.
@@ -65,13 +65,13 @@ pub enum Missing {
 
 /// The form of a core command that evaluates no script.
 #[derive(Clone, Copy)]
-pub enum Simple<'a> {
+pub enum SimpleForm<'a> {
     /// `set v`
     Get(&'a str),
     /// `set v x`
     Set(&'a str, &'a str),
     /// `unset v...`, with or without `-nocomplain`.
-    Unset(Missing, &'a [String]),
+    Unset(WhenMissing, &'a [String]),
     /// `append v x...`
     Append(&'a str, &'a [String]),
     /// `lappend v x...`

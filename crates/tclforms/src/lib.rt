@@ -19,7 +19,7 @@ mod words;
 pub use calls::parameter_values;
 pub use choice::chosen;
 pub use commands::core_form;
-pub use form::{Comparison, ForLoop, Form, Missing, Patterns, Simple, WhileLoop};
+pub use form::{Comparison, ForLoop, Form, Patterns, SimpleForm, WhenMissing, WhileLoop};
 pub use loops::Loops;
 pub use messages::{cannot_unset, no_command, outside_loop};
 pub use names::{is_in, is_reserved, is_unsupported};

@@ -1,7 +1,8 @@
 //! The errors of core commands that catch(n) sees.
 ghost use Rattle.std.specs.Prelude.{◌≡◌, IfOk, string_bytes};
 ghost use Rattle.tcloperators.specs.Faults.{HasReason, error};
-ghost use Rattle.tclrules.specs.Messages.{bad_option, no_body, no_command, outside_loop, cannot_unset, no_loop_variable, cannot_redefine};
+ghost use Rattle.tclrules.specs.Messages.{bad_option, no_body, no_command, outside_loop, cannot_unset};
+ghost use Rattle.tclrules.specs.Messages.{no_loop_variable, cannot_redefine};
 
 use std::alloc::{AllocError, Global};
 use tcloperators::{ValueFault, in_quotes, tcl_error};

@@ -29,7 +29,6 @@ fn parameter(alloc: Global, words: &[String]) -> Result<Parameter, ValueFault>
     }
 }
 
-/// The parameters of these lists, one each.
 fn parameters_of(alloc: Global, lists: &[String]) -> Result<Vec<Parameter>, ValueFault>
     ensures { Gives reason_of (λ ps. map parameter_view ps.items) result (parameters (map string_bytes lists.now)) }
 {

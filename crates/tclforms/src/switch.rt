@@ -3,7 +3,8 @@ ghost use Rattle.std.specs.Prelude.{◌≡◌, [], ◌∷◌, map, string_bytes,
 ghost use Rattle.std.specs.Option.{option_map};
 ghost use Rattle.message.specs.Answers.{Gives};
 ghost use Rattle.tcloperators.specs.Faults.{reason_of};
-ghost use Rattle.tclrules.specs.Forms.{is_option, options, glob_option, by_glob, paired, patterns_in, bodiless, with_patterns, switch_with, even_pairs, switch_form};
+ghost use Rattle.tclrules.specs.Forms.{is_option, options, glob_option, by_glob, paired, patterns_in, bodiless};
+ghost use Rattle.tclrules.specs.Forms.{with_patterns, switch_with, even_pairs, switch_form};
 ghost use Rattle.tclforms.specs.Views.{texts_of, in_pairs, is_glob, pattern_texts, form_view};
 
 use crate::form::{Comparison, Form, Patterns};
@@ -20,13 +21,13 @@ fn is_option(word: &str, following: &[String]) -> bool
 
 /// The options of a switch, and the words after them.
 #[derive(Clone, Copy)]
-struct Split<'a> {
+struct SplitOptions<'a> {
     options: &'a [String],
     rest: &'a [String],
 }
 
 /// The options that words begin with, and the words after them; `--` ends the options.
-fn split_options(words: &[String]) -> Split<'_>
+fn split_options(words: &[String]) -> SplitOptions<'_>
     ensures { (texts_of result.options.now, texts_of result.rest.now) ≡ options (map string_bytes words.entry.now) }
 {
     let mut rest = words;
@@ -35,14 +36,14 @@ fn split_options(words: &[String]) -> Split<'_>
             break;
         }
         if word.as_str() == "--" {
-            return Split {
+            return SplitOptions {
                 options: &words[..words.len() - rest.len()],
                 rest: following,
             };
         }
         rest = following;
     }
-    Split {
+    SplitOptions {
         options: &words[..words.len() - rest.len()],
         rest,
     }

@@ -2,10 +2,13 @@
 ghost use Rattle.std.specs.Prelude.{map, string_bytes, ◌≡◌};
 ghost use Rattle.message.specs.Answers.{Gives};
 ghost use Rattle.tcloperators.specs.Faults.{reason_of};
-ghost use Rattle.tclrules.specs.Forms.{set_form, after_dashes, unset_form, append_form, lappend_form, incr_form, expr_form, while_form, for_form, proc_form, return_form, exit_form, error_form, catch_form, exists_form, info_form, to_stderr, without_newline, puts_form, without_words};
+ghost use Rattle.tclrules.specs.Forms.{set_form, after_dashes, unset_form, append_form, lappend_form, incr_form};
+ghost use Rattle.tclrules.specs.Forms.{expr_form, while_form, for_form, proc_form, return_form, exit_form, error_form};
+ghost use Rattle.tclrules.specs.Forms.{catch_form, exists_form, info_form, to_stderr, without_newline, puts_form};
+ghost use Rattle.tclrules.specs.Forms.{without_words};
 ghost use Rattle.tclforms.specs.Views.{form_view, texts_of};
 
-use crate::form::{ForLoop, Form, Missing, Simple, WhileLoop};
+use crate::form::{ForLoop, Form, SimpleForm, WhenMissing, WhileLoop};
 use std::alloc::Global;
 use tcloperators::{ValueFault, unsupported, unsupported_subcommand, wrong_words};
 
@@ -14,8 +17,8 @@ pub(crate) fn set_form(alloc: Global, words: &[String]) -> Result<Form<'_>, Valu
     ensures { Gives reason_of form_view result (set_form (map string_bytes words.entry.now)) }
 {
     match words {
-        [name] => Ok(Form::Simple(Simple::Get(name))),
-        [name, value] => Ok(Form::Simple(Simple::Set(name, value))),
+        [name] => Ok(Form::SimpleForm(SimpleForm::Get(name))),
+        [name, value] => Ok(Form::SimpleForm(SimpleForm::Set(name, value))),
         _ => Err(wrong_words(alloc, "set")),
     }
 }
@@ -36,9 +39,9 @@ pub(crate) fn unset_form(words: &[String]) -> Form<'_>
 {
     match words {
         [word, rest @ ..] if word.as_str() == "-nocomplain" => {
-            Form::Simple(Simple::Unset(Missing::Ignored, after_dashes(rest)))
+            Form::SimpleForm(SimpleForm::Unset(WhenMissing::Ignored, after_dashes(rest)))
         }
-        _ => Form::Simple(Simple::Unset(Missing::IsError, after_dashes(words))),
+        _ => Form::SimpleForm(SimpleForm::Unset(WhenMissing::IsError, after_dashes(words))),
     }
 }
 
@@ -47,7 +50,7 @@ pub(crate) fn append_form(alloc: Global, words: &[String]) -> Result<Form<'_>, V
     ensures { Gives reason_of form_view result (append_form (map string_bytes words.entry.now)) }
 {
     match words {
-        [name, texts @ ..] => Ok(Form::Simple(Simple::Append(name, texts))),
+        [name, texts @ ..] => Ok(Form::SimpleForm(SimpleForm::Append(name, texts))),
         [] => Err(wrong_words(alloc, "append")),
     }
 }
@@ -57,7 +60,7 @@ pub(crate) fn lappend_form(alloc: Global, words: &[String]) -> Result<Form<'_>, 
     ensures { Gives reason_of form_view result (lappend_form (map string_bytes words.entry.now)) }
 {
     match words {
-        [name, elements @ ..] => Ok(Form::Simple(Simple::ListAppend(name, elements))),
+        [name, elements @ ..] => Ok(Form::SimpleForm(SimpleForm::ListAppend(name, elements))),
         [] => Err(wrong_words(alloc, "lappend")),
     }
 }
@@ -67,7 +70,7 @@ pub(crate) fn incr_form(alloc: Global, words: &[String]) -> Result<Form<'_>, Val
     ensures { Gives reason_of form_view result (incr_form (map string_bytes words.entry.now)) }
 {
     match words {
-        [name, numbers @ ..] => Ok(Form::Simple(Simple::Increase(name, numbers))),
+        [name, numbers @ ..] => Ok(Form::SimpleForm(SimpleForm::Increase(name, numbers))),
         [] => Err(wrong_words(alloc, "incr")),
     }
 }
@@ -112,7 +115,9 @@ pub(crate) fn proc_form(alloc: Global, words: &[String]) -> Result<Form<'_>, Val
     ensures { Gives reason_of form_view result (proc_form (map string_bytes words.entry.now)) }
 {
     match words {
-        [name, parameters, body] => Ok(Form::Simple(Simple::Define(name, parameters, body))),
+        [name, parameters, body] => Ok(Form::SimpleForm(SimpleForm::Define(
+            name, parameters, body,
+        ))),
         _ => Err(wrong_words(alloc, "proc")),
     }
 }
@@ -122,8 +127,8 @@ pub(crate) fn return_form(alloc: Global, words: &[String]) -> Result<Form<'_>, V
     ensures { Gives reason_of form_view result (return_form (map string_bytes words.entry.now)) }
 {
     match words {
-        [] => Ok(Form::Simple(Simple::Return(""))),
-        [value] => Ok(Form::Simple(Simple::Return(value))),
+        [] => Ok(Form::SimpleForm(SimpleForm::Return(""))),
+        [value] => Ok(Form::SimpleForm(SimpleForm::Return(value))),
         _ => Err(unsupported(alloc, "return")),
     }
 }
@@ -133,7 +138,7 @@ pub(crate) fn exit_form(alloc: Global, words: &[String]) -> Result<Form<'_>, Val
     ensures { Gives reason_of form_view result (exit_form (map string_bytes words.entry.now)) }
 {
     match words {
-        [] | [_] => Ok(Form::Simple(Simple::Exit)),
+        [] | [_] => Ok(Form::SimpleForm(SimpleForm::Exit)),
         _ => Err(wrong_words(alloc, "exit")),
     }
 }
@@ -143,7 +148,9 @@ pub(crate) fn error_form(alloc: Global, words: &[String]) -> Result<Form<'_>, Va
     ensures { Gives reason_of form_view result (error_form (map string_bytes words.entry.now)) }
 {
     match words {
-        [message] | [message, _] | [message, _, _] => Ok(Form::Simple(Simple::Error(message))),
+        [message] | [message, _] | [message, _, _] => Ok(Form::SimpleForm(SimpleForm::Error(
+            message,
+        ))),
         _ => Err(wrong_words(alloc, "error")),
     }
 }
@@ -164,7 +171,7 @@ fn exists_form(alloc: Global, words: &[String]) -> Result<Form<'_>, ValueFault>
     ensures { Gives reason_of form_view result (exists_form (map string_bytes words.entry.now)) }
 {
     match words {
-        [name] => Ok(Form::Simple(Simple::Exists(name))),
+        [name] => Ok(Form::SimpleForm(SimpleForm::Exists(name))),
         _ => Err(wrong_words(alloc, "info")),
     }
 }
@@ -216,7 +223,7 @@ fn to_stderr<'a>(alloc: Global, channel: &str, words: &'a [String]) -> Result<Fo
     ensures { Gives reason_of form_view result (to_stderr channel.now (map string_bytes words.entry.now)) }
 {
     if channel == "stderr" {
-        Ok(Form::Simple(Simple::Put(words)))
+        Ok(Form::SimpleForm(SimpleForm::Put(words)))
     } else {
         Err(unsupported(alloc, "puts"))
     }

@@ -1,9 +1,12 @@
 -- A backslash takes bytes of what follows it, and leaves no more than that.
-use Rattle.std.proofs.Common.{◌≡◌, ℕ, zero, suc, ◌+◌, ◌*◌, ◌≤◌, [], ◌∷◌, length, Bool, true, false, ◌==◌, ◌&&◌, nat_lt, nat_le, Option, Some, None, if◌then◌else◌, subst, arith}
+use Rattle.std.proofs.Common.{◌≡◌, ℕ, zero, suc, ◌+◌, ◌*◌, ◌≤◌, [], ◌∷◌, length, Bool, true, false, ◌==◌, ◌&&◌, nat_lt}
+use Rattle.std.proofs.Common.{nat_le, Option, Some, None, if◌then◌else◌, subst, arith}
 use Rattle.std.specs.Char.{digit_value}
 use Rattle.tclchars.specs.Bytes.{newline, is_continuation}
 use Rattle.tclchars.specs.Runs.{Text}
-use Rattle.tclchars.specs.Backslash.{after_backslash, is_octal, character, octal_at, octal_on, hexadecimal_at, hexadecimal_on, code_at, wide_code_at, begins_hexadecimal, is_blank_or_tab, digit_at}
+use Rattle.tclchars.specs.Backslash.{after_backslash, is_octal, character, octal_at, octal_on, hexadecimal_at}
+use Rattle.tclchars.specs.Backslash.{hexadecimal_on, code_at, wide_code_at, begins_hexadecimal, is_blank_or_tab}
+use Rattle.tclchars.specs.Backslash.{digit_at}
 use Rattle.tcllist.proofs.Runs.{back_no_longer}
 
 either : {A : Type 0} (P : A → Type 0) (t : Bool) (x y : A) → P x → P y → P (if t then x else y)
@@ -37,7 +40,8 @@ character_leaves : (n : ℕ) (r : ℕ × Text) → length r.1 ≤ n → Leaves n
 character_leaves n r h = either (Leaves n) (nat_le 55296 r.0 && nat_lt r.0 57344) None _ tt h
 
 code_leaves : (n b : ℕ) (bs : Text) → Leaves (length bs) (code_at n b bs)
-code_leaves n b bs = either (Leaves (length bs)) (begins_hexadecimal bs) (character (hexadecimal_at n 0 bs)) (Some (b ∷ [], bs)) (character_leaves (length bs) (hexadecimal_at n 0 bs) (hexadecimal_leaves n 0 bs)) (omega arith)
+code_leaves n b bs = either (Leaves (length bs)) (begins_hexadecimal bs) (character (hexadecimal_at n 0 bs))
+    (Some (b ∷ [], bs)) (character_leaves (length bs) (hexadecimal_at n 0 bs) (hexadecimal_leaves n 0 bs)) (omega arith)
 
 wide_code_leaves : (bs : Text) → Leaves (length bs) (wide_code_at bs)
 wide_code_leaves bs = either (Leaves (length bs)) (begins_hexadecimal bs) None (Some (85 ∷ [], bs)) tt (omega arith)

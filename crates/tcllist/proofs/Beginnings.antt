@@ -1,5 +1,6 @@
 -- Up to the place of a fault a text goes on to a list.
-use Rattle.std.proofs.Common.{◌≡◌, ℕ, Bool, List, [], ◌∷◌, ◌++◌, length, refl, sym, ap, ap₂, subst, ◌∙◌, arith, append_assoc, append-nil, length-append}
+use Rattle.std.proofs.Common.{◌≡◌, ℕ, Bool, List, [], ◌∷◌, ◌++◌, length, refl, sym, ap, ap₂, subst, ◌∙◌, arith}
+use Rattle.std.proofs.Common.{append_assoc, append-nil, length-append}
 use Rattle.tclchars.specs.Bytes.{backslash, is_space, AllPass, MayBegin}
 use Rattle.tclchars.specs.Runs.{Text}
 use Rattle.tclchars.specs.Reading.{remaining_of}
@@ -55,7 +56,8 @@ behind_close spaces body taken rest e f pass w is long = record {
 }
 
 -- in an element that goes on
-in_element : (spaces body taken rest more e : Text) (f : Fault) → AllPass is_space spaces → body ≡ taken ++ rest → IsElement (taken ++ more) e [] → length rest ≡ remaining_of f → Begins (spaces ++ body) f
+in_element : (spaces body taken rest more e : Text) (f : Fault) → AllPass is_space spaces → body ≡ taken ++ rest
+    → IsElement (taken ++ more) e [] → length rest ≡ remaining_of f → Begins (spaces ++ body) f
 in_element spaces body taken rest more e f pass w is long = record {
   before = spaces ++ taken;
   rest = rest;

@@ -1,5 +1,6 @@
 -- Elements: what is read is in the grammar, and what is in the grammar is read; likewise for what is wrong.
-use Rattle.std.proofs.Common.{◌≡◌, ℕ, zero, suc, ◌<◌, [], ◌∷◌, ◌++◌, length, Bool, true, false, not, ◌==◌, Option, Some, None, Result, Ok, Err, refl, sym, ap, subst, ◌∙◌, arith, append-nil, inl, inr}
+use Rattle.std.proofs.Common.{◌≡◌, ℕ, zero, suc, ◌<◌, [], ◌∷◌, ◌++◌, length, Bool, true, false, not, ◌==◌, Option, Some}
+use Rattle.std.proofs.Common.{None, Result, Ok, Err, refl, sym, ap, subst, ◌∙◌, arith, append-nil, inl, inr}
 use Rattle.std.proofs.lemmas.Bool.Decides.{nat_tests}
 use Rattle.tclchars.specs.Bytes.{backslash, is_space, MayBegin, DoesBegin}
 use Rattle.tclchars.specs.Runs.{Text, begins}
@@ -13,9 +14,11 @@ use Rattle.tcllist.specs.ListGrammar as grammar
 use Rattle.tcllist.specs.ListGrammar.{ElementPiece, Bare, is_quote, begins_element, IsElement}
 use Rattle.tcllist.specs.ListFaults as faults
 use Rattle.tcllist.specs.ListFaults.{IsJoined, IsLast, StandsForNothing, ElementFault}
-use Rattle.tcllist.specs.ListReading.{escaped_at, piece_at, piece_of, element_end, separated, element_in_braces, element_in_quotes, quoted_at, element_at}
+use Rattle.tcllist.specs.ListReading.{escaped_at, piece_at, piece_of, element_end, separated, element_in_braces}
+use Rattle.tcllist.specs.ListReading.{element_in_quotes, quoted_at, element_at}
 use Rattle.tcllist.proofs.Runs.{is_byte, true_false, not_true}
-use Rattle.tcllist.proofs.Pieces.{PieceGives, PieceLeft, piece_left, piece_gives, piece-end, piece-none, piece-backslash, to_end}
+use Rattle.tcllist.proofs.Pieces.{PieceGives, PieceLeft, piece_left, piece_gives, piece-end, piece-none}
+use Rattle.tcllist.proofs.Pieces.{piece-backslash, to_end}
 
 -- what reading an element gives of a text
 abbrev pub ElementGives : Text → Read Text → Type 0
@@ -38,7 +41,8 @@ piece_of-remaining ends off {bs} m = piece_left ends off m (suc (length bs)) (om
 
 pub piece_of-end : (ends : ℕ → Bool) → ends backslash ≡ false → (bs e rest : Text) → ElementPiece ends bs e rest → MayBegin ends rest → piece_of ends bs ≡ Ok (e, rest)
 piece_of-end ends off bs e [] m h = to_end ends off bs e [] [] [] (piece_of-remaining ends off m) (λ n. piece-none ends off n) ∙ ap (λ t. Ok (t, [])) (append-nil e)
-piece_of-end ends off bs e (b ∷ rest) m h = to_end ends off bs e (b ∷ rest) [] (b ∷ rest) (piece_of-remaining ends off m) (λ n. piece-end ends off n b rest h) ∙ ap (λ t. Ok (t, b ∷ rest)) (append-nil e)
+piece_of-end ends off bs e (b ∷ rest) m h = to_end ends off bs e (b ∷ rest) [] (b ∷ rest)
+    (piece_of-remaining ends off m) (λ n. piece-end ends off n b rest h) ∙ ap (λ t. Ok (t, b ∷ rest)) (append-nil e)
 
 pub piece_of-backslash : (ends : ℕ → Bool) → ends backslash ≡ false → (bs e : Text) → ElementPiece ends bs e (backslash ∷ []) → piece_of ends bs ≡ Ok (e ++ backslash ∷ [], [])
 piece_of-backslash ends off bs e m = to_end ends off bs e (backslash ∷ []) (backslash ∷ []) [] (piece_of-remaining ends off m) (λ n. piece-backslash ends off n [])
@@ -47,12 +51,16 @@ nothing_mark : (more : Text → Read Text) (rest : Text) → StandsForNothing re
 nothing_mark more [] h = absurd h
 nothing_mark more (b ∷ rest) h = ap (escaped_at more (b ∷ rest)) h
 
-pub piece_of-bad : (ends : ℕ → Bool) → ends backslash ≡ false → (bs e rest : Text) → ElementPiece ends bs e (backslash ∷ rest) → StandsForNothing rest → piece_of ends bs ≡ Err (marks.BadCharacter (suc (length rest)))
+pub piece_of-bad : (ends : ℕ → Bool) → ends backslash ≡ false → (bs e rest : Text)
+    → ElementPiece ends bs e (backslash ∷ rest) → StandsForNothing rest
+    → piece_of ends bs ≡ Err (marks.BadCharacter (suc (length rest)))
 unfolding piece_of
 piece_of-bad ends off bs e rest m h = go (piece_of-remaining ends off m) where
   go : PieceLeft ends (suc (length bs)) bs e (backslash ∷ rest) → piece_at ends (suc (length bs)) bs ≡ Err (marks.BadCharacter (suc (length rest)))
   go remaining = turn remaining.turns remaining.enough remaining.whole where
-    turn : (turns : ℕ) → length (backslash ∷ rest) < turns → piece_at ends (suc (length bs)) bs ≡ read_map (λ t. e ++ t) (piece_at ends turns (backslash ∷ rest)) → piece_at ends (suc (length bs)) bs ≡ Err (marks.BadCharacter (suc (length rest)))
+    turn : (turns : ℕ) → length (backslash ∷ rest) < turns
+        → piece_at ends (suc (length bs)) bs ≡ read_map (λ t. e ++ t) (piece_at ends turns (backslash ∷ rest))
+        → piece_at ends (suc (length bs)) bs ≡ Err (marks.BadCharacter (suc (length rest)))
     turn zero lt w = absurd (omega arith)
     turn (suc n) lt w = w ∙ ap (read_map (λ t. e ++ t)) (piece-backslash ends off n rest ∙ nothing_mark (piece_at ends n) rest h)
 
@@ -78,7 +86,8 @@ separated-joined e [] h = absurd h
 separated-joined e (b ∷ rest) h = let byte : is_space b ≡ false = not_true (is_space b) h in rw byte refl
 
 -- a close with what follows it, where that is in place
-after_close : (bs e rest : Text) (r : Result Text Fault) → Parted rest r → IsElement bs e rest → (IsJoined rest → ElementFault bs (marks.JoinedToClose (length rest))) → ElementGives bs (r >>= (λ q. Ok (e, q)))
+after_close : (bs e rest : Text) (r : Result Text Fault) → Parted rest r → IsElement bs e rest
+    → (IsJoined rest → ElementFault bs (marks.JoinedToClose (length rest))) → ElementGives bs (r >>= (λ q. Ok (e, q)))
 after_close bs e rest (Ok q) p is wrong = (subst (IsElement bs e) (sym p.0) is, subst (MayBegin is_space) (sym p.0) p.1)
 after_close bs e rest (Err f) p is wrong = subst (ElementFault bs) (sym p.0) (wrong p.1)
 
@@ -95,7 +104,8 @@ braces_give bs (Some p) e =
     after_close (123 ∷ bs) p.0 p.1 (element_end p.1) (parts p.1) (grammar.IsElement.in_braces p.1 closed.0 closed.1) (λ joined. faults.ElementFault.joined_to_brace p.0 p.1 closed.0 closed.1 joined)
 
 -- Elements in quotes
-quote_cases : (bs e : Text) (b : ℕ) (rest : Text) (t : Bool) → is_quote b ≡ t → ElementPiece is_quote bs e (b ∷ rest) → MayBegin is_quote (b ∷ rest) → ElementGives (34 ∷ bs) (element_in_quotes (suc (length bs)) e (b ∷ rest))
+quote_cases : (bs e : Text) (b : ℕ) (rest : Text) (t : Bool) → is_quote b ≡ t → ElementPiece is_quote bs e (b ∷ rest)
+    → MayBegin is_quote (b ∷ rest) → ElementGives (34 ∷ bs) (element_in_quotes (suc (length bs)) e (b ∷ rest))
 quote_cases bs e b rest true t m h =
     let closed : ElementPiece is_quote bs e (34 ∷ rest) = subst (λ x. ElementPiece is_quote bs e (x ∷ rest)) (is_byte b 34 t) m in
     rw t (after_close (34 ∷ bs) e rest (element_end rest) (parts rest) (grammar.IsElement.in_quotes closed) (λ joined. faults.ElementFault.joined_to_quote closed joined))
@@ -123,8 +133,12 @@ element_begins b h k l = grind (arith, nat_tests)
 
 element_cases : (b : ℕ) (bs : Text) (t u : Bool) → (b == 123) ≡ t → (b == 34) ≡ u → not (is_space b) ≡ true → ElementGives (b ∷ bs) (element_at (b ∷ bs))
 unfolding element_at
-element_cases b bs true u t' u' h = rw t' (subst (λ x. ElementGives (x ∷ bs) (element_in_braces (suc (length bs)) (braced_at false 0 bs))) (sym (is_byte b 123 t')) (braces_give bs (braced_at false 0 bs) refl))
-element_cases b bs false true t' u' h = rw (t', u') (subst (λ x. ElementGives (x ∷ bs) (quoted_at bs)) (sym (is_byte b 34 u')) (quotes_give bs (piece_of is_quote bs) (piece_of-gives is_quote quote_off bs)))
+element_cases b bs true u t' u' h = rw t' (subst
+    (λ x. ElementGives (x ∷ bs) (element_in_braces (suc (length bs)) (braced_at false 0 bs))) (sym (is_byte b 123 t'))
+    (braces_give bs (braced_at false 0 bs) refl))
+element_cases b bs false true t' u' h = rw (t', u')
+    (subst (λ x. ElementGives (x ∷ bs) (quoted_at bs)) (sym (is_byte b 34 u'))
+    (quotes_give bs (piece_of is_quote bs) (piece_of-gives is_quote quote_off bs)))
 element_cases b bs false false t' u' h = rw (t', u') (bare_gives (b ∷ bs) (piece_of is_space (b ∷ bs)) (element_begins b h t' u') (piece_of-gives is_space space_off (b ∷ bs)))
 
 pub element_gives : (bs : Text) → DoesBegin (λ b. not (is_space b)) bs → ElementGives bs (element_at bs)
@@ -175,7 +189,9 @@ element_wrong (faults.ElementFault.joined_to_brace {bs} inside rest w is joined)
     element-brace bs ∙ ap (element_in_braces (suc (length bs))) (ap (braced_at false 0) w ∙ found_close inside rest is) ∙ separated-joined inside rest joined
 element_wrong (faults.ElementFault.open_quote {bs} {e} {rest} m last) = element-quote bs ∙ quoted-open bs e rest m last
 element_wrong (faults.ElementFault.joined_to_quote {bs} {e} {rest} m joined) = element-quote bs ∙ quoted-close bs e rest m ∙ separated-joined e rest joined
-element_wrong (faults.ElementFault.bad_in_quotes {bs} {e} {rest} m nothing) = element-quote bs ∙ ap (λ r. r >>= (λ p. element_in_quotes (suc (length bs)) p.0 p.1)) (piece_of-bad is_quote quote_off bs e rest m nothing)
+element_wrong (faults.ElementFault.bad_in_quotes {bs} {e} {rest} m nothing) = element-quote bs
+    ∙ ap (λ r. r >>= (λ p. element_in_quotes (suc (length bs)) p.0 p.1))
+    (piece_of-bad is_quote quote_off bs e rest m nothing)
 element_wrong (faults.ElementFault.bad_in_bare {bs} {e} {rest} starts m nothing) = element-bare bs starts ∙ piece_of-bad is_space space_off bs e rest m nothing
 
 -- What stands in front of white space

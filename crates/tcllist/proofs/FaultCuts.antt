@@ -1,5 +1,6 @@
 -- Up to and with an offending character a text is the front of no list.
-use Rattle.std.proofs.Common.{◌≡◌, ℕ, suc, ◌+◌, List, [], ◌∷◌, ◌++◌, length, take, Bool, refl, sym, ap, subst, ◌∙◌, arith, append_assoc, length-append}
+use Rattle.std.proofs.Common.{◌≡◌, ℕ, suc, ◌+◌, List, [], ◌∷◌, ◌++◌, length, take, Bool, refl, sym, ap, subst, ◌∙◌}
+use Rattle.std.proofs.Common.{arith, append_assoc, length-append}
 use Rattle.std.proofs.Math.Seq.{take-append-add}
 use Rattle.tclchars.specs.Bytes.{backslash, is_space, AllPass, MayBegin, DoesBegin}
 use Rattle.tclchars.specs.Runs.{Text}
@@ -100,7 +101,8 @@ wrong_cut (faults.ElementFault.joined_to_quote {bs} {e = el} {rest} m joined) re
 wrong_cut (faults.ElementFault.bad_in_quotes m nothing) remaining e = cc
 wrong_cut (faults.ElementFault.bad_in_bare starts m nothing) remaining e = cc
 
-behind_cut : (spaces body e tail : Text) (remaining : ℕ) → AllPass is_space spaces → IsElement body e tail → MayBegin is_space tail → (k : WrongCut IsFault tail remaining) → WrongCut IsFault (spaces ++ body) remaining
+behind_cut : (spaces body e tail : Text) (remaining : ℕ) → AllPass is_space spaces → IsElement body e tail
+    → MayBegin is_space tail → (k : WrongCut IsFault tail remaining) → WrongCut IsFault (spaces ++ body) remaining
 behind_cut spaces body e tail remaining pass is h k = go k.taken k.whole k.again where
   go : (taken : Text) → tail ≡ taken ++ k.y ∷ k.rest → ((other : Text) → (f : Fault) × IsFault (taken ++ k.y ∷ other) f) → WrongCut IsFault (spaces ++ body) remaining
   go [] w again =
@@ -113,7 +115,9 @@ behind_cut spaces body e tail remaining pass is h k = go k.taken k.whole k.again
         place = k.place;
         again = λ other. (
           (again other).0,
-          subst (λ xs. IsFault xs (again other).0) (sym (append_assoc spaces c.taken (k.y ∷ other))) (following spaces (c.taken ++ k.y ∷ other) pass (c.again other) (subst (MayBegin is_space) w h) (again other).1),
+          subst (λ xs. IsFault xs (again other).0) (sym (append_assoc spaces c.taken (k.y ∷ other)))
+              (following spaces (c.taken ++ k.y ∷ other) pass (c.again other) (subst (MayBegin is_space) w h)
+              (again other).1),
         );
       }
   go (z ∷ taken) w again =
@@ -178,10 +182,16 @@ wrong_more (faults.ElementFault.open_quote m last) remaining e more = cc
 wrong_more (faults.ElementFault.joined_to_quote m joined) remaining e more = cc
 wrong_more (faults.ElementFault.bad_in_quotes {bs} {e = el} {rest} m nothing) remaining e more =
     (marks.BadCharacter (suc (length (rest ++ more))), faults.ElementFault.bad_in_quotes (piece_more is_quote bs el rest more m) (nothing_more rest more nothing))
-wrong_more (faults.ElementFault.bad_in_bare {bs} {e = el} {rest} starts m nothing) remaining e more =
-    (marks.BadCharacter (suc (length (rest ++ more))), faults.ElementFault.bad_in_bare (begins_more begins_element bs more starts) (piece_more is_space bs el rest more m) (nothing_more rest more nothing))
+wrong_more (faults.ElementFault.bad_in_bare {bs} {e = el} {rest} starts m nothing) remaining e more = (
+  marks.BadCharacter (suc (length (rest ++ more))),
+  faults.ElementFault.bad_in_bare
+      (begins_more begins_element bs more starts) (piece_more is_space bs el rest more m)
+      (nothing_more rest more nothing),
+)
 
-behind_more : (spaces body e tail more : Text) → AllPass is_space spaces → IsElement body e tail → MayBegin is_space tail → (tail ≡ [] → ⊥) → StaysWrong IsFault (tail ++ more) → StaysWrong IsFault ((spaces ++ body) ++ more)
+behind_more : (spaces body e tail more : Text) → AllPass is_space spaces → IsElement body e tail
+    → MayBegin is_space tail → (tail ≡ [] → ⊥) → StaysWrong IsFault (tail ++ more)
+    → StaysWrong IsFault ((spaces ++ body) ++ more)
 behind_more spaces body e [] more pass is h some k = absurd (some refl)
 behind_more spaces body e (z ∷ tail) more pass is h some k =
     let c = element_cut is z tail refl h in

@@ -1,5 +1,6 @@
 -- What a text is answered.
-use Rattle.std.proofs.Common.{◌≡◌, ◌≢◌, ◌↔◌, ◌≤◌, List, ◌∷◌, length, map, string_bytes, Result, Ok, Err, ap, arith, length-append}
+use Rattle.std.proofs.Common.{◌≡◌, ◌≢◌, ◌↔◌, ◌≤◌, List, ◌∷◌, length, map, string_bytes, Result, Ok, Err, ap, arith}
+use Rattle.std.proofs.Common.{length-append}
 use Rattle.std.specs.Prelude.{IfOk, IfErr, MatchResult}
 use Rattle.std.specs.declared.vec.Vec.{Vec}
 use Rattle.std.specs.declared.string.String.{String}
@@ -15,7 +16,8 @@ use Rattle.tcllist.specs.ListGrammar.{IsList}
 use Rattle.tcllist.specs.ListFaults as faults
 use Rattle.tcllist.specs.ListFaults.{IsFault, ElementFault, here, following, IsListFault}
 use Rattle.tcllist.specs.ListReading.{list_at, list_of, ReadsList}
-use Rattle.tcllist.proofs.ReadLemmas.{piece_length, element_length, list_at-sound, list_at-faulty, list_at-read, list_at-wrong}
+use Rattle.tcllist.proofs.ReadLemmas.{piece_length, element_length, list_at-sound, list_at-faulty, list_at-read}
+use Rattle.tcllist.proofs.ReadLemmas.{list_at-wrong}
 
 wrong_left : {bs : Text} {f : Fault} → ElementFault bs f → remaining_of f ≤ length bs
 wrong_left (faults.ElementFault.open_brace none) = omega arith
@@ -44,7 +46,8 @@ pub reads_found : (bs : Text) (r : Result Found TextFault) → ReadsList r (list
 unfolding list_of
 reads_found bs r h = whole.reads_found list_at elements bs (IsList bs) (λ es k. list_at-sound bs es (whole.value_is list_at bs es k).0) r h
 
-pub reads_only : (bs : Text) (r : Result Found TextFault) → ReadsList r (list_of bs) → (es : List Text) → IsList bs es → length bs ≤ max_bytes → MatchResult r (λ found. elements found ≡ es) (λ e. e ≡ OutOfMemory)
+pub reads_only : (bs : Text) (r : Result Found TextFault) → ReadsList r (list_of bs) → (es : List Text) → IsList bs es
+    → length bs ≤ max_bytes → MatchResult r (λ found. elements found ≡ es) (λ e. e ≡ OutOfMemory)
 unfolding list_of
 reads_only bs r h es is short = whole.reads_only list_at elements bs r h es (whole.value_met list_at bs es short (list_at-read bs es is))
 

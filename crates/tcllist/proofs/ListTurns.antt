@@ -1,5 +1,6 @@
 -- The turns of the loop that reads a list, and the answer of the whole.
-use Rattle.std.proofs.Common.{◌≡◌, ◌<◌, List, [], ◌∷◌, ◌++◌, length, true, false, ◌==◌, Ok, Err, refl, sym, ap, subst, arith}
+use Rattle.std.proofs.Common.{◌≡◌, ◌<◌, List, [], ◌∷◌, ◌++◌, length, true, false, ◌==◌, Ok, Err, refl, sym, ap, subst}
+use Rattle.std.proofs.Common.{arith}
 use Rattle.std.proofs.lemmas.Bool.Decides.{nat_tests}
 use Rattle.tclchars.specs.Bytes.{is_space}
 use Rattle.tclchars.specs.Runs.{Text, drop_while}
@@ -21,7 +22,8 @@ unfolding list_at
 list-end bs found rest start e t s =
     ap (λ r. r >>= (λ x. Ok x.0)) (so_far-end (drop_while is_space) text_ends element_at bs found rest (subst (λ ys. text_ends ys ≡ true) e t) s)
 
-pub list-fails : (bs : Text) (found : List Text) (rest start : Text) (e : ReadError) → start ≡ drop_while is_space rest → text_ends start ≡ false → Fails e (element_at start) → ListSoFar bs found rest → Fails e (list_at bs)
+pub list-fails : (bs : Text) (found : List Text) (rest start : Text) (e : ReadError) → start ≡ drop_while is_space rest
+    → text_ends start ≡ false → Fails e (element_at start) → ListSoFar bs found rest → Fails e (list_at bs)
 unfolding list_at
 list-fails bs found rest start errors.Memory e t was s = tt
 list-fails bs found rest start (errors.Fault f) e t was s =
@@ -34,7 +36,8 @@ list-shorter rest start element after e t was =
     let is : IsElement x element after = (subst (ElementGives x) (subst (λ ys. element_at ys ≡ Ok (element, after)) e was) (element_gives x starts)).0 in
     omega (arith, back_no_longer is_space rest, element_length is)
 
-pub list-more : (bs : Text) (found : List Text) (rest start element after : Text) (found' : List Text) → start ≡ drop_while is_space rest → text_ends start ≡ false → element_at start ≡ Ok (element, after)
+pub list-more : (bs : Text) (found : List Text) (rest start element after : Text) (found' : List Text)
+    → start ≡ drop_while is_space rest → text_ends start ≡ false → element_at start ≡ Ok (element, after)
     → found' ≡ found ++ element ∷ [] → ListSoFar bs found rest → ListSoFar bs found' after
 list-more bs found rest start element after found' e t was made s =
     subst (λ es. ListSoFar bs es after) (sym made)

@@ -1,5 +1,6 @@
 -- Loops that read one item after another.
-use Rattle.std.proofs.Common.{◌≡◌, ℕ, zero, suc, ◌<◌, List, [], ◌∷◌, ◌++◌, length, Bool, true, false, Ok, Err, refl, sym, ap, ◌∙◌, arith, append_assoc, append-nil}
+use Rattle.std.proofs.Common.{◌≡◌, ℕ, zero, suc, ◌<◌, List, [], ◌∷◌, ◌++◌, length, Bool, true, false, Ok, Err, refl}
+use Rattle.std.proofs.Common.{sym, ap, ◌∙◌, arith, append_assoc, append-nil}
 use Rattle.tclchars.specs.declared.fault.Fault.{Fault}
 use Rattle.tclchars.specs.Reading.{Read, read_map, ◌>>=◌, items_at, items_step}
 
@@ -15,7 +16,8 @@ module _ {X : Type 0} (skip : List ℕ → List ℕ) (ends : List ℕ → Bool) 
   items-fail zero bs f h e was = absurd (omega arith)
   items-fail (suc n) bs f h e was = items-going n bs e ∙ ap (λ r. r >>= (λ x. read_map (λ xs. x.0 ∷ xs) (items_at skip ends one n x.1))) was
 
-  pub items-more : (n : ℕ) (bs : List ℕ) (x : X) (r : List ℕ) → ends (skip bs) ≡ false → one (skip bs) ≡ Ok (x, r) → items_at skip ends one (suc n) bs ≡ read_map (λ xs. x ∷ xs) (items_at skip ends one n r)
+  pub items-more : (n : ℕ) (bs : List ℕ) (x : X) (r : List ℕ) → ends (skip bs) ≡ false → one (skip bs) ≡ Ok (x, r)
+      → items_at skip ends one (suc n) bs ≡ read_map (λ xs. x ∷ xs) (items_at skip ends one n r)
   items-more n bs x r e was = items-going n bs e ∙ ap (λ r. r >>= (λ x. read_map (λ xs. x.0 ∷ xs) (items_at skip ends one n x.1))) was
 
   -- what was found so far and what is read from the rest are what is read
@@ -36,7 +38,9 @@ module _ {X : Type 0} (skip : List ℕ → List ℕ) (ends : List ℕ → Bool) 
   pub so_far-none : (bs : List ℕ) → SoFar skip ends one bs [] bs
   so_far-none bs = record { turns = suc (length bs); enough = omega arith; whole = read_map-same _ }
 
-  pub so_far-more : (bs : List ℕ) (found : List X) (rest : List ℕ) (x : X) (after : List ℕ) → ends (skip rest) ≡ false → one (skip rest) ≡ Ok (x, after) → length after < length rest → SoFar skip ends one bs found rest → SoFar skip ends one bs (found ++ x ∷ []) after
+  pub so_far-more : (bs : List ℕ) (found : List X) (rest : List ℕ) (x : X) (after : List ℕ) → ends (skip rest) ≡ false
+      → one (skip rest) ≡ Ok (x, after) → length after < length rest → SoFar skip ends one bs found rest
+      → SoFar skip ends one bs (found ++ x ∷ []) after
   so_far-more bs found rest x after e was less s = more s.turns s.enough s.whole where
     more : (n : ℕ) → length rest < n → items_at skip ends one (suc (length bs)) bs ≡ read_map (λ xs. found ++ xs) (items_at skip ends one n rest) → SoFar skip ends one bs (found ++ x ∷ []) after
     more zero h w = absurd (omega arith)
@@ -51,5 +55,7 @@ module _ {X : Type 0} (skip : List ℕ → List ℕ) (ends : List ℕ → Bool) 
       let enough = s.enough in
       s.whole ∙ ap (read_map (λ xs. found ++ xs)) (items-end skip ends one s.turns rest (omega (arith, s.enough)) e) ∙ ap (λ xs. Ok (xs, skip rest)) (append-nil found)
 
-  pub so_far-fail : (bs : List ℕ) (found : List X) (rest : List ℕ) (f : Fault) → ends (skip rest) ≡ false → one (skip rest) ≡ Err f → SoFar skip ends one bs found rest → items_at skip ends one (suc (length bs)) bs ≡ Err f
+  pub so_far-fail : (bs : List ℕ) (found : List X) (rest : List ℕ) (f : Fault) → ends (skip rest) ≡ false
+      → one (skip rest) ≡ Err f → SoFar skip ends one bs found rest
+      → items_at skip ends one (suc (length bs)) bs ≡ Err f
   so_far-fail bs found rest f e was s = s.whole ∙ ap (read_map (λ xs. found ++ xs)) (items-fail skip ends one s.turns rest f (omega (arith, s.enough)) e was)

@@ -1,12 +1,16 @@
 -- A backslash that stands for nothing stands for nothing whatever follows.
-use Rattle.std.proofs.Common.{◌≡◌, ℕ, zero, suc, ◌+◌, ◌*◌, ◌<◌, ◌≤◌, [], ◌∷◌, ◌++◌, Bool, true, false, ◌==◌, nat_lt, nat_le, max, Option, Some, None, refl, sym, ap, subst, ◌∙◌, arith, ◌⊎◌, inl, inr, encode_utf8}
+use Rattle.std.proofs.Common.{◌≡◌, ℕ, zero, suc, ◌+◌, ◌*◌, ◌<◌, ◌≤◌, [], ◌∷◌, ◌++◌, Bool, true, false, ◌==◌, nat_lt}
+use Rattle.std.proofs.Common.{nat_le, max, Option, Some, None, refl, sym, ap, subst, ◌∙◌, arith, ◌⊎◌, inl, inr}
+use Rattle.std.proofs.Common.{encode_utf8}
 use Rattle.std.proofs.lemmas.Bool.Decides.{nat_tests}
 use Rattle.std.specs.Char.{digit_value}
 use Rattle.tclchars.specs.Bytes.{newline, is_continuation}
 use Rattle.tclchars.specs.Runs.{Text, take_while, drop_while}
-use Rattle.tclchars.specs.Backslash.{after_backslash, is_octal, is_hexadecimal, character, octal_at, hexadecimal_at, code_at, wide_code_at, is_blank_or_tab, letter_value}
+use Rattle.tclchars.specs.Backslash.{after_backslash, is_octal, is_hexadecimal, character, octal_at, hexadecimal_at}
+use Rattle.tclchars.specs.Backslash.{code_at, wide_code_at, is_blank_or_tab, letter_value}
 use Rattle.tcllist.specs.ListFaults.{StandsForNothing}
-use Rattle.tcllist.proofs.Cuts.{octal-digit, hexadecimal-digit, code-digit, code-none, wide-none, is_half, character-whole, character-half, same_mark}
+use Rattle.tcllist.proofs.Cuts.{octal-digit, hexadecimal-digit, code-digit, code-none, wide-none, is_half}
+use Rattle.tcllist.proofs.Cuts.{character-whole, character-half, same_mark}
 
 some_none : (p : Text × Text) → (let remaining : Option (Text × Text) = Some p in remaining ≡ None) → ⊥
 some_none p h = cc
@@ -18,10 +22,13 @@ small_is : (w : ℕ) (r : Text) → w < 55296 → character (w, r) ≡ None → 
 small_is w r h e = some_none (encode_utf8 w, r) (sym (character-whole w r (not_half w h)) ∙ e)
 
 -- octal numbers are small
-octal_small-cases : (n v b : ℕ) (bs : Text) (t u : Bool) → nat_lt (digit_value b) 8 ≡ t → nat_lt (v * 8 + digit_value b) 256 ≡ u → v < 256 → ((x : ℕ) → x < 256 → (octal_at n x bs).0 < 256) → (octal_at (suc n) v (b ∷ bs)).0 < 256
-octal_small-cases n v b bs true true t' u' h more = subst (λ (p : ℕ × Text). p.0 < 256) (sym (octal-digit n v b bs true true t' u')) (more (v * 8 + digit_value b) (below (v * 8 + digit_value b) u')) where
-  below : (x : ℕ) → nat_lt x 256 ≡ true → x < 256
-  below x h = grind (arith, nat_tests)
+octal_small-cases : (n v b : ℕ) (bs : Text) (t u : Bool) → nat_lt (digit_value b) 8 ≡ t
+    → nat_lt (v * 8 + digit_value b) 256 ≡ u → v < 256 → ((x : ℕ) → x < 256 → (octal_at n x bs).0 < 256)
+    → (octal_at (suc n) v (b ∷ bs)).0 < 256
+octal_small-cases n v b bs true true t' u' h more = subst (λ (p : ℕ × Text). p.0 < 256)
+    (sym (octal-digit n v b bs true true t' u')) (more (v * 8 + digit_value b) (below (v * 8 + digit_value b) u')) where
+      below : (x : ℕ) → nat_lt x 256 ≡ true → x < 256
+      below x h = grind (arith, nat_tests)
 octal_small-cases n v b bs true false t' u' h more = subst (λ (p : ℕ × Text). p.0 < 256) (sym (octal-digit n v b bs true false t' u')) h
 octal_small-cases n v b bs false u t' u' h more = subst (λ (p : ℕ × Text). p.0 < 256) (sym (octal-digit n v b bs false u t' u')) h
 
@@ -47,7 +54,8 @@ stays-digit n v b bs more t (inl h) =
     inl (hexadecimal-digit n v b (bs ++ more) true t ∙ h ∙ ap (λ (p : ℕ × Text). (p.0, p.1 ++ more)) (sym (hexadecimal-digit n v b bs true t)))
 stays-digit n v b bs more t (inr h) =
     let small : digit_value b < 16 = below (digit_value b) t in
-    inr (subst (λ (p : ℕ × Text). p.0 ≤ max v (top n (v * 16 + 15))) (sym (hexadecimal-digit n v b bs true t)) (omega (arith, h, top-more n (v * 16 + digit_value b) (v * 16 + 15) (omega arith)))) where
+    inr (subst (λ (p : ℕ × Text). p.0 ≤ max v (top n (v * 16 + 15))) (sym (hexadecimal-digit n v b bs true t))
+    (omega (arith, h, top-more n (v * 16 + digit_value b) (v * 16 + 15) (omega arith)))) where
       below : (x : ℕ) → nat_lt x 16 ≡ true → x < 16
       below x h = grind (arith, nat_tests)
 
@@ -122,7 +130,9 @@ wide_more : (bs more : Text) → wide_code_at bs ≡ None → wide_code_at (bs +
 wide_more [] more e = absurd (some_none (85 ∷ [], []) e)
 wide_more (h ∷ bs) more e = wide_cases h bs more (is_hexadecimal h) refl e
 
-nothing_cases : (b : ℕ) (bs more : Text) (n o x u l w : Bool) → (b == newline) ≡ n → is_octal b ≡ o → (b == 120) ≡ x → (b == 117) ≡ u → (b == 85) ≡ l → nat_le 128 b ≡ w → after_backslash (b ∷ bs) ≡ None → after_backslash (b ∷ (bs ++ more)) ≡ None
+nothing_cases : (b : ℕ) (bs more : Text) (n o x u l w : Bool) → (b == newline) ≡ n → is_octal b ≡ o → (b == 120) ≡ x
+    → (b == 117) ≡ u → (b == 85) ≡ l → nat_le 128 b ≡ w → after_backslash (b ∷ bs) ≡ None
+    → after_backslash (b ∷ (bs ++ more)) ≡ None
 nothing_cases b bs more true o x u l w n' o' x' u' l' w' h = absurd (some_none (32 ∷ [], drop_while is_blank_or_tab bs) (sym (same_mark b true o x u l w n' o' x' u' l' w' bs) ∙ h))
 nothing_cases b bs more false true x u l w n' o' x' u' l' w' h =
     let small = octal_small 3 0 (b ∷ bs) (omega arith) in

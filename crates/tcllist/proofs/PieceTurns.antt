@@ -1,5 +1,6 @@
 -- The turns of the loop that reads a piece.
-use Rattle.std.proofs.Common.{◌≡◌, ℕ, zero, suc, ◌<◌, [], ◌∷◌, ◌++◌, length, Bool, true, false, not, ◌||◌, ◌==◌, Some, None, Ok, Err, refl, sym, ap, subst, ◌∙◌, arith, append-nil}
+use Rattle.std.proofs.Common.{◌≡◌, ℕ, zero, suc, ◌<◌, [], ◌∷◌, ◌++◌, length, Bool, true, false, not, ◌||◌, ◌==◌, Some}
+use Rattle.std.proofs.Common.{None, Ok, Err, refl, sym, ap, subst, ◌∙◌, arith, append-nil}
 use Rattle.tclchars.specs.Bytes.{backslash, AllPass, MayBegin}
 use Rattle.tclchars.specs.Runs.{Text, take_while, drop_while, begins}
 use Rattle.tclchars.specs.Backslash.{after_backslash}
@@ -41,7 +42,9 @@ run_piece end (b ∷ run) rest h =
     grammar.ElementPiece.literal two.0 two.1 (run_piece end run rest h.1)
 
 -- a run in front is read
-so_far-run : (end : End) (bs value rest run marked : Text) → run ≡ take_while (is_literal_before end) rest → marked ≡ drop_while (is_literal_before end) rest → PieceSoFar end bs value rest → PieceSoFar end bs (value ++ run) marked
+so_far-run : (end : End) (bs value rest run marked : Text) → run ≡ take_while (is_literal_before end) rest
+    → marked ≡ drop_while (is_literal_before end) rest → PieceSoFar end bs value rest
+    → PieceSoFar end bs (value ++ run) marked
 so_far-run end bs value rest run marked r m s =
     let whole : rest ≡ run ++ marked = front_back (is_literal_before end) rest ∙ ap (λ xs. xs ++ drop_while (is_literal_before end) rest) (sym r) ∙ ap (λ xs. run ++ xs) (sym m) in
     let piece = run_piece end run marked (subst (AllPass (is_literal_before end)) (sym r) (front_passes (is_literal_before end) rest)) in
@@ -50,11 +53,14 @@ so_far-run end bs value rest run marked r m s =
     record {
       turns = remaining.turns;
       enough = remaining.enough;
-      whole = s.whole ∙ ap (λ xs. read_map (λ t. value ++ t) (piece_at (ends_piece end) s.turns xs)) whole ∙ ap (read_map (λ t. value ++ t)) remaining.whole ∙ read_map-append value run (piece_at (ends_piece end) remaining.turns marked);
+      whole = s.whole ∙ ap (λ xs. read_map (λ t. value ++ t) (piece_at (ends_piece end) s.turns xs)) whole
+          ∙ ap (read_map (λ t. value ++ t)) remaining.whole ∙ read_map-append value run
+          (piece_at (ends_piece end) remaining.turns marked);
     }
 
 -- where a piece goes on with the rest so, so goes the whole
-on_rest : (end : End) (bs value rest : Text) (t r : Text) → PieceSoFar end bs value rest → ((n : ℕ) → piece_at (ends_piece end) (suc n) rest ≡ Ok (t, r)) → piece_of (ends_piece end) bs ≡ Ok (value ++ t, r)
+on_rest : (end : End) (bs value rest : Text) (t r : Text) → PieceSoFar end bs value rest
+    → ((n : ℕ) → piece_at (ends_piece end) (suc n) rest ≡ Ok (t, r)) → piece_of (ends_piece end) bs ≡ Ok (value ++ t, r)
 on_rest end bs value rest t r s h = go s.turns s.enough s.whole where
   go : (turns : ℕ) → length rest < turns → piece_of (ends_piece end) bs ≡ read_map (λ t. value ++ t) (piece_at (ends_piece end) turns rest) → piece_of (ends_piece end) bs ≡ Ok (value ++ t, r)
   go zero lt w = absurd (omega arith)
@@ -72,20 +78,28 @@ no_backslash end (b ∷ rest) h k = cases (ends_piece end b) (b == backslash) h 
   cases false true h k = cc
   cases false false h k = cc
 
-pub piece-ends : (end : End) (bs value rest run marked value' : Text) → run ≡ take_while (is_literal_before end) rest → marked ≡ drop_while (is_literal_before end) rest → value' ≡ value ++ run → begins backslash marked ≡ false → PieceSoFar end bs value rest
+pub piece-ends : (end : End) (bs value rest run marked value' : Text) → run ≡ take_while (is_literal_before end) rest
+    → marked ≡ drop_while (is_literal_before end) rest → value' ≡ value ++ run → begins backslash marked ≡ false
+    → PieceSoFar end bs value rest
     → piece_of (ends_piece end) bs ≡ Ok (value', marked)
 piece-ends end bs value rest run marked value' r m v none s =
-    ends_rest end bs (value ++ run) marked (no_backslash end marked (subst (MayBegin (λ b. not (is_literal_before end b))) (sym m) (back_fails (is_literal_before end) rest)) none) (so_far-run end bs value rest run marked r m s)
+    ends_rest end bs (value ++ run) marked (no_backslash end marked
+    (subst (MayBegin (λ b. not (is_literal_before end b))) (sym m) (back_fails (is_literal_before end) rest)) none)
+    (so_far-run end bs value rest run marked r m s)
     ∙ ap (λ t. Ok (t, marked)) (sym v)
 
-at_backslash : (end : End) (bs value rest run marked following : Text) → run ≡ take_while (is_literal_before end) rest → marked ≡ drop_while (is_literal_before end) rest → marked ≡ backslash ∷ following → PieceSoFar end bs value rest → PieceSoFar end bs (value ++ run) (backslash ∷ following)
+at_backslash : (end : End) (bs value rest run marked following : Text) → run ≡ take_while (is_literal_before end) rest
+    → marked ≡ drop_while (is_literal_before end) rest → marked ≡ backslash ∷ following → PieceSoFar end bs value rest
+    → PieceSoFar end bs (value ++ run) (backslash ∷ following)
 at_backslash end bs value rest run marked following r m is s = subst (PieceSoFar end bs (value ++ run)) is (so_far-run end bs value rest run marked r m s)
 
 empty : (bs : Text) → length bs ≡ 0 → bs ≡ []
 empty [] h = refl
 empty (b ∷ bs) h = absurd (omega arith)
 
-pub piece-last : (end : End) (bs value rest run marked following value' : Text) → run ≡ take_while (is_literal_before end) rest → marked ≡ drop_while (is_literal_before end) rest → marked ≡ backslash ∷ following → length following ≡ 0
+pub piece-last : (end : End) (bs value rest run marked following value' : Text)
+    → run ≡ take_while (is_literal_before end) rest → marked ≡ drop_while (is_literal_before end) rest
+    → marked ≡ backslash ∷ following → length following ≡ 0
     → value' ≡ (value ++ run) ++ backslash ∷ [] → PieceSoFar end bs value rest → piece_of (ends_piece end) bs ≡ Ok (value', following)
 piece-last end bs value rest run marked following value' r m is len v s =
     let none : following ≡ [] = empty following len in
@@ -97,23 +111,32 @@ nothing_mark : (more : Text → Read Text) (rest : Text) → 0 < length rest →
 nothing_mark more [] some h = absurd (omega arith)
 nothing_mark more (b ∷ rest) some h = ap (escaped_at more (b ∷ rest)) h
 
-pub piece-bad : (end : End) (bs value rest run marked following : Text) (remaining : ℕ) → run ≡ take_while (is_literal_before end) rest → marked ≡ drop_while (is_literal_before end) rest → marked ≡ backslash ∷ following → 0 < length following
+pub piece-bad : (end : End) (bs value rest run marked following : Text) (remaining : ℕ)
+    → run ≡ take_while (is_literal_before end) rest → marked ≡ drop_while (is_literal_before end) rest
+    → marked ≡ backslash ∷ following → 0 < length following
     → after_backslash following ≡ None → remaining ≡ length marked → PieceSoFar end bs value rest → piece_of (ends_piece end) bs ≡ Err (marks.BadCharacter remaining)
 piece-bad end bs value rest run marked following remaining r m is some none l s = go here.turns here.enough here.whole ∙ ap (λ n. Err (marks.BadCharacter n)) (ap length (sym is) ∙ sym l) where
   here : PieceSoFar end bs (value ++ run) (backslash ∷ following)
   here = at_backslash end bs value rest run marked following r m is s
 
-  go : (turns : ℕ) → length (backslash ∷ following) < turns → piece_of (ends_piece end) bs ≡ read_map (λ t. (value ++ run) ++ t) (piece_at (ends_piece end) turns (backslash ∷ following)) → piece_of (ends_piece end) bs ≡ Err (marks.BadCharacter (suc (length following)))
+  go : (turns : ℕ) → length (backslash ∷ following) < turns
+      → piece_of (ends_piece end) bs ≡ read_map (λ t. (value ++ run) ++ t)
+      (piece_at (ends_piece end) turns (backslash ∷ following))
+      → piece_of (ends_piece end) bs ≡ Err (marks.BadCharacter (suc (length following)))
   go zero lt w = absurd (omega arith)
   go (suc n) lt w = w ∙ ap (read_map (λ t. (value ++ run) ++ t)) (piece-backslash (ends_piece end) (backslash_off end) n following ∙ nothing_mark (piece_at (ends_piece end) n) following some none)
 
-pub piece-more : (end : End) (bs value rest run marked following v after value' : Text) → run ≡ take_while (is_literal_before end) rest → marked ≡ drop_while (is_literal_before end) rest → marked ≡ backslash ∷ following → after_backslash following ≡ Some (v, after)
+pub piece-more : (end : End) (bs value rest run marked following v after value' : Text)
+    → run ≡ take_while (is_literal_before end) rest → marked ≡ drop_while (is_literal_before end) rest
+    → marked ≡ backslash ∷ following → after_backslash following ≡ Some (v, after)
     → value' ≡ (value ++ run) ++ v → PieceSoFar end bs value rest → PieceSoFar end bs value' after
 piece-more end bs value rest run marked following v after value' r m is stands made s = go here.turns here.enough here.whole where
   here : PieceSoFar end bs (value ++ run) (backslash ∷ following)
   here = at_backslash end bs value rest run marked following r m is s
 
-  go : (turns : ℕ) → length (backslash ∷ following) < turns → piece_of (ends_piece end) bs ≡ read_map (λ t. (value ++ run) ++ t) (piece_at (ends_piece end) turns (backslash ∷ following)) → PieceSoFar end bs value' after
+  go : (turns : ℕ) → length (backslash ∷ following) < turns
+      → piece_of (ends_piece end) bs ≡ read_map (λ t. (value ++ run) ++ t)
+      (piece_at (ends_piece end) turns (backslash ∷ following)) → PieceSoFar end bs value' after
   go zero lt w = absurd (omega arith)
   go (suc n) lt w = record {
     turns = n;
@@ -123,5 +146,7 @@ piece-more end bs value rest run marked following v after value' r m is stands m
         ∙ read_map-append (value ++ run) v (piece_at (ends_piece end) n after) ∙ ap (λ x. read_map (λ t. x ++ t) (piece_at (ends_piece end) n after)) (sym made);
   }
 
-pub piece-shorter : (end : End) (rest marked following v after : Text) → marked ≡ drop_while (is_literal_before end) rest → marked ≡ backslash ∷ following → after_backslash following ≡ Some (v, after) → length after < length rest
+pub piece-shorter : (end : End) (rest marked following v after : Text)
+    → marked ≡ drop_while (is_literal_before end) rest → marked ≡ backslash ∷ following
+    → after_backslash following ≡ Some (v, after) → length after < length rest
 piece-shorter end rest marked following v after m is stands = omega (arith, taken_length following v after stands, ap length m, ap length is, back_no_longer (is_literal_before end) rest)

@@ -1,5 +1,6 @@
 -- Pieces of elements: what is read is in the grammar, and what is in the grammar is read.
-use Rattle.std.proofs.Common.{◌≡◌, ℕ, zero, suc, ◌<◌, ◌≤◌, [], ◌∷◌, ◌++◌, length, Bool, true, false, ◌==◌, Option, Some, None, Ok, Err, refl, sym, ap, subst, ◌∙◌, arith, append_assoc, ◌⊎◌, inl, inr}
+use Rattle.std.proofs.Common.{◌≡◌, ℕ, zero, suc, ◌<◌, ◌≤◌, [], ◌∷◌, ◌++◌, length, Bool, true, false, ◌==◌, Option, Some}
+use Rattle.std.proofs.Common.{None, Ok, Err, refl, sym, ap, subst, ◌∙◌, arith, append_assoc, ◌⊎◌, inl, inr}
 use Rattle.tclchars.specs.Bytes.{backslash, MayBegin}
 use Rattle.tclchars.specs.Runs.{Text}
 use Rattle.tclchars.specs.Backslash.{after_backslash}
@@ -91,14 +92,20 @@ module _ (ends : ℕ → Bool) (backslash_on : ends backslash ≡ false) where
   gives_substituted bs v q e (Ok p) (inr g) = inr (v ++ g.0, grammar.ElementPiece.substituted v q e g.1, ap (λ t. v ++ t) g.2 ∙ sym (append_assoc v g.0 (backslash ∷ [])), g.3)
   gives_substituted bs v q e (Err f) g = (v ++ g.0, g.1, grammar.ElementPiece.substituted v q e g.2, g.3, g.4)
 
-  gives_mark : (more : Text → Read Text) (bs : Text) (found : Option (Text × Text)) → after_backslash bs ≡ found → ((q : Text) → length q ≤ length bs → PieceGives ends q (more q)) → PieceGives ends (backslash ∷ bs) (escaped_at more bs found)
+  gives_mark : (more : Text → Read Text) (bs : Text) (found : Option (Text × Text)) → after_backslash bs ≡ found
+      → ((q : Text) → length q ≤ length bs → PieceGives ends q (more q))
+      → PieceGives ends (backslash ∷ bs) (escaped_at more bs found)
   gives_mark more bs (Some s) e all = gives_substituted bs s.0 s.1 e (more s.1) (all s.1 (taken_length bs s.0 s.1 e))
   gives_mark more [] None e all = inr ([], grammar.ElementPiece.nothing, refl, refl)
   gives_mark more (b ∷ bs) None e all = ([], b ∷ bs, grammar.ElementPiece.nothing, e, refl)
 
-  gives_cases : (more : Text → Read Text) (b : ℕ) (bs : Text) (t u : Bool) → ends b ≡ t → (b == backslash) ≡ u → ((q : Text) → length q ≤ length bs → PieceGives ends q (more q)) → PieceGives ends (b ∷ bs) (piece_on ends more (b ∷ bs))
+  gives_cases : (more : Text → Read Text) (b : ℕ) (bs : Text) (t u : Bool) → ends b ≡ t → (b == backslash) ≡ u
+      → ((q : Text) → length q ≤ length bs → PieceGives ends q (more q))
+      → PieceGives ends (b ∷ bs) (piece_on ends more (b ∷ bs))
   gives_cases more b bs true u t' u' all = rw t' (inl (grammar.ElementPiece.nothing, t'))
-  gives_cases more b bs false true t' u' all = rw (t', u') (subst (λ x. PieceGives ends (x ∷ bs) (escaped_at more bs (after_backslash bs))) (sym (is_byte b backslash u')) (gives_mark more bs (after_backslash bs) refl all))
+  gives_cases more b bs false true t' u' all = rw (t', u')
+      (subst (λ x. PieceGives ends (x ∷ bs) (escaped_at more bs (after_backslash bs))) (sym (is_byte b backslash u'))
+      (gives_mark more bs (after_backslash bs) refl all))
   gives_cases more b bs false false t' u' all = rw (t', u') (gives_plain b bs t' u' (more bs) (all bs (omega arith)))
 
   gives_on : (more : Text → Read Text) (bs : Text) → ((q : Text) → length q < length bs → PieceGives ends q (more q)) → PieceGives ends bs (piece_on ends more bs)

@@ -1,5 +1,6 @@
 -- Lists: what is read is in the grammar, and what is in the grammar is read; likewise for what is wrong.
-use Rattle.std.proofs.Common.{◌≡◌, ℕ, zero, suc, ◌<◌, ◌≤◌, List, [], ◌∷◌, ◌++◌, length, Bool, true, false, not, Result, Ok, Err, refl, sym, ap, subst, ◌∙◌, arith, append-nil, length-append}
+use Rattle.std.proofs.Common.{◌≡◌, ℕ, zero, suc, ◌<◌, ◌≤◌, List, [], ◌∷◌, ◌++◌, length, Bool, true, false, not, Result}
+use Rattle.std.proofs.Common.{Ok, Err, refl, sym, ap, subst, ◌∙◌, arith, append-nil, length-append}
 use Rattle.std.proofs.lemmas.Bool.Decides.{nat_tests}
 use Rattle.tclchars.specs.Bytes.{is_space, AllPass, MayBegin, DoesBegin}
 use Rattle.tclchars.specs.Runs.{Text, take_while, drop_while}
@@ -13,7 +14,8 @@ use Rattle.tcllist.specs.ListReading.{element_at, text_ends, list_at}
 use Rattle.tcllist.proofs.Runs.{true_false, front_back, front_passes, back_fails, back_no_longer, back_run}
 use Rattle.tcllist.proofs.BackslashTaken.{taken_length}
 use Rattle.tcllist.proofs.Loops.{items-end, items-fail, items-more}
-use Rattle.tcllist.proofs.ElementLemmas.{ElementGives, element_gives, element_read, element_wrong, element_starts, wrong_starts}
+use Rattle.tcllist.proofs.ElementLemmas.{ElementGives, element_gives, element_read, element_wrong, element_starts}
+use Rattle.tcllist.proofs.ElementLemmas.{wrong_starts}
 
 -- How much an element takes
 pub piece_length : {ends : ℕ → Bool} {bs e rest : Text} → ElementPiece ends bs e rest → length rest ≤ length bs
@@ -58,7 +60,8 @@ pub holds_of_depth : (bs : Text) → MayBegin (λ b. not (is_space b)) bs → te
 holds_of_depth [] h e = absurd (true_false e)
 holds_of_depth (b ∷ bs) h e = h
 
-gives_more : (spaces body e rest : Text) → AllPass is_space spaces → IsElement body e rest → MayBegin is_space rest → (r : Read (List Text)) → ListGives rest r → ListGives (spaces ++ body) (read_map (λ es. e ∷ es) r)
+gives_more : (spaces body e rest : Text) → AllPass is_space spaces → IsElement body e rest → MayBegin is_space rest
+    → (r : Read (List Text)) → ListGives rest r → ListGives (spaces ++ body) (read_map (λ es. e ∷ es) r)
 gives_more spaces body e rest pass is h (Ok p) more = record { spaces = spaces; body = body; rest = rest; whole = refl; are_spaces = pass; is_element = is; is_separated = h; more = more }
 gives_more spaces body e rest pass is h (Err f) more = following spaces body pass is h more
 
@@ -67,7 +70,9 @@ gives_element : (next : Text → Read (List Text)) (spaces body : Text) → AllP
 gives_element next spaces body pass all (Ok p) g = gives_more spaces body p.0 p.1 pass g.0 g.1 (next p.1) (all p.1 (element_length g.0))
 gives_element next spaces body pass all (Err f) g = here spaces body pass g
 
-gives_step : (next : Text → Read (List Text)) (spaces body : Text) → AllPass is_space spaces → MayBegin (λ b. not (is_space b)) body → ((q : Text) → length q < length body → ListGives q (next q)) → (t : Bool) → text_ends body ≡ t
+gives_step : (next : Text → Read (List Text)) (spaces body : Text) → AllPass is_space spaces
+    → MayBegin (λ b. not (is_space b)) body → ((q : Text) → length q < length body → ListGives q (next q)) → (t : Bool)
+    → text_ends body ≡ t
     → ListGives (spaces ++ body) (items_step element_at next body t)
 gives_step next spaces body pass starts all true t = all_spaces spaces body pass t
 gives_step next spaces body pass starts all false t = gives_element next spaces body pass all (element_at body) (element_gives body (holds_of_depth body starts t))
@@ -94,7 +99,8 @@ only_spaces bs h = ap (drop_while is_space) (sym (append-nil bs)) ∙ back_run i
 behind_spaces : (bs spaces body : Text) → bs ≡ spaces ++ body → AllPass is_space spaces → DoesBegin (λ b. not (is_space b)) body → drop_while is_space bs ≡ body
 behind_spaces bs spaces body w pass starts = ap (drop_while is_space) w ∙ back_run is_space spaces body pass (does_may (λ b. not (is_space b)) body starts)
 
-read-more : (n : ℕ) (bs spaces body e rest : Text) → bs ≡ spaces ++ body → AllPass is_space spaces → IsElement body e rest → MayBegin is_space rest → reads (suc n) bs ≡ read_map (λ es. e ∷ es) (reads n rest)
+read-more : (n : ℕ) (bs spaces body e rest : Text) → bs ≡ spaces ++ body → AllPass is_space spaces
+    → IsElement body e rest → MayBegin is_space rest → reads (suc n) bs ≡ read_map (λ es. e ∷ es) (reads n rest)
 read-more n bs spaces body e rest w pass is h =
     let start = behind_spaces bs spaces body w pass (element_starts is) in
     items-more (drop_while is_space) text_ends element_at n bs e rest (ap text_ends start ∙ no_end (λ b. not (is_space b)) body (element_starts is)) (ap element_at start ∙ element_read is h)
@@ -112,7 +118,9 @@ list_read (e ∷ es) (suc n) bs h lt =
 pub list_wrong : {bs : Text} {f : Fault} → IsFault bs f → (n : ℕ) → length bs < n → reads n bs ≡ Err f
 list_wrong (here spaces body {f} pass wrong) n lt =
     let start = behind_spaces (spaces ++ body) spaces body refl pass (wrong_starts wrong) in
-    items-fail (drop_while is_space) text_ends element_at n (spaces ++ body) f (omega arith) (ap text_ends start ∙ no_end (λ b. not (is_space b)) body (wrong_starts wrong)) (ap element_at start ∙ element_wrong wrong)
+    items-fail (drop_while is_space) text_ends element_at n (spaces ++ body) f (omega arith)
+    (ap text_ends start ∙ no_end (λ b. not (is_space b)) body (wrong_starts wrong))
+    (ap element_at start ∙ element_wrong wrong)
 list_wrong (following spaces body {e} {rest} {f} pass is h more) zero lt = absurd (omega arith)
 list_wrong (following spaces body {e} {rest} {f} pass is h more) (suc n) lt =
     read-more n (spaces ++ body) spaces body e rest refl pass is h

@@ -1,5 +1,6 @@
 -- What is written as a list is read as the same elements.
-use Rattle.std.proofs.Common.{◌≡◌, ◌≢◌, ℕ, zero, suc, List, [], ◌∷◌, ◌++◌, Bool, true, false, not, ◌&&◌, ◌==◌, Option, Some, None, flat_map, refl, sym, ap, subst, ◌∙◌, arith, append_assoc, ◌⊎◌, inl, inr}
+use Rattle.std.proofs.Common.{◌≡◌, ◌≢◌, ℕ, zero, suc, List, [], ◌∷◌, ◌++◌, Bool, true, false, not, ◌&&◌, ◌==◌, Option}
+use Rattle.std.proofs.Common.{Some, None, flat_map, refl, sym, ap, subst, ◌∙◌, arith, append_assoc, ◌⊎◌, inl, inr}
 use Rattle.std.proofs.lemmas.Bool.Decides.{nat_tests}
 use Rattle.std.specs.List.{list_all}
 use Rattle.tclchars.specs.Bytes.{is_literal, backslash, hash, MayBegin, DoesBegin, is_space}
@@ -8,7 +9,8 @@ use Rattle.tclchars.specs.Backslash.{after_backslash}
 use Rattle.tclchars.specs.Braces.{Balanced, nothing, other, inner}
 use Rattle.tcllist.specs.ListGrammar as grammar
 use Rattle.tcllist.specs.ListGrammar.{ElementPiece, Bare, begins_element, IsElement, IsList}
-use Rattle.tcllist.specs.Lists.{needs_escape, begins_bare, is_bare, closed_one, depth_after, holds_of_depth, balances, letter_of, escape, escaped, element_text, list_rest, list_text}
+use Rattle.tcllist.specs.Lists.{needs_escape, begins_bare, is_bare, closed_one, depth_after, holds_of_depth, balances}
+use Rattle.tcllist.specs.Lists.{letter_of, escape, escaped, element_text, list_rest, list_text}
 use Rattle.tcllist.proofs.Runs.{is_byte, is_no_byte, true_false}
 
 -- Braces: what closes behind so many more
@@ -75,7 +77,8 @@ unmarked true h = cc
 unmarked false h = refl
 
 -- a marked byte that is no white space but the blank stands for itself
-itself_cases : (b : ℕ) (bs : Text) (a c d e g i j k l : Bool) → (b == 32) ≡ a → (b == 59) ≡ c → (b == 34) ≡ d → (b == 36) ≡ e → (b == 91) ≡ g → (b == 93) ≡ i → (b == 123) ≡ j → (b == 125) ≡ k → (b == 92) ≡ l
+itself_cases : (b : ℕ) (bs : Text) (a c d e g i j k l : Bool) → (b == 32) ≡ a → (b == 59) ≡ c → (b == 34) ≡ d
+    → (b == 36) ≡ e → (b == 91) ≡ g → (b == 93) ≡ i → (b == 123) ≡ j → (b == 125) ≡ k → (b == 92) ≡ l
     → needs_escape b ≡ true → (b == 10) ≡ false → (b == 9) ≡ false → (b == 13) ≡ false → (b == 11) ≡ false → (b == 12) ≡ false → after_backslash (b ∷ bs) ≡ Some (b ∷ [], bs)
 itself_cases b bs true c d e g i j k l a' c' d' e' g' i' j' k' l' h n t r v f = subst (λ x. after_backslash (x ∷ bs) ≡ Some (x ∷ [], bs)) (sym (is_byte b 32 a')) refl
 itself_cases b bs false true d e g i j k l a' c' d' e' g' i' j' k' l' h n t r v f = subst (λ x. after_backslash (x ∷ bs) ≡ Some (x ∷ [], bs)) (sym (is_byte b 59 c')) refl
@@ -88,7 +91,8 @@ itself_cases b bs false false false false false false false true l a' c' d' e' g
 itself_cases b bs false false false false false false false false true a' c' d' e' g' i' j' k' l' h n t r v f = subst (λ x. after_backslash (x ∷ bs) ≡ Some (x ∷ [], bs)) (sym (is_byte b 92 l')) refl
 itself_cases b bs false false false false false false false false false a' c' d' e' g' i' j' k' l' h n t r v f = absurd (true_false (sym (rw (n, t, r, v, f, a', c', d', e', g', i', j', k', l') at h)))
 
-marked_itself : (b : ℕ) (bs : Text) → needs_escape b ≡ true → (b == 10) ≡ false → (b == 9) ≡ false → (b == 13) ≡ false → (b == 11) ≡ false → (b == 12) ≡ false → after_backslash (b ∷ bs) ≡ Some (b ∷ [], bs)
+marked_itself : (b : ℕ) (bs : Text) → needs_escape b ≡ true → (b == 10) ≡ false → (b == 9) ≡ false → (b == 13) ≡ false
+    → (b == 11) ≡ false → (b == 12) ≡ false → after_backslash (b ∷ bs) ≡ Some (b ∷ [], bs)
 marked_itself b bs h n t r v f = itself_cases b bs (b == 32) (b == 59) (b == 34) (b == 36) (b == 91) (b == 93) (b == 123) (b == 125) (b == 92) refl refl refl refl refl refl refl refl refl h n t r v f
 
 letter_cases : (b : ℕ) (bs : Text) (n t r v f : Bool) → (b == 10) ≡ n → (b == 9) ≡ t → (b == 13) ≡ r → (b == 11) ≡ v → (b == 12) ≡ f → needs_escape b ≡ true
@@ -110,7 +114,9 @@ escape_means b bs ts rest s = elim (marked_or_plain b (needs_escape b) refl) [
 
 escapes_mean : (e rest : Text) → ElementPiece is_space (flat_map escape e ++ rest) e rest
 escapes_mean [] rest = grammar.ElementPiece.nothing
-escapes_mean (b ∷ e) rest = subst (λ x. ElementPiece is_space x (b ∷ e) rest) (sym (append_assoc (escape b) (flat_map escape e) rest)) (escape_means b (flat_map escape e ++ rest) e rest (escapes_mean e rest))
+escapes_mean (b ∷ e) rest = subst (λ x. ElementPiece is_space x (b ∷ e) rest)
+    (sym (append_assoc (escape b) (flat_map escape e) rest))
+    (escape_means b (flat_map escape e ++ rest) e rest (escapes_mean e rest))
 
 both_hold : (s t : Bool) → (s && t) ≡ true → (s ≡ true) × (t ≡ true)
 both_hold true t h = (refl, h)
@@ -141,9 +147,14 @@ escape_begins b bs = elim (marked_or_plain b (needs_escape b) refl) [
 
 escaped_cases : (b : ℕ) (e rest : Text) (t : Bool) → (b == hash) ≡ t → MayBegin is_space rest → IsElement (escaped (b ∷ e) ++ rest) (b ∷ e) rest
 escaped_cases b e rest true t k =
-    rw t (grammar.IsElement.bare refl (grammar.Bare.separated (subst (λ x. ElementPiece is_space (backslash ∷ (hash ∷ (flat_map escape e ++ rest))) (x ∷ e) rest) (sym (is_byte b hash t)) (grammar.ElementPiece.substituted (hash ∷ []) (flat_map escape e ++ rest) refl (escapes_mean e rest))) k))
+    rw t (grammar.IsElement.bare refl (grammar.Bare.separated
+    (subst (λ x. ElementPiece is_space (backslash ∷ (hash ∷ (flat_map escape e ++ rest))) (x ∷ e) rest)
+    (sym (is_byte b hash t)) (grammar.ElementPiece.substituted (hash ∷ []) (flat_map escape e ++ rest) refl
+    (escapes_mean e rest))) k))
 escaped_cases b e rest false t k =
-    rw t (grammar.IsElement.bare (subst (DoesBegin begins_element) (sym (append_assoc (escape b) (flat_map escape e) rest)) (escape_begins b (flat_map escape e ++ rest))) (grammar.Bare.separated (escapes_mean (b ∷ e) rest) k))
+    rw t (grammar.IsElement.bare (subst (DoesBegin begins_element)
+    (sym (append_assoc (escape b) (flat_map escape e) rest)) (escape_begins b (flat_map escape e ++ rest)))
+    (grammar.Bare.separated (escapes_mean (b ∷ e) rest) k))
 
 escaped_element : (e rest : Text) → balances 0 e ≡ false → MayBegin is_space rest → IsElement (escaped e ++ rest) e rest
 escaped_element [] rest h k = cc

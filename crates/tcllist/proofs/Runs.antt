@@ -1,9 +1,11 @@
 -- Runs of bytes and what follows them.
-use Rattle.std.proofs.Common.{◌≡◌, ◌≢◌, ℕ, ◌≤◌, List, [], ◌∷◌, ◌++◌, length, Bool, true, false, not, ◌==◌, refl, ap, ◌∙◌, arith}
+use Rattle.std.proofs.Common.{◌≡◌, ◌≢◌, ℕ, ◌≤◌, List, [], ◌∷◌, ◌++◌, length, Bool, true, false, not, ◌==◌, refl, ap}
+use Rattle.std.proofs.Common.{◌∙◌, arith}
 use Rattle.std.proofs.lemmas.Bool.Decides.{nat_tests}
 use Rattle.tclchars.specs.Bytes.{AllPass, MayBegin}
 use Rattle.tclchars.specs.Runs.{Text, take_while, drop_while}
-use Rattle.tclchars.proofs.RunLemmas.{take_while-cons_true, take_while-cons_false, drop_while-cons_true, drop_while-cons_false}
+use Rattle.tclchars.proofs.RunLemmas.{take_while-cons_true, take_while-cons_false, drop_while-cons_true}
+use Rattle.tclchars.proofs.RunLemmas.{drop_while-cons_false}
 
 pub true_false : true ≡ false → ⊥
 true_false h = cc

@@ -1,5 +1,6 @@
 -- Writing lists.
-use Rattle.std.proofs.Common.{◌≡◌, ℕ, ◌<◌, [], ◌∷◌, ◌++◌, length, Bool, true, false, not, ◌==◌, flat_map, refl, sym, ap, subst, ◌∙◌, arith, append_assoc, append-nil}
+use Rattle.std.proofs.Common.{◌≡◌, ℕ, ◌<◌, [], ◌∷◌, ◌++◌, length, Bool, true, false, not, ◌==◌, flat_map, refl, sym, ap}
+use Rattle.std.proofs.Common.{subst, ◌∙◌, arith, append_assoc, append-nil}
 use Rattle.std.proofs.lemmas.Bool.Decides.{nat_tests}
 use Rattle.tclchars.specs.Bytes.{is_literal, AllPass, MayBegin}
 use Rattle.tclchars.specs.Runs.{Text, take_while, drop_while}
@@ -37,18 +38,26 @@ unmarked_end (b ∷ bs) h k = absurd (both (needs_escape b) h k) where
   both true h k = cc
   both false h k = cc
 
-pub escapes-end : (old new run rest marked all : Text) → run ≡ take_while is_literal rest → marked ≡ drop_while is_literal rest → begins_needing_escape marked ≡ false → new ≡ old ++ run → old ++ flat_map escape rest ≡ all → new ≡ all
+pub escapes-end : (old new run rest marked all : Text) → run ≡ take_while is_literal rest
+    → marked ≡ drop_while is_literal rest → begins_needing_escape marked ≡ false → new ≡ old ++ run → old
+    ++ flat_map escape rest ≡ all → new ≡ all
 escapes-end old new run rest marked all r m none n so =
     let ends : drop_while is_literal rest ≡ [] = unmarked_end (drop_while is_literal rest) (subst (λ ys. begins_needing_escape ys ≡ false) m none) (back_fails is_literal rest) in
-    let whole : flat_map escape rest ≡ take_while is_literal rest = ap (flat_map escape) (front_back is_literal rest) ∙ run_escapes (take_while is_literal rest) (drop_while is_literal rest) (front_passes is_literal rest) ∙ ap (λ ys. take_while is_literal rest ++ flat_map escape ys) ends ∙ append-nil (take_while is_literal rest) in
+    let whole : flat_map escape rest ≡ take_while is_literal rest = ap (flat_map escape) (front_back is_literal rest)
+    ∙ run_escapes (take_while is_literal rest) (drop_while is_literal rest) (front_passes is_literal rest)
+    ∙ ap (λ ys. take_while is_literal rest ++ flat_map escape ys) ends ∙ append-nil (take_while is_literal rest) in
     n ∙ ap (λ ys. old ++ ys) (r ∙ sym whole) ∙ so
 
-pub escapes-more : (old new run rest marked after all : Text) (b : ℕ) → run ≡ take_while is_literal rest → marked ≡ drop_while is_literal rest → marked ≡ b ∷ after → needs_escape b ≡ true → new ≡ ((old ++ run) ++ 92 ∷ []) ++ letter_of b ∷ []
+pub escapes-more : (old new run rest marked after all : Text) (b : ℕ) → run ≡ take_while is_literal rest
+    → marked ≡ drop_while is_literal rest → marked ≡ b ∷ after → needs_escape b ≡ true → new ≡ ((old ++ run) ++ 92 ∷ [])
+    ++ letter_of b ∷ []
     → old ++ flat_map escape rest ≡ all → new ++ flat_map escape after ≡ all
 escapes-more old new run rest marked after all b r m e h n so =
     let whole : flat_map escape rest ≡ run ++ (92 ∷ (letter_of b ∷ flat_map escape after)) =
     ap (flat_map escape) (front_back is_literal rest) ∙ run_escapes (take_while is_literal rest) (drop_while is_literal rest) (front_passes is_literal rest)
-    ∙ ap (λ ys. take_while is_literal rest ++ flat_map escape ys) (sym m ∙ e) ∙ ap (λ ys. take_while is_literal rest ++ (ys ++ flat_map escape after)) (marked_escape b h) ∙ ap (λ ys. ys ++ (92 ∷ (letter_of b ∷ flat_map escape after))) (sym r)
+    ∙ ap (λ ys. take_while is_literal rest ++ flat_map escape ys) (sym m ∙ e)
+    ∙ ap (λ ys. take_while is_literal rest ++ (ys ++ flat_map escape after)) (marked_escape b h)
+    ∙ ap (λ ys. ys ++ (92 ∷ (letter_of b ∷ flat_map escape after))) (sym r)
     in
     ap (λ ys. ys ++ flat_map escape after) n ∙ simp append_assoc (sym (ap (λ ys. old ++ ys) whole)) ∙ so
 

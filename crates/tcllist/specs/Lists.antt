@@ -1,7 +1,9 @@
 -- The text that is written for a list of elements (own in its choice of spelling; it is read as list(n) says).
-use Rattle.std.specs.Prelude.{ℕ, zero, suc, List, [], ◌∷◌, ◌++◌, Bool, false, not, ◌||◌, ◌&&◌, ◌==◌, if◌then◌else◌, Option, Some, None, flat_map}
+use Rattle.std.specs.Prelude.{ℕ, zero, suc, List, [], ◌∷◌, ◌++◌, Bool, false, not, ◌||◌, ◌&&◌, ◌==◌, if◌then◌else◌}
+use Rattle.std.specs.Prelude.{Option, Some, None, flat_map}
 use Rattle.std.specs.List.{list_all}
-use Rattle.tclchars.specs.Bytes.{is_gap, is_special, is_literal, backslash, hash, space, tab, newline, vertical_tab, form_feed, carriage_return, left_brace, right_brace}
+use Rattle.tclchars.specs.Bytes.{is_gap, is_special, is_literal, backslash, hash, space, tab, newline, vertical_tab}
+use Rattle.tclchars.specs.Bytes.{form_feed, carriage_return, left_brace, right_brace}
 use Rattle.tclchars.specs.Runs.{Text}
 
 -- what has a meaning in a list or a script: white space, " $ ; [ ] { } \

@@ -1,5 +1,6 @@
 //! The elements of a list, read (Tcl(n), lindex(n)).
-ghost use Rattle.std.specs.Prelude.{◌≡◌, ℕ, suc, ◌≤◌, List, length, map, false, not, IfOk, IfErr, MatchResult, string_bytes};
+ghost use Rattle.std.specs.Prelude.{◌≡◌, ℕ, suc, ◌≤◌, List, length, map, false, not, IfOk, IfErr, MatchResult};
+ghost use Rattle.std.specs.Prelude.{string_bytes};
 ghost use Rattle.tclchars.specs.Runs.{Text, take_while, drop_while};
 ghost use Rattle.tclchars.specs.Braces.{braced_at};
 ghost use Rattle.tclchars.specs.Faults.{max_bytes};
@@ -8,7 +9,8 @@ ghost use Rattle.tclchars.specs.Reading.{stopped_by};
 ghost use Rattle.tclchars.specs.declared.fault.TextFault.TheVariants.{OutOfMemory};
 ghost use Rattle.tcllist.specs.ListGrammar.{IsList};
 ghost use Rattle.tcllist.specs.ListFaults.{IsListFault};
-ghost use Rattle.tcllist.specs.ListReading.{piece_of, element_end, element_in_braces, quoted_at, element_at, list_at, list_of, ReadsList};
+ghost use Rattle.tcllist.specs.ListReading.{piece_of, element_end, element_in_braces, quoted_at, element_at, list_at};
+ghost use Rattle.tcllist.specs.ListReading.{list_of, ReadsList};
 ghost use Rattle.tcllist.specs.Ends.{ends_piece, is_literal_before};
 
 use std::alloc::Global;

@@ -1,9 +1,11 @@
 //! Elements as the text of a list (list(n)).
-ghost use Rattle.std.specs.Prelude.{◌≡◌, ◌++◌, ◌≤◌, ◌<◌, ◌∷◌, [], length, map, flat_map, false, true, IfOk, OnOk, MatchOption, string_bytes};
+ghost use Rattle.std.specs.Prelude.{◌≡◌, ◌++◌, ◌≤◌, ◌<◌, ◌∷◌, [], length, map, flat_map, false, true, IfOk, OnOk};
+ghost use Rattle.std.specs.Prelude.{MatchOption, string_bytes};
 ghost use Rattle.std.specs.List.{list_all};
 ghost use Rattle.tclchars.specs.Bytes.{is_literal};
 ghost use Rattle.tcllist.specs.ListGrammar.{IsList};
-ghost use Rattle.tcllist.specs.Lists.{needs_escape, begins_needing_escape, begins_bare, is_bare, depth_after, balances, letter_of, escape, escaped, braced, element_text, list_rest, list_text};
+ghost use Rattle.tcllist.specs.Lists.{needs_escape, begins_needing_escape, begins_bare, is_bare, depth_after, balances};
+ghost use Rattle.tcllist.specs.Lists.{letter_of, escape, escaped, braced, element_text, list_rest, list_text};
 
 use std::alloc::{AllocError, Global};
 use tclchars::{Class, after_mark, is_gap, is_special, split_run};
@@ -19,7 +21,6 @@ pub fn write_list(alloc: Global, elements: &[&str]) -> Result<String, AllocError
     Ok(text)
 }
 
-/// Adds the text of the elements.
 fn push_list(text: &mut String, elements: &[&str]) -> Result<(), AllocError>
     ensures { OnOk result (string_bytes text.new
         ≡ string_bytes text.old ++ list_text (map (λ e. e.now) elements.now)) }
@@ -45,7 +46,6 @@ fn push_rest(text: &mut String, elements: &[&str]) -> Result<(), AllocError>
     Ok(())
 }
 
-/// Adds one element.
 fn push_element(text: &mut String, element: &str) -> Result<(), AllocError>
     ensures { OnOk result (string_bytes text.new ≡ string_bytes text.old ++ element_text element.now) }
 {
@@ -58,7 +58,6 @@ fn push_element(text: &mut String, element: &str) -> Result<(), AllocError>
     push_escaped(text, element)
 }
 
-/// Adds an element in braces.
 fn push_braced(text: &mut String, element: &str) -> Result<(), AllocError>
     ensures { OnOk result (string_bytes text.new ≡ string_bytes text.old ++ braced element.now) }
 {

@@ -1,5 +1,7 @@
 -- Quotients by powers of two, and the bits of numbers.
-use Rattle.std.proofs.Common.{◌≡◌, ℕ, zero, suc, ◌+◌, ◌-◌, ◌*◌, ◌/◌, ◌%◌, ◌^◌, ◌<◌, ◌≤◌, min, max, Bool, true, false, not, nat_lt, ℤ, pos, negsuc, neg_ℤ, w64, to_z, of_z, FitsSigned, refl, sym, ap, ◌∙◌, arith, inl, inr}
+use Rattle.std.proofs.Common.{◌≡◌, ℕ, zero, suc, ◌+◌, ◌-◌, ◌*◌, ◌/◌, ◌%◌, ◌^◌, ◌<◌, ◌≤◌, min, max, Bool, true, false}
+use Rattle.std.proofs.Common.{not, nat_lt, ℤ, pos, negsuc, neg_ℤ, w64, to_z, of_z, FitsSigned, refl, sym, ap, ◌∙◌}
+use Rattle.std.proofs.Common.{arith, inl, inr}
 use Rattle.std.specs.Prelude.{◌==◌, ◌&&◌, ◌||◌, bit_and, bit_or, bit_xor}
 use Rattle.std.specs.Int.{div_ceil, int_shr, bit_at}
 use Rattle.std.proofs.Math.Nat.{mul-le-mul_right}
@@ -11,7 +13,8 @@ use Rattle.std.proofs.lemmas.Nat.{pow_pos, and_le_l, or_lt, xor_lt}
 use mir.Val.{sel}
 use Rattle.std.proofs.lemmas.Nat.Bits.{bit_at-lt, bit_at_not, bit_at_and, bit_at_or, bit_at_xor, same_from_bits_below}
 use Rattle.tclchars.specs.Division.{fits, quotient}
-use Rattle.tcloperators.specs.Numbers.{remainder, is_zero, has_bit, exactly_one, bitwise_not, bitwise_and, bitwise_or, bitwise_xor, MakesEachBit, IsDeterminedByBits}
+use Rattle.tcloperators.specs.Numbers.{remainder, is_zero, has_bit, exactly_one, bitwise_not, bitwise_and, bitwise_or}
+use Rattle.tcloperators.specs.Numbers.{bitwise_xor, MakesEachBit, IsDeterminedByBits}
 
 -- a number between two multiples
 one_multiple : (c q d n m : ℕ) → d * q + m ≡ n → m < d → suc n ≤ c * d → c * d < suc n + d → c ≡ suc q

@@ -1,5 +1,7 @@
 -- What the arithmetic of 64 bits gives is what is computed over all whole numbers.
-use Rattle.std.proofs.Common.{◌≡◌, ℕ, zero, suc, ◌*◌, ◌/◌, ◌%◌, ◌^◌, ◌<◌, ◌≤◌, ◌⊎◌, false, nat_lt, min, ℤ, pos, negsuc, neg_ℤ, ◌*ℤ◌, w64, to_z, of_z, FitsSigned, Option, Some, None, Ok, Err, refl, sym, ap, inl, inr, lit<, ◌∙◌, arith}
+use Rattle.std.proofs.Common.{◌≡◌, ℕ, zero, suc, ◌*◌, ◌/◌, ◌%◌, ◌^◌, ◌<◌, ◌≤◌, ◌⊎◌, false, nat_lt, min, ℤ, pos, negsuc}
+use Rattle.std.proofs.Common.{neg_ℤ, ◌*ℤ◌, w64, to_z, of_z, FitsSigned, Option, Some, None, Ok, Err, refl, sym, ap, inl}
+use Rattle.std.proofs.Common.{inr, lit<, ◌∙◌, arith}
 use Rattle.std.specs.Option.{SomeIff, ok_or}
 use Rattle.std.specs.Int.{int_shr}
 use lib.Signed.{mag, mag_shr}
@@ -53,7 +55,12 @@ pub doubled_outside : (z : ℤ) (k : ℕ) → 63 ≤ k → FitsSigned w64 z → 
     → within_64_bits (z *ℤ pos (2 ^ k)) ≡ Err number_too_large
 doubled_outside (pos n) k h f some other = outside_above n (2 ^ k) (omega arith) (least_power k h)
 doubled_outside (negsuc n) k h f some (inl (one, not63)) =
-    outside_below (suc n * 2 ^ k) (let p : 2 ^ 64 ≤ 2 ^ k = pow-le-pow_right {n = 2} (lit< tt) (let e : 64 ≤ k = omega arith in e) in omega (arith, mul-le-mul_right {m = 1} {n = suc n} (2 ^ k) (omega arith)))
+    outside_below (suc n * 2 ^ k) (let p : 2 ^ 64 ≤ 2 ^ k = pow-le-pow_right {n = 2} (lit< tt)
+    (let e : 64 ≤ k = omega arith in e) in omega (
+      arith,
+      mul-le-mul_right {m = 1} {n = suc n} (2 ^ k)
+          (omega arith),
+    ))
 doubled_outside (negsuc n) k h f some (inr two) =
     outside_below (suc n * 2 ^ k) (let p : 2 ^ 63 ≤ 2 ^ k = least_power k h in let small : n < 2 ^ 63 = f.sfits in omega (arith, mul-le-mul_right {m = 2} {n = suc n} (2 ^ k) (omega arith)))
 
@@ -61,7 +68,8 @@ doubled_outside (negsuc n) k h f some (inr two) =
 halved_small : (n k : ℕ) → n < 2 ^ 63 → n / 2 ^ min k 63 ≡ n / 2 ^ k
 halved_small n k small = elim (cases_lt k 63) [
   | inl h ↦ ap (λ m. n / 2 ^ m) (let e : min k 63 ≡ k = omega arith in e)
-  | inr h ↦ (ap (λ m. n / 2 ^ m) (let e : min k 63 ≡ 63 = omega arith in e) ∙ div-eq_of_lt small) ∙ sym (div-eq_of_lt (let p : 2 ^ 63 ≤ 2 ^ k = least_power k h in let q : n < 2 ^ k = omega arith in q))
+  | inr h ↦ (ap (λ m. n / 2 ^ m) (let e : min k 63 ≡ 63 = omega arith in e) ∙ div-eq_of_lt small)
+      ∙ sym (div-eq_of_lt (let p : 2 ^ 63 ≤ 2 ^ k = least_power k h in let q : n < 2 ^ k = omega arith in q))
 ]
 
 pub halved_is : (z : ℤ) (k : ℕ) → FitsSigned w64 z → int_shr z (min k 63) ≡ int_shr z k

@@ -1,5 +1,7 @@
 -- The remainder of expr(n), by the rest that is rounded towards zero, which the program computes.
-use Rattle.std.proofs.Common.{◌≡◌, ℕ, zero, suc, ◌+◌, ◌-◌, ◌*◌, ◌/◌, ◌%◌, ◌^◌, ◌<◌, min, Bool, true, false, if◌then◌else◌, ℤ, pos, negsuc, neg_ℤ, ◌+ℤ◌, ◌-ℤ◌, w64, to_z, of_z, FitsSigned, Ok, refl, sym, subst, ap, ◌∙◌, inl, inr, arith}
+use Rattle.std.proofs.Common.{◌≡◌, ℕ, zero, suc, ◌+◌, ◌-◌, ◌*◌, ◌/◌, ◌%◌, ◌^◌, ◌<◌, min, Bool, true, false}
+use Rattle.std.proofs.Common.{if◌then◌else◌, ℤ, pos, negsuc, neg_ℤ, ◌+ℤ◌, ◌-ℤ◌, w64, to_z, of_z, FitsSigned, Ok, refl}
+use Rattle.std.proofs.Common.{sym, subst, ap, ◌∙◌, inl, inr, arith}
 use Rattle.std.specs.Int.{div_ceil}
 use Rattle.std.specs.Prelude.{int_lt, int_rem}
 use Rattle.std.proofs.lemmas.Bool.{cases_lt, le-ltb}
@@ -98,11 +100,14 @@ no_rest a b r f g k is h e =
     let zero_rest : r ≡ pos 0 = sym (to_z-of_z w64 r k) ∙ ap (to_z w64) e in
     settled_value a b r (pos 0) f g is h (rw zero_rest refl) (record { sfits = (let l : 0 < 2 ^ 63 = omega arith in l) })
 
-pub rest_alike : (a b r : ℤ) → FitsSigned w64 a → FitsSigned w64 b → FitsSigned w64 r → r ≡ int_rem (read a) (read b) → (of_z w64 b ≡ 0 → ⊥) → (of_z w64 r ≡ 0 → ⊥) → alike (read r) (read b) ≡ true → remainder_value a b ≡ Ok (read r)
+pub rest_alike : (a b r : ℤ) → FitsSigned w64 a → FitsSigned w64 b → FitsSigned w64 r → r ≡ int_rem (read a) (read b)
+    → (of_z w64 b ≡ 0 → ⊥) → (of_z w64 r ≡ 0 → ⊥) → alike (read r) (read b) ≡ true → remainder_value a b ≡ Ok (read r)
 rest_alike a b r f g k is h n e =
     settled_value a b r r f g is h (rw (some r n, alike_read r b true k g e) refl) k ∙ ap Ok (sym (to_z-of_z w64 r k))
 
-pub rest_apart : (a b r : ℤ) → FitsSigned w64 a → FitsSigned w64 b → FitsSigned w64 r → r ≡ int_rem (read a) (read b) → (of_z w64 b ≡ 0 → ⊥) → (of_z w64 r ≡ 0 → ⊥) → alike (read r) (read b) ≡ false → remainder_value a b ≡ Ok (read (read r +ℤ read b))
+pub rest_apart : (a b r : ℤ) → FitsSigned w64 a → FitsSigned w64 b → FitsSigned w64 r → r ≡ int_rem (read a) (read b)
+    → (of_z w64 b ≡ 0 → ⊥) → (of_z w64 r ≡ 0 → ⊥) → alike (read r) (read b) ≡ false
+    → remainder_value a b ≡ Ok (read (read r +ℤ read b))
 rest_apart a b r f g k is h n e =
     settled_value a b r (r +ℤ b) f g is h (rw (some r n, alike_read r b false k g e) refl) (sum_fits r b k g (alike_read r b false k g e))
     ∙ ap Ok (sum_read r b k g ∙ sym (to_z-of_z w64 (read r +ℤ read b) (word_sum_fits r b k g e)))

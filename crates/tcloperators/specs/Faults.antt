@@ -1,7 +1,10 @@
 -- Why there is no value, and what a call of this crate answers. Running out of memory is no reason: any call may do so.
-use Rattle.std.specs.Prelude.{◌≡◌, ℕ, string_bytes, String, Option, Some, None, IfSome, Result, Ok, Err}
+use Rattle.std.specs.Prelude.{◌≡◌, [], string_bytes, String, Option, Some, None, IfSome, Result, Ok, Err}
 use Rattle.std.specs.declared.alloc.Global.{Global}
 use Rattle.message.specs.Answers.{Gives}
+use Rattle.message.specs.Refusals.{NumberedText, about, saying}
+use Rattle.message.specs.declared.refusals.RefusalKind.TheVariants as kinds
+use Rattle.tclchars.specs.Faults as texts
 use Rattle.tclchars.specs.Runs.{Text}
 use Rattle.tclchars.specs.declared.fault.TextFault.{TextFault}
 use Rattle.tcloperators.specs.declared.fault.ValueFault.{ValueFault}
@@ -36,15 +39,15 @@ reason_of faults.NumberTooLarge = Some number_too_large
 reason_of faults.FractionOperand = Some fraction
 reason_of (faults.LeftOut name) = Some (unsupported (string_bytes name))
 
--- the number of a fault in the table of refusals
-abbrev pub number_of : ValueFault → ℕ
-number_of faults.OutOfMemory = 11
-number_of (faults.Text fault) = 12
-number_of (faults.TclError message) = 13
-number_of faults.ValueTooLong = 16
-number_of faults.NumberTooLarge = 17
-number_of faults.FractionOperand = 18
-number_of (faults.LeftOut name) = 19
+-- the refusal that a fault is; an error of Tcl has no line here
+abbrev pub refusal_of : ValueFault → NumberedText
+refusal_of faults.OutOfMemory = about kinds.MemoryForEvaluation []
+refusal_of (faults.Text fault) = saying kinds.BadText (texts.refusal_of fault).text
+refusal_of (faults.TclError message) = saying kinds.TclError (string_bytes message)
+refusal_of faults.ValueTooLong = about kinds.ValueTooLong []
+refusal_of faults.NumberTooLarge = about kinds.NumberTooLarge []
+refusal_of faults.FractionOperand = about kinds.FractionOperand []
+refusal_of (faults.LeftOut name) = about kinds.LeftOut (string_bytes name)
 
 -- a fault has this reason, or memory ran out
 abbrev pub HasReason : ValueReason → ValueFault → Type 0

@@ -1,6 +1,7 @@
 -- The operators of expr(n) on the texts of their operands. The operands are judged from the left, before a zero divisor
 -- or a negative shift.
-use Rattle.std.specs.Prelude.{Bool, true, false, not, ◌||◌, ◌&&◌, if◌then◌else◌, ℤ, neg_ℤ, Option, Some, None, Ok, Err, [], ◌∷◌, codes, length, take, bytes_eq}
+use Rattle.std.specs.Prelude.{Bool, true, false, not, ◌||◌, ◌&&◌, if◌then◌else◌, ℤ, neg_ℤ, Option, Some, None, Ok, Err}
+use Rattle.std.specs.Prelude.{[], ◌∷◌, codes, length, take, bytes_eq}
 use Rattle.std.specs.List.{list_any}
 use Rattle.std.specs.Str.{chars, str_eq_ignore_ascii_case}
 use Rattle.std.specs.Fmt.{signed_decimal}
@@ -19,7 +20,9 @@ use Rattle.tclexpr.specs.declared.operators.BinaryOperator.TheVariants as binary
 use Rattle.tcloperators.specs.Faults.{Answer, error, number_too_large, fraction, ◌>>=◌}
 use Rattle.tcloperators.specs.Elements.{elements_of}
 use Rattle.tcloperators.specs.Messages.{not_numeric, not_a_boolean}
-use Rattle.tcloperators.specs.Numbers.{within_64_bits, is_zero, sum, difference, product, quotient_value, remainder_value, shifted_left, shifted_right, bitwise_and, bitwise_xor, bitwise_or, bitwise_not}
+use Rattle.tcloperators.specs.Numbers.{within_64_bits, is_zero, sum, difference, product, quotient_value}
+use Rattle.tcloperators.specs.Numbers.{remainder_value, shifted_left, shifted_right, bitwise_and, bitwise_xor}
+use Rattle.tcloperators.specs.Numbers.{bitwise_or, bitwise_not}
 
 -- the number of an operand that has to be whole; the symbol is that of the operator, for the message
 abbrev pub whole_of : Text → Numeral → Answer ℤ

@@ -1,7 +1,8 @@
 //! Theorems of integer arithmetic: quotient and remainder, and the operators of bits (expr(n), OPERATORS).
 ghost use Rattle.std.specs.Prelude.{◌≡◌, ◌&&◌, ◌||◌, ℕ, ℤ, ◌+ℤ◌, ◌*ℤ◌, false, not};
 ghost use Rattle.tclchars.specs.Division.{quotient};
-ghost use Rattle.tcloperators.specs.Numbers.{remainder, IsRemainder, is_zero, bitwise_and, bitwise_or, bitwise_xor, bitwise_not, has_bit, exactly_one, MakesEachBit, IsDeterminedByBits};
+ghost use Rattle.tcloperators.specs.Numbers.{remainder, IsRemainder, is_zero, bitwise_and, bitwise_or, bitwise_xor};
+ghost use Rattle.tcloperators.specs.Numbers.{bitwise_not, has_bit, exactly_one, MakesEachBit, IsDeterminedByBits};
 
 /// A quotient and its remainder make up the dividend, and the remainder has the divisor's sign and is nearer to 0. So
 /// the quotient is rounded down.

@@ -19,6 +19,6 @@ pub use messages::{
 };
 pub use operands::sum;
 pub use operators::{
-    Computed, binary, compare_numbers, compute, text_order, truth_text, unary, whole_number,
+    ComputedValue, binary, compare_numbers, compute, text_order, truth_text, unary, whole_number,
 };
 pub use truth_values::truth;

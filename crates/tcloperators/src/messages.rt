@@ -1,7 +1,8 @@
 //! The errors of values that catch(n) catches, each with its message, and the fault of what is unsupported.
 ghost use Rattle.std.specs.Prelude.{◌≡◌, ◌++◌, Some, IfOk, MatchResult, codes, string_bytes};
 ghost use Rattle.tcloperators.specs.Faults.{HasReason, reason_of, error, unsupported};
-ghost use Rattle.tcloperators.specs.Messages.{not_numeric, not_a_boolean, not_a_whole_number, bad_index, wrong_words, divide_by_zero, negative_shift, not_a_list, in_quotes};
+ghost use Rattle.tcloperators.specs.Messages.{not_numeric, not_a_boolean, not_a_whole_number, bad_index, wrong_words};
+ghost use Rattle.tcloperators.specs.Messages.{divide_by_zero, negative_shift, not_a_list, in_quotes};
 ghost use Rattle.tcloperators.specs.declared.fault.ValueFault.TheVariants.{OutOfMemory};
 
 use crate::fault::ValueFault;

@@ -3,12 +3,13 @@ ghost use Rattle.std.specs.Prelude.{◌≡◌, neg_ℤ, Ok, IfSome};
 ghost use Rattle.tclchars.specs.Runs.{Text};
 ghost use Rattle.tclchars.specs.Numerals.{numeral};
 ghost use Rattle.tclchars.specs.declared.number.Numeral.TheVariants.{Whole};
-ghost use Rattle.tcloperators.specs.declared.operators.Computed.TheVariants.{Truth};
+ghost use Rattle.tcloperators.specs.declared.operators.ComputedValue.TheVariants.{Truth};
 ghost use Rattle.tclexpr.specs.Symbols.{binary_symbol};
 ghost use Rattle.message.specs.Answers.{Gives};
 ghost use Rattle.tcloperators.specs.Faults.{reason_of, GivesText};
 ghost use Rattle.tcloperators.specs.Numbers.{within_64_bits, bitwise_not};
-ghost use Rattle.tcloperators.specs.Operators.{unary_value, binary_value, truth_text, text_order, order_of, decimal_text, whole_operand, whole_operands, number_operand, found_in};
+ghost use Rattle.tcloperators.specs.Operators.{unary_value, binary_value, truth_text, text_order, order_of};
+ghost use Rattle.tcloperators.specs.Operators.{decimal_text, whole_operand, whole_operands, number_operand, found_in};
 ghost use Rattle.tcloperators.specs.Values.{computed_text};
 ghost use Rattle.tcloperators.specs.Views.{operands_view};
 
@@ -24,14 +25,14 @@ use tclexpr::{BinaryOperator, UnaryOperator};
 
 /// The value of an operator between two operands, before its text is made.
 #[derive(Clone, Copy, Debug, PartialEq, Eq)]
-pub enum Computed {
+pub enum ComputedValue {
     /// Whether a comparison holds.
     Truth(bool),
     /// A whole number.
     Whole(i64),
 }
 
-impl Computed {
+impl ComputedValue {
     /// The text of the value: 1 or 0 of a truth value, and a number in decimal.
     ///
     /// Errors: `OutOfMemory`.
@@ -39,8 +40,8 @@ impl Computed {
         ensures { GivesText result (Ok (computed_text self)) }
     {
         match self {
-            Computed::Truth(holds) => truth_text(alloc, holds),
-            Computed::Whole(number) => decimal_text(alloc, number),
+            ComputedValue::Truth(holds) => truth_text(alloc, holds),
+            ComputedValue::Whole(number) => decimal_text(alloc, number),
         }
     }
 }
@@ -92,20 +93,22 @@ pub fn compute(
     op: BinaryOperator,
     left: &str,
     right: &str,
-) -> Result<Computed, ValueFault>
+) -> Result<ComputedValue, ValueFault>
     ensures { Gives reason_of computed_text result (binary_value op left.now right.now) }
 {
     let number = match op {
-        BinaryOperator::TextEqual => return Ok(Computed::Truth(left == right)),
-        BinaryOperator::TextNotEqual => return Ok(Computed::Truth(left != right)),
-        BinaryOperator::In => return Ok(Computed::Truth(is_in(alloc, left, right)?)),
-        BinaryOperator::NotIn => return Ok(Computed::Truth(!is_in(alloc, left, right)?)),
-        BinaryOperator::Less => return Ok(Computed::Truth(order(left, right)?.is_lt())),
-        BinaryOperator::Greater => return Ok(Computed::Truth(order(left, right)?.is_gt())),
-        BinaryOperator::LessEqual => return Ok(Computed::Truth(order(left, right)?.is_le())),
-        BinaryOperator::GreaterEqual => return Ok(Computed::Truth(order(left, right)?.is_ge())),
-        BinaryOperator::Equal => return Ok(Computed::Truth(order(left, right)?.is_eq())),
-        BinaryOperator::NotEqual => return Ok(Computed::Truth(order(left, right)?.is_ne())),
+        BinaryOperator::TextEqual => return Ok(ComputedValue::Truth(left == right)),
+        BinaryOperator::TextNotEqual => return Ok(ComputedValue::Truth(left != right)),
+        BinaryOperator::In => return Ok(ComputedValue::Truth(is_in(alloc, left, right)?)),
+        BinaryOperator::NotIn => return Ok(ComputedValue::Truth(!is_in(alloc, left, right)?)),
+        BinaryOperator::Less => return Ok(ComputedValue::Truth(order(left, right)?.is_lt())),
+        BinaryOperator::Greater => return Ok(ComputedValue::Truth(order(left, right)?.is_gt())),
+        BinaryOperator::LessEqual => return Ok(ComputedValue::Truth(order(left, right)?.is_le())),
+        BinaryOperator::GreaterEqual => return Ok(ComputedValue::Truth(order(
+            left, right,
+        )?.is_ge())),
+        BinaryOperator::Equal => return Ok(ComputedValue::Truth(order(left, right)?.is_eq())),
+        BinaryOperator::NotEqual => return Ok(ComputedValue::Truth(order(left, right)?.is_ne())),
         BinaryOperator::Multiply => whole_operands(alloc, op, left, right)?.product()?,
         BinaryOperator::Divide => whole_operands(alloc, op, left, right)?.quotient(alloc)?,
         BinaryOperator::Remainder => whole_operands(alloc, op, left, right)?.remainder(alloc)?,
@@ -117,7 +120,7 @@ pub fn compute(
         BinaryOperator::BitXor => whole_operands(alloc, op, left, right)?.bitwise_xor(),
         BinaryOperator::BitOr => whole_operands(alloc, op, left, right)?.bitwise_or(),
     };
-    Ok(Computed::Whole(number))
+    Ok(ComputedValue::Whole(number))
 }
 
 /// The whole number that a text spells; None for any other text.
@@ -224,7 +227,6 @@ pub fn text_order(left: &str, right: &str) -> Ordering
     left.chars().cmp(right.chars())
 }
 
-/// A number in decimal.
 fn decimal_text(alloc: Global, number: i64) -> Result<String, ValueFault>
     ensures { GivesText result (decimal_text number) }
 {

@@ -1,5 +1,6 @@
 -- Stars that a match comes to.
-use Rattle.std.proofs.Common.{◌≡◌, ◌≢◌, ◌↔◌, ℕ, suc, List, [], ◌∷◌, length, Bool, true, false, ◌==◌, IsTrue, refl, sym, ap, subst, ◌∙◌, arith}
+use Rattle.std.proofs.Common.{◌≡◌, ◌≢◌, ◌↔◌, ℕ, suc, List, [], ◌∷◌, length, Bool, true, false, ◌==◌, IsTrue, refl, sym}
+use Rattle.std.proofs.Common.{ap, subst, ◌∙◌, arith}
 use Rattle.std.specs.Prelude.{encode_utf8_all}
 use Rattle.std.specs.Str.{chars, IsUtf8}
 use Rattle.std.proofs.lemmas.Str.{chars-nil, encodes-chars}
@@ -35,22 +36,26 @@ run-ends pattern text goal t e u none same =
     (λ h. same.0 (here.1 (remaining.0 h)), λ h. remaining.1 (here.0 (same.1 h)))
 
 -- a character of the pattern, and one of the text
-pub run-more : (ps cs : List ℕ) (p : ℕ) (ps' : List ℕ) (c : ℕ) (cs' rest : List ℕ) (goal : Type 0) → ps ≡ p ∷ ps' → cs ≡ c ∷ cs' → p ≢ star → StepsOnly p ps' c rest → IsMatch ps cs ↔ goal → IsMatch rest cs' ↔ goal
+pub run-more : (ps cs : List ℕ) (p : ℕ) (ps' : List ℕ) (c : ℕ) (cs' rest : List ℕ) (goal : Type 0) → ps ≡ p ∷ ps'
+    → cs ≡ c ∷ cs' → p ≢ star → StepsOnly p ps' c rest → IsMatch ps cs ↔ goal → IsMatch rest cs' ↔ goal
 run-more ps cs p ps' c cs' rest goal e k n only same =
     let here : IsMatch (p ∷ ps') (c ∷ cs') ↔ goal = subst (λ x. IsMatch (p ∷ ps') x ↔ goal) k (subst (λ x. IsMatch x cs ↔ goal) e same) in
     let goes = steps_go p c ps' rest n only cs' in
     (λ m. here.0 (goes.1 m), λ g. goes.0 (here.1 g))
 
-pub steps_to_star-more : (ps cs : List ℕ) (p : ℕ) (ps' : List ℕ) (c : ℕ) (cs' rest whole text : List ℕ) → ps ≡ p ∷ ps' → cs ≡ c ∷ cs' → OneStep p ps' c rest → ((qs ds : List ℕ) → StepsToStar ps cs qs ds → StepsToStar whole text qs ds)
+pub steps_to_star-more : (ps cs : List ℕ) (p : ℕ) (ps' : List ℕ) (c : ℕ) (cs' rest whole text : List ℕ) → ps ≡ p ∷ ps'
+    → cs ≡ c ∷ cs' → OneStep p ps' c rest → ((qs ds : List ℕ) → StepsToStar ps cs qs ds → StepsToStar whole text qs ds)
     → (qs ds : List ℕ) → StepsToStar rest cs' qs ds → StepsToStar whole text qs ds
 steps_to_star-more ps cs p ps' c cs' rest whole text e k one same qs ds l =
     same qs ds (subst (λ x. StepsToStar x cs qs ds) (sym e) (subst (λ x. StepsToStar (p ∷ ps') x qs ds) (sym k) (steps.StepsToStar.step rest one l)))
 
-pub steps_to_star-star : (ps cs : List ℕ) (p : ℕ) (ps' whole text : List ℕ) → ps ≡ p ∷ ps' → p ≡ star → ((qs ds : List ℕ) → StepsToStar ps cs qs ds → StepsToStar whole text qs ds) → StepsToStar whole text ps' cs
+pub steps_to_star-star : (ps cs : List ℕ) (p : ℕ) (ps' whole text : List ℕ) → ps ≡ p ∷ ps' → p ≡ star
+    → ((qs ds : List ℕ) → StepsToStar ps cs qs ds → StepsToStar whole text qs ds) → StepsToStar whole text ps' cs
 steps_to_star-star ps cs p ps' whole text e k same =
     same ps' cs (subst (λ x. StepsToStar x cs ps' cs) (sym e) (subst (λ x. StepsToStar (x ∷ ps') cs ps' cs) (sym k) steps.StepsToStar.at_star))
 
-pub run-none : (ps cs : List ℕ) (p : ℕ) (ps' : List ℕ) (c : ℕ) (cs' : List ℕ) (goal : Type 0) → ps ≡ p ∷ ps' → cs ≡ c ∷ cs' → p ≢ star → StepsNowhere p ps' c → IsMatch ps cs ↔ goal → IsTrue false ↔ goal
+pub run-none : (ps cs : List ℕ) (p : ℕ) (ps' : List ℕ) (c : ℕ) (cs' : List ℕ) (goal : Type 0) → ps ≡ p ∷ ps'
+    → cs ≡ c ∷ cs' → p ≢ star → StepsNowhere p ps' c → IsMatch ps cs ↔ goal → IsTrue false ↔ goal
 run-none ps cs p ps' c cs' goal e k n nowhere same = not_so (λ g.
     (let s = match_steps p c ps' cs' n (subst (λ x. IsMatch (p ∷ ps') x) k (subst (λ x. IsMatch x cs) e (same.1 g))) in nowhere s.0 s.1.0))
 

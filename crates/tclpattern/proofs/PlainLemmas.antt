@@ -1,17 +1,20 @@
 -- Patterns in which what follows a set is the same for every character.
-use Rattle.std.proofs.Common.{◌≡◌, ◌↔◌, ℕ, List, [], ◌∷◌, ◌++◌, Bool, true, false, not, ◌==◌, IsTrue, refl, sym, subst, ◌∙◌, ◌⊎◌, inl, inr, append-nil, arith}
+use Rattle.std.proofs.Common.{◌≡◌, ◌↔◌, ℕ, List, [], ◌∷◌, ◌++◌, Bool, true, false, not, ◌==◌, IsTrue, refl, sym, subst}
+use Rattle.std.proofs.Common.{◌∙◌, ◌⊎◌, inl, inr, append-nil, arith}
 use Rattle.std.proofs.lemmas.Bool.Decides.{nat_tests}
 use Rattle.tclpattern.specs.Patterns as pattern
-use Rattle.tclpattern.specs.Patterns.{star, question, open_bracket, close_bracket, backslash, dash, after_close, no_dash, is_ordinary, HoldsIn, IsMatch}
+use Rattle.tclpattern.specs.Patterns.{star, question, open_bracket, close_bracket, backslash, dash, after_close}
+use Rattle.tclpattern.specs.Patterns.{no_dash, is_ordinary, HoldsIn, IsMatch}
 use Rattle.tclpattern.specs.Search.Tails.{IsTail}
 use Rattle.tclpattern.specs.Search.Steps as steps
 use Rattle.tclpattern.specs.Search.Steps.{OneStep, StepsToStar}
 use Rattle.tclpattern.specs.Search.Uniform.{reading_of, is_closed, is_uniform}
-use Rattle.tclpattern.specs.declared.star.Reading.{Reading}
-use Rattle.tclpattern.specs.declared.star.Reading.TheVariants.{Outside, AtItem, AfterLow, AfterDash, RangeToClose}
+use Rattle.tclpattern.specs.declared.star.ReadingState.{ReadingState}
+use Rattle.tclpattern.specs.declared.star.ReadingState.TheVariants.{Outside, AtItem, AfterLow, AfterDash, RangeToClose}
 use Rattle.tclpattern.proofs.SetLemmas.{tail-more}
 use Rattle.tclpattern.proofs.PatternLemmas.{text_ends}
-use Rattle.tclpattern.proofs.StepLemmas.{step_parts, set_step, escape_step, itself_step, any_steps, ordinary_no, step_no_star, match_steps}
+use Rattle.tclpattern.proofs.StepLemmas.{step_parts, set_step, escape_step, itself_step, any_steps, ordinary_no}
+use Rattle.tclpattern.proofs.StepLemmas.{step_no_star, match_steps}
 use Rattle.tclpattern.proofs.TextLemmas.{AreLeft, remaining-end, tail_or_itself}
 use Rattle.tclpattern.proofs.TakeLemmas.{not_so, star_takes, star_parts, star_ends}
 
@@ -20,7 +23,7 @@ not_true true h = cc
 not_true false h = refl
 
 -- Reading a plain pattern
-abbrev PlainFrom : Reading → List ℕ → Type 0
+abbrev PlainFrom : ReadingState → List ℕ → Type 0
 PlainFrom r ps = is_closed (reading_of r ps) ≡ true
 
 open_never : (ps : List ℕ) → PlainFrom RangeToClose ps → ⊥
@@ -124,7 +127,8 @@ star_tail ps (c ∷ cs) m = cases (star_parts c ps cs m) (λ k. star_tail ps cs 
   cases (inr k) more = further (more k)
 
 -- The turns of the search from star to star
-pub uniform-next : (ps cs qs ds : List ℕ) (goal : Type 0) → is_uniform ps ≡ true → StepsToStar ps cs qs ds → IsMatch (star ∷ qs) ds ↔ IsMatch ps cs → IsMatch (star ∷ ps) cs ↔ goal → IsMatch (star ∷ qs) ds ↔ goal
+pub uniform-next : (ps cs qs ds : List ℕ) (goal : Type 0) → is_uniform ps ≡ true → StepsToStar ps cs qs ds
+    → IsMatch (star ∷ qs) ds ↔ IsMatch ps cs → IsMatch (star ∷ ps) cs ↔ goal → IsMatch (star ∷ qs) ds ↔ goal
 uniform-next ps cs qs ds goal h l same whole = (
   λ m. whole.0 (pattern.IsMatch.any_text [] (same.0 m)),
   λ g. (let t = star_tail ps cs (whole.1 g) in later_way l h t.0 t.1.0 t.1.1),

@@ -1,5 +1,7 @@
 -- Rows of bits.
-use Rattle.std.proofs.Common.{◌≡◌, ◌≢◌, ◌↔◌, ℕ, ◌+◌, ◌*◌, ◌/◌, ◌%◌, ◌<◌, ◌≤◌, List, [], ◌∷◌, ◌++◌, length, get_or, drop, Bool, true, false, IsTrue, refl, sym, ap, subst, ◌∙◌, arith, inl, inr, length-append, append_assoc, append-nil, drop_at}
+use Rattle.std.proofs.Common.{◌≡◌, ◌≢◌, ◌↔◌, ℕ, ◌+◌, ◌*◌, ◌/◌, ◌%◌, ◌<◌, ◌≤◌, List, [], ◌∷◌, ◌++◌, length, get_or, drop}
+use Rattle.std.proofs.Common.{Bool, true, false, IsTrue, refl, sym, ap, subst, ◌∙◌, arith, inl, inr, length-append}
+use Rattle.std.proofs.Common.{append_assoc, append-nil, drop_at}
 use Rattle.std.proofs.Math.ListN.{set}
 use Rattle.std.specs.Int.{bit_at}
 use Rattle.std.proofs.lemmas.Bool.{cases_eq}
@@ -51,7 +53,9 @@ marked-more ps prefix qs states states' t n m Q split count next same here elsew
   | inr f ↦ then_iff (elsewhere (length xs) f) (marked prefix' xs e (omega arith))
 ]
 
-marked-less : (ps states states' : List ℕ) (n m : ℕ) (Q : List ℕ → Type 0) → n ≤ m → ((k : ℕ) → k ≢ m → Has states' k ↔ Has states k) → Marked ps (λ k. n < k) states Q → Marked ps (λ k. m < k) states' Q
+marked-less : (ps states states' : List ℕ) (n m : ℕ) (Q : List ℕ → Type 0) → n ≤ m
+    → ((k : ℕ) → k ≢ m → Has states' k ↔ Has states k) → Marked ps (λ k. n < k) states Q
+    → Marked ps (λ k. m < k) states' Q
 marked-less ps states states' n m Q le elsewhere marked prefix xs e lt = then_iff (elsewhere (length xs) (λ f. omega arith)) (marked prefix xs e (omega arith))
 
 split-more : (ps prefix rest qs : List ℕ) (p : ℕ) → ps ≡ prefix ++ qs → prefix ≡ rest ++ p ∷ [] → ps ≡ rest ++ (p ∷ qs)
@@ -82,13 +86,21 @@ stars-more p qs t t' e h = (
   cases (inl k) m = e.1 (k.0, h.1 (star_ends qs (subst (λ x. IsMatch (x ∷ qs) []) k.0 m)))
   cases (inr k) m = absurd k
 
-pub filled-more : (ps prefix rest states states' : List ℕ) (p at next : ℕ) (t t' : Bool) → IsFilled ps prefix states at t → prefix ≡ rest ++ p ∷ [] → next ≡ at + 1 → IsTrue t' ↔ ((p ≡ star) × IsTrue t)
+pub filled-more : (ps prefix rest states states' : List ℕ) (p at next : ℕ) (t t' : Bool)
+    → IsFilled ps prefix states at t → prefix ≡ rest ++ p ∷ [] → next ≡ at + 1 → IsTrue t' ↔ ((p ≡ star) × IsTrue t)
     → Has states' next ↔ IsTrue t' → ((k : ℕ) → k ≢ next → Has states' k ↔ Has states k) → IsFilled ps rest states' next t'
 filled-more ps prefix rest states states' p at next t t' f e n s here elsewhere =
     let split = split-more ps prefix rest f.qs p f.split e in
     let stars = stars-more p f.qs t t' s f.stars in
     let count : length (p ∷ f.qs) ≡ next = omega (arith, f.count) in
-    record { qs = p ∷ f.qs; split = split; count = count; stars = stars; marked = marked-more ps rest (p ∷ f.qs) states states' t' at next (λ xs. IsMatch xs []) split count n stars here elsewhere f.marked }
+    record {
+      qs = p ∷ f.qs;
+      split = split;
+      count = count;
+      stars = stars;
+      marked = marked-more ps rest (p ∷ f.qs) states
+          states' t' at next (λ xs. IsMatch xs []) split count n stars here elsewhere f.marked;
+    }
 
 -- The row of one more character, as far as it is made
 pub record IsSwept (ps prefix states : List ℕ) (at c : ℕ) (cs : List ℕ) (w : Window) : Type 0 where
@@ -107,7 +119,8 @@ nothing_left c cs m = never (match_parts m) where
 pub ends-states : (ps cs states : List ℕ) (t : Bool) → IsTrue t ↔ Has states 0 → StatesOf ps cs states → IsTrue t ↔ IsMatch [] cs
 ends-states ps cs states t h r = then_iff h (r ps [] (sym (append-nil ps)))
 
-pub swept-init : (ps cs states states' : List ℕ) (c : ℕ) (w : Window) → StatesOf ps cs states → Knows [] c cs w → Has states' 0 ↔ IsTrue false → ((k : ℕ) → k ≢ 0 → Has states' k ↔ Has states k) → IsSwept ps ps states' 0 c cs w
+pub swept-init : (ps cs states states' : List ℕ) (c : ℕ) (w : Window) → StatesOf ps cs states → Knows [] c cs w
+    → Has states' 0 ↔ IsTrue false → ((k : ℕ) → k ≢ 0 → Has states' k ↔ Has states k) → IsSwept ps ps states' 0 c cs w
 swept-init ps cs states states' c w r knows here elsewhere = record {
   qs = [];
   split = sym (append-nil ps);
@@ -117,12 +130,15 @@ swept-init ps cs states states' c w r knows here elsewhere = record {
   old = λ prefix xs e lt. then_iff (elsewhere (length xs) (λ f. omega arith)) (r prefix xs e);
 }
 
-pub swept-matches_without : (ps prefix rest states : List ℕ) (p at next c : ℕ) (cs : List ℕ) (w : Window) (t : Bool) → (s : IsSwept ps prefix states at c cs w) → prefix ≡ rest ++ p ∷ [] → next ≡ at + 1 → IsTrue t ↔ Has states next → IsTrue t ↔ IsMatch (p ∷ s.qs) cs
+pub swept-matches_without : (ps prefix rest states : List ℕ) (p at next c : ℕ) (cs : List ℕ) (w : Window) (t : Bool)
+    → (s : IsSwept ps prefix states at c cs w) → prefix ≡ rest ++ p ∷ [] → next ≡ at + 1 → IsTrue t ↔ Has states next
+    → IsTrue t ↔ IsMatch (p ∷ s.qs) cs
 swept-matches_without ps prefix rest states p at next c cs w t s e n has =
     let count : length (p ∷ s.qs) ≡ next = omega (arith, s.count) in
     then_iff has (subst (λ k. Has states k ↔ IsMatch (p ∷ s.qs) cs) count (s.old rest (p ∷ s.qs) (split-more ps prefix rest s.qs p s.split e) (omega (arith, s.count))))
 
-pub swept-more : (ps prefix rest states states' : List ℕ) (p at next c : ℕ) (cs : List ℕ) (w w' : Window) → (s : IsSwept ps prefix states at c cs w) → prefix ≡ rest ++ p ∷ [] → next ≡ at + 1 → Knows (p ∷ s.qs) c cs w'
+pub swept-more : (ps prefix rest states states' : List ℕ) (p at next c : ℕ) (cs : List ℕ) (w w' : Window)
+    → (s : IsSwept ps prefix states at c cs w) → prefix ≡ rest ++ p ∷ [] → next ≡ at + 1 → Knows (p ∷ s.qs) c cs w'
     → Has states' next ↔ IsTrue w'.takes → ((k : ℕ) → k ≢ next → Has states' k ↔ Has states k) → IsSwept ps rest states' next c cs w'
 swept-more ps prefix rest states states' p at next c cs w w' s e n knows here elsewhere =
     let split = split-more ps prefix rest s.qs p s.split e in
@@ -162,6 +178,8 @@ searched-init ps text states r n = record { cs = []; split = sym (append-nil tex
 pub searched-found : (ps text rest prefix states : List ℕ) (c : ℕ) → (s : IsSearched ps text rest states) → rest ≡ prefix ++ c ∷ [] → IsMatch ps (c ∷ s.cs) → IsTrue true ↔ IsMatch (star ∷ ps) text
 searched-found ps text rest prefix states c s e m = found_here ps text prefix (c ∷ s.cs) (split-more text rest prefix s.cs c s.split e) m
 
-pub searched-more : (ps text rest prefix states states' : List ℕ) (c : ℕ) → (s : IsSearched ps text rest states) → rest ≡ prefix ++ c ∷ [] → StatesOf ps (c ∷ s.cs) states' → (IsMatch ps (c ∷ s.cs) → ⊥) → IsSearched ps text prefix states'
+pub searched-more : (ps text rest prefix states states' : List ℕ) (c : ℕ) → (s : IsSearched ps text rest states)
+    → rest ≡ prefix ++ c ∷ [] → StatesOf ps (c ∷ s.cs) states' → (IsMatch ps (c ∷ s.cs) → ⊥)
+    → IsSearched ps text prefix states'
 searched-more ps text rest prefix states states' c s e r n =
     record { cs = c ∷ s.cs; split = split-more text rest prefix s.cs c s.split e; row_of = r; none = λ m. elim (star_parts c ps s.cs m) [ inl k ↦ n k | inr k ↦ s.none k ] }

@@ -1,5 +1,6 @@
 -- Runs of a pattern over a text.
-use Rattle.std.proofs.Common.{◌≡◌, ◌≢◌, ◌↔◌, ℕ, zero, suc, ◌+◌, ◌-◌, ◌/◌, ◌≤◌, List, [], ◌∷◌, ◌++◌, length, take, drop, Bool, true, false, IsTrue, refl, sym, ap, subst, ◌∙◌, arith, ◌⊎◌, inl, inr, take-add}
+use Rattle.std.proofs.Common.{◌≡◌, ◌≢◌, ◌↔◌, ℕ, zero, suc, ◌+◌, ◌-◌, ◌/◌, ◌≤◌, List, [], ◌∷◌, ◌++◌, length, take, drop}
+use Rattle.std.proofs.Common.{Bool, true, false, IsTrue, refl, sym, ap, subst, ◌∙◌, arith, ◌⊎◌, inl, inr, take-add}
 use Rattle.std.specs.Str.{chars, IsUtf8}
 use Rattle.tclpattern.specs.Patterns as pattern
 use Rattle.tclpattern.specs.Patterns.{star, question, backslash, IsMatch}
@@ -79,7 +80,9 @@ pub halves-found : (ps cs ms : List ℕ) (count : ℕ) (qs : List ℕ) → RunsB
 halves-found ps cs ms count qs h =
     (λ t. subst (λ xs. Run ps xs qs) (sym (take_halves count cs)) (run_join h.0 (take (count - count / 2) (drop (count / 2) cs)) qs h.1), λ r. refl)
 
-pub halves-none : (ps cs remaining : List ℕ) (count : ℕ) (qs : List ℕ) → remaining ≡ [] → (RunsBy ps cs remaining count qs → ⊥) → AreLeft (λ ms. RunsBy ps cs ms count qs) ps remaining → IsTrue false ↔ Run ps (take count cs) qs
+pub halves-none : (ps cs remaining : List ℕ) (count : ℕ) (qs : List ℕ) → remaining ≡ []
+    → (RunsBy ps cs remaining count qs → ⊥) → AreLeft (λ ms. RunsBy ps cs ms count qs) ps remaining
+    → IsTrue false ↔ Run ps (take count cs) qs
 halves-none ps cs remaining count qs e none all = not_so (λ r.
     (let s = run_split r (take (count / 2) cs) (take (count - count / 2) (drop (count / 2) cs)) (take_halves count cs) in
     remaining-end (λ ms. RunsBy ps cs ms count qs) ps remaining e none all s.0 (run_tail s.1.0) s.1))

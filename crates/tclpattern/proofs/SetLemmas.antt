@@ -1,5 +1,6 @@
 -- Sets: item by item.
-use Rattle.std.proofs.Common.{◌≡◌, ◌↔◌, ℕ, List, [], ◌∷◌, ◌++◌, Bool, true, false, not, ◌==◌, Option, Some, None, refl, sym, ap, subst, ◌∙◌, arith, IsTrue, ◌⊎◌, inl, inr, append_assoc}
+use Rattle.std.proofs.Common.{◌≡◌, ◌↔◌, ℕ, List, [], ◌∷◌, ◌++◌, Bool, true, false, not, ◌==◌, Option, Some, None, refl}
+use Rattle.std.proofs.Common.{sym, ap, subst, ◌∙◌, arith, IsTrue, ◌⊎◌, inl, inr, append_assoc}
 use Rattle.std.specs.Prelude.{MatchOption, MatchBool}
 use Rattle.std.proofs.lemmas.Bool.Decides.{nat_tests}
 use Rattle.tclpattern.specs.Patterns as pattern
@@ -201,7 +202,8 @@ pub item_at-one : (p : ℕ) (xs : List ℕ) → (p ≡ close_bracket → ⊥) �
 item_at-one p [] n m = item-one p [] (no_close p n) refl
 item_at-one p (d ∷ xs) n m = item-one p (d ∷ xs) (no_close p n) (ap not (not_dash d m))
 
-pub item_at-range : (p high : ℕ) (xs : List ℕ) → (p ≡ close_bracket → ⊥) → first_of xs ≡ Some dash → first_of (without_first xs) ≡ Some high → item_at (p ∷ xs) ≡ Some (item p high (without_first (without_first xs)))
+pub item_at-range : (p high : ℕ) (xs : List ℕ) → (p ≡ close_bracket → ⊥) → first_of xs ≡ Some dash
+    → first_of (without_first xs) ≡ Some high → item_at (p ∷ xs) ≡ Some (item p high (without_first (without_first xs)))
 item_at-range p high [] n e k = absurd (nothing e) where
   nothing : None ≡ Some dash → ⊥
   nothing e = cc

@@ -54,7 +54,9 @@ set_step p c ps other e (itself k h r) = absurd (ordinary_open p k e)
 set_steps : (p c : ℕ) (ps rest : List ℕ) → p ≡ open_bracket → HoldsOnly c ps rest → StepsOnly p ps c rest
 set_steps p c ps rest e h = (subst (λ x. OneStep x ps c rest) (sym e) (steps.OneStep.set h.0), λ other s. h.1 other (set_step p c ps other e (step_parts s)))
 
-pub set_step_answer : (p c : ℕ) (ps : List ℕ) (found : Option (Bor (List ℕ))) → p ≡ open_bracket → MatchOption found (HoldsNowhere c ps) (λ rest. HoldsOnly c ps (chars rest.now)) → MatchOption found (StepsNowhere p ps c) (λ rest. StepsOnly p ps c (chars rest.now))
+pub set_step_answer : (p c : ℕ) (ps : List ℕ) (found : Option (Bor (List ℕ))) → p ≡ open_bracket
+    → MatchOption found (HoldsNowhere c ps) (λ rest. HoldsOnly c ps (chars rest.now))
+    → MatchOption found (StepsNowhere p ps c) (λ rest. StepsOnly p ps c (chars rest.now))
 set_step_answer p c ps None e h = λ rest s. h rest (set_step p c ps rest e (step_parts s))
 set_step_answer p c ps (Some rest) e h = set_steps p c ps (chars rest.now) e h
 
@@ -67,7 +69,9 @@ escape_step p c ps other e (itself k h r) = absurd (ordinary_backslash p k e)
 same_rest : (c : ℕ) (xs ys ps : List ℕ) → ps ≡ c ∷ xs → ps ≡ c ∷ ys → xs ≡ ys
 same_rest c xs ys ps h k = cc
 
-pub escape_step_answer : (p c : ℕ) (ps : List ℕ) (found : Option (Bor (List ℕ))) → p ≡ backslash → MatchOption found ((rest : List ℕ) → ps ≢ c ∷ rest) (λ rest. ps ≡ c ∷ chars rest.now) → MatchOption found (StepsNowhere p ps c) (λ rest. StepsOnly p ps c (chars rest.now))
+pub escape_step_answer : (p c : ℕ) (ps : List ℕ) (found : Option (Bor (List ℕ))) → p ≡ backslash
+    → MatchOption found ((rest : List ℕ) → ps ≢ c ∷ rest) (λ rest. ps ≡ c ∷ chars rest.now)
+    → MatchOption found (StepsNowhere p ps c) (λ rest. StepsOnly p ps c (chars rest.now))
 escape_step_answer p c ps None e h = λ rest s. h rest (escape_step p c ps rest e (step_parts s))
 escape_step_answer p c ps (Some rest) e h = (
   subst (λ x. OneStep x ps c (chars rest.now)) (sym e) (subst (λ xs. OneStep backslash xs c (chars rest.now)) (sym h) steps.OneStep.escaped),

@@ -1,12 +1,14 @@
 -- A tail of a pattern with one more character in front, at a character of the text.
-use Rattle.std.proofs.Common.{◌≡◌, ◌≢◌, ◌↔◌, ℕ, List, [], ◌∷◌, ◌++◌, true, false, Some, None, IsTrue, refl, sym, ap, subst, arith, ◌⊎◌, inl, inr}
+use Rattle.std.proofs.Common.{◌≡◌, ◌≢◌, ◌↔◌, ℕ, List, [], ◌∷◌, ◌++◌, true, false, Some, None, IsTrue, refl, sym, ap}
+use Rattle.std.proofs.Common.{subst, arith, ◌⊎◌, inl, inr}
 use Rattle.tclpattern.specs.Patterns as pattern
 use Rattle.tclpattern.specs.Patterns.{star, question, open_bracket, backslash, IsMatch}
 use Rattle.tclpattern.specs.Search.Tails.{SetMatches}
 use Rattle.tclpattern.specs.Search.Windows.{first_of, without_first}
 use Rattle.tclpattern.proofs.PatternLemmas as parts
 use Rattle.tclpattern.proofs.PatternLemmas.{Parts, IfOneParts, match_parts}
-use Rattle.tclpattern.proofs.StepLemmas.{step_parts, set_step, escape_step, itself_step, itself_steps, any_steps, ordinary_star, match_steps, steps_go}
+use Rattle.tclpattern.proofs.StepLemmas.{step_parts, set_step, escape_step, itself_step, itself_steps, any_steps}
+use Rattle.tclpattern.proofs.StepLemmas.{ordinary_star, match_steps, steps_go}
 
 pub not_so : {P : Type 0} → (P → ⊥) → IsTrue false ↔ P
 not_so n = (λ h. absurd (never h), λ p. absurd (n p)) where

@@ -1,5 +1,6 @@
 //! One step of a pattern other than a star, over one character of the text (string(n), match).
-ghost use Rattle.std.specs.Prelude.{◌≡◌, ℕ, List, ◌∷◌, [], ◌++◌, ◌≤◌, ◌<◌, ◌≢◌, length, option_map, MatchOption, IfSome};
+ghost use Rattle.std.specs.Prelude.{◌≡◌, ℕ, List, ◌∷◌, [], ◌++◌, ◌≤◌, ◌<◌, ◌≢◌, length, option_map, MatchOption};
+ghost use Rattle.std.specs.Prelude.{IfSome};
 ghost use Rattle.std.specs.Str.{chars};
 ghost use Rattle.tclpattern.specs.Patterns.{star, is_between, after_close};
 ghost use Rattle.tclpattern.specs.Search.Items.{item_at};

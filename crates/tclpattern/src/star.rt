@@ -38,7 +38,7 @@ pub(crate) fn matches_from(star: Position<'_>) -> bool
 
 /// The state of a pattern that is read character by character, to find how the ranges of its sets end.
 #[derive(Clone, Copy)]
-enum Reading {
+enum ReadingState {
     /// Outside of sets.
     Outside,
     /// After a backslash.
@@ -54,18 +54,18 @@ enum Reading {
 }
 
 /// The state after the character.
-fn reading_after(reading: Reading, c: char) -> Reading
+fn reading_after(reading: ReadingState, c: char) -> ReadingState
     ensures { result ≡ uniform.reading_after reading c }
 {
     match reading {
-        Reading::Outside if c == '\\' => Reading::Escaped,
-        Reading::Outside if c == '[' => Reading::AtItem,
-        Reading::Outside | Reading::Escaped => Reading::Outside,
-        Reading::AtItem | Reading::AfterLow if c == ']' => Reading::Outside,
-        Reading::AfterLow if c == '-' => Reading::AfterDash,
-        Reading::AtItem | Reading::AfterLow => Reading::AfterLow,
-        Reading::AfterDash if c != ']' => Reading::AtItem,
-        Reading::AfterDash | Reading::RangeToClose => Reading::RangeToClose,
+        ReadingState::Outside if c == '\\' => ReadingState::Escaped,
+        ReadingState::Outside if c == '[' => ReadingState::AtItem,
+        ReadingState::Outside | ReadingState::Escaped => ReadingState::Outside,
+        ReadingState::AtItem | ReadingState::AfterLow if c == ']' => ReadingState::Outside,
+        ReadingState::AfterLow if c == '-' => ReadingState::AfterDash,
+        ReadingState::AtItem | ReadingState::AfterLow => ReadingState::AfterLow,
+        ReadingState::AfterDash if c != ']' => ReadingState::AtItem,
+        ReadingState::AfterDash | ReadingState::RangeToClose => ReadingState::RangeToClose,
     }
 }
 
@@ -74,11 +74,11 @@ fn reading_after(reading: Reading, c: char) -> Reading
 fn is_uniform(pattern: &str) -> bool
     ensures { result ≡ uniform.is_uniform (chars pattern.now) }
 {
-    let mut reading = Reading::Outside;
+    let mut reading = ReadingState::Outside;
     for c in pattern.chars() {
         reading = reading_after(reading, c);
     }
-    !matches!(reading, Reading::RangeToClose)
+    !matches!(reading, ReadingState::RangeToClose)
 }
 
 /// The same as `matches_from` for a pattern without a range up to a closing bracket: there the first match up to the

@@ -7,7 +7,9 @@ use lib.Utf8.{encode}
 use Rattle.tclchars.specs.declared.fault.TextFault.TheVariants as text
 use Rattle.tclchars.specs.Braces.{braced_at}
 use Rattle.tclscript.specs.ScanState.{scan}
-use Rattle.tclscript.specs.Reading.{whole_script, script_with, command_at, word_at, unexpanded_word_at, braced_word_at, quoted_word_at, quotes_at, parts_with, part_at, dollar_at, backslash_at, bracket_at, after_expansion, inner_at}
+use Rattle.tclscript.specs.Reading.{whole_script, script_with, command_at, word_at, unexpanded_word_at, braced_word_at}
+use Rattle.tclscript.specs.Reading.{quoted_word_at, quotes_at, parts_with, part_at, dollar_at, backslash_at, bracket_at}
+use Rattle.tclscript.specs.Reading.{after_expansion, inner_at}
 use Rattle.tclexpr.specs.Marks.{mark_at, after_white}
 use Rattle.tclexpr.specs.Operands.{operand_at, after_number, after_digits, quoted_at}
 use Rattle.tclexpr.specs.Reading.{expr_at, whole_at, chain_at, climb_at, prefix_at, below_at}
@@ -23,7 +25,8 @@ use Rattle.tclrules.specs.Forms.{core_form}
 use Rattle.tclrules.specs.Playing.{Played}
 use Rattle.tclrules.specs.Plans.{Completion}
 use Rattle.tclrules.specs.Meaning.{Setting, play_file}
-use Rattle.tclrules.specs.Shown.{Shown, Result, Halts, Fails, standard, with_commands, with_depth, with_bytes, within, recorded, shown_of, trace_of, setenv_words}
+use Rattle.tclrules.specs.Shown.{Shown, Result, Halts, Fails, standard, with_commands, with_depth, with_bytes, within}
+use Rattle.tclrules.specs.Shown.{recorded, shown_of, trace_of, setenv_words}
 
 -- what a view shows of a playing
 abbrev pub viewed : {A : Type 0} → (EvaluationOutcome Completion → World → A) → Played Completion → Option A
@@ -31,7 +34,11 @@ viewed view None = None
 viewed view (Some (o, w)) = Some (view o w)
 
 pub computed : {A : Type 0} → Setting → (EvaluationOutcome Completion → World → A) → ℕ → Option A
-unfolding chars digits encode braced_at scan whole_script script_with command_at word_at unexpanded_word_at braced_word_at quoted_word_at quotes_at parts_with part_at dollar_at backslash_at bracket_at after_expansion inner_at mark_at after_white operand_at after_number after_digits quoted_at expr_at whole_at chain_at climb_at prefix_at below_at numeral list_of list_at element_at piece_of piece_at divide_by_zero white_space no_variable unsupported_commands core_commands commands_of_recorder core_form
+unfolding chars digits encode braced_at scan whole_script script_with command_at word_at unexpanded_word_at
+    braced_word_at quoted_word_at quotes_at parts_with part_at dollar_at backslash_at bracket_at after_expansion
+    inner_at mark_at after_white operand_at after_number after_digits quoted_at expr_at whole_at chain_at climb_at
+    prefix_at below_at numeral list_of list_at element_at piece_of piece_at divide_by_zero white_space no_variable
+    unsupported_commands core_commands commands_of_recorder core_form
 computed s view steps = viewed view (play_file s steps)
 
 pub is_viewed : {A : Type 0} (s : Setting) (view : EvaluationOutcome Completion → World → A) (steps : ℕ) → viewed view (play_file s steps) ≡ computed s view steps
@@ -85,7 +92,8 @@ pub shared_variable_row : sees (within standard (codes "set x 1; proc f {} {set 
 unfolding computed
 shared_variable_row = refl
 
-pub asked_mode_row : computed (recorded standard (codes "if {[mode] eq \"unload\"} {setenv A 1}")) trace_of 300 ≡ Some (record { records = (setenv_words (codes "A") (codes "1") ∷ []); messages = []; asked = true; refused = None })
+pub asked_mode_row : computed (recorded standard (codes "if {[mode] eq \"unload\"} {setenv A 1}")) trace_of 300 ≡ Some
+    (record { records = (setenv_words (codes "A") (codes "1") ∷ []); messages = []; asked = true; refused = None })
 unfolding computed
 asked_mode_row = refl
 

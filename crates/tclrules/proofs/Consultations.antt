@@ -1,11 +1,19 @@
 -- The consultations of a derivation and what they add to the trace, for every table of rules.
 use Rattle.std.proofs.Common.{◌≡◌, ℕ, Bool, true, false, ◌||◌, List, ◌⊎◌, ⊎_elim, inl, inr, refl, ap}
 use Rattle.tclchars.specs.Runs.{Text}
-use Rattle.tclrules.specs.Oracle.{CommandWords, OracleAnswer, Done, Unknown, LeftOut, Refused, Oracle, records_with, addition, is_question, is_refusal}
-use Rattle.tclrules.specs.Derivation.{ByHost, EvaluationOutcome, Halted, HostReply, Plan, World, replied, Eval, ends, counts, meets_limit, consults, reads, runs, halts, lacks_memory, world_after, Throughout, AnswersOrRefuses, AnswersAlikeUnasked, IsUnrefused, asks, Grows, none, more}
+use Rattle.tclrules.specs.Oracle.{CommandWords, OracleAnswer, Done, Unknown, LeftOut, Refused, Oracle, records_with}
+use Rattle.tclrules.specs.Oracle.{addition, is_question, is_refusal}
+use Rattle.tclrules.specs.Derivation.{ByHost, EvaluationOutcome, Halted, HostReply, Plan, World, replied, Eval, ends}
+use Rattle.tclrules.specs.Derivation.{counts, meets_limit, consults, reads, runs, halts, lacks_memory, world_after}
+use Rattle.tclrules.specs.Derivation.{Throughout, AnswersOrRefuses, AnswersAlikeUnasked, IsUnrefused, asks, Grows, none}
+use Rattle.tclrules.specs.Derivation.{more}
 
 -- a second oracle that answers as the first does or refuses gives the same outcome, or a refusal
-pub same_or_refused : {J R : Type 0} {may_lack_memory : Bool} {first : Oracle} {most : ℕ} {rule : J → Plan J R} {p : Plan J R} {w : World} {o : EvaluationOutcome R} {w' : World} (second : Oracle) (d : Eval may_lack_memory first most rule p w o w') → Throughout (AnswersOrRefuses first second) d → Eval may_lack_memory second most rule p w o w' ⊎ ((n : ℕ) × (w2 : World) × Eval may_lack_memory second most rule p w (Halted (ByHost n)) w2)
+pub same_or_refused : {J R : Type 0} {may_lack_memory : Bool} {first : Oracle} {most : ℕ} {rule : J → Plan J R}
+    {p : Plan J R} {w : World} {o : EvaluationOutcome R} {w' : World} (second : Oracle)
+    (d : Eval may_lack_memory first most rule p w o w') → Throughout (AnswersOrRefuses first second) d
+    → Eval may_lack_memory second most rule p w o w' ⊎
+    ((n : ℕ) × (w2 : World) × Eval may_lack_memory second most rule p w (Halted (ByHost n)) w2)
 same_or_refused second ends t = inl ends
 same_or_refused second (counts g d) t = ⊎_elim (λ i. inl (counts g i)) (λ i. inr (i.0, i.1, counts g i.2)) (same_or_refused second d t)
 same_or_refused second (meets_limit g) t = inl (meets_limit g)
@@ -26,7 +34,9 @@ stays true b h = refl
 stays false b h = h
 
 -- what was asked stays asked
-pub stays_asked : {J R : Type 0} {may_lack_memory : Bool} {oracle : Oracle} {most : ℕ} {rule : J → Plan J R} {p : Plan J R} {w : World} {o : EvaluationOutcome R} {w' : World} → Eval may_lack_memory oracle most rule p w o w' → w.trace.asked ≡ true → w'.trace.asked ≡ true
+pub stays_asked : {J R : Type 0} {may_lack_memory : Bool} {oracle : Oracle} {most : ℕ} {rule : J → Plan J R}
+    {p : Plan J R} {w : World} {o : EvaluationOutcome R} {w' : World} → Eval may_lack_memory oracle most rule p w o w'
+    → w.trace.asked ≡ true → w'.trace.asked ≡ true
 stays_asked ends h = h
 stays_asked (counts g d) h = stays_asked d h
 stays_asked (meets_limit g) h = h
@@ -36,7 +46,9 @@ stays_asked (runs d c) h = stays_asked c (stays_asked d h)
 stays_asked (halts d) h = stays_asked d h
 stays_asked {w = w} (lacks_memory a g) h = stays a w.trace.asked h
 
-not_asked : {J R : Type 0} {may_lack_memory : Bool} {oracle : Oracle} {most : ℕ} {rule : J → Plan J R} {p : Plan J R} {w : World} {o : EvaluationOutcome R} {w' : World} → Eval may_lack_memory oracle most rule p w o w' → w'.trace.asked ≡ false → w.trace.asked ≡ false
+not_asked : {J R : Type 0} {may_lack_memory : Bool} {oracle : Oracle} {most : ℕ} {rule : J → Plan J R} {p : Plan J R}
+    {w : World} {o : EvaluationOutcome R} {w' : World} → Eval may_lack_memory oracle most rule p w o w'
+    → w'.trace.asked ≡ false → w.trace.asked ≡ false
 not_asked {w = w} d h = go w.trace.asked refl
   where
     go : (b : Bool) → w.trace.asked ≡ b → w.trace.asked ≡ false
@@ -48,7 +60,9 @@ second_false true b h = cc
 second_false false b h = h
 
 -- without the mark no consultation was a question
-pub unasked : {J R : Type 0} {may_lack_memory : Bool} {oracle : Oracle} {most : ℕ} {rule : J → Plan J R} {p : Plan J R} {w : World} {o : EvaluationOutcome R} {w' : World} (d : Eval may_lack_memory oracle most rule p w o w') → w'.trace.asked ≡ false → Throughout (λ records query. asks oracle records query ≡ false) d
+pub unasked : {J R : Type 0} {may_lack_memory : Bool} {oracle : Oracle} {most : ℕ} {rule : J → Plan J R} {p : Plan J R}
+    {w : World} {o : EvaluationOutcome R} {w' : World} (d : Eval may_lack_memory oracle most rule p w o w')
+    → w'.trace.asked ≡ false → Throughout (λ records query. asks oracle records query ≡ false) d
 unasked ends h = tt
 unasked (counts g d) h = unasked d h
 unasked (meets_limit g) h = tt
@@ -59,14 +73,18 @@ unasked (halts d) h = unasked d h
 unasked (lacks_memory a g) h = tt
 
 -- an evaluation that the host didn't refuse had no refused consultation
-answer_unrefused : {J R : Type 0} {oracle : Oracle} {most : ℕ} {rule : J → Plan J R} {v w : World} {o : EvaluationOutcome R} (k : HostReply → Plan J R) (a : OracleAnswer) → Eval false oracle most rule (replied k a) v o w → ((n : ℕ) → ¬ (o ≡ Halted (ByHost n))) → is_refusal a ≡ false
+answer_unrefused : {J R : Type 0} {oracle : Oracle} {most : ℕ} {rule : J → Plan J R} {v w : World}
+    {o : EvaluationOutcome R} (k : HostReply → Plan J R) (a : OracleAnswer)
+    → Eval false oracle most rule (replied k a) v o w → ((n : ℕ) → ¬ (o ≡ Halted (ByHost n))) → is_refusal a ≡ false
 answer_unrefused k (Done text adds asks) d h = refl
 answer_unrefused k (Unknown asks) d h = refl
 answer_unrefused k (LeftOut name asks) d h = refl
 answer_unrefused k (Refused n name asks) ends h = absurd (h n refl)
 answer_unrefused k (Refused n name asks) (lacks_memory a g) h = absurd (cc)
 
-pub unrefused : {J R : Type 0} {oracle : Oracle} {most : ℕ} {rule : J → Plan J R} {p : Plan J R} {w : World} {o : EvaluationOutcome R} {w' : World} (d : Eval false oracle most rule p w o w') → ((n : ℕ) → ¬ (o ≡ Halted (ByHost n))) → Throughout (IsUnrefused oracle) d
+pub unrefused : {J R : Type 0} {oracle : Oracle} {most : ℕ} {rule : J → Plan J R} {p : Plan J R} {w : World}
+    {o : EvaluationOutcome R} {w' : World} (d : Eval false oracle most rule p w o w')
+    → ((n : ℕ) → ¬ (o ≡ Halted (ByHost n))) → Throughout (IsUnrefused oracle) d
 unrefused ends h = tt
 unrefused (counts g d) h = unrefused d h
 unrefused (meets_limit g) h = tt
@@ -77,8 +95,11 @@ unrefused (halts d) h = unrefused d h
 unrefused (lacks_memory a g) h = tt
 
 -- where no consultation is a question or refused, it is enough that a second oracle answers those alike
-pub agree : {J R : Type 0} {may_lack_memory : Bool} {first : Oracle} {most : ℕ} {rule : J → Plan J R} {p : Plan J R} {w : World} {o : EvaluationOutcome R} {w' : World} (second : Oracle) → AnswersAlikeUnasked first second
-    → (d : Eval may_lack_memory first most rule p w o w') → Throughout (λ records query. asks first records query ≡ false) d → Throughout (IsUnrefused first) d → Throughout (AnswersOrRefuses first second) d
+pub agree : {J R : Type 0} {may_lack_memory : Bool} {first : Oracle} {most : ℕ} {rule : J → Plan J R} {p : Plan J R}
+    {w : World} {o : EvaluationOutcome R} {w' : World} (second : Oracle) → AnswersAlikeUnasked first second
+    → (d : Eval may_lack_memory first most rule p w o w')
+    → Throughout (λ records query. asks first records query ≡ false) d → Throughout (IsUnrefused first) d
+    → Throughout (AnswersOrRefuses first second) d
 agree second h ends t u = tt
 agree second h (counts g d) t u = agree second h d t u
 agree second h (meets_limit g) t u = tt
@@ -93,7 +114,9 @@ pub then : {oracle : Oracle} {rs qs ps : List CommandWords} → Grows oracle rs 
 then none g = g
 then (more words f) g = more words (then f g)
 
-pub grown : {J R : Type 0} {may_lack_memory : Bool} {oracle : Oracle} {most : ℕ} {rule : J → Plan J R} {p : Plan J R} {w : World} {o : EvaluationOutcome R} {w' : World} → Eval may_lack_memory oracle most rule p w o w' → Grows oracle w.trace.records w'.trace.records
+pub grown : {J R : Type 0} {may_lack_memory : Bool} {oracle : Oracle} {most : ℕ} {rule : J → Plan J R} {p : Plan J R}
+    {w : World} {o : EvaluationOutcome R} {w' : World} → Eval may_lack_memory oracle most rule p w o w'
+    → Grows oracle w.trace.records w'.trace.records
 grown ends = none
 grown (counts g d) = grown d
 grown (meets_limit g) = none
@@ -104,6 +127,8 @@ grown (halts d) = grown d
 grown (lacks_memory a g) = none
 
 -- what each answer preserves holds of the last records
-pub kept : {oracle : Oracle} {rs qs : List CommandWords} (holds : List CommandWords → Bool) → Grows oracle rs qs → holds rs ≡ true → ((rs : List CommandWords) (words : List Text) → holds rs ≡ true → holds (records_with rs (addition (oracle.command rs words))) ≡ true) → holds qs ≡ true
+pub kept : {oracle : Oracle} {rs qs : List CommandWords} (holds : List CommandWords → Bool) → Grows oracle rs qs
+    → holds rs ≡ true → ((rs : List CommandWords) (words : List Text) → holds rs ≡ true
+    → holds (records_with rs (addition (oracle.command rs words))) ≡ true) → holds qs ≡ true
 kept holds none h keeps = h
 kept holds (more {rs = rs} words g) h keeps = kept holds g (keeps rs words h) keeps

@@ -3,7 +3,10 @@
 use Rattle.std.proofs.Common.{◌≡◌, ℕ, ◌+◌, ◌<◌, ◌≤◌, Bool, true, false, List, Option, refl, ◌∙◌}
 use Rattle.tclchars.specs.Runs.{Text}
 use Rattle.tclrules.specs.Oracle.{Oracle, Trace, OracleAnswer, trace_after}
-use Rattle.tclrules.specs.Derivation.{Halt, TooManyCommands, OutOfMemory, EvaluationOutcome, Ended, Halted, HostReply, Plan, Ends, Counts, Consults, ReadsEnvironment, Runs, World, Eval, ends, counts, meets_limit, consults, reads, runs, halts, lacks_memory, replied, asked_trace, perhaps_asked, perhaps_ask}
+use Rattle.tclrules.specs.Derivation.{Halt, TooManyCommands, OutOfMemory, EvaluationOutcome, Ended, Halted, HostReply}
+use Rattle.tclrules.specs.Derivation.{Plan, Ends, Counts, Consults, ReadsEnvironment, Runs, World, Eval, ends, counts}
+use Rattle.tclrules.specs.Derivation.{meets_limit, consults, reads, runs, halts, lacks_memory, replied, asked_trace}
+use Rattle.tclrules.specs.Derivation.{perhaps_asked, perhaps_ask}
 use Rattle.tclrules.specs.Simulates.{Point, point, Simulates}
 
 pub stay : {J R : Type 0} {most : ℕ} {rule : J → Plan J R} {p : Plan J R} {x : Point} → Simulates most rule p x p x
@@ -13,12 +16,16 @@ pub continue_with : {J R : Type 0} {most : ℕ} {rule : J → Plan J R} {p q r :
 continue_with a b = record { same = b.same ∙ a.same; by = λ o w d. a.by o w (b.by o w d) }
 
 -- want of memory, anywhere; a host may have been asked before
-want_by : {J R : Type 0} {oracle : Oracle} {most : ℕ} {rule : J → Plan J R} {p : Plan J R} {v : World} {o : EvaluationOutcome R} {w : World} (asked : Bool) → Eval true oracle most rule (Ends (Halted OutOfMemory)) (perhaps_ask asked v) o w → Eval true oracle most rule p v o w
+want_by : {J R : Type 0} {oracle : Oracle} {most : ℕ} {rule : J → Plan J R} {p : Plan J R} {v : World}
+    {o : EvaluationOutcome R} {w : World} (asked : Bool)
+    → Eval true oracle most rule (Ends (Halted OutOfMemory)) (perhaps_ask asked v) o w
+    → Eval true oracle most rule p v o w
 want_by asked ends = lacks_memory asked refl
 want_by asked (lacks_memory true h) = lacks_memory true h
 want_by asked (lacks_memory false h) = lacks_memory asked h
 
-pub want : {J R : Type 0} {most : ℕ} {rule : J → Plan J R} {p : Plan J R} {oracle oracle' : Oracle} {trace trace' : Trace} {n : ℕ} (asked : Bool) → trace' ≡ perhaps_asked asked trace → oracle' ≡ oracle
+pub want : {J R : Type 0} {most : ℕ} {rule : J → Plan J R} {p : Plan J R} {oracle oracle' : Oracle}
+    {trace trace' : Trace} {n : ℕ} (asked : Bool) → trace' ≡ perhaps_asked asked trace → oracle' ≡ oracle
     → Simulates most rule p (point oracle trace n) (Ends (Halted OutOfMemory)) (point oracle' trace' n)
 want asked e s = record { same = s; by = λ o w d. want_by asked (rw (s, e) at d) }
 
@@ -26,41 +33,60 @@ pub starve : {J R : Type 0} {most : ℕ} {rule : J → Plan J R} {p : Plan J R} 
 starve = record { same = refl; by = λ o w d. want_by false d }
 
 -- a command or a turn is counted
-pub count_on : {J R : Type 0} {most : ℕ} {rule : J → Plan J R} {p : Plan J R} {oracle : Oracle} {trace : Trace} {n : ℕ} → n < most → Simulates most rule (Counts p) (point oracle trace n) p (point oracle trace (n + 1))
+pub count_on : {J R : Type 0} {most : ℕ} {rule : J → Plan J R} {p : Plan J R} {oracle : Oracle} {trace : Trace} {n : ℕ}
+    → n < most → Simulates most rule (Counts p) (point oracle trace n) p (point oracle trace (n + 1))
 count_on h = record { same = refl; by = λ o w d. counts h d }
 
-over_by : {J R : Type 0} {oracle : Oracle} {most : ℕ} {rule : J → Plan J R} {p : Plan J R} {w : World} {o : EvaluationOutcome R} {w' : World} → most ≤ w.used → Eval true oracle most rule (Ends (Halted TooManyCommands)) w o w' → Eval true oracle most rule (Counts p) w o w'
+over_by : {J R : Type 0} {oracle : Oracle} {most : ℕ} {rule : J → Plan J R} {p : Plan J R} {w : World}
+    {o : EvaluationOutcome R} {w' : World} → most ≤ w.used
+    → Eval true oracle most rule (Ends (Halted TooManyCommands)) w o w' → Eval true oracle most rule (Counts p) w o w'
 over_by h ends = meets_limit h
 over_by h (lacks_memory a g) = lacks_memory a g
 
-pub count_over : {J R : Type 0} {most : ℕ} {rule : J → Plan J R} {p : Plan J R} {oracle : Oracle} {trace : Trace} {n : ℕ} → most ≤ n → Simulates most rule (Counts p) (point oracle trace n) (Ends (Halted TooManyCommands)) (point oracle trace n)
+pub count_over : {J R : Type 0} {most : ℕ} {rule : J → Plan J R} {p : Plan J R} {oracle : Oracle} {trace : Trace}
+    {n : ℕ} → most ≤ n → Simulates most rule (Counts p) (point oracle trace n) (Ends (Halted TooManyCommands))
+    (point oracle trace n)
 count_over h = record { same = refl; by = λ o w d. over_by h d }
 
 -- the host is asked, and a variable of the environment is read
-pub hear_on : {J R : Type 0} {most : ℕ} {rule : J → Plan J R} {words : List Text} {k : HostReply → Plan J R} {oracle oracle' : Oracle} {trace : Trace} {n : ℕ} {a : OracleAnswer} → oracle.command trace.records words ≡ a → oracle' ≡ oracle
+pub hear_on : {J R : Type 0} {most : ℕ} {rule : J → Plan J R} {words : List Text} {k : HostReply → Plan J R}
+    {oracle oracle' : Oracle} {trace : Trace} {n : ℕ} {a : OracleAnswer} → oracle.command trace.records words ≡ a
+    → oracle' ≡ oracle
     → Simulates most rule (Consults words k) (point oracle trace n) (replied k a) (point oracle' (trace_after trace a) n)
 hear_on e s = record { same = s; by = λ o w d. consults (rw e (rw s at d)) }
 
-pub read_on : {J R : Type 0} {most : ℕ} {rule : J → Plan J R} {name : Text} {k : Option Text → Plan J R} {oracle oracle' : Oracle} {trace : Trace} {n : ℕ} {v : Option Text} → oracle.variable trace.records name ≡ v → oracle' ≡ oracle
+pub read_on : {J R : Type 0} {most : ℕ} {rule : J → Plan J R} {name : Text} {k : Option Text → Plan J R}
+    {oracle oracle' : Oracle} {trace : Trace} {n : ℕ} {v : Option Text} → oracle.variable trace.records name ≡ v
+    → oracle' ≡ oracle
     → Simulates most rule (ReadsEnvironment name k) (point oracle trace n) (k v) (point oracle' (asked_trace trace) n)
 read_on e s = record { same = s; by = λ o w d. reads (rw e (rw s at d)) }
 
 -- a job that ended, and one that halted
-pub run_on : {J R : Type 0} {most : ℕ} {rule : J → Plan J R} {j : J} {k : R → Plan J R} {x y : Point} {r : R} → Simulates most rule (rule j) x (Ends (Ended r)) y → Simulates most rule (Runs j k) x (k r) y
+pub run_on : {J R : Type 0} {most : ℕ} {rule : J → Plan J R} {j : J} {k : R → Plan J R} {x y : Point} {r : R}
+    → Simulates most rule (rule j) x (Ends (Ended r)) y → Simulates most rule (Runs j k) x (k r) y
 run_on l = record { same = l.same; by = λ o w d. runs (l.by _ _ ends) (rw l.same at d) }
 
-halted_by : {J R : Type 0} {oracle oracle' : Oracle} {most : ℕ} {rule : J → Plan J R} {j : J} {k : R → Plan J R} {f : Halt} {v w : World} {o : EvaluationOutcome R} {w' : World} → Eval true oracle' most rule (Ends (Halted f)) v o w' → Eval true oracle most rule (rule j) w o w' → Eval true oracle most rule (Runs j k) w o w'
+halted_by : {J R : Type 0} {oracle oracle' : Oracle} {most : ℕ} {rule : J → Plan J R} {j : J} {k : R → Plan J R}
+    {f : Halt} {v w : World} {o : EvaluationOutcome R} {w' : World}
+    → Eval true oracle' most rule (Ends (Halted f)) v o w' → Eval true oracle most rule (rule j) w o w'
+    → Eval true oracle most rule (Runs j k) w o w'
 halted_by ends d = halts d
 halted_by (lacks_memory a h) d = halts d
 
-pub run_halts : {J R : Type 0} {most : ℕ} {rule : J → Plan J R} {j : J} {k : R → Plan J R} {x y : Point} {f : Halt} → Simulates most rule (rule j) x (Ends (Halted f)) y → Simulates most rule (Runs j k) x (Ends (Halted f)) y
+pub run_halts : {J R : Type 0} {most : ℕ} {rule : J → Plan J R} {j : J} {k : R → Plan J R} {x y : Point} {f : Halt}
+    → Simulates most rule (rule j) x (Ends (Halted f)) y → Simulates most rule (Runs j k) x (Ends (Halted f)) y
 run_halts l = record { same = l.same; by = λ o w d. halted_by d (l.by o w d) }
 
 -- a job whose last step is another job, as a turn of a loop
-tail_by : {J R : Type 0} {oracle oracle' : Oracle} {most : ℕ} {rule : J → Plan J R} {j j' : J} {k : R → Plan J R} {v w : World} {o : EvaluationOutcome R} {w' : World} → oracle' ≡ oracle → ((o : EvaluationOutcome R) (w' : World) → Eval true oracle' most rule (Runs j' (λ e. Ends (Ended e))) v o w' → Eval true oracle most rule (rule j) w o w') → Eval true oracle' most rule (Runs j' k) v o w' → Eval true oracle most rule (Runs j k) w o w'
+tail_by : {J R : Type 0} {oracle oracle' : Oracle} {most : ℕ} {rule : J → Plan J R} {j j' : J} {k : R → Plan J R}
+    {v w : World} {o : EvaluationOutcome R} {w' : World} → oracle' ≡ oracle
+    → ((o : EvaluationOutcome R) (w' : World) → Eval true oracle' most rule (Runs j' (λ e. Ends (Ended e))) v o w'
+    → Eval true oracle most rule (rule j) w o w') → Eval true oracle' most rule (Runs j' k) v o w'
+    → Eval true oracle most rule (Runs j k) w o w'
 tail_by s l (runs d c) = runs (l _ _ (runs d ends)) (rw s at c)
 tail_by s l (halts d) = halts (l _ _ (halts d))
 tail_by s l (lacks_memory a h) = halts (l _ _ (lacks_memory a h))
 
-pub run_tail : {J R : Type 0} {most : ℕ} {rule : J → Plan J R} {j j' : J} {k : R → Plan J R} {x y : Point} → Simulates most rule (rule j) x (Runs j' (λ e. Ends (Ended e))) y → Simulates most rule (Runs j k) x (Runs j' k) y
+pub run_tail : {J R : Type 0} {most : ℕ} {rule : J → Plan J R} {j j' : J} {k : R → Plan J R} {x y : Point}
+    → Simulates most rule (rule j) x (Runs j' (λ e. Ends (Ended e))) y → Simulates most rule (Runs j k) x (Runs j' k) y
 run_tail l = record { same = l.same; by = λ o w d. tail_by l.same l.by d }

@@ -2,10 +2,13 @@
 use Rattle.std.proofs.Common.{◌≡◌, ℕ, ◌<◌, ◌≤◌, Bool, false, ⊎_elim, refl, arith}
 use Rattle.std.proofs.lemmas.Bool.{cases_lt}
 use Rattle.tclrules.specs.Oracle.{Oracle}
-use Rattle.tclrules.specs.Derivation.{TooManyCommands, OutOfMemory, EvaluationOutcome, Halted, Plan, World, Eval, ends, counts, meets_limit, consults, reads, runs, halts, lacks_memory}
+use Rattle.tclrules.specs.Derivation.{TooManyCommands, OutOfMemory, EvaluationOutcome, Halted, Plan, World, Eval, ends}
+use Rattle.tclrules.specs.Derivation.{counts, meets_limit, consults, reads, runs, halts, lacks_memory}
 
 -- a plan has at most one outcome
-pub one_outcome : {J R : Type 0} {oracle : Oracle} {most : ℕ} {rule : J → Plan J R} {p : Plan J R} {w : World} {o : EvaluationOutcome R} {w' : World} {o2 : EvaluationOutcome R} {w2 : World} → Eval false oracle most rule p w o w' → Eval false oracle most rule p w o2 w2 → (o ≡ o2) × (w' ≡ w2)
+pub one_outcome : {J R : Type 0} {oracle : Oracle} {most : ℕ} {rule : J → Plan J R} {p : Plan J R} {w : World}
+    {o : EvaluationOutcome R} {w' : World} {o2 : EvaluationOutcome R} {w2 : World}
+    → Eval false oracle most rule p w o w' → Eval false oracle most rule p w o2 w2 → (o ≡ o2) × (w' ≡ w2)
 one_outcome (lacks_memory a h) d = absurd (cc)
 one_outcome d (lacks_memory a h) = absurd (cc)
 one_outcome ends ends = (refl, refl)
@@ -24,7 +27,9 @@ one_outcome (halts d) (runs d2 c2) = absurd (let h = (one_outcome d d2).0 in cc)
 one_outcome (halts d) (halts d2) = one_outcome d d2
 
 -- the count rises
-pub rises : {J R : Type 0} {may_lack_memory : Bool} {oracle : Oracle} {most : ℕ} {rule : J → Plan J R} {p : Plan J R} {w : World} {o : EvaluationOutcome R} {w' : World} → Eval may_lack_memory oracle most rule p w o w' → w.used ≤ w'.used
+pub rises : {J R : Type 0} {may_lack_memory : Bool} {oracle : Oracle} {most : ℕ} {rule : J → Plan J R} {p : Plan J R}
+    {w : World} {o : EvaluationOutcome R} {w' : World} → Eval may_lack_memory oracle most rule p w o w'
+    → w.used ≤ w'.used
 rises ends = omega arith
 rises (counts h d) = omega (arith, rises d)
 rises (meets_limit h) = omega arith
@@ -35,7 +40,9 @@ rises (halts d) = rises d
 rises (lacks_memory a g) = omega arith
 
 -- and stays within the limit
-pub within : {J R : Type 0} {may_lack_memory : Bool} {oracle : Oracle} {most : ℕ} {rule : J → Plan J R} {p : Plan J R} {w : World} {o : EvaluationOutcome R} {w' : World} → Eval may_lack_memory oracle most rule p w o w' → w.used ≤ most → w'.used ≤ most
+pub within : {J R : Type 0} {may_lack_memory : Bool} {oracle : Oracle} {most : ℕ} {rule : J → Plan J R} {p : Plan J R}
+    {w : World} {o : EvaluationOutcome R} {w' : World} → Eval may_lack_memory oracle most rule p w o w' → w.used ≤ most
+    → w'.used ≤ most
 within ends h = h
 within (counts g d) h = within d (omega arith)
 within (meets_limit g) h = h
@@ -46,7 +53,9 @@ within (halts d) h = within d h
 within (lacks_memory a g) h = h
 
 -- another limit that the count doesn't pass changes nothing
-pub same_below : {J R : Type 0} {may_lack_memory : Bool} {oracle : Oracle} {most : ℕ} {rule : J → Plan J R} {p : Plan J R} {w : World} {o : EvaluationOutcome R} {w' : World} → Eval may_lack_memory oracle most rule p w o w' → ¬ (o ≡ Halted TooManyCommands) → (other : ℕ) → w'.used ≤ other → Eval may_lack_memory oracle other rule p w o w'
+pub same_below : {J R : Type 0} {may_lack_memory : Bool} {oracle : Oracle} {most : ℕ} {rule : J → Plan J R}
+    {p : Plan J R} {w : World} {o : EvaluationOutcome R} {w' : World} → Eval may_lack_memory oracle most rule p w o w'
+    → ¬ (o ≡ Halted TooManyCommands) → (other : ℕ) → w'.used ≤ other → Eval may_lack_memory oracle other rule p w o w'
 same_below ends n other h = ends
 same_below (counts g d) n other h = counts (omega (arith, rises d)) (same_below d n other h)
 same_below (meets_limit g) n other h = absurd (n refl)
@@ -57,7 +66,10 @@ same_below (halts d) n other h = halts (same_below d n other h)
 same_below (lacks_memory a g) n other h = lacks_memory a g
 
 -- a smaller limit is met before
-pub met_above : {J R : Type 0} {may_lack_memory : Bool} {oracle : Oracle} {most : ℕ} {rule : J → Plan J R} {p : Plan J R} {w : World} {o : EvaluationOutcome R} {w' : World} → Eval may_lack_memory oracle most rule p w o w' → (other : ℕ) → w.used ≤ other → other < w'.used → (w2 : World) × Eval may_lack_memory oracle other rule p w (Halted TooManyCommands) w2
+pub met_above : {J R : Type 0} {may_lack_memory : Bool} {oracle : Oracle} {most : ℕ} {rule : J → Plan J R}
+    {p : Plan J R} {w : World} {o : EvaluationOutcome R} {w' : World} → Eval may_lack_memory oracle most rule p w o w'
+    → (other : ℕ) → w.used ≤ other → other < w'.used → (w2 : World)
+    × Eval may_lack_memory oracle other rule p w (Halted TooManyCommands) w2
 met_above ends other h g = absurd (omega arith)
 met_above {w = w} (counts m d) other h g =
     ⊎_elim (λ l. let i = met_above d other (omega arith) g in (i.0, counts l i.1)) (λ l. (w, meets_limit l)) (cases_lt w.used other)
@@ -70,7 +82,9 @@ met_above (halts d) other h g = let i = met_above d other h g in (i.0, halts i.1
 met_above (lacks_memory a m) other h g = absurd (omega arith)
 
 -- what didn't starve is derived without
-pub unstarved : {J R : Type 0} {may_lack_memory : Bool} {oracle : Oracle} {most : ℕ} {rule : J → Plan J R} {p : Plan J R} {w : World} {o : EvaluationOutcome R} {w' : World} → Eval may_lack_memory oracle most rule p w o w' → ¬ (o ≡ Halted OutOfMemory) → Eval false oracle most rule p w o w'
+pub unstarved : {J R : Type 0} {may_lack_memory : Bool} {oracle : Oracle} {most : ℕ} {rule : J → Plan J R}
+    {p : Plan J R} {w : World} {o : EvaluationOutcome R} {w' : World} → Eval may_lack_memory oracle most rule p w o w'
+    → ¬ (o ≡ Halted OutOfMemory) → Eval false oracle most rule p w o w'
 unstarved ends n = ends
 unstarved (counts g d) n = counts g (unstarved d n)
 unstarved (meets_limit g) n = meets_limit g

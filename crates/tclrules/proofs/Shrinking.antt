@@ -16,9 +16,11 @@ use Rattle.tcloperators.specs.Faults as value
 use Rattle.tcloperators.specs.Faults.{Answer, text, error, value_too_long, number_too_large, fraction, unsupported}
 use Rattle.tcloperators.specs.Operators.{truth, truth_text, unary_value, binary_value}
 use Rattle.tclrules.specs.Messages.{no_variable}
-use Rattle.tclrules.specs.Variables.{State, Location, Scalar, Element, location_of, location_named, with_value, writable, env}
+use Rattle.tclrules.specs.Variables.{State, Location, Scalar, Element, location_of, location_named, with_value}
+use Rattle.tclrules.specs.Variables.{writable, env}
 use Rattle.tclrules.specs.Plans as plans
-use Rattle.tclrules.specs.Plans.{Completion, Normal, Raised, Returned, Broken, Continued, Job, File, Script, Bracket, Step, Next, Bounds, fault, given, sized, inside, on_normal}
+use Rattle.tclrules.specs.Plans.{Completion, Normal, Raised, Returned, Broken, Continued, Job, File, Script, Bracket}
+use Rattle.tclrules.specs.Plans.{Step, Next, Bounds, fault, given, sized, inside, on_normal}
 use Rattle.tclrules.specs.Words.{found, read_scalar, read_location, read, read_element, parts, one}
 use Rattle.tclrules.specs.Expressions as expressions
 use Rattle.tclrules.specs.Expressions.{operand_value, expr, decide, normal}

@@ -4,7 +4,8 @@ use Rattle.std.specs.Prelude.{◌≡◌, ℕ, ◌+◌, ◌<◌, ◌≤◌, ◌�
 use Rattle.tclchars.specs.Runs.{Text}
 use Rattle.tclchars.specs.declared.fault.TextFault.{TextFault}
 use Rattle.tclrules.specs.Oracle as host
-use Rattle.tclrules.specs.Oracle.{CommandWords, Trace, OracleAnswer, Done, Unknown, Refused, Oracle, trace_after, is_question, is_refusal, records_with, addition}
+use Rattle.tclrules.specs.Oracle.{CommandWords, Trace, OracleAnswer, Done, Unknown, Refused, Oracle, trace_after}
+use Rattle.tclrules.specs.Oracle.{is_question, is_refusal, records_with, addition}
 
 -- why an evaluation is halted, which catch(n) doesn't catch
 pub data Halt : Type 0 where

@@ -1,7 +1,9 @@
--- The faults of an evaluation: their numbers, their texts, and what they are made of.
-use Rattle.std.specs.Prelude.{ℕ, [], codes, decimal, string_bytes}
-use Rattle.message.specs.Messages.{Text, around, at_line, out_of_memory}
-use Rattle.tclchars.specs.Faults.{fault_message}
+-- The faults of an evaluation: what they are as refusals, and what they are made of.
+use Rattle.std.specs.Prelude.{[], decimal, string_bytes}
+use Rattle.message.specs.Messages.{at_line}
+use Rattle.message.specs.Refusals.{NumberedText, about, saying}
+use Rattle.message.specs.declared.refusals.RefusalKind.TheVariants as kinds
+use Rattle.tclchars.specs.Faults as text_faults
 use Rattle.tclchars.specs.declared.fault.TextFault.{TextFault}
 use Rattle.tclchars.specs.declared.fault.TextFault.TheVariants as texts
 use Rattle.tcloperators.specs.declared.fault.ValueFault.{ValueFault}
@@ -9,33 +11,19 @@ use Rattle.tcloperators.specs.declared.fault.ValueFault.TheVariants as values
 use Rattle.tclrules.specs.declared.outcome.EvalFault.{EvalFault}
 use Rattle.tclrules.specs.declared.outcome.EvalFault.TheVariants as fault
 
--- the number of a fault in the table of refusals
-abbrev pub number_of : EvalFault → ℕ
-number_of fault.OutOfMemory = 11
-number_of (fault.Text f) = 12
-number_of (fault.TclError m n) = 13
-number_of fault.TooManyCommands = 14
-number_of fault.TooDeep = 15
-number_of fault.ValueTooLong = 16
-number_of fault.NumberTooLarge = 17
-number_of fault.FractionOperand = 18
-number_of (fault.LeftOut name) = 19
-number_of fault.Stopped = 20
-number_of (fault.Host n) = 21
-
--- the text of a fault
-abbrev pub message_of : EvalFault → Text
-message_of fault.OutOfMemory = out_of_memory
-message_of (fault.Text f) = fault_message f
-message_of (fault.TclError message line) = at_line (string_bytes message) line
-message_of fault.TooManyCommands = codes "Too many commands"
-message_of fault.TooDeep = codes "Too many nested evaluations"
-message_of fault.ValueTooLong = codes "A value is too long"
-message_of fault.NumberTooLarge = codes "A number is too large"
-message_of fault.FractionOperand = codes "A number with a fraction is not computed"
-message_of (fault.LeftOut name) = around (codes "'") (string_bytes name) (codes "' is left out")
-message_of fault.Stopped = codes "Stopped by the modulefile"
-message_of (fault.Host n) = around (codes "Refused by ") (decimal n) []
+-- the refusal that a fault is
+abbrev pub refusal_of : EvalFault → NumberedText
+refusal_of fault.OutOfMemory = about kinds.MemoryForEvaluation []
+refusal_of (fault.Text f) = saying kinds.BadText (text_faults.refusal_of f).text
+refusal_of (fault.TclError message line) = saying kinds.TclError (at_line (string_bytes message) line)
+refusal_of fault.TooManyCommands = about kinds.TooManyCommands []
+refusal_of fault.TooDeep = about kinds.EvaluationTooDeep []
+refusal_of fault.ValueTooLong = about kinds.ValueTooLong []
+refusal_of fault.NumberTooLarge = about kinds.NumberTooLarge []
+refusal_of fault.FractionOperand = about kinds.FractionOperand []
+refusal_of (fault.LeftOut name) = about kinds.LeftOut (string_bytes name)
+refusal_of fault.Stopped = about kinds.Stopped []
+refusal_of (fault.Host n) = about kinds.Host (decimal n)
 
 -- the fault for a text that can't be parsed
 abbrev pub fault_of_text : TextFault → EvalFault

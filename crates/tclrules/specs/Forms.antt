@@ -1,7 +1,8 @@
 -- The forms of the core commands, as the head of each one's page has them: what the words after a command's name are,
 -- or what is wrong with them. A wrong number of words comes first; that of incr is judged later, since a variable that
 -- can't be written is refused before it.
-use Rattle.std.specs.Prelude.{List, [], ◌∷◌, ◌++◌, Bool, true, false, ◌&&◌, nat_lt, length, if◌then◌else◌, Option, Some, None, Ok, Err, codes, bytes_eq}
+use Rattle.std.specs.Prelude.{List, [], ◌∷◌, ◌++◌, Bool, true, false, ◌&&◌, nat_lt, length, if◌then◌else◌, Option, Some}
+use Rattle.std.specs.Prelude.{None, Ok, Err, codes, bytes_eq}
 use Rattle.tclchars.specs.Runs.{Text, begins}
 use Rattle.tcloperators.specs.Faults.{Answer, ◌>>=◌, error, unsupported}
 use Rattle.tcloperators.specs.Messages.{wrong_words, not_a_list}

@@ -19,7 +19,8 @@ first trace = record { used = 0; trace = trace }
 
 -- a script with these global variables evaluates to this outcome and world, from this trace of the host. Want of memory
 -- may end it early where the flag says so, and not else
-abbrev pub HasOutcome : Bool → Limits → Text → Variables → Oracle → Trace → EvaluationOutcome Completion → World → Type 0
+abbrev pub HasOutcome : Bool → Limits → Text → Variables → Oracle → Trace → EvaluationOutcome Completion → World
+    → Type 0
 HasOutcome may_lack_memory l script globals oracle trace o w = Eval may_lack_memory oracle l.commands
     (rule l.value_bytes)
     (plan_of l script oracle.reserved globals) (first trace) o w

@@ -4,7 +4,8 @@ use Rattle.tclchars.specs.Runs.{Text}
 use Rattle.tclscript.specs.Tree.{Commands}
 use Rattle.tcloperators.specs.Faults as value
 use Rattle.tcloperators.specs.Faults.{Answer, text, error, value_too_long, number_too_large, fraction, unsupported}
-use Rattle.tclrules.specs.Derivation.{Halt, BadText, TooDeep, ValueTooLong, NumberTooLarge, FractionOperand, LeftOut, Ended, Halted, Plan, Ends}
+use Rattle.tclrules.specs.Derivation.{Halt, BadText, TooDeep, ValueTooLong, NumberTooLarge, FractionOperand, LeftOut}
+use Rattle.tclrules.specs.Derivation.{Ended, Halted, Plan, Ends}
 use Rattle.tclrules.specs.Variables.{State}
 
 -- how a script completes that is not halted, by Tcl's codes: ok, error, return, break, continue (return(n))

@@ -3,7 +3,8 @@ use Rattle.std.specs.Prelude.{◌≡◌, ℕ, Bool, true, false, List, map, Resu
 use Rattle.std.specs.declared.alloc.Global.{Global}
 use Rattle.tclchars.specs.Runs.{Text}
 use Rattle.tclrules.specs.Oracle.{Oracle, Trace}
-use Rattle.tclrules.specs.Derivation.{OutOfMemory, BadText, TooManyCommands, TooDeep, ValueTooLong, NumberTooLarge, FractionOperand, LeftOut, Stopped, ByHost, EvaluationOutcome, Ended, Halted}
+use Rattle.tclrules.specs.Derivation.{OutOfMemory, BadText, TooManyCommands, TooDeep, ValueTooLong, NumberTooLarge}
+use Rattle.tclrules.specs.Derivation.{FractionOperand, LeftOut, Stopped, ByHost, EvaluationOutcome, Ended, Halted}
 use Rattle.tclrules.specs.Variables.{Variables, State}
 use Rattle.tclrules.specs.Plans as plans
 use Rattle.tclrules.specs.Plans.{Normal, Raised}

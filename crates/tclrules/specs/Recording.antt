@@ -1,5 +1,6 @@
 -- The oracle of the example host `Recorder`. Own.
-use Rattle.std.specs.Prelude.{false, true, List, [], ◌∷◌, ◌++◌, if◌then◌else◌, Option, Some, None, map, string_bytes, codes, bytes_eq, String}
+use Rattle.std.specs.Prelude.{false, true, List, [], ◌∷◌, ◌++◌, if◌then◌else◌, Option, Some, None, map, string_bytes}
+use Rattle.std.specs.Prelude.{codes, bytes_eq, String}
 use Rattle.std.specs.declared.vec.Vec.{Vec}
 use Rattle.std.specs.declared.alloc.Global.{Global}
 use Rattle.tclchars.specs.Runs.{Text}

@@ -1,5 +1,6 @@
 -- The rules: what each form of command does (the page of each command), one clause a form, and the plan of each job.
-use Rattle.std.specs.Prelude.{ℕ, List, [], ◌∷◌, ◌++◌, Bool, true, false, ◌&&◌, if◌then◌else◌, length, Option, Some, None, Result, Ok, Err, codes, bytes_eq, drop}
+use Rattle.std.specs.Prelude.{ℕ, List, [], ◌∷◌, ◌++◌, Bool, true, false, ◌&&◌, if◌then◌else◌, length, Option, Some}
+use Rattle.std.specs.Prelude.{None, Result, Ok, Err, codes, bytes_eq, drop}
 use Rattle.std.specs.Fmt.{signed_decimal}
 use Rattle.std.specs.Option.{unwrap_or}
 use Rattle.std.specs.List.{list_all}
@@ -16,13 +17,20 @@ use Rattle.tcloperators.specs.Numbers.{sum}
 use Rattle.tclvalue.specs.Characters.{joined, concatenated}
 use Rattle.tclvalue.specs.Globs.{glob}
 use Rattle.tclvalue.specs.Commands.{command_value}
-use Rattle.tclrules.specs.Derivation.{BadText, LeftOut, Stopped, Counts, Consults, ReadsEnvironment, Runs, HostReply, WithResult, NoSuchCommand}
+use Rattle.tclrules.specs.Derivation.{BadText, LeftOut, Stopped, Counts, Consults, ReadsEnvironment, Runs, HostReply}
+use Rattle.tclrules.specs.Derivation.{WithResult, NoSuchCommand}
 use Rattle.tclrules.specs.Messages.{no_command, cannot_unset, outside_loop, no_loop_variable, cannot_redefine}
 use Rattle.tclrules.specs.Names.{is_among, unsupported_commands, is_reserved}
-use Rattle.tclrules.specs.Variables.{Location, Scalar, Element, Parameter, Procedure, Frame, State, in_frame, lookup, store, without, env, location_named, writable, value_at, with_value, without_value, sharable, shared_in}
-use Rattle.tclrules.specs.Forms.{Form, Get, Set, Unset, Append, ListAppend, Increase, Express, If, While, For, Foreach, Switch, Define, Return, Break, Continue, Exit, Error, Catch, Exists, Global, Put, increase_of, core_form}
+use Rattle.tclrules.specs.Variables.{Location, Scalar, Element, Parameter, Procedure, Frame, State, in_frame, lookup}
+use Rattle.tclrules.specs.Variables.{store, without, env, location_named, writable, value_at, with_value, without_value}
+use Rattle.tclrules.specs.Variables.{sharable, shared_in}
+use Rattle.tclrules.specs.Forms.{Form, Get, Set, Unset, Append, ListAppend, Increase, Express, If, While, For, Foreach}
+use Rattle.tclrules.specs.Forms.{Switch, Define, Return, Break, Continue, Exit, Error, Catch, Exists, Global, Put}
+use Rattle.tclrules.specs.Forms.{increase_of, core_form}
 use Rattle.tclrules.specs.Plans as job
-use Rattle.tclrules.specs.Plans.{Completion, Normal, Raised, Returned, Broken, Continued, Items, Job, File, Script, Bracket, Step, Next, Bounds, ended, halt, raise, on_normal, given, sized, begin, inside}
+use Rattle.tclrules.specs.Plans.{Completion, Normal, Raised, Returned, Broken, Continued, Items, Job, File, Script}
+use Rattle.tclrules.specs.Plans.{Bracket, Step, Next, Bounds, ended, halt, raise, on_normal, given, sized, begin}
+use Rattle.tclrules.specs.Plans.{inside}
 use Rattle.tclrules.specs.Words.{words, read}
 use Rattle.tclrules.specs.Expressions.{express, decide}
 

@@ -12,7 +12,8 @@ abbrev pub point : Oracle → Trace → ℕ → Point
 point oracle trace used = record { oracle = oracle; world = record { used = used; trace = trace } }
 
 -- the second plan from the second point simulates the first from the first: whatever it evaluates to, so does the first
-pub record Simulates {J R : Type 0} (most : ℕ) (rule : J → Plan J R) (simulated : Plan J R) (simulated_point : Point) (plan : Plan J R)
+pub record Simulates {J R : Type 0} (most : ℕ) (rule : J → Plan J R) (simulated : Plan J R) (simulated_point : Point)
+    (plan : Plan J R)
     (plan_point : Point) : Type 0 where
   pub same : plan_point.oracle ≡ simulated_point.oracle
   pub by : (o : EvaluationOutcome R) (w : World) → Eval true plan_point.oracle most rule plan plan_point.world o w

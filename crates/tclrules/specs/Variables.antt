@@ -1,6 +1,7 @@
 -- Variables, and the location that a name of one denotes (Tcl(n), rule 8; global(n)). Own: the only array is env, which
 -- stands for the environment, and no namespaces are supported.
-use Rattle.std.specs.Prelude.{ℕ, List, [], ◌∷◌, ◌++◌, Bool, true, false, not, ◌||◌, ◌&&◌, ◌==◌, ◌-◌, length, take, reverse, if◌then◌else◌, Option, Some, None, Ok, Err, codes, bytes_eq}
+use Rattle.std.specs.Prelude.{ℕ, List, [], ◌∷◌, ◌++◌, Bool, true, false, not, ◌||◌, ◌&&◌, ◌==◌, ◌-◌, length, take}
+use Rattle.std.specs.Prelude.{reverse, if◌then◌else◌, Option, Some, None, Ok, Err, codes, bytes_eq}
 use Rattle.std.specs.List.{list_any}
 use Rattle.tclchars.specs.Runs.{Text, take_while, drop_while, begins}
 use Rattle.tcloperators.specs.Faults.{Answer, ◌>>=◌, unsupported}

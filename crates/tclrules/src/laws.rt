@@ -2,9 +2,11 @@
 ghost use Rattle.std.specs.Prelude.{◌≡◌, ℕ, ◌≤◌, ◌<◌, ◌⊎◌, Bool, true, false, List, Some};
 ghost use Rattle.tclchars.specs.Runs.{Text};
 ghost use Rattle.tclrules.specs.Oracle.{CommandWords, Oracle, records_with, addition};
-ghost use Rattle.tclrules.specs.Derivation.{EvaluationOutcome, Halted, TooManyCommands, ByHost, World, Throughout, AnswersOrRefuses, AnswersAlikeUnasked, IsUnrefused, asks, Grows};
+ghost use Rattle.tclrules.specs.Derivation.{EvaluationOutcome, Halted, TooManyCommands, ByHost, World, Throughout};
+ghost use Rattle.tclrules.specs.Derivation.{AnswersOrRefuses, AnswersAlikeUnasked, IsUnrefused, asks, Grows};
 ghost use Rattle.tclrules.specs.Plans.{Completion};
-ghost use Rattle.tclrules.specs.Meaning.{Setting, EvaluatesTo, limited_to, with_oracle, HasNoEnd, PreservedByAnswers, IsSameOrRefused, play_file};
+ghost use Rattle.tclrules.specs.Meaning.{Setting, EvaluatesTo, limited_to, with_oracle, HasNoEnd, PreservedByAnswers};
+ghost use Rattle.tclrules.specs.Meaning.{IsSameOrRefused, play_file};
 
 /// A script has one outcome.
 pub fn one_outcome()

@@ -1,10 +1,10 @@
 //! How an evaluation by the program ends: with a result, or with a fault.
 ghost use Rattle.std.specs.Prelude.{◌≡◌, Some};
-ghost use Rattle.message.specs.Messages.{text_of};
+ghost use Rattle.message.specs.Refusals.{numbered_text};
 ghost use Rattle.tclrules.specs.declared.outcome.EvalFault.TheVariants as faults;
-ghost use Rattle.tclrules.specs.Faults.{number_of, message_of, fault_of_text, fault_of_value};
+ghost use Rattle.tclrules.specs.Faults.{refusal_of, fault_of_text, fault_of_value};
 
-use message::{Message, out_of_memory};
+use message::{Message, NumberedMessage, RefusalKind};
 use std::alloc::{AllocError, AllocFailed};
 use std::error::Error;
 use std::fmt;
@@ -53,52 +53,40 @@ pub enum EvalFault {
 }
 
 impl EvalFault {
-    /// The number of the fault; of a host's refusal 21, whatever number the host refused by.
-    pub fn number(&self) -> u16
-        ensures { result ≡ number_of self.now }
+    /// The number of the fault and its text; of a host's refusal 21, and the host's number in the text.
+    pub fn numbered(&self) -> NumberedMessage<'_>
+        ensures { numbered_text result ≡ refusal_of self.now }
     {
         match self {
-            EvalFault::OutOfMemory => 11,
-            EvalFault::Text(_) => 12,
-            EvalFault::TclError(_, _) => 13,
-            EvalFault::TooManyCommands => 14,
-            EvalFault::TooDeep => 15,
-            EvalFault::ValueTooLong => 16,
-            EvalFault::NumberTooLarge => 17,
-            EvalFault::FractionOperand => 18,
-            EvalFault::LeftOut(_) => 19,
-            EvalFault::Stopped => 20,
-            EvalFault::Host(_) => 21,
+            EvalFault::OutOfMemory => RefusalKind::MemoryForEvaluation.plain(),
+            EvalFault::Text(fault) => RefusalKind::BadText.saying(fault.numbered().message),
+            EvalFault::TclError(message, line) => {
+                RefusalKind::TclError.saying(Message::at_line(message.as_str(), *line))
+            }
+            EvalFault::TooManyCommands => RefusalKind::TooManyCommands.plain(),
+            EvalFault::TooDeep => RefusalKind::EvaluationTooDeep.plain(),
+            EvalFault::ValueTooLong => RefusalKind::ValueTooLong.plain(),
+            EvalFault::NumberTooLarge => RefusalKind::NumberTooLarge.plain(),
+            EvalFault::FractionOperand => RefusalKind::FractionOperand.plain(),
+            EvalFault::LeftOut(name) => RefusalKind::LeftOut.naming(name.as_str()),
+            EvalFault::Stopped => RefusalKind::Stopped.plain(),
+            EvalFault::Host(number) => RefusalKind::Host.numbering(usize::from(*number)),
         }
     }
 
-    /// The text of the fault; of a host's refusal the host's number alone.
-    pub fn message(&self) -> Message<'_>
-        ensures { text_of result ≡ message_of self.now }
+    /// The number of the fault; of a host's refusal 21, whatever number the host refused by.
+    pub fn number(&self) -> u16
+        ensures { result ≡ (refusal_of self.now).number }
     {
-        match self {
-            EvalFault::OutOfMemory => out_of_memory(),
-            EvalFault::Text(fault) => fault.message(),
-            EvalFault::TclError(message, line) => Message::at_line(message.as_str(), *line),
-            EvalFault::TooManyCommands => Message::of_text("Too many commands"),
-            EvalFault::TooDeep => Message::of_text("Too many nested evaluations"),
-            EvalFault::ValueTooLong => Message::of_text("A value is too long"),
-            EvalFault::NumberTooLarge => Message::of_text("A number is too large"),
-            EvalFault::FractionOperand => {
-                Message::of_text("A number with a fraction is not computed")
-            }
-            EvalFault::LeftOut(name) => Message::around("'", name.as_str(), "' is left out"),
-            EvalFault::Stopped => Message::of_text("Stopped by the modulefile"),
-            EvalFault::Host(number) => Message::at_byte("Refused by ", usize::from(*number)),
-        }
+        self.numbered().number
     }
 }
 
 impl fmt::Display for EvalFault {
-    ghost output = { λ fault. Some (message_of fault) };
+    ghost output = { λ fault. Some (refusal_of fault).text };
 
     fn fmt<W: fmt::Write>(&self, f: &mut fmt::Formatter<W>) -> fmt::Result {
-        self.message().fmt(f)
+        self.numbered().message.fmt(f)
     }
 }
 

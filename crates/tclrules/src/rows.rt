@@ -2,7 +2,8 @@
 ghost use Rattle.std.specs.Prelude.{[], ◌∷◌, true, codes};
 ghost use Rattle.tclchars.specs.declared.fault.TextFault.TheVariants as text;
 ghost use Rattle.tclrules.specs.Derivation.{BadText, TooManyCommands, TooDeep, ValueTooLong, ByHost};
-ghost use Rattle.tclrules.specs.Shown.{standard, with_commands, with_depth, with_bytes, setenv_words, Results, RaisesOn, Stops, HostStops, HostTraces};
+ghost use Rattle.tclrules.specs.Shown.{standard, with_commands, with_depth, with_bytes, setenv_words, Results};
+ghost use Rattle.tclrules.specs.Shown.{RaisesOn, Stops, HostStops, HostTraces};
 
 /// Worked examples of the rules, each named for what it shows.
 pub fn worked_rows()

@@ -1,10 +1,12 @@
 -- A backslash that stands for nothing does so by five bytes behind it at most.
-use Rattle.std.proofs.Common.{◌≡◌, ◌≢◌, ℕ, suc, ◌+◌, ◌*◌, ◌<◌, ◌≤◌, [], ◌∷◌, ◌++◌, length, Bool, true, false, ◌&&◌, nat_lt, nat_le, Some, None, refl, sym, ap, subst, ◌∙◌, arith, ◌⊎◌, inl, inr}
+use Rattle.std.proofs.Common.{◌≡◌, ◌≢◌, ℕ, suc, ◌+◌, ◌*◌, ◌<◌, ◌≤◌, [], ◌∷◌, ◌++◌, length, Bool, true, false, ◌&&◌}
+use Rattle.std.proofs.Common.{nat_lt, nat_le, Some, None, refl, sym, ap, subst, ◌∙◌, arith, ◌⊎◌, inl, inr}
 use Rattle.std.specs.Prelude.{encode_utf8}
 use Rattle.std.specs.Char.{digit_value}
 use Rattle.std.proofs.lemmas.Bool.Decides.{nat_tests}
 use Rattle.tclchars.specs.Runs.{Text}
-use Rattle.tclchars.specs.Backslash.{is_hexadecimal, hexadecimal_at, character, begins_hexadecimal, code_at, wide_code_at, after_backslash}
+use Rattle.tclchars.specs.Backslash.{is_hexadecimal, hexadecimal_at, character, begins_hexadecimal, code_at}
+use Rattle.tclchars.specs.Backslash.{wide_code_at, after_backslash}
 use Rattle.tclscript.specs.ViablePrefixes.{IsBadEscape}
 use Rattle.tclscript.proofs.Prefixes.{escape_letter}
 
@@ -40,7 +42,10 @@ last v bs h = ([], bs, refl, omega arith, λ xs. same xs (nat_le 55296 v && nat_
   same xs true e = rw e refl
   same xs false e = absurd (some_none (encode_utf8 v, bs) (rw e at h))
 
-one_more : (n v : ℕ) (bs : Text) → v < 55296 → character (hexadecimal_at (suc n) v bs) ≡ None → ((b : ℕ) (rest : Text) → is_hexadecimal b ≡ true → character (hexadecimal_at n (v * 16 + digit_value b) rest) ≡ None → Fixed n (v * 16 + digit_value b) rest) → Fixed (suc n) v bs
+one_more : (n v : ℕ) (bs : Text) → v < 55296 → character (hexadecimal_at (suc n) v bs) ≡ None
+    → ((b : ℕ) (rest : Text) → is_hexadecimal b ≡ true
+    → character (hexadecimal_at n (v * 16 + digit_value b) rest) ≡ None → Fixed n (v * 16 + digit_value b) rest)
+    → Fixed (suc n) v bs
 one_more n v bs low h next = elim (digit n v bs) [
   | inl e ↦ absurd (low_character (v, bs) low (sym (ap character e) ∙ h))
   | inr k ↦ (
@@ -60,7 +65,9 @@ four_digits bs h =
     let db = small_digit b hb in
     one_more 1 ((0 * 16 + digit_value a) * 16 + digit_value b) bs (omega arith) h (λ c cs hc h.
     let dc = small_digit c hc in
-    one_more 0 (((0 * 16 + digit_value a) * 16 + digit_value b) * 16 + digit_value c) cs (omega arith) h (λ e es he h. last ((((0 * 16 + digit_value a) * 16 + digit_value b) * 16 + digit_value c) * 16 + digit_value e) es h))))
+    one_more 0 (((0 * 16 + digit_value a) * 16 + digit_value b) * 16 + digit_value c) cs (omega arith) h
+    (λ e es he h. last ((((0 * 16 + digit_value a) * 16 + digit_value b) * 16 + digit_value c) * 16 + digit_value e)
+    es h))))
 
 begins_wide : (bs : Text) → wide_code_at bs ≡ None → (b : ℕ) × (rest : Text) × (bs ≡ b ∷ rest) × (is_hexadecimal b ≡ true)
 begins_wide [] h = absurd (some_none (85 ∷ [], []) h)

@@ -1,5 +1,6 @@
 -- A word that is one run of literal bytes.
-use Rattle.std.proofs.Common.{◌≡◌, ℕ, ◌<◌, [], ◌∷◌, length, Bool, true, false, ◌==◌, Ok, refl, sym, ap, ap₂, subst, ◌∙◌, arith}
+use Rattle.std.proofs.Common.{◌≡◌, ℕ, ◌<◌, [], ◌∷◌, length, Bool, true, false, ◌==◌, Ok, refl, sym, ap, ap₂, subst, ◌∙◌}
+use Rattle.std.proofs.Common.{arith}
 use Rattle.std.proofs.lemmas.Bool.Decides.{nat_tests}
 use Rattle.tclchars.specs.Runs.{Text, take_while, drop_while}
 use Rattle.tclchars.specs.Classes.{in_class}
@@ -36,14 +37,17 @@ module _ (context : Context) (inner : Inner) where
   unfolding part_at
   literal_part b bs run rest l is after = rw (l.no_dollar, l.no_bracket, l.no_backslash) (ap₂ (λ (xs ys : Text). let found : Read Part = Ok (literal xs, ys) in found) (sym is) (sym after))
 
-  literal_parts : (b : ℕ) (bs run rest : Text) → Literal context b bs → run ≡ take_while (in_class (class_of context)) (b ∷ bs) → rest ≡ drop_while (in_class (class_of context)) (b ∷ bs) → parts_end context rest ≡ true
+  literal_parts : (b : ℕ) (bs run rest : Text) → Literal context b bs
+      → run ≡ take_while (in_class (class_of context)) (b ∷ bs)
+      → rest ≡ drop_while (in_class (class_of context)) (b ∷ bs) → parts_end context rest ≡ true
       → parts_with context inner (b ∷ bs) ≡ Ok (part (literal run) no_parts, rest)
   unfolding parts_with
   literal_parts b bs run rest l is after ends =
       let behind = literal_behind context (b ∷ bs) l.going l.no_dollar l.no_bracket l.no_backslash in
       let less : length rest < length (b ∷ bs) = subst (λ ys. length ys < length (b ∷ bs)) (sym after) behind.1 in
       let none = so_far-none (λ bs. bs) (parts_end context) (part_at context inner) (b ∷ bs) in
-      let one = so_far-more (λ bs. bs) (parts_end context) (part_at context inner) (b ∷ bs) [] (literal run ∷ []) (b ∷ bs) (b ∷ bs) (literal run) rest refl l.going (literal_part b bs run rest l is after) less refl none in
+      let one = so_far-more (λ bs. bs) (parts_end context) (part_at context inner) (b ∷ bs) [] (literal run ∷ [])
+      (b ∷ bs) (b ∷ bs) (literal run) rest refl l.going (literal_part b bs run rest l is after) less refl none in
       ap (read_map parts_of) (so_far-end (λ bs. bs) (parts_end context) (part_at context inner) (b ∷ bs) (literal run ∷ []) rest rest refl ends one)
 
   run_parts : (bs run rest : Text) → run ≡ take_while (in_class (class_of context)) bs → rest ≡ drop_while (in_class (class_of context)) bs → (length run == 0) ≡ false → parts_end context rest ≡ true
@@ -59,6 +63,8 @@ ends_bare true bs h = h
 ends_bare false bs h = h
 
 -- a run that is not empty, and behind which the word ends
-pub bare-word : (nested : Bool) (inner : Inner) (bs run rest : Text) → run ≡ take_while (in_class (class_of (bare nested))) bs → rest ≡ drop_while (in_class (class_of (bare nested))) bs → (length run == 0) ≡ false → word_ends nested rest ≡ true
+pub bare-word : (nested : Bool) (inner : Inner) (bs run rest : Text)
+    → run ≡ take_while (in_class (class_of (bare nested))) bs → rest ≡ drop_while (in_class (class_of (bare nested))) bs
+    → (length run == 0) ≡ false → word_ends nested rest ≡ true
     → parts_with (bare nested) inner bs ≡ Ok (part (literal run) no_parts, rest)
 bare-word nested inner bs run rest is after some ends = run_parts (bare nested) inner bs run rest is after some (ends_bare nested rest ends)

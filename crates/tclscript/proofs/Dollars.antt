@@ -1,5 +1,6 @@
 -- What a dollar sign begins is read exactly.
-use Rattle.std.proofs.Common.{◌≡◌, ◌≢◌, ℕ, zero, suc, ◌<◌, ◌≤◌, [], ◌∷◌, ◌++◌, length, true, not, ◌||◌, ◌==◌, Result, Ok, Err, refl, sym, ap, ap₂, subst, ◌∙◌, arith, append_assoc, append-nil, inl, inr}
+use Rattle.std.proofs.Common.{◌≡◌, ◌≢◌, ℕ, zero, suc, ◌<◌, ◌≤◌, [], ◌∷◌, ◌++◌, length, true, not, ◌||◌, ◌==◌, Result}
+use Rattle.std.proofs.Common.{Ok, Err, refl, sym, ap, ap₂, subst, ◌∙◌, arith, append_assoc, append-nil, inl, inr}
 use Rattle.std.proofs.lemmas.Bool.Decides.{nat_tests}
 use Rattle.tclchars.specs.Runs.{Text, take_while, drop_while}
 use Rattle.tclchars.specs.Bytes.{AllPass, MayBegin}
@@ -12,16 +13,19 @@ use Rattle.tclchars.proofs.Results.{bind_err, bind_ok, ok_err, ok_pair, read_map
 use Rattle.tclscript.specs.declared.context.Context.{Context}
 use Rattle.tclscript.specs.declared.context.Context.TheVariants.{InIndex}
 use Rattle.tclscript.specs.ScanState.{Name, scan}
-use Rattle.tclscript.specs.Tree.{Parts, no_parts, part, Part, literal, variable, indexed, nesting, parts_nesting, part_nesting}
+use Rattle.tclscript.specs.Tree.{Parts, no_parts, part, Part, literal, variable, indexed, nesting, parts_nesting}
+use Rattle.tclscript.specs.Tree.{part_nesting}
 use Rattle.tclscript.specs.Ends.{parts_end}
 use Rattle.tclscript.specs.Grammar.{IsName, IsLongestName, IsCommands, IsParts, IsPart}
 use Rattle.tclscript.specs.Faults.{CommandsFault, PartsFault, PartFault}
 use Rattle.tclscript.specs.Faults as faults
-use Rattle.tclscript.specs.Reading.{Inner, after_closing, index_at, braced_name_at, scalar_variable, after_name, dollar_at}
+use Rattle.tclscript.specs.Reading.{Inner, after_closing, index_at, braced_name_at, scalar_variable, after_name}
+use Rattle.tclscript.specs.Reading.{dollar_at}
 use Rattle.tclscript.proofs.PassedOver.{pass_whole}
 use Rattle.tclscript.proofs.Names.{name_longest, name_again, longest_before}
 use Rattle.tclscript.proofs.Exact.{Took, Exact}
-use Rattle.tclscript.proofs.Marks.{Without, mark_or_none, on_mark-at, on_mark-not, closed_ok, closed_err, after_closing-at, none_before, run_taken, front_run, back_run}
+use Rattle.tclscript.proofs.Marks.{Without, mark_or_none, on_mark-at, on_mark-not, closed_ok, closed_err}
+use Rattle.tclscript.proofs.Marks.{after_closing-at, none_before, run_taken, front_run, back_run}
 
 abbrev pub Anywhere : Text → Type 0
 Anywhere bs = Unit {0}
@@ -124,7 +128,8 @@ module _ (d : ℕ) (inner : Inner) (exact : IsExactInner d inner) where
         open_at zero bs ps is h less = absurd (omega arith)
         open_at (suc d) bs ps is h less = faults.PartFault.open_index name bs ps is h (omega arith)
 
-        unclosed : (bs : Text) (f : Fault) → IsName name → (ps : Parts) (r : Text) → inner.index bs ≡ Ok (ps, r) → close_index (BadCharacter (suc (length bs))) ps r ≡ Err f → PartFault d (36 ∷ (name ++ 40 ∷ bs)) f
+        unclosed : (bs : Text) (f : Fault) → IsName name → (ps : Parts) (r : Text) → inner.index bs ≡ Ok (ps, r)
+            → close_index (BadCharacter (suc (length bs))) ps r ≡ Err f → PartFault d (36 ∷ (name ++ 40 ∷ bs)) f
         unclosed bs f is ps r was h =
             let mark = BadCharacter (suc (length bs)) in
             elim (bind_err (after_closing 41 mark r) (λ rest. Ok (ps, rest)) f h) [
@@ -160,11 +165,15 @@ module _ (d : ℕ) (inner : Inner) (exact : IsExactInner d inner) where
 
   -- behind a dollar sign
 
-  plain_sound : (c : Context) (name rest : Text) → Without 40 rest → Without 123 (name ++ rest) → IsLongestName name rest → IsPart c (scalar_variable name) (36 ∷ name) rest × (part_nesting (scalar_variable name) ≤ d)
+  plain_sound : (c : Context) (name rest : Text) → Without 40 rest → Without 123 (name ++ rest)
+      → IsLongestName name rest → IsPart c (scalar_variable name) (36 ∷ name) rest
+      × (part_nesting (scalar_variable name) ≤ d)
   plain_sound c [] rest h k is = ((refl, inr (inl (refl, is, no_marks rest h k))), omega arith)
   plain_sound c (b ∷ name) rest h k is = (inl (refl, (λ e. cc), is, h), omega arith)
 
-  name_sound : (c : Context) (name rest : Text) (p : Part) (r : Text) → Without 123 (name ++ rest) → IsLongestName name rest → after_name inner (name, rest) ≡ Ok (p, r) → Took (DollarIs d c) (36 ∷ (name ++ rest)) p r
+  name_sound : (c : Context) (name rest : Text) (p : Part) (r : Text) → Without 123 (name ++ rest)
+      → IsLongestName name rest → after_name inner (name, rest) ≡ Ok (p, r)
+      → Took (DollarIs d c) (36 ∷ (name ++ rest)) p r
   name_sound c name rest p r free is h =
       let found = λ (bs : Text). read_map (indexed name) (index_at inner bs) in
       let other : Read Part = Ok (scalar_variable name, rest) in
@@ -186,7 +195,9 @@ module _ (d : ℕ) (inner : Inner) (exact : IsExactInner d inner) where
       let found = λ (bs : Text). read_map (indexed name) (index_at inner bs) in
       let other : Read Part = Ok (scalar_variable name, rest) in
       elim (mark_or_none 40 rest) [
-        | inl k ↦ subst (λ ys. PartFault d (36 ∷ (name ++ ys)) f) (sym k.1) (index_faulty name k.0 f is (read_map_err (indexed name) (index_at inner k.0) f (sym (on_mark-at 40 rest k.0 found other k.1) ∙ h)))
+        | inl k ↦ subst (λ ys. PartFault d (36 ∷ (name ++ ys)) f) (sym k.1)
+            (index_faulty name k.0 f is (read_map_err (indexed name) (index_at inner k.0) f
+            (sym (on_mark-at 40 rest k.0 found other k.1) ∙ h)))
         | inr k ↦ absurd (ok_err (scalar_variable name, rest) f (sym (on_mark-not 40 rest found other k) ∙ h))
       ]
 
@@ -282,7 +293,8 @@ module _ (d : ℕ) (inner : Inner) (exact : IsExactInner d inner) where
       to_name name (40 ∷ bs) (name_brace is (40 ∷ bs) refl) (longest_before name 40 bs refl is)
       ∙ on_mark-at 40 (40 ∷ bs) bs (λ bs. read_map (indexed name) (index_at inner bs)) (Ok (scalar_variable name, 40 ∷ bs)) refl
 
-  pub indexed_again : (name inside r : Text) (ps : Parts) → IsName name → IsParts InIndex ps inside (41 ∷ r) → parts_nesting ps < d → dollar_at inner (name ++ 40 ∷ (inside ++ 41 ∷ r)) ≡ Ok (indexed name ps, r)
+  pub indexed_again : (name inside r : Text) (ps : Parts) → IsName name → IsParts InIndex ps inside (41 ∷ r)
+      → parts_nesting ps < d → dollar_at inner (name ++ 40 ∷ (inside ++ 41 ∷ r)) ≡ Ok (indexed name ps, r)
   indexed_again name inside r ps is h less = to_index name (inside ++ 41 ∷ r) is ∙ ap (read_map (indexed name)) (index_again inside r ps h less)
 
   pub indexed_met : (name bs : Text) (f : Fault) → IsName name → IndexFault d bs f → dollar_at inner (name ++ 40 ∷ bs) ≡ Err f

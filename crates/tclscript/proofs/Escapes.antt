@@ -1,9 +1,12 @@
 -- What follows a backslash and what it takes along is an end of the text.
-use Rattle.std.proofs.Common.{◌≡◌, ℕ, zero, suc, ◌+◌, ◌*◌, [], ◌∷◌, ◌++◌, Bool, true, false, ◌&&◌, ◌==◌, nat_lt, nat_le, if◌then◌else◌, Option, Some, None, refl, sym, ap, ◌∙◌}
+use Rattle.std.proofs.Common.{◌≡◌, ℕ, zero, suc, ◌+◌, ◌*◌, [], ◌∷◌, ◌++◌, Bool, true, false, ◌&&◌, ◌==◌, nat_lt, nat_le}
+use Rattle.std.proofs.Common.{if◌then◌else◌, Option, Some, None, refl, sym, ap, ◌∙◌}
 use Rattle.std.specs.Char.{digit_value}
 use Rattle.tclchars.specs.Bytes.{newline, is_continuation}
 use Rattle.tclchars.specs.Runs.{Text, take_while, drop_while}
-use Rattle.tclchars.specs.Backslash.{is_octal, is_blank_or_tab, digit_at, octal_on, octal_at, hexadecimal_on, hexadecimal_at, character, begins_hexadecimal, code_at, wide_code_at, letter_value, after_backslash}
+use Rattle.tclchars.specs.Backslash.{is_octal, is_blank_or_tab, digit_at, octal_on, octal_at, hexadecimal_on}
+use Rattle.tclchars.specs.Backslash.{hexadecimal_at, character, begins_hexadecimal, code_at, wide_code_at, letter_value}
+use Rattle.tclchars.specs.Backslash.{after_backslash}
 use Rattle.tclscript.specs.Pieces.{IsSuffixOf, IsPrefixOf}
 use Rattle.tclscript.proofs.Ends.{end_same, end_behind, end_through}
 
@@ -54,7 +57,9 @@ pub character_leaves : (P : Text → Type 0) (r : ℕ × Text) → P r.1 → Lea
 character_leaves P r h = either (LeavesSome P) (nat_le 55296 r.0 && nat_lt r.0 57344) None (Some _) tt h
 
 pub code_leaves : (n b : ℕ) (bs : Text) → LeavesSome (IsSuffixOf bs) (code_at n b bs)
-code_leaves n b bs = either (LeavesSome (IsSuffixOf bs)) (begins_hexadecimal bs) (character (hexadecimal_at n 0 bs)) (Some (b ∷ [], bs)) (character_leaves (IsSuffixOf bs) (hexadecimal_at n 0 bs) (hexadecimal_end n 0 bs)) (end_same bs)
+code_leaves n b bs = either (LeavesSome (IsSuffixOf bs)) (begins_hexadecimal bs) (character (hexadecimal_at n 0 bs))
+    (Some (b ∷ [], bs)) (character_leaves (IsSuffixOf bs) (hexadecimal_at n 0 bs) (hexadecimal_end n 0 bs))
+    (end_same bs)
 
 pub wide_leaves : (bs : Text) → LeavesSome (IsSuffixOf bs) (wide_code_at bs)
 wide_leaves bs = either (LeavesSome (IsSuffixOf bs)) (begins_hexadecimal bs) None (Some (85 ∷ [], bs)) tt (end_same bs)

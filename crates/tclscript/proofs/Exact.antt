@@ -1,5 +1,6 @@
 -- Readers that read exactly the texts of a set, and fail exactly at its faults.
-use Rattle.std.proofs.Common.{◌≡◌, ℕ, zero, suc, ◌<◌, ◌≤◌, List, [], ◌∷◌, ◌++◌, length, Bool, true, false, Ok, Err, refl, sym, ap, subst, ◌∙◌, arith, append_assoc, length-append, inl, inr}
+use Rattle.std.proofs.Common.{◌≡◌, ℕ, zero, suc, ◌<◌, ◌≤◌, List, [], ◌∷◌, ◌++◌, length, Bool, true, false, Ok, Err}
+use Rattle.std.proofs.Common.{refl, sym, ap, subst, ◌∙◌, arith, append_assoc, length-append, inl, inr}
 use Rattle.tclchars.specs.Runs.{Text}
 use Rattle.tclchars.specs.Reading.{◌>>=◌, Read, read_map, items_step, items_at}
 use Rattle.tclchars.specs.declared.fault.Fault.{Fault}
@@ -25,18 +26,22 @@ some_less t r h = omega (arith, length-append t r)
 -- Items
 
 -- The items of a text: what skip passes over is in Gap, before each item and at the end.
-pub record Items {X : Type 0} (skip : Text → Text) (ends : Text → Bool) (one : Text → Read X) (Gap : Text → Text → Type 0) (B : Text → Type 0) (L : X → Text → Text → Type 0) (F : Text → Fault → Type 0) : Type 0 where
-  pub exact : Exact one B L F
-  pub skips : (bs : Text) → (gap : Text) × (bs ≡ gap ++ skip bs) × Gap gap (skip bs)
-  pub over : (gap start : Text) → Gap gap start → skip (gap ++ start) ≡ skip start
-  pub begins : (bs : Text) → ends (skip bs) ≡ false → B (skip bs)
-  pub stays : (start : Text) → B start → (skip start ≡ start) × (ends start ≡ false)
-  pub stops : (r : Text) → ends r ≡ true → skip r ≡ r
-  pub good : (x : X) (t r : Text) → L x t r → B (t ++ r)
-  pub bad : (bs : Text) (f : Fault) → F bs f → B bs
-  pub some : (x : X) (t r : Text) → L x t r → 0 < length t
+pub record Items {X : Type 0} (skip : Text → Text) (ends : Text → Bool) (one : Text → Read X)
+    (Gap : Text → Text → Type 0) (B : Text → Type 0) (L : X → Text → Text → Type 0) (F : Text → Fault → Type 0) : Type 0
+  where
+    pub exact : Exact one B L F
+    pub skips : (bs : Text) → (gap : Text) × (bs ≡ gap ++ skip bs) × Gap gap (skip bs)
+    pub over : (gap start : Text) → Gap gap start → skip (gap ++ start) ≡ skip start
+    pub begins : (bs : Text) → ends (skip bs) ≡ false → B (skip bs)
+    pub stays : (start : Text) → B start → (skip start ≡ start) × (ends start ≡ false)
+    pub stops : (r : Text) → ends r ≡ true → skip r ≡ r
+    pub good : (x : X) (t r : Text) → L x t r → B (t ++ r)
+    pub bad : (bs : Text) (f : Fault) → F bs f → B bs
+    pub some : (x : X) (t r : Text) → L x t r → 0 < length t
 
-module _ {X : Type 0} (skip : Text → Text) (ends : Text → Bool) (one : Text → Read X) (Gap : Text → Text → Type 0) (B : Text → Type 0) (L : X → Text → Text → Type 0) (F : Text → Fault → Type 0) (items : Items skip ends one Gap B L F) where
+module _ {X : Type 0} (skip : Text → Text) (ends : Text → Bool) (one : Text → Read X) (Gap : Text → Text → Type 0)
+    (B : Text → Type 0) (L : X → Text → Text → Type 0) (F : Text → Fault → Type 0)
+    (items : Items skip ends one Gap B L F) where
   -- what is read at the end, where an item begins, and where one is wrong
 
   pub items-end : (n : ℕ) (gap r : Text) → Gap gap r → ends r ≡ true → items_at skip ends one (suc n) (gap ++ r) ≡ Ok ([], r)
@@ -49,7 +54,8 @@ module _ {X : Type 0} (skip : Text → Text) (ends : Text → Bool) (one : Text 
       let to : skip (gap ++ start) ≡ start = items.over gap start h ∙ (items.stays start b).0 in
       ap (λ ys. items_step one (items_at skip ends one n) ys (ends ys)) to ∙ ap (items_step one (items_at skip ends one n) start) (items.stays start b).1
 
-  pub items-more : (n : ℕ) (gap body more : Text) (x : X) → Gap gap (body ++ more) → L x body more → items_at skip ends one (suc n) (gap ++ (body ++ more)) ≡ read_map (λ xs. x ∷ xs) (items_at skip ends one n more)
+  pub items-more : (n : ℕ) (gap body more : Text) (x : X) → Gap gap (body ++ more) → L x body more
+      → items_at skip ends one (suc n) (gap ++ (body ++ more)) ≡ read_map (λ xs. x ∷ xs) (items_at skip ends one n more)
   items-more n gap body more x h l =
       at_item n gap (body ++ more) h (items.good x body more l) ∙ ap (λ y. y >>= (λ x. read_map (λ xs. x.0 ∷ xs) (items_at skip ends one n x.1))) (items.exact.again x body more l)
 

@@ -3,9 +3,12 @@ use Rattle.std.proofs.Common.{◌≡◌, [], ◌∷◌, Err, refl}
 use Rattle.tclchars.specs.declared.fault.Fault.TheVariants.{JoinedToClose}
 use Rattle.tclchars.specs.Braces.{braced_at}
 use Rattle.tclscript.specs.ScanState.{scan}
-use Rattle.tclscript.specs.Reading.{whole_script, script_with, command_at, word_at, unexpanded_word_at, braced_word_at, quoted_word_at, parts_with, part_at, dollar_at, backslash_at, bracket_at, index_at, braced_name_at, after_expansion, inner_at}
+use Rattle.tclscript.specs.Reading.{whole_script, script_with, command_at, word_at, unexpanded_word_at, braced_word_at}
+use Rattle.tclscript.specs.Reading.{quoted_word_at, parts_with, part_at, dollar_at, backslash_at, bracket_at, index_at}
+use Rattle.tclscript.specs.Reading.{braced_name_at, after_expansion, inner_at}
 
 -- set a {b}c
 joined : whole_script 200 (115 ∷ (101 ∷ (116 ∷ (32 ∷ (97 ∷ (32 ∷ (123 ∷ (98 ∷ (125 ∷ (99 ∷ [])))))))))) ≡ Err (JoinedToClose 1)
-unfolding braced_at whole_script script_with command_at word_at unexpanded_word_at braced_word_at quoted_word_at parts_with part_at dollar_at backslash_at bracket_at index_at braced_name_at after_expansion inner_at scan
+unfolding braced_at whole_script script_with command_at word_at unexpanded_word_at braced_word_at quoted_word_at
+    parts_with part_at dollar_at backslash_at bracket_at index_at braced_name_at after_expansion inner_at scan
 joined = refl

@@ -1,5 +1,6 @@
 -- What a text is doesn't hang on what follows far behind it.
-use Rattle.std.proofs.Common.{◌≡◌, ◌≢◌, ℕ, suc, ◌≤◌, [], ◌∷◌, ◌++◌, length, Bool, true, false, not, ◌||◌, ◌==◌, ◌&&◌, Option, Some, None, refl, sym, ap, ap₂, subst, ◌∙◌, arith, append_assoc, inl, inr}
+use Rattle.std.proofs.Common.{◌≡◌, ◌≢◌, ℕ, suc, ◌≤◌, [], ◌∷◌, ◌++◌, length, Bool, true, false, not, ◌||◌, ◌==◌, ◌&&◌}
+use Rattle.std.proofs.Common.{Option, Some, None, refl, sym, ap, ap₂, subst, ◌∙◌, arith, append_assoc, inl, inr}
 use Rattle.std.proofs.lemmas.Bool.Decides.{nat_tests}
 use Rattle.tclchars.specs.Runs.{Text, begins}
 use Rattle.tclchars.specs.Bytes.{newline, MayBegin, DoesBegin, colon}
@@ -7,12 +8,15 @@ use Rattle.tclchars.specs.Classes.{in_class}
 use Rattle.tclchars.specs.Backslash.{after_backslash}
 use Rattle.tclscript.specs.declared.context.Context.{Context}
 use Rattle.tclscript.specs.declared.context.Context.TheVariants.{InScript, InBracket, InIndex, InQuotes}
-use Rattle.tclscript.specs.ScanState.{ScanState, Blanks, AwaitsNewline, Gap, Comment, Escaped, Name, Colons, step, put_before, scan_on, scan}
+use Rattle.tclscript.specs.ScanState.{ScanState, Blanks, AwaitsNewline, Gap, Comment, Escaped, Name, Colons, step}
+use Rattle.tclscript.specs.ScanState.{put_before, scan_on, scan}
 use Rattle.tclscript.specs.Tree as tree
-use Rattle.tclscript.specs.Tree.{Commands, no_commands, command, Words, no_words, word, Word, word_of, Parts, no_parts, part, Part, literal, variable, indexed, bracket}
+use Rattle.tclscript.specs.Tree.{Commands, no_commands, command, Words, no_words, word, Word, word_of, Parts, no_parts}
+use Rattle.tclscript.specs.Tree.{part, Part, literal, variable, indexed, bracket}
 use Rattle.tclscript.specs.Ends.{script_ends, command_ends, word_ends, ends_at, parts_end, class_of, bare}
 use Rattle.tclscript.specs.Grammar as grammar
-use Rattle.tclscript.specs.Grammar.{IsGap, IsLongestName, IsLiteral, IsUnexpandedWord, IsCommands, IsCommand, IsWords, IsWord, IsParts, IsPart}
+use Rattle.tclscript.specs.Grammar.{IsGap, IsLongestName, IsLiteral, IsUnexpandedWord, IsCommands, IsCommand, IsWords}
+use Rattle.tclscript.specs.Grammar.{IsWord, IsParts, IsPart}
 use Rattle.tclscript.proofs.PassedOver.{scan-on, scan-stop}
 use Rattle.tclscript.proofs.Names.{name_longest, name_again}
 use Rattle.tclscript.proofs.NextByte.{same_escape, shorter_escape}
@@ -208,7 +212,9 @@ mutual
   command-like nested source (word w ws) x p s t h k = (
     k.0,
     k.1,
-    subst (λ ys. IsWord nested w source ys) (append_assoc k.0 p t) (word-like nested w source (k.0 ++ p) s t (like_before k.0 p s t h) (subst (λ ys. IsWord nested w source ys) (sym (append_assoc k.0 p s)) k.2)),
+    subst (λ ys. IsWord nested w source ys) (append_assoc k.0 p t)
+        (word-like nested w source (k.0 ++ p) s t (like_before k.0 p s t h)
+        (subst (λ ys. IsWord nested w source ys) (sym (append_assoc k.0 p s)) k.2)),
     words-like nested ws k.0 p s t h k.3,
   )
 

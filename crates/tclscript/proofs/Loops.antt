@@ -1,5 +1,6 @@
 -- Loops that read one item after another.
-use Rattle.std.proofs.Common.{◌≡◌, ℕ, zero, suc, ◌<◌, List, [], ◌∷◌, ◌++◌, length, Bool, true, false, Ok, Err, refl, sym, ap, ap₂, subst, ◌∙◌, arith, append_assoc, append-nil}
+use Rattle.std.proofs.Common.{◌≡◌, ℕ, zero, suc, ◌<◌, List, [], ◌∷◌, ◌++◌, length, Bool, true, false, Ok, Err, refl}
+use Rattle.std.proofs.Common.{sym, ap, ap₂, subst, ◌∙◌, arith, append_assoc, append-nil}
 use Rattle.tclchars.specs.Runs.{Text}
 use Rattle.tclchars.specs.declared.fault.Fault.{Fault}
 use Rattle.tclchars.specs.Reading.{Read, read_map, ◌>>=◌, items_at, items_step}
@@ -46,16 +47,21 @@ module _ {X : Type 0} (skip : Text → Text) (ends : Text → Bool) (one : Text 
       turns = n;
       enough = omega arith;
       whole =
-          w ∙ ap (read_map (λ xs. found ++ xs)) (items-more skip ends one n rest x after (subst (λ ys. ends ys ≡ false) begins e) (subst (λ ys. one ys ≡ Ok (x, after)) begins was)) ∙ read_map-push found x _
+          w ∙ ap (read_map (λ xs. found ++ xs)) (items-more skip ends one n rest x after
+          (subst (λ ys. ends ys ≡ false) begins e) (subst (λ ys. one ys ≡ Ok (x, after)) begins was))
+          ∙ read_map-push found x _
           ∙ ap (λ (ys : List X). read_map (λ xs. ys ++ xs) (items_at skip ends one n after)) (sym made);
     }
 
-  pub so_far-end : (bs : Text) (found : List X) (rest start : Text) → start ≡ skip rest → ends start ≡ true → SoFar skip ends one bs found rest → items_at skip ends one (suc (length bs)) bs ≡ Ok (found, start)
+  pub so_far-end : (bs : Text) (found : List X) (rest start : Text) → start ≡ skip rest → ends start ≡ true
+      → SoFar skip ends one bs found rest → items_at skip ends one (suc (length bs)) bs ≡ Ok (found, start)
   so_far-end bs found rest start begins e s =
       let enough = s.enough in
       s.whole ∙ ap (read_map (λ xs. found ++ xs)) (items-end skip ends one s.turns rest (omega (arith, s.enough)) (subst (λ ys. ends ys ≡ true) begins e))
       ∙ ap₂ (λ (xs : List X) (ys : Text). Ok (xs, ys)) (append-nil found) (sym begins)
 
-  pub so_far-fail : (bs : Text) (found : List X) (rest start : Text) (f : Fault) → start ≡ skip rest → ends start ≡ false → one start ≡ Err f → SoFar skip ends one bs found rest → items_at skip ends one (suc (length bs)) bs ≡ Err f
+  pub so_far-fail : (bs : Text) (found : List X) (rest start : Text) (f : Fault) → start ≡ skip rest
+      → ends start ≡ false → one start ≡ Err f → SoFar skip ends one bs found rest
+      → items_at skip ends one (suc (length bs)) bs ≡ Err f
   so_far-fail bs found rest start f begins e was s =
       s.whole ∙ ap (read_map (λ xs. found ++ xs)) (items-fail skip ends one s.turns rest f (omega (arith, s.enough)) (subst (λ ys. ends ys ≡ false) begins e) (subst (λ ys. one ys ≡ Err f) begins was))

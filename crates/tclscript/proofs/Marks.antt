@@ -1,5 +1,6 @@
 -- Marks, runs of bytes, and the ends of what the grammar has.
-use Rattle.std.proofs.Common.{◌≡◌, ℕ, [], ◌∷◌, ◌++◌, length, Bool, true, false, not, ◌==◌, Result, Ok, Err, refl, sym, ap, ◌∙◌, arith, ◌⊎◌, inl, inr}
+use Rattle.std.proofs.Common.{◌≡◌, ℕ, [], ◌∷◌, ◌++◌, length, Bool, true, false, not, ◌==◌, Result, Ok, Err, refl, sym}
+use Rattle.std.proofs.Common.{ap, ◌∙◌, arith, ◌⊎◌, inl, inr}
 use Rattle.std.proofs.lemmas.Bool.Decides.{nat_tests}
 use Rattle.tclchars.specs.Runs.{Text, take_while, drop_while}
 use Rattle.tclchars.specs.Bytes.{AllPass, MayBegin}
@@ -80,7 +81,9 @@ none_before mark (b ∷ bs) h k = absurd (true_false (sym (not_true (b == mark) 
 abbrev ended_by : Bool → Text → Result Text Fault
 ended_by t bs = elim t as (λ t. Result Text Fault) [ true ↦ Ok bs | false ↦ Err (JoinedToClose (length bs)) ]
 
-ended_cases : (nested : Bool) (bs : Text) (t : Bool) → word_ends nested bs ≡ t → (t ≡ true) × (require_word_end nested bs ≡ Ok bs) ⊎ (t ≡ false) × (require_word_end nested bs ≡ Err (JoinedToClose (length bs)))
+ended_cases : (nested : Bool) (bs : Text) (t : Bool) → word_ends nested bs ≡ t → (t ≡ true)
+    × (require_word_end nested bs ≡ Ok bs) ⊎ (t ≡ false)
+    × (require_word_end nested bs ≡ Err (JoinedToClose (length bs)))
 ended_cases nested bs true h = inl (refl, rw h refl)
 ended_cases nested bs false h = inr (refl, rw h refl)
 

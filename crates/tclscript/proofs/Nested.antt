@@ -19,7 +19,9 @@ unfolding inner_at
 inner-index zero bs h = absurd (omega arith)
 inner-index (suc d) bs h = let e : suc d - 1 ≡ d = omega arith in ap (λ n. parts_with InIndex (inner_at n) bs) (sym e)
 
-pub bracket-read : (d remaining : ℕ) (bs : Text) (s : Commands) (close rest : Text) → 0 < d → remaining ≡ suc (length bs) → script_with true (inner_at (d - 1)) bs ≡ Ok (s, close) → after_closing 93 (OpenBracket remaining) close ≡ Ok rest
+pub bracket-read : (d remaining : ℕ) (bs : Text) (s : Commands) (close rest : Text) → 0 < d
+    → remaining ≡ suc (length bs) → script_with true (inner_at (d - 1)) bs ≡ Ok (s, close)
+    → after_closing 93 (OpenBracket remaining) close ≡ Ok rest
     → bracket_at (inner_at d) bs ≡ Ok (bracket s, rest)
 unfolding bracket_at
 bracket-read d remaining bs s close rest h is was end =
@@ -34,11 +36,15 @@ index-on d remaining bs ps close h is was =
     ap (λ r. r >>= (λ x. after_closing 41 (BadCharacter (suc (length bs))) x.1 >>= (λ rest. Ok (x.0, rest)))) (inner-index d bs h ∙ was)
     ∙ ap (λ n. after_closing 41 (BadCharacter n) close >>= (λ rest. Ok (ps, rest))) (sym is)
 
-pub index-read : (d remaining : ℕ) (bs : Text) (ps : Parts) (close rest : Text) → 0 < d → remaining ≡ suc (length bs) → parts_with InIndex (inner_at (d - 1)) bs ≡ Ok (ps, close) → after_closing 41 (BadCharacter remaining) close ≡ Ok rest
+pub index-read : (d remaining : ℕ) (bs : Text) (ps : Parts) (close rest : Text) → 0 < d → remaining ≡ suc (length bs)
+    → parts_with InIndex (inner_at (d - 1)) bs ≡ Ok (ps, close)
+    → after_closing 41 (BadCharacter remaining) close ≡ Ok rest
     → index_at (inner_at d) bs ≡ Ok (ps, rest)
 index-read d remaining bs ps close rest h is was end = index-on d remaining bs ps close h is was ∙ ap (λ r. r >>= (λ rest. Ok (ps, rest))) end
 
-pub index-fails : (d remaining : ℕ) (bs : Text) (ps : Parts) (close : Text) (e : ReadError) → 0 < d → remaining ≡ suc (length bs) → parts_with InIndex (inner_at (d - 1)) bs ≡ Ok (ps, close) → Fails e (after_closing 41 (BadCharacter remaining) close)
+pub index-fails : (d remaining : ℕ) (bs : Text) (ps : Parts) (close : Text) (e : ReadError) → 0 < d
+    → remaining ≡ suc (length bs) → parts_with InIndex (inner_at (d - 1)) bs ≡ Ok (ps, close)
+    → Fails e (after_closing 41 (BadCharacter remaining) close)
     → Fails e (index_at (inner_at d) bs)
 index-fails d remaining bs ps close errors.Memory h is was end = tt
 index-fails d remaining bs ps close (errors.Fault f) h is was end = index-on d remaining bs ps close h is was ∙ ap (λ r. r >>= (λ rest. Ok (ps, rest))) end

@@ -1,14 +1,19 @@
 -- What a backslash stands for depends on no more than one byte of what follows.
-use Rattle.std.proofs.Common.{◌≡◌, ℕ, zero, suc, ◌+◌, ◌*◌, ◌≤◌, [], ◌∷◌, ◌++◌, length, Bool, true, false, ◌&&◌, ◌==◌, nat_lt, nat_le, if◌then◌else◌, Option, Some, None, refl, sym, ap, ap₂, subst, ◌∙◌, arith, length-append, ◌⊎◌, inl, inr}
+use Rattle.std.proofs.Common.{◌≡◌, ℕ, zero, suc, ◌+◌, ◌*◌, ◌≤◌, [], ◌∷◌, ◌++◌, length, Bool, true, false, ◌&&◌, ◌==◌}
+use Rattle.std.proofs.Common.{nat_lt, nat_le, if◌then◌else◌, Option, Some, None, refl, sym, ap, ap₂, subst, ◌∙◌, arith}
+use Rattle.std.proofs.Common.{length-append, ◌⊎◌, inl, inr}
 use Rattle.std.proofs.lemmas.Bool.Decides.{nat_tests}
 use Rattle.std.specs.Prelude.{encode_utf8}
 use Rattle.std.specs.Char.{digit_value}
 use Rattle.tclchars.specs.Bytes.{newline, is_continuation}
 use Rattle.tclchars.specs.Runs.{Text, take_while, drop_while}
-use Rattle.tclchars.specs.Backslash.{is_octal, is_hexadecimal, is_blank_or_tab, digit_at, octal_on, octal_at, hexadecimal_on, hexadecimal_at, character, code_at, wide_code_at, letter_value, after_backslash}
+use Rattle.tclchars.specs.Backslash.{is_octal, is_hexadecimal, is_blank_or_tab, digit_at, octal_on, octal_at}
+use Rattle.tclchars.specs.Backslash.{hexadecimal_on, hexadecimal_at, character, code_at, wide_code_at, letter_value}
+use Rattle.tclchars.specs.Backslash.{after_backslash}
 use Rattle.tclscript.specs.Pieces.{IsSuffixOf}
 use Rattle.tclscript.proofs.Ends.{end_no_longer}
-use Rattle.tclscript.proofs.Escapes.{either, back_end, octal_end, hexadecimal_end, LeavesSome, character_leaves, code_leaves, wide_leaves}
+use Rattle.tclscript.proofs.Escapes.{either, back_end, octal_end, hexadecimal_end, LeavesSome, character_leaves}
+use Rattle.tclscript.proofs.Escapes.{code_leaves, wide_leaves}
 
 pub both_ways : {A : Type 0} (P : A → A → Type 0) (t : Bool) (x y x' y' : A) → P x x' → P y y' → P (if t then x else y) (if t then x' else y')
 both_ways P true x y x' y' here there = here
@@ -50,14 +55,18 @@ module _ (c : ℕ) (a a' : Text) where
   octal_along : (n v : ℕ) (e : Text) → Along (octal_at n v (e ++ c ∷ a)) (octal_at n v (e ++ c ∷ a'))
   octal_along zero v e = along_here v e
   octal_along (suc n) v [] =
-      both_ways (λ (d d' : Option (ℕ × Text)). Along (octal_on (octal_at n) v (c ∷ a) d) (octal_on (octal_at n) v (c ∷ a') d')) (nat_lt (digit_value c) 8) (Some (digit_value c, a)) None (Some (digit_value c, a')) None
+      both_ways (λ (d d' : Option (ℕ × Text)). Along (octal_on (octal_at n) v (c ∷ a) d)
+      (octal_on (octal_at n) v (c ∷ a') d')) (nat_lt (digit_value c) 8) (Some (digit_value c, a)) None
+      (Some (digit_value c, a')) None
       (both_ways (λ (r s : ℕ × Text). Along r s) (nat_lt (v * 8 + digit_value c) 256) (octal_at n (v * 8 + digit_value c) a) (v, c ∷ a) (octal_at n (v * 8 + digit_value c) a') (v, c ∷ a')
       (past (octal_at n (v * 8 + digit_value c) a) (octal_at n (v * 8 + digit_value c) a') (octal_end n (v * 8 + digit_value c) a)) (along_here v []))
       (along_here v [])
   octal_along (suc n) v (b ∷ e) =
       let x = e ++ c ∷ a in
       let y = e ++ c ∷ a' in
-      both_ways (λ (d d' : Option (ℕ × Text)). Along (octal_on (octal_at n) v (b ∷ x) d) (octal_on (octal_at n) v (b ∷ y) d')) (nat_lt (digit_value b) 8) (Some (digit_value b, x)) None (Some (digit_value b, y)) None
+      both_ways (λ (d d' : Option (ℕ × Text)). Along (octal_on (octal_at n) v (b ∷ x) d)
+      (octal_on (octal_at n) v (b ∷ y) d')) (nat_lt (digit_value b) 8) (Some (digit_value b, x)) None
+      (Some (digit_value b, y)) None
       (both_ways (λ (r s : ℕ × Text). Along r s) (nat_lt (v * 8 + digit_value b) 256) (octal_at n (v * 8 + digit_value b) x) (v, b ∷ x) (octal_at n (v * 8 + digit_value b) y) (v, b ∷ y)
       (octal_along n (v * 8 + digit_value b) e) (along_here v (b ∷ e)))
       (along_here v (b ∷ e))
@@ -65,12 +74,16 @@ module _ (c : ℕ) (a a' : Text) where
   hexadecimal_along : (n v : ℕ) (e : Text) → Along (hexadecimal_at n v (e ++ c ∷ a)) (hexadecimal_at n v (e ++ c ∷ a'))
   hexadecimal_along zero v e = along_here v e
   hexadecimal_along (suc n) v [] =
-      both_ways (λ (d d' : Option (ℕ × Text)). Along (hexadecimal_on (hexadecimal_at n) v (c ∷ a) d) (hexadecimal_on (hexadecimal_at n) v (c ∷ a') d')) (nat_lt (digit_value c) 16) (Some (digit_value c, a)) None (Some (digit_value c, a')) None
+      both_ways (λ (d d' : Option (ℕ × Text)). Along (hexadecimal_on (hexadecimal_at n) v (c ∷ a) d)
+      (hexadecimal_on (hexadecimal_at n) v (c ∷ a') d')) (nat_lt (digit_value c) 16) (Some (digit_value c, a)) None
+      (Some (digit_value c, a')) None
       (past (hexadecimal_at n (v * 16 + digit_value c) a) (hexadecimal_at n (v * 16 + digit_value c) a') (hexadecimal_end n (v * 16 + digit_value c) a)) (along_here v [])
   hexadecimal_along (suc n) v (b ∷ e) =
       let x = e ++ c ∷ a in
       let y = e ++ c ∷ a' in
-      both_ways (λ (d d' : Option (ℕ × Text)). Along (hexadecimal_on (hexadecimal_at n) v (b ∷ x) d) (hexadecimal_on (hexadecimal_at n) v (b ∷ y) d')) (nat_lt (digit_value b) 16) (Some (digit_value b, x)) None (Some (digit_value b, y)) None
+      both_ways (λ (d d' : Option (ℕ × Text)). Along (hexadecimal_on (hexadecimal_at n) v (b ∷ x) d)
+      (hexadecimal_on (hexadecimal_at n) v (b ∷ y) d')) (nat_lt (digit_value b) 16) (Some (digit_value b, x)) None
+      (Some (digit_value b, y)) None
       (hexadecimal_along n (v * 16 + digit_value b) e) (along_here v (b ∷ e))
 
   past_any : (r : Text × Text) (x : Option (Text × Text)) → length r.1 ≤ length a → AlongSome (Some r) x
@@ -88,7 +101,9 @@ module _ (c : ℕ) (a a' : Text) where
 
   code_along : (n b : ℕ) (e : Text) → AlongSome (code_at n b (e ++ c ∷ a)) (code_at n b (e ++ c ∷ a'))
   code_along n b [] =
-      both_ways (λ (p q : Option (Text × Text)). AlongSome p q) (is_hexadecimal c) (character (hexadecimal_at n 0 (c ∷ a))) (Some (b ∷ [], c ∷ a)) (character (hexadecimal_at n 0 (c ∷ a'))) (Some (b ∷ [], c ∷ a'))
+      both_ways (λ (p q : Option (Text × Text)). AlongSome p q) (is_hexadecimal c)
+      (character (hexadecimal_at n 0 (c ∷ a))) (Some (b ∷ [], c ∷ a)) (character (hexadecimal_at n 0 (c ∷ a')))
+      (Some (b ∷ [], c ∷ a'))
       (character_along (hexadecimal_at n 0 (c ∷ a)) (hexadecimal_at n 0 (c ∷ a')) (hexadecimal_along n 0 [])) (along_here (b ∷ []) [])
   code_along n b (x ∷ e) =
       let p = x ∷ (e ++ c ∷ a) in
@@ -98,7 +113,8 @@ module _ (c : ℕ) (a a' : Text) where
 
   wide_along : (e : Text) → AlongSome (wide_code_at (e ++ c ∷ a)) (wide_code_at (e ++ c ∷ a'))
   wide_along [] = both_ways (λ (p q : Option (Text × Text)). AlongSome p q) (is_hexadecimal c) None (Some (85 ∷ [], c ∷ a)) None (Some (85 ∷ [], c ∷ a')) tt (along_here (85 ∷ []) [])
-  wide_along (x ∷ e) = both_ways (λ (p q : Option (Text × Text)). AlongSome p q) (is_hexadecimal x) None (Some (85 ∷ [], x ∷ (e ++ c ∷ a))) None (Some (85 ∷ [], x ∷ (e ++ c ∷ a'))) tt (along_here (85 ∷ []) (x ∷ e))
+  wide_along (x ∷ e) = both_ways (λ (p q : Option (Text × Text)). AlongSome p q) (is_hexadecimal x) None
+      (Some (85 ∷ [], x ∷ (e ++ c ∷ a))) None (Some (85 ∷ [], x ∷ (e ++ c ∷ a'))) tt (along_here (85 ∷ []) (x ∷ e))
 
   -- a run
   run_along : (p : ℕ → Bool) (e : Text) → Along (take_while p (e ++ c ∷ a), drop_while p (e ++ c ∷ a)) (take_while p (e ++ c ∷ a'), drop_while p (e ++ c ∷ a'))
@@ -107,7 +123,10 @@ module _ (c : ℕ) (a a' : Text) where
     byte true h = inr (rw h (end_no_longer a (drop_while p a) (back_end p a)))
     byte false h = rw h (inl (refl, [], refl, refl))
   run_along p (b ∷ e) = byte (p b) refl (run_along p e) where
-    byte : (t : Bool) → p b ≡ t → Along (take_while p (e ++ c ∷ a), drop_while p (e ++ c ∷ a)) (take_while p (e ++ c ∷ a'), drop_while p (e ++ c ∷ a')) → Along (take_while p (b ∷ (e ++ c ∷ a)), drop_while p (b ∷ (e ++ c ∷ a))) (take_while p (b ∷ (e ++ c ∷ a')), drop_while p (b ∷ (e ++ c ∷ a')))
+    byte : (t : Bool) → p b ≡ t → Along (take_while p (e ++ c ∷ a), drop_while p (e ++ c ∷ a))
+        (take_while p (e ++ c ∷ a'), drop_while p (e ++ c ∷ a'))
+        → Along (take_while p (b ∷ (e ++ c ∷ a)), drop_while p (b ∷ (e ++ c ∷ a)))
+        (take_while p (b ∷ (e ++ c ∷ a')), drop_while p (b ∷ (e ++ c ∷ a')))
     byte true h so = rw h (elim so [ inl k ↦ inl (ap (λ xs. b ∷ xs) k.0, k.1, k.2, k.3) | inr more ↦ inr more ])
     byte false h so = rw h (inl (refl, b ∷ e, refl, refl))
 
@@ -125,9 +144,13 @@ module _ (c : ℕ) (a a' : Text) where
       (code_along 2 b e) (code_along 4 b e) (wide_along e)
       (value_along (λ t. b ∷ t) (take_while is_continuation x, drop_while is_continuation x) (take_while is_continuation y, drop_while is_continuation y) (run_along is_continuation e))
       (along_here (letter_value b ∷ []) e) where
-        go : (t u v w x y : Bool) (p q : Text) → AlongSome {A = Text} (Some (32 ∷ [], drop_while is_blank_or_tab p)) (Some (32 ∷ [], drop_while is_blank_or_tab q)) → AlongSome (character (octal_at 3 0 (b ∷ p))) (character (octal_at 3 0 (b ∷ q)))
+        go : (t u v w x y : Bool) (p q : Text) → AlongSome {A = Text} (Some (32 ∷ [], drop_while is_blank_or_tab p))
+            (Some (32 ∷ [], drop_while is_blank_or_tab q)) → AlongSome (character (octal_at 3 0 (b ∷ p)))
+            (character (octal_at 3 0 (b ∷ q)))
             → AlongSome (code_at 2 b p) (code_at 2 b q) → AlongSome (code_at 4 b p) (code_at 4 b q) → AlongSome (wide_code_at p) (wide_code_at q)
-            → AlongSome {A = Text} (Some (b ∷ take_while is_continuation p, drop_while is_continuation p)) (Some (b ∷ take_while is_continuation q, drop_while is_continuation q)) → AlongSome {A = Text} (Some (letter_value b ∷ [], p)) (Some (letter_value b ∷ [], q))
+            → AlongSome {A = Text} (Some (b ∷ take_while is_continuation p, drop_while is_continuation p))
+            (Some (b ∷ take_while is_continuation q, drop_while is_continuation q))
+            → AlongSome {A = Text} (Some (letter_value b ∷ [], p)) (Some (letter_value b ∷ [], q))
             → AlongSome (escape_of b t u v w x y p) (escape_of b t u v w x y q)
         go true u v w x y p q h1 h2 h3 h4 h5 h6 h7 = h1
         go false true v w x y p q h1 h2 h3 h4 h5 h6 h7 = h2

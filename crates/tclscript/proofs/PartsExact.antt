@@ -1,5 +1,7 @@
 -- Parts are read exactly.
-use Rattle.std.proofs.Common.{◌≡◌, ◌≢◌, ℕ, zero, suc, ◌<◌, [], ◌∷◌, ◌++◌, length, Bool, true, false, not, ◌==◌, Option, Some, None, Result, Ok, Err, refl, sym, ap, ap₂, subst, ◌∙◌, arith, append_assoc, append-nil, ◌⊎◌, inl, inr}
+use Rattle.std.proofs.Common.{◌≡◌, ◌≢◌, ℕ, zero, suc, ◌<◌, [], ◌∷◌, ◌++◌, length, Bool, true, false, not, ◌==◌, Option}
+use Rattle.std.proofs.Common.{Some, None, Result, Ok, Err, refl, sym, ap, ap₂, subst, ◌∙◌, arith, append_assoc}
+use Rattle.std.proofs.Common.{append-nil, ◌⊎◌, inl, inr}
 use Rattle.std.proofs.lemmas.Bool.Decides.{nat_tests}
 use Rattle.tclchars.specs.Runs.{Text, take_while, drop_while, begins}
 use Rattle.tclchars.specs.Bytes.{newline, DoesBegin}
@@ -12,17 +14,21 @@ use Rattle.tclchars.proofs.Results.{bind_err, bind_ok, err_same, ok_err, ok_pair
 use Rattle.tclscript.specs.declared.context.Context.{Context}
 use Rattle.tclscript.specs.declared.context.Context.TheVariants.{InScript, InBracket, InIndex, InQuotes}
 use Rattle.tclscript.specs.Tree as tree
-use Rattle.tclscript.specs.Tree.{Commands, no_commands, command, Parts, part, Part, literal, variable, indexed, bracket, nesting}
+use Rattle.tclscript.specs.Tree.{Commands, no_commands, command, Parts, part, Part, literal, variable, indexed, bracket}
+use Rattle.tclscript.specs.Tree.{nesting}
 use Rattle.tclscript.specs.Ends.{script_ends, ends_at, parts_end, class_of}
 use Rattle.tclscript.specs.Grammar.{IsRun, IsLiteral, IsCommands, IsPart}
 use Rattle.tclscript.specs.Faults as faults
 use Rattle.tclscript.specs.Faults.{PartFault}
-use Rattle.tclscript.specs.Reading.{Inner, on_mark, after_closing, bracket_at, dollar_at, escaped, backslash_at, literal_at, part_at}
+use Rattle.tclscript.specs.Reading.{Inner, on_mark, after_closing, bracket_at, dollar_at, escaped, backslash_at}
+use Rattle.tclscript.specs.Reading.{literal_at, part_at}
 use Rattle.tclscript.specs.Pieces.{IsSuffixOf}
 use Rattle.tclscript.proofs.Escapes.{LeavesSome, backslash_end}
 use Rattle.tclscript.proofs.Exact.{Took}
-use Rattle.tclscript.proofs.Marks.{true_false, Without, mark_or_none, on_mark-not, closed_ok, closed_err, after_closing-at, none_before, run_taken, front_run, back_run}
-use Rattle.tclscript.proofs.Dollars.{ScriptFault, IsExactInner, DollarIs, dollar_sound, dollar_faulty, dollar_alone, variable_again, braced_variable_again, indexed_again}
+use Rattle.tclscript.proofs.Marks.{true_false, Without, mark_or_none, on_mark-not, closed_ok, closed_err}
+use Rattle.tclscript.proofs.Marks.{after_closing-at, none_before, run_taken, front_run, back_run}
+use Rattle.tclscript.proofs.Dollars.{ScriptFault, IsExactInner, DollarIs, dollar_sound, dollar_faulty, dollar_alone}
+use Rattle.tclscript.proofs.Dollars.{variable_again, braced_variable_again, indexed_again}
 
 -- commands go on up to their end
 pub commands_close : (size : ℕ) (nested : Bool) (s : Commands) (t r : Text) → IsCommands size nested s t r → script_ends nested r ≡ true
@@ -170,7 +176,8 @@ module _ (d : ℕ) (inner : Inner) (exact : IsExactInner d inner) where
                   let k = exact.script.sound bs s r tt was in
                   let none : r ≡ [] = none_before 93 r (bracket_or_end r (commands_close (length k.taken) true s k.taken r k.is.0)) e.1 in
                   let whole : k.taken ≡ bs = sym (append-nil k.taken) ∙ ap (λ ys. k.taken ++ ys) (sym none) ∙ sym k.whole in
-                  let inside : IsCommands (length bs) true s bs [] = subst (λ xs. IsCommands (length xs) true s xs []) whole (subst (λ ys. IsCommands (length k.taken) true s k.taken ys) none k.is.0) in
+                  let inside : IsCommands (length bs) true s bs [] = subst (λ xs. IsCommands (length xs) true s xs [])
+                  whole (subst (λ ys. IsCommands (length k.taken) true s k.taken ys) none k.is.0) in
                   subst (PartFault d (91 ∷ bs)) e.0 (open_at d s inside k.is.1)
                   )
               | inr k ↦ absurd (ok_err (bracket s, k.0) f k.2)
@@ -256,7 +263,9 @@ module _ (d : ℕ) (inner : Inner) (exact : IsExactInner d inner) where
   at_literal : (c : Context) (bs : Text) → Without 36 bs → Without 91 bs → Without 92 bs → part_at c inner bs ≡ literal_at c bs
   unfolding part_at
   at_literal c bs x y z =
-      on_mark-not 36 bs (dollar_at inner) (from_bracket c bs) x ∙ on_mark-not 91 bs (bracket_at inner) (on_mark 92 bs backslash_at (literal_at c bs)) y ∙ on_mark-not 92 bs backslash_at (literal_at c bs) z
+      on_mark-not 36 bs (dollar_at inner) (from_bracket c bs) x
+      ∙ on_mark-not 91 bs (bracket_at inner) (on_mark 92 bs backslash_at (literal_at c bs)) y
+      ∙ on_mark-not 92 bs backslash_at (literal_at c bs) z
 
   abbrev pub PartIs : Context → Part → Text → Text → Type 0
   PartIs c p t r = (parts_end c (t ++ r) ≡ false) × DollarIs d c p t r
@@ -267,7 +276,8 @@ module _ (d : ℕ) (inner : Inner) (exact : IsExactInner d inner) where
   there : (c : Context) (bs bs' : Text) (p : Part) (r : Text) → bs ≡ bs' → PartsFollow c bs → Took (DollarIs d c) bs' p r → Took (PartIs c) bs p r
   there c bs bs' p r e b k = record { taken = k.taken; whole = e ∙ k.whole; is = (subst (PartsFollow c) (e ∙ k.whole) b, k.is) }
 
-  begun : (c : Context) (b : ℕ) (bs : Text) → PartsFollow c (b ∷ bs) → Without 36 (b ∷ bs) → Without 91 (b ∷ bs) → Without 92 (b ∷ bs) → DoesBegin (in_class (class_of c)) (take_while (in_class (class_of c)) (b ∷ bs))
+  begun : (c : Context) (b : ℕ) (bs : Text) → PartsFollow c (b ∷ bs) → Without 36 (b ∷ bs) → Without 91 (b ∷ bs)
+      → Without 92 (b ∷ bs) → DoesBegin (in_class (class_of c)) (take_while (in_class (class_of c)) (b ∷ bs))
   begun c b bs h x y z = rw (other_byte c b bs h x y z) (other_byte c b bs h x y z)
 
   some_text : (c : Context) → PartsFollow c [] → ⊥
@@ -337,7 +347,9 @@ module _ (d : ℕ) (inner : Inner) (exact : IsExactInner d inner) where
   part_again c (tree.backslash v) t r h = ap (λ xs. part_at c inner (xs ++ r)) h.0.1 ∙ at_backslash c (h.0.0 ++ r) ∙ backslash_again h.0.0 r v h.0.2
   part_again c (variable name) t r (inl h, less) = ap (λ xs. part_at c inner (xs ++ r)) h.0 ∙ at_dollar c (name ++ r) ∙ variable_again d inner exact name r h.1 h.2 h.3
   part_again c (variable name) t r (inr h, less) =
-      ap (λ xs. part_at c inner (xs ++ r)) h.0 ∙ at_dollar c ((123 ∷ (name ++ 125 ∷ [])) ++ r) ∙ ap (λ xs. dollar_at inner (123 ∷ xs)) (append_assoc name (125 ∷ []) r) ∙ braced_variable_again d inner exact name r h.1
+      ap (λ xs. part_at c inner (xs ++ r)) h.0 ∙ at_dollar c ((123 ∷ (name ++ 125 ∷ [])) ++ r)
+      ∙ ap (λ xs. dollar_at inner (123 ∷ xs)) (append_assoc name (125 ∷ []) r)
+      ∙ braced_variable_again d inner exact name r h.1
   part_again c (indexed name ps) t r h =
       let inside = h.0.0 in
       ap (λ xs. part_at c inner (xs ++ r)) h.0.1 ∙ at_dollar c ((name ++ 40 ∷ (inside ++ 41 ∷ [])) ++ r)
@@ -345,4 +357,6 @@ module _ (d : ℕ) (inner : Inner) (exact : IsExactInner d inner) where
       ∙ indexed_again d inner exact name inside r ps h.0.2 h.0.3 (omega (arith, h.1))
   part_again c (bracket s) t r h =
       let inside = h.0.0 in
-      ap (λ xs. part_at c inner (xs ++ r)) h.0.1 ∙ at_bracket c ((inside ++ 93 ∷ []) ++ r) ∙ ap (bracket_at inner) (append_assoc inside (93 ∷ []) r) ∙ bracket_again inside r s h.0.2 (omega (arith, h.1))
+      ap (λ xs. part_at c inner (xs ++ r)) h.0.1 ∙ at_bracket c ((inside ++ 93 ∷ []) ++ r)
+      ∙ ap (bracket_at inner) (append_assoc inside (93 ∷ []) r)
+      ∙ bracket_again inside r s h.0.2 (omega (arith, h.1))

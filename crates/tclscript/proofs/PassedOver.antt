@@ -1,13 +1,16 @@
 -- What is passed over: blanks, gaps and names, as the grammar has them.
-use Rattle.std.proofs.Common.{◌≡◌, ◌≢◌, ℕ, zero, suc, ◌<◌, [], ◌∷◌, ◌++◌, length, Bool, true, false, ◌||◌, ◌&&◌, ◌==◌, Option, Some, None, refl, sym, ap, subst, ◌∙◌, arith, append_assoc, ◌⊎◌, inl, inr}
+use Rattle.std.proofs.Common.{◌≡◌, ◌≢◌, ℕ, zero, suc, ◌<◌, [], ◌∷◌, ◌++◌, length, Bool, true, false, ◌||◌, ◌&&◌, ◌==◌}
+use Rattle.std.proofs.Common.{Option, Some, None, refl, sym, ap, subst, ◌∙◌, arith, append_assoc, ◌⊎◌, inl, inr}
 use Rattle.std.proofs.lemmas.Bool.Decides.{nat_tests}
 use Rattle.tclchars.specs.Runs.{Text, begins}
 use Rattle.tclchars.specs.Bytes.{newline, hash, backslash, is_blank, is_gap}
-use Rattle.tclscript.specs.ScanState.{ScanState, Blanks, AwaitsNewline, Gap, Comment, Escaped, step, put_before, scan_on, scan, skip_blanks, skip_gap}
+use Rattle.tclscript.specs.ScanState.{ScanState, Blanks, AwaitsNewline, Gap, Comment, Escaped, step, put_before}
+use Rattle.tclscript.specs.ScanState.{scan_on, scan, skip_blanks, skip_gap}
 use Rattle.tclscript.specs.Grammar as grammar
 use Rattle.tclscript.specs.Grammar.{IsBlanks, IsComment, IsGap}
 
-whole_on : (b : ℕ) (bs : Text) (next : Option ScanState) → ((p : ScanState) → bs ≡ (scan p bs).0 ++ (scan p bs).1) → b ∷ bs ≡ (scan_on b bs (λ p. scan p bs) next).0 ++ (scan_on b bs (λ p. scan p bs) next).1
+whole_on : (b : ℕ) (bs : Text) (next : Option ScanState) → ((p : ScanState) → bs ≡ (scan p bs).0 ++ (scan p bs).1)
+    → b ∷ bs ≡ (scan_on b bs (λ p. scan p bs) next).0 ++ (scan_on b bs (λ p. scan p bs) next).1
 whole_on b bs None all = refl
 whole_on b bs (Some p) all = ap (λ xs. b ∷ xs) (all p)
 
@@ -64,7 +67,9 @@ joined_taken (b ∷ bs) h all =
     let e : scan AwaitsNewline (b ∷ bs) ≡ put_before newline (scan Blanks bs) = ap (λ b. scan AwaitsNewline (b ∷ bs)) is ∙ scan-on AwaitsNewline Blanks newline bs refl in
     subst LineTaken (sym e) (grammar.IsBlanks.line k.0, k.1)
 
-blanks_cases : (b : ℕ) (bs : Text) (t u : Bool) → is_blank b ≡ t → begins_line b bs ≡ u → ((more : Text) → length more < length (b ∷ bs) → BlanksTaken (scan Blanks more)) → BlanksTaken (scan Blanks (b ∷ bs))
+blanks_cases : (b : ℕ) (bs : Text) (t u : Bool) → is_blank b ≡ t → begins_line b bs ≡ u
+    → ((more : Text) → length more < length (b ∷ bs) → BlanksTaken (scan Blanks more))
+    → BlanksTaken (scan Blanks (b ∷ bs))
 blanks_cases b bs true u h k all =
     let m = all bs (omega arith) in
     subst BlanksTaken (sym (scan-on Blanks Blanks b bs (blank_step b bs h))) (grammar.IsBlanks.blank h m.0, m.1)

@@ -2,7 +2,9 @@
 use Rattle.std.proofs.Common.{◌≡◌, ℕ, [], ◌∷◌, ◌++◌, Bool, true, false, ◌||◌, ◌&&◌, ◌==◌, Option, Some, None, refl, ap}
 use Rattle.tclchars.specs.Bytes.{newline, hash, backslash, is_gap, is_blank}
 use Rattle.tclchars.specs.Runs.{Text, begins}
-use Rattle.tclscript.specs.ScanState.{ScanState, Blanks, AwaitsNewline, Gap, Comment, Escaped, Name, Colons, step, step_blanks, step_newline, step_gap, step_comment, scan, scan_on, skip_blanks, skip_gap}
+use Rattle.tclscript.specs.ScanState.{ScanState, Blanks, AwaitsNewline, Gap, Comment, Escaped, Name, Colons, step}
+use Rattle.tclscript.specs.ScanState.{step_blanks, step_newline, step_gap, step_comment, scan, scan_on, skip_blanks}
+use Rattle.tclscript.specs.ScanState.{skip_gap}
 use Rattle.tclscript.specs.Pieces.{IsSuffixOf, IsPrefixOf}
 
 pub scan-nil : (state : ScanState) → scan state [] ≡ ([], [])

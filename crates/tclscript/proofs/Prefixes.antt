@@ -1,10 +1,14 @@
 -- Up to an offending character a text goes on to a script, and with it to none.
-use Rattle.std.proofs.Common.{◌≡◌, ◌≢◌, ℕ, zero, suc, ◌+◌, ◌*◌, ◌<◌, ◌≤◌, [], ◌∷◌, ◌++◌, length, Bool, true, false, ◌&&◌, ◌==◌, nat_lt, nat_le, if◌then◌else◌, Option, Some, None, refl, sym, subst, ◌∙◌, arith, ◌⊎◌, inl, inr}
+use Rattle.std.proofs.Common.{◌≡◌, ◌≢◌, ℕ, zero, suc, ◌+◌, ◌*◌, ◌<◌, ◌≤◌, [], ◌∷◌, ◌++◌, length, Bool, true, false}
+use Rattle.std.proofs.Common.{◌&&◌, ◌==◌, nat_lt, nat_le, if◌then◌else◌, Option, Some, None, refl, sym, subst, ◌∙◌}
+use Rattle.std.proofs.Common.{arith, ◌⊎◌, inl, inr}
 use Rattle.std.specs.Prelude.{encode_utf8}
 use Rattle.std.proofs.lemmas.Bool.Decides.{nat_tests}
 use Rattle.tclchars.specs.Runs.{Text, take_while, drop_while}
 use Rattle.tclchars.specs.Bytes.{newline, is_continuation}
-use Rattle.tclchars.specs.Backslash.{is_octal, is_blank_or_tab, digit_at, octal_on, octal_at, hexadecimal_on, hexadecimal_at, character, begins_hexadecimal, code_at, wide_code_at, letter_value, after_backslash}
+use Rattle.tclchars.specs.Backslash.{is_octal, is_blank_or_tab, digit_at, octal_on, octal_at, hexadecimal_on}
+use Rattle.tclchars.specs.Backslash.{hexadecimal_at, character, begins_hexadecimal, code_at, wide_code_at, letter_value}
+use Rattle.tclchars.specs.Backslash.{after_backslash}
 use Rattle.tclchars.proofs.BackslashLemmas.{digit_below}
 use Rattle.tclchars.specs.declared.fault.Fault.{Fault}
 use Rattle.tclchars.specs.declared.fault.Fault.TheVariants.{TooDeep}
@@ -12,7 +16,8 @@ use Rattle.tclscript.specs.declared.context.Context.{Context}
 use Rattle.tclscript.specs.Tree.{Commands, nesting}
 use Rattle.tclscript.specs.Grammar.{IsScript}
 use Rattle.tclscript.specs.Faults as faults
-use Rattle.tclscript.specs.Faults.{CommandsFault, CommandFault, WordsFault, WordFault, UnexpandedWordFault, PartsFault, PartFault, IsFault}
+use Rattle.tclscript.specs.Faults.{CommandsFault, CommandFault, WordsFault, WordFault, UnexpandedWordFault, PartsFault}
+use Rattle.tclscript.specs.Faults.{PartFault, IsFault}
 use Rattle.tclscript.proofs.Whole.{no_tree}
 use Rattle.tclscript.proofs.ViablePrefixes.{Kind, joined, escape, mark, Kept, same_cut, commands_move}
 
@@ -21,7 +26,9 @@ use Rattle.tclscript.proofs.ViablePrefixes.{Kind, joined, escape, mark, Kept, sa
 mutual
   commands_deeper : {d : ℕ} {nested : Bool} {bs : Text} {f : Fault} → CommandsFault d nested bs f → (e : ℕ) → d ≤ e → f ≢ TooDeep → CommandsFault e nested bs f
   commands_deeper (faults.CommandsFault.first_command gap h free k) e more some = faults.CommandsFault.first_command gap h free (command_deeper k e more some)
-  commands_deeper (faults.CommandsFault.later_command gap source body ws h free k deep l) e more some = faults.CommandsFault.later_command gap source body ws h free k (omega (arith, deep, more)) (commands_deeper l e more some)
+  commands_deeper (faults.CommandsFault.later_command gap source body ws h free k deep l) e more some =
+      faults.CommandsFault.later_command gap source body ws h free k (omega (arith, deep, more))
+      (commands_deeper l e more some)
 
   command_deeper : {d : ℕ} {nested : Bool} {bs : Text} {f : Fault} → CommandFault d nested bs f → (e : ℕ) → d ≤ e → f ≢ TooDeep → CommandFault e nested bs f
   command_deeper (faults.CommandFault.first_word h) e more some = faults.CommandFault.first_word (word_deeper h e more some)
@@ -66,7 +73,9 @@ marked joined n = λ h. cc
 marked escape n = λ h. cc
 
 -- With what offends, and anything behind it, there is no script, however deep it nests.
-pub no_further : (kind : Kind) (d : ℕ) (before keep s t : Text) → IsFault d (before ++ (keep ++ s)) (mark kind (length (keep ++ s))) → Kept kind keep s t → (tree : Commands) → IsScript (before ++ (keep ++ t)) tree → ⊥
+pub no_further : (kind : Kind) (d : ℕ) (before keep s t : Text)
+    → IsFault d (before ++ (keep ++ s)) (mark kind (length (keep ++ s))) → Kept kind keep s t → (tree : Commands)
+    → IsScript (before ++ (keep ++ t)) tree → ⊥
 no_further kind d before keep s t h k tree is =
     let m = commands_move kind h (length (keep ++ s)) refl in
     let cut = same_cut before (keep ++ s) m.before m.rest m.whole (sym m.long) in

@@ -1,5 +1,6 @@
 -- Ranges of bytes that cut no character.
-use Rattle.std.proofs.Common.{◌≡◌, ℕ, ◌+◌, ◌-◌, ◌<◌, ◌≤◌, length, take, drop, Bool, true, false, nat_lt, nat_le, refl, sym, ap, ap₂, subst, ◌∙◌, arith}
+use Rattle.std.proofs.Common.{◌≡◌, ℕ, ◌+◌, ◌-◌, ◌<◌, ◌≤◌, length, take, drop, Bool, true, false, nat_lt, nat_le, refl}
+use Rattle.std.proofs.Common.{sym, ap, ap₂, subst, ◌∙◌, arith}
 use Rattle.std.specs.Prelude.{slice_index}
 use Rattle.std.proofs.lemmas.Bool.Decides.{nat_tests}
 use Rattle.std.specs.Str.{IsUtf8, IsCharBoundary}
@@ -48,7 +49,8 @@ between_piece bs rest piece u v e f =
     between_is bs n (n + length piece) (omega arith) cut last ∙ ap₂ (λ (k : ℕ) (xs : Text). take k xs) long here ∙ front_take rest piece f
 
 -- the same, where the range begins so far from the front
-pub between_at : (bs rest piece : Text) (start : ℕ) → IsUtf8 rest → IsUtf8 piece → IsSuffixOf bs rest → IsPrefixOf rest piece → start + length rest ≡ length bs → between bs start (start + length piece) ≡ piece
+pub between_at : (bs rest piece : Text) (start : ℕ) → IsUtf8 rest → IsUtf8 piece → IsSuffixOf bs rest
+    → IsPrefixOf rest piece → start + length rest ≡ length bs → between bs start (start + length piece) ≡ piece
 between_at bs rest piece start u v e f at =
     let same : start ≡ length bs - length rest = omega (arith, at) in
     ap (λ (n : ℕ). between bs n (n + length piece)) same ∙ between_piece bs rest piece u v e f

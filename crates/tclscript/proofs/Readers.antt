@@ -1,5 +1,6 @@
 -- What each reader leaves is an end of its text, and shorter where something was read.
-use Rattle.std.proofs.Common.{◌≡◌, ℕ, zero, suc, ◌-◌, ◌<◌, ◌≤◌, [], ◌∷◌, ◌++◌, length, Bool, true, false, ◌==◌, Option, Some, None, Ok, Err, refl, sym, subst, ◌∙◌, arith, append_assoc}
+use Rattle.std.proofs.Common.{◌≡◌, ℕ, zero, suc, ◌-◌, ◌<◌, ◌≤◌, [], ◌∷◌, ◌++◌, length, Bool, true, false, ◌==◌, Option}
+use Rattle.std.proofs.Common.{Some, None, Ok, Err, refl, sym, subst, ◌∙◌, arith, append_assoc}
 use Rattle.std.proofs.lemmas.Bool.Decides.{nat_tests}
 use Rattle.tclchars.specs.Runs.{Text, drop_while, begins}
 use Rattle.tclchars.specs.Classes.{in_class}
@@ -16,7 +17,11 @@ use Rattle.tclscript.specs.ScanState.{Blanks, Gap, Name, scan, skip_blanks, skip
 use Rattle.tclscript.specs.Pieces.{IsSuffixOf}
 use Rattle.tclscript.specs.Tree.{word_of, parts_of, commands_of, indexed}
 use Rattle.tclscript.specs.Ends.{script_ends, command_ends, word_ends, parts_end, class_of, bare}
-use Rattle.tclscript.specs.Reading.{on_mark, after_closing, require_word_end, Inner, bracket_at, index_at, braced_name_at, scalar_variable, after_name, dollar_at, escaped, backslash_at, part_at, parts_with, word_in_braces, braced_word_at, quoted_word_at, unexpanded_word_at, unless_word_ends, after_expansion, word_from, word_at, words_at, command_at, command_in, script_with, inner_at}
+use Rattle.tclscript.specs.Reading.{on_mark, after_closing, require_word_end, Inner, bracket_at, index_at}
+use Rattle.tclscript.specs.Reading.{braced_name_at, scalar_variable, after_name, dollar_at, escaped, backslash_at}
+use Rattle.tclscript.specs.Reading.{part_at, parts_with, word_in_braces, braced_word_at, quoted_word_at}
+use Rattle.tclscript.specs.Reading.{unexpanded_word_at, unless_word_ends, after_expansion, word_from, word_at, words_at}
+use Rattle.tclscript.specs.Reading.{command_at, command_in, script_with, inner_at}
 use Rattle.tclscript.proofs.Ends.{end_same, end_through, end_no_longer, IsBehind, behind_mark, behind_through, end_mark}
 use Rattle.tclscript.proofs.Escapes.{either, back_end, LeavesSome, backslash_end}
 use Rattle.tclscript.proofs.Passes.{pass_end}
@@ -46,7 +51,9 @@ module _ {X : Type 0} (skip : Text → Text) (ends : Text → Bool) (one : Text 
     go : ((xs : Text) → Leaves (IsSuffixOf xs) (items_at skip ends one n xs)) → (t : Bool) → Leaves (IsSuffixOf bs) (items_step one (items_at skip ends one n) (skip bs) t)
     go more true = skips bs
     go more false = leaves_then (IsSuffixOf (skip bs)) (IsSuffixOf bs) (one (skip bs)) _ (ones (skip bs))
-        (λ x rest e. leaves_map (IsSuffixOf bs) (λ xs. x ∷ xs) _ (leaves_also (IsSuffixOf rest) (IsSuffixOf bs) _ (λ last f. end_through bs rest last (end_through bs (skip bs) rest (skips bs) e) f) (more rest)))
+        (λ x rest e. leaves_map (IsSuffixOf bs) (λ xs. x ∷ xs) _
+        (leaves_also (IsSuffixOf rest) (IsSuffixOf bs) _ (λ last f. end_through bs rest last
+        (end_through bs (skip bs) rest (skips bs) e) f) (more rest)))
 
   -- something was read where an item is there
   pub items_behind : (n : ℕ) (bs : Text) → ends (skip bs) ≡ false → Leaves (IsBehind (skip bs)) (one (skip bs)) → Leaves (IsBehind bs) (items_at skip ends one (suc n) bs)
@@ -83,7 +90,9 @@ module _ (inner : Inner) (inside : InnerLeaves inner) where
 
 braced_name_leaves : (bs : Text) → Leaves (IsSuffixOf bs) (braced_name_at bs)
 unfolding braced_name_at
-braced_name_leaves bs = text_then (IsSuffixOf (drop_while (in_class InBracedName) bs)) (IsSuffixOf bs) (after_closing 125 _ (drop_while (in_class InBracedName) bs)) _ (closed_leaves 125 _ (drop_while (in_class InBracedName) bs))
+braced_name_leaves bs = text_then (IsSuffixOf (drop_while (in_class InBracedName) bs)) (IsSuffixOf bs)
+    (after_closing 125 _ (drop_while (in_class InBracedName) bs)) _
+    (closed_leaves 125 _ (drop_while (in_class InBracedName) bs))
     (λ rest e. end_through bs (drop_while (in_class InBracedName) bs) rest (back_end (in_class InBracedName) bs) e)
 
 escaped_leaves : (bs : Text) (found : Option (Text × Text)) → LeavesSome (IsSuffixOf bs) found → Leaves (IsSuffixOf bs) (escaped bs found)
@@ -105,7 +114,8 @@ spans InQuotes b bs h k l m = grind (arith, nat_tests)
 no_mark : (mark b : ℕ) (bs : Text) → begins mark (b ∷ bs) ≡ false → (b == mark) ≡ false
 no_mark mark b bs h = h
 
-pub literal_behind : (context : Context) (bs : Text) → parts_end context bs ≡ false → begins 36 bs ≡ false → begins 91 bs ≡ false → begins 92 bs ≡ false → IsBehind bs (drop_while (in_class (class_of context)) bs)
+pub literal_behind : (context : Context) (bs : Text) → parts_end context bs ≡ false → begins 36 bs ≡ false
+    → begins 91 bs ≡ false → begins 92 bs ≡ false → IsBehind bs (drop_while (in_class (class_of context)) bs)
 literal_behind InScript [] h k l m = cc
 literal_behind InBracket [] h k l m = cc
 literal_behind InIndex [] h k l m = cc
@@ -117,7 +127,10 @@ literal_behind context (b ∷ bs) h k l m =
 module _ (inner : Inner) (inside : InnerLeaves inner) where
   name_leaves : (bs : Text) (p : Text × Text) → IsSuffixOf bs p.1 → Leaves (IsSuffixOf bs) (after_name inner p)
   name_leaves bs p e = at_mark (Leaves (IsSuffixOf bs)) 40 p.1 (λ xs. read_map (indexed p.0) (index_at inner xs)) (Ok (scalar_variable p.0, p.1))
-      (λ xs is. leaves_map (IsSuffixOf bs) (indexed p.0) (index_at inner xs) (leaves_also (IsSuffixOf xs) (IsSuffixOf bs) (index_at inner xs) (λ rest f. end_through bs xs rest (end_through bs p.1 xs e (end_mark p.1 40 xs is)) f) (index_leaves inner inside xs)))
+      (λ xs is. leaves_map (IsSuffixOf bs) (indexed p.0) (index_at inner xs)
+      (leaves_also (IsSuffixOf xs) (IsSuffixOf bs) (index_at inner xs)
+      (λ rest f. end_through bs xs rest (end_through bs p.1 xs e (end_mark p.1 40 xs is)) f)
+      (index_leaves inner inside xs)))
       (λ h. e)
 
   pub dollar_leaves : (bs : Text) → Leaves (IsSuffixOf bs) (dollar_at inner bs)
@@ -153,7 +166,9 @@ module _ (inner : Inner) (inside : InnerLeaves inner) where
 
   pub parts_behind : (context : Context) (bs : Text) → parts_end context bs ≡ false → Leaves (IsBehind bs) (parts_with context inner bs)
   unfolding parts_with
-  parts_behind context bs e = leaves_map (IsBehind bs) parts_of _ (items_behind (λ xs. xs) (parts_end context) (part_at context inner) end_same (part_leaves context) (length bs) bs e (part_behind context bs e))
+  parts_behind context bs e = leaves_map (IsBehind bs) parts_of _
+      (items_behind (λ xs. xs) (parts_end context) (part_at context inner) end_same (part_leaves context) (length bs) bs
+      e (part_behind context bs e))
 
 -- Words
 
@@ -258,7 +273,9 @@ module _ (inner : Inner) (inside : InnerLeaves inner) (nested : Bool) where
 
   pub script_leaves : (bs : Text) → Leaves (IsSuffixOf bs) (script_with nested inner bs)
   unfolding script_with
-  script_leaves bs = leaves_map (IsSuffixOf bs) commands_of _ (items_leave skip_gap (script_ends nested) (command_in (length bs) nested inner) gap_end (λ xs. command_leaves (length bs - length xs) xs) (suc (length bs)) bs)
+  script_leaves bs = leaves_map (IsSuffixOf bs) commands_of _
+      (items_leave skip_gap (script_ends nested) (command_in (length bs) nested inner) gap_end
+      (λ xs. command_leaves (length bs - length xs) xs) (suc (length bs)) bs)
 
 pub inner_leaves : (depth : ℕ) → InnerLeaves (inner_at depth)
 unfolding inner_at

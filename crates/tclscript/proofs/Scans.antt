@@ -1,5 +1,6 @@
 -- The loop that takes a name.
-use Rattle.std.proofs.Common.{◌≡◌, ℕ, ◌+◌, ◌-◌, ◌<◌, ◌≤◌, [], ◌∷◌, ◌++◌, length, get_or, take, drop, Bool, true, false, ◌==◌, Some, None, refl, sym, ap, ◌∙◌, arith, append_assoc, append-nil}
+use Rattle.std.proofs.Common.{◌≡◌, ℕ, ◌+◌, ◌-◌, ◌<◌, ◌≤◌, [], ◌∷◌, ◌++◌, length, get_or, take, drop, Bool, true, false}
+use Rattle.std.proofs.Common.{◌==◌, Some, None, refl, sym, ap, ◌∙◌, arith, append_assoc, append-nil}
 use Rattle.std.proofs.lemmas.List.{drop_more, take_more, length-drop}
 use Rattle.std.proofs.Math.Seq.{take-length}
 use Rattle.std.proofs.lemmas.Bool.Decides.{nat_tests}
@@ -62,7 +63,9 @@ pub record Scanned (bs : Text) (after_colon : Bool) (n : ℕ) : Type 0 where
 pub scanned-none : (bs : Text) → IsUtf8 bs → Scanned bs false 0
 scanned-none bs u = record { run = refl; cut = IsCharBoundary-start bs u }
 
-pub scanned-more : (bs : Text) (after_colon : Bool) (n : ℕ) → IsUtf8 bs → n < length bs → is_in_name after_colon (get_or bs n 0) (drop (n + 1) bs) ≡ true → Scanned bs after_colon n → Scanned bs (get_or bs n 0 == colon) (n + 1)
+pub scanned-more : (bs : Text) (after_colon : Bool) (n : ℕ) → IsUtf8 bs → n < length bs
+    → is_in_name after_colon (get_or bs n 0) (drop (n + 1) bs) ≡ true → Scanned bs after_colon n
+    → Scanned bs (get_or bs n 0 == colon) (n + 1)
 scanned-more bs c n u h is s =
     let x = get_or bs n 0 in
     let more = drop (n + 1) bs in
@@ -79,7 +82,9 @@ scanned-more bs c n u h is s =
     }
 
 -- where the next byte is none of the name
-pub scanned-stop : (bs : Text) (after_colon : Bool) (n : ℕ) → n < length bs → is_in_name after_colon (get_or bs n 0) (drop (n + 1) bs) ≡ false → Scanned bs after_colon n → scan Name bs ≡ (take n bs, drop n bs)
+pub scanned-stop : (bs : Text) (after_colon : Bool) (n : ℕ) → n < length bs
+    → is_in_name after_colon (get_or bs n 0) (drop (n + 1) bs) ≡ false → Scanned bs after_colon n
+    → scan Name bs ≡ (take n bs, drop n bs)
 scanned-stop bs c n h is s =
     let x = get_or bs n 0 in
     let more = drop (n + 1) bs in

@@ -1,5 +1,7 @@
 -- Commands and scripts are read exactly.
-use Rattle.std.proofs.Common.{◌≡◌, ℕ, zero, suc, ◌+◌, ◌-◌, ◌<◌, ◌≤◌, List, [], ◌∷◌, ◌++◌, length, take, Bool, true, false, not, ◌||◌, ◌&&◌, ◌==◌, Ok, Err, refl, sym, ap, ap₂, subst, ◌∙◌, arith, append_assoc, length-append, inl, inr}
+use Rattle.std.proofs.Common.{◌≡◌, ℕ, zero, suc, ◌+◌, ◌-◌, ◌<◌, ◌≤◌, List, [], ◌∷◌, ◌++◌, length, take, Bool, true}
+use Rattle.std.proofs.Common.{false, not, ◌||◌, ◌&&◌, ◌==◌, Ok, Err, refl, sym, ap, ap₂, subst, ◌∙◌, arith}
+use Rattle.std.proofs.Common.{append_assoc, length-append, inl, inr}
 use Rattle.std.proofs.lemmas.Bool.Decides.{nat_tests}
 use Rattle.std.proofs.Math.Seq.{take-append_seam}
 use Rattle.tclchars.specs.Runs.{Text}
@@ -8,13 +10,15 @@ use Rattle.tclchars.specs.Reading.{◌>>=◌, Read, read_map, items_at}
 use Rattle.tclchars.specs.declared.fault.Fault.{Fault}
 use Rattle.tclchars.proofs.Results.{bind_err, bind_ok, read_map_err, read_map_ok}
 use Rattle.tclscript.specs.ScanState.{Blanks, Gap, scan, skip_blanks, skip_gap}
-use Rattle.tclscript.specs.Tree.{Commands, no_commands, command, Command, Words, no_words, word, Word, words_of, commands_of, nesting, words_nesting}
+use Rattle.tclscript.specs.Tree.{Commands, no_commands, command, Command, Words, no_words, word, Word, words_of}
+use Rattle.tclscript.specs.Tree.{commands_of, nesting, words_nesting}
 use Rattle.tclscript.specs.Ends.{script_ends, command_ends, word_ends}
 use Rattle.tclscript.specs.Grammar.{IsBlanks, IsGap, IsCommands, IsCommand, IsWords, IsWord}
 use Rattle.tclscript.specs.Faults as faults
 use Rattle.tclscript.specs.Faults.{CommandsFault, CommandFault, WordsFault, WordFault}
 use Rattle.tclscript.specs.Reading.{Inner, word_at, taken, words_at, command_at, command_in, script_with}
-use Rattle.tclscript.proofs.PassedOver.{pass_whole, begins_line, NoBlank, blanks_taken, blanks_over, blanks_stay, NoGap, gap_taken, gap_over, gap_stay}
+use Rattle.tclscript.proofs.PassedOver.{pass_whole, begins_line, NoBlank, blanks_taken, blanks_over, blanks_stay, NoGap}
+use Rattle.tclscript.proofs.PassedOver.{gap_taken, gap_over, gap_stay}
 use Rattle.tclscript.proofs.Exact.{Took, Exact, Items, items-end, items-more, items-fail, items_sound, items_faulty}
 use Rattle.tclscript.proofs.Marks.{true_false, not_true}
 use Rattle.tclscript.proofs.Dollars.{Anywhere, IsExactInner}
@@ -123,7 +127,9 @@ module _ (d : ℕ) (inner : Inner) (exact : IsExactInner d inner) (nested : Bool
   nil : (gap r : Text) → IsBlanksBefore gap r → command_ends nested r ≡ true → WordsAre (words_of []) gap r
   nil gap r h e = ((h, e), omega arith)
 
-  cons : (gap body rest r : Text) (w : Word) (ws : List Word) → IsBlanksBefore gap ((body ++ rest) ++ r) → TheWord w body (rest ++ r) → WordsAre (words_of ws) rest r → WordsAre (words_of (w ∷ ws)) (gap ++ (body ++ rest)) r
+  cons : (gap body rest r : Text) (w : Word) (ws : List Word) → IsBlanksBefore gap ((body ++ rest) ++ r)
+      → TheWord w body (rest ++ r) → WordsAre (words_of ws) rest r
+      → WordsAre (words_of (w ∷ ws)) (gap ++ (body ++ rest)) r
   cons gap body rest r w ws h k l = (
     record { first = gap; second = body ++ rest; whole = refl; is_first = h; is_second = record { first = body; second = rest; whole = refl; is_first = k.0; is_second = l.0 } },
     omega (arith, k.1, l.1),
@@ -136,10 +142,13 @@ module _ (d : ℕ) (inner : Inner) (exact : IsExactInner d inner) (nested : Bool
   later gap body rest w f h k l = faults.WordsFault.word_after gap body w h k.0 k.1 l
 
   words_sound : (bs : Text) (ws : List Word) (r : Text) → words_at nested inner bs ≡ Ok (ws, r) → Took (λ ws t r. WordsAre (words_of ws) t r) bs ws r
-  words_sound bs ws r h = items_sound skip_blanks (command_ends nested) (word_at nested inner) IsBlanksBefore Goes TheWord (WordFault d nested) word_items (λ ws t r. WordsAre (words_of ws) t r) nil cons (suc (length bs)) bs ws r h
+  words_sound bs ws r h = items_sound skip_blanks (command_ends nested) (word_at nested inner) IsBlanksBefore Goes
+      TheWord (WordFault d nested) word_items (λ ws t r. WordsAre (words_of ws) t r) nil cons (suc (length bs)) bs ws r
+      h
 
   words_faulty : (bs : Text) (f : Fault) → words_at nested inner bs ≡ Err f → WordsFault d nested bs f
-  words_faulty bs f h = items_faulty skip_blanks (command_ends nested) (word_at nested inner) IsBlanksBefore Goes TheWord (WordFault d nested) word_items (WordsFault d nested) here later (suc (length bs)) bs f (omega arith) h
+  words_faulty bs f h = items_faulty skip_blanks (command_ends nested) (word_at nested inner) IsBlanksBefore Goes
+      TheWord (WordFault d nested) word_items (WordsFault d nested) here later (suc (length bs)) bs f (omega arith) h
 
   words_list : (ws : Words) (t r : Text) (n : ℕ) → IsWords nested ws t r → words_nesting ws ≤ d → length (t ++ r) < n → (xs : List Word) × (read n (t ++ r) ≡ Ok (xs, r)) × (words_of xs ≡ ws)
   words_list ws t r zero h deep less = absurd (omega arith)
@@ -149,17 +158,23 @@ module _ (d : ℕ) (inner : Inner) (exact : IsExactInner d inner) (nested : Bool
       let body = h.is_second.first in
       let rest = h.is_second.second in
       let is : TheWord w body (rest ++ r) = (h.is_second.is_first, omega (arith, deep)) in
-      let whole : t ++ r ≡ gap ++ (body ++ (rest ++ r)) = ap (λ xs. xs ++ r) (h.whole ∙ ap (λ xs. gap ++ xs) h.is_second.whole) ∙ append_assoc gap (body ++ rest) r ∙ ap (λ xs. gap ++ xs) (append_assoc body rest r) in
+      let whole : t ++ r ≡ gap ++ (body ++ (rest ++ r)) = ap (λ xs. xs ++ r)
+      (h.whole ∙ ap (λ xs. gap ++ xs) h.is_second.whole) ∙ append_assoc gap (body ++ rest) r
+      ∙ ap (λ xs. gap ++ xs) (append_assoc body rest r) in
       let some = word_some nested w body (rest ++ r) h.is_second.is_first in
       let k = words_list ws rest r n h.is_second.is_second (omega (arith, deep)) (omega (arith, ap length whole, length-append gap (body ++ (rest ++ r)), length-append body (rest ++ r))) in (
         w ∷ k.0,
-        ap (read (suc n)) whole ∙ items-more skip_blanks (command_ends nested) (word_at nested inner) IsBlanksBefore Goes TheWord (WordFault d nested) word_items n gap body (rest ++ r) w h.is_first is ∙ ap (read_map (λ xs. w ∷ xs)) k.1,
+        ap (read (suc n)) whole ∙ items-more skip_blanks (command_ends nested) (word_at nested inner) IsBlanksBefore
+            Goes TheWord (WordFault d nested) word_items n gap body (rest ++ r) w h.is_first is
+            ∙ ap (read_map (λ xs. w ∷ xs)) k.1,
         ap (word w) k.2,
       )
 
   words_met : {bs : Text} {f : Fault} → WordsFault d nested bs f → (n : ℕ) → length bs < n → read n bs ≡ Err f
   words_met h zero less = absurd (omega arith)
-  words_met (faults.WordsFault.next_word gap {body = body} {f = f} h k) (suc n) less = items-fail skip_blanks (command_ends nested) (word_at nested inner) IsBlanksBefore Goes TheWord (WordFault d nested) word_items n gap body f h k
+  words_met (faults.WordsFault.next_word gap {body = body} {f = f} h k) (suc n) less = items-fail skip_blanks
+      (command_ends nested) (word_at nested inner) IsBlanksBefore Goes TheWord (WordFault d nested) word_items n gap
+      body f h k
   words_met (faults.WordsFault.word_after gap body w {rest = rest} {f = f} h k deep l) (suc n) less =
       let some = word_some nested w body rest k in
       items-more skip_blanks (command_ends nested) (word_at nested inner) IsBlanksBefore Goes TheWord (WordFault d nested) word_items n gap body rest w h (k, deep)
@@ -217,7 +232,9 @@ module _ (d : ℕ) (inner : Inner) (exact : IsExactInner d inner) (nested : Bool
       | inl bad ↦ (faults.CommandFault.first_word ((word_exact d inner exact nested).faulty bs f b.0 bad), b.1)
       | inr k ↦ (
           let w = (word_exact d inner exact nested).sound bs k.0.0 k.0.1 b.0 k.1 in
-          let bad = words_faulty k.0.1 f (read_map_err (λ ws. let c : Command = record { offset = total - length bs; source = taken bs k.0.1; words = word k.0.0 (words_of ws) } in c) (words_at nested inner k.0.1) f k.2) in
+          let bad = words_faulty k.0.1 f (read_map_err (λ ws. let c : Command = record
+          { offset = total - length bs; source = taken bs k.0.1; words = word k.0.0 (words_of ws) } in c)
+          (words_at nested inner k.0.1) f k.2) in
           (subst (λ xs. CommandFault d nested xs f) (sym w.whole) (faults.CommandFault.later_word w.taken k.0.0 w.is.0 w.is.1 bad), b.1)
           )
     ]
@@ -225,7 +242,8 @@ module _ (d : ℕ) (inner : Inner) (exact : IsExactInner d inner) (nested : Bool
     command_again : (c : Command) (t r : Text) → CommandIs c t r → command_in total nested inner (t ++ r) ≡ Ok (c, r)
     unfolding command_at
     command_again c t r h = named c.source c.words h where
-      named : (source : Text) (ws : Words) → CommandIs (record { offset = c.offset; source = source; words = ws }) t r → command_in total nested inner (t ++ r) ≡ Ok (record { offset = c.offset; source = source; words = ws }, r)
+      named : (source : Text) (ws : Words) → CommandIs (record { offset = c.offset; source = source; words = ws }) t r
+          → command_in total nested inner (t ++ r) ≡ Ok (record { offset = c.offset; source = source; words = ws }, r)
       named source no_words h = absurd h.1
       named source (word w ws) h =
           let rest = h.1.0 in
@@ -236,7 +254,11 @@ module _ (d : ℕ) (inner : Inner) (exact : IsExactInner d inner) (nested : Bool
           let made : ℕ → Text → Words → Read Command = λ offset s ws. Ok (record { offset = offset; source = s; words = word w ws }, r) in
           ap (λ (xs : Text). word_at nested inner xs >>= more_words xs) whole
           ∙ ap (λ (x : Read Word). x >>= more_words (source ++ (rest ++ r))) first
-          ∙ ap (λ (x : Read (List Word)). read_map (λ ws. let c : Command = record { offset = total - length (source ++ (rest ++ r)); source = taken (source ++ (rest ++ r)) (rest ++ r); words = word w (words_of ws) } in c) x) k.1
+          ∙ ap (λ (x : Read (List Word)). read_map (λ ws. let c : Command = record {
+            offset = total - length (source ++ (rest ++ r));
+            source = taken (source ++ (rest ++ r)) (rest ++ r);
+            words = word w (words_of ws);
+          } in c) x) k.1
           ∙ ap₂ (λ (s : Text) (ws : Words). made (total - length (source ++ (rest ++ r))) s ws) (taken_is source (rest ++ r)) k.2
           ∙ ap (λ (n : ℕ). made n source ws) at
 
@@ -245,7 +267,9 @@ module _ (d : ℕ) (inner : Inner) (exact : IsExactInner d inner) (nested : Bool
     command_met bs f (faults.CommandFault.first_word h) = ap (λ (x : Read Word). x >>= more_words bs) ((word_exact d inner exact nested).met bs f h)
     command_met _ f (faults.CommandFault.later_word body w {rest = rest} h deep l) =
         ap (λ (x : Read Word). x >>= more_words (body ++ rest)) ((word_exact d inner exact nested).again w body rest (h, deep))
-        ∙ ap (λ (x : Read (List Word)). read_map (λ ws. let c : Command = record { offset = total - length (body ++ rest); source = taken (body ++ rest) rest; words = word w (words_of ws) } in c) x) (words_met l (suc (length rest)) (omega arith))
+        ∙ ap (λ (x : Read (List Word)). read_map (λ ws. let c : Command = record
+        { offset = total - length (body ++ rest); source = taken (body ++ rest) rest; words = word w (words_of ws) }
+        in c) x) (words_met l (suc (length rest)) (omega arith))
 
     command_exact : Exact (command_in total nested inner) CommandGoesOn CommandIs CommandBad
     command_exact = record { sound = command_sound; again = command_again; faulty = command_faulty; met = λ bs f h. command_met bs f h.0 }
@@ -284,7 +308,14 @@ module _ (d : ℕ) (inner : Inner) (exact : IsExactInner d inner) (nested : Bool
         → CommandsIn (commands_of (c ∷ cs)) (gap ++ (body ++ rest)) r
     commands_cons gap body rest r c cs h k l = (
       (λ fits.
-          let all : length ((gap ++ (body ++ rest)) ++ r) ≡ length gap + (length body + (length rest + length r)) = omega (arith, length-append (gap ++ (body ++ rest)) r, length-append gap (body ++ rest), length-append body rest) in
+          let all : length ((gap ++ (body ++ rest)) ++ r) ≡ length gap + (length body + (length rest + length r)) =
+          omega (
+            arith,
+            length-append (gap ++ (body ++ rest)) r,
+            length-append gap (body ++ rest),
+            length-append
+                body rest,
+          ) in
           let after : length (body ++ (rest ++ r)) ≡ length body + (length rest + length r) = omega (arith, length-append body (rest ++ r), length-append rest r) in
           record {
             first = gap;
@@ -296,7 +327,8 @@ module _ (d : ℕ) (inner : Inner) (exact : IsExactInner d inner) (nested : Bool
       omega (arith, k.2, l.1),
     )
 
-    commands_later : (gap body rest : Text) (c : Command) (f : Fault) → IsGap gap (body ++ rest) → CommandIs c body rest → CommandsFault d nested rest f → CommandsFault d nested (gap ++ (body ++ rest)) f
+    commands_later : (gap body rest : Text) (c : Command) (f : Fault) → IsGap gap (body ++ rest) → CommandIs c body rest
+        → CommandsFault d nested rest f → CommandsFault d nested (gap ++ (body ++ rest)) f
     commands_later gap body rest c f h k l = faults.CommandsFault.later_command gap c.source body c.words h k.0 k.1 k.2 l
 
   abbrev pub CommandsAre : Commands → Text → Text → Type 0
@@ -309,7 +341,9 @@ module _ (d : ℕ) (inner : Inner) (exact : IsExactInner d inner) (nested : Bool
   unfolding script_with
   script_sound bs s r b h =
       let x = read_map_ok commands_of (read_commands (length bs) (suc (length bs)) bs) s r h in
-      let t = items_sound skip_gap (script_ends nested) (command_in (length bs) nested inner) IsGap CommandGoesOn (CommandIs (length bs)) CommandBad (command_items (length bs)) (λ cs t r. CommandsIn (length bs) (commands_of cs) t r)
+      let t = items_sound skip_gap (script_ends nested) (command_in (length bs) nested inner) IsGap CommandGoesOn
+      (CommandIs (length bs)) CommandBad (command_items (length bs))
+      (λ cs t r. CommandsIn (length bs) (commands_of cs) t r)
       (commands_nil (length bs)) (commands_cons (length bs)) (suc (length bs)) bs x.0 r x.1
       in
       let long : length (t.taken ++ r) ≡ length bs = ap length (sym t.whole) in
@@ -320,12 +354,21 @@ module _ (d : ℕ) (inner : Inner) (exact : IsExactInner d inner) (nested : Bool
   script_faulty : (bs : Text) (f : Fault) → Anywhere bs → script_with nested inner bs ≡ Err f → CommandsFault d nested bs f
   unfolding script_with
   script_faulty bs f b h =
-      items_faulty skip_gap (script_ends nested) (command_in (length bs) nested inner) IsGap CommandGoesOn (CommandIs (length bs)) CommandBad (command_items (length bs)) (CommandsFault d nested) commands_here (commands_later (length bs)) (suc (length bs)) bs f (omega arith)
+      items_faulty skip_gap (script_ends nested) (command_in (length bs) nested inner) IsGap CommandGoesOn
+      (CommandIs (length bs)) CommandBad (command_items (length bs)) (CommandsFault d nested) commands_here
+      (commands_later (length bs)) (suc (length bs)) bs f (omega arith)
       (read_map_err commands_of (read_commands (length bs) (suc (length bs)) bs) f h)
 
-  commands_list : (total size : ℕ) (s : Commands) (t r : Text) (n : ℕ) → total ≡ size + length r → IsCommands size nested s t r → nesting s ≤ d → length (t ++ r) < n → (xs : List Command) × (read_commands total n (t ++ r) ≡ Ok (xs, r)) × (commands_of xs ≡ s)
+  commands_list : (total size : ℕ) (s : Commands) (t r : Text) (n : ℕ) → total ≡ size + length r
+      → IsCommands size nested s t r → nesting s ≤ d → length (t ++ r) < n → (xs : List Command)
+      × (read_commands total n (t ++ r) ≡ Ok (xs, r)) × (commands_of xs ≡ s)
   commands_list total size s t r zero all h deep less = absurd (omega arith)
-  commands_list total size no_commands t r (suc n) all h deep less = ([], items-end skip_gap (script_ends nested) (command_in total nested inner) IsGap CommandGoesOn (CommandIs total) CommandBad (command_items total) n t r h.0 h.1, refl)
+  commands_list total size no_commands t r (suc n) all h deep less = (
+    [],
+    items-end skip_gap (script_ends nested) (command_in total nested inner) IsGap CommandGoesOn (CommandIs total)
+        CommandBad (command_items total) n t r h.0 h.1,
+    refl,
+  )
   commands_list total size (command offset source ws cs) t r (suc n) all h deep less =
       let gap = h.first in
       let body = h.is_second.first in
@@ -337,9 +380,12 @@ module _ (d : ℕ) (inner : Inner) (exact : IsExactInner d inner) (nested : Bool
       let whole : t ++ r ≡ gap ++ (body ++ (rest ++ r)) = ap (λ xs. xs ++ r) (h.whole ∙ ap (λ xs. gap ++ xs) h.is_second.whole) ∙ append_assoc gap (body ++ rest) r ∙ ap (λ xs. gap ++ xs) regrouped in
       let some = front_some body rest h.is_second.is_first.0 in
       let passed : IsGap gap (body ++ (rest ++ r)) = subst (IsGap gap) (ap (λ xs. xs ++ r) h.is_second.whole ∙ regrouped) h.is_first.0 in
-      let k = commands_list total size cs rest r n all h.is_second.is_second (omega (arith, deep)) (omega (arith, ap length whole, length-append gap (body ++ (rest ++ r)), length-append body (rest ++ r))) in (
+      let k = commands_list total size cs rest r n all h.is_second.is_second (omega (arith, deep))
+      (omega (arith, ap length whole, length-append gap (body ++ (rest ++ r)), length-append body (rest ++ r))) in (
         c ∷ k.0,
-        ap (read_commands total (suc n)) whole ∙ items-more skip_gap (script_ends nested) (command_in total nested inner) IsGap CommandGoesOn (CommandIs total) CommandBad (command_items total) n gap body (rest ++ r) c passed is ∙ ap (read_map (λ xs. c ∷ xs)) k.1,
+        ap (read_commands total (suc n)) whole ∙ items-more skip_gap (script_ends nested)
+            (command_in total nested inner) IsGap CommandGoesOn (CommandIs total) CommandBad (command_items total) n gap
+            body (rest ++ r) c passed is ∙ ap (read_map (λ xs. c ∷ xs)) k.1,
         ap (command offset source ws) k.2,
       )
 

@@ -1,5 +1,6 @@
 -- What is skipped, run by run: blanks, gaps and comments.
-use Rattle.std.proofs.Common.{◌≡◌, ℕ, ◌+◌, ◌<◌, ◌≤◌, [], ◌∷◌, length, get_or, drop, Bool, true, false, ◌&&◌, ◌==◌, not, refl, sym, ap, ◌∙◌, arith}
+use Rattle.std.proofs.Common.{◌≡◌, ℕ, ◌+◌, ◌<◌, ◌≤◌, [], ◌∷◌, length, get_or, drop, Bool, true, false, ◌&&◌, ◌==◌, not}
+use Rattle.std.proofs.Common.{refl, sym, ap, ◌∙◌, arith}
 use Rattle.std.proofs.lemmas.List.{drop_more}
 use Rattle.std.proofs.lemmas.Bool.Decides.{nat_tests}
 use Rattle.std.proofs.Math.ListN.{drop_of_length-le}
@@ -7,8 +8,10 @@ use Rattle.tclchars.specs.Bytes.{newline, hash, backslash, is_blank, is_gap}
 use Rattle.tclchars.specs.Runs.{Text, drop_while, begins}
 use Rattle.tclchars.specs.Classes.{begins_in}
 use Rattle.tclchars.proofs.RunLemmas.{drop_while-cons_true, drop_while-cons_false}
-use Rattle.tclscript.specs.ScanState.{ScanState, Blanks, AwaitsNewline, Gap, Comment, Escaped, scan, skip_blanks, skip_gap, joins_lines}
-use Rattle.tclscript.proofs.PassedOver.{rest_of, rest-on, scan-nil, is_byte, blank_step, gap_step, newline_step, escape_step, comment_step, blanks_stay, gap_stay}
+use Rattle.tclscript.specs.ScanState.{ScanState, Blanks, AwaitsNewline, Gap, Comment, Escaped, scan, skip_blanks}
+use Rattle.tclscript.specs.ScanState.{skip_gap, joins_lines}
+use Rattle.tclscript.proofs.PassedOver.{rest_of, rest-on, scan-nil, is_byte, blank_step, gap_step, newline_step}
+use Rattle.tclscript.proofs.PassedOver.{escape_step, comment_step, blanks_stay, gap_stay}
 
 -- no byte of a run follows it
 pub run_stops : (p : ℕ → Bool) (bs : Text) → begins_in p (drop_while p bs) ≡ false
@@ -65,7 +68,8 @@ Commented bs escaped n = (scan Comment bs).1 ≡ (scan (comment_state escaped) (
 
 comment_more : (b : ℕ) (bs : Text) (escaped : Bool) → (b == newline && not escaped) ≡ false → (scan (comment_state escaped) (b ∷ bs)).1 ≡ (scan (comment_state (b == backslash && not escaped)) bs).1
 comment_more b bs escaped h = go escaped (b == newline) (b == backslash) refl refl h where
-  go : (escaped t u : Bool) → (b == newline) ≡ t → (b == backslash) ≡ u → (b == newline && not escaped) ≡ false → (scan (comment_state escaped) (b ∷ bs)).1 ≡ (scan (comment_state (b == backslash && not escaped)) bs).1
+  go : (escaped t u : Bool) → (b == newline) ≡ t → (b == backslash) ≡ u → (b == newline && not escaped) ≡ false
+      → (scan (comment_state escaped) (b ∷ bs)).1 ≡ (scan (comment_state (b == backslash && not escaped)) bs).1
   go true t true k l h = rw l (rest-on Escaped Comment b bs refl)
   go true t false k l h = rw l (rest-on Escaped Comment b bs refl)
   go false true u k l h = let e : true ≡ false = rw k at h in cc
@@ -84,7 +88,9 @@ pub ends_small : (b : ℕ) (escaped : Bool) → (b == newline && not escaped) �
 ends_small b true h = grind (arith, nat_tests)
 ends_small b false h = grind (arith, nat_tests)
 
-pub commented-more : (bs : Text) (escaped : Bool) (n : ℕ) → n < length bs → (get_or bs n 0 == newline && not escaped) ≡ false → Commented bs escaped n → Commented bs (get_or bs n 0 == backslash && not escaped) (n + 1)
+pub commented-more : (bs : Text) (escaped : Bool) (n : ℕ) → n < length bs
+    → (get_or bs n 0 == newline && not escaped) ≡ false → Commented bs escaped n
+    → Commented bs (get_or bs n 0 == backslash && not escaped) (n + 1)
 commented-more bs escaped n less h so = so ∙ ap (rest_of (comment_state escaped)) (drop_more bs n 0 less) ∙ comment_more (get_or bs n 0) (drop (n + 1) bs) escaped h
 
 pub commented-stop : (bs : Text) (escaped : Bool) (n : ℕ) → n < length bs → (get_or bs n 0 == newline && not escaped) ≡ true → Commented bs escaped n → (scan Comment bs).1 ≡ skip_gap (drop n bs)

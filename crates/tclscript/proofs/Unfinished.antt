@@ -1,5 +1,7 @@
 -- What stands at the end of a text goes on before what closes.
-use Rattle.std.proofs.Common.{◌≡◌, ◌≢◌, ℕ, zero, suc, ◌<◌, ◌+◌, [], ◌∷◌, ◌++◌, length, Bool, true, false, not, ◌||◌, ◌==◌, Option, Some, None, refl, sym, ap, subst, ◌∙◌, arith, append_assoc, append-nil, length-append, ◌⊎◌, inl, inr}
+use Rattle.std.proofs.Common.{◌≡◌, ◌≢◌, ℕ, zero, suc, ◌<◌, ◌+◌, [], ◌∷◌, ◌++◌, length, Bool, true, false, not, ◌||◌}
+use Rattle.std.proofs.Common.{◌==◌, Option, Some, None, refl, sym, ap, subst, ◌∙◌, arith, append_assoc, append-nil}
+use Rattle.std.proofs.Common.{length-append, ◌⊎◌, inl, inr}
 use Rattle.std.proofs.lemmas.Bool.Decides.{nat_tests}
 use Rattle.tclchars.specs.Runs.{Text, begins}
 use Rattle.tclchars.specs.Bytes.{newline, hash, backslash, is_gap, DoesBegin}
@@ -9,15 +11,18 @@ use Rattle.tclchars.proofs.BraceClose.{close_sound}
 use Rattle.tclscript.specs.declared.context.Context.{Context}
 use Rattle.tclscript.specs.declared.context.Context.TheVariants.{InScript, InBracket, InIndex, InQuotes}
 use Rattle.tclscript.specs.Tree as tree
-use Rattle.tclscript.specs.Tree.{Commands, no_commands, command, Words, no_words, word, Word, word_of, Parts, no_parts, part, Part, literal, variable, indexed, bracket}
+use Rattle.tclscript.specs.Tree.{Commands, no_commands, command, Words, no_words, word, Word, word_of, Parts, no_parts}
+use Rattle.tclscript.specs.Tree.{part, Part, literal, variable, indexed, bracket}
 use Rattle.tclchars.specs.Classes.{in_class}
 use Rattle.tclscript.specs.Ends.{parts_end, class_of}
 use Rattle.tclscript.specs.Grammar as grammar
-use Rattle.tclscript.specs.Grammar.{IsLongestName, IsBlanks, IsComment, IsGap, IsLiteral, IsUnexpandedWord, IsCommands, IsCommand, IsWords, IsWord, IsParts, IsPart}
+use Rattle.tclscript.specs.Grammar.{IsLongestName, IsBlanks, IsComment, IsGap, IsLiteral, IsUnexpandedWord, IsCommands}
+use Rattle.tclscript.specs.Grammar.{IsCommand, IsWords, IsWord, IsParts, IsPart}
 use Rattle.tclscript.proofs.Names.{longest_before}
 use Rattle.tclscript.proofs.PartsExact.{part_some, backslash_goes_on}
 use Rattle.tclscript.proofs.WordsExact.{plain_goes_on, word_some}
-use Rattle.tclscript.proofs.Firm.{Like, like_before, parts_end-like, commands-like, command-like, word-like, parts-like, part-like, gap-any}
+use Rattle.tclscript.proofs.Firm.{Like, like_before, parts_end-like, commands-like, command-like, word-like, parts-like}
+use Rattle.tclscript.proofs.Firm.{part-like, gap-any}
 use Rattle.tclscript.proofs.LastByte.{IsStop, escape_finish}
 
 -- a byte at which parts end
@@ -120,7 +125,8 @@ part_finish c (variable name) t goes (inl h) = part_as_is c (variable name) t go
 part_finish c (variable name) t goes (inr h) = part_as_is c (variable name) t goes (part_some c (variable name) t [] (inr h)) (λ r. inr h)
 part_finish c (indexed name ps) t goes h =
     part_as_is c (indexed name ps) t goes (part_some c (indexed name ps) t [] h) (λ r. (h.0, h.1, h.2, parts-like InIndex ps h.0 (41 ∷ []) [] (closer c ∷ r) (refl, refl) h.3))
-part_finish c (bracket s) t goes h = part_as_is c (bracket s) t goes (part_some c (bracket s) t [] h) (λ r. (h.0, h.1, commands-like (length h.0) true s h.0 (93 ∷ []) [] (closer c ∷ r) (refl, refl) h.2))
+part_finish c (bracket s) t goes h = part_as_is c (bracket s) t goes (part_some c (bracket s) t [] h)
+    (λ r. (h.0, h.1, commands-like (length h.0) true s h.0 (93 ∷ []) [] (closer c ∷ r) (refl, refl) h.2))
 
 no_front : (x y : Text) → [] ≡ x ++ y → x ≡ []
 no_front [] y h = refl
@@ -204,7 +210,8 @@ none_words : (ws : Words) (r : Text) → IsWords true ws [] r → ws ≡ no_word
 none_words no_words r h = refl
 none_words (word w ws) r h =
     let more : h.second ≡ [] = second_none h.first h.second h.whole in
-    absurd (some_nonempty h.is_second.first (word_some true w h.is_second.first (h.is_second.second ++ r) h.is_second.is_first) (no_front h.is_second.first h.is_second.second (sym more ∙ h.is_second.whole))) where
+    absurd (some_nonempty h.is_second.first (word_some true w h.is_second.first (h.is_second.second ++ r)
+    h.is_second.is_first) (no_front h.is_second.first h.is_second.second (sym more ∙ h.is_second.whole))) where
       second_none : (x y : Text) → [] ≡ x ++ y → y ≡ []
       second_none [] y h = sym h
       second_none (b ∷ x) y h = cc
@@ -212,7 +219,8 @@ none_words (word w ws) r h =
 words_finish : (ws : Words) (t : Text) → IsWords true ws t [] → Finished (λ ws t r. IsWords true ws t r) 93 t
 words_finish no_words t h = as_is (λ ws t r. IsWords true ws t r) InBracket t no_words (λ r. (h.0, refl))
 words_finish (word w ws) t h = go h (words_finish ws h.is_second.second h.is_second.is_second) (empty_or h.is_second.second) where
-  go : (h : IsWords true (word w ws) t []) → Finished (λ ws t r. IsWords true ws t r) 93 h.is_second.second → (h.is_second.second ≡ []) ⊎ (h.is_second.second ≢ []) → Finished (λ ws t r. IsWords true ws t r) 93 t
+  go : (h : IsWords true (word w ws) t []) → Finished (λ ws t r. IsWords true ws t r) 93 h.is_second.second
+      → (h.is_second.second ≡ []) ⊎ (h.is_second.second ≢ []) → Finished (λ ws t r. IsWords true ws t r) 93 t
   go h m (inl none) =
       let body = h.is_second.first in
       let gap = h.first in
@@ -353,13 +361,21 @@ abbrev pub CommandsFrom : ℕ → Bool → Commands → Text → Text → Type 0
 CommandsFrom at nested s t r = (size : ℕ) → size ≡ at + length t → IsCommands size nested s t r
 
 pub commands_finish : (size at : ℕ) (s : Commands) (t : Text) → size ≡ at + length t → IsCommands size true s t [] → Finished (CommandsFrom at true) 93 t
-commands_finish size at no_commands t long h = (let m = gap_finish h.0 in record { more = m.more; value = no_commands; like = λ r some. m.like (m.more ++ 93 ∷ r) some; is = λ r new e. (m.is r, refl) })
+commands_finish size at no_commands t long h = (let m = gap_finish h.0 in record {
+  more = m.more;
+  value = no_commands;
+  like = λ r some. m.like (m.more ++ 93 ∷ r) some;
+  is = λ r new e.
+      (m.is r, refl);
+})
 commands_finish size at (command offset source ws cs) t long h =
     go h (commands_finish size (at + (length h.first + length h.is_second.first)) cs h.is_second.second (omega (arith, long, parts_long h)) h.is_second.is_second) (empty_or h.is_second.second) where
       parts_long : (h : IsCommands size true (command offset source ws cs) t []) → length t ≡ length h.first + (length h.is_second.first + length h.is_second.second)
       parts_long h = omega (arith, ap length h.whole, length-append h.first h.second, ap length h.is_second.whole, length-append h.is_second.first h.is_second.second)
 
-      go : (h : IsCommands size true (command offset source ws cs) t []) → Finished (CommandsFrom (at + (length h.first + length h.is_second.first)) true) 93 h.is_second.second → (h.is_second.second ≡ []) ⊎ (h.is_second.second ≢ [])
+      go : (h : IsCommands size true (command offset source ws cs) t [])
+          → Finished (CommandsFrom (at + (length h.first + length h.is_second.first)) true) 93 h.is_second.second
+          → (h.is_second.second ≡ []) ⊎ (h.is_second.second ≢ [])
           → Finished (CommandsFrom at true) 93 t
       go h m (inl none) =
           let body = h.is_second.first in
@@ -397,7 +413,8 @@ commands_finish size at (command offset source ws cs) t long h =
           let rest = h.is_second.second in
           let free = h.is_second.is_first.0 in
           let same : t ≡ (gap ++ body) ++ rest = h.whole ∙ ap (λ ys. gap ++ ys) h.is_second.whole ∙ sym (append_assoc gap body rest) in
-          let before : h.second ++ [] ≢ [] = subst (λ ys. ys ≢ []) (sym (append-nil h.second ∙ h.is_second.whole)) (body_some (λ b. not (b == hash)) (body ++ rest) (still_begins (λ b. not (b == hash)) body rest free)) in
+          let before : h.second ++ [] ≢ [] = subst (λ ys. ys ≢ []) (sym (append-nil h.second ∙ h.is_second.whole))
+          (body_some (λ b. not (b == hash)) (body ++ rest) (still_begins (λ b. not (b == hash)) body rest free)) in
           record {
             more = m.more;
             value = command offset source ws m.value;
@@ -409,7 +426,19 @@ commands_finish size at (command offset source ws cs) t long h =
                   whole = ap (λ ys. ys ++ m.more) same ∙ append_assoc (gap ++ body) rest m.more ∙ append_assoc gap body (rest ++ m.more);
                   is_first = (
                     gap-any h.is_first.0 before ((body ++ (rest ++ m.more)) ++ 93 ∷ r),
-                    omega (arith, e, long, h.is_first.1, parts_long h, ap length h.is_second.whole, length-append body rest, length-append t m.more, length-append body (rest ++ m.more), length-append rest m.more),
+                    omega (
+                      arith,
+                      e,
+                      long,
+                      h.is_first.1,
+                      parts_long h,
+                      ap length h.is_second.whole,
+                      length-append body
+                          rest,
+                      length-append t m.more,
+                      length-append body (rest ++ m.more),
+                      length-append rest m.more,
+                    ),
                   );
                   is_second = record {
                     first = body;
@@ -417,7 +446,9 @@ commands_finish size at (command offset source ws cs) t long h =
                     whole = refl;
                     is_first = (
                       free,
-                      subst (λ ys. IsCommand true source ws body ys) (sym (append_assoc rest m.more (93 ∷ r))) (command-like true source ws body rest [] (m.more ++ 93 ∷ r) (m.like r some) h.is_second.is_first.1),
+                      subst (λ ys. IsCommand true source ws body ys) (sym (append_assoc rest m.more (93 ∷ r)))
+                          (command-like true source ws body rest [] (m.more ++ 93 ∷ r) (m.like r some)
+                          h.is_second.is_first.1),
                     );
                     is_second = m.is r new (omega (arith, e, parts_long h, length-append t m.more, length-append rest m.more));
                   };
@@ -449,7 +480,9 @@ some_none x h = cc
 closing : (bs : Text) (escaped : Bool) (d : ℕ) → braced_at escaped d bs ≡ None → (more : Text) × (inside : Text) × (braced_at escaped d (bs ++ more) ≡ Some (inside, []))
 closing [] escaped d h = closing_end escaped d
 closing (b ∷ bs) escaped d h = on_step (brace_step escaped d b) refl (closing bs) where
-  on_step : (step : Option (Bool × ℕ)) → brace_step escaped d b ≡ step → ((e : Bool) (k : ℕ) → braced_at e k bs ≡ None → (more : Text) × (inside : Text) × (braced_at e k (bs ++ more) ≡ Some (inside, [])))
+  on_step : (step : Option (Bool × ℕ)) → brace_step escaped d b ≡ step
+      → ((e : Bool) (k : ℕ) → braced_at e k bs ≡ None → (more : Text) × (inside : Text)
+      × (braced_at e k (bs ++ more) ≡ Some (inside, [])))
       → (more : Text) × (inside : Text) × (braced_at escaped d (b ∷ (bs ++ more)) ≡ Some (inside, []))
   on_step None e next = absurd (some_none ([], bs) (sym (braced_at-cons escaped d b bs ∙ ap (after_step b bs (λ e d. braced_at e d bs)) e) ∙ h))
   on_step (Some s) e next =

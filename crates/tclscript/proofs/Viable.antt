@@ -1,5 +1,7 @@
 -- Up to what offends, a text goes on to a script.
-use Rattle.std.proofs.Common.{◌≡◌, ◌≢◌, ℕ, suc, ◌+◌, [], ◌∷◌, ◌++◌, length, Bool, true, false, not, ◌||◌, ◌==◌, Some, None, refl, sym, ap, subst, ◌∙◌, arith, append_assoc, append-nil, length-append, ◌⊎◌, inl, inr}
+use Rattle.std.proofs.Common.{◌≡◌, ◌≢◌, ℕ, suc, ◌+◌, [], ◌∷◌, ◌++◌, length, Bool, true, false, not, ◌||◌, ◌==◌, Some}
+use Rattle.std.proofs.Common.{None, refl, sym, ap, subst, ◌∙◌, arith, append_assoc, append-nil, length-append, ◌⊎◌, inl}
+use Rattle.std.proofs.Common.{inr}
 use Rattle.std.proofs.lemmas.Bool.Decides.{nat_tests}
 use Rattle.tclchars.specs.Runs.{Text, begins}
 use Rattle.tclchars.specs.Bytes.{newline, hash, AllPass, DoesBegin}
@@ -9,18 +11,23 @@ use Rattle.tclchars.specs.Braces.{Balanced, braced_at}
 use Rattle.tclchars.specs.Reading.{remaining_of}
 use Rattle.tclchars.specs.declared.runs.Class.TheVariants.{InBracedName}
 use Rattle.tclchars.specs.declared.fault.Fault.{Fault}
-use Rattle.tclchars.specs.declared.fault.Fault.TheVariants.{OpenBrace, OpenQuote, OpenBracket, JoinedToClose, TooDeep, BadCharacter, BadExpression}
+use Rattle.tclchars.specs.declared.fault.Fault.TheVariants.{OpenBrace, OpenQuote, OpenBracket, JoinedToClose, TooDeep}
+use Rattle.tclchars.specs.declared.fault.Fault.TheVariants.{BadCharacter, BadExpression}
 use Rattle.tclscript.specs.declared.context.Context.{Context}
 use Rattle.tclscript.specs.declared.context.Context.TheVariants.{InScript, InBracket, InIndex, InQuotes}
 use Rattle.tclscript.specs.Tree as tree
-use Rattle.tclscript.specs.Tree.{Commands, no_commands, command, Words, no_words, word, Word, word_of, Parts, no_parts, part, Part, braced, variable, indexed, bracket}
+use Rattle.tclscript.specs.Tree.{Commands, no_commands, command, Words, no_words, word, Word, word_of, Parts, no_parts}
+use Rattle.tclscript.specs.Tree.{part, Part, braced, variable, indexed, bracket}
 use Rattle.tclscript.specs.Ends.{script_ends, command_ends, word_ends, parts_end, bare}
 use Rattle.tclscript.specs.Grammar as grammar
-use Rattle.tclscript.specs.Grammar.{IsBlanks, IsGap, IsName, IsUnexpandedWord, IsCommands, IsCommand, IsWords, IsWord, IsParts, IsPart, IsScript}
+use Rattle.tclscript.specs.Grammar.{IsBlanks, IsGap, IsName, IsUnexpandedWord, IsCommands, IsCommand, IsWords, IsWord}
+use Rattle.tclscript.specs.Grammar.{IsParts, IsPart, IsScript}
 use Rattle.tclscript.specs.Faults as faults
 use Rattle.tclscript.specs.ViablePrefixes.{IsViablePrefix, IsOpenMark}
-use Rattle.tclscript.specs.Faults.{NeverCloses, CommandsFault, CommandFault, WordsFault, WordFault, UnexpandedWordFault, PartsFault, PartFault, IsFault}
-use Rattle.tclscript.proofs.Firm.{Firm, firm_before, firm_some, does_begin-firm, gap-any, command-firm, word-firm, part-firm, parts_end-firm}
+use Rattle.tclscript.specs.Faults.{NeverCloses, CommandsFault, CommandFault, WordsFault, WordFault, UnexpandedWordFault}
+use Rattle.tclscript.specs.Faults.{PartsFault, PartFault, IsFault}
+use Rattle.tclscript.proofs.Firm.{Firm, firm_before, firm_some, does_begin-firm, gap-any, command-firm, word-firm}
+use Rattle.tclscript.proofs.Firm.{part-firm, parts_end-firm}
 use Rattle.tclscript.proofs.PassedOver.{is_no_byte}
 use Rattle.tclscript.proofs.PartsExact.{part_byte, backslash_goes_on}
 use Rattle.tclscript.proofs.WordsExact.{bare_end, plain_goes_on, none_found}
@@ -78,7 +85,9 @@ following : {X Y : Type 0} (Ends Ends' : Text → Type 0) (Is : X → Text → T
     → ((v : X) (p s t : Text) → Firm p → bs ≡ p ++ s → ((after : Text) → Ends after → Is v (p ++ t) after) → (after : Text) → Ends' after → Is' (make v (p ++ t)) (x ++ (p ++ t)) after)
     → Completes Ends Is bs fault → Completes Ends' Is' (x ++ bs) fault
 following Ends Ends' Is Is' make x bs fault step m =
-    between Ends Ends' Is Is' make x [] bs fault (λ v p s t firm same is after ends. subst (λ ys. Is' (make v (p ++ t)) (x ++ ys) after) (sym (append-nil (p ++ t))) (step v p s t firm same is after ends)) m
+    between Ends Ends' Is Is' make x [] bs fault (λ v p s t firm same is after ends. subst
+    (λ ys. Is' (make v (p ++ t)) (x ++ ys) after) (sym (append-nil (p ++ t)))
+    (step v p s t firm same is after ends)) m
 
 -- ends
 
@@ -133,9 +142,12 @@ PartsTo c bs fault = Completes (λ r. parts_end c r ≡ true) (λ ps t r. IsPart
 abbrev pub PartTo : Context → Text → Fault → Type 0
 PartTo c bs fault = Completes (λ r. parts_end c r ≡ true) (λ q t r. (parts_end c (t ++ r) ≡ false) × IsPart c q t r) bs fault
 
-first_command_to : (at : ℕ) (nested : Bool) (gap body : Text) (fault : Fault) → IsGap gap body → DoesBegin (λ b. not (b == hash)) body → CommandTo nested body fault → CommandsTo at nested (gap ++ body) fault
+first_command_to : (at : ℕ) (nested : Bool) (gap body : Text) (fault : Fault) → IsGap gap body
+    → DoesBegin (λ b. not (b == hash)) body → CommandTo nested body fault → CommandsTo at nested (gap ++ body) fault
 first_command_to at nested gap body fault h free m =
-    following (λ r. command_ends nested r ≡ true) (λ r. script_ends nested r ≡ true) (λ (c : Text × Words) t r. IsCommand nested c.0 c.1 t r) (CommandsFrom at nested) (λ c u. command (at + length gap) c.0 c.1 no_commands) gap body fault
+    following (λ r. command_ends nested r ≡ true) (λ r. script_ends nested r ≡ true)
+    (λ (c : Text × Words) t r. IsCommand nested c.0 c.1 t r) (CommandsFrom at nested)
+    (λ c u. command (at + length gap) c.0 c.1 no_commands) gap body fault
     (λ v p s t firm same is after ends size e.
     record {
       first = gap;
@@ -152,11 +164,14 @@ first_command_to at nested gap body fault h free m =
     })
     m
 
-later_command_to : (at : ℕ) (nested : Bool) (gap source body : Text) (ws : Words) (rest : Text) (fault : Fault) → IsGap gap (body ++ rest) → DoesBegin (λ b. not (b == hash)) body → IsCommand nested source ws body rest
+later_command_to : (at : ℕ) (nested : Bool) (gap source body : Text) (ws : Words) (rest : Text) (fault : Fault)
+    → IsGap gap (body ++ rest) → DoesBegin (λ b. not (b == hash)) body → IsCommand nested source ws body rest
     → CommandsTo (at + (length gap + length body)) nested rest fault → CommandsTo at nested (gap ++ (body ++ rest)) fault
 later_command_to at nested gap source body ws rest fault h free k m =
     subst (λ ys. CommandsTo at nested ys fault) (append_assoc gap body rest)
-    (following (λ r. script_ends nested r ≡ true) (λ r. script_ends nested r ≡ true) (CommandsFrom (at + (length gap + length body)) nested) (CommandsFrom at nested) (λ cs u. command (at + length gap) source ws cs) (gap ++ body) rest fault
+    (following (λ r. script_ends nested r ≡ true) (λ r. script_ends nested r ≡ true)
+    (CommandsFrom (at + (length gap + length body)) nested) (CommandsFrom at nested)
+    (λ cs u. command (at + length gap) source ws cs) (gap ++ body) rest fault
     (λ v p s t firm same is after ends size e.
     record {
       first = gap;
@@ -172,7 +187,9 @@ later_command_to at nested gap source body ws rest fault h free k m =
         whole = refl;
         is_first = (
           free,
-          subst (λ ys. IsCommand nested source ws body ys) (sym (append_assoc p t after)) (command-firm nested source ws body p s (t ++ after) firm (subst (λ ys. IsCommand nested source ws body ys) same k)),
+          subst (λ ys. IsCommand nested source ws body ys) (sym (append_assoc p t after))
+              (command-firm nested source ws body p s (t ++ after) firm
+              (subst (λ ys. IsCommand nested source ws body ys) same k)),
         );
         is_second = is after ends size (omega (arith, e, length-append (gap ++ body) (p ++ t), length-append gap body));
       };
@@ -181,12 +198,14 @@ later_command_to at nested gap source body ws rest fault h free k m =
 
 first_word_to : (nested : Bool) (bs : Text) (fault : Fault) → WordTo nested bs fault → CommandTo nested bs fault
 first_word_to nested bs fault m =
-    following (λ r. word_ends nested r ≡ true) (λ r. command_ends nested r ≡ true) (λ w t r. IsWord nested w t r) (λ (c : Text × Words) t r. IsCommand nested c.0 c.1 t r) (λ w u. (u, word w no_words)) [] bs fault
+    following (λ r. word_ends nested r ≡ true) (λ r. command_ends nested r ≡ true) (λ w t r. IsWord nested w t r)
+    (λ (c : Text × Words) t r. IsCommand nested c.0 c.1 t r) (λ w u. (u, word w no_words)) [] bs fault
     (λ v p s t firm same is after ends. ([], sym (append-nil (p ++ t)), is after (command_word nested after ends), (grammar.IsBlanks.nothing, ends))) m
 
 later_word_to : (nested : Bool) (body : Text) (w : Word) (rest : Text) (fault : Fault) → IsWord nested w body rest → WordsTo nested rest fault → CommandTo nested (body ++ rest) fault
 later_word_to nested body w rest fault h m =
-    following (λ r. command_ends nested r ≡ true) (λ r. command_ends nested r ≡ true) (λ ws t r. IsWords nested ws t r) (λ (c : Text × Words) t r. IsCommand nested c.0 c.1 t r) (λ ws u. (body, word w ws)) body rest fault
+    following (λ r. command_ends nested r ≡ true) (λ r. command_ends nested r ≡ true) (λ ws t r. IsWords nested ws t r)
+    (λ (c : Text × Words) t r. IsCommand nested c.0 c.1 t r) (λ ws u. (body, word w ws)) body rest fault
     (λ v p s t firm same is after ends. (
       p ++ t,
       refl,
@@ -208,10 +227,12 @@ next_word_to nested blanks body fault h m =
     })
     m
 
-word_after_to : (nested : Bool) (blanks body : Text) (w : Word) (rest : Text) (fault : Fault) → IsBlanks blanks → IsWord nested w body rest → WordsTo nested rest fault → WordsTo nested (blanks ++ (body ++ rest)) fault
+word_after_to : (nested : Bool) (blanks body : Text) (w : Word) (rest : Text) (fault : Fault) → IsBlanks blanks
+    → IsWord nested w body rest → WordsTo nested rest fault → WordsTo nested (blanks ++ (body ++ rest)) fault
 word_after_to nested blanks body w rest fault h k m =
     subst (λ ys. WordsTo nested ys fault) (append_assoc blanks body rest)
-    (following (λ r. command_ends nested r ≡ true) (λ r. command_ends nested r ≡ true) (λ ws t r. IsWords nested ws t r) (λ ws t r. IsWords nested ws t r) (λ ws u. word w ws) (blanks ++ body) rest fault
+    (following (λ r. command_ends nested r ≡ true) (λ r. command_ends nested r ≡ true) (λ ws t r. IsWords nested ws t r)
+    (λ ws t r. IsWords nested ws t r) (λ ws u. word w ws) (blanks ++ body) rest fault
     (λ v p s t firm same is after ends.
     record {
       first = blanks;
@@ -230,23 +251,40 @@ word_after_to nested blanks body w rest fault h k m =
 
 plain_to : (nested : Bool) (bs : Text) (fault : Fault) → PlainTo nested bs fault → WordTo nested bs fault
 plain_to nested bs fault m =
-    following (λ r. word_ends nested r ≡ true) (λ r. word_ends nested r ≡ true) (λ ps t r. IsUnexpandedWord nested ps (λ c inside more. IsParts c ps inside more) t r) (λ w t r. IsWord nested w t r) (λ ps u. word_of false ps) [] bs fault
+    following (λ r. word_ends nested r ≡ true) (λ r. word_ends nested r ≡ true)
+    (λ ps t r. IsUnexpandedWord nested ps (λ c inside more. IsParts c ps inside more) t r)
+    (λ w t r. IsWord nested w t r) (λ ps u. word_of false ps) [] bs fault
     (λ v p s t firm same is after ends. is after ends) m
 
 expanding_to : (nested : Bool) (bs : Text) (fault : Fault) → PlainTo nested bs fault → WordTo nested (123 ∷ (42 ∷ (125 ∷ bs))) fault
 expanding_to nested bs fault m =
-    following (λ r. word_ends nested r ≡ true) (λ r. word_ends nested r ≡ true) (λ ps t r. IsUnexpandedWord nested ps (λ c inside more. IsParts c ps inside more) t r) (λ w t r. IsWord nested w t r) (λ ps u. word_of true ps) (123 ∷ (42 ∷ (125 ∷ []))) bs fault
+    following (λ r. word_ends nested r ≡ true) (λ r. word_ends nested r ≡ true)
+    (λ ps t r. IsUnexpandedWord nested ps (λ c inside more. IsParts c ps inside more) t r)
+    (λ w t r. IsWord nested w t r) (λ ps u. word_of true ps) (123 ∷ (42 ∷ (125 ∷ []))) bs fault
     (λ v p s t firm same is after ends. (p ++ t, refl, plain_goes_on nested v (p ++ t) after (is after ends), is after ends)) m
 
 quotes_to : (nested : Bool) (bs : Text) (fault : Fault) → PartsTo InQuotes bs fault → PlainTo nested (34 ∷ bs) fault
 quotes_to nested bs fault m =
-    between (λ r. parts_end InQuotes r ≡ true) (λ r. word_ends nested r ≡ true) (λ ps t r. IsParts InQuotes ps t r) (λ ps t r. IsUnexpandedWord nested ps (λ c inside more. IsParts c ps inside more) t r) (λ ps u. ps) (34 ∷ []) (34 ∷ []) bs fault
+    between (λ r. parts_end InQuotes r ≡ true) (λ r. word_ends nested r ≡ true) (λ ps t r. IsParts InQuotes ps t r)
+    (λ ps t r. IsUnexpandedWord nested ps (λ c inside more. IsParts c ps inside more) t r) (λ ps u. ps) (34 ∷ [])
+    (34 ∷ []) bs fault
     (λ v p s t firm same is after ends. (ends, inr (inl (p ++ t, refl, is (34 ∷ after) refl)))) m
 
 bare_to : (nested : Bool) (bs : Text) (fault : Fault) → DoesBegin (λ b. not (b == 123 || b == 34)) bs → PartsTo (bare nested) bs fault → PlainTo nested bs fault
 bare_to nested bs fault h m =
-    following (λ r. parts_end (bare nested) r ≡ true) (λ r. word_ends nested r ≡ true) (λ ps t r. IsParts (bare nested) ps t r) (λ ps t r. IsUnexpandedWord nested ps (λ c inside more. IsParts c ps inside more) t r) (λ ps u. ps) [] bs fault
-    (λ v p s t firm same is after ends. (ends, inr (inr (does_begin-firm (λ b. not (b == 123 || b == 34)) p s t firm (subst (λ ys. DoesBegin (λ b. not (b == 123 || b == 34)) ys) same h), is after (bare_end nested after ∙ ends))))) m
+    following (λ r. parts_end (bare nested) r ≡ true) (λ r. word_ends nested r ≡ true)
+    (λ ps t r. IsParts (bare nested) ps t r) (λ ps t r. IsUnexpandedWord nested ps
+    (λ c inside more. IsParts c ps inside more) t r) (λ ps u. ps) [] bs fault
+    (λ v p s t firm same is after ends. (
+      ends,
+      inr
+          (inr (
+            does_begin-firm (λ b. not (b == 123 || b == 34)) p s t firm
+                (subst (λ ys. DoesBegin (λ b. not (b == 123 || b == 34)) ys) same h),
+            is after
+                (bare_end nested after ∙ ends),
+          )),
+    )) m
 
 brace_to : (nested : Bool) (inside rest : Text) → Balanced inside → PlainTo nested (123 ∷ (inside ++ 125 ∷ rest)) (JoinedToClose (length rest))
 brace_to nested inside rest h =
@@ -304,13 +342,16 @@ later_part_to c body q rest fault goes h m =
 
 bracket_to : (c : Context) (bs : Text) (fault : Fault) → CommandsTo 0 true bs fault → PartTo c (91 ∷ bs) fault
 bracket_to c bs fault m =
-    between (λ r. script_ends true r ≡ true) (λ r. parts_end c r ≡ true) (CommandsFrom 0 true) (λ q t r. (parts_end c (t ++ r) ≡ false) × IsPart c q t r) (λ s u. bracket s) (91 ∷ []) (93 ∷ []) bs fault
+    between (λ r. script_ends true r ≡ true) (λ r. parts_end c r ≡ true) (CommandsFrom 0 true)
+    (λ q t r. (parts_end c (t ++ r) ≡ false) × IsPart c q t r) (λ s u. bracket s) (91 ∷ []) (93 ∷ []) bs fault
     (λ v p s t firm same is after ends. (part_byte c 91 (((p ++ t) ++ 93 ∷ []) ++ after) (inr refl), (p ++ t, refl, is (93 ∷ after) refl (length (p ++ t)) (omega arith)))) m
 
 index_to : (c : Context) (name bs : Text) (fault : Fault) → IsName name → PartsTo InIndex bs fault → PartTo c (36 ∷ (name ++ 40 ∷ bs)) fault
 index_to c name bs fault h m =
     subst (λ ys. PartTo c (36 ∷ ys) fault) (append_assoc name (40 ∷ []) bs)
-    (between (λ r. parts_end InIndex r ≡ true) (λ r. parts_end c r ≡ true) (λ ps t r. IsParts InIndex ps t r) (λ q t r. (parts_end c (t ++ r) ≡ false) × IsPart c q t r) (λ ps u. indexed name ps) (36 ∷ (name ++ 40 ∷ [])) (41 ∷ []) bs fault
+    (between (λ r. parts_end InIndex r ≡ true) (λ r. parts_end c r ≡ true) (λ ps t r. IsParts InIndex ps t r)
+    (λ q t r. (parts_end c (t ++ r) ≡ false) × IsPart c q t r) (λ ps u. indexed name ps) (36 ∷ (name ++ 40 ∷ []))
+    (41 ∷ []) bs fault
     (λ v p s t firm same is after ends. (
       part_byte c 36 (((name ++ 40 ∷ []) ++ ((p ++ t) ++ 41 ∷ [])) ++ after) (inl refl),
       (p ++ t, ap (λ ys. 36 ∷ ys) (append_assoc name (40 ∷ []) ((p ++ t) ++ 41 ∷ [])), h, is (41 ∷ after) refl),
@@ -484,8 +525,13 @@ before_mark d before rest f h some long =
 whole_text : (d : ℕ) (bs : Text) (f : Fault) → (h : IsFault d bs f) (some : f ≢ TooDeep) → (commands_viable h 0 some).rest ≡ [] → IsViablePrefix bs
 whole_text d bs f h some none =
     let m = commands_viable h 0 some in
-    let whole : bs ≡ m.before ++ m.keep = m.whole ∙ ap (λ ys. m.before ++ ys) (ap (λ ys. m.keep ++ ys) none ∙ append-nil m.keep) in
-    (m.more, m.value, subst (λ ys. IsScript ys m.value) (sym (append_assoc m.before m.keep m.more) ∙ ap (λ ys. ys ++ m.more) (sym whole)) (m.is [] refl (length (m.before ++ (m.keep ++ m.more))) (omega arith)))
+    let whole : bs ≡ m.before ++ m.keep = m.whole ∙ ap (λ ys. m.before ++ ys) (ap (λ ys. m.keep ++ ys) none ∙ append-nil m.keep) in (
+      m.more,
+      m.value,
+      subst (λ ys. IsScript ys m.value)
+          (sym (append_assoc m.before m.keep m.more) ∙ ap (λ ys. ys ++ m.more) (sym whole))
+          (m.is [] refl (length (m.before ++ (m.keep ++ m.more))) (omega arith)),
+    )
 
 pub open_mark : (d : ℕ) (bs : Text) (f : Fault) → IsFault d bs f → IsOpenMark f → IsViablePrefix bs
 open_mark d bs (OpenBrace n) h is = whole_text d bs (OpenBrace n) h (λ e. cc) (commands_viable h 0 (λ e. cc)).all

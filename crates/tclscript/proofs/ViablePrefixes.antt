@@ -1,11 +1,13 @@
 -- What offends behind a closing brace or quote, or behind a backslash, offends whatever follows it.
-use Rattle.std.proofs.Common.{◌≡◌, ◌≢◌, ℕ, suc, ◌≤◌, [], ◌∷◌, ◌++◌, length, Bool, true, false, not, ◌||◌, ◌==◌, None, refl, sym, ap, ap₂, subst, ◌∙◌, arith, append_assoc, length-append}
+use Rattle.std.proofs.Common.{◌≡◌, ◌≢◌, ℕ, suc, ◌≤◌, [], ◌∷◌, ◌++◌, length, Bool, true, false, not, ◌||◌, ◌==◌, None}
+use Rattle.std.proofs.Common.{refl, sym, ap, ap₂, subst, ◌∙◌, arith, append_assoc, length-append}
 use Rattle.tclchars.specs.Runs.{Text}
 use Rattle.tclchars.specs.Bytes.{hash, DoesBegin}
 use Rattle.tclchars.specs.Backslash.{after_backslash}
 use Rattle.tclchars.specs.Braces.{Balanced}
 use Rattle.tclchars.specs.declared.fault.Fault.{Fault}
-use Rattle.tclchars.specs.declared.fault.Fault.TheVariants.{OpenBrace, OpenQuote, OpenBracket, JoinedToClose, TooDeep, BadCharacter, BadExpression}
+use Rattle.tclchars.specs.declared.fault.Fault.TheVariants.{OpenBrace, OpenQuote, OpenBracket, JoinedToClose, TooDeep}
+use Rattle.tclchars.specs.declared.fault.Fault.TheVariants.{BadCharacter, BadExpression}
 use Rattle.tclchars.proofs.Results.{err_same}
 use Rattle.tclscript.specs.declared.context.Context.{Context}
 use Rattle.tclscript.specs.declared.context.Context.TheVariants.{InIndex, InQuotes}
@@ -13,12 +15,14 @@ use Rattle.tclscript.specs.Tree.{Words, Word, Parts, Part, words_nesting, word_n
 use Rattle.tclscript.specs.Ends.{word_ends, parts_end, bare}
 use Rattle.tclscript.specs.Grammar.{IsBlanks, IsGap, IsCommand, IsName, IsWord, IsParts, IsPart}
 use Rattle.tclscript.specs.Faults as faults
-use Rattle.tclscript.specs.Faults.{Expands, CommandsFault, CommandFault, WordsFault, WordFault, UnexpandedWordFault, PartsFault, PartFault}
+use Rattle.tclscript.specs.Faults.{Expands, CommandsFault, CommandFault, WordsFault, WordFault, UnexpandedWordFault}
+use Rattle.tclscript.specs.Faults.{PartsFault, PartFault}
 use Rattle.tclscript.specs.Reading.{inner_at, unexpanded_word_at}
 use Rattle.tclscript.proofs.WordsExact.{plain_met, plain_fault_goes_on, star_joined}
 use Rattle.tclscript.proofs.Whole.{inner_exact}
 use Rattle.tclscript.specs.ViablePrefixes.{ShowsFault, IsBadEscape}
-use Rattle.tclscript.proofs.Firm.{Firm, no_byte, firm_before, firm_some, does_begin-firm, gap-any, command-firm, word-firm, parts-firm, part-firm, parts_end-firm}
+use Rattle.tclscript.proofs.Firm.{Firm, no_byte, firm_before, firm_some, does_begin-firm, gap-any, command-firm}
+use Rattle.tclscript.proofs.Firm.{word-firm, parts-firm, part-firm, parts_end-firm}
 
 -- behind what closes, or behind a backslash
 pub data Kind : Type 0 where
@@ -76,7 +80,9 @@ moves_before kind One Two x bs remaining step m = record {
       subst (λ ys. Two ys f) (ap (λ ys. x ++ ys) regrouped ∙ sym (append_assoc x m.before (keep ++ t))) (step (m.before ++ keep) s t f (kept_firm kind m.before keep s t m.base k) same one);
 }
 
-moves_same : (kind : Kind) (One Two : Text → Fault → Type 0) (bs : Text) (remaining : ℕ) → ((p s t : Text) (f : Fault) → Firm p → bs ≡ p ++ s → One (p ++ t) f → Two (p ++ t) f) → Moves kind One bs remaining → Moves kind Two bs remaining
+moves_same : (kind : Kind) (One Two : Text → Fault → Type 0) (bs : Text) (remaining : ℕ)
+    → ((p s t : Text) (f : Fault) → Firm p → bs ≡ p ++ s → One (p ++ t) f → Two (p ++ t) f)
+    → Moves kind One bs remaining → Moves kind Two bs remaining
 moves_same kind One Two bs remaining step m = moves_before kind One Two [] bs remaining step m
 
 -- Two cuts of a text that leave as much are one
@@ -132,12 +138,19 @@ other kind f remaining e h = absurd (not_other kind remaining (subst IsOther e h
 
 -- one step
 
-first_command_moves : (kind : Kind) (d : ℕ) (nested : Bool) (gap body : Text) (remaining : ℕ) → IsGap gap body → DoesBegin (λ b. not (b == hash)) body → Moves kind (CommandFault d nested) body remaining → Moves kind (CommandsFault d nested) (gap ++ body) remaining
+first_command_moves : (kind : Kind) (d : ℕ) (nested : Bool) (gap body : Text) (remaining : ℕ) → IsGap gap body
+    → DoesBegin (λ b. not (b == hash)) body → Moves kind (CommandFault d nested) body remaining
+    → Moves kind (CommandsFault d nested) (gap ++ body) remaining
 first_command_moves kind d nested gap body remaining h free m =
     moves_before kind (CommandFault d nested) (CommandsFault d nested) gap body remaining
-    (λ p s t f firm same l. faults.CommandsFault.first_command gap (gap-any h (subst (λ ys. ys ≢ []) (sym same) (firm_some p s firm)) (p ++ t)) (does_begin-firm (λ b. not (b == hash)) p s t firm (subst (λ ys. DoesBegin (λ b. not (b == hash)) ys) same free)) l) m
+    (λ p s t f firm same l. faults.CommandsFault.first_command gap
+    (gap-any h (subst (λ ys. ys ≢ []) (sym same) (firm_some p s firm)) (p ++ t))
+    (does_begin-firm (λ b. not (b == hash)) p s t firm
+    (subst (λ ys. DoesBegin (λ b. not (b == hash)) ys) same free)) l) m
 
-later_command_moves : (kind : Kind) (d : ℕ) (nested : Bool) (gap source body : Text) (ws : Words) (rest : Text) (remaining : ℕ) → IsGap gap (body ++ rest) → DoesBegin (λ b. not (b == hash)) body → IsCommand nested source ws body rest
+later_command_moves : (kind : Kind) (d : ℕ) (nested : Bool) (gap source body : Text) (ws : Words) (rest : Text)
+    (remaining : ℕ) → IsGap gap (body ++ rest) → DoesBegin (λ b. not (b == hash)) body
+    → IsCommand nested source ws body rest
     → words_nesting ws ≤ d → Moves kind (CommandsFault d nested) rest remaining → Moves kind (CommandsFault d nested) (gap ++ (body ++ rest)) remaining
 later_command_moves kind d nested gap source body ws rest remaining h free k deep m =
     subst (λ ys. Moves kind (CommandsFault d nested) ys remaining) (append_assoc gap body rest)
@@ -149,12 +162,15 @@ later_command_moves kind d nested gap source body ws rest remaining h free k dee
     free (command-firm nested source ws body p s t firm (subst (λ ys. IsCommand nested source ws body ys) same k)) deep l))
     m)
 
-later_word_moves : (kind : Kind) (d : ℕ) (nested : Bool) (body : Text) (w : Word) (rest : Text) (remaining : ℕ) → IsWord nested w body rest → word_nesting w ≤ d → Moves kind (WordsFault d nested) rest remaining → Moves kind (CommandFault d nested) (body ++ rest) remaining
+later_word_moves : (kind : Kind) (d : ℕ) (nested : Bool) (body : Text) (w : Word) (rest : Text) (remaining : ℕ)
+    → IsWord nested w body rest → word_nesting w ≤ d → Moves kind (WordsFault d nested) rest remaining
+    → Moves kind (CommandFault d nested) (body ++ rest) remaining
 later_word_moves kind d nested body w rest remaining h deep m =
     moves_before kind (WordsFault d nested) (CommandFault d nested) body rest remaining
     (λ p s t f firm same l. faults.CommandFault.later_word body w (word-firm nested w body p s t firm (subst (λ ys. IsWord nested w body ys) same h)) deep l) m
 
-word_after_moves : (kind : Kind) (d : ℕ) (nested : Bool) (blanks body : Text) (w : Word) (rest : Text) (remaining : ℕ) → IsBlanks blanks → IsWord nested w body rest → word_nesting w ≤ d → Moves kind (WordsFault d nested) rest remaining
+word_after_moves : (kind : Kind) (d : ℕ) (nested : Bool) (blanks body : Text) (w : Word) (rest : Text) (remaining : ℕ)
+    → IsBlanks blanks → IsWord nested w body rest → word_nesting w ≤ d → Moves kind (WordsFault d nested) rest remaining
     → Moves kind (WordsFault d nested) (blanks ++ (body ++ rest)) remaining
 word_after_moves kind d nested blanks body w rest remaining h k deep m =
     subst (λ ys. Moves kind (WordsFault d nested) ys remaining) (append_assoc blanks body rest)
@@ -164,7 +180,8 @@ word_after_moves kind d nested blanks body w rest remaining h k deep m =
     (faults.WordsFault.word_after blanks body w h (word-firm nested w body p s t firm (subst (λ ys. IsWord nested w body ys) same k)) deep l))
     m)
 
-word_moves : (kind : Kind) (d : ℕ) (nested : Bool) (bs : Text) (remaining : ℕ) → (Expands nested bs → ⊥) → Moves kind (UnexpandedWordFault d nested) bs remaining → Moves kind (WordFault d nested) bs remaining
+word_moves : (kind : Kind) (d : ℕ) (nested : Bool) (bs : Text) (remaining : ℕ) → (Expands nested bs → ⊥)
+    → Moves kind (UnexpandedWordFault d nested) bs remaining → Moves kind (WordFault d nested) bs remaining
 word_moves kind d nested bs remaining none m = record {
   before = m.before;
   rest = m.rest;
@@ -174,7 +191,9 @@ word_moves kind d nested bs remaining none m = record {
   moves = λ keep s t r k. (let l = m.moves keep s t r k in faults.WordFault.not_expanding (still_plain kind d nested bs m.before m.rest keep s t none m.whole r k l) l);
 }
 
-brace_moves : (kind : Kind) (d : ℕ) (nested : Bool) (inside rest : Text) (remaining : ℕ) → Balanced inside → word_ends nested rest ≡ false → JoinedToClose (length rest) ≡ mark kind remaining → Moves kind (UnexpandedWordFault d nested) (123 ∷ (inside ++ 125 ∷ rest)) remaining
+brace_moves : (kind : Kind) (d : ℕ) (nested : Bool) (inside rest : Text) (remaining : ℕ) → Balanced inside
+    → word_ends nested rest ≡ false → JoinedToClose (length rest) ≡ mark kind remaining
+    → Moves kind (UnexpandedWordFault d nested) (123 ∷ (inside ++ 125 ∷ rest)) remaining
 brace_moves escape d nested inside rest remaining h k e = absurd (apart e) where
   apart : JoinedToClose (length rest) ≡ BadCharacter remaining → ⊥
   apart e = cc
@@ -189,7 +208,9 @@ brace_moves joined d nested inside rest remaining h k e = record {
       (faults.UnexpandedWordFault.joined_brace inside (keep ++ t) h (sym (x.1 nested) ∙ ap (word_ends nested) (sym r) ∙ k));
 }
 
-quote_moves : (kind : Kind) (d : ℕ) (nested : Bool) (inside rest : Text) (ps : Parts) (remaining : ℕ) → IsParts InQuotes ps inside (34 ∷ rest) → parts_nesting ps ≤ d → word_ends nested rest ≡ false → JoinedToClose (length rest) ≡ mark kind remaining
+quote_moves : (kind : Kind) (d : ℕ) (nested : Bool) (inside rest : Text) (ps : Parts) (remaining : ℕ)
+    → IsParts InQuotes ps inside (34 ∷ rest) → parts_nesting ps ≤ d → word_ends nested rest ≡ false
+    → JoinedToClose (length rest) ≡ mark kind remaining
     → Moves kind (UnexpandedWordFault d nested) (34 ∷ (inside ++ 34 ∷ rest)) remaining
 quote_moves escape d nested inside rest ps remaining h deep k e = absurd (apart e) where
   apart : JoinedToClose (length rest) ≡ BadCharacter remaining → ⊥
@@ -205,18 +226,23 @@ quote_moves joined d nested inside rest ps remaining h deep k e = record {
       (faults.UnexpandedWordFault.joined_quote inside (keep ++ t) ps (parts_before_quote ps inside rest (keep ++ t) h) deep (sym (x.1 nested) ∙ ap (word_ends nested) (sym r) ∙ k));
 }
 
-bare_moves : (kind : Kind) (d : ℕ) (nested : Bool) (bs : Text) (remaining : ℕ) → DoesBegin (λ b. not (b == 123 || b == 34)) bs → Moves kind (PartsFault d (bare nested)) bs remaining → Moves kind (UnexpandedWordFault d nested) bs remaining
+bare_moves : (kind : Kind) (d : ℕ) (nested : Bool) (bs : Text) (remaining : ℕ)
+    → DoesBegin (λ b. not (b == 123 || b == 34)) bs → Moves kind (PartsFault d (bare nested)) bs remaining
+    → Moves kind (UnexpandedWordFault d nested) bs remaining
 bare_moves kind d nested bs remaining h m =
     moves_same kind (PartsFault d (bare nested)) (UnexpandedWordFault d nested) bs remaining
     (λ p s t f firm same l. faults.UnexpandedWordFault.in_bare (does_begin-firm (λ b. not (b == 123 || b == 34)) p s t firm (subst (λ ys. DoesBegin (λ b. not (b == 123 || b == 34)) ys) same h)) l) m
 
-later_part_moves : (kind : Kind) (d : ℕ) (c : Context) (body : Text) (q : Part) (rest : Text) (remaining : ℕ) → parts_end c (body ++ rest) ≡ false → IsPart c q body rest → part_nesting q ≤ d → Moves kind (PartsFault d c) rest remaining
+later_part_moves : (kind : Kind) (d : ℕ) (c : Context) (body : Text) (q : Part) (rest : Text) (remaining : ℕ)
+    → parts_end c (body ++ rest) ≡ false → IsPart c q body rest → part_nesting q ≤ d
+    → Moves kind (PartsFault d c) rest remaining
     → Moves kind (PartsFault d c) (body ++ rest) remaining
 later_part_moves kind d c body q rest remaining goes h deep m =
     moves_before kind (PartsFault d c) (PartsFault d c) body rest remaining
     (λ p s t f firm same l.
     faults.PartsFault.later_part body q
-    (ap (parts_end c) (sym (append_assoc body p t)) ∙ sym (parts_end-firm c (body ++ p) s t (firm_before body p firm)) ∙ ap (parts_end c) (append_assoc body p s ∙ ap (λ ys. body ++ ys) (sym same)) ∙ goes)
+    (ap (parts_end c) (sym (append_assoc body p t)) ∙ sym (parts_end-firm c (body ++ p) s t (firm_before body p firm))
+    ∙ ap (parts_end c) (append_assoc body p s ∙ ap (λ ys. body ++ ys) (sym same)) ∙ goes)
     (part-firm c q body p s t firm (subst (λ ys. IsPart c q body ys) same h)) deep l)
     m
 
@@ -257,41 +283,56 @@ open_index_moves escape d name bs remaining e = record {
     differ h = cc
 
 mutual
-  pub commands_move : (kind : Kind) {d : ℕ} {nested : Bool} {bs : Text} {f : Fault} → CommandsFault d nested bs f → (remaining : ℕ) → f ≡ mark kind remaining → Moves kind (CommandsFault d nested) bs remaining
+  pub commands_move : (kind : Kind) {d : ℕ} {nested : Bool} {bs : Text} {f : Fault} → CommandsFault d nested bs f
+      → (remaining : ℕ) → f ≡ mark kind remaining → Moves kind (CommandsFault d nested) bs remaining
   commands_move kind (faults.CommandsFault.first_command {d} {nested} gap {body} h free k) remaining e = first_command_moves kind d nested gap body remaining h free (command_move kind k remaining e)
-  commands_move kind (faults.CommandsFault.later_command {d} {nested} gap source body ws {rest} h free k deep l) remaining e = later_command_moves kind d nested gap source body ws rest remaining h free k deep (commands_move kind l remaining e)
+  commands_move kind (faults.CommandsFault.later_command {d} {nested} gap source body ws {rest} h free k deep l)
+      remaining e = later_command_moves kind d nested gap source body ws rest remaining h free k deep
+      (commands_move kind l remaining e)
 
-  command_move : (kind : Kind) {d : ℕ} {nested : Bool} {bs : Text} {f : Fault} → CommandFault d nested bs f → (remaining : ℕ) → f ≡ mark kind remaining → Moves kind (CommandFault d nested) bs remaining
-  command_move kind (faults.CommandFault.first_word {d} {nested} {bs} h) remaining e = moves_same kind (WordFault d nested) (CommandFault d nested) bs remaining (λ p s t f firm same l. faults.CommandFault.first_word l) (word_move kind h remaining e)
+  command_move : (kind : Kind) {d : ℕ} {nested : Bool} {bs : Text} {f : Fault} → CommandFault d nested bs f
+      → (remaining : ℕ) → f ≡ mark kind remaining → Moves kind (CommandFault d nested) bs remaining
+  command_move kind (faults.CommandFault.first_word {d} {nested} {bs} h) remaining e = moves_same kind
+      (WordFault d nested) (CommandFault d nested) bs remaining
+      (λ p s t f firm same l. faults.CommandFault.first_word l) (word_move kind h remaining e)
   command_move kind (faults.CommandFault.later_word {d} {nested} body w {rest} h deep k) remaining e = later_word_moves kind d nested body w rest remaining h deep (words_move kind k remaining e)
 
   words_move : (kind : Kind) {d : ℕ} {nested : Bool} {bs : Text} {f : Fault} → WordsFault d nested bs f → (remaining : ℕ) → f ≡ mark kind remaining → Moves kind (WordsFault d nested) bs remaining
   words_move kind (faults.WordsFault.next_word {d} {nested} blanks {body} h k) remaining e =
       moves_before kind (WordFault d nested) (WordsFault d nested) blanks body remaining (λ p s t f firm same l. faults.WordsFault.next_word blanks h l) (word_move kind k remaining e)
-  words_move kind (faults.WordsFault.word_after {d} {nested} blanks body w {rest} h k deep l) remaining e = word_after_moves kind d nested blanks body w rest remaining h k deep (words_move kind l remaining e)
+  words_move kind (faults.WordsFault.word_after {d} {nested} blanks body w {rest} h k deep l) remaining e =
+      word_after_moves kind d nested blanks body w rest remaining h k deep (words_move kind l remaining e)
 
   word_move : (kind : Kind) {d : ℕ} {nested : Bool} {bs : Text} {f : Fault} → WordFault d nested bs f → (remaining : ℕ) → f ≡ mark kind remaining → Moves kind (WordFault d nested) bs remaining
   word_move kind (faults.WordFault.not_expanding {d} {nested} {bs} none h) remaining e = word_moves kind d nested bs remaining none (plain_move kind h remaining e)
   word_move kind (faults.WordFault.expanding {d} {nested} {body} h k) remaining e =
-      moves_before kind (UnexpandedWordFault d nested) (WordFault d nested) (123 ∷ (42 ∷ (125 ∷ []))) body remaining (λ p s t f firm same l. faults.WordFault.expanding (goes_on l) l) (plain_move kind k remaining e)
+      moves_before kind (UnexpandedWordFault d nested) (WordFault d nested) (123 ∷ (42 ∷ (125 ∷ []))) body remaining
+      (λ p s t f firm same l. faults.WordFault.expanding (goes_on l) l) (plain_move kind k remaining e)
 
-  plain_move : (kind : Kind) {d : ℕ} {nested : Bool} {bs : Text} {f : Fault} → UnexpandedWordFault d nested bs f → (remaining : ℕ) → f ≡ mark kind remaining → Moves kind (UnexpandedWordFault d nested) bs remaining
+  plain_move : (kind : Kind) {d : ℕ} {nested : Bool} {bs : Text} {f : Fault} → UnexpandedWordFault d nested bs f
+      → (remaining : ℕ) → f ≡ mark kind remaining → Moves kind (UnexpandedWordFault d nested) bs remaining
   plain_move kind (faults.UnexpandedWordFault.open_brace {d} {nested} {bs} h) remaining e = other kind (OpenBrace (suc (length bs))) remaining e tt
   plain_move kind (faults.UnexpandedWordFault.joined_brace {d} {nested} inside rest h k) remaining e = brace_moves kind d nested inside rest remaining h k e
-  plain_move kind (faults.UnexpandedWordFault.in_quotes {d} {nested} {bs} h) remaining e = moves_before kind (PartsFault d InQuotes) (UnexpandedWordFault d nested) (34 ∷ []) bs remaining (λ p s t f firm same l. faults.UnexpandedWordFault.in_quotes l) (parts_move kind h remaining e)
+  plain_move kind (faults.UnexpandedWordFault.in_quotes {d} {nested} {bs} h) remaining e = moves_before kind
+      (PartsFault d InQuotes) (UnexpandedWordFault d nested) (34 ∷ []) bs remaining
+      (λ p s t f firm same l. faults.UnexpandedWordFault.in_quotes l) (parts_move kind h remaining e)
   plain_move kind (faults.UnexpandedWordFault.open_quote {d} {nested} {bs} ps h k) remaining e = other kind (OpenQuote (suc (length bs))) remaining e tt
   plain_move kind (faults.UnexpandedWordFault.joined_quote {d} {nested} inside rest ps h k l) remaining e = quote_moves kind d nested inside rest ps remaining h k l e
   plain_move kind (faults.UnexpandedWordFault.in_bare {d} {nested} {bs} h k) remaining e = bare_moves kind d nested bs remaining h (parts_move kind k remaining e)
 
   parts_move : (kind : Kind) {d : ℕ} {c : Context} {bs : Text} {f : Fault} → PartsFault d c bs f → (remaining : ℕ) → f ≡ mark kind remaining → Moves kind (PartsFault d c) bs remaining
-  parts_move kind (faults.PartsFault.first_part {d} {c} {bs} h) remaining e = moves_same kind (PartFault d) (PartsFault d c) bs remaining (λ p s t f firm same l. faults.PartsFault.first_part l) (part_move kind h remaining e)
+  parts_move kind (faults.PartsFault.first_part {d} {c} {bs} h) remaining e = moves_same kind (PartFault d)
+      (PartsFault d c) bs remaining (λ p s t f firm same l. faults.PartsFault.first_part l)
+      (part_move kind h remaining e)
   parts_move kind (faults.PartsFault.later_part {d} {c} body q {rest} goes h deep k) remaining e = later_part_moves kind d c body q rest remaining goes h deep (parts_move kind k remaining e)
 
   part_move : (kind : Kind) {d : ℕ} {bs : Text} {f : Fault} → PartFault d bs f → (remaining : ℕ) → f ≡ mark kind remaining → Moves kind (PartFault d) bs remaining
   part_move kind (faults.PartFault.open_name {d} {bs} h) remaining e = other kind (OpenBrace (suc (length bs))) remaining e tt
   part_move kind (faults.PartFault.bad_character {d} {bs} some h) remaining e = escape_moves kind d bs remaining e
   part_move kind faults.PartFault.bracket_too_deep remaining e = other kind TooDeep remaining e tt
-  part_move kind (faults.PartFault.in_bracket {d} {bs} h) remaining e = moves_before kind (CommandsFault d true) (PartFault (suc d)) (91 ∷ []) bs remaining (λ p s t f firm same l. faults.PartFault.in_bracket l) (commands_move kind h remaining e)
+  part_move kind (faults.PartFault.in_bracket {d} {bs} h) remaining e = moves_before kind (CommandsFault d true)
+      (PartFault (suc d)) (91 ∷ []) bs remaining (λ p s t f firm same l. faults.PartFault.in_bracket l)
+      (commands_move kind h remaining e)
   part_move kind (faults.PartFault.open_bracket {d} {bs} s h less) remaining e = other kind (OpenBracket (suc (length bs))) remaining e tt
   part_move kind (faults.PartFault.index_too_deep name bs h) remaining e = other kind TooDeep remaining e tt
   part_move kind (faults.PartFault.in_index {d} name bs h k) remaining e = index_moves kind d name bs remaining h (parts_move kind k remaining e)

@@ -1,5 +1,6 @@
 -- The tree and the fault of a whole text.
-use Rattle.std.proofs.Common.{◌≡◌, ◌≢◌, ℕ, zero, suc, ◌+◌, ◌<◌, ◌≤◌, [], ◌∷◌, ◌++◌, length, Bool, true, false, Result, Ok, Err, refl, sym, ap, subst, ◌∙◌, arith, append-nil, length-append, inl, inr}
+use Rattle.std.proofs.Common.{◌≡◌, ◌≢◌, ℕ, zero, suc, ◌+◌, ◌<◌, ◌≤◌, [], ◌∷◌, ◌++◌, length, Bool, true, false, Result}
+use Rattle.std.proofs.Common.{Ok, Err, refl, sym, ap, subst, ◌∙◌, arith, append-nil, length-append, inl, inr}
 use Rattle.std.specs.Prelude.{IfOk, IfErr, MatchResult}
 use Rattle.tclchars.specs.Runs.{Text}
 use Rattle.tclchars.specs.Faults.{max_nesting}
@@ -16,7 +17,8 @@ use Rattle.tclscript.specs.Tree.{Commands, nesting, parts_nesting}
 use Rattle.tclscript.specs.Ends.{script_ends}
 use Rattle.tclscript.specs.Grammar.{IsCommands, IsParts, IsScript}
 use Rattle.tclscript.specs.Faults as faults
-use Rattle.tclscript.specs.Faults.{CommandsFault, CommandFault, WordsFault, WordFault, UnexpandedWordFault, PartsFault, PartFault, IsFault, IsTextFault}
+use Rattle.tclscript.specs.Faults.{CommandsFault, CommandFault, WordsFault, WordFault, UnexpandedWordFault, PartsFault}
+use Rattle.tclscript.specs.Faults.{PartFault, IsFault, IsTextFault}
 use Rattle.tclscript.specs.Reading.{inner_at, script_with, parts_with, whole_script}
 use Rattle.tclscript.specs.Text.{IsWithin, script_of}
 use Rattle.tclchars.proofs.Whole as whole
@@ -28,7 +30,9 @@ use Rattle.tclscript.proofs.ScriptExact.{script_exact}
 
 -- Depths
 
-nothing_deeper : {X : Type 0} (L : X → Text → Text → Type 0) (deep : X → ℕ) → Exact (λ bs. let none : Read X = Err marks.TooDeep in none) Anywhere (λ x t r. L x t r × (deep x < zero)) (λ bs f. f ≡ marks.TooDeep)
+nothing_deeper : {X : Type 0} (L : X → Text → Text → Type 0) (deep : X → ℕ)
+    → Exact (λ bs. let none : Read X = Err marks.TooDeep in none) Anywhere (λ x t r. L x t r × (deep x < zero))
+    (λ bs f. f ≡ marks.TooDeep)
 nothing_deeper L deep = record {
   sound = λ bs x r b h. absurd (err_ok (x, r) marks.TooDeep h);
   again = λ x t r h. absurd (omega (arith, h.1));
@@ -36,7 +40,9 @@ nothing_deeper L deep = record {
   met = λ bs f h. ap (λ f. Err f) (sym h);
 }
 
-one_deeper : {X : Type 0} (read : Text → Read X) (L : X → Text → Text → Type 0) (F : Text → Fault → Type 0) (deep : X → ℕ) (d : ℕ) → Exact read Anywhere (λ x t r. L x t r × (deep x ≤ d)) F → Exact read Anywhere (λ x t r. L x t r × (deep x < suc d)) F
+one_deeper : {X : Type 0} (read : Text → Read X) (L : X → Text → Text → Type 0) (F : Text → Fault → Type 0)
+    (deep : X → ℕ) (d : ℕ) → Exact read Anywhere (λ x t r. L x t r × (deep x ≤ d)) F
+    → Exact read Anywhere (λ x t r. L x t r × (deep x < suc d)) F
 one_deeper read L F deep d e = record {
   sound = λ bs x r b h. (let k = e.sound bs x r b h in record { taken = k.taken; whole = k.whole; is = (k.is.0, omega (arith, k.is.1)) });
   again = λ x t r h. e.again x t r (h.0, omega (arith, h.1));

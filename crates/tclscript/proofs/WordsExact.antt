@@ -1,5 +1,7 @@
 -- Words are read exactly.
-use Rattle.std.proofs.Common.{◌≡◌, ℕ, zero, suc, ◌<◌, ◌≤◌, [], ◌∷◌, ◌++◌, length, Bool, true, false, not, ◌||◌, ◌==◌, Option, Some, None, Result, Ok, Err, refl, sym, ap, subst, ◌∙◌, arith, append_assoc, append-nil, ◌⊎◌, inl, inr}
+use Rattle.std.proofs.Common.{◌≡◌, ℕ, zero, suc, ◌<◌, ◌≤◌, [], ◌∷◌, ◌++◌, length, Bool, true, false, not, ◌||◌, ◌==◌}
+use Rattle.std.proofs.Common.{Option, Some, None, Result, Ok, Err, refl, sym, ap, subst, ◌∙◌, arith, append_assoc}
+use Rattle.std.proofs.Common.{append-nil, ◌⊎◌, inl, inr}
 use Rattle.std.proofs.lemmas.Bool.Decides.{nat_tests}
 use Rattle.tclchars.specs.Runs.{Text}
 use Rattle.tclchars.specs.Bytes.{DoesBegin}
@@ -17,9 +19,13 @@ use Rattle.tclscript.specs.Ends.{word_ends, parts_end, bare}
 use Rattle.tclscript.specs.Grammar.{IsUnexpandedWord, IsParts, IsWord}
 use Rattle.tclscript.specs.Faults as faults
 use Rattle.tclscript.specs.Faults.{NeverCloses, Expands, PartsFault, UnexpandedWordFault, WordFault}
-use Rattle.tclscript.specs.Reading.{Inner, on_mark, after_closing, require_word_end, parts_with, word_in_braces, braced_word_at, quoted_word_at, unexpanded_word_at, unless_word_ends, after_expansion, word_from, word_at}
+use Rattle.tclscript.specs.Reading.{Inner, on_mark, after_closing, require_word_end, parts_with, word_in_braces}
+use Rattle.tclscript.specs.Reading.{braced_word_at, quoted_word_at, unexpanded_word_at, unless_word_ends}
+use Rattle.tclscript.specs.Reading.{after_expansion, word_from, word_at}
 use Rattle.tclscript.proofs.Exact.{Took, Exact}
-use Rattle.tclscript.proofs.Marks.{true_false, Without, mark_or_none, on_mark-not, closed_ok, closed_err, after_closing-at, none_before, ended_ok, ended_err, require_word_end-at, require_word_end-not}
+use Rattle.tclscript.proofs.Marks.{true_false, Without, mark_or_none, on_mark-not, closed_ok, closed_err}
+use Rattle.tclscript.proofs.Marks.{after_closing-at, none_before, ended_ok, ended_err, require_word_end-at}
+use Rattle.tclscript.proofs.Marks.{require_word_end-not}
 use Rattle.tclscript.proofs.Dollars.{IsExactInner, parts_close}
 use Rattle.tclscript.proofs.PartsExact.{faulty_goes_on}
 use Rattle.tclscript.proofs.PartFaults.{parts_sound, parts_faulty, parts_again, parts_met}
@@ -131,7 +137,8 @@ either_mark b h k = grind (arith, nat_tests)
 both_marks : (b : ℕ) → not (b == 123 || b == 34) ≡ true → (not (b == 123) ≡ true) × (not (b == 34) ≡ true)
 both_marks b h = (grind (arith, nat_tests), grind (arith, nat_tests))
 
-bare_first : (nested : Bool) (bs taken r : Text) → bs ≡ taken ++ r → word_ends nested bs ≡ false → word_ends nested r ≡ true → Without 123 bs → Without 34 bs → DoesBegin (λ b. not (b == 123 || b == 34)) taken
+bare_first : (nested : Bool) (bs taken r : Text) → bs ≡ taken ++ r → word_ends nested bs ≡ false
+    → word_ends nested r ≡ true → Without 123 bs → Without 34 bs → DoesBegin (λ b. not (b == 123 || b == 34)) taken
 bare_first nested bs [] r e h k x y = absurd (apart_bools k (ap (word_ends nested) (sym e) ∙ h))
 bare_first nested bs (b ∷ taken) r e h k x y = either_mark b (subst (Without 123) e x) (subst (Without 34) e y)
 
@@ -212,10 +219,14 @@ module _ (d : ℕ) (inner : Inner) (exact : IsExactInner d inner) (nested : Bool
   braced_faulty : (bs : Text) (f : Fault) → braced_word_at nested bs ≡ Err f → UnexpandedWordFault d nested (123 ∷ bs) f
   unfolding braced_word_at
   braced_faulty bs f h = elim (braced_lost nested (suc (length bs)) (braced_at false 0 bs) f h) [
-    | inl k ↦ subst (UnexpandedWordFault d nested (123 ∷ bs)) k.1 (faults.UnexpandedWordFault.open_brace (λ inside rest e balanced. none_some (inside, rest) (sym (found_close inside rest balanced) ∙ ap (braced_at false 0) (sym e) ∙ k.0)))
+    | inl k ↦ subst (UnexpandedWordFault d nested (123 ∷ bs)) k.1
+        (faults.UnexpandedWordFault.open_brace (λ inside rest e balanced. none_some (inside, rest)
+        (sym (found_close inside rest balanced) ∙ ap (braced_at false 0) (sym e) ∙ k.0)))
     | inr k ↦ (
         let so = close_sound bs false zero k.0.0 k.0.1 k.1 in
-        subst (UnexpandedWordFault d nested (123 ∷ bs)) k.2 (subst (λ xs. UnexpandedWordFault d nested (123 ∷ xs) (JoinedToClose (length k.0.1))) (sym so.0) (faults.UnexpandedWordFault.joined_brace k.0.0 k.0.1 so.1 k.3))
+        subst (UnexpandedWordFault d nested (123 ∷ bs)) k.2
+        (subst (λ xs. UnexpandedWordFault d nested (123 ∷ xs) (JoinedToClose (length k.0.1))) (sym so.0)
+        (faults.UnexpandedWordFault.joined_brace k.0.0 k.0.1 so.1 k.3))
         )
   ]
 
@@ -280,7 +291,9 @@ module _ (d : ℕ) (inner : Inner) (exact : IsExactInner d inner) (nested : Bool
                     let after : r ≡ 34 ∷ y.0 = closed_ok 34 mark r y.0 y.1 in
                     let inside : IsParts InQuotes ps k.taken (34 ∷ y.0) = subst (λ ys. IsParts InQuotes ps k.taken ys) after k.is.0 in
                     let whole : k.taken ++ 34 ∷ y.0 ≡ bs = ap (λ ys. k.taken ++ ys) (sym after) ∙ sym k.whole in
-                    subst (UnexpandedWordFault d nested (34 ∷ bs)) e.0 (subst (λ xs. UnexpandedWordFault d nested (34 ∷ xs) (JoinedToClose (length y.0))) whole (faults.UnexpandedWordFault.joined_quote k.taken y.0 ps inside k.is.1 e.1))
+                    subst (UnexpandedWordFault d nested (34 ∷ bs)) e.0
+                    (subst (λ xs. UnexpandedWordFault d nested (34 ∷ xs) (JoinedToClose (length y.0))) whole
+                    (faults.UnexpandedWordFault.joined_quote k.taken y.0 ps inside k.is.1 e.1))
                     )
                 | inr z ↦ absurd (ok_err (ps, z.0) f z.2)
               ]
@@ -296,7 +309,8 @@ module _ (d : ℕ) (inner : Inner) (exact : IsExactInner d inner) (nested : Bool
   quoted_again : (inside r : Text) (ps : Parts) → IsParts InQuotes ps inside (34 ∷ r) → parts_nesting ps ≤ d → word_ends nested r ≡ true → quoted_word_at nested inner (inside ++ 34 ∷ r) ≡ Ok (ps, r)
   quoted_again inside r ps h deep e = to_quote inside r ps h deep ∙ ap (λ (x : Result Text Fault). x >>= (λ rest. let found : Read Parts = Ok (ps, rest) in found)) (require_word_end-at nested r e)
 
-  quoted_joined : (inside r : Text) (ps : Parts) → IsParts InQuotes ps inside (34 ∷ r) → parts_nesting ps ≤ d → word_ends nested r ≡ false → quoted_word_at nested inner (inside ++ 34 ∷ r) ≡ Err (JoinedToClose (length r))
+  quoted_joined : (inside r : Text) (ps : Parts) → IsParts InQuotes ps inside (34 ∷ r) → parts_nesting ps ≤ d
+      → word_ends nested r ≡ false → quoted_word_at nested inner (inside ++ 34 ∷ r) ≡ Err (JoinedToClose (length r))
   quoted_joined inside r ps h deep e = to_quote inside r ps h deep ∙ ap (λ (x : Result Text Fault). x >>= (λ rest. let found : Read Parts = Ok (ps, rest) in found)) (require_word_end-not nested r e)
 
   quoted_met : (bs : Text) (f : Fault) → PartsFault d InQuotes bs f → quoted_word_at nested inner bs ≡ Err f
@@ -411,7 +425,9 @@ module _ (d : ℕ) (inner : Inner) (exact : IsExactInner d inner) (nested : Bool
 
   word_faulty : (bs : Text) (f : Fault) → WordGoesOn bs → word_at nested inner bs ≡ Err f → WordFault d nested bs f
   word_faulty bs f b h = elim (expansion nested bs) [
-    | inl k ↦ subst (λ xs. WordFault d nested xs f) (sym k.0.1) (faults.WordFault.expanding k.0.2 (plain_faulty k.0.0 f k.0.2 (read_map_err (word_of true) (unexpanded_word_at nested inner k.0.0) f (sym (from bs (Some k.0.0) k.1) ∙ h))))
+    | inl k ↦ subst (λ xs. WordFault d nested xs f) (sym k.0.1)
+        (faults.WordFault.expanding k.0.2 (plain_faulty k.0.0 f k.0.2
+        (read_map_err (word_of true) (unexpanded_word_at nested inner k.0.0) f (sym (from bs (Some k.0.0) k.1) ∙ h))))
     | inr k ↦ faults.WordFault.not_expanding k.0 (plain_faulty bs f b (read_map_err (word_of false) (unexpanded_word_at nested inner bs) f (sym (from bs None k.1) ∙ h)))
   ]
 

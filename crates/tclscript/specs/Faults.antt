@@ -1,9 +1,11 @@
 -- What is wrong with a text that is no script (own): the first mark or character that a reader from left to right can't
 -- go past. The definitions go by cases over a whole text, from somewhere in the source to its end. A fault has the
 -- number of bytes that remain from its mark on.
-use Rattle.std.specs.Prelude.{◌≡◌, ◌≢◌, ℕ, zero, suc, ◌≤◌, [], ◌∷◌, ◌++◌, length, Bool, true, false, not, ◌||◌, ◌==◌, None}
+use Rattle.std.specs.Prelude.{◌≡◌, ◌≢◌, ℕ, zero, suc, ◌≤◌, [], ◌∷◌, ◌++◌, length, Bool, true, false, not, ◌||◌, ◌==◌}
+use Rattle.std.specs.Prelude.{None}
 use Rattle.tclchars.specs.Runs.{Text}
-use Rattle.tclchars.specs.Bytes.{hash, backslash, AllPass, DoesBegin, dollar, left_brace, left_bracket, left_parenthesis, quote, right_brace, star}
+use Rattle.tclchars.specs.Bytes.{hash, backslash, AllPass, DoesBegin, dollar, left_brace, left_bracket}
+use Rattle.tclchars.specs.Bytes.{left_parenthesis, quote, right_brace, star}
 use Rattle.tclchars.specs.Classes.{in_class}
 use Rattle.tclchars.specs.Backslash.{after_backslash}
 use Rattle.tclchars.specs.Braces.{Balanced}
@@ -11,11 +13,13 @@ use Rattle.tclchars.specs.Faults.{max_nesting}
 use Rattle.tclchars.specs.Whole.{IsFaultOf}
 use Rattle.tclchars.specs.declared.runs.Class.TheVariants.{InBracedName}
 use Rattle.tclchars.specs.declared.fault.Fault.{Fault}
-use Rattle.tclchars.specs.declared.fault.Fault.TheVariants.{OpenBrace, OpenQuote, OpenBracket, JoinedToClose, TooDeep, BadCharacter}
+use Rattle.tclchars.specs.declared.fault.Fault.TheVariants.{OpenBrace, OpenQuote, OpenBracket, JoinedToClose, TooDeep}
+use Rattle.tclchars.specs.declared.fault.Fault.TheVariants.{BadCharacter}
 use Rattle.tclchars.specs.declared.fault.TextFault.{TextFault}
 use Rattle.tclscript.specs.declared.context.Context.{Context}
 use Rattle.tclscript.specs.declared.context.Context.TheVariants.{InIndex, InQuotes}
-use Rattle.tclscript.specs.Tree.{Commands, Words, Word, Parts, Part, nesting, words_nesting, word_nesting, parts_nesting, part_nesting}
+use Rattle.tclscript.specs.Tree.{Commands, Words, Word, Parts, Part, nesting, words_nesting, word_nesting}
+use Rattle.tclscript.specs.Tree.{parts_nesting, part_nesting}
 use Rattle.tclscript.specs.Ends.{word_ends, parts_end, bare}
 use Rattle.tclscript.specs.Grammar.{IsBlanks, IsGap, IsName, IsCommands, IsCommand, IsWord, IsParts, IsPart}
 

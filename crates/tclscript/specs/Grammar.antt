@@ -2,7 +2,9 @@
 -- Each part of a text is given with the text after it, which decides where the part ends.
 use Rattle.std.specs.Prelude.{◌≡◌, ◌≢◌, ◌⊎◌, ℕ, ◌+◌, [], ◌∷◌, ◌++◌, length, Bool, true, false, not, ◌||◌, ◌==◌, Some}
 use Rattle.tclchars.specs.Runs.{Text}
-use Rattle.tclchars.specs.Bytes.{newline, hash, backslash, is_blank, is_gap, AllPass, MayBegin, DoesBegin, colon, dollar, left_brace, left_bracket, left_parenthesis, quote, right_brace, right_bracket, right_parenthesis, star}
+use Rattle.tclchars.specs.Bytes.{newline, hash, backslash, is_blank, is_gap, AllPass, MayBegin, DoesBegin, colon}
+use Rattle.tclchars.specs.Bytes.{dollar, left_brace, left_bracket, left_parenthesis, quote, right_brace, right_bracket}
+use Rattle.tclchars.specs.Bytes.{right_parenthesis, star}
 use Rattle.tclchars.specs.Classes.{in_class, is_name}
 use Rattle.tclchars.specs.Backslash.{after_backslash}
 use Rattle.tclchars.specs.Braces.{Balanced}
@@ -10,7 +12,8 @@ use Rattle.tclchars.specs.declared.runs.Class.TheVariants.{InBracedName}
 use Rattle.tclscript.specs.declared.context.Context.{Context}
 use Rattle.tclscript.specs.declared.context.Context.TheVariants.{InIndex, InQuotes}
 use Rattle.tclscript.specs.Tree as tree
-use Rattle.tclscript.specs.Tree.{Commands, no_commands, command, Words, no_words, word, Word, word_of, Parts, no_parts, part, Part, literal, braced, variable, indexed, bracket}
+use Rattle.tclscript.specs.Tree.{Commands, no_commands, command, Words, no_words, word, Word, word_of, Parts, no_parts}
+use Rattle.tclscript.specs.Tree.{part, Part, literal, braced, variable, indexed, bracket}
 use Rattle.tclscript.specs.Ends.{script_ends, command_ends, word_ends, parts_end, class_of, bare}
 
 -- between words: blanks, and newlines after backslashes

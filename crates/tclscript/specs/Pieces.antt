@@ -1,5 +1,6 @@
 -- Pieces of a source text: suffixes, prefixes and byte ranges.
-use Rattle.std.specs.Prelude.{◌≡◌, ℕ, ◌-◌, [], ◌++◌, length, take, drop, Bool, ◌||◌, ◌&&◌, nat_lt, nat_le, slice_index, if◌then◌else◌}
+use Rattle.std.specs.Prelude.{◌≡◌, ℕ, ◌-◌, [], ◌++◌, length, take, drop, Bool, ◌||◌, ◌&&◌, nat_lt, nat_le, slice_index}
+use Rattle.std.specs.Prelude.{if◌then◌else◌}
 use Rattle.tclchars.specs.Runs.{Text}
 
 -- the whole text ends with the rest

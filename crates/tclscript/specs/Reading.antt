@@ -1,21 +1,25 @@
 -- Reading a script from left to right, with the first fault that is met: the grammar as functions that compute, which
 -- the code follows step by step. By the law `script_of_grammar` they agree with the grammar. A fault has the number of
 -- bytes that remain from its mark on.
-use Rattle.std.specs.Prelude.{ℕ, zero, suc, ◌-◌, List, [], ◌∷◌, length, take, Bool, true, false, ◌==◌, if◌then◌else◌, Option, Some, None, Result, Ok, Err}
+use Rattle.std.specs.Prelude.{ℕ, zero, suc, ◌-◌, List, [], ◌∷◌, length, take, Bool, true, false, ◌==◌, if◌then◌else◌}
+use Rattle.std.specs.Prelude.{Option, Some, None, Result, Ok, Err}
 use Rattle.tclchars.specs.Runs.{Text, take_while, drop_while}
 use Rattle.tclchars.specs.Bytes as bytes
-use Rattle.tclchars.specs.Bytes.{quote, dollar, left_parenthesis, right_parenthesis, star, left_bracket, right_bracket, left_brace, right_brace}
+use Rattle.tclchars.specs.Bytes.{quote, dollar, left_parenthesis, right_parenthesis, star, left_bracket, right_bracket}
+use Rattle.tclchars.specs.Bytes.{left_brace, right_brace}
 use Rattle.tclchars.specs.Classes.{in_class}
 use Rattle.tclchars.specs.Backslash.{after_backslash}
 use Rattle.tclchars.specs.Braces.{braced_at}
 use Rattle.tclchars.specs.Reading.{◌>>=◌, Read, read_map, items_at}
 use Rattle.tclchars.specs.declared.fault.Fault.{Fault}
-use Rattle.tclchars.specs.declared.fault.Fault.TheVariants.{OpenBrace, OpenQuote, OpenBracket, JoinedToClose, TooDeep, BadCharacter}
+use Rattle.tclchars.specs.declared.fault.Fault.TheVariants.{OpenBrace, OpenQuote, OpenBracket, JoinedToClose, TooDeep}
+use Rattle.tclchars.specs.declared.fault.Fault.TheVariants.{BadCharacter}
 use Rattle.tclchars.specs.declared.runs.Class.TheVariants.{InBracedName}
 use Rattle.tclscript.specs.declared.context.Context.{Context}
 use Rattle.tclscript.specs.declared.context.Context.TheVariants.{InIndex, InQuotes}
 use Rattle.tclscript.specs.ScanState.{Name, scan, skip_blanks, skip_gap}
-use Rattle.tclscript.specs.Tree.{Commands, Command, word, Word, word_of, Parts, no_parts, part, Part, literal, braced, backslash, variable, indexed, bracket, parts_of, words_of, commands_of}
+use Rattle.tclscript.specs.Tree.{Commands, Command, word, Word, word_of, Parts, no_parts, part, Part, literal, braced}
+use Rattle.tclscript.specs.Tree.{backslash, variable, indexed, bracket, parts_of, words_of, commands_of}
 use Rattle.tclscript.specs.Ends.{script_ends, command_ends, word_ends, parts_end, class_of, bare}
 
 -- Marks

@@ -5,7 +5,8 @@ use Rattle.tclchars.specs.Runs.{Text}
 use Rattle.tclchars.specs.Bytes.{backslash}
 use Rattle.tclchars.specs.Backslash.{after_backslash}
 use Rattle.tclchars.specs.declared.fault.Fault.{Fault}
-use Rattle.tclchars.specs.declared.fault.Fault.TheVariants.{OpenBrace, OpenQuote, OpenBracket, JoinedToClose, TooDeep, BadCharacter, BadExpression}
+use Rattle.tclchars.specs.declared.fault.Fault.TheVariants.{OpenBrace, OpenQuote, OpenBracket, JoinedToClose, TooDeep}
+use Rattle.tclchars.specs.declared.fault.Fault.TheVariants.{BadCharacter, BadExpression}
 use Rattle.tclscript.specs.Tree.{Commands}
 use Rattle.tclscript.specs.Grammar.{IsScript}
 

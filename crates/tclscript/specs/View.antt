@@ -2,7 +2,8 @@
 use Rattle.std.specs.Prelude.{List, map, encode_utf8}
 use Rattle.tclchars.specs.Runs.{Text}
 use Rattle.tclscript.specs.Tree as tree
-use Rattle.tclscript.specs.Tree.{Commands, Word, word_of, Part, literal, braced, backslash, variable, indexed, bracket, Parts, no_parts, part, commands_of, words_of, parts_of}
+use Rattle.tclscript.specs.Tree.{Commands, Word, word_of, Part, literal, braced, backslash, variable, indexed, bracket}
+use Rattle.tclscript.specs.Tree.{Parts, no_parts, part, commands_of, words_of, parts_of}
 use Rattle.tclscript.specs.declared.tree.Script.{Script, Script-F, fold-Script}
 use Rattle.tclscript.specs.declared.tree.Command.{Command, Command-F, fold-Command}
 use Rattle.tclscript.specs.declared.tree.Word as rust_word
@@ -35,24 +36,29 @@ script_step s = commands_of s.commands.items
 
 abbrev pub part_view : {P : Type 0} → (P → Text) → rust_part.Part P → Part
 part_view {P} shown =
-    rust_part.fold-Part P Part Parts tree.Command Commands Word (part_step shown) (content_step shown) (command_step shown) script_step word_step
+    rust_part.fold-Part P Part Parts tree.Command Commands Word (part_step shown) (content_step shown)
+    (command_step shown) script_step word_step
 
 abbrev pub word_view : {P : Type 0} → (P → Text) → rust_word.Word P → Word
 word_view {P} shown =
-    rust_word.fold-Word P Part Parts tree.Command Commands Word (part_step shown) (content_step shown) (command_step shown) script_step word_step
+    rust_word.fold-Word P Part Parts tree.Command Commands Word (part_step shown) (content_step shown)
+    (command_step shown) script_step word_step
 
 abbrev pub content_view : {P : Type 0} → (P → Text) → rust_content.WordContent P → Parts
 content_view {P} shown =
-    rust_content.fold-WordContent P Part Parts tree.Command Commands Word (part_step shown) (content_step shown) (command_step shown)
+    rust_content.fold-WordContent P Part Parts tree.Command Commands Word (part_step shown) (content_step shown)
+    (command_step shown)
     script_step word_step
 
 abbrev pub command_view : {P : Type 0} → (P → Text) → Command P → tree.Command
 command_view {P} shown =
-    fold-Command P Part Parts tree.Command Commands Word (part_step shown) (content_step shown) (command_step shown) script_step word_step
+    fold-Command P Part Parts tree.Command Commands Word (part_step shown) (content_step shown) (command_step shown)
+    script_step word_step
 
 abbrev pub script_view : {P : Type 0} → (P → Text) → Script P → Commands
 script_view {P} shown =
-    fold-Script P Part Parts tree.Command Commands Word (part_step shown) (content_step shown) (command_step shown) script_step word_step
+    fold-Script P Part Parts tree.Command Commands Word (part_step shown) (content_step shown) (command_step shown)
+    script_step word_step
 
 abbrev pub parts_view : {P : Type 0} → (P → Text) → List (rust_part.Part P) → Parts
 parts_view shown ps = parts_of (map (part_view shown) ps)

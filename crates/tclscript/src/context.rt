@@ -3,7 +3,8 @@ ghost use Rattle.std.specs.Prelude.{◌≡◌, ◌&&◌, ◌==◌};
 ghost use Rattle.tclchars.specs.Bytes.{right_bracket};
 ghost use Rattle.tclchars.specs.Classes.{in_class};
 ghost use Rattle.tclchars.specs.Runs.{take_while, drop_while};
-ghost use Rattle.tclscript.specs.Ends.{is_nested, word_ends, command_ends, script_ends, ends_at, parts_end, bare, class_of};
+ghost use Rattle.tclscript.specs.Ends.{is_nested, word_ends, command_ends, script_ends, ends_at, parts_end, bare};
+ghost use Rattle.tclscript.specs.Ends.{class_of};
 
 use tclchars::{Class, begins_class, split_run};
 

@@ -7,7 +7,11 @@ ghost use Rattle.tclscript.specs.Pieces.{IsSuffixOf, IsPrefixOf};
 ghost use Rattle.tclscript.specs.Tree as tree;
 ghost use Rattle.tclscript.specs.Tree.{part, literal, no_parts};
 ghost use Rattle.tclscript.specs.Ends.{is_nested, bare};
-ghost use Rattle.tclscript.specs.Reading.{Inner, after_closing, require_word_end, after_expansion, inner_at, script_with, command_at, word_at, unexpanded_word_at, braced_word_at, quoted_word_at, quotes_at, parts_with, part_at, literal_at, dollar_at, braced_name_at, index_at, bracket_at, backslash_at, scalar_variable, whole_script};
+ghost use Rattle.tclscript.specs.Reading.{Inner, after_closing, require_word_end, after_expansion, inner_at};
+ghost use Rattle.tclscript.specs.Reading.{script_with, command_at, word_at, unexpanded_word_at, braced_word_at};
+ghost use Rattle.tclscript.specs.Reading.{quoted_word_at, quotes_at, parts_with, part_at, literal_at, dollar_at};
+ghost use Rattle.tclscript.specs.Reading.{braced_name_at, index_at, bracket_at, backslash_at, scalar_variable};
+ghost use Rattle.tclscript.specs.Reading.{whole_script};
 ghost use Rattle.tclscript.specs.View.{script_view, command_view, word_view, content_view, part_view, parts_view};
 
 use crate::context::{

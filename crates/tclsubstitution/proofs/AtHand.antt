@@ -18,6 +18,8 @@ pub from_same : {most : ℕ} {r : Job → Step} {p q o : Step} {x y : Point} →
 from_same e l = rw e l
 
 -- the plan of a scalar variable that is set
-pub value_found : (o : Option (Bor (List ℕ))) (p : Bool × Text) (s : State) → is_env p ≡ false → option_map (λ v. v.now) o ≡ value_at s p → IfSome o (λ v. (spelled : Text) (k : Next) → read_scalar spelled p.0 p.1 s k ≡ k v.now s)
+pub value_found : (o : Option (Bor (List ℕ))) (p : Bool × Text) (s : State) → is_env p ≡ false
+    → option_map (λ v. v.now) o ≡ value_at s p → IfSome o
+    (λ v. (spelled : Text) (k : Next) → read_scalar spelled p.0 p.1 s k ≡ k v.now s)
 value_found None p s h e = tt
 value_found (Some v) p s h e = λ spelled k. rw (scalar_found spelled p s k h, ← e) refl

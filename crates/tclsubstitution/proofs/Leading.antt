@@ -19,21 +19,29 @@ use Rattle.tclsubstitution.specs.declared.stop.Stop.{Stop}
 use Rattle.tclsubstitution.specs.declared.stop.Stop.TheVariants as stops
 
 -- where memory ran out
-pub starved_end : {A : Type 0} {most : ℕ} {r : Job → Step} {p : Step} {x : Point} (k : A → State → Step) (s : State) (res : Result A Stop) → IsErrAnd res (λ f. f ≡ stops.Fault evals.OutOfMemory) → Simulates most r p x (after res k s) x
+pub starved_end : {A : Type 0} {most : ℕ} {r : Job → Step} {p : Step} {x : Point} (k : A → State → Step) (s : State)
+    (res : Result A Stop) → IsErrAnd res (λ f. f ≡ stops.Fault evals.OutOfMemory)
+    → Simulates most r p x (after res k s) x
 starved_end k s (Ok a) h = absurd h
 starved_end k s (Err f) h = rw h starve
 
 -- where a callee's stop is handed on
-pub passed_on : {A : Type 0} {most : ℕ} {r : Job → Step} {p : Step} {x y : Point} (k : A → State → Step) (s : State) (e : Stop) (res : Result A Stop) → IsErrAnd res (λ f. f ≡ e) → Simulates most r p x (stopped e s) y → Simulates most r p x (after res k s) y
+pub passed_on : {A : Type 0} {most : ℕ} {r : Job → Step} {p : Step} {x y : Point} (k : A → State → Step) (s : State)
+    (e : Stop) (res : Result A Stop) → IsErrAnd res (λ f. f ≡ e) → Simulates most r p x (stopped e s) y
+    → Simulates most r p x (after res k s) y
 passed_on k s e (Ok a) h l = absurd h
 passed_on k s e (Err f) h l = rw h l
 
 -- where memory ran out after having come some way
-pub starved_after : {A : Type 0} {most : ℕ} {r : Job → Step} {p q : Step} {x y : Point} (k : A → State → Step) (s : State) (res : Result A Stop) → Simulates most r p x q y → IsErrAnd res (λ f. f ≡ stops.Fault evals.OutOfMemory) → Simulates most r p x (after res k s) y
+pub starved_after : {A : Type 0} {most : ℕ} {r : Job → Step} {p q : Step} {x y : Point} (k : A → State → Step)
+    (s : State) (res : Result A Stop) → Simulates most r p x q y → IsErrAnd res (λ f. f ≡ stops.Fault evals.OutOfMemory)
+    → Simulates most r p x (after res k s) y
 starved_after k s res l h = continue_with l (starved_end k s res h)
 
 -- a fault of values
-pub given_stops : {A : Type 0} {most : ℕ} {r : Job → Step} {x : Point} (e : ValueFault) (answer : Answer A) (s : State) (k : A → Step) → IfSome (reason_of e) (λ f. answer ≡ Err f) → Simulates most r (given answer s k) x (stopped (stop_of e) s) x
+pub given_stops : {A : Type 0} {most : ℕ} {r : Job → Step} {x : Point} (e : ValueFault) (answer : Answer A) (s : State)
+    (k : A → Step) → IfSome (reason_of e) (λ f. answer ≡ Err f)
+    → Simulates most r (given answer s k) x (stopped (stop_of e) s) x
 given_stops faults.OutOfMemory answer s k h = starve
 given_stops (faults.Text f) answer s k h = rw h stay
 given_stops (faults.TclError m) answer s k h = rw h stay
@@ -45,7 +53,9 @@ given_stops (faults.LeftOut n) answer s k h = rw h stay
 pub given_on : {A : Type 0} {most : ℕ} {r : Job → Step} {x : Point} (answer : Answer A) (a : A) (s : State) (k : A → Step) → answer ≡ Ok a → Simulates most r (given answer s k) x (k a) x
 given_on answer a s k h = rw h stay
 
-pub value_stops : {A B : Type 0} {most : ℕ} {r : Job → Step} {x : Point} (k : A → Step) (k' : B → State → Step) (s : State) (e : ValueFault) (answer : Answer A) (res : Result B Stop) → IsErrAnd res (λ f. f ≡ stop_of e) → IfSome (reason_of e) (λ f. answer ≡ Err f) → Simulates most r (given answer s k) x (after res k' s) x
+pub value_stops : {A B : Type 0} {most : ℕ} {r : Job → Step} {x : Point} (k : A → Step) (k' : B → State → Step)
+    (s : State) (e : ValueFault) (answer : Answer A) (res : Result B Stop) → IsErrAnd res (λ f. f ≡ stop_of e)
+    → IfSome (reason_of e) (λ f. answer ≡ Err f) → Simulates most r (given answer s k) x (after res k' s) x
 value_stops k k' s e answer res h g = passed_on k' s (stop_of e) res h (given_stops e answer s k g)
 
 -- a text within the limit, and a longer one
@@ -68,7 +78,8 @@ pub sized_stops : {most : ℕ} {r : Job → Step} {x : Point} (limit : ℕ) (t :
 sized_stops limit t p h = cut_by (nat_lt limit (length t)) p (above limit (length t) h)
 
 -- a fault is an error or halts
-pub error_or_halt_by : {A : Type 0} (P : A → Type 0) (on_error : Text → A) (on_halt : rules.Halt → A) (f : EvalFault) → ((m : Text) → P (on_error m)) → ((h : rules.Halt) → P (on_halt h)) → P (error_or_halt on_error on_halt f)
+pub error_or_halt_by : {A : Type 0} (P : A → Type 0) (on_error : Text → A) (on_halt : rules.Halt → A) (f : EvalFault)
+    → ((m : Text) → P (on_error m)) → ((h : rules.Halt) → P (on_halt h)) → P (error_or_halt on_error on_halt f)
 error_or_halt_by P on_error on_halt evals.OutOfMemory e h = h rules.OutOfMemory
 error_or_halt_by P on_error on_halt (evals.Text f) e h = h (rules.BadText f)
 error_or_halt_by P on_error on_halt (evals.TclError m line) e h = e (string_bytes m)
@@ -82,8 +93,11 @@ error_or_halt_by P on_error on_halt evals.Stopped e h = h rules.Stopped
 error_or_halt_by P on_error on_halt (evals.Host n) e h = h (rules.ByHost n)
 
 -- a job whose stop is handed on
-pub run_stops : {most : ℕ} {r : Job → Step} {j : Job} {k : Next} {x y : Point} (s : State) (f : Stop) → Simulates most r (r j) x (stopped f s) y → Simulates most r (Runs j (on_normal k)) x (stopped f s) y
-run_stops {most} {r} {j} {k} {x} {y} s (stops.Fault f) = error_or_halt_by (λ p. Simulates most r (r j) x p y → Simulates most r (Runs j (on_normal k)) x p y) (λ m. raise m s) halt f (λ m l. run_on l) (λ h l. run_halts l)
+pub run_stops : {most : ℕ} {r : Job → Step} {j : Job} {k : Next} {x y : Point} (s : State) (f : Stop)
+    → Simulates most r (r j) x (stopped f s) y → Simulates most r (Runs j (on_normal k)) x (stopped f s) y
+run_stops {most} {r} {j} {k} {x} {y} s (stops.Fault f) = error_or_halt_by
+    (λ p. Simulates most r (r j) x p y → Simulates most r (Runs j (on_normal k)) x p y) (λ m. raise m s) halt f
+    (λ m l. run_on l) (λ h l. run_halts l)
 run_stops s (stops.Returned t) = λ l. run_on l
 run_stops s stops.Broken = λ l. run_on l
 run_stops s stops.Continued = λ l. run_on l

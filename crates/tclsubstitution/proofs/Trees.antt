@@ -1,5 +1,6 @@
 -- Trees of the program, level by level, and frames.
-use Rattle.std.proofs.Common.{◌≡◌, ℕ, ◌≤◌, List, [], ◌∷◌, ◌++◌, ◌<◌, reverse, length, get_or, drop, sym, Vec, Box, Ok, Err, Result, ap, ◌∙◌, refl, rules, arith}
+use Rattle.std.proofs.Common.{◌≡◌, ℕ, ◌≤◌, List, [], ◌∷◌, ◌++◌, ◌<◌, reverse, length, get_or, drop, sym, Vec, Box, Ok}
+use Rattle.std.proofs.Common.{Err, Result, ap, ◌∙◌, refl, rules, arith}
 use Rattle.std.specs.Prelude.{IfOk, encode_utf8}
 use Rattle.std.specs.declared.alloc.Global.{Global}
 use Rattle.std.proofs.lemmas.List.{reverse-append}
@@ -64,7 +65,8 @@ module _ {P : Type 0} (range_text : P → Text) where
   pub view-Or : (l r : Box (Expr P) Global) → expr_view range_text (rust_expr.Or l r) ≡ expr.disjunction (expr_view range_text l.value) (expr_view range_text r.value)
   view-Or l r = search (rules, rust_expr.the_lemmas)
 
-  pub view-Choice : (c y n : Box (Expr P) Global) → expr_view range_text (rust_expr.Choice c y n) ≡ expr.choice (expr_view range_text c.value) (expr_view range_text y.value) (expr_view range_text n.value)
+  pub view-Choice : (c y n : Box (Expr P) Global) → expr_view range_text (rust_expr.Choice c y n) ≡ expr.choice
+      (expr_view range_text c.value) (expr_view range_text y.value) (expr_view range_text n.value)
   view-Choice c y n = search (rules, rust_expr.the_lemmas)
 
 pub empty_of : {A : Type 0} (xs : List A) → length xs < 1 → xs ≡ []

@@ -1,5 +1,5 @@
--- How the steps of a substitution follow the rules of evaluation (own): what the rules continue with once a continuation frame has
--- its value, and the plan that a step stands for.
+-- How the steps of a substitution follow the rules of evaluation (own): what the rules continue with once a
+-- continuation frame has its value, and the plan that a step stands for.
 use Rattle.std.specs.Prelude.{ℕ, ◌+◌, ◌<◌, IfOk, List, [], ◌∷◌, ◌++◌, true, false, codes, Result, string_bytes}
 use Rattle.tclchars.specs.Runs.{Text}
 use Rattle.tclscript.specs.Pieces.{between}

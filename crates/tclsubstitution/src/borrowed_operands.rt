@@ -6,7 +6,7 @@ ghost use Rattle.tclchars.specs.Numerals.{numeral};
 ghost use Rattle.tclchars.specs.declared.number.Numeral.TheVariants.{Whole};
 ghost use Rattle.tcloperators.specs.Operators.{binary_value};
 ghost use Rattle.tcloperators.specs.Values.{computed_text};
-ghost use Rattle.tcloperators.specs.declared.operators.Computed.TheVariants.{Truth};
+ghost use Rattle.tcloperators.specs.declared.operators.ComputedValue.TheVariants.{Truth};
 ghost use Rattle.tclrules.specs.Variables.{State};
 ghost use Rattle.tclrules.specs.Plans as plans;
 ghost use Rattle.tclrules.specs.Plans.{Job, Next};
@@ -25,7 +25,7 @@ use crate::context::SubstitutionContext;
 use crate::stop::Stop;
 use std::alloc::Global;
 use tclexpr::{BinaryOperator, Expr, Operand};
-use tcloperators::{Computed, ValueFault, compare_numbers, compute, whole_number};
+use tcloperators::{ComputedValue, ValueFault, compare_numbers, compute, whole_number};
 use tclscript::ByteRange;
 use tclvariables::{Content, Scalar, Variables, plain_scalar};
 
@@ -153,12 +153,12 @@ fn computed(
     operator: BinaryOperator,
     left: BorrowedOperand<'_>,
     right: BorrowedOperand<'_>,
-) -> Result<Computed, ValueFault>
+) -> Result<ComputedValue, ValueFault>
     ensures { Gives reason_of computed_text result
         (binary_value operator (operand_text left.entry) (operand_text right.entry)) }
 {
     match compared(operator, left, right) {
-        Some(holds) => Ok(Computed::Truth(holds)),
+        Some(holds) => Ok(ComputedValue::Truth(holds)),
         None => compute(alloc, operator, left.text(), right.text()),
     }
 }
@@ -168,7 +168,7 @@ fn computed(
 pub fn compute_borrowed(
     context: SubstitutionContext<'_, '_>,
     expression: &Expr<ByteRange>,
-) -> Result<Option<Computed>, Stop>
+) -> Result<Option<ComputedValue>, Stop>
     ensures some { IfOk result (λ made. IfSome made (λ v. (most remaining : ℕ) (r : Job → plans.Step) (k : Next)
         (x : Point)
         → Simulates most r (expr (bounds context.entry.limits.value_bytes remaining)

@@ -1,6 +1,7 @@
 //! The steps of a substitution. Each takes what is evaluated next and the stack of frames, and answers what is
 //! evaluated after it. By its clause a step follows the rules of evaluation, and makes the measure of what is still to be done smaller.
-ghost use Rattle.std.specs.Prelude.{◌≡◌, ◌++◌, ◌+◌, ℕ, [], ◌∷◌, reverse, string_bytes, OnOk, OnErr, IfOk, IfErr, encode_utf8};
+ghost use Rattle.std.specs.Prelude.{◌≡◌, ◌++◌, ◌+◌, ℕ, [], ◌∷◌, reverse, string_bytes, OnOk, OnErr, IfOk, IfErr};
+ghost use Rattle.std.specs.Prelude.{encode_utf8};
 ghost use Rattle.tclchars.specs.BracedText.{braced_text};
 ghost use Rattle.tclscript.specs.View.{part_view, parts_view};
 ghost use Rattle.tclexpr.specs.View.{expr_view, operand_view};
@@ -10,7 +11,8 @@ ghost use Rattle.tclrules.specs.Plans.{sized};
 ghost use Rattle.tclrules.specs.Words.{parts, one};
 ghost use Rattle.tclrules.specs.Expressions.{expr, operand_value};
 ghost use Rattle.tclsubstitution.specs.Weights.{parts_weight, part_weight, expr_weight, operand_weight};
-ghost use Rattle.tclsubstitution.specs.Machine.{range_text, continuation, stack_continuation, control_plan, frame_weight, frames_weight, control_weight, StepsTo};
+ghost use Rattle.tclsubstitution.specs.Machine.{range_text, continuation, stack_continuation, control_plan};
+ghost use Rattle.tclsubstitution.specs.Machine.{frame_weight, frames_weight, control_weight, StepsTo};
 ghost use Rattle.tclsubstitution.specs.declared.frame.WaitingFrame.TheVariants.{And, Or, Choice};
 ghost use Rattle.tclsubstitution.specs.declared.stop.Stop.TheVariants.{Fault};
 ghost use Rattle.tclrules.specs.declared.outcome.EvalFault.TheVariants.{OutOfMemory};
@@ -43,7 +45,6 @@ fn push_frame<'a>(stack: &mut Vec<WaitingFrame<'a>>, frame: WaitingFrame<'a>) ->
     Ok(())
 }
 
-/// A copy of a text.
 fn copy(alloc: Global, text: &str) -> Result<String, Stop>
     ensures ok { IfOk result (λ t. string_bytes t ≡ text.now) }
     ensures err { IfErr result (λ stop. stop ≡ Fault OutOfMemory) }
@@ -181,7 +182,6 @@ fn part<'a, H: Host>(
     }
 }
 
-/// The step at an operand.
 #[tactic(none)]
 fn operand<'a, H: Host>(
     context: SubstitutionContext<'a, '_>,
@@ -240,7 +240,6 @@ fn operand<'a, H: Host>(
     }
 }
 
-/// The step at an expression.
 #[tactic(none)]
 fn expression<'a, H: Host>(
     context: SubstitutionContext<'a, '_>,
@@ -423,7 +422,6 @@ fn resume<'a, H: Host>(
     }
 }
 
-/// One step.
 #[tactic(none)]
 fn step<'a, H: Host>(
     context: SubstitutionContext<'a, '_>,

@@ -1,5 +1,7 @@
 -- A number in an expression is the longest front that is a number.
-use Rattle.std.proofs.Common.{◌≡◌, ◌≢◌, ℕ, ◌<◌, ◌≤◌, [], ◌∷◌, ◌++◌, length, Bool, true, false, not, ◌||◌, ◌&&◌, ◌==◌, Option, Some, None, refl, sym, ap, subst, ◌∙◌, arith, append_assoc, append-nil, ◌⊎◌, inl, inr, lit≤}
+use Rattle.std.proofs.Common.{◌≡◌, ◌≢◌, ℕ, ◌<◌, ◌≤◌, [], ◌∷◌, ◌++◌, length, Bool, true, false, not, ◌||◌, ◌&&◌, ◌==◌}
+use Rattle.std.proofs.Common.{Option, Some, None, refl, sym, ap, subst, ◌∙◌, arith, append_assoc, append-nil, ◌⊎◌, inl}
+use Rattle.std.proofs.Common.{inr, lit≤}
 use Rattle.std.proofs.lemmas.Bool.Decides.{nat_tests}
 use Rattle.std.specs.Char.{digit_value}
 use Rattle.std.specs.Str.Parse.{AllDigits, digits_value}
@@ -8,7 +10,9 @@ use Rattle.tclchars.specs.Runs.{Text, take_while, drop_while}
 use Rattle.tclexpr.specs.declared.numbers.Digits.{Digits}
 use Rattle.tclexpr.specs.declared.numbers.Digits.TheVariants.{Binary, Octal, Decimal, Hexadecimal}
 use Rattle.tclexpr.specs.Operands as operands
-use Rattle.tclexpr.specs.Operands.{begins_digit, after_digits, announced, after_announced, after_based, after_sign, after_exponent, after_fraction, begins_point, after_decimal, first_of_both, after_number}
+use Rattle.tclexpr.specs.Operands.{begins_digit, after_digits, announced, after_announced, after_based, after_sign}
+use Rattle.tclexpr.specs.Operands.{after_exponent, after_fraction, begins_point, after_decimal, first_of_both}
+use Rattle.tclexpr.specs.Operands.{after_number}
 use Rattle.tclchars.specs.Numerals as numerals
 use Rattle.tclchars.specs.Numbers as numbers
 use Rattle.tclchars.proofs.WholeNumbers.{either, magnitude_read, magnitude_found}
@@ -137,7 +141,8 @@ exponent_read : (t other : Text) → IsExponent t → after_exponent (t ++ other
 unfolding after_digits
 exponent_read [] other h = absurd h
 exponent_read (b ∷ bs) other h = made (signed h.3 h.4 h.5) where
-  begun : (ds : Text) → ds ≢ [] → AllPass numerals.is_digit ds → (begins_digit Decimal (ds ++ other) ≡ true) × (drop_while (operands.is_digit Decimal) (ds ++ other) ≡ drop_while (operands.is_digit Decimal) other)
+  begun : (ds : Text) → ds ≢ [] → AllPass numerals.is_digit ds → (begins_digit Decimal (ds ++ other) ≡ true)
+      × (drop_while (operands.is_digit Decimal) (ds ++ other) ≡ drop_while (operands.is_digit Decimal) other)
   begun [] some all = absurd (some refl)
   begun (d ∷ ds) some all = (all.0, over (operands.is_digit Decimal) (d ∷ ds) other all)
 
@@ -148,7 +153,11 @@ exponent_read (b ∷ bs) other h = made (signed h.3 h.4 h.5) where
     byte d h = grind (arith, nat_tests)
 
   signed : {t : Text} {m : Bool} {ds : Text} → IsSigned t m ds → ds ≢ [] → AllPass numerals.is_digit ds → SignedDigits t other
-  signed (numbers.IsSigned.without_sign {t}) some all = let k = begun t some all in (ap (begins_digit Decimal) (plain t some all) ∙ k.0, ap (drop_while (operands.is_digit Decimal)) (plain t some all) ∙ k.1)
+  signed (numbers.IsSigned.without_sign {t}) some all = let k = begun t some all in (
+    ap (begins_digit Decimal) (plain t some all) ∙ k.0,
+    ap (drop_while (operands.is_digit Decimal))
+        (plain t some all) ∙ k.1,
+  )
   signed (numbers.IsSigned.with_plus {t}) some all = begun t some all
   signed (numbers.IsSigned.with_minus {t}) some all = begun t some all
 
@@ -185,7 +194,8 @@ letter_stops (b ∷ bs) other h = go h.0 where
   go (inl e) = rw e (refl, refl)
   go (inr e) = rw e (refl, refl)
 
-part_shorter : (part exponent other : Text) → AllPass (operands.is_digit Decimal) part → (exponent ≡ []) ⊎ IsExponent exponent → length (after_exponent (after_digits Decimal ((part ++ exponent) ++ other))) ≤ length other
+part_shorter : (part exponent other : Text) → AllPass (operands.is_digit Decimal) part → (exponent ≡ [])
+    ⊎ IsExponent exponent → length (after_exponent (after_digits Decimal ((part ++ exponent) ++ other))) ≤ length other
 unfolding after_digits
 part_shorter part exponent other all exp = go exponent exp where
   whole : (exponent : Text) → drop_while (operands.is_digit Decimal) ((part ++ exponent) ++ other) ≡ drop_while (operands.is_digit Decimal) (exponent ++ other)
@@ -208,8 +218,11 @@ fraction_shorter u other (numbers.IsFraction.pointed whole part exponent all als
   assoc : (whole : Text) → (whole ++ 46 ∷ (part ++ exponent)) ++ other ≡ whole ++ 46 ∷ ((part ++ exponent) ++ other)
   assoc whole = append_assoc whole (46 ∷ (part ++ exponent)) other
 
-  begun : (whole : Text) → AllPass numerals.is_digit whole → whole ++ part ≢ [] → (begins_digit Decimal ((whole ++ 46 ∷ (part ++ exponent)) ++ other) || begins_point ((whole ++ 46 ∷ (part ++ exponent)) ++ other)) ≡ true
-  begun [] all some = let k : begins_digit Decimal ((part ++ exponent) ++ other) ≡ true = ap (begins_digit Decimal) (append_assoc part exponent other) ∙ begins_any part (exponent ++ other) some also in k
+  begun : (whole : Text) → AllPass numerals.is_digit whole → whole ++ part ≢ []
+      → (begins_digit Decimal ((whole ++ 46 ∷ (part ++ exponent)) ++ other) || begins_point
+      ((whole ++ 46 ∷ (part ++ exponent)) ++ other)) ≡ true
+  begun [] all some = let k : begins_digit Decimal ((part ++ exponent) ++ other) ≡ true = ap (begins_digit Decimal)
+      (append_assoc part exponent other) ∙ begins_any part (exponent ++ other) some also in k
   begun (w ∷ whole) all some = rw all.0 refl
 
   shorter : length (tail_of ((whole ++ 46 ∷ (part ++ exponent)) ++ other)) ≤ length other
@@ -482,7 +495,9 @@ decimal_found bs begun = (let run = run_split (operands.is_digit Decimal) bs in 
         let at : bs ≡ whole ++ 46 ∷ x = e ∙ ap (λ c. whole ++ c ∷ x) same in
         rw k (
           whole ++ 46 ∷ (part ++ exp.0),
-          at ∙ ap (λ xs. whole ++ 46 ∷ xs) (run.0 ∙ ap (λ xs. part ++ xs) exp.1 ∙ sym (append_assoc part exp.0 (after_exponent left))) ∙ sym (append_assoc whole (46 ∷ (part ++ exp.0)) (after_exponent left)),
+          at ∙ ap (λ xs. whole ++ 46 ∷ xs) (run.0 ∙ ap (λ xs. part ++ xs) exp.1 ∙ sym
+              (append_assoc part exp.0 (after_exponent left))) ∙ sym
+              (append_assoc whole (46 ∷ (part ++ exp.0)) (after_exponent left)),
           inr (numbers.IsFraction.pointed whole part exp.0 all run.1 (pointed_some whole x at some) exp.2, pointed_word whole (part ++ exp.0) all),
         )
 

@@ -1,11 +1,15 @@
 -- The test of patterns decides the relation.
-use Rattle.std.proofs.Common.{◌≡◌, ℕ, ◌∷◌, [], ◌++◌, Bool, true, false, not, Option, Some, None, refl, sym, ap, subst, ◌∙◌, arith, inl, inr}
+use Rattle.std.proofs.Common.{◌≡◌, ℕ, ◌∷◌, [], ◌++◌, Bool, true, false, not, Option, Some, None, refl, sym, ap, subst}
+use Rattle.std.proofs.Common.{◌∙◌, arith, inl, inr}
 use Rattle.std.specs.Prelude.{◌==◌, ◌||◌, ◌&&◌, if◌then◌else◌}
 use Rattle.std.proofs.lemmas.Bool.{eqb-true, eq-eqb, or_cases, and_parts, not-true}
 use Rattle.std.proofs.lemmas.Bool.Decides.{nat_tests}
 use Rattle.tclchars.specs.Runs.{Text}
-use Rattle.tclpattern.specs.Patterns.{star, question, open_bracket, close_bracket, backslash, dash, is_between, is_ordinary, no_dash, after_close, HoldsIn, as_item, in_range, past_item, past_range, IsMatch, both_end, any_text, any_character, in_set, escaped, itself}
-use Rattle.tclvalue.specs.Globs.{where_holds, rest_after_set, after_set, after_escape, matches_first, matches_from, matches_nothing, matches}
+use Rattle.tclpattern.specs.Patterns.{star, question, open_bracket, close_bracket, backslash, dash, is_between}
+use Rattle.tclpattern.specs.Patterns.{is_ordinary, no_dash, after_close, HoldsIn, as_item, in_range, past_item}
+use Rattle.tclpattern.specs.Patterns.{past_range, IsMatch, both_end, any_text, any_character, in_set, escaped, itself}
+use Rattle.tclvalue.specs.Globs.{where_holds, rest_after_set, after_set, after_escape, matches_first, matches_from}
+use Rattle.tclvalue.specs.Globs.{matches_nothing, matches}
 use Rattle.tclvalue.proofs.GlobLemmas.{item, behind_item, set_step}
 
 plain_item : (low : ℕ) (ps : Text) → no_dash ps ≡ true → item low ps ≡ Some (low, ps)
@@ -54,7 +58,9 @@ match_passes ps cs (escaped {c = c} {ps = qs} {cs = ds} m) = ap (λ b. b && matc
 match_passes ps cs (itself {c = c} {ps = qs} {cs = ds} plain m) = first_itself (λ rs. matches rs ds) (matches_from (λ rs. matches rs ds) c qs) c qs plain ∙ match_passes qs ds m
 
 -- a set that holds the character is one of the relation
-close_of : (b : Bool) (ps rest : Text) (more : Option Text) (c : ℕ) (all : Text) → where_holds b ps more ≡ Some rest → (b ≡ true → HoldsIn c all (after_close ps)) → (b ≡ false → more ≡ Some rest → HoldsIn c all rest) → HoldsIn c all rest
+close_of : (b : Bool) (ps rest : Text) (more : Option Text) (c : ℕ) (all : Text) → where_holds b ps more ≡ Some rest
+    → (b ≡ true → HoldsIn c all (after_close ps)) → (b ≡ false → more ≡ Some rest → HoldsIn c all rest)
+    → HoldsIn c all rest
 close_of true ps rest more c all h f g = let e : after_close ps ≡ rest = cc in subst (HoldsIn c all) e (f refl)
 close_of false ps rest more c all h f g = g refl h
 
@@ -70,10 +76,15 @@ is_item c low ps e other plain =
     let same : low ≡ c = eqb-true low c e in
     subst (λ x. HoldsIn c (x ∷ ps) (after_close ps)) (sym same) (as_item (subst (λ x. (x == close_bracket) ≡ false) same other) plain)
 
-item_of : (c low : ℕ) (ps rest : Text) → (low == close_bracket) ≡ false → no_dash ps ≡ true → (rest_after_set c ps ≡ Some rest → HoldsIn c ps rest) → where_holds (low == c) ps (rest_after_set c ps) ≡ Some rest → HoldsIn c (low ∷ ps) rest
+item_of : (c low : ℕ) (ps rest : Text) → (low == close_bracket) ≡ false → no_dash ps ≡ true
+    → (rest_after_set c ps ≡ Some rest → HoldsIn c ps rest)
+    → where_holds (low == c) ps (rest_after_set c ps) ≡ Some rest → HoldsIn c (low ∷ ps) rest
 item_of c low ps rest other plain more h = close_of (low == c) ps rest (rest_after_set c ps) c (low ∷ ps) h (λ e. is_item c low ps e other plain) (λ e m. past_item other e plain (more m))
 
-range_of : (c low high : ℕ) (ps rest : Text) → (low == close_bracket) ≡ false → (rest_after_set c ps ≡ Some rest → HoldsIn c ps rest) → where_holds (is_between low high c) ps (rest_after_set c ps) ≡ Some rest → HoldsIn c (low ∷ (dash ∷ (high ∷ ps))) rest
+range_of : (c low high : ℕ) (ps rest : Text) → (low == close_bracket) ≡ false
+    → (rest_after_set c ps ≡ Some rest → HoldsIn c ps rest)
+    → where_holds (is_between low high c) ps (rest_after_set c ps) ≡ Some rest
+    → HoldsIn c (low ∷ (dash ∷ (high ∷ ps))) rest
 range_of c low high ps rest other more h = close_of (is_between low high c) ps rest (rest_after_set c ps) c (low ∷ (dash ∷ (high ∷ ps))) h (λ e. in_range other e) (λ e m. past_range other e (more m))
 
 single_of : (c low : ℕ) (ps rest : Text) (t : Bool) → (t ≡ false → (low == close_bracket) ≡ false) → (t ≡ false → no_dash ps ≡ true) → (rest_after_set c ps ≡ Some rest → HoldsIn c ps rest)
@@ -83,13 +94,16 @@ single_of c low ps rest false other plain more h = item_of c low ps rest (other 
 
 either_of : (c low d high : ℕ) (ps rest : Text) (t : Bool) → (d == dash) ≡ t → (low == close_bracket) ≡ false → (rest_after_set c ps ≡ Some rest → HoldsIn c ps rest)
     → (rest_after_set c (d ∷ high ∷ ps) ≡ Some rest → HoldsIn c (d ∷ high ∷ ps) rest)
-    → (if t then where_holds (is_between low high c) ps (rest_after_set c ps) else where_holds (low == c) (d ∷ high ∷ ps) (rest_after_set c (d ∷ high ∷ ps))) ≡ Some rest → HoldsIn c (low ∷ d ∷ high ∷ ps) rest
+    → (if t then where_holds (is_between low high c) ps (rest_after_set c ps) else where_holds (low == c)
+    (d ∷ high ∷ ps) (rest_after_set c (d ∷ high ∷ ps))) ≡ Some rest → HoldsIn c (low ∷ d ∷ high ∷ ps) rest
 either_of c low d high ps rest true e other more next h = subst (λ x. HoldsIn c (low ∷ (x ∷ (high ∷ ps))) rest) (sym (eqb-true d dash e)) (range_of c low high ps rest other more h)
 either_of c low d high ps rest false e other more next h = item_of c low (d ∷ high ∷ ps) rest other (ap not e) next h
 
 long_of : (c low d high : ℕ) (ps rest : Text) (t : Bool) → (low == close_bracket) ≡ t → (rest_after_set c ps ≡ Some rest → HoldsIn c ps rest)
     → (rest_after_set c (d ∷ high ∷ ps) ≡ Some rest → HoldsIn c (d ∷ high ∷ ps) rest)
-    → (if t then None else if d == dash then where_holds (is_between low high c) ps (rest_after_set c ps) else where_holds (low == c) (d ∷ high ∷ ps) (rest_after_set c (d ∷ high ∷ ps))) ≡ Some rest → HoldsIn c (low ∷ d ∷ high ∷ ps) rest
+    → (if t then None else if d == dash then where_holds (is_between low high c) ps (rest_after_set c ps) else
+    where_holds (low == c) (d ∷ high ∷ ps) (rest_after_set c (d ∷ high ∷ ps))) ≡ Some rest
+    → HoldsIn c (low ∷ d ∷ high ∷ ps) rest
 long_of c low d high ps rest true e more next h = nothing_found rest h
 long_of c low d high ps rest false e more next h = either_of c low d high ps rest (d == dash) refl e more next h
 
@@ -97,7 +111,9 @@ set_of : (c : ℕ) (ps rest : Text) → rest_after_set c ps ≡ Some rest → Ho
 set_of c [] rest h = nothing_found rest h
 set_of c (low ∷ []) rest h = single_of c low [] rest (low == close_bracket) (λ e. e) (λ e. refl) (nothing_found rest) h
 set_of c (low ∷ d ∷ []) rest h =
-    single_of c low (d ∷ []) rest (low == close_bracket || d == dash) (λ e. (or_parts (low == close_bracket) (d == dash) e).0) (λ e. ap not (or_parts (low == close_bracket) (d == dash) e).1) (set_of c (d ∷ []) rest) h
+    single_of c low (d ∷ []) rest (low == close_bracket || d == dash)
+    (λ e. (or_parts (low == close_bracket) (d == dash) e).0)
+    (λ e. ap not (or_parts (low == close_bracket) (d == dash) e).1) (set_of c (d ∷ []) rest) h
 set_of c (low ∷ d ∷ high ∷ ps) rest h = long_of c low d high ps rest (low == close_bracket) refl (set_of c ps rest) (set_of c (d ∷ high ∷ ps) rest) h
 
 star_stays : (ps qs cs : Text) (c : ℕ) → IsMatch qs cs → qs ≡ star ∷ ps → IsMatch qs (c ∷ cs)
@@ -118,7 +134,8 @@ pick : {P : Type 0} (t x y : Bool) → (if t then x else y) ≡ true → (t ≡ 
 pick true x y h f g = f refl h
 pick false x y h f g = g refl h
 
-set_case : (c : ℕ) (cs ps : Text) (o : Option Text) → ((qs : Text) → matches qs cs ≡ true → IsMatch qs cs) → rest_after_set c ps ≡ o → after_set (λ qs. matches qs cs) o ≡ true → IsMatch (open_bracket ∷ ps) (c ∷ cs)
+set_case : (c : ℕ) (cs ps : Text) (o : Option Text) → ((qs : Text) → matches qs cs ≡ true → IsMatch qs cs)
+    → rest_after_set c ps ≡ o → after_set (λ qs. matches qs cs) o ≡ true → IsMatch (open_bracket ∷ ps) (c ∷ cs)
 set_case c cs ps None ih e h = absurd (let f : ⊥ = cc in f)
 set_case c cs ps (Some rest) ih e h = in_set (set_of c ps rest e) (ih rest h)
 

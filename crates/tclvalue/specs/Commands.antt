@@ -1,6 +1,7 @@
 -- The commands of values: list, llength, lindex, lrange, split, join, concat and string (Tcl's pages of these names). A
 -- command is a function from the words after its name to its answer.
-use Rattle.std.specs.Prelude.{ℕ, List, [], ◌∷◌, ◌++◌, length, Bool, ◌||◌, if◌then◌else◌, Option, Some, None, Ok, Err, codes, bytes_eq, decimal}
+use Rattle.std.specs.Prelude.{ℕ, List, [], ◌∷◌, ◌++◌, length, Bool, ◌||◌, if◌then◌else◌, Option, Some, None, Ok, Err}
+use Rattle.std.specs.Prelude.{codes, bytes_eq, decimal}
 use Rattle.std.specs.declared.cmp.Ordering.{Ordering}
 use Rattle.std.specs.declared.cmp.Ordering.TheVariants.{Less, Equal, Greater}
 use Rattle.std.specs.Option.{unwrap_or}
@@ -16,7 +17,8 @@ use Rattle.tclvalue.specs.Limits.{limited}
 use Rattle.tclvalue.specs.Indexes.{Index, index_of, position, item_at, items_between, count_of, at_least_0}
 use Rattle.tclvalue.specs.Searches.{first_position, last_position, pairs_of, mapped}
 use Rattle.tclvalue.specs.Globs.{glob}
-use Rattle.tclvalue.specs.Characters.{trimmed, trimmed_left, trimmed_right, characters_between, parts, joined, concatenated, white_space, split_space}
+use Rattle.tclvalue.specs.Characters.{trimmed, trimmed_left, trimmed_right, characters_between, parts, joined}
+use Rattle.tclvalue.specs.Characters.{concatenated, white_space, split_space}
 
 -- a command, as a function of the words after its name
 abbrev pub ValueFunction : Type 0

@@ -5,18 +5,18 @@ use Rattle.tclchars.specs.Runs.{Text}
 use Rattle.tcloperators.specs.Faults.{Answer, ◌>>=◌, GivesText, reason_of, value_too_long}
 use Rattle.tcloperators.specs.declared.fault.ValueFault.{ValueFault}
 use Rattle.tclvalue.specs.Limits.{limited}
-use Rattle.tclvalue.specs.declared.bounded.Bounded.{Bounded}
+use Rattle.tclvalue.specs.declared.bounded.BoundedText.{BoundedText}
 
 -- the fault of a text that would have been made: it is longer than the limit, or memory ran out
 abbrev pub Exceeds : ValueFault → ℕ → Text → Type 0
 Exceeds e limit made = IfSome (reason_of e) (λ r. (r ≡ value_too_long) × (limit < length made))
 
 -- a text within its limit stays so
-abbrev pub StaysWithin : Bounded → Bounded → Type 0
+abbrev pub StaysWithin : BoundedText → BoundedText → Type 0
 StaysWithin old new = length (string_bytes old.text) ≤ old.limit → length (string_bytes new.text) ≤ old.limit
 
 -- a text is appended, within the limit where the text before was; or it would exceed the limit
-abbrev pub Appends : Result (Unit {0}) ValueFault → Bounded → Bounded → Text → Type 0
+abbrev pub Appends : Result (Unit {0}) ValueFault → BoundedText → BoundedText → Text → Type 0
 Appends (Ok u) old new piece =
     (string_bytes new.text ≡ string_bytes old.text ++ piece) × (new.limit ≡ old.limit) × StaysWithin old new
 Appends (Err e) old new piece = Exceeds e old.limit (string_bytes old.text ++ piece)

@@ -1,5 +1,6 @@
 -- Indexes of lists and texts (lindex(n), string(n)): a whole number, end, or end-N.
-use Rattle.std.specs.Prelude.{ℕ, List, [], ◌∷◌, Bool, false, ◌==◌, nat_lt, if◌then◌else◌, ℤ, pos, negsuc, ◌+ℤ◌, ◌-ℤ◌, Option, Some, None, Ok, Err, take, drop, slice_get, bytes_eq, codes}
+use Rattle.std.specs.Prelude.{ℕ, List, [], ◌∷◌, Bool, false, ◌==◌, nat_lt, if◌then◌else◌, ℤ, pos, negsuc, ◌+ℤ◌, ◌-ℤ◌}
+use Rattle.std.specs.Prelude.{Option, Some, None, Ok, Err, take, drop, slice_get, bytes_eq, codes}
 use Rattle.tclchars.specs.Runs.{Text}
 use Rattle.tclchars.specs.Numerals.{numeral}
 use Rattle.tclchars.specs.Bytes.{is_space}

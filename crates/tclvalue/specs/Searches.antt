@@ -1,5 +1,6 @@
 -- Searches in texts, and replacements (string(n), first, last, map). Texts are lists of characters here.
-use Rattle.std.specs.Prelude.{ℕ, zero, suc, List, [], ◌∷◌, ◌++◌, length, ◌-◌, Bool, ◌&&◌, not, if◌then◌else◌, Ok, Err, Option, Some, None, option_map, nat_eq, encode_utf8, find}
+use Rattle.std.specs.Prelude.{ℕ, zero, suc, List, [], ◌∷◌, ◌++◌, length, ◌-◌, Bool, ◌&&◌, not, if◌then◌else◌, Ok, Err}
+use Rattle.std.specs.Prelude.{Option, Some, None, option_map, nat_eq, encode_utf8, find}
 use Rattle.std.specs.Str.{chars}
 use Rattle.std.specs.Option.{option_or}
 use Rattle.std.specs.List.{starts_with}

@@ -20,18 +20,18 @@ pub(crate) fn limited(text: String, limit: usize) -> Result<String, ValueFault>
 
 /// A text that grows, and how many bytes it may have.
 #[derive(Drop)]
-pub(crate) struct Bounded {
+pub(crate) struct BoundedText {
     pub(crate) text: String,
     pub(crate) limit: usize,
 }
 
-impl Bounded {
+impl BoundedText {
     /// The empty text under this limit.
-    pub(crate) fn new(alloc: Global, limit: usize) -> Bounded
+    pub(crate) fn new(alloc: Global, limit: usize) -> BoundedText
         ensures empty { string_bytes result.text ≡ [] }
         ensures limit { result.limit ≡ limit }
     {
-        Bounded {
+        BoundedText {
             text: String::new(alloc),
             limit,
         }

@@ -3,7 +3,8 @@ ghost use Rattle.std.specs.Prelude.{◌≡◌, ◌+ℤ◌, ℤ, pos, min, length
 ghost use Rattle.tclchars.specs.Numerals.{numeral};
 ghost use Rattle.message.specs.Answers.{Gives};
 ghost use Rattle.tcloperators.specs.Faults.{reason_of};
-ghost use Rattle.tclvalue.specs.Indexes.{index_of, index_after_end, index_number, count_of, position, position_among, at_least_0, items_between};
+ghost use Rattle.tclvalue.specs.Indexes.{index_of, index_after_end, index_number, count_of, position, position_among};
+ghost use Rattle.tclvalue.specs.Indexes.{at_least_0, items_between};
 ghost use Rattle.tclvalue.specs.Views.{index_view};
 
 use std::alloc::Global;

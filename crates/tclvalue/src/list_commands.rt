@@ -1,6 +1,7 @@
 //! The commands on lists (list(n), llength(n), lindex(n), lrange(n), split(n), join(n), concat(n)).
 ghost use Rattle.std.specs.Prelude.{◌≡◌, ◌∷◌, [], Ok, decimal, length, map, string_bytes};
-ghost use Rattle.tclvalue.specs.Commands.{list_command, llength_command, lindex_command, lrange_command, split_command, join_command, element_at, element_text, elements_between, range_text};
+ghost use Rattle.tclvalue.specs.Commands.{list_command, llength_command, lindex_command, lrange_command, split_command};
+ghost use Rattle.tclvalue.specs.Commands.{join_command, element_at, element_text, elements_between, range_text};
 ghost use Rattle.tclvalue.specs.Growing.{GivesWithin};
 ghost use Rattle.tclvalue.specs.Views.{command_view, index_view};
 

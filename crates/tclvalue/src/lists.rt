@@ -6,7 +6,7 @@ ghost use Rattle.tclvalue.specs.Limits.{limited};
 ghost use Rattle.tclvalue.specs.Growing.{Appends};
 ghost use Rattle.tclvalue.specs.Characters.{joined, joined_rest, encoded_all};
 
-use crate::bounded::{Bounded, limited};
+use crate::bounded::{BoundedText, limited};
 use crate::characters::text_of;
 use std::alloc::{AllocError, Global};
 use tcllist::write_list;
@@ -27,7 +27,7 @@ pub fn list_text(alloc: Global, elements: &[String]) -> Result<String, AllocErro
 }
 
 /// Appends texts with a separator between them.
-fn push_joined(out: &mut Bounded, separator: &str, texts: &[String]) -> Result<(), ValueFault>
+fn push_joined(out: &mut BoundedText, separator: &str, texts: &[String]) -> Result<(), ValueFault>
     ensures { Appends result out.old out.new (joined separator.now (map string_bytes texts.now)) }
 {
     match texts {
@@ -40,7 +40,11 @@ fn push_joined(out: &mut Bounded, separator: &str, texts: &[String]) -> Result<(
 }
 
 /// Appends texts with a separator before each.
-fn push_joined_rest(out: &mut Bounded, separator: &str, texts: &[String]) -> Result<(), ValueFault>
+fn push_joined_rest(
+    out: &mut BoundedText,
+    separator: &str,
+    texts: &[String],
+) -> Result<(), ValueFault>
     ensures { Appends result out.old out.new (joined_rest separator.now (map string_bytes texts.now)) }
 {
     for text in texts {
@@ -72,7 +76,7 @@ pub fn joined(
 ) -> Result<String, ValueFault>
     ensures { GivesText result (limited limit (joined separator.now (map string_bytes texts.now))) }
 {
-    let mut out = Bounded::new(alloc, limit);
+    let mut out = BoundedText::new(alloc, limit);
     push_joined(&mut out, separator, texts)?;
     limited(out.text, limit)
 }

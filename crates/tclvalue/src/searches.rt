@@ -9,7 +9,7 @@ ghost use Rattle.tclvalue.specs.Growing.{Appends, Exceeds, StaysWithin};
 ghost use Rattle.tclvalue.specs.Searches.{first_position, last_position, fits, first_fit, pairs_of, mapped};
 ghost use Rattle.tclvalue.specs.Views.{pair_view};
 
-use crate::bounded::{Bounded, limited};
+use crate::bounded::{BoundedText, limited};
 use crate::characters::characters;
 use std::alloc::Global;
 use tcloperators::{ValueFault, not_a_list};
@@ -78,7 +78,7 @@ fn first_fit<'a, 'b>(
 
 /// Appends a text in which, from left to right, the first key that fits is replaced.
 fn push_mapped(
-    out: &mut Bounded,
+    out: &mut BoundedText,
     replacements: &[Replacement],
     text: &[char],
 ) -> Result<(), ValueFault>
@@ -103,14 +103,14 @@ pub(crate) fn mapped(
     ensures { GivesText result (limited limit (mapped (map pair_view replacements.now) 0 (chars text.now))) }
 {
     let characters = characters(alloc, text)?;
-    let mut out = Bounded::new(alloc, limit);
+    let mut out = BoundedText::new(alloc, limit);
     push_mapped(&mut out, replacements, &characters)?;
     limited(out.text, limit)
 }
 
 /// Appends the first character of a text, or what replaces the key that it begins with. Gives the rest of the text.
 fn push_next<'a>(
-    out: &mut Bounded,
+    out: &mut BoundedText,
     replacements: &[Replacement],
     text: &'a [char],
 ) -> Result<&'a [char], ValueFault>

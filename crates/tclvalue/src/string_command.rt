@@ -1,6 +1,9 @@
 //! The command `string` with its subcommands (string(n)).
 ghost use Rattle.std.specs.Prelude.{◌≡◌, map, option_map, string_bytes, IfOk};
-ghost use Rattle.tclvalue.specs.Commands.{subcommand_value, subcommand_named, option_in, order_text, position_text, sought_position, string_length, string_index, string_range, string_equal, string_compare, string_match, string_position, string_map, string_repeat, string_trimmed};
+ghost use Rattle.tclvalue.specs.Commands.{subcommand_value, subcommand_named, option_in, order_text, position_text};
+ghost use Rattle.tclvalue.specs.Commands.{sought_position, string_length, string_index, string_range, string_equal};
+ghost use Rattle.tclvalue.specs.Commands.{string_compare, string_match, string_position, string_map, string_repeat};
+ghost use Rattle.tclvalue.specs.Commands.{string_trimmed};
 ghost use Rattle.tclvalue.specs.Growing.{GivesWithin};
 ghost use Rattle.tclvalue.specs.Views.{operation, option_of, search_for, trimmed_at};
 

@@ -3,7 +3,8 @@ ghost use Rattle.std.specs.Prelude.{◌≡◌, ◌∷◌, [], map, string_bytes,
 ghost use Rattle.std.specs.List.{repeat, slice_split};
 ghost use Rattle.tcloperators.specs.Faults.{GivesText};
 ghost use Rattle.tclvalue.specs.Limits.{limited};
-ghost use Rattle.tclvalue.specs.Characters.{is_among, characters_between, parts, pieces, encoded_all, white_space, split_space};
+ghost use Rattle.tclvalue.specs.Characters.{is_among, characters_between, parts, pieces, encoded_all, white_space};
+ghost use Rattle.tclvalue.specs.Characters.{split_space};
 ghost use Rattle.tclvalue.specs.Views.{without, trimmed_at, index_view};
 
 use crate::characters::{characters, is_among, text_of, without_end, without_start};
@@ -106,7 +107,6 @@ pub(crate) fn parts_at_space(alloc: Global, text: &str) -> Result<Vec<String>, A
     parts(alloc, SPLIT_SPACE, text)
 }
 
-/// The text of each character.
 fn single_texts(alloc: Global, characters: &[char]) -> Result<Vec<String>, AllocError>
     ensures { IfOk result (λ v. map string_bytes v.items ≡ encoded_all (map (λ c. c ∷ []) characters.now)) }
 {

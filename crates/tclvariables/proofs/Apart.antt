@@ -1,5 +1,6 @@
 -- Names of elements taken apart.
-use Rattle.std.proofs.Common.{◌≡◌, ℕ, suc, ◌<◌, ◌+◌, ◌-◌, Bool, true, false, not, ◌==◌, Bor, List, [], ◌∷◌, ◌++◌, length, take, drop, reverse, Some, None, refl, sym, ap, ◌∙◌, arith, length-append}
+use Rattle.std.proofs.Common.{◌≡◌, ℕ, suc, ◌<◌, ◌+◌, ◌-◌, Bool, true, false, not, ◌==◌, Bor, List, [], ◌∷◌, ◌++◌}
+use Rattle.std.proofs.Common.{length, take, drop, reverse, Some, None, refl, sym, ap, ◌∙◌, arith, length-append}
 use Rattle.std.proofs.lemmas.Bool.Decides.{nat_tests}
 use Rattle.std.proofs.lemmas.List.{reverse-append, reverse-reverse, take-append-le}
 use Rattle.std.proofs.lemmas.Str.Pattern.{IsSplitOnceResult, split_once_first}
@@ -28,19 +29,32 @@ not_last name none = go (reverse name) refl
     go [] e = refl
     go (b ∷ bs) e = at b bs e (b == 41) refl
 
-cut_none : (f : List ℕ) → drop_while is_no_opening_parenthesis f ≡ [] → (take_while is_no_opening_parenthesis (f ++ 41 ∷ []) ≡ f ++ 41 ∷ []) × (drop_while is_no_opening_parenthesis (f ++ 41 ∷ []) ≡ [])
+cut_none : (f : List ℕ) → drop_while is_no_opening_parenthesis f ≡ []
+    → (take_while is_no_opening_parenthesis (f ++ 41 ∷ []) ≡ f ++ 41 ∷ [])
+    × (drop_while is_no_opening_parenthesis (f ++ 41 ∷ []) ≡ [])
 cut_none [] h = (refl, refl)
 cut_none (c ∷ cs) h = go (cut_none cs) (is_no_opening_parenthesis c) refl
   where
-    go : (drop_while is_no_opening_parenthesis cs ≡ [] → (take_while is_no_opening_parenthesis (cs ++ 41 ∷ []) ≡ cs ++ 41 ∷ []) × (drop_while is_no_opening_parenthesis (cs ++ 41 ∷ []) ≡ [])) → (t : Bool) → is_no_opening_parenthesis c ≡ t → (take_while is_no_opening_parenthesis (c ∷ cs ++ 41 ∷ []) ≡ c ∷ cs ++ 41 ∷ []) × (drop_while is_no_opening_parenthesis (c ∷ cs ++ 41 ∷ []) ≡ [])
+    go : (drop_while is_no_opening_parenthesis cs ≡ []
+        → (take_while is_no_opening_parenthesis (cs ++ 41 ∷ []) ≡ cs ++ 41 ∷ [])
+        × (drop_while is_no_opening_parenthesis (cs ++ 41 ∷ []) ≡ [])) → (t : Bool) → is_no_opening_parenthesis c ≡ t
+        → (take_while is_no_opening_parenthesis (c ∷ cs ++ 41 ∷ []) ≡ c ∷ cs ++ 41 ∷ [])
+        × (drop_while is_no_opening_parenthesis (c ∷ cs ++ 41 ∷ []) ≡ [])
     go k true e = let i = k (rw e at h) in (rw e (ap (λ r. c ∷ r) i.0), rw e i.1)
     go k false e = let d : c ∷ cs ≡ [] = rw e at h in cc
 
-cut_some : (f bs : List ℕ) (b : ℕ) → drop_while is_no_opening_parenthesis f ≡ b ∷ bs → (take_while is_no_opening_parenthesis (f ++ 41 ∷ []) ≡ take_while is_no_opening_parenthesis f) × (drop_while is_no_opening_parenthesis (f ++ 41 ∷ []) ≡ b ∷ bs ++ 41 ∷ [])
+cut_some : (f bs : List ℕ) (b : ℕ) → drop_while is_no_opening_parenthesis f ≡ b ∷ bs
+    → (take_while is_no_opening_parenthesis (f ++ 41 ∷ []) ≡ take_while is_no_opening_parenthesis f)
+    × (drop_while is_no_opening_parenthesis (f ++ 41 ∷ []) ≡ b ∷ bs ++ 41 ∷ [])
 cut_some [] bs b h = cc
 cut_some (c ∷ cs) bs b h = go (cut_some cs bs b) (is_no_opening_parenthesis c) refl
   where
-    go : (drop_while is_no_opening_parenthesis cs ≡ b ∷ bs → (take_while is_no_opening_parenthesis (cs ++ 41 ∷ []) ≡ take_while is_no_opening_parenthesis cs) × (drop_while is_no_opening_parenthesis (cs ++ 41 ∷ []) ≡ b ∷ bs ++ 41 ∷ [])) → (t : Bool) → is_no_opening_parenthesis c ≡ t → (take_while is_no_opening_parenthesis (c ∷ cs ++ 41 ∷ []) ≡ take_while is_no_opening_parenthesis (c ∷ cs)) × (drop_while is_no_opening_parenthesis (c ∷ cs ++ 41 ∷ []) ≡ b ∷ bs ++ 41 ∷ [])
+    go : (drop_while is_no_opening_parenthesis cs ≡ b ∷ bs
+        → (take_while is_no_opening_parenthesis (cs ++ 41 ∷ []) ≡ take_while is_no_opening_parenthesis cs)
+        × (drop_while is_no_opening_parenthesis (cs ++ 41 ∷ []) ≡ b ∷ bs ++ 41 ∷ [])) → (t : Bool)
+        → is_no_opening_parenthesis c ≡ t → (take_while is_no_opening_parenthesis (c ∷ cs ++ 41 ∷ []) ≡ take_while
+        is_no_opening_parenthesis (c ∷ cs)) × (drop_while is_no_opening_parenthesis (c ∷ cs ++ 41 ∷ []) ≡ b ∷ bs ++ 41 ∷
+        [])
     go k true e = let i = k (rw e at h) in (rw e (ap (λ r. c ∷ r) i.0), rw e i.1)
     go k false e = let d : c ∷ cs ≡ b ∷ bs = rw e at h in (rw e refl, rw e (ap (λ ys. ys ++ 41 ∷ []) d))
 
@@ -54,11 +68,18 @@ drop_next : (n c : ℕ) (cs : List ℕ) → drop (1 + n + 1) (c ∷ cs) ≡ drop
 drop_next n c cs = let e : 1 + n + 1 ≡ suc (n + 1) = omega arith in rw e refl
 
 -- a text up to its first opening parenthesis, and after it
-cut_first : (f : List ℕ) → position_or_len (λ b. b == 40) f < length f → (take_while is_no_opening_parenthesis f ≡ before_first (λ b. b == 40) f) × (drop_while is_no_opening_parenthesis f ≡ 40 ∷ after_first (λ b. b == 40) f)
+cut_first : (f : List ℕ) → position_or_len (λ b. b == 40) f < length f
+    → (take_while is_no_opening_parenthesis f ≡ before_first (λ b. b == 40) f)
+    × (drop_while is_no_opening_parenthesis f ≡ 40 ∷ after_first (λ b. b == 40) f)
 cut_first [] h = absurd (omega (arith, h))
 cut_first (c ∷ cs) h = go (cut_first cs) (c == 40) refl h
   where
-    go : (position_or_len (λ b. b == 40) cs < length cs → (take_while is_no_opening_parenthesis cs ≡ before_first (λ b. b == 40) cs) × (drop_while is_no_opening_parenthesis cs ≡ 40 ∷ after_first (λ b. b == 40) cs)) → (t : Bool) → (c == 40) ≡ t → position_or_len (λ b. b == 40) (c ∷ cs) < length (c ∷ cs) → (take_while is_no_opening_parenthesis (c ∷ cs) ≡ before_first (λ b. b == 40) (c ∷ cs)) × (drop_while is_no_opening_parenthesis (c ∷ cs) ≡ 40 ∷ after_first (λ b. b == 40) (c ∷ cs))
+    go : (position_or_len (λ b. b == 40) cs < length cs
+        → (take_while is_no_opening_parenthesis cs ≡ before_first (λ b. b == 40) cs)
+        × (drop_while is_no_opening_parenthesis cs ≡ 40 ∷ after_first (λ b. b == 40) cs)) → (t : Bool) → (c == 40) ≡ t
+        → position_or_len (λ b. b == 40) (c ∷ cs) < length (c ∷ cs)
+        → (take_while is_no_opening_parenthesis (c ∷ cs) ≡ before_first (λ b. b == 40) (c ∷ cs))
+        × (drop_while is_no_opening_parenthesis (c ∷ cs) ≡ 40 ∷ after_first (λ b. b == 40) (c ∷ cs))
     go k true e l = (rw e refl, rw e (ap (λ x. x ∷ cs) (is_open c e)))
     go k false e l =
         let n = position_or_len (λ b. b == 40) cs in
@@ -69,7 +90,9 @@ cut_nowhere : (f : List ℕ) → position_or_len (λ b. b == 40) f ≡ length f 
 cut_nowhere [] h = refl
 cut_nowhere (c ∷ cs) h = go (cut_nowhere cs) (c == 40) refl h
   where
-    go : (position_or_len (λ b. b == 40) cs ≡ length cs → drop_while is_no_opening_parenthesis cs ≡ []) → (t : Bool) → (c == 40) ≡ t → position_or_len (λ b. b == 40) (c ∷ cs) ≡ length (c ∷ cs) → drop_while is_no_opening_parenthesis (c ∷ cs) ≡ []
+    go : (position_or_len (λ b. b == 40) cs ≡ length cs → drop_while is_no_opening_parenthesis cs ≡ []) → (t : Bool)
+        → (c == 40) ≡ t → position_or_len (λ b. b == 40) (c ∷ cs) ≡ length (c ∷ cs)
+        → drop_while is_no_opening_parenthesis (c ∷ cs) ≡ []
     go k true e l = absurd (omega (arith, rw e at l))
     go k false e l = rw e (k (omega (arith, rw e at l)))
 

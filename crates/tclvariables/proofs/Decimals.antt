@@ -1,5 +1,6 @@
 -- A number that isn't negative is read from its decimal digits.
-use Rattle.std.proofs.Common.{◌≡◌, ℕ, zero, suc, ◌<◌, ◌≤◌, ◌^◌, ◌==◌, true, false, not, nat_lt, ℤ, pos, negsuc, w64, FitsSigned, List, [], ◌∷◌, get_or, length, append-nil, refl, sym, ap, ◌∙◌, arith}
+use Rattle.std.proofs.Common.{◌≡◌, ℕ, zero, suc, ◌<◌, ◌≤◌, ◌^◌, ◌==◌, true, false, not, nat_lt, ℤ, pos, negsuc, w64}
+use Rattle.std.proofs.Common.{FitsSigned, List, [], ◌∷◌, get_or, length, append-nil, refl, sym, ap, ◌∙◌, arith}
 use Rattle.std.proofs.lemmas.Bool.Decides.{nat_tests}
 use Rattle.std.proofs.lemmas.Fmt.{decimal_is_IsNumeral, decimal_digit, first_decimal, length-decimal-le}
 use Rattle.std.specs.Fmt.{decimal, signed_decimal}

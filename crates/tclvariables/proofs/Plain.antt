@@ -1,5 +1,6 @@
 -- The variable that a name without colons denotes.
-use Rattle.std.proofs.Common.{◌≡◌, ℕ, Bool, not, is_some, true, false, ◌==◌, ◌&&◌, ◌||◌, [], ◌∷◌, Option, None, Some, Ok, codes, refl, arith}
+use Rattle.std.proofs.Common.{◌≡◌, ℕ, Bool, not, is_some, true, false, ◌==◌, ◌&&◌, ◌||◌, [], ◌∷◌, Option, None, Some}
+use Rattle.std.proofs.Common.{Ok, codes, refl, arith}
 use Rattle.std.proofs.lemmas.Bool.Decides.{nat_tests}
 use Rattle.std.specs.Borrow.{Bor}
 use Rattle.std.specs.List.{list_any}
@@ -27,7 +28,8 @@ unled (x ∷ s) h = go (x == 58) (same_test x) h
     go true e h = cc
     go false e h = rw e refl
 
-pub plain_location : (s : State) (name : Text) (p : Text × Option Text) → p ≡ name_and_index name → p.1 ≡ None → list_any (λ b. b == 58) p.0 ≡ false → location_named s name ≡ Ok (Scalar (sees s.frame p.0) p.0)
+pub plain_location : (s : State) (name : Text) (p : Text × Option Text) → p ≡ name_and_index name → p.1 ≡ None
+    → list_any (λ b. b == 58) p.0 ≡ false → location_named s name ≡ Ok (Scalar (sees s.frame p.0) p.0)
 plain_location s name p e n h = rw (← e) (rw n (rw (unled p.0 h) (rw (colonless p.0 h) refl)))
 
 -- a test for an index that finds none

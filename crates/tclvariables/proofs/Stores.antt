@@ -1,11 +1,14 @@
 -- What is written is read again, and written over.
-use Rattle.std.proofs.Common.{◌≡◌, Bool, true, false, cond, [], ◌∷◌, Option, Some, None, Ok, Err, codes, refl, sym, ap, ◌∙◌}
+use Rattle.std.proofs.Common.{◌≡◌, Bool, true, false, cond, [], ◌∷◌, Option, Some, None, Ok, Err, codes, refl, sym, ap}
+use Rattle.std.proofs.Common.{◌∙◌}
 use Rattle.std.specs.Str.{bytes_eq}
 use Rattle.std.proofs.lemmas.Slice.Eq.{bytes_eq-Decides}
 use Rattle.tclchars.specs.Runs.{Text}
 use Rattle.tcloperators.specs.Faults.{Answer, ◌>>=◌, unsupported}
 use Rattle.tclvalue.specs.Indexes.{after_prefix}
-use Rattle.tclrules.specs.Variables.{Variables, State, Frame, Location, Scalar, Element, lookup, store, own_of, with_own, value_at, with_value, has_colons, unqualified, indexed, qualified_location, location_named, writable_scalar, writable, env, name_and_index}
+use Rattle.tclrules.specs.Variables.{Variables, State, Frame, Location, Scalar, Element, lookup, store, own_of}
+use Rattle.tclrules.specs.Variables.{with_own, value_at, with_value, has_colons, unqualified, indexed}
+use Rattle.tclrules.specs.Variables.{qualified_location, location_named, writable_scalar, writable, env, name_and_index}
 
 same : (xs : Text) → bytes_eq xs xs ≡ true
 same xs = (bytes_eq-Decides xs xs).1 refl
@@ -14,7 +17,8 @@ pub store_again : (vs : Variables) (name t u : Text) → store (store vs name t)
 store_again [] name t u = rw (same name) refl
 store_again (v ∷ vs) name t u = go (bytes_eq name v.0) refl (store_again vs name t u)
   where
-    go : (b : Bool) → bytes_eq name v.0 ≡ b → store (store vs name t) name u ≡ store vs name u → store (cond b ((v.0, t) ∷ vs) (v ∷ store vs name t)) name u ≡ cond b ((v.0, u) ∷ vs) (v ∷ store vs name u)
+    go : (b : Bool) → bytes_eq name v.0 ≡ b → store (store vs name t) name u ≡ store vs name u
+        → store (cond b ((v.0, t) ∷ vs) (v ∷ store vs name t)) name u ≡ cond b ((v.0, u) ∷ vs) (v ∷ store vs name u)
     go true e h = rw e refl
     go false e h = rw e (ap (λ r. v ∷ r) h)
 

@@ -1,5 +1,6 @@
 //! The frame of a procedure that runs: its own variables, and the global ones that it sees.
-ghost use Rattle.std.specs.Prelude.{◌≡◌, [], true, None, map, OnOk, OnErr, IfOk, IfSome, option_map, bytes_eq, string_bytes};
+ghost use Rattle.std.specs.Prelude.{◌≡◌, [], true, None, map, OnOk, OnErr, IfOk, IfSome, option_map, bytes_eq};
+ghost use Rattle.std.specs.Prelude.{string_bytes};
 ghost use Rattle.std.specs.Fmt.{signed_decimal};
 ghost use Rattle.tclchars.specs.Runs.{Text};
 ghost use Rattle.tclvariables.specs.Contents.{HoldsList, IsIncreased};

@@ -3,7 +3,8 @@ ghost use Rattle.std.specs.Prelude.{◌≡◌, ◌==◌, IfSome, Ok, option_map}
 ghost use Rattle.std.specs.List.{list_any};
 ghost use Rattle.message.specs.Answers.{Gives};
 ghost use Rattle.tcloperators.specs.Faults.{reason_of};
-ghost use Rattle.tclrules.specs.Variables.{name_and_index, has_colons, unqualified, indexed, location_of, location_named, writable, writable_scalar};
+ghost use Rattle.tclrules.specs.Variables.{name_and_index, has_colons, unqualified, indexed, location_of};
+ghost use Rattle.tclrules.specs.Variables.{location_named, writable, writable_scalar};
 ghost use Rattle.tclrules.specs.Variables as rules;
 ghost use Rattle.tclvariables.specs.Locations.{is_env, is_global, location_view, scalar_view, shared_name};
 

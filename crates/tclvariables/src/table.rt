@@ -1,5 +1,6 @@
 //! Variables by name, in the order of their making: the global ones, or those of one procedure.
-ghost use Rattle.std.specs.Prelude.{◌≡◌, ◌<◌, true, None, Ok, OnOk, OnErr, IfOk, IfSome, option_map, bytes_eq, string_bytes};
+ghost use Rattle.std.specs.Prelude.{◌≡◌, ◌<◌, true, None, Ok, OnOk, OnErr, IfOk, IfSome, option_map, bytes_eq};
+ghost use Rattle.std.specs.Prelude.{string_bytes};
 ghost use Rattle.std.specs.Fmt.{signed_decimal};
 ghost use Rattle.tclchars.specs.Numerals.{numeral};
 ghost use Rattle.tclchars.specs.declared.number.Numeral.TheVariants.{Whole};

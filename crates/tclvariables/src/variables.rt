@@ -1,9 +1,11 @@
 //! All that an evaluation has of variables and procedures.
-ghost use Rattle.std.specs.Prelude.{◌≡◌, [], true, None, map, string_bytes, OnOk, OnErr, IfOk, IfSome, option_map, is_some};
+ghost use Rattle.std.specs.Prelude.{◌≡◌, [], true, None, map, string_bytes, OnOk, OnErr, IfOk, IfSome, option_map};
+ghost use Rattle.std.specs.Prelude.{is_some};
 ghost use Rattle.std.specs.Fmt.{signed_decimal};
 ghost use Rattle.tclchars.specs.Runs.{Text};
 ghost use Rattle.tclvariables.specs.Contents.{HoldsList, IsIncreased};
-ghost use Rattle.tclrules.specs.Variables.{initial_state, in_frame, sees, value_at, with_value, without_value, shared_in, lookup};
+ghost use Rattle.tclrules.specs.Variables.{initial_state, in_frame, sees, value_at, with_value, without_value};
+ghost use Rattle.tclrules.specs.Variables.{shared_in, lookup};
 ghost use Rattle.tclrules.specs.Rules.{new_frame, with_procedure};
 ghost use Rattle.tclrules.specs.Promise as promise;
 ghost use Rattle.tclvariables.specs.Locations.{is_global, scalar_view};

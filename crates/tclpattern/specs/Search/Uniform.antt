@@ -2,11 +2,12 @@
 -- bracket.
 use Rattle.std.specs.Prelude.{ℕ, List, [], ◌∷◌, Bool, true, false, ◌==◌, if◌then◌else◌}
 use Rattle.tclpattern.specs.Patterns.{open_bracket, close_bracket, backslash, dash}
-use Rattle.tclpattern.specs.declared.star.Reading.{Reading}
-use Rattle.tclpattern.specs.declared.star.Reading.TheVariants.{Outside, Escaped, AtItem, AfterLow, AfterDash, RangeToClose}
+use Rattle.tclpattern.specs.declared.star.ReadingState.{ReadingState}
+use Rattle.tclpattern.specs.declared.star.ReadingState.TheVariants.{Outside, Escaped, AtItem, AfterLow, AfterDash}
+use Rattle.tclpattern.specs.declared.star.ReadingState.TheVariants.{RangeToClose}
 
 -- the state of the reading after the character
-abbrev pub reading_after : Reading → ℕ → Reading
+abbrev pub reading_after : ReadingState → ℕ → ReadingState
 reading_after Outside c = if c == backslash then Escaped else if c == open_bracket then AtItem else Outside
 reading_after Escaped c = Outside
 reading_after AtItem c = if c == close_bracket then Outside else AfterLow
@@ -15,12 +16,12 @@ reading_after AfterDash c = if c == close_bracket then RangeToClose else AtItem
 reading_after RangeToClose c = RangeToClose
 
 -- the state after several characters
-abbrev pub reading_of : Reading → List ℕ → Reading
+abbrev pub reading_of : ReadingState → List ℕ → ReadingState
 reading_of r [] = r
 reading_of r (c ∷ cs) = reading_of (reading_after r c) cs
 
 -- no such range was read
-abbrev pub is_closed : Reading → Bool
+abbrev pub is_closed : ReadingState → Bool
 is_closed Outside = true
 is_closed Escaped = true
 is_closed AtItem = true

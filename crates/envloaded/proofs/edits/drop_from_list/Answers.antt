@@ -24,9 +24,13 @@ returns-clause-edits g c =
     (dropped_is (g.V.Vars.vars c.args.env.now) c.args.name.now (map entry_view c.args.list.now.items) c.is_loaded.result
     (c.is_loaded.ensures ∙ ap (λ l. has c.args.name.now (names_of (map entry_view l))) c.as_slice.ensures.value) c.if-not-is_loaded.false
     ∙ ap (λ l. Ok (with_loaded (g.V.Vars.vars c.args.env.now) l))
-    (sym (ap (map entry_view) (c.as_slice-2.ensures.value ∙ filter_same _ (λ entry. not (bytes_eq (string_bytes entry.name) c.args.name.now)) _ (λ x b g k. search rules) _ _ c.retain.ensures.filtered) ∙ without_is c.args.list.now.items c.args.name.now)))
+    (sym (ap (map entry_view) (c.as_slice-2.ensures.value
+    ∙ filter_same _ (λ entry. not (bytes_eq (string_bytes entry.name) c.args.name.now)) _ (λ x b g k. search rules)
+    _ _ c.retain.ensures.filtered) ∙ without_is c.args.list.now.items c.args.name.now)))
     c.write.ensures.ok c.write.ensures.err c.write.ensures.only
 
 pub returns-clause-list : goal.returns-clause-list
 returns-clause-list g c =
-    on_any c.write.result (ap (map entry_view) (filter_same _ (λ entry. not (bytes_eq (string_bytes entry.name) c.args.name.now)) _ (λ x b g k. search rules) _ _ c.retain.ensures.filtered) ∙ without_is c.args.list.now.items c.args.name.now)
+    on_any c.write.result (ap (map entry_view) (filter_same _
+    (λ entry. not (bytes_eq (string_bytes entry.name) c.args.name.now)) _ (λ x b g k. search rules) _ _
+    c.retain.ensures.filtered) ∙ without_is c.args.list.now.items c.args.name.now)

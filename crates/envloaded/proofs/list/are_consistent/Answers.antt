@@ -5,8 +5,12 @@ use Rattle.envloaded.proofs.list.are_consistent.Goals as goal
 
 pub returns-then-not-are_well_spelled : goal.returns-then-not-are_well_spelled
 returns-then-not-are_well_spelled c =
-    no_fit c.are_well_spelled.result (are_distinct (slice_texts c.args.names.now)) _ (fit_is c.args.names.now c.args.files.now c.are_well_spelled.result c.are_well_spelled.ensures) c.if-not-are_well_spelled.true
+    no_fit c.are_well_spelled.result (are_distinct (slice_texts c.args.names.now)) _
+    (fit_is c.args.names.now c.args.files.now c.are_well_spelled.result c.are_well_spelled.ensures)
+    c.if-not-are_well_spelled.true
 
 pub returns : goal.returns
 returns c =
-    ok_fit c.are_distinct.result c.are_well_spelled.result _ _ (fit_is c.args.names.now c.args.files.now c.are_well_spelled.result c.are_well_spelled.ensures) c.if-not-are_well_spelled.false c.are_distinct.ensures
+    ok_fit c.are_distinct.result c.are_well_spelled.result _ _
+    (fit_is c.args.names.now c.args.files.now c.are_well_spelled.result c.are_well_spelled.ensures)
+    c.if-not-are_well_spelled.false c.are_distinct.ensures

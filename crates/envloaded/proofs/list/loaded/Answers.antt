@@ -12,5 +12,8 @@ returns g c =
     (ap slice_texts c.as_slice-4.ensures.value ∙ c.in_ok-files.ensures ∙ ap elements_in c.get-2.ensures)
     (ap slice_texts c.as_slice-5.ensures.value ∙ c.in_ok-conflicts.ensures ∙ ap elements_in c.get-3.ensures)
     (ap slice_texts c.as_slice-6.ensures.value ∙ c.in_ok-prereqs.ensures ∙ ap elements_in c.get-4.ensures)
-    (c.in_ok-are_consistent.ensures ∙ ap (λ l. are_consistent (slice_texts l) (slice_texts c.as_slice-2.result.now)) (c.as_slice.ensures.value ∙ sym c.as_slice-3.ensures.value) ∙ ap (λ l. are_consistent (slice_texts c.as_slice-3.result.now) (slice_texts l)) (c.as_slice-2.ensures.value ∙ sym c.as_slice-4.ensures.value))
+    (c.in_ok-are_consistent.ensures ∙ ap (λ l. are_consistent (slice_texts l) (slice_texts c.as_slice-2.result.now))
+    (c.as_slice.ensures.value ∙ sym c.as_slice-3.ensures.value)
+    ∙ ap (λ l. are_consistent (slice_texts c.as_slice-3.result.now) (slice_texts l))
+    (c.as_slice-2.ensures.value ∙ sym c.as_slice-4.ensures.value))
     c.if-not-branch.false c.in_ok-entries.ensures

@@ -2,18 +2,26 @@ use Rattle.std.proofs.Common.{ap, sym, ◌∙◌, ◌≡◌, ◌<◌, ℕ, subst
 use Rattle.envvars.specs.Texts.{slice_texts, texts_in}
 use Rattle.envloaded.specs.LoadedTexts.{names_of_group}
 use Rattle.envloaded.specs.LoadedEntries.{groups_in}
-use Rattle.envloaded.proofs.LoadedReading.{group-from, no_names, some_names, no_group, one_group, zero_is, more_is, groups-push}
+use Rattle.envloaded.proofs.LoadedReading.{group-from, no_names, some_names, no_group, one_group, zero_is, more_is}
+use Rattle.envloaded.proofs.LoadedReading.{groups-push}
 use Rattle.envvars.proofs.FieldLemmas.{len_is}
 use Rattle.envloaded.proofs.list.push_group.Goals as goal
 
 pub returns-then-is_empty : goal.returns-then-is_empty
 returns-then-is_empty c =
-    let names : slice_texts c.in_ok-names.names.items ≡ names_of_group c.args.word.now = group-from c.as_slice.result.now c.in_ok-names.names.items c.args.word.now (ap slice_texts c.as_slice.ensures.value ∙ c.in_ok-alternatives.ensures) c.in_ok-names.ensures in
-    no_group (groups_in c.args.groups.now) c.args.word.now (no_names c.in_ok-names.names.items _ names (sym (len_is c.in_ok-names.names) ∙ zero_is c.is_empty.result (vec_len c.in_ok-names.names) c.is_empty.ensures c.if-is_empty.true))
+    let names : slice_texts c.in_ok-names.names.items ≡ names_of_group c.args.word.now = group-from
+    c.as_slice.result.now c.in_ok-names.names.items c.args.word.now
+    (ap slice_texts c.as_slice.ensures.value ∙ c.in_ok-alternatives.ensures) c.in_ok-names.ensures in
+    no_group (groups_in c.args.groups.now) c.args.word.now
+    (no_names c.in_ok-names.names.items _ names (sym (len_is c.in_ok-names.names) ∙ zero_is c.is_empty.result
+    (vec_len c.in_ok-names.names) c.is_empty.ensures c.if-is_empty.true))
 
 pub returns : goal.returns
 returns c =
-    let names : slice_texts c.in_ok-names.names.items ≡ names_of_group c.args.word.now = group-from c.as_slice.result.now c.in_ok-names.names.items c.args.word.now (ap slice_texts c.as_slice.ensures.value ∙ c.in_ok-alternatives.ensures) c.in_ok-names.ensures in
+    let names : slice_texts c.in_ok-names.names.items ≡ names_of_group c.args.word.now = group-from
+    c.as_slice.result.now c.in_ok-names.names.items c.args.word.now
+    (ap slice_texts c.as_slice.ensures.value ∙ c.in_ok-alternatives.ensures) c.in_ok-names.ensures in
     groups-push c.args.groups.now.items c.push.new.self.items c.in_ok-owned.field-0 c.in_ok-push.ensures.items
     ∙ one_group (groups_in c.args.groups.now) c.args.word.now (texts_in c.in_ok-owned.field-0) (c.in_ok-owned.ensures ∙ ap slice_texts c.as_slice-2.ensures.value ∙ names)
-    (some_names c.in_ok-names.names.items _ names (subst (λ (n : ℕ). 0 < n) (len_is c.in_ok-names.names) (more_is c.is_empty.result (vec_len c.in_ok-names.names) c.is_empty.ensures c.if-is_empty.false)))
+    (some_names c.in_ok-names.names.items _ names (subst (λ (n : ℕ). 0 < n) (len_is c.in_ok-names.names)
+    (more_is c.is_empty.result (vec_len c.in_ok-names.names) c.is_empty.ensures c.if-is_empty.false)))

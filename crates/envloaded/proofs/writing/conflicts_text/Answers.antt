@@ -5,4 +5,6 @@ use Rattle.envloaded.proofs.writing.conflicts_text.Goals as goal
 
 pub loop-entry-preserved : goal.loop-entry-preserved
 loop-entry-preserved c =
-    conflicts-turn (option_map string_bytes c.loop-entry.text) (option_map string_bytes c.in_ok-text.text) c.args.list.now c.loop-entry.entry-index c.entry-item.result c.loop-entry-test.true c.entry-item.is c.loop-entry.invariant c.in_ok-text.ensures
+    conflicts-turn (option_map string_bytes c.loop-entry.text) (option_map string_bytes c.in_ok-text.text)
+    c.args.list.now c.loop-entry.entry-index c.entry-item.result c.loop-entry-test.true c.entry-item.is
+    c.loop-entry.invariant c.in_ok-text.ensures

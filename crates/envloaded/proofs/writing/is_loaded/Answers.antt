@@ -7,5 +7,6 @@ use Rattle.envloaded.proofs.writing.is_loaded.Goals as goal
 
 pub returns : goal.returns
 returns c =
-    any_from_yields_List (λ (x : Loaded). bytes_eq (string_bytes x.name) c.args.name.now) _ _ c.any.result c.any.ensures.ran (YieldsList-from_slice c.args.list.now cc) (λ x b q k. search (rules, tests))
+    any_from_yields_List (λ (x : Loaded). bytes_eq (string_bytes x.name) c.args.name.now) _ _ c.any.result
+    c.any.ensures.ran (YieldsList-from_slice c.args.list.now cc) (λ x b q k. search (rules, tests))
     ∙ loaded_is c.args.list.now c.args.name.now

@@ -9,4 +9,6 @@ use Rattle.envpaths.proofs.adding.add_back.Given as goal
 abbrev pub invariant-loop-element : goal.invariant-loop-element
 invariant-loop-element l =
     Adds (counter_in l.counters) (slice_texts l.elements.items)
-    × (add_back (state_from_table (slice_texts l.elements.items) (counter_in l.counters)) (slice_texts (drop l.element-index l.more)) ≡ add_back (state_from_table (slice_texts l.fn.elements.items) (counter_in l.fn.counters)) (slice_texts l.more))
+    × (add_back (state_from_table (slice_texts l.elements.items) (counter_in l.counters))
+    (slice_texts (drop l.element-index l.more)) ≡ add_back
+    (state_from_table (slice_texts l.fn.elements.items) (counter_in l.fn.counters)) (slice_texts l.more))

@@ -14,8 +14,11 @@ returns-in_err-add_one-clause-full c =
 
 pub loop-rest-preserved : goal.loop-rest-preserved
 loop-rest-preserved c =
-    let turn = front_turn (counter_in c.loop-rest.counters) (counter_in c.add_one.new.counters) (slice_texts c.loop-rest.front.items) (slice_texts c.add_one.new.added.items) (slice_texts c.args.elements.now) c.loop-rest.rest.now _ _ _
-    (last_cut c.loop-rest.rest.now _ c.in-len1-up.len_at_least) (c.loop-rest.invariant.0, c.loop-rest.invariant.1) c.in_ok-add_one.ensures.raised c.in_ok-add_one.ensures.added c.in_ok-add_one.ensures.fits in
+    let turn = front_turn (counter_in c.loop-rest.counters) (counter_in c.add_one.new.counters)
+    (slice_texts c.loop-rest.front.items) (slice_texts c.add_one.new.added.items) (slice_texts c.args.elements.now)
+    c.loop-rest.rest.now _ _ _
+    (last_cut c.loop-rest.rest.now _ c.in-len1-up.len_at_least) (c.loop-rest.invariant.0, c.loop-rest.invariant.1)
+    c.in_ok-add_one.ensures.raised c.in_ok-add_one.ensures.added c.in_ok-add_one.ensures.fits in
     (turn.0, turn.1, shorter c.loop-rest.rest.now _ c.loop-rest.invariant.2)
 
 pub returns-clause-ok : goal.returns-clause-ok

@@ -9,7 +9,9 @@ use Rattle.envpaths.proofs.adding.add_front.Given as goal
 abbrev pub invariant-loop-rest : goal.invariant-loop-rest
 invariant-loop-rest l =
     Adds (counter_in l.counters) (reverse (slice_texts l.front.items) ++ slice_texts l.elements)
-    × (add_front (state_from_table (reverse (slice_texts l.front.items) ++ slice_texts l.elements) (counter_in l.counters)) (slice_texts l.rest) ≡ add_front (state_from_table (slice_texts l.elements) (counter_in l.fn.counters)) (slice_texts l.more))
+    × (add_front (state_from_table (reverse (slice_texts l.front.items) ++ slice_texts l.elements)
+    (counter_in l.counters)) (slice_texts l.rest) ≡ add_front
+    (state_from_table (slice_texts l.elements) (counter_in l.fn.counters)) (slice_texts l.more))
     × (length l.rest ≤ length l.more)
 
 abbrev pub decreases-loop-rest : goal.decreases-loop-rest

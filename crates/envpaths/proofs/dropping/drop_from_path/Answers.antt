@@ -5,7 +5,8 @@ use Rattle.envpaths.proofs.dropping.drop_from_path.Goals as goal
 
 pub returns-then-drop_each : goal.returns-then-drop_each
 returns-then-drop_each c =
-    taken_out (slice_texts c.args.path.now.elements.items) (slice_texts c.keep_counted.new.elements.items) (slice_texts c.args.less.now) (counter_in c.args.path.now.counters) (counter_in c.drop_each.new.counters)
+    taken_out (slice_texts c.args.path.now.elements.items) (slice_texts c.keep_counted.new.elements.items)
+    (slice_texts c.args.less.now) (counter_in c.args.path.now.counters) (counter_in c.drop_each.new.counters)
     c.requires c.drop_each.ensures.dropped c.keep_counted.ensures
 
 pub returns-else-drop_each : goal.returns-else-drop_each

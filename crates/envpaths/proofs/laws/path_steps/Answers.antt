@@ -1,4 +1,5 @@
-use Rattle.envpaths.proofs.PathLemmas.{IsPathStartWith-start, IsPathStartWith-add_all, IsPathStartWith-drop_all, IsPathStartWith-restored}
+use Rattle.envpaths.proofs.PathLemmas.{IsPathStartWith-start, IsPathStartWith-add_all, IsPathStartWith-drop_all}
+use Rattle.envpaths.proofs.PathLemmas.{IsPathStartWith-restored}
 use Rattle.envpaths.proofs.laws.path_steps.Goals as goal
 
 pub returns-clause-start : goal.returns-clause-start

@@ -21,7 +21,8 @@ returns c =
     (λ kept. split_elements delim (string_bytes kept) ≡ without element (split_elements delim c.args.text.now))
     (λ kept h.
     let surrounded = c.as_str-3.ensures.value ∙ h in
-    let once = has-by_search delim element (string_bytes kept) c.as_str-4.result.now rest c.contains.result unparted (c.as_str-4.ensures.value ∙ c.in_ok-wanted.ensures) surrounded c.contains.ensures.cases in
+    let once = has-by_search delim element (string_bytes kept) c.as_str-4.result.now rest c.contains.result unparted
+    (c.as_str-4.ensures.value ∙ c.in_ok-wanted.ensures) surrounded c.contains.ensures.cases in
     without-cut_out delim element c.args.text.now c.in-Some.before.now c.in-Some.after.now (string_bytes kept) c.as_str-2.result.now c.as_str.result.now rest c.contains.result
     unparted (c.as_str-2.ensures.value ∙ c.in_ok-wanted.ensures) (c.as_str.ensures.value ∙ c.in_ok-text.ensures) c.in-Some.ensures.cases joined surrounded once c.if-contains.false)
     c.between_delimiters.ensures

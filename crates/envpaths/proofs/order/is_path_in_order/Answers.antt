@@ -12,4 +12,5 @@ returns-clause-decided c =
     (c.in_ok-anew.ensures.ok ∙ ap (λ n. copied (lookup c.args.env.now c.args.variable.now) (codes "__MODULES_SHARE_V") (lookup c.args.env.now n)) c.as_str.ensures.value)
     c.in_ok-drop_path.ensures.edits
     (c.is_kept.ensures
-    ∙ ap (λ n. same_value (lookup c.drop_path.new.env (codes "V")) (lookup c.args.env.now c.args.variable.now) && same_value (lookup c.drop_path.new.env (codes "__MODULES_SHARE_V")) (lookup c.args.env.now n)) (search rules))
+    ∙ ap (λ n. same_value (lookup c.drop_path.new.env (codes "V")) (lookup c.args.env.now c.args.variable.now) &&
+    same_value (lookup c.drop_path.new.env (codes "__MODULES_SHARE_V")) (lookup c.args.env.now n)) (search rules))

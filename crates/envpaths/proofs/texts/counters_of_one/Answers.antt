@@ -9,4 +9,5 @@ loop-element-preserved c =
     (counter_given c.loop-element.counters c.insert.new.self _ 1 c.in_ok-insert.ensures.updates) c.loop-element.invariant
 
 pub returns : goal.returns
-returns c = ones_done (counter_in c.loop-element.counters) (one_for_each (slice_texts c.args.elements.now)) c.args.elements.now c.loop-element.element-index c.loop-element-test.false c.loop-element.invariant
+returns c = ones_done (counter_in c.loop-element.counters) (one_for_each (slice_texts c.args.elements.now))
+    c.args.elements.now c.loop-element.element-index c.loop-element-test.false c.loop-element.invariant

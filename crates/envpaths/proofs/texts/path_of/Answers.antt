@@ -12,7 +12,8 @@ returns-clause-state c =
 
 pub returns-clause-fits : goal.returns-clause-fits
 returns-clause-fits c =
-    small_read (slice_texts c.in_ok-elements.elements.items) (counter_in c.set_counters.new.counters) c.args.delim (option_map (λ t. t.now) c.args.text) (paired (slice_texts c.args.fields.now)) (returns-clause-state c)
+    small_read (slice_texts c.in_ok-elements.elements.items) (counter_in c.set_counters.new.counters) c.args.delim
+    (option_map (λ t. t.now) c.args.text) (paired (slice_texts c.args.fields.now)) (returns-clause-state c)
 
 pub returns-clause-table : goal.returns-clause-table
 returns-clause-table c =

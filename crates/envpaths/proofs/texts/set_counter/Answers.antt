@@ -8,5 +8,6 @@ returns-in_default c = unnoted (counter_in c.args.counters.now) c.args.element.n
 
 pub returns-in-Some-get_mut : goal.returns-in-Some-get_mut
 returns-in-Some-get_mut c =
-    noted (counter_in c.args.counters.now) (counter_in (c.get_mut.follows.lender c.in-Some.count)) c.args.element.now c.args.number.now c.in-Some.count _ c.in-Some.ensures c.in-Some-get_mut.ensures.value
+    noted (counter_in c.args.counters.now) (counter_in (c.get_mut.follows.lender c.in-Some.count)) c.args.element.now
+    c.args.number.now c.in-Some.count _ c.in-Some.ensures c.in-Some-get_mut.ensures.value
     (counter_given c.args.counters.now (c.get_mut.follows.lender c.in-Some.count) c.args.element.now c.in-Some.count ((c.get_mut.follows.holds c.in-Some.count).3 (search rules)))

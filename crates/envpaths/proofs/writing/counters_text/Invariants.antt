@@ -9,4 +9,6 @@ use Rattle.envpaths.proofs.writing.counters_text.Given as goal
 abbrev pub invariant-loop-element : goal.invariant-loop-element
 invariant-loop-element l =
     (fs : List Text) × (unless_empty (string_bytes l.text) ≡ text_of_elements fs)
-    × (fs ++ flat_map (pair_fields (count_in (counter_in l.counters))) (without_repeats (slice_texts (drop l.element-index l.elements))) ≡ flat_map (pair_fields (count_in (counter_in l.fn.counters))) (without_repeats (slice_texts l.elements)))
+    × (fs ++ flat_map (pair_fields (count_in (counter_in l.counters)))
+    (without_repeats (slice_texts (drop l.element-index l.elements))) ≡ flat_map
+    (pair_fields (count_in (counter_in l.fn.counters))) (without_repeats (slice_texts l.elements)))

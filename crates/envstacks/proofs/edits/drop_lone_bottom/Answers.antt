@@ -7,7 +7,9 @@ use Rattle.envstacks.proofs.edits.drop_lone_bottom.Goals as goal
 
 pub returns-then-not-has_owner : goal.returns-then-not-has_owner
 returns-then-not-has_owner c =
-    unsettled c.args.items.now.items c.has_owner.result _ (c.has_owner.ensures ∙ ap (list_any (λ item. is_some item.owner)) c.as_slice.ensures.value) c.if-not-has_owner.true (ap (map item_in) c.clear.ensures.items)
+    unsettled c.args.items.now.items c.has_owner.result _
+    (c.has_owner.ensures ∙ ap (list_any (λ item. is_some item.owner)) c.as_slice.ensures.value)
+    c.if-not-has_owner.true (ap (map item_in) c.clear.ensures.items)
 
 pub returns-else-not-has_owner : goal.returns-else-not-has_owner
 returns-else-not-has_owner c =

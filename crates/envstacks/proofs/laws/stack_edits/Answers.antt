@@ -1,4 +1,5 @@
-use Rattle.envstacks.proofs.StackAfter.{stack_after_push, written_after_push, others_after_push, stack_after_pop, written_after_pop, others_after_pop}
+use Rattle.envstacks.proofs.StackAfter.{stack_after_push, written_after_push, others_after_push, stack_after_pop}
+use Rattle.envstacks.proofs.StackAfter.{written_after_pop, others_after_pop}
 use Rattle.envstacks.proofs.laws.stack_edits.Goals as goal
 
 pub returns-clause-push : goal.returns-clause-push

@@ -9,5 +9,7 @@ use borrow.Author.Tests.{tests}
 
 pub returns-in-len1-up : goal.returns-in-len1-up
 returns-in-len1-up c =
-    all_from_yields_List (λ (item : StackItem). is_some item.owner) _ _ _ c.all.ensures.ran (YieldsList-from_slice (take (length c.args.items.now - 1) c.args.items.now) cc) (λ x b q k. search (rules, tests))
+    all_from_yields_List (λ (item : StackItem). is_some item.owner) _ _ _ c.all.ensures.ran
+    (YieldsList-from_slice (take (length c.args.items.now - 1) c.args.items.now) cc)
+    (λ x b q k. search (rules, tests))
     ∙ front_owned c.args.items.now _ (omega (arith, c.in-len1-up.len_at_least))

@@ -8,4 +8,5 @@ returns-in_default c = sym (item-none c.args.element.now c.in_default.ensures.ca
 
 pub returns : goal.returns
 returns c =
-    item_made c.args.element.now c.in-Some.prefix c.in-Some.value (option_map string_bytes c.in_ok-owner.owner) (string_bytes c.in_ok-value.value) c.in-Some.ensures.cases c.in_ok-owner.ensures c.in_ok-value.ensures.ok
+    item_made c.args.element.now c.in-Some.prefix c.in-Some.value (option_map string_bytes c.in_ok-owner.owner)
+    (string_bytes c.in_ok-value.value) c.in-Some.ensures.cases c.in_ok-owner.ensures c.in_ok-value.ensures.ok

@@ -6,4 +6,6 @@ use Rattle.envstacks.proofs.texts.items_of.Given as goal
 
 -- the items so far, and then those of the rest
 abbrev pub invariant-loop-element : goal.invariant-loop-element
-invariant-loop-element l = option_map (λ items. items_of_vec l.items ++ items) (items_of_elements (map string_bytes (drop l.element-index l.elements))) ≡ items_of_elements (map string_bytes l.elements)
+invariant-loop-element l = option_map (λ items. items_of_vec l.items ++ items)
+    (items_of_elements (map string_bytes (drop l.element-index l.elements))) ≡ items_of_elements
+    (map string_bytes l.elements)

@@ -1,4 +1,5 @@
-use Rattle.envstate.proofs.FrameLemmas.{add_edits, drop_edits, push_edits, pop_edits, set_edits, add_edits_loaded, drop_edits_loaded}
+use Rattle.envstate.proofs.FrameLemmas.{add_edits, drop_edits, push_edits, pop_edits, set_edits, add_edits_loaded}
+use Rattle.envstate.proofs.FrameLemmas.{drop_edits_loaded}
 use Rattle.envstate.proofs.laws.edits.Goals as goal
 
 pub returns-clause-add_path : goal.returns-clause-add_path

@@ -1,4 +1,5 @@
-use Rattle.envstate.proofs.FrameLemmas.{path_edits_variable, stack_edits_variable, keeps_other, keeps_loaded, loaded_keeps, rest_stays, loaded_rest_stays}
+use Rattle.envstate.proofs.FrameLemmas.{path_edits_variable, stack_edits_variable, keeps_other, keeps_loaded}
+use Rattle.envstate.proofs.FrameLemmas.{loaded_keeps, rest_stays, loaded_rest_stays}
 use Rattle.envstate.proofs.laws.frames.Goals as goal
 
 pub returns-clause-path : goal.returns-clause-path

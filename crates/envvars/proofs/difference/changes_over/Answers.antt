@@ -11,4 +11,6 @@ sort_by_name-requires g c =
 pub returns : goal.returns
 returns g c =
     let e = g.B.Vars.vars c.args.old.now in
-    AreChanges-over e c.args.table.entries _ _ (c.keep_differences.ensures ∙ ap (filter (differs_from e)) c.in_ok-changes.ensures.edits) c.in_ok-changes.ensures.distinct c.sort_by_name.ensures.ordered c.sort_by_name.ensures.same
+    AreChanges-over e c.args.table.entries _ _ (c.keep_differences.ensures ∙ ap (filter (differs_from e))
+    c.in_ok-changes.ensures.edits) c.in_ok-changes.ensures.distinct c.sort_by_name.ensures.ordered
+    c.sort_by_name.ensures.same

@@ -10,4 +10,5 @@ returns-then-not-is_special c =
 pub returns : goal.returns
 returns c =
     on_ok c.push-3.result (string_bytes c.push-3.new.self) (string_bytes c.push-2.new.self) _ _ c.push-3.ensures.bytes
-    (λ e. escaped_one (string_bytes c.args.text.now) (string_bytes c.push-2.new.self) (string_bytes c.push-3.new.self) c.args.c (sym c.is_special.ensures ∙ c.if-not-is_special.false) c.in_ok-push.ensures.bytes e)
+    (λ e. escaped_one (string_bytes c.args.text.now) (string_bytes c.push-2.new.self) (string_bytes c.push-3.new.self)
+    c.args.c (sym c.is_special.ensures ∙ c.if-not-is_special.false) c.in_ok-push.ensures.bytes e)

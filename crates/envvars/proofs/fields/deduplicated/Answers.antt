@@ -9,5 +9,6 @@ loop-text-init c = without_repeats-start _ (without_repeats (slice_texts c.args.
 
 pub loop-text-preserved : goal.loop-text-preserved
 loop-text-preserved c =
-    without_repeats-turn (slice_texts c.loop-text.done.keys) (slice_texts c.insert.new.self.keys) (without_repeats (slice_texts c.args.texts.now)) c.args.texts.now c.loop-text.text-index _ c.loop-text-test.true
+    without_repeats-turn (slice_texts c.loop-text.done.keys) (slice_texts c.insert.new.self.keys)
+    (without_repeats (slice_texts c.args.texts.now)) c.args.texts.now c.loop-text.text-index _ c.loop-text-test.true
     (slice_texts-insert_key c.loop-text.done.keys c.insert.new.self.keys _ c.in_ok-insert.ensures.keys) c.loop-text.invariant

@@ -6,4 +6,5 @@ use Rattle.envvars.proofs.fields.deduplicated.Given as goal
 
 -- those so far, and of the rest those that are new
 abbrev pub invariant-loop-text : goal.invariant-loop-text
-invariant-loop-text l = slice_texts l.done.keys ++ filter (λ y. not (has y (slice_texts l.done.keys))) (without_repeats (slice_texts (drop l.text-index l.texts))) ≡ without_repeats (slice_texts l.texts)
+invariant-loop-text l = slice_texts l.done.keys ++ filter (λ y. not (has y (slice_texts l.done.keys)))
+    (without_repeats (slice_texts (drop l.text-index l.texts))) ≡ without_repeats (slice_texts l.texts)

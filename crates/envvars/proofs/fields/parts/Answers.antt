@@ -8,5 +8,7 @@ use Rattle.envvars.proofs.fields.parts.Goals as goal
 pub returns : goal.returns
 returns c =
     fact_from_extend {E = Unit {0}} (λ (x : Bor (List ℕ)). x.now) (Ok tt) c.in_ok-extend.ensures.ran
-    (λ it b. YieldsList-from_str_split c.args.separator c.args.text.now c.requires (ap split_text b ∙ c.split.ensures.text) (ap split_has_more b ∙ c.split.ensures.has_more) (ap split_pattern b ∙ c.split.ensures.pattern))
+    (λ it b. YieldsList-from_str_split c.args.separator c.args.text.now c.requires
+    (ap split_text b ∙ c.split.ensures.text) (ap split_has_more b ∙ c.split.ensures.has_more)
+    (ap split_pattern b ∙ c.split.ensures.pattern))
     (λ xs e h. ap slice_texts (h.0 ∙ ap (λ (old : List (Bor (List ℕ))). old ++ xs) c.in_ok-parts.ensures.items) ∙ e)

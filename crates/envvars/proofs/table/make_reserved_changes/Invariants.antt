@@ -10,5 +10,7 @@ use Rattle.envvars.proofs.table.make_reserved_changes.Given as goal
 abbrev pub invariant-loop-change : goal.invariant-loop-change
 invariant-loop-change l = record {
   room : length (into_iter_items l.change-iterator) ≤ spare l.table;
-  made : (base : Environment) → applied (map new_value_of (into_iter_items l.change-iterator)) (written_over base l.table.entries) ≡ applied (map new_value_of l.fn.changes.items) (written_over base l.fn.table.entries);
+  made : (base : Environment) → applied (map new_value_of (into_iter_items l.change-iterator))
+      (written_over base l.table.entries) ≡ applied (map new_value_of l.fn.changes.items)
+      (written_over base l.fn.table.entries);
 }

@@ -26,7 +26,9 @@ returns-in_err-text-clause-refused g c =
     let agrees = g.T.Tree.agrees c.run_changes.new.tree in
     let r = request_view c.in_ok-request.request in
     let changed = c.in_ok-changed.changed in
-    rw (p.1, p.2) (unprinted r.0 (new_values_in changed.changes) c.in_err-text.field-0.0 (λ reason. HasResultInEachPair agrees (CommandHasResult arguments e) (Err reason)) (ResultLacksText agrees e (CommandHasResult arguments e))
+    rw (p.1, p.2) (unprinted r.0 (new_values_in changed.changes) c.in_err-text.field-0.0
+    (λ reason. HasResultInEachPair agrees (CommandHasResult arguments e) (Err reason))
+    (ResultLacksText agrees e (CommandHasResult arguments e))
     (g.T.Tree.failures c.args.tree.now < g.T.Tree.failures c.run_changes.new.tree)
     (λ name unsayable. (
       (r.0, changed_view e changed),

@@ -1,5 +1,6 @@
 use Rattle.std.proofs.Common.{[], inl, inr}
-use Rattle.modulecmd.proofs.WriterLemmas.{appends_more, appends_none, keeps_same, on_err, on_err_so, on_ok_so, part_last, part_more}
+use Rattle.modulecmd.proofs.WriterLemmas.{appends_more, appends_none, keeps_same, on_err, on_err_so, on_ok_so}
+use Rattle.modulecmd.proofs.WriterLemmas.{part_last, part_more}
 use Rattle.modulecmd.proofs.finishing.write_answer.Goals as goal
 
 pub returns-in_err-write_texts-clause-cut : goal.returns-in_err-write_texts-clause-cut

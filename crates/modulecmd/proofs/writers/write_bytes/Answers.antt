@@ -11,5 +11,7 @@ loop-done-preserved g c =
     record {
       within = search rules;
       so_far = rw (take-add c.loop-done.done c.in-Ok.n c.args.bytes.now)
-          (appends_more (g.W.Write.contents c.args.to.now) (g.W.Write.contents c.loop-done.to) (g.W.Write.contents c.write.new.self) (take c.loop-done.done c.args.bytes.now) (take c.in-Ok.n (drop c.loop-done.done c.args.bytes.now)) c.loop-done.invariant.so_far more);
+          (appends_more (g.W.Write.contents c.args.to.now) (g.W.Write.contents c.loop-done.to)
+          (g.W.Write.contents c.write.new.self) (take c.loop-done.done c.args.bytes.now)
+          (take c.in-Ok.n (drop c.loop-done.done c.args.bytes.now)) c.loop-done.invariant.so_far more);
     }

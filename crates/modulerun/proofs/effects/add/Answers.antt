@@ -6,5 +6,6 @@ use Rattle.modulerun.proofs.effects.add.Goals as goal
 
 pub returns-clause-edits : goal.returns-clause-edits
 returns-clause-edits g c =
-    subst (λ (xs : List Text). Edits c.add_path.result (g.V.Vars.vars c.args.env.now) (g.V.Vars.vars c.add_path.new.env) (added_path (g.V.Vars.vars c.args.env.now) c.args.var.now c.args.delim.character xs c.args.end))
+    subst (λ (xs : List Text). Edits c.add_path.result (g.V.Vars.vars c.args.env.now) (g.V.Vars.vars c.add_path.new.env)
+    (added_path (g.V.Vars.vars c.args.env.now) c.args.var.now c.args.delim.character xs c.args.end))
     (ap slice_texts c.as_slice.ensures.value ∙ c.in_ok-slices.ensures) c.add_path.ensures.edits

@@ -10,5 +10,6 @@ use borrow.Author.Tests.{tests}
 
 pub returns : goal.returns
 returns c =
-    any_from_yields_List (λ x. list_any (means (string_bytes x)) (map string_bytes c.args.loaded.now)) _ _ _ c.any.ensures.ran (YieldsList-from_slice c.args.names.now cc) (λ x b q k. search (rules, tests))
+    any_from_yields_List (λ x. list_any (means (string_bytes x)) (map string_bytes c.args.loaded.now)) _ _ _
+    c.any.ensures.ran (YieldsList-from_slice c.args.names.now cc) (λ x b q k. search (rules, tests))
     ∙ any_text (λ (name : Text). list_any (means name) (map string_bytes c.args.loaded.now)) c.args.names.now

@@ -7,5 +7,6 @@ use Rattle.modules.proofs.entries.conflict_names.Goals as goal
 
 pub loop-record-preserved : goal.loop-record-preserved
 loop-record-preserved c =
-    turn record_view conflict_names conflicts-append (slice_texts c.loop-record.all.items) (slice_texts c.push_conflicts.new.all.items) c.args.records.now c.loop-record.record-index c.record-item.result
+    turn record_view conflict_names conflicts-append (slice_texts c.loop-record.all.items)
+    (slice_texts c.push_conflicts.new.all.items) c.args.records.now c.loop-record.record-index c.record-item.result
     c.loop-record-test.true c.record-item.is c.loop-record.invariant c.in_ok-push_conflicts.ensures

@@ -8,5 +8,6 @@ use Rattle.modules.proofs.entries.prereq_groups.Goals as goal
 
 pub loop-record-preserved : goal.loop-record-preserved
 loop-record-preserved c =
-    turn record_view prereq_groups prereqs-append (map texts_in c.loop-record.groups.items) (map texts_in c.push_group.new.groups.items) c.args.records.now c.loop-record.record-index c.record-item.result
+    turn record_view prereq_groups prereqs-append (map texts_in c.loop-record.groups.items)
+    (map texts_in c.push_group.new.groups.items) c.args.records.now c.loop-record.record-index c.record-item.result
     c.loop-record-test.true c.record-item.is c.loop-record.invariant c.in_ok-push_group.ensures

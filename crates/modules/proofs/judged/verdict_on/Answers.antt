@@ -10,9 +10,13 @@ use Rattle.modules.proofs.judged.verdict_on.Goals as goal
 pub returns-then-are_reversible : goal.returns-then-are_reversible
 returns-then-are_reversible c = λ e.
     plain_by (ran_view c.args.ran.now e) c.if-ran.false
-    (sym (all_seen is_reversible record_view c.args.ran.now.records.items) ∙ (ap (list_all (λ r. is_reversible (record_view r))) (sym c.as_slice.ensures.value) ∙ (sym c.are_reversible.ensures ∙ c.if-are_reversible.true)))
+    (sym (all_seen is_reversible record_view c.args.ran.now.records.items)
+    ∙ (ap (list_all (λ r. is_reversible (record_view r))) (sym c.as_slice.ensures.value)
+    ∙ (sym c.are_reversible.ensures ∙ c.if-are_reversible.true)))
 
 pub returns-else-are_reversible : goal.returns-else-are_reversible
 returns-else-are_reversible c = λ e.
     one_way_by (ran_view c.args.ran.now e) c.if-ran.false
-    (sym (all_seen is_reversible record_view c.args.ran.now.records.items) ∙ (ap (list_all (λ r. is_reversible (record_view r))) (sym c.as_slice.ensures.value) ∙ (sym c.are_reversible.ensures ∙ c.if-are_reversible.false)))
+    (sym (all_seen is_reversible record_view c.args.ran.now.records.items)
+    ∙ (ap (list_all (λ r. is_reversible (record_view r))) (sym c.as_slice.ensures.value)
+    ∙ (sym c.are_reversible.ensures ∙ c.if-are_reversible.false)))

@@ -20,8 +20,12 @@ returns-in_err-run_file-clause-given g c =
     let e = g.V.Vars.vars c.args.env.now in
     let fault = c.in_err-run_file.field-0.0 in
     let same : map string_bytes c.as_slice.result.now ≡ names_of (map entry_view c.args.entries.now) = ap (map string_bytes) c.as_slice.ensures.value ∙ c.in_ok-loaded.ensures in
-    rw (p.1, p.2) (run_refused (file_reason_of fault) (RunsFile a.settings.limits (file_context a (mode_view c.args.mode) file.name.now file.path.now (map entry_view c.args.entries.now) e) file.text.now)
-    (subst (λ (names : List Text). IfSome (file_reason_of fault) (λ stop. RunsFile a.settings.limits (context_with_loaded a (mode_view c.args.mode) file.name.now file.path.now names e) file.text.now (Err stop))) same c.in_err-run_file.ensures.runs.1))
+    rw (p.1, p.2) (run_refused (file_reason_of fault) (RunsFile a.settings.limits
+    (file_context a (mode_view c.args.mode) file.name.now file.path.now (map entry_view c.args.entries.now) e)
+    file.text.now)
+    (subst (λ (names : List Text). IfSome (file_reason_of fault)
+    (λ stop. RunsFile a.settings.limits (context_with_loaded a (mode_view c.args.mode) file.name.now file.path.now
+    names e) file.text.now (Err stop))) same c.in_err-run_file.ensures.runs.1))
 
 pub returns-clause-given : goal.returns-clause-given
 returns-clause-given g c =
@@ -29,8 +33,13 @@ returns-clause-given g c =
     let file = c.args.file in
     let e = g.V.Vars.vars c.args.env.now in
     let ran = ran_view c.in_ok-run_file.field-0 (g.V.Vars.vars c.run_file.new.env) in
-    let same : map string_bytes c.as_slice.result.now ≡ names_of (map entry_view c.args.entries.now) = ap (map string_bytes) c.as_slice.ensures.value ∙ c.in_ok-loaded.ensures in
-    (Ok ran, subst (λ (names : List Text). RunsFile a.settings.limits (context_with_loaded a (mode_view c.args.mode) file.name.now file.path.now names e) file.text.now (Ok ran)) same c.in_ok-run_file.ensures.runs, refl)
+    let same : map string_bytes c.as_slice.result.now ≡ names_of (map entry_view c.args.entries.now) = ap (map string_bytes) c.as_slice.ensures.value ∙ c.in_ok-loaded.ensures in (
+      Ok ran,
+      subst (λ (names : List Text). RunsFile a.settings.limits
+          (context_with_loaded a (mode_view c.args.mode) file.name.now file.path.now names e) file.text.now (Ok ran)) same
+          c.in_ok-run_file.ensures.runs,
+      refl,
+    )
 
 pub returns-clause-listed : goal.returns-clause-listed
 returns-clause-listed g c =

@@ -38,7 +38,9 @@ returns g c = record {
   reads = c.locate.ensures.reads;
   over_tree = λ files listings a. (
     Ok (found_view c.in_ok-locate.field-0),
-    subst (λ path. Found (HasResult c.args.name_request.settings.limits) files listings path c.args.name_request.typed.now (Ok (found_view c.in_ok-locate.field-0))) c.modulepath.ensures (c.in_ok-locate.ensures.over_tree files listings a),
+    subst (λ path. Found (HasResult c.args.name_request.settings.limits) files listings path
+        c.args.name_request.typed.now (Ok (found_view c.in_ok-locate.field-0))) c.modulepath.ensures
+        (c.in_ok-locate.ensures.over_tree files listings a),
     refl,
   );
   failed_at = c.in_ok-locate.ensures.failed;

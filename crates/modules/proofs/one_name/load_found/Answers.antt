@@ -25,7 +25,9 @@ returns-in_err-ran-clause-given g c = λ files listings.
     let d = done_view c.args.progress.now.done (g.V.Vars.vars c.args.env.now) in
     let xs = map entry_view c.args.progress.now.entries.items in
     let m = found_view c.args.found in
-    let no : has m.name (names_of xs) ≡ false = ap (λ (n : Text). has n (names_of xs)) (sym c.as_str.ensures.value) ∙ (ap (λ (es : List Loaded). has c.as_str.result.now (names_of (map entry_view es))) (sym c.as_slice.ensures.value) ∙ (sym c.is_loaded.ensures ∙ c.if-is_loaded.false)) in
+    let no : has m.name (names_of xs) ≡ false = ap (λ (n : Text). has n (names_of xs)) (sym c.as_str.ensures.value)
+    ∙ (ap (λ (es : List Loaded). has c.as_str.result.now (names_of (map entry_view es)))
+    (sym c.as_slice.ensures.value) ∙ (sym c.is_loaded.ensures ∙ c.if-is_loaded.false)) in
     let given = rw (c.of-file.ensures.name, c.of-file.ensures.path, c.of-file.ensures.text, c.as_slice-2.ensures.value) at c.in_err-ran.ensures.given in
     rw (p.1, p.2) (stands_as (cause_of c.in_err-ran.field-0.0) ⊥ ⊥ (λ r. RefusedAs file_refused (RunsFile a.settings.limits (file_context a modes.load m.name m.path xs d.env) m.text) (Err r))
     (λ r. LoadsFound (request_context_of a.settings files listings) a.in_switch a.typed.now d xs m (Err r)) (λ q. q)
@@ -38,7 +40,9 @@ returns-in_err-join_loaded-clause-given g c = λ files listings.
     let d = done_view c.args.progress.now.done (g.V.Vars.vars c.args.env.now) in
     let xs = map entry_view c.args.progress.now.entries.items in
     let m = found_view c.args.found in
-    let no : has m.name (names_of xs) ≡ false = ap (λ (n : Text). has n (names_of xs)) (sym c.as_str.ensures.value) ∙ (ap (λ (es : List Loaded). has c.as_str.result.now (names_of (map entry_view es))) (sym c.as_slice.ensures.value) ∙ (sym c.is_loaded.ensures ∙ c.if-is_loaded.false)) in
+    let no : has m.name (names_of xs) ≡ false = ap (λ (n : Text). has n (names_of xs)) (sym c.as_str.ensures.value)
+    ∙ (ap (λ (es : List Loaded). has c.as_str.result.now (names_of (map entry_view es)))
+    (sym c.as_slice.ensures.value) ∙ (sym c.is_loaded.ensures ∙ c.if-is_loaded.false)) in
     let mid = g.V.Vars.vars c.evaluate.new.env in
     let ran = ran_view c.in_ok-ran.ran mid in
     let given = rw (c.of-file.ensures.name, c.of-file.ensures.path, c.of-file.ensures.text, c.as_slice-2.ensures.value) at c.in_ok-ran.ensures.given in
@@ -46,7 +50,8 @@ returns-in_err-join_loaded-clause-given g c = λ files listings.
     let loading = module_of m.name m.path ran in
     rw (p.1, p.2) (stands_as (cause_of c.in_err-join_loaded.field-0.0) ⊥ ⊥ (λ r. Err r ≡ added xs loading mid)
     (λ r. LoadsFound (request_context_of a.settings files listings) a.in_switch a.typed.now d xs m (Err r)) (λ q. q)
-    (λ r h. found_joins (request_context_of a.settings files listings) a.in_switch a.typed.now d xs m no ran given (Err r) (joins_refused d xs loading ran.messages mid made r h)) c.in_err-join_loaded.ensures.given)
+    (λ r h. found_joins (request_context_of a.settings files listings) a.in_switch a.typed.now d xs m no ran given
+    (Err r) (joins_refused d xs loading ran.messages mid made r h)) c.in_err-join_loaded.ensures.given)
 
 pub returns-clause-given : goal.returns-clause-given
 returns-clause-given g c = λ files listings.
@@ -54,7 +59,9 @@ returns-clause-given g c = λ files listings.
     let d = done_view c.args.progress.now.done (g.V.Vars.vars c.args.env.now) in
     let xs = map entry_view c.args.progress.now.entries.items in
     let m = found_view c.args.found in
-    let no : has m.name (names_of xs) ≡ false = ap (λ (n : Text). has n (names_of xs)) (sym c.as_str.ensures.value) ∙ (ap (λ (es : List Loaded). has c.as_str.result.now (names_of (map entry_view es))) (sym c.as_slice.ensures.value) ∙ (sym c.is_loaded.ensures ∙ c.if-is_loaded.false)) in
+    let no : has m.name (names_of xs) ≡ false = ap (λ (n : Text). has n (names_of xs)) (sym c.as_str.ensures.value)
+    ∙ (ap (λ (es : List Loaded). has c.as_str.result.now (names_of (map entry_view es)))
+    (sym c.as_slice.ensures.value) ∙ (sym c.is_loaded.ensures ∙ c.if-is_loaded.false)) in
     let mid = g.V.Vars.vars c.evaluate.new.env in
     let last = g.V.Vars.vars c.join_loaded.new.env in
     let ran = ran_view c.in_ok-ran.ran mid in

@@ -17,8 +17,12 @@ returns-then-is_loaded-clause-loaded g c =
     let a = c.args.name_request in
     let d = done_view c.args.progress.now.done (g.V.Vars.vars c.args.env.now) in
     let items = c.args.progress.now.entries.items in
-    let yes : has a.typed.now (names_of (map entry_view items)) ≡ true = ap (λ (es : List Loaded). has a.typed.now (names_of (map entry_view es))) (sym c.as_slice.ensures.value) ∙ (sym c.is_loaded.ensures ∙ c.if-is_loaded.true) in
-    answers_now c.args.tree.now (λ (u : Unit {0}). d) tt (λ files listings. LoadsName (request_context_of a.settings files listings) a.in_switch a.typed.now d) (λ files listings. LoadLooksAt (request_context_of a.settings files listings) a.typed.now d)
+    let yes : has a.typed.now (names_of (map entry_view items)) ≡ true = ap
+    (λ (es : List Loaded). has a.typed.now (names_of (map entry_view es))) (sym c.as_slice.ensures.value)
+    ∙ (sym c.is_loaded.ensures ∙ c.if-is_loaded.true) in
+    answers_now c.args.tree.now (λ (u : Unit {0}). d) tt
+    (λ files listings. LoadsName (request_context_of a.settings files listings) a.in_switch a.typed.now d)
+    (λ files listings. LoadLooksAt (request_context_of a.settings files listings) a.typed.now d)
     (λ files listings. loads_loaded (request_context_of a.settings files listings) a.in_switch a.typed.now d (map entry_view items) c.requires yes)
 
 pub returns-in_err-found-clause-loaded : goal.returns-in_err-found-clause-loaded
@@ -27,9 +31,14 @@ returns-in_err-found-clause-loaded g c =
     let e = g.V.Vars.vars c.args.env.now in
     let d = done_view c.args.progress.now.done e in
     let items = c.args.progress.now.entries.items in
-    let no : has a.typed.now (names_of (map entry_view items)) ≡ false = ap (λ (es : List Loaded). has a.typed.now (names_of (map entry_view es))) (sym c.as_slice.ensures.value) ∙ (sym c.is_loaded.ensures ∙ c.if-is_loaded.false) in
-    refused found_view c.in_err-found.field-0.0 (λ files listings. Finds (request_context_of a.settings files listings) e a.typed.now) (λ files listings. SearchLooksAt (request_context_of a.settings files listings) e a.typed.now)
-    (λ (u : Unit {0}). d) c.from_residual.result (λ files listings. LoadsName (request_context_of a.settings files listings) a.in_switch a.typed.now d) (λ files listings. LoadLooksAt (request_context_of a.settings files listings) a.typed.now d)
+    let no : has a.typed.now (names_of (map entry_view items)) ≡ false = ap
+    (λ (es : List Loaded). has a.typed.now (names_of (map entry_view es))) (sym c.as_slice.ensures.value)
+    ∙ (sym c.is_loaded.ensures ∙ c.if-is_loaded.false) in
+    refused found_view c.in_err-found.field-0.0 (λ files listings. Finds (request_context_of a.settings files listings)
+    e a.typed.now) (λ files listings. SearchLooksAt (request_context_of a.settings files listings) e a.typed.now)
+    (λ (u : Unit {0}). d) c.from_residual.result (λ files listings. LoadsName
+    (request_context_of a.settings files listings) a.in_switch a.typed.now d)
+    (λ files listings. LoadLooksAt (request_context_of a.settings files listings) a.typed.now d)
     (err_from_is_err_and c.from_residual.result c.from_residual.ensures.1) c.in_err-found.ensures
     (λ files listings r h. loads_unfound (request_context_of a.settings files listings) a.in_switch a.typed.now d (map entry_view items) c.requires no r h)
     (λ files listings at h. record { entries = map entry_view items; read = c.requires; unloaded = no; searched = h })
@@ -41,8 +50,11 @@ returns-clause-loaded g c =
     let d = done_view c.args.progress.now.done e in
     let items = c.args.progress.now.entries.items in
     let m = found_view c.in_ok-found.found in
-    let no : has a.typed.now (names_of (map entry_view items)) ≡ false = ap (λ (es : List Loaded). has a.typed.now (names_of (map entry_view es))) (sym c.as_slice.ensures.value) ∙ (sym c.is_loaded.ensures ∙ c.if-is_loaded.false) in
-    then_given found_view c.in_ok-found.found (λ files listings. Finds (request_context_of a.settings files listings) e a.typed.now) (λ files listings. SearchLooksAt (request_context_of a.settings files listings) e a.typed.now)
+    let no : has a.typed.now (names_of (map entry_view items)) ≡ false = ap
+    (λ (es : List Loaded). has a.typed.now (names_of (map entry_view es))) (sym c.as_slice.ensures.value)
+    ∙ (sym c.is_loaded.ensures ∙ c.if-is_loaded.false) in
+    then_given found_view c.in_ok-found.found (λ files listings. Finds (request_context_of a.settings files listings) e
+    a.typed.now) (λ files listings. SearchLooksAt (request_context_of a.settings files listings) e a.typed.now)
     (λ (u : Unit {0}). done_view c.load_found.new.progress.done (g.V.Vars.vars c.load_found.new.env)) c.load_found.result
     (λ files listings. LoadsFound (request_context_of a.settings files listings) a.in_switch a.typed.now d (map entry_view items) m)
     (λ files listings. LoadsName (request_context_of a.settings files listings) a.in_switch a.typed.now d) (λ files listings. LoadLooksAt (request_context_of a.settings files listings) a.typed.now d)

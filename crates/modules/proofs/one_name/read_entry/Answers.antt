@@ -28,7 +28,8 @@ returns-in_err-script_at g c =
     let before = g.T.Tree.failed c.args.tree.now in
     rw (p.1, p.2) (record {
       reads = c.script_at.ensures.reads;
-      over_tree = over_tree_refused agrees rose rose (λ (t : String Global). string_bytes t) found_view e (λ files listings. Is (script_at q (modulefile (files q)))) (λ files listings. ReadsEntry files x) (λ z. z)
+      over_tree = over_tree_refused agrees rose rose (λ (t : String Global). string_bytes t) found_view e
+          (λ files listings. Is (script_at q (modulefile (files q)))) (λ files listings. ReadsEntry files x) (λ z. z)
           (λ files listings r a h. (Err r, subst (λ (z : Text). Err r ≡ script_at z (modulefile (files z))) path h, refl)) c.in_err-script_at.ensures.over_tree;
       failed_at = fails_then (is_failure e) (is_failure e) before before (g.T.Tree.failed c.script_at.new.tree) (λ at. at ≡ q) (λ at. InEachPair agrees (λ files listings. at ≡ x.path))
           refl refl (λ at h files listings a. h ∙ path) c.in_err-script_at.ensures.failed;
@@ -38,7 +39,8 @@ pub returns-in_err-from_str : goal.returns-in_err-from_str
 returns-in_err-from_str g c = starved_now c.args.tree.now _ c.from_residual.result _ _ (err_from_is_err_and c.from_residual.result c.from_residual.ensures.1)
 
 pub returns-in_err-from_str-2 : goal.returns-in_err-from_str-2
-returns-in_err-from_str-2 g c = starved_now c.args.tree.now _ c.from_residual-in_err-from_str-2.result _ _ (err_from_is_err_and c.from_residual-in_err-from_str-2.result c.from_residual-in_err-from_str-2.ensures.1)
+returns-in_err-from_str-2 g c = starved_now c.args.tree.now _ c.from_residual-in_err-from_str-2.result _ _
+    (err_from_is_err_and c.from_residual-in_err-from_str-2.result c.from_residual-in_err-from_str-2.ensures.1)
 
 abbrev of_parts : Text → Text → Text → FoundModule
 of_parts name path text = record { name = name; path = path; text = text }

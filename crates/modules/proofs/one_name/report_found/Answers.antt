@@ -23,7 +23,9 @@ returns-in_err-ran-clause-given g c =
     let d = done_view c.args.progress.now.done (g.V.Vars.vars c.args.env.now) in
     let xs = map entry_view c.args.progress.now.entries.items in
     let given = rw (c.mode_of_report.ensures, c.of-file.ensures.name, c.of-file.ensures.path, c.of-file.ensures.text, c.as_slice.ensures.value) at c.in_err-ran.ensures.given in
-    rw (p.1, p.2) (stands_as (cause_of c.in_err-ran.field-0.0) ⊥ ⊥ (λ r. RefusedAs file_refused (RunsFile a.settings.limits (file_context a (report_mode c.args.report_kind) m.name m.path xs d.env) m.text) (Err r))
+    rw (p.1, p.2) (stands_as (cause_of c.in_err-ran.field-0.0) ⊥ ⊥
+    (λ r. RefusedAs file_refused (RunsFile a.settings.limits
+    (file_context a (report_mode c.args.report_kind) m.name m.path xs d.env) m.text) (Err r))
     (λ r. ReportsFound a c.args.report_kind m xs d (Err r)) (λ q. q) (λ r h. (Err r, h, refl)) given)
 
 pub returns-clause-given : goal.returns-clause-given

@@ -25,7 +25,9 @@ returns-in_err-ran-clause-given g c =
     let d = done_view c.args.progress.now.done (g.V.Vars.vars c.args.env.now) in
     let xs = map entry_view c.args.progress.now.entries.items in
     let given = rw (c.of-file.ensures.name, c.of-file.ensures.path, c.of-file.ensures.text, c.as_slice.ensures.value) at c.in_err-ran.ensures.given in
-    rw (p.1, p.2) (stands_as (cause_of c.in_err-ran.field-0.0) ⊥ ⊥ (λ r. RefusedAs file_refused (RunsFile a.settings.limits (file_context a modes.unload found.name found.path xs d.env) found.text) (Err r))
+    rw (p.1, p.2) (stands_as (cause_of c.in_err-ran.field-0.0) ⊥ ⊥
+    (λ r. RefusedAs file_refused (RunsFile a.settings.limits
+    (file_context a modes.unload found.name found.path xs d.env) found.text) (Err r))
     (λ r. UnloadsFound a found xs d (Err r)) (λ q. q) (λ r h. (Err r, h, refl)) given)
 
 pub returns-in_err-drop_from_list-clause-given : goal.returns-in_err-drop_from_list-clause-given

@@ -17,7 +17,9 @@ returns-in_err-meant-clause-unloaded g c =
     let d = done_view c.args.progress.now.done (g.V.Vars.vars c.args.env.now) in
     let xs = map entry_view c.args.progress.now.entries.items in
     refused (option_map found_view) c.in_err-meant.field-0.0 (λ files listings. FindsLoaded files a.typed.now xs) (λ files listings. LoadedLooksAt a.typed.now xs)
-    (λ (u : Unit {0}). d) c.from_residual.result (λ files listings. UnloadsName (request_context_of a.settings files listings) a.in_switch a.typed.now d) (λ files listings. UnloadLooksAt a.typed.now d)
+    (λ (u : Unit {0}). d) c.from_residual.result (λ files listings. UnloadsName
+    (request_context_of a.settings files listings) a.in_switch a.typed.now d)
+    (λ files listings. UnloadLooksAt a.typed.now d)
     (err_from_is_err_and c.from_residual.result c.from_residual.ensures.1) (rw c.as_slice.ensures.value at c.in_err-meant.ensures)
     (λ files listings r h. unloads_loaded (request_context_of a.settings files listings) a.in_switch a.typed.now d xs c.requires (Err r) (Err r) h refl)
     (λ files listings at h. unloads_at (request_context_of a.settings files listings) a.in_switch a.typed.now d xs c.requires at h)

@@ -16,12 +16,16 @@ returns-clause-over_tree g c =
     let asked = action_view c.args.request.now.action in
     let From : Environment → Type 0 = λ x. RequestStep context x asked (Ok (done_view c.in_ok-done.done c.step.new.env.new)) in
     let To : Environment → Type 0 = λ x. RequestStep context c.args.env.now asked (Ok (done_view c.in_ok-done.done x)) in
-    let made = left_of c.changes.ensures c.args.env.now c.step.new.env.old c.step.new.env.new (new_values_in c.in_ok-changes.changes) (c.step.ensures.base ∙ c.over-working.ensures.old) c.in_ok-changes.ensures.ok in
+    let made = left_of c.changes.ensures c.args.env.now c.step.new.env.old c.step.new.env.new
+    (new_values_in c.in_ok-changes.changes) (c.step.ensures.base ∙ c.over-working.ensures.old)
+    c.in_ok-changes.ensures.ok in
     subst To made (subst From c.over-working.ensures.new (c.in_ok-done.ensures.over_tree files listings agreed))
 
 pub returns-clause-exact : goal.returns-clause-exact
 returns-clause-exact g c =
-    exact_of c.changes.ensures c.args.env.now c.step.new.env.old c.step.new.env.new (new_values_in c.in_ok-changes.changes) (c.step.ensures.base ∙ c.over-working.ensures.old) c.in_ok-changes.ensures.ok
+    exact_of c.changes.ensures c.args.env.now c.step.new.env.old c.step.new.env.new
+    (new_values_in c.in_ok-changes.changes) (c.step.ensures.base ∙ c.over-working.ensures.old)
+    c.in_ok-changes.ensures.ok
 
 pub returns-in_err-changes-clause-out_of_memory : goal.returns-in_err-changes-clause-out_of_memory
 returns-in_err-changes-clause-out_of_memory g c =

@@ -12,7 +12,8 @@ use Rattle.modules.proofs.EachLemmas.{split_at}
 use Rattle.modules.specs.declared.sessions.Outcome.{Outcome}
 use Rattle.requests.specs.Steps.{request_context_in}
 use Rattle.modules.specs.Responses.{count_failed, response_of, responses}
-use Rattle.modules.proofs.SessionLemmas.{failures_push, looks_on, session_done, session_fails, session_grows, session_returning, session_taken}
+use Rattle.modules.proofs.SessionLemmas.{failures_push, looks_on, session_done, session_fails, session_grows}
+use Rattle.modules.proofs.SessionLemmas.{session_returning, session_taken}
 use Rattle.modules.proofs.sessions.session.Goals as goal
 
 pub loop-request-preserved : goal.loop-request-preserved
@@ -41,24 +42,33 @@ loop-request-preserved g c =
           let Ran : List Outcome → Type 0 = λ xs. Session context start all (responses start xs ++ os) in
           let From : List Request → Type 0 = λ rs. Session context before_it rs (response_of before_it outcome ∷ os) in
           subst Ran (sym items)
-          (session_taken context start before_it new (request_view c.request-item.result) (map request_view (drop (i + 1) requests)) all (responses start sofar) (responses start (sofar ++ outcome ∷ [])) (response_of before_it outcome) os
-          (λ h. c.loop-request.invariant.ran files listings was shell (response_of before_it outcome ∷ os) (subst From (sym (split_at request_view requests i c.request-item.result c.loop-request-test.true c.request-item.is)) h))
+          (session_taken context start before_it new (request_view c.request-item.result)
+          (map request_view (drop (i + 1) requests)) all (responses start sofar)
+          (responses start (sofar ++ outcome ∷ [])) (response_of before_it outcome) os
+          (λ h. c.loop-request.invariant.ran files listings was shell (response_of before_it outcome ∷ os)
+          (subst From (sym (split_at request_view requests i c.request-item.result c.loop-request-test.true
+          c.request-item.is)) h))
           (c.respond-outcome.ensures.answer files listings agreed) (c.respond-outcome.ensures.end files listings agreed)
           (session_grows start before_it new sofar outcome (c.loop-request.invariant.end files listings was) (c.respond-outcome.ensures.end files listings agreed)).1 more);
       looks = λ files listings agreed shell at more.
           let context = request_context_in c.args.limits shell files listings in
           c.loop-request.invariant.looks files listings (c.respond-outcome.ensures.narrows files listings agreed) shell at
-          (looks_on (OwnLooksAt context) (IsOwnResponse context) before_it new (map request_view (drop i requests)) (request_view c.request-item.result) (map request_view (drop (i + 1) requests)) (response_of before_it outcome) at split
+          (looks_on (OwnLooksAt context) (IsOwnResponse context) before_it new (map request_view (drop i requests))
+          (request_view c.request-item.result) (map request_view (drop (i + 1) requests))
+          (response_of before_it outcome) at split
           (c.respond-outcome.ensures.answer files listings agreed) (c.respond-outcome.ensures.end files listings agreed) more);
       failed =
-          session_fails _ _ _ _ _ (λ files listings shell. request_context_in c.args.limits shell files listings) start before_it _ _ _ _ c.respond-outcome.ensures.narrows split c.loop-request.invariant.looks
+          session_fails _ _ _ _ _ (λ files listings shell. request_context_in c.args.limits shell files listings) start
+          before_it _ _ _ _ c.respond-outcome.ensures.narrows split c.loop-request.invariant.looks
           c.loop-request.invariant.failed (only_wider_in_each _ _ _ _ _ (λ files listings agreed at h shell. h) (only_if _ _ _ _ c.respond-outcome.ensures.failed));
     }
 
 pub returns-clause-ran : goal.returns-clause-ran
 returns-clause-ran g c =
     λ files listings agreed shell.
-    session_done (request_context_in c.args.limits shell files listings) c.args.env c.loop-request.after (drop c.loop-request.request-index c.args.requests.now) (map request_view c.args.requests.now) (responses c.args.env c.loop-request.outcomes.items)
+    session_done (request_context_in c.args.limits shell files listings) c.args.env c.loop-request.after
+    (drop c.loop-request.request-index c.args.requests.now) (map request_view c.args.requests.now)
+    (responses c.args.env c.loop-request.outcomes.items)
     (drop_of_length-le c.args.requests.now c.loop-request-test.false) (c.loop-request.invariant.ran files listings agreed shell)
 
 pub returns-clause-returns : goal.returns-clause-returns
@@ -66,11 +76,13 @@ returns-clause-returns g c =
     λ files listings agreed.
     let context = request_context_in c.args.limits Sh files listings in
     session_returning c.session_returns.ensures context c.args.env (map request_view c.args.requests.now) (responses c.args.env c.loop-request.outcomes.items)
-    (session_done context c.args.env c.loop-request.after (drop c.loop-request.request-index c.args.requests.now) (map request_view c.args.requests.now) (responses c.args.env c.loop-request.outcomes.items)
+    (session_done context c.args.env c.loop-request.after (drop c.loop-request.request-index c.args.requests.now)
+    (map request_view c.args.requests.now) (responses c.args.env c.loop-request.outcomes.items)
     (drop_of_length-le c.args.requests.now c.loop-request-test.false) (c.loop-request.invariant.ran files listings agreed Sh))
 
 pub returns-in_err-push-clause-failed : goal.returns-in_err-push-clause-failed
 returns-in_err-push-clause-failed g c =
     session_fails _ _ _ _ _ (λ files listings shell. request_context_in c.args.limits shell files listings) c.args.env c.loop-request.after _ _ _ _ c.respond-outcome.ensures.narrows
-    (split_at request_view c.args.requests.now c.loop-request.request-index c.request-item.result c.loop-request-test.true c.request-item.is) c.loop-request.invariant.looks c.loop-request.invariant.failed
+    (split_at request_view c.args.requests.now c.loop-request.request-index c.request-item.result
+    c.loop-request-test.true c.request-item.is) c.loop-request.invariant.looks c.loop-request.invariant.failed
     (only_wider_in_each _ _ _ _ _ (λ files listings agreed at h shell. h) (only_if _ _ _ _ c.respond-outcome.ensures.failed))

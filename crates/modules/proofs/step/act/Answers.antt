@@ -8,7 +8,7 @@ use Rattle.requests.specs.RequestViews.{action_view}
 use Rattle.requests.specs.Looked.{RequestLooksAt}
 use Rattle.requests.specs.Steps as steps
 use Rattle.requests.specs.Steps.{ListsLoaded, ListsAll, RequestStep, modulepath}
-use Rattle.modules.specs.declared.done.Done.{Done}
+use Rattle.modules.specs.declared.done.RequestResults.{RequestResults}
 use Rattle.modules.specs.Parts.{TreeAnswer}
 use Rattle.modules.specs.Messages.{MemoryNumberAmong, memory_numbers}
 use Rattle.modules.specs.Views.{request_context_of, done_view}
@@ -18,7 +18,7 @@ use Rattle.modules.proofs.step.act.Goals as goal
 
 pub returns-in-Load-clause-done : goal.returns-in-Load-clause-done
 returns-in-Load-clause-done g c =
-    answers_of c.args.action.now (actions.Load c.in-Load.names) c.in-Load.is (λ (x : Done). done_view x (g.V.Vars.vars c.change_names.new.env)) c.change_names.result
+    answers_of c.args.action.now (actions.Load c.in-Load.names) c.in-Load.is (λ (x : RequestResults). done_view x (g.V.Vars.vars c.change_names.new.env)) c.change_names.result
     (λ (action : Action) files listings. RequestStep (request_context_of c.args.settings files listings) (g.V.Vars.vars c.args.env.now) (action_view action))
     (λ (action : Action) files listings. RequestLooksAt (request_context_of c.args.settings files listings) (g.V.Vars.vars c.args.env.now) (action_view action))
     (rw c.deref.ensures.value at c.change_names.ensures.done)
@@ -29,7 +29,7 @@ returns-in-Load-clause-out_of_memory g c =
 
 pub returns-in-Unload-clause-done : goal.returns-in-Unload-clause-done
 returns-in-Unload-clause-done g c =
-    answers_of c.args.action.now (actions.Unload c.in-Unload.names) c.in-Unload.is (λ (x : Done). done_view x (g.V.Vars.vars c.change_names-in-Unload.new.env)) c.change_names-in-Unload.result
+    answers_of c.args.action.now (actions.Unload c.in-Unload.names) c.in-Unload.is (λ (x : RequestResults). done_view x (g.V.Vars.vars c.change_names-in-Unload.new.env)) c.change_names-in-Unload.result
     (λ (action : Action) files listings. RequestStep (request_context_of c.args.settings files listings) (g.V.Vars.vars c.args.env.now) (action_view action))
     (λ (action : Action) files listings. RequestLooksAt (request_context_of c.args.settings files listings) (g.V.Vars.vars c.args.env.now) (action_view action))
     (rw c.deref-in-Unload.ensures.value at c.change_names-in-Unload.ensures.done)
@@ -40,7 +40,7 @@ returns-in-Unload-clause-out_of_memory g c =
 
 pub returns-in-Switch-clause-done : goal.returns-in-Switch-clause-done
 returns-in-Switch-clause-done g c =
-    answers_of c.args.action.now (actions.Switch c.in-Switch.old c.in-Switch.new) c.in-Switch.is (λ (x : Done). done_view x (g.V.Vars.vars c.switch.new.env)) c.switch.result
+    answers_of c.args.action.now (actions.Switch c.in-Switch.old c.in-Switch.new) c.in-Switch.is (λ (x : RequestResults). done_view x (g.V.Vars.vars c.switch.new.env)) c.switch.result
     (λ (action : Action) files listings. RequestStep (request_context_of c.args.settings files listings) (g.V.Vars.vars c.args.env.now) (action_view action))
     (λ (action : Action) files listings. RequestLooksAt (request_context_of c.args.settings files listings) (g.V.Vars.vars c.args.env.now) (action_view action))
     (rw (c.as_deref.ensures.value, c.as_str.ensures.value) at c.switch.ensures.done)
@@ -51,7 +51,7 @@ returns-in-Switch-clause-out_of_memory g c =
 
 pub returns-in-Purge-clause-done : goal.returns-in-Purge-clause-done
 returns-in-Purge-clause-done g c =
-    answers_of c.args.action.now actions.Purge c.in-Purge.is (λ (x : Done). done_view x (g.V.Vars.vars c.purge.new.env)) c.purge.result
+    answers_of c.args.action.now actions.Purge c.in-Purge.is (λ (x : RequestResults). done_view x (g.V.Vars.vars c.purge.new.env)) c.purge.result
     (λ (action : Action) files listings. RequestStep (request_context_of c.args.settings files listings) (g.V.Vars.vars c.args.env.now) (action_view action))
     (λ (action : Action) files listings. RequestLooksAt (request_context_of c.args.settings files listings) (g.V.Vars.vars c.args.env.now) (action_view action))
     c.purge.ensures.done
@@ -63,10 +63,11 @@ returns-in-Purge-clause-out_of_memory g c =
 pub returns-in-List-clause-done : goal.returns-in-List-clause-done
 returns-in-List-clause-done g c =
     let e = g.V.Vars.vars c.args.env.now in
-    answers_of c.args.action.now actions.List c.in-List.is (λ (x : Done). done_view x e) c.list.result
+    answers_of c.args.action.now actions.List c.in-List.is (λ (x : RequestResults). done_view x e) c.list.result
     (λ (action : Action) files listings. RequestStep (request_context_of c.args.settings files listings) (g.V.Vars.vars c.args.env.now) (action_view action))
     (λ (action : Action) files listings. RequestLooksAt (request_context_of c.args.settings files listings) (g.V.Vars.vars c.args.env.now) (action_view action))
-    (given_now c.args.tree.now (λ (x : Done). done_view x e) c.list.result (λ files listings. ListsLoaded e) (λ files listings. RequestStep (request_context_of c.args.settings files listings) e (action_view actions.List))
+    (given_now c.args.tree.now (λ (x : RequestResults). done_view x e) c.list.result (λ files listings. ListsLoaded e)
+    (λ files listings. RequestStep (request_context_of c.args.settings files listings) e (action_view actions.List))
     (λ files listings. RequestLooksAt (request_context_of c.args.settings files listings) e (action_view actions.List)) (λ files listings. c.list.ensures.given) (λ files listings o h. h))
 
 pub returns-in-List-clause-out_of_memory : goal.returns-in-List-clause-out_of_memory
@@ -76,7 +77,7 @@ returns-in-List-clause-out_of_memory g c =
 pub returns-in-Avail-clause-done : goal.returns-in-Avail-clause-done
 returns-in-Avail-clause-done g c =
     let e = g.V.Vars.vars c.args.env.now in
-    let view : Done → steps.Done = λ x. done_view x e in
+    let view : RequestResults → steps.Done = λ x. done_view x e in
     let answer : TreeAnswer g.T.Tree.agrees g.T.Tree.failures g.T.Tree.failed c.args.tree.now c.avail.new.tree view c.avail.result
     (λ files listings. ListsAll (request_context_of c.args.settings files listings) e (map (λ (s : String Global). string_bytes s) c.deref-in-Avail.result.now))
     (λ files listings. ListingLooksAt (HasResult c.args.settings.limits) files listings (modulepath e))
@@ -92,7 +93,7 @@ returns-in-Avail-clause-out_of_memory g c =
 
 pub returns-in-Show-clause-done : goal.returns-in-Show-clause-done
 returns-in-Show-clause-done g c =
-    answers_of c.args.action.now (actions.Show c.in-Show.names) c.in-Show.is (λ (x : Done). done_view x (g.V.Vars.vars c.report_names.new.env)) c.report_names.result
+    answers_of c.args.action.now (actions.Show c.in-Show.names) c.in-Show.is (λ (x : RequestResults). done_view x (g.V.Vars.vars c.report_names.new.env)) c.report_names.result
     (λ (action : Action) files listings. RequestStep (request_context_of c.args.settings files listings) (g.V.Vars.vars c.args.env.now) (action_view action))
     (λ (action : Action) files listings. RequestLooksAt (request_context_of c.args.settings files listings) (g.V.Vars.vars c.args.env.now) (action_view action))
     (rw c.deref-in-Show.ensures.value at c.report_names.ensures.done)
@@ -103,7 +104,7 @@ returns-in-Show-clause-out_of_memory g c =
 
 pub returns-in-Whatis-clause-done : goal.returns-in-Whatis-clause-done
 returns-in-Whatis-clause-done g c =
-    answers_of c.args.action.now (actions.Whatis c.in-Whatis.names) c.in-Whatis.is (λ (x : Done). done_view x (g.V.Vars.vars c.report_names-in-Whatis.new.env)) c.report_names-in-Whatis.result
+    answers_of c.args.action.now (actions.Whatis c.in-Whatis.names) c.in-Whatis.is (λ (x : RequestResults). done_view x (g.V.Vars.vars c.report_names-in-Whatis.new.env)) c.report_names-in-Whatis.result
     (λ (action : Action) files listings. RequestStep (request_context_of c.args.settings files listings) (g.V.Vars.vars c.args.env.now) (action_view action))
     (λ (action : Action) files listings. RequestLooksAt (request_context_of c.args.settings files listings) (g.V.Vars.vars c.args.env.now) (action_view action))
     (rw c.deref-in-Whatis.ensures.value at c.report_names-in-Whatis.ensures.done)

@@ -18,13 +18,17 @@ loop-name-preserved g c =
     let d = done_view c.loop-name.progress.done (g.V.Vars.vars c.loop-name.env) in
     let mid = done_view c.act_on_name.new.progress.done (g.V.Vars.vars c.act_on_name.new.env) in
     record {
-      leads = leads_on c.loop-name.invariant.leads (λ (u : Unit {0}). mid) tt (λ files listings. NameActionStep c.args.name_action (request_context_of c.args.settings files listings) c.as_str.result.now d)
+      leads = leads_on c.loop-name.invariant.leads (λ (u : Unit {0}). mid) tt
+          (λ files listings. NameActionStep c.args.name_action (request_context_of c.args.settings files listings)
+          c.as_str.result.now d)
           (λ files listings. NameActionLooksAt c.args.name_action (request_context_of c.args.settings files listings) c.as_str.result.now d) _ _ c.in_ok-act_on_name.ensures.done
           (λ files listings h o k. let D = NameActionStep c.args.name_action (request_context_of c.args.settings files listings) in
           each_on (λ (s : String Global). string_bytes s) D c.args.names.now c.loop-name.name-index c.name-item.result c.loop-name-test.true c.name-item.is d mid
           (subst (λ (n : Text). D n d (Ok mid)) c.as_str.ensures.value h) o k)
           (λ files listings h at k. let D = NameActionStep c.args.name_action (request_context_of c.args.settings files listings) in
-          each_looks_on (λ (s : String Global). string_bytes s) D c.args.names.now c.loop-name.name-index c.name-item.result c.loop-name-test.true c.name-item.is d (NameActionLooksAt c.args.name_action (request_context_of c.args.settings files listings)) at mid
+          each_looks_on (λ (s : String Global). string_bytes s) D c.args.names.now c.loop-name.name-index
+          c.name-item.result c.loop-name-test.true c.name-item.is d
+          (NameActionLooksAt c.args.name_action (request_context_of c.args.settings files listings)) at mid
           (subst (λ (n : Text). D n d (Ok mid)) c.as_str.ensures.value h) k);
       listed = c.in_ok-act_on_name.ensures.listed;
       base = c.act_on_name.ensures.base ∙ c.loop-name.invariant.base;
@@ -33,13 +37,18 @@ loop-name-preserved g c =
 pub returns-in_err-act_on_name-clause-done : goal.returns-in_err-act_on_name-clause-done
 returns-in_err-act_on_name-clause-done g c =
     let d = done_view c.loop-name.progress.done (g.V.Vars.vars c.loop-name.env) in
-    leads_refused c.loop-name.invariant.leads _ c.in_err-act_on_name.field-0.0 (λ files listings. NameActionStep c.args.name_action (request_context_of c.args.settings files listings) c.as_str.result.now d)
+    leads_refused c.loop-name.invariant.leads _ c.in_err-act_on_name.field-0.0
+    (λ files listings. NameActionStep c.args.name_action (request_context_of c.args.settings files listings)
+    c.as_str.result.now d)
     (λ files listings. NameActionLooksAt c.args.name_action (request_context_of c.args.settings files listings) c.as_str.result.now d) _ c.from_residual.result
     (err_from_is_err_and c.from_residual.result c.from_residual.ensures.1) c.in_err-act_on_name.ensures.done
     (λ files listings r h. let D = NameActionStep c.args.name_action (request_context_of c.args.settings files listings) in
-    each_refused (λ (s : String Global). string_bytes s) D c.args.names.now c.loop-name.name-index c.name-item.result c.loop-name-test.true c.name-item.is d r (subst (λ (n : Text). D n d (Err r)) c.as_str.ensures.value h))
+    each_refused (λ (s : String Global). string_bytes s) D c.args.names.now c.loop-name.name-index c.name-item.result
+    c.loop-name-test.true c.name-item.is d r (subst (λ (n : Text). D n d (Err r)) c.as_str.ensures.value h))
     (λ files listings at h. let L = NameActionLooksAt c.args.name_action (request_context_of c.args.settings files listings) in
-    each_looks_here (λ (s : String Global). string_bytes s) (NameActionStep c.args.name_action (request_context_of c.args.settings files listings)) c.args.names.now c.loop-name.name-index c.name-item.result c.loop-name-test.true c.name-item.is d L at
+    each_looks_here (λ (s : String Global). string_bytes s)
+    (NameActionStep c.args.name_action (request_context_of c.args.settings files listings)) c.args.names.now
+    c.loop-name.name-index c.name-item.result c.loop-name-test.true c.name-item.is d L at
     (subst (λ (n : Text). L n d at) c.as_str.ensures.value h))
 
 pub returns-clause-done : goal.returns-clause-done

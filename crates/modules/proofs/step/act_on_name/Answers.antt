@@ -22,7 +22,9 @@ returns-in-Unload-clause-done g c =
 pub returns-in-ReportOn-clause-done : goal.returns-in-ReportOn-clause-done
 returns-in-ReportOn-clause-done g c =
     let d = done_view c.args.progress.now.done (g.V.Vars.vars c.args.env.now) in
-    answers_of c.args.name_action (ReportOn c.in-ReportOn.report_kind) c.in-ReportOn.is (λ (u : Unit {0}). done_view c.report_name.new.progress.done (g.V.Vars.vars c.report_name.new.env)) c.report_name.result
+    answers_of c.args.name_action (ReportOn c.in-ReportOn.report_kind) c.in-ReportOn.is
+    (λ (u : Unit {0}). done_view c.report_name.new.progress.done (g.V.Vars.vars c.report_name.new.env))
+    c.report_name.result
     (λ (action : NameAction) files listings. NameActionStep action (request_context_of c.args.settings files listings) c.args.typed.now d)
     (λ (action : NameAction) files listings. NameActionLooksAt action (request_context_of c.args.settings files listings) c.args.typed.now d) c.report_name.ensures.reported
 

@@ -2,7 +2,7 @@ use Rattle.std.proofs.Common.{[], List, map, string_bytes, Ok, ap, ◌∙◌, su
 use Rattle.envvars.specs.Texts.{Text}
 use Rattle.search.specs.Listed.{Listed}
 use Rattle.search.specs.Listings.{listing_view}
-use Rattle.search.specs.declared.listings.Listing as code
+use Rattle.search.specs.declared.listings.DirectoryListing as code
 use Rattle.lookup.specs.DefaultFileResults.{HasResult}
 use Rattle.requests.specs.Reports.{avail_text}
 use Rattle.requests.specs.Steps.{nothing_done, with_report, modulepath}
@@ -21,7 +21,9 @@ returns-clause-over_tree g c = λ files listings a.
     let texts = map string_bytes c.args.texts.now in (
       ls,
       subst (λ (path : Text). Listed (HasResult c.args.settings.limits) files listings path ls) c.modulepath.ensures (c.in_ok-listings.ensures.listed files listings a),
-      ap Ok (c.done_with_report.ensures e ∙ ap (λ (t : Text). with_report (nothing_done e) [] t) (c.in_ok-text.ensures ∙ ap (λ (vs : List code.Listing). avail_text texts (map listing_view vs)) c.as_slice.ensures.value)),
+      ap Ok (c.done_with_report.ensures e ∙ ap (λ (t : Text). with_report (nothing_done e) [] t)
+          (c.in_ok-text.ensures ∙ ap (λ (vs : List code.Listing). avail_text texts (map listing_view vs))
+          c.as_slice.ensures.value)),
     )
 
 pub returns-in_err-listings-clause-failed : goal.returns-in_err-listings-clause-failed

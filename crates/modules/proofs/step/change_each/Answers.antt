@@ -4,7 +4,7 @@ use Rattle.std.specs.declared.alloc.Global.{Global}
 use Rattle.envloaded.specs.LoadedEntries.{entry_view}
 use Rattle.filetree.specs.Relations.{Then}
 use Rattle.requests.specs.Steps.{nothing_done, Each, EndsRequest}
-use Rattle.modules.specs.declared.done.Done.{Done}
+use Rattle.modules.specs.declared.done.RequestResults.{RequestResults}
 use Rattle.modules.specs.Views.{request_context_of, done_view}
 use Rattle.modules.specs.Parts.{NameActionStep, EachActionLooksAt}
 use Rattle.modules.proofs.ListedLemmas.{listing}
@@ -39,9 +39,15 @@ returns-clause-done g c =
     let d = done_view c.in_ok-progress.progress.done e in
     let mid = done_view c.act_on_each.new.progress.done last in
     then_given (λ (u : Unit {0}). mid) tt (λ files listings. Each (NameActionStep c.args.name_action (request_context_of c.args.settings files listings)) names d)
-    (λ files listings. EachActionLooksAt c.args.name_action (request_context_of c.args.settings files listings) names d) (λ (x : Done). done_view x last) c.end.result
+    (λ files listings. EachActionLooksAt c.args.name_action (request_context_of c.args.settings files listings) names d) (λ (x : RequestResults). done_view x last) c.end.result
     (λ files listings. EndsRequest (map entry_view c.args.before.now) mid)
     (λ files listings. Then (Each (NameActionStep c.args.name_action (request_context_of c.args.settings files listings)) names (nothing_done e)) (EndsRequest (map entry_view c.args.before.now)))
     (λ files listings. EachActionLooksAt c.args.name_action (request_context_of c.args.settings files listings) names (nothing_done e))
     c.in_ok-act_on_each.ensures.done (λ files listings. c.end.ensures last c.in_ok-act_on_each.ensures.listed)
-    (λ files listings h o k. (Ok mid, subst (λ x. Each (NameActionStep c.args.name_action (request_context_of c.args.settings files listings)) names x (Ok mid)) (c.in_ok-progress.ensures.done e) h, k))
+    (λ files listings h o k. (
+      Ok mid,
+      subst (λ x. Each
+          (NameActionStep c.args.name_action (request_context_of c.args.settings files listings)) names x (Ok mid))
+          (c.in_ok-progress.ensures.done e) h,
+      k,
+    ))

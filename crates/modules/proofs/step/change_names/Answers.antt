@@ -5,7 +5,7 @@ use Rattle.envloaded.specs.LoadedEntries.{entry_view}
 use Rattle.envloaded.specs.declared.entry.Loaded.{Loaded}
 use Rattle.filetree.specs.Relations.{Then}
 use Rattle.requests.specs.Steps.{nothing_done, entries_of, Each, EndsRequest, NeedsNames, ChangesLoaded}
-use Rattle.modules.specs.declared.done.Done.{Done}
+use Rattle.modules.specs.declared.done.RequestResults.{RequestResults}
 use Rattle.modules.specs.Views.{request_context_of, done_view}
 use Rattle.modules.specs.Parts.{NameActionStep, EachActionLooksAt}
 use Rattle.modules.proofs.EachLemmas.{named_none, named_some}
@@ -30,7 +30,9 @@ returns-in_err-before-clause-done g c =
     refused_now c.args.tree.now _ c.from_residual.result c.in_err-before.field-0.0 (λ r. Err r ≡ entries_of e)
     (λ files listings. NeedsNames names (ChangesLoaded e (λ before. Each (NameActionStep c.args.name_action (request_context_of c.args.settings files listings)) names))) _
     (err_from_is_err_and c.from_residual.result c.from_residual.ensures.1) c.in_err-before.ensures.given
-    (λ files listings r h. named_some c.args.names.now c.is_empty.result c.is_empty.ensures c.if-is_empty.false (ChangesLoaded e (λ before. Each (NameActionStep c.args.name_action (request_context_of c.args.settings files listings)) names)) (Err r) (Err r, h, refl))
+    (λ files listings r h. named_some c.args.names.now c.is_empty.result c.is_empty.ensures c.if-is_empty.false
+    (ChangesLoaded e (λ before. Each (NameActionStep c.args.name_action
+    (request_context_of c.args.settings files listings)) names)) (Err r) (Err r, h, refl))
 
 pub returns-clause-done : goal.returns-clause-done
 returns-clause-done g c =
@@ -38,10 +40,12 @@ returns-clause-done g c =
     let names = map (λ (s : String Global). string_bytes s) c.args.names.now in
     let xs = map entry_view c.as_slice.result.now in
     let read : Ok xs ≡ entries_of e = ap (λ (es : List Loaded). listing (map entry_view es)) c.as_slice.ensures.value ∙ c.in_ok-before.ensures.given in
-    widened (λ (x : Done). done_view x (g.V.Vars.vars c.change_each.new.env)) c.change_each.result
+    widened (λ (x : RequestResults). done_view x (g.V.Vars.vars c.change_each.new.env)) c.change_each.result
     (λ files listings. Then (Each (NameActionStep c.args.name_action (request_context_of c.args.settings files listings)) names (nothing_done e)) (EndsRequest xs))
     (λ files listings. NeedsNames names (ChangesLoaded e (λ before. Each (NameActionStep c.args.name_action (request_context_of c.args.settings files listings)) names)))
     (λ files listings. EachActionLooksAt c.args.name_action (request_context_of c.args.settings files listings) names (nothing_done e))
     (λ files listings. EachActionLooksAt c.args.name_action (request_context_of c.args.settings files listings) names (nothing_done e)) c.change_each.ensures.done
-    (λ files listings o h. named_some c.args.names.now c.is_empty.result c.is_empty.ensures c.if-is_empty.false (ChangesLoaded e (λ before. Each (NameActionStep c.args.name_action (request_context_of c.args.settings files listings)) names)) o (Ok xs, read, h))
+    (λ files listings o h. named_some c.args.names.now c.is_empty.result c.is_empty.ensures c.if-is_empty.false
+    (ChangesLoaded e (λ before. Each (NameActionStep c.args.name_action
+    (request_context_of c.args.settings files listings)) names)) o (Ok xs, read, h))
     (λ files listings at h. h)

@@ -12,5 +12,7 @@ returns-clause-given g c =
     let e = g.V.Vars.vars c.args.env.now in (
       Ok (map entry_view c.in_ok-entries.entries.items),
       c.in_ok-entries.ensures.given,
-      ap Ok (c.done_with_report.ensures e ∙ ap (λ (t : Text). with_report (nothing_done e) [] t) (c.in_ok-text.ensures ∙ ap (λ (es : List Loaded). loaded_text (names_of (map entry_view es))) c.as_slice.ensures.value)),
+      ap Ok (c.done_with_report.ensures e ∙ ap (λ (t : Text). with_report (nothing_done e) [] t)
+          (c.in_ok-text.ensures ∙ ap (λ (es : List Loaded). loaded_text (names_of (map entry_view es)))
+          c.as_slice.ensures.value)),
     )

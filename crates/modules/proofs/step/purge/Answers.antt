@@ -9,7 +9,7 @@ use Rattle.filetree.specs.Relations.{Then}
 use Rattle.requests.specs.Requests as actions
 use Rattle.requests.specs.Steps.{nothing_done, entries_of, Each, EndsRequest, RequestStep, UnloadsName}
 use Rattle.requests.specs.Looked.{UnloadLooksAt, EachLooksAt, PurgeLooksAt}
-use Rattle.modules.specs.declared.done.Done.{Done}
+use Rattle.modules.specs.declared.done.RequestResults.{RequestResults}
 use Rattle.modules.specs.declared.step.NameAction.TheVariants.{Unload}
 use Rattle.modules.specs.Views.{request_context_of, done_view}
 use Rattle.modules.specs.Parts.{NameActionStep, EachActionLooksAt}
@@ -40,8 +40,10 @@ returns-clause-done g c =
     let same : map entry_view c.in_ok-before.before.items ≡ xs = sym (ap (λ (es : List Loaded). map entry_view es) c.as_slice-3.ensures.value) in
     let read : Ok xs ≡ entries_of e = ap (λ (es : List Loaded). listing (map entry_view es)) c.as_slice-3.ensures.value ∙ c.in_ok-before.ensures.given in
     let back : names ≡ reverse (names_of xs) =
-    ap (map (λ (s : String Global). string_bytes s)) c.as_slice-2.ensures.value ∙ (c.in_ok-names.ensures ∙ (ap (λ (es : List Loaded). reverse (names_of (map entry_view es))) c.as_slice.ensures.value ∙ ap (λ ys. reverse (names_of ys)) same)) in
-    widened (λ (x : Done). done_view x (g.V.Vars.vars c.change_each.new.env)) c.change_each.result
+    ap (map (λ (s : String Global). string_bytes s)) c.as_slice-2.ensures.value
+    ∙ (c.in_ok-names.ensures ∙ (ap (λ (es : List Loaded). reverse (names_of (map entry_view es)))
+    c.as_slice.ensures.value ∙ ap (λ ys. reverse (names_of ys)) same)) in
+    widened (λ (x : RequestResults). done_view x (g.V.Vars.vars c.change_each.new.env)) c.change_each.result
     (λ files listings. Then (Each (NameActionStep Unload (request_context_of c.args.settings files listings)) names (nothing_done e)) (EndsRequest xs))
     (λ files listings. RequestStep (request_context_of c.args.settings files listings) e actions.purge)
     (λ files listings. EachActionLooksAt Unload (request_context_of c.args.settings files listings) names (nothing_done e))

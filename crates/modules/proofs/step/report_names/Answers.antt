@@ -3,7 +3,7 @@ use Rattle.std.proofs.lemmas.Result.{err_from_is_err_and}
 use Rattle.std.specs.declared.alloc.Global.{Global}
 use Rattle.requests.specs.Steps.{entries_of, Each, NeedsNames, ShowsName, ShowsNames, nothing_done}
 use Rattle.modules.specs.declared.step.NameAction.TheVariants.{ReportOn}
-use Rattle.modules.specs.declared.done.Done.{Done}
+use Rattle.modules.specs.declared.done.RequestResults.{RequestResults}
 use Rattle.modules.specs.Views.{request_context_of, done_view}
 use Rattle.modules.specs.Parts.{report_mode, report_text, EachActionLooksAt}
 use Rattle.modules.proofs.EachLemmas.{named_none, named_some, shows_some}
@@ -28,7 +28,9 @@ returns-in_err-entries-clause-done g c =
     refused_now c.args.tree.now _ c.from_residual.result c.in_err-entries.field-0.0 (λ r. Err r ≡ entries_of e)
     (λ files listings. NeedsNames names (ShowsNames (request_context_of c.args.settings files listings) (report_mode kind) (report_text kind) e names)) _
     (err_from_is_err_and c.from_residual.result c.from_residual.ensures.1) c.in_err-entries.ensures.given
-    (λ files listings r h. named_some c.args.names.now c.is_empty.result c.is_empty.ensures c.if-is_empty.false (ShowsNames (request_context_of c.args.settings files listings) (report_mode kind) (report_text kind) e names) (Err r) (Err r, h, refl))
+    (λ files listings r h. named_some c.args.names.now c.is_empty.result c.is_empty.ensures c.if-is_empty.false
+    (ShowsNames (request_context_of c.args.settings files listings) (report_mode kind) (report_text kind) e names)
+    (Err r) (Err r, h, refl))
 
 pub returns-in_err-act_on_each-clause-done : goal.returns-in_err-act_on_each-clause-done
 returns-in_err-act_on_each-clause-done g c =
@@ -41,7 +43,8 @@ returns-in_err-act_on_each-clause-done g c =
     (λ files listings. NeedsNames names (ShowsNames (request_context_of c.args.settings files listings) (report_mode kind) (report_text kind) e names))
     (λ files listings. EachActionLooksAt (ReportOn kind) (request_context_of c.args.settings files listings) names (nothing_done e))
     (err_from_is_err_and c.from_residual-in_err-act_on_each.result c.from_residual-in_err-act_on_each.ensures.1) c.in_err-act_on_each.ensures.done
-    (λ files listings r h. shows_some (request_context_of c.args.settings files listings) (report_mode kind) (report_text kind) e c.args.names.now c.is_empty.result c.is_empty.ensures c.if-is_empty.false (Err r)
+    (λ files listings r h. shows_some (request_context_of c.args.settings files listings) (report_mode kind)
+    (report_text kind) e c.args.names.now c.is_empty.result c.is_empty.ensures c.if-is_empty.false (Err r)
     (subst (λ x. Each (ShowsName (request_context_of c.args.settings files listings) (report_mode kind) (report_text kind)) names x (Err r)) (c.new-done.ensures e) h))
     (λ files listings at h. subst (λ x. EachActionLooksAt (ReportOn kind) (request_context_of c.args.settings files listings) names x at) (c.new-done.ensures e) h)
 
@@ -54,9 +57,10 @@ returns-clause-done g c =
     let d = done_view c.new-done.result e in
     let mid = done_view c.act_on_each.new.progress.done last in
     then_answers (λ (u : Unit {0}). mid) tt (λ files listings. Each (ShowsName (request_context_of c.args.settings files listings) (report_mode kind) (report_text kind)) names d)
-    (λ files listings. EachActionLooksAt (ReportOn kind) (request_context_of c.args.settings files listings) names d) (λ (x : Done). done_view x last) c.act_on_each.new.progress.done
+    (λ files listings. EachActionLooksAt (ReportOn kind) (request_context_of c.args.settings files listings) names d) (λ (x : RequestResults). done_view x last) c.act_on_each.new.progress.done
     (λ files listings. NeedsNames names (ShowsNames (request_context_of c.args.settings files listings) (report_mode kind) (report_text kind) e names))
     (λ files listings. EachActionLooksAt (ReportOn kind) (request_context_of c.args.settings files listings) names (nothing_done e))
     c.in_ok-act_on_each.ensures.done
-    (λ files listings h. shows_some (request_context_of c.args.settings files listings) (report_mode kind) (report_text kind) e c.args.names.now c.is_empty.result c.is_empty.ensures c.if-is_empty.false (Ok mid)
+    (λ files listings h. shows_some (request_context_of c.args.settings files listings) (report_mode kind)
+    (report_text kind) e c.args.names.now c.is_empty.result c.is_empty.ensures c.if-is_empty.false (Ok mid)
     (subst (λ x. Each (ShowsName (request_context_of c.args.settings files listings) (report_mode kind) (report_text kind)) names x (Ok mid)) (c.new-done.ensures e) h))

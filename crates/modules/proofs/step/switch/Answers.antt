@@ -6,7 +6,7 @@ use Rattle.envloaded.specs.declared.entry.Loaded.{Loaded}
 use Rattle.requests.specs.Requests as actions
 use Rattle.requests.specs.Looked.{SwitchLooksAt}
 use Rattle.requests.specs.Steps.{nothing_done, entries_of, EndsRequest, RequestStep, Switches, old_name}
-use Rattle.modules.specs.declared.done.Done.{Done}
+use Rattle.modules.specs.declared.done.RequestResults.{RequestResults}
 use Rattle.modules.specs.Views.{request_context_of, done_view}
 use Rattle.modules.proofs.ListedLemmas.{listing}
 use Rattle.modules.proofs.SwitchLemmas.{switches_old, switch_looks_old}
@@ -41,7 +41,16 @@ returns-in_err-switch_names-clause-done g c =
     (λ files listings. RequestStep (request_context_of c.args.settings files listings) e (actions.switch asked new))
     (λ files listings. SwitchLooksAt (request_context_of c.args.settings files listings) (old_name asked new) new (nothing_done e))
     (err_from_is_err_and c.from_residual-in_err-switch_names.result c.from_residual-in_err-switch_names.ensures.1) c.in_err-switch_names.ensures.done
-    (λ files listings r h. (Ok xs, c.in_ok-before.ensures.given, (Err r, switches_old (request_context_of c.args.settings files listings) asked old new c.old_name-old.ensures d (nothing_done e) (c.in_ok-progress.ensures.done e) (Err r) h, refl)))
+    (λ files listings r h. (
+      Ok xs,
+      c.in_ok-before.ensures.given,
+      (
+        Err r,
+        switches_old (request_context_of c.args.settings files listings) asked old new c.old_name-old.ensures d
+            (nothing_done e) (c.in_ok-progress.ensures.done e) (Err r) h,
+        refl,
+      ),
+    ))
     (λ files listings at h. switch_looks_old (request_context_of c.args.settings files listings) asked old new c.old_name-old.ensures d (nothing_done e) (c.in_ok-progress.ensures.done e) at h)
 
 pub returns-clause-done : goal.returns-clause-done
@@ -56,9 +65,18 @@ returns-clause-done g c =
     let xs = map entry_view c.as_slice-2.result.now in
     let read : Ok xs ≡ entries_of e = ap (λ (es : List Loaded). listing (map entry_view es)) c.as_slice-2.ensures.value ∙ c.in_ok-before.ensures.given in
     then_given (λ (u : Unit {0}). mid) tt (λ files listings. Switches (request_context_of c.args.settings files listings) (Some old) new d)
-    (λ files listings. SwitchLooksAt (request_context_of c.args.settings files listings) old new d) (λ (x : Done). done_view x last) c.end.result
+    (λ files listings. SwitchLooksAt (request_context_of c.args.settings files listings) old new d) (λ (x : RequestResults). done_view x last) c.end.result
     (λ files listings. EndsRequest xs mid)
     (λ files listings. RequestStep (request_context_of c.args.settings files listings) e (actions.switch asked new))
     (λ files listings. SwitchLooksAt (request_context_of c.args.settings files listings) (old_name asked new) new (nothing_done e))
     c.in_ok-switch_names.ensures.done (λ files listings. c.end.ensures last c.in_ok-switch_names.ensures.listed)
-    (λ files listings h o k. (Ok xs, read, (Ok mid, switches_old (request_context_of c.args.settings files listings) asked old new c.old_name-old.ensures d (nothing_done e) (c.in_ok-progress.ensures.done e) (Ok mid) h, k)))
+    (λ files listings h o k. (
+      Ok xs,
+      read,
+      (
+        Ok mid,
+        switches_old (request_context_of c.args.settings files listings)
+            asked old new c.old_name-old.ensures d (nothing_done e) (c.in_ok-progress.ensures.done e) (Ok mid) h,
+        k,
+      ),
+    ))

@@ -15,7 +15,9 @@ load_name-requires g c = c.in_ok-unload_name.ensures.listed
 pub returns-in_err-unload_name-clause-done : goal.returns-in_err-unload_name-clause-done
 returns-in_err-unload_name-clause-done g c =
     let d = done_view c.args.progress.now.done (g.V.Vars.vars c.args.env.now) in
-    refused _ c.in_err-unload_name.field-0.0 (λ files listings. UnloadsName (request_context_of c.args.settings files listings) true c.args.old.now d) (λ files listings. UnloadLooksAt c.args.old.now d)
+    refused _ c.in_err-unload_name.field-0.0 (λ files listings. UnloadsName
+    (request_context_of c.args.settings files listings) true c.args.old.now d)
+    (λ files listings. UnloadLooksAt c.args.old.now d)
     _ c.from_residual.result (λ files listings. Switches (request_context_of c.args.settings files listings) (Some c.args.old.now) c.args.new.now d)
     (λ files listings. SwitchLooksAt (request_context_of c.args.settings files listings) c.args.old.now c.args.new.now d)
     (err_from_is_err_and c.from_residual.result c.from_residual.ensures.1) c.in_err-unload_name.ensures.unloaded

@@ -25,8 +25,10 @@ pub returns-in_err-found : goal.returns-in_err-found
 returns-in_err-found g c =
     let e = g.V.Vars.vars c.args.env.now in
     let xs = map entry_view c.in_ok-entries.entries.items in
-    refused found_view c.in_err-found.field-0.0 (λ files listings. Finds (in_sh c.args.limits files listings) e c.args.typed.now) (λ files listings. SearchLooksAt (in_sh c.args.limits files listings) e c.args.typed.now)
-    verdict_view c.from_residual-in_err-found.result (λ files listings. HasVerdict (in_sh c.args.limits files listings) e c.args.typed.now) (λ files listings. SearchLooksAt (in_sh c.args.limits files listings) e c.args.typed.now)
+    refused found_view c.in_err-found.field-0.0 (λ files listings. Finds (in_sh c.args.limits files listings) e
+    c.args.typed.now) (λ files listings. SearchLooksAt (in_sh c.args.limits files listings) e c.args.typed.now)
+    verdict_view c.from_residual-in_err-found.result (λ files listings. HasVerdict (in_sh c.args.limits files listings)
+    e c.args.typed.now) (λ files listings. SearchLooksAt (in_sh c.args.limits files listings) e c.args.typed.now)
     (err_from_is_err_and c.from_residual-in_err-found.result c.from_residual-in_err-found.ensures.1) c.in_err-found.ensures
     (λ files listings r h. (Ok xs, c.in_ok-entries.ensures.given, (Err r, h, refl)))
     (λ files listings at h. h)
@@ -37,7 +39,8 @@ returns g c =
     let m = found_view c.in_ok-found.found in
     let xs = map entry_view c.as_slice.result.now in
     let read : Ok xs ≡ entries_of e = ap (λ (es : List Loaded). listing (map entry_view es)) c.as_slice.ensures.value ∙ c.in_ok-entries.ensures.given in
-    then_given found_view c.in_ok-found.found (λ files listings. Finds (in_sh c.args.limits files listings) e c.args.typed.now) (λ files listings. SearchLooksAt (in_sh c.args.limits files listings) e c.args.typed.now)
+    then_given found_view c.in_ok-found.found (λ files listings. Finds (in_sh c.args.limits files listings) e
+    c.args.typed.now) (λ files listings. SearchLooksAt (in_sh c.args.limits files listings) e c.args.typed.now)
     verdict_view c.judge_found.result
     (λ files listings. JudgesFound (record { settings = record { limits = c.args.limits; shell = Sh }; in_switch = false; typed = c.args.typed }) m xs e)
     (λ files listings. HasVerdict (in_sh c.args.limits files listings) e c.args.typed.now) (λ files listings. SearchLooksAt (in_sh c.args.limits files listings) e c.args.typed.now)

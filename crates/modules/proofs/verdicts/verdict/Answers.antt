@@ -14,7 +14,9 @@ returns-clause-judged g c =
 pub returns-clause-plain : goal.returns-clause-plain
 returns-clause-plain g c =
     let judged = rw c.over.ensures.new at c.give_verdict.ensures in
-    plain_over_tree c.verdicts.ensures.plain (g.T.Tree.agrees c.give_verdict.new.tree) (g.T.Tree.failures c.args.tree.now < g.T.Tree.failures c.give_verdict.new.tree) c.args.limits c.args.env.now c.args.name.now c.give_verdict.result judged.over_tree
+    plain_over_tree c.verdicts.ensures.plain (g.T.Tree.agrees c.give_verdict.new.tree)
+    (g.T.Tree.failures c.args.tree.now < g.T.Tree.failures c.give_verdict.new.tree) c.args.limits c.args.env.now
+    c.args.name.now c.give_verdict.result judged.over_tree
 
 pub returns-clause-failed : goal.returns-clause-failed
 returns-clause-failed g c =

@@ -12,7 +12,9 @@ returns-in_err-extend_from_slice-in-Ok-clause-failed g c =
     let within : length (c.loop-piece.bytes.items ++ given) ≤ input_limit + 1 = grind (arith, common_steps) in
     rw (p.1, p.2) (
       c.loop-piece.bytes.items ++ given,
-      consumes_more (g.R.Read.remaining c.args.input.now) (g.R.Read.remaining c.loop-piece.input) (g.R.Read.remaining c.read.new.self) c.loop-piece.bytes.items given c.loop-piece.invariant.taken c.in-Ok.ensures.bytes.0,
+      consumes_more (g.R.Read.remaining c.args.input.now) (g.R.Read.remaining c.loop-piece.input)
+          (g.R.Read.remaining c.read.new.self) c.loop-piece.bytes.items given c.loop-piece.invariant.taken
+          c.in-Ok.ensures.bytes.0,
       within,
       tt,
     )

@@ -11,4 +11,5 @@ use Rattle.requests.proofs.conditions.first_meant.Goals as goal
 pub returns : goal.returns
 returns c =
     find_seen (λ (x : Entry). means c.args.name.now x.name) entry_view c.args.entries.now c.find.result
-    (find_from_yields_List (λ (x : Loaded). means c.args.name.now (string_bytes x.name)) _ _ c.find.result c.find.ensures.ran (YieldsList-from_slice c.args.entries.now cc) (λ x b q k. search (rules, tests)))
+    (find_from_yields_List (λ (x : Loaded). means c.args.name.now (string_bytes x.name)) _ _ c.find.result
+    c.find.ensures.ran (YieldsList-from_slice c.args.entries.now cc) (λ x b q k. search (rules, tests)))

@@ -12,5 +12,7 @@ use Rattle.requests.proofs.conditions.is_met.Goals as goal
 
 pub returns : goal.returns
 returns c =
-    any_from_yields_List (λ (s : String Global). list_any (λ x. means (string_bytes s) x.name) (map entry_view c.args.entries.now)) _ _ c.any.result c.any.ensures.ran (YieldsList-from_slice c.args.group.now cc) (λ x b q k. search (rules, tests))
+    any_from_yields_List (λ (s : String Global). list_any (λ x. means (string_bytes s) x.name)
+    (map entry_view c.args.entries.now)) _ _ c.any.result c.any.ensures.ran
+    (YieldsList-from_slice c.args.group.now cc) (λ x b q k. search (rules, tests))
     ∙ any_seen (λ (t : Text). list_any (λ x. means t x.name) (map entry_view c.args.entries.now)) (λ (s : String Global). string_bytes s) c.args.group.now

@@ -10,5 +10,6 @@ use Rattle.requests.proofs.conditions.means_some.Goals as goal
 
 pub returns : goal.returns
 returns c =
-    any_from_yields_List (λ (x : Loaded). means c.args.name.now (string_bytes x.name)) _ _ c.any.result c.any.ensures.ran (YieldsList-from_slice c.args.entries.now cc) (λ x b q k. search (rules, tests))
+    any_from_yields_List (λ (x : Loaded). means c.args.name.now (string_bytes x.name)) _ _ c.any.result
+    c.any.ensures.ran (YieldsList-from_slice c.args.entries.now cc) (λ x b q k. search (rules, tests))
     ∙ any_seen (λ (x : Entry). means c.args.name.now x.name) entry_view c.args.entries.now

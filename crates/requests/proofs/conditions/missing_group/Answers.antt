@@ -13,4 +13,6 @@ use Rattle.requests.proofs.conditions.missing_group.Goals as goal
 pub returns : goal.returns
 returns c =
     find_seen (λ (group : List Text). not (is_met (map entry_view c.args.entries.now) group)) texts_in c.args.groups.now c.find.result
-    (find_from_yields_List (λ (v : Vec (String Global) Global). not (is_met (map entry_view c.args.entries.now) (texts_in v))) _ _ c.find.result c.find.ensures.ran (YieldsList-from_slice c.args.groups.now cc) (λ x b q k. search (rules, tests)))
+    (find_from_yields_List (λ (v : Vec (String Global) Global). not
+    (is_met (map entry_view c.args.entries.now) (texts_in v))) _ _ c.find.result c.find.ensures.ran
+    (YieldsList-from_slice c.args.groups.now cc) (λ x b q k. search (rules, tests)))

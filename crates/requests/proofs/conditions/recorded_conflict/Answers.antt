@@ -13,4 +13,6 @@ use Rattle.requests.proofs.conditions.recorded_conflict.Goals as goal
 pub returns : goal.returns
 returns c =
     find_seen (λ (x : Entry). list_any (λ n. means n c.args.name.now) x.conflicts) entry_view c.args.entries.now c.find.result
-    (find_from_yields_List (λ (x : Loaded). list_any (λ n. means n c.args.name.now) (texts_in x.conflicts)) _ _ c.find.result c.find.ensures.ran (YieldsList-from_slice c.args.entries.now cc) (λ x b q k. search (rules, tests)))
+    (find_from_yields_List (λ (x : Loaded). list_any (λ n. means n c.args.name.now) (texts_in x.conflicts)) _ _
+    c.find.result c.find.ensures.ran (YieldsList-from_slice c.args.entries.now cc)
+    (λ x b q k. search (rules, tests)))

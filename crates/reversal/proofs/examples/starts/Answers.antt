@@ -1,4 +1,5 @@
-use Rattle.reversal.proofs.Lost.{empty_path, counter_of_none, bottom_alone, hidden_value, other_escapes, owner_not_loaded, value_before_set, other_value}
+use Rattle.reversal.proofs.Lost.{empty_path, counter_of_none, bottom_alone, hidden_value, other_escapes}
+use Rattle.reversal.proofs.Lost.{owner_not_loaded, value_before_set, other_value}
 use Rattle.reversal.proofs.examples.starts.Goals as goal
 
 pub returns-clause-empty_path : goal.returns-clause-empty_path

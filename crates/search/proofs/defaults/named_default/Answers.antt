@@ -20,7 +20,8 @@ returns-in-Nothing-clause-answer g c =
     (λ n. InEachPair agrees (λ files listings. NamedBy results files listings dir name Version (named_version_view n)))
     (λ n. InEachPair agrees (λ files listings. NamedDefault results files listings dir name (named_version_view n)))
     (λ n h files listings agree. named_second results files listings dir name (named_version_view n)
-    (subst (λ m. NamedBy results files listings dir name Modulerc (named_version_view m)) c.in-Nothing.is (c.in_ok-named.ensures.answer files listings (c.named_by-in-Nothing.ensures.narrows files listings agree)))
+    (subst (λ m. NamedBy results files listings dir name Modulerc (named_version_view m)) c.in-Nothing.is
+    (c.in_ok-named.ensures.answer files listings (c.named_by-in-Nothing.ensures.narrows files listings agree)))
     (h files listings agree))
     c.named_by-in-Nothing.ensures.answer
 
@@ -49,7 +50,8 @@ returns-in-Nothing-clause-failed g c =
     c.in_ok-named.ensures.failed
     (λ at h files listings a. inr (
       modulerc_names_no_candidate results files listings dir name
-          (subst (λ m. NamedBy results files listings dir name Modulerc (named_version_view m)) c.in-Nothing.is (c.in_ok-named.ensures.answer files listings (c.named_by-in-Nothing.ensures.narrows files listings a))),
+          (subst (λ m. NamedBy results files listings dir name Modulerc (named_version_view m)) c.in-Nothing.is
+          (c.in_ok-named.ensures.answer files listings (c.named_by-in-Nothing.ensures.narrows files listings a))),
       h files listings a,
     ))
     c.named_by-in-Nothing.ensures.failed

@@ -2,7 +2,7 @@ use Rattle.std.proofs.Common.{◌≡◌, ◌∙◌, true, false, map, option_map
 use Rattle.std.specs.List.{list_any}
 use Rattle.std.proofs.lemmas.Result.{err_from_is_err_and}
 use Rattle.filetree.specs.Agreement.{InEachPair, is_device}
-use Rattle.filetree.specs.Answers.{fault_of_tree}
+use Rattle.search.specs.Answers.{fault_of_tree}
 use Rattle.filetree.specs.declared.tree.TreeFault.{TreeFault}
 use Rattle.filetree.specs.declared.tree.TreeFault.TheVariants.{OutOfMemory, Device}
 use Rattle.search.specs.Reasons.{bad_default}
@@ -36,7 +36,8 @@ returns-in_ok-greatest_candidate-in-Nothing-clause-over_tree g c = λ files list
     let dir = c.args.dir.now in
     let name = c.args.name.now in
     default_greatest results files listings dir name (option_map string_bytes c.in_ok-greatest_candidate-in-Nothing.field-0)
-    (subst (λ m. NamedDefault results files listings dir name (named_version_view m)) c.in-Nothing.is (c.in_ok-version.ensures.answer files listings (c.greatest_candidate.ensures.narrows files listings agree)))
+    (subst (λ m. NamedDefault results files listings dir name (named_version_view m)) c.in-Nothing.is
+    (c.in_ok-version.ensures.answer files listings (c.greatest_candidate.ensures.narrows files listings agree)))
     (c.in_ok-greatest_candidate-in-Nothing.ensures.answer files listings agree)
 
 pub returns-in-Some-clause-over_tree : goal.returns-in-Some-clause-over_tree
@@ -45,7 +46,9 @@ returns-in-Some-clause-over_tree g c = λ files listings agree.
     let dir = c.args.dir.now in
     let name = c.args.name.now in
     default_bad results files listings dir name (string_bytes c.in-Some.field-0) (bad_default (string_bytes c.in-BadFile.path))
-    (subst (λ m. NamedDefault results files listings dir name (named_version_view m)) c.in-BadFile.is (c.in_ok-version.ensures.answer files listings (c.greatest_candidate-in-BadFile.ensures.narrows files listings agree)))
+    (subst (λ m. NamedDefault results files listings dir name (named_version_view m)) c.in-BadFile.is
+    (c.in_ok-version.ensures.answer files listings (c.greatest_candidate-in-BadFile.ensures.narrows files listings
+    agree)))
     (subst (λ o. IsGreatestOf files listings dir name (option_map string_bytes o)) c.in-Some.is (c.in_ok-greatest_candidate-in-BadFile.ensures.answer files listings agree))
 
 pub returns-then-not-branch-clause-over_tree : goal.returns-then-not-branch-clause-over_tree
@@ -103,12 +106,21 @@ returns-in_err-greatest_candidate-in-BadFile-clause-failed g c =
     let some : list_any (is_version name) entries ≡ true = sym c.in_ok-has_version.ensures ∙ c.if-not-branch.false in
     let e = c.in_err-greatest_candidate-in-BadFile.field-0.0 in
     let p = err_from_is_err_and c.from_residual-in_err-greatest_candidate-in-BadFile.result c.from_residual-in_err-greatest_candidate-in-BadFile.ensures.1 in
-    rw (p.1, p.2) (fails_then (is_device e) (is_failure (fault_of_tree e)) (g.T.Tree.failed c.args.tree.now) (g.T.Tree.failed c.named_default.new.tree) (g.T.Tree.failed c.greatest_candidate-in-BadFile.new.tree)
+    rw (p.1, p.2) (fails_then (is_device e) (is_failure (fault_of_tree e)) (g.T.Tree.failed c.args.tree.now)
+    (g.T.Tree.failed c.named_default.new.tree) (g.T.Tree.failed c.greatest_candidate-in-BadFile.new.tree)
     (λ at. InEachPair agrees (λ files listings. LooksForGreatest files listings dir name at))
     (λ at. InEachPair agrees (λ files listings. LooksInFolder results files listings dir name at)) c.in_ok-version.ensures.failed (same_failure e)
     (λ at h files listings a.
     let b = c.greatest_candidate-in-BadFile.ensures.narrows files listings a in (
       some_version files listings dir name entries (c.requires files listings (c.named_default.ensures.narrows files listings b)) some,
-      inr (inr (bad_default (string_bytes c.in-BadFile.path), subst (λ m. NamedDefault results files listings dir name (named_version_view m)) c.in-BadFile.is (c.in_ok-version.ensures.answer files listings b)), h files listings a),
+      inr (
+        inr (
+          bad_default (string_bytes c.in-BadFile.path),
+          subst
+              (λ m. NamedDefault results files listings dir name (named_version_view m)) c.in-BadFile.is
+              (c.in_ok-version.ensures.answer files listings b),
+        ),
+        h files listings a,
+      ),
     ))
     c.in_err-greatest_candidate-in-BadFile.ensures.failed)

@@ -1,4 +1,5 @@
-use Rattle.std.proofs.Common.{◌<◌, ◌+◌, ◌∙◌, List, drop, [], ℕ, Bor, get_or, map, option_map, Ok, Err, refl, sym, subst, arith}
+use Rattle.std.proofs.Common.{◌<◌, ◌+◌, ◌∙◌, List, drop, [], ℕ, Bor, get_or, map, option_map, Ok, Err, refl, sym, subst}
+use Rattle.std.proofs.Common.{arith}
 use Rattle.std.proofs.lemmas.Result.{err_from_is_err_and}
 use Rattle.filetree.specs.Agreement.{InEachPair}
 use Rattle.search.specs.Found.{FoundAlong}
@@ -38,7 +39,9 @@ returns-in-Some-clause-over_tree g c = λ files listings a.
     c.loop-dir.invariant.none_yet files listings (c.module_below.ensures.reads.narrows files listings a) found
     (along_rest results files listings name _ _ _ (first_of (λ dir. dir.now) nothing c.args.dirs.now c.loop-dir.dir-index c.loop-dir-test.true) (Ok (option_map found_view c.in_ok-found.field-0)) found
     (c.in_ok-found.ensures.over_tree files listings a)
-    (subst (λ m. Continues results files listings name (map (λ (dir : Bor (List ℕ)). dir.now) (drop (c.loop-dir.dir-index + 1) c.args.dirs.now)) (Ok (option_map found_view m)) found) (sym c.in-Some.is) refl))
+    (subst (λ m. Continues results files listings name
+    (map (λ (dir : Bor (List ℕ)). dir.now) (drop (c.loop-dir.dir-index + 1) c.args.dirs.now))
+    (Ok (option_map found_view m)) found) (sym c.in-Some.is) refl))
 
 pub loop-dir-preserved : goal.loop-dir-preserved
 unfolding nothing
@@ -50,14 +53,17 @@ loop-dir-preserved g c = record {
       c.loop-dir.invariant.none_yet files listings (c.module_below.ensures.reads.narrows files listings a) o
       (along_rest results files listings name _ _ _ (first_of (λ dir. dir.now) nothing c.args.dirs.now c.loop-dir.dir-index c.loop-dir-test.true) (Ok (option_map found_view c.in_ok-found.field-0)) o
       (c.in_ok-found.ensures.over_tree files listings a)
-      (subst (λ m. Continues results files listings name (map (λ (dir : Bor (List ℕ)). dir.now) (drop (c.loop-dir.dir-index + 1) c.args.dirs.now)) (Ok (option_map found_view m)) o) (sym c.in_default.is) k));
+      (subst (λ m. Continues results files listings name
+      (map (λ (dir : Bor (List ℕ)). dir.now) (drop (c.loop-dir.dir-index + 1) c.args.dirs.now))
+      (Ok (option_map found_view m)) o) (sym c.in_default.is) k));
   unfailed = c.in_ok-found.ensures.failed ∙ c.loop-dir.invariant.unfailed;
   looked = λ files listings a at h.
       let results = g.D.DefaultFiles.results c.args.default_files.now in
       let name = c.args.name.now in
       c.loop-dir.invariant.looked files listings (c.module_below.ensures.reads.narrows files listings a) at
       (looks_after results files listings name _ _ _ (first_of (λ dir. dir.now) nothing c.args.dirs.now c.loop-dir.dir-index c.loop-dir-test.true) at
-      (subst (λ m. FoundBelow results files listings (get_or c.args.dirs.now c.loop-dir.dir-index nothing).now name (Ok (option_map found_view m))) c.in_default.is (c.in_ok-found.ensures.over_tree files listings a)) h);
+      (subst (λ m. FoundBelow results files listings (get_or c.args.dirs.now c.loop-dir.dir-index nothing).now name
+      (Ok (option_map found_view m))) c.in_default.is (c.in_ok-found.ensures.over_tree files listings a)) h);
 }
 
 pub returns-in_err-found-clause-failed : goal.returns-in_err-found-clause-failed

@@ -1,6 +1,7 @@
 use Rattle.std.proofs.lemmas.List.{drop_all}
 use Rattle.std.proofs.lemmas.Result.{err_from_is_err_and}
-use Rattle.std.proofs.Common.{◌≡◌, ℕ, true, Bor, List, [], ◌∷◌, ◌++◌, Option, get_or, map, refl, sym, ap, ◌∙◌, subst, append-nil, string_bytes, vec_items, arith}
+use Rattle.std.proofs.Common.{◌≡◌, ℕ, true, Bor, List, [], ◌∷◌, ◌++◌, Option, get_or, map, refl, sym, ap, ◌∙◌, subst}
+use Rattle.std.proofs.Common.{append-nil, string_bytes, vec_items, arith}
 use Rattle.modulename.specs.ModuleName.{Text}
 use Rattle.filetree.specs.Agreement.{Files, Listings, InEachPair, is_device}
 use Rattle.filetree.specs.Modulefiles.{directories}

@@ -11,8 +11,11 @@ use Rattle.search.proofs.listings.modules_of.Goals as goal
 pub returns-clause-answer : goal.returns-clause-answer
 returns-clause-answer g c = λ files folders a.
     let m = c.in_ok-list_folder.ensures.added files folders a in
-    listing_is (g.D.DefaultFiles.results c.args.default_files.now) files folders c.args.dir.now c.list_folder.new.listing_entries.items c.sort_listing_entries.new.listing_entries.items c.drop_repeats.new.listing_entries.items m.0
-    (m.1 ∙ ap (λ listing_entries. map listing_entry_view listing_entries ++ m.0) c.new-listing_entries.ensures.items) m.2 c.in_ok-sort_listing_entries.ensures.same c.in_ok-sort_listing_entries.ensures.sorted c.drop_repeats.ensures
+    listing_is (g.D.DefaultFiles.results c.args.default_files.now) files folders c.args.dir.now
+    c.list_folder.new.listing_entries.items c.sort_listing_entries.new.listing_entries.items
+    c.drop_repeats.new.listing_entries.items m.0
+    (m.1 ∙ ap (λ listing_entries. map listing_entry_view listing_entries ++ m.0) c.new-listing_entries.ensures.items)
+    m.2 c.in_ok-sort_listing_entries.ensures.same c.in_ok-sort_listing_entries.ensures.sorted c.drop_repeats.ensures
 
 pub returns-in_err-list_folder-clause-failed : goal.returns-in_err-list_folder-clause-failed
 returns-in_err-list_folder-clause-failed g c =

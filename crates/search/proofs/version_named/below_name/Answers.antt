@@ -5,7 +5,11 @@ use Rattle.modulename.specs.ModuleName.{slash}
 use Rattle.search.proofs.version_named.below_name.Goals as goal
 
 pub returns-in_err-after_prefix : goal.returns-in_err-after_prefix
-returns-in_err-after_prefix c = rw c.from_residual.ensures (after_prefix_none c.args.name.now (slash ∷ []) c.args.spelled.now c.after_prefix.result c.after_prefix.ensures (c.branch-after_prefix.ensures ∙ ap continue_value c.in_err-after_prefix.is))
+returns-in_err-after_prefix c = rw c.from_residual.ensures
+    (after_prefix_none c.args.name.now (slash ∷ []) c.args.spelled.now c.after_prefix.result c.after_prefix.ensures
+    (c.branch-after_prefix.ensures ∙ ap continue_value c.in_err-after_prefix.is))
 
 pub returns : goal.returns
-returns c = after_prefix_some c.args.name.now (slash ∷ []) c.args.spelled.now c.in_ok-after_prefix.field-0.now c.after_prefix.result _ c.after_prefix.ensures (ap (option_map (λ v. v.now)) (c.branch-after_prefix.ensures ∙ ap continue_value c.in_ok-after_prefix.is)) c.after_prefix-2.ensures
+returns c = after_prefix_some c.args.name.now (slash ∷ []) c.args.spelled.now c.in_ok-after_prefix.field-0.now
+    c.after_prefix.result _ c.after_prefix.ensures (ap (option_map (λ v. v.now))
+    (c.branch-after_prefix.ensures ∙ ap continue_value c.in_ok-after_prefix.is)) c.after_prefix-2.ensures

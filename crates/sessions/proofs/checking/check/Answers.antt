@@ -25,12 +25,16 @@ returns-in_err-outcomes-clause-failed g c =
 
 pub returns-in_err-judgments-clause-failed : goal.returns-in_err-judgments-clause-failed
 returns-in_err-judgments-clause-failed g c =
-    check_fails _ _ _ _ _ c.args.limits c.args.shell c.in-Ok.after c.args.env.now c.args.text.now (map texts_in c.as_slice.result.now) (without_repeats (flat_map loaded_in c.as_slice-2.result.now)) c.in_ok-outcomes.outcomes.items
+    check_fails _ _ _ _ _ c.args.limits c.args.shell c.in-Ok.after c.args.env.now c.args.text.now
+    (map texts_in c.as_slice.result.now) (without_repeats (flat_map loaded_in c.as_slice-2.result.now))
+    c.in_ok-outcomes.outcomes.items
     c.judge_loaded.ensures.reads.narrows c.in-Ok.ensures.ok (ap (map texts_in) c.as_slice.ensures.value ∙ c.in_ok-lines.ensures) c.in_ok-outcomes.ensures.ran
     (ap (λ xs. without_repeats (flat_map loaded_in xs)) c.as_slice-2.ensures.value) c.run_lines.ensures.failed c.judge_loaded.ensures.failed
 
 pub returns-clause-failed : goal.returns-clause-failed
 returns-clause-failed g c =
-    check_fails _ _ _ _ _ c.args.limits c.args.shell c.in-Ok.after c.args.env.now c.args.text.now (map texts_in c.as_slice.result.now) (without_repeats (flat_map loaded_in c.as_slice-2.result.now)) c.in_ok-outcomes.outcomes.items
+    check_fails _ _ _ _ _ c.args.limits c.args.shell c.in-Ok.after c.args.env.now c.args.text.now
+    (map texts_in c.as_slice.result.now) (without_repeats (flat_map loaded_in c.as_slice-2.result.now))
+    c.in_ok-outcomes.outcomes.items
     c.judge_loaded.ensures.reads.narrows c.in-Ok.ensures.ok (ap (map texts_in) c.as_slice.ensures.value ∙ c.in_ok-lines.ensures) c.in_ok-outcomes.ensures.ran
     (ap (λ xs. without_repeats (flat_map loaded_in xs)) c.as_slice-2.ensures.value) c.run_lines.ensures.failed c.judge_loaded.ensures.failed

@@ -3,8 +3,9 @@ use Rattle.std.proofs.lemmas.List.{take_all}
 use Rattle.envvars.specs.Texts.{Text, slice_texts}
 use Rattle.filetree.proofs.FailedPaths.{only_at}
 use Rattle.sessions.specs.Judgments.{AreJudgments, count_failed_judgments}
-use Rattle.sessions.specs.declared.judging.Judgment.{Judgment}
-use Rattle.sessions.proofs.JudgmentLemmas.{below_more, failures_more, judged_name, judgments_narrowed, judgments_push, more_below, named_so_far, names_fail, verdict_counts}
+use Rattle.sessions.specs.declared.judging.ModuleVerdict.{ModuleVerdict}
+use Rattle.sessions.proofs.JudgmentLemmas.{below_more, failures_more, judged_name, judgments_narrowed, judgments_push}
+use Rattle.sessions.proofs.JudgmentLemmas.{more_below, named_so_far, names_fail, verdict_counts}
 use Rattle.sessions.proofs.judging.give_verdicts.Goals as goal
 
 pub loop-name-preserved : goal.loop-name-preserved
@@ -13,7 +14,7 @@ loop-name-preserved g c =
     let first = g.T.Tree.failures c.args.tree.now in
     let was = g.T.Tree.failures c.loop-name.tree in
     let is = g.T.Tree.failures c.verdict-answer.new.tree in
-    let judgment : Judgment = record { name = c.in_ok-full_name.full_name; verdict = c.verdict-answer.result } in
+    let judgment : ModuleVerdict = record { name = c.in_ok-full_name.full_name; verdict = c.verdict-answer.result } in
     let sofar = c.loop-name.judgments.items in
     let items : c.push.new.self.items ≡ sofar ++ judgment ∷ [] = c.in_ok-push.ensures.items in
     let names = c.args.names.now in
@@ -21,8 +22,8 @@ loop-name-preserved g c =
     let done = slice_texts (take i names) in
     let name = string_bytes c.in_ok-full_name.full_name in
     let grown : slice_texts (take (i + 1) names) ≡ done ++ name ∷ [] = named_so_far names i _ name c.loop-name-test.true c.in_ok-full_name.ensures.ok in
-    let Are : List Text → List Judgment → Type 0 = λ ns js. AreJudgments agrees (first < is) c.args.limits c.args.env.now ns js in
-    let Counted : List Judgment → Type 0 = λ js. first + count_failed_judgments js ≤ is in
+    let Are : List Text → List ModuleVerdict → Type 0 = λ ns js. AreJudgments agrees (first < is) c.args.limits c.args.env.now ns js in
+    let Counted : List ModuleVerdict → Type 0 = λ js. first + count_failed_judgments js ≤ is in
     record {
       reads = record {
         narrows = λ files listings agreed. c.loop-name.invariant.reads.narrows files listings (c.verdict-answer.ensures.reads.narrows files listings agreed);

@@ -46,10 +46,12 @@ loop-request-preserved g c =
           let context = request_context_in c.args.limits shell files listings in
           let printed = c.print_request-text.ensures.prints_for in
           c.loop-request.invariant.looks files listings (c.print_request-text.ensures.narrows files listings agreed) shell at
-          (looks_on (OwnLooksAt context) (IsOwnResponse context) before_it new (map request_view (drop i requests)) (request_view c.request-item.result) (map request_view (drop (i + 1) requests)) printed.response at split
+          (looks_on (OwnLooksAt context) (IsOwnResponse context) before_it new (map request_view (drop i requests))
+          (request_view c.request-item.result) (map request_view (drop (i + 1) requests)) printed.response at split
           (printed.answers files listings agreed) printed.end more);
       failed =
-          session_fails _ _ _ _ _ (λ files listings shell. request_context_in c.args.limits shell files listings) c.args.env before_it _ _ _ _ c.print_request-text.ensures.narrows split c.loop-request.invariant.looks
+          session_fails _ _ _ _ _ (λ files listings shell. request_context_in c.args.limits shell files listings)
+          c.args.env before_it _ _ _ _ c.print_request-text.ensures.narrows split c.loop-request.invariant.looks
           c.loop-request.invariant.failed c.print_request-text.ensures.failed;
     }
 
@@ -76,5 +78,6 @@ returns-clause-returns_to_start g c =
 pub returns-in_err-push-clause-failed : goal.returns-in_err-push-clause-failed
 returns-in_err-push-clause-failed g c =
     session_fails _ _ _ _ _ (λ files listings shell. request_context_in c.args.limits shell files listings) c.args.env c.loop-request.after _ _ _ _ c.print_request-text.ensures.narrows
-    (split_at request_view c.args.requests.now c.loop-request.request-index c.request-item.result c.loop-request-test.true c.request-item.is) c.loop-request.invariant.looks c.loop-request.invariant.failed
+    (split_at request_view c.args.requests.now c.loop-request.request-index c.request-item.result
+    c.loop-request-test.true c.request-item.is) c.loop-request.invariant.looks c.loop-request.invariant.failed
     c.print_request-text.ensures.failed

@@ -37,24 +37,32 @@ loop-words-preserved g c =
           let Ran : List Outcome → Type 0 = λ xs. LineSession context start all (responses start xs ++ os) in
           let From : List (List Text) → Type 0 = λ rs. LineSession context before_it rs (response_of before_it outcome ∷ os) in
           subst Ran (sym items)
-          (lines_taken context start before_it new (texts_in c.words-item.result) (map texts_in (drop (i + 1) lines)) all (responses start sofar) (responses start (sofar ++ outcome ∷ [])) (response_of before_it outcome) os
-          (λ h. c.loop-words.invariant.ran files listings was (response_of before_it outcome ∷ os) (subst From (sym (split_at texts_in lines i c.words-item.result c.loop-words-test.true c.words-item.is)) h))
+          (lines_taken context start before_it new (texts_in c.words-item.result) (map texts_in (drop (i + 1) lines))
+          all (responses start sofar) (responses start (sofar ++ outcome ∷ [])) (response_of before_it outcome) os
+          (λ h. c.loop-words.invariant.ran files listings was (response_of before_it outcome ∷ os)
+          (subst From (sym (split_at texts_in lines i c.words-item.result c.loop-words-test.true c.words-item.is))
+          h))
           (rw c.as_slice.ensures.value at c.respond_to-outcome.ensures.answer files listings agreed) (c.respond_to-outcome.ensures.end files listings agreed)
           (session_grows start before_it new sofar outcome (c.loop-words.invariant.end files listings was) (c.respond_to-outcome.ensures.end files listings agreed)).1 more);
       looks = λ files listings agreed at more.
           let context = request_context_in c.args.limits c.args.shell files listings in
           c.loop-words.invariant.looks files listings (c.respond_to-outcome.ensures.narrows files listings agreed) at
-          (looks_on (LineLooksAt context) (IsLineResponse context) before_it new (map texts_in (drop i lines)) (texts_in c.words-item.result) (map texts_in (drop (i + 1) lines)) (response_of before_it outcome) at split
+          (looks_on (LineLooksAt context) (IsLineResponse context) before_it new (map texts_in (drop i lines))
+          (texts_in c.words-item.result) (map texts_in (drop (i + 1) lines)) (response_of before_it outcome) at
+          split
           (rw c.as_slice.ensures.value at c.respond_to-outcome.ensures.answer files listings agreed) (c.respond_to-outcome.ensures.end files listings agreed) more);
       failed =
-          lines_fail _ _ _ _ _ (λ files listings. request_context_in c.args.limits c.args.shell files listings) start before_it _ _ _ _ c.respond_to-outcome.ensures.narrows split c.loop-words.invariant.looks
+          lines_fail _ _ _ _ _ (λ files listings. request_context_in c.args.limits c.args.shell files listings) start
+          before_it _ _ _ _ c.respond_to-outcome.ensures.narrows split c.loop-words.invariant.looks
           c.loop-words.invariant.failed (rw c.as_slice.ensures.value at c.respond_to-outcome.ensures.failed);
     }
 
 pub returns-clause-ran : goal.returns-clause-ran
 returns-clause-ran g c =
     λ files listings agreed.
-    lines_done texts_in (request_context_in c.args.limits c.args.shell files listings) c.args.env.now c.loop-words.env (drop c.loop-words.words-index c.args.lines.now) (map texts_in c.args.lines.now) (responses c.args.env.now c.loop-words.outcomes.items)
+    lines_done texts_in (request_context_in c.args.limits c.args.shell files listings) c.args.env.now c.loop-words.env
+    (drop c.loop-words.words-index c.args.lines.now) (map texts_in c.args.lines.now)
+    (responses c.args.env.now c.loop-words.outcomes.items)
     (drop_of_length-le c.args.lines.now c.loop-words-test.false) (c.loop-words.invariant.ran files listings agreed)
 
 pub returns-in_err-push-clause-failed : goal.returns-in_err-push-clause-failed

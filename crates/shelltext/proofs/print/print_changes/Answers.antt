@@ -10,7 +10,9 @@ use Rattle.shelltext.proofs.print.print_changes.Goals as goal
 pub returns-then-not-is_sayable-clause-fault : goal.returns-then-not-is_sayable-clause-fault
 returns-then-not-is_sayable-clause-fault c =
     let family = family_of c.args.shell in
-    let found = find_first new_value_of (is_sayable family) c.args.changes.now c.loop-change.change-index c.change-item.result c.loop-change-test.true (rw c.family-family.ensures at c.loop-change.invariant.sayable) (rw (← c.change-item.is) (search rules)) in
+    let found = find_first new_value_of (is_sayable family) c.args.changes.now c.loop-change.change-index
+    c.change-item.result c.loop-change-test.true (rw c.family-family.ensures at c.loop-change.invariant.sayable)
+    (rw (← c.change-item.is) (search rules)) in
     record {
       first = rw (found, ← c.change-item.is) (ap (λ (l : List ℕ). Some l) (sym c.in_ok-clone.ensures.cases));
       no_text = no_text c.args.shell (map new_value_of c.args.changes.now) _ found;

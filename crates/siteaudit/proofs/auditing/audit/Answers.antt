@@ -30,7 +30,8 @@ returns-in_err-evaluations-clause-failed g c =
     let p = err_from_is_err_and c.from_residual.result c.from_residual.ensures.1 in
     rw (p.1, p.2) (fails_then fails fails (g.T.Tree.failed a.tree.now) (g.T.Tree.failed a.tree.now) (g.T.Tree.failed c.walk_site.new.tree)
     (λ at. InEachPair agrees (λ files listings. WalkLooksAt (site_of a.limits a.env.now files listings) at))
-    (λ at. InEachPair agrees (λ files listings. AuditLooksAt (site_of a.limits a.env.now files listings) at)) refl refl (λ at h files listings k. inl (h files listings k)) c.in_err-evaluations.ensures.failed)
+    (λ at. InEachPair agrees (λ files listings. AuditLooksAt (site_of a.limits a.env.now files listings) at)) refl refl
+    (λ at h files listings k. inl (h files listings k)) c.in_err-evaluations.ensures.failed)
 
 pub returns-in_err-audit_evaluations-clause-failed : goal.returns-in_err-audit_evaluations-clause-failed
 returns-in_err-audit_evaluations-clause-failed g c =

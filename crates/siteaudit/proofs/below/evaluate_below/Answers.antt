@@ -20,7 +20,9 @@ loop-entry-init g c =
     record {
       reads = record { narrows = λ files listings k. k; counts_failures = omega arith };
       unfailed = refl;
-      evaluated = λ files listings k. subst (λ (xs : List Evaluation). AreEvaluationsOf (site_of a.limits a.env.now files listings) [] xs) (sym c.new-evaluations.ensures.items) (none_evaluated (site_of a.limits a.env.now files listings));
+      evaluated = λ files listings k. subst (λ (xs : List Evaluation). AreEvaluationsOf
+          (site_of a.limits a.env.now files listings) [] xs) (sym c.new-evaluations.ensures.items)
+          (none_evaluated (site_of a.limits a.env.now files listings));
     }
 
 pub loop-entry-preserved : goal.loop-entry-preserved
@@ -44,7 +46,9 @@ returns-in_err-evaluate_module-clause-failed g c =
     let p = err_from_is_err_and c.from_residual-in_err-evaluate_module.result c.from_residual-in_err-evaluate_module.ensures.1 in
     rw (p.1, p.2) (fails_then fails fails (g.T.Tree.failed c.args.tree.now) (g.T.Tree.failed c.loop-entry.tree) (g.T.Tree.failed c.evaluate_module.new.tree)
     (λ at. at ≡ (module_below dir (name_of c.entry-item.result)).path)
-    (λ at. InEachPair agrees (λ files listings. directories dir ≡ dir ∷ [] → DirectoryLooksAt (site_of a.limits a.env.now files listings) dir at)) (c.loop-entry.invariant.unfailed ∙ c.in_ok-entries.ensures.failed) refl
+    (λ at. InEachPair agrees (λ files listings. directories dir ≡ dir ∷ []
+    → DirectoryLooksAt (site_of a.limits a.env.now files listings) dir at))
+    (c.loop-entry.invariant.unfailed ∙ c.in_ok-entries.ensures.failed) refl
     (λ at e files listings k alone.
     let site = site_of a.limits a.env.now files listings in
     let names = c.in_ok-entries.ensures.listed alone files listings (c.loop-entry.invariant.reads.narrows files listings (c.evaluate_module.ensures.reads.narrows files listings k)) in

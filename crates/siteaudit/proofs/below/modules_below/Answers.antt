@@ -21,7 +21,8 @@ returns-in-Some-clause-listed g c = λ alone files listings k.
     let dir = c.args.dir.now in
     let site = site_of a.limits a.env.now files listings in
     let listing = c.in-Some.listing in
-    let its = last_listing (HasResult a.limits) files listings dir (directories dir) c.in_ok-listings.listings.items c.pop.new.self.items listing alone c.in-Some.ensures.items (c.in_ok-listings.ensures.listed files listings k) in
+    let its = last_listing (HasResult a.limits) files listings dir (directories dir) c.in_ok-listings.listings.items
+    c.pop.new.self.items listing alone c.in-Some.ensures.items (c.in_ok-listings.ensures.listed files listings k) in
     subst (λ (names : List Text). AreNamesBelow site dir names) (names_seen listing.modules.items) (c.walks.ensures.names site dir (map listing_entry_view listing.modules.items) its)
 
 pub returns-in_err-listings-clause-failed : goal.returns-in_err-listings-clause-failed

@@ -25,5 +25,6 @@ returns-clause-failed g c =
     let agrees = g.T.Tree.agrees c.bad_in_folders.new.tree in
     let holds : (folder : FolderText) → IsAmong folder folders ↔ HoldsOneOf evaluations folder = rw c.as_slice.ensures.value c.in_ok-folders.ensures in
     fails_last is_failure (g.T.Tree.failed c.args.tree.now) (g.T.Tree.failed c.args.tree.now) (g.T.Tree.failed c.bad_in_folders.new.tree) c.bad_in_folders.result
-    (λ at. InEachPair agrees (λ files listings. SearchesLookAt limits files listings folders at)) (λ at. InEachPair agrees (λ files listings. EvaluatedLookAt limits files listings evaluations at)) refl
+    (λ at. InEachPair agrees (λ files listings. SearchesLookAt limits files listings folders at))
+    (λ at. InEachPair agrees (λ files listings. EvaluatedLookAt limits files listings evaluations at)) refl
     (λ at h files listings a. let k = h files listings a in (k.0, (holds k.0).0 k.1, k.2)) c.bad_in_folders.ensures.failed

@@ -36,7 +36,13 @@ returns-in_err-found-clause-failed g c =
     rw (p.1, p.2) (fails_then fails fails (g.T.Tree.failed c.args.tree.now) (g.T.Tree.failed c.loop-folder.tree) (g.T.Tree.failed c.bad_default_file.new.tree)
     (λ at. InEachPair agrees (λ files listings. SearchLooksAt limits files listings (folder_view folder) at))
     (λ at. InEachPair agrees (λ files listings. SearchesLookAt limits files listings (map folder_view folders) at)) c.loop-folder.invariant.unfailed refl
-    (λ at h files listings a. (folder_view folder, among_map folder_view folder folders (among_at folders c.loop-folder.folder-index folder c.loop-folder-test.true c.folder-item.is), h files listings a))
+    (λ at h files listings a. (
+      folder_view folder,
+      among_map folder_view folder folders
+          (among_at folders c.loop-folder.folder-index folder c.loop-folder-test.true c.folder-item.is),
+      h files listings
+          a,
+    ))
     c.in_err-found.ensures.failed)
 
 pub returns-in_err-push_found-clause-failed : goal.returns-in_err-push_found-clause-failed

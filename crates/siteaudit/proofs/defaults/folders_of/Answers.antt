@@ -12,4 +12,5 @@ loop-module-preserved c =
 pub returns : goal.returns
 returns c =
     let items : IfOk c.collect.result (λ v. v.items ≡ c.loop-module.folders.keys) = search rules in
-    IfOk-weaker c.collect.result _ _ (λ v e. folders_whole v.items c.loop-module.folders.keys c.args.evaluations.now c.loop-module.module-index c.loop-module-test.false c.loop-module.invariant e) items
+    IfOk-weaker c.collect.result _ _ (λ v e. folders_whole v.items c.loop-module.folders.keys c.args.evaluations.now
+    c.loop-module.module-index c.loop-module-test.false c.loop-module.invariant e) items

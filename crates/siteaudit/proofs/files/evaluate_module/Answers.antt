@@ -2,7 +2,7 @@ use Rattle.std.proofs.Common.{◌≡◌, ◌<◌, ℕ, List, Result, sym, ◌∙
 use Rattle.std.proofs.lemmas.Result.{err_from_is_err_and}
 use Rattle.envvars.specs.Texts.{Text}
 use Rattle.filetree.specs.Agreement.{FailsAt}
-use Rattle.modulerun.specs.declared.run.Ran.{Ran}
+use Rattle.modulerun.specs.declared.run.FileRun.{FileRun}
 use Rattle.modules.specs.Answers.{is_failure}
 use Rattle.modules.specs.declared.refusal.Refusal.{Refusal}
 use Rattle.sitelaws.specs.Sites.{EvaluatesTo, site_of, module_below}
@@ -18,11 +18,14 @@ returns-clause-evaluated g c = λ files listings k.
     let name = c.args.name.now in
     let agrees = g.T.Tree.agrees c.evaluate_file.new.tree in
     let failed = g.T.Tree.failures c.args.tree.now < g.T.Tree.failures c.evaluate_file.new.tree in
-    let here = subst (λ (path : Text). ComesToOverTree agrees failed c.evaluate_file.result (λ files listings. EvaluatesTo (site_of a.limits a.env.now files listings) (record { name = name; path = path })))
+    let here = subst (λ (path : Text). ComesToOverTree agrees failed c.evaluate_file.result
+    (λ files listings. EvaluatesTo (site_of a.limits a.env.now files listings)
+    (record { name = name; path = path })))
     (c.as_str.ensures.value ∙ c.in_ok-path.ensures) c.evaluate_file.ensures.over_tree in
-    let comes = subst (λ (o : Result Ran Refusal). ComesToOverTree agrees failed o (λ files listings. EvaluatesTo (site_of a.limits a.env.now files listings) (module_below dir name)))
+    let comes = subst (λ (o : Result FileRun Refusal). ComesToOverTree agrees failed o (λ files listings. EvaluatesTo (site_of a.limits a.env.now files listings) (module_below dir name)))
     (sym c.in_ok-outcome.ensures.same) here in
-    let h = has_outcome agrees failed (λ files listings. EvaluatesTo (site_of a.limits a.env.now files listings) (module_below dir name)) c.in_ok-outcome.outcome comes c.in_ok-outcome.ensures.kept files listings k in (
+    let h = has_outcome agrees failed (λ files listings. EvaluatesTo (site_of a.limits a.env.now files listings)
+    (module_below dir name)) c.in_ok-outcome.outcome comes c.in_ok-outcome.ensures.kept files listings k in (
       h.0,
       h.1,
       record { name = sym c.in_ok-full_name.ensures.ok; path = sym c.in_ok-path.ensures; outcome = h.2 },
@@ -41,4 +44,4 @@ returns-clause-failed g c =
     let now = g.T.Tree.failed c.evaluate_file.new.tree in
     let Here : List ℕ → Type 0 = λ at. at ≡ c.as_str.result.now in
     kept_unfailed c.in_ok-outcome.outcome before now Here c.in_ok-outcome.ensures.kept
-    (subst (λ (o : Result Ran Refusal). FailsAt is_failure before now o Here) (sym c.in_ok-outcome.ensures.same) c.evaluate_file.ensures.failed)
+    (subst (λ (o : Result FileRun Refusal). FailsAt is_failure before now o Here) (sym c.in_ok-outcome.ensures.same) c.evaluate_file.ensures.failed)

@@ -14,7 +14,9 @@ returns-in_err-run_file c =
     let loaded = map string_bytes a.loaded.now in
     let fault = c.in_err-run_file.field-0.0 in
     rw (p.1, p.2) (run_refused (file_reason_of fault) (RunsFile a.limits (site_context c.args.name.now c.args.path.now loaded a.env.now) c.args.text.now)
-    (subst (λ (e : Environment). IfSome (file_reason_of fault) (λ stop. RunsFile a.limits (site_context c.args.name.now c.args.path.now loaded e) c.args.text.now (Err stop))) c.over-working.ensures.new c.in_err-run_file.ensures.runs.1))
+    (subst (λ (e : Environment). IfSome (file_reason_of fault)
+    (λ stop. RunsFile a.limits (site_context c.args.name.now c.args.path.now loaded e) c.args.text.now (Err stop)))
+    c.over-working.ensures.new c.in_err-run_file.ensures.runs.1))
 
 pub returns : goal.returns
 returns c =

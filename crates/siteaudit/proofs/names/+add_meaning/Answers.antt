@@ -9,4 +9,5 @@ returns-in-Some t c = on_ok_weaker c.add_meaning.result
     c.add_meaning.ensures
 
 pub returns-in-None : goal.returns-in-None
-returns-in-None t c = λ name. inserted_single c.args.meaning.now.keys c.insert.new.self.keys c.in_ok-from_str.field-0 c.args.full_name.now name c.in_ok-from_str.ensures.ok c.in_ok-insert.ensures.keys c.in-None.ensures
+returns-in-None t c = λ name. inserted_single c.args.meaning.now.keys c.insert.new.self.keys c.in_ok-from_str.field-0
+    c.args.full_name.now name c.in_ok-from_str.ensures.ok c.in_ok-insert.ensures.keys c.in-None.ensures

@@ -9,5 +9,6 @@ use Rattle.siteaudit.proofs.names.has_meaning.Goals as goal
 
 pub returns : goal.returns
 returns c =
-    any_from_yields_List (λ (x : String Global). known_in c.args.meaning.now.keys (string_bytes x)) _ _ c.any.result c.any.ensures.ran (YieldsList-from_slice c.args.names.now cc) (λ x b q k. search (rules, tests))
+    any_from_yields_List (λ (x : String Global). known_in c.args.meaning.now.keys (string_bytes x)) _ _ c.any.result
+    c.any.ensures.ran (YieldsList-from_slice c.args.names.now cc) (λ x b q k. search (rules, tests))
     ∙ any_seen (known_in c.args.meaning.now.keys) (λ (s : String Global). string_bytes s) c.args.names.now

@@ -7,4 +7,6 @@ use Rattle.siteaudit.proofs.names.judge_module.Given as goal
 
 abbrev pub invariant-loop-recorded : goal.invariant-loop-recorded
 invariant-loop-recorded l =
-    map mention_of l.unknown.items ≡ map mention_of l.initial.unknown.items ++ flat_map (unknown_in (known_in l.meaning.keys) (evaluated_file l.module)) (map record_view (take l.recorded-index l.records))
+    map mention_of l.unknown.items ≡ map mention_of l.initial.unknown.items
+    ++ flat_map (unknown_in (known_in l.meaning.keys) (evaluated_file l.module))
+    (map record_view (take l.recorded-index l.records))

@@ -6,7 +6,9 @@ use Rattle.siteaudit.proofs.standing.find_unlike.Goals as goal
 
 pub returns-in-Some : goal.returns-in-Some
 returns-in-Some c =
-    sym (found_first (λ (other : UsedVariable). not (use_alike (used_view c.args.one.now) other)) (map used_view c.args.directories.now) (map used_view c.args.used.now) (used_view c.in-Some.other.now) (sym c.in-Some.ensures))
+    sym (found_first (λ (other : UsedVariable). not (use_alike (used_view c.args.one.now) other))
+    (map used_view c.args.directories.now) (map used_view c.args.used.now) (used_view c.in-Some.other.now)
+    (sym c.in-Some.ensures))
 
 pub returns-in-None : goal.returns-in-None
 returns-in-None c =

@@ -1,4 +1,5 @@
-use Rattle.std.proofs.Common.{◌≡◌, ◌<◌, ◌≤◌, List, [], ◌∷◌, Some, None, map, length, slice_get, option_map, add-one, string_bytes, String, Global, refl, sym, ap, ◌∙◌, subst, arith}
+use Rattle.std.proofs.Common.{◌≡◌, ◌<◌, ◌≤◌, List, [], ◌∷◌, Some, None, map, length, slice_get, option_map, add-one}
+use Rattle.std.proofs.Common.{string_bytes, String, Global, refl, sym, ap, ◌∙◌, subst, arith}
 use Rattle.envvars.specs.Texts.{Text}
 use Rattle.filetree.specs.Agreement.{InEachPair}
 use Rattle.filetree.specs.Modulefiles.{directories}
@@ -70,7 +71,11 @@ loop-evaluations-preserved g c =
     let same : length dirs ≡ length c.loop-evaluations.dirs.keys = length-map c.loop-evaluations.dirs.keys string_bytes in
     let below : place < length dirs = place_below dir dirs place at in
     record {
-      reads = record { narrows = λ files listings k. c.loop-evaluations.invariant.reads.narrows files listings (c.walk_directory.ensures.reads.narrows files listings k); counts_failures = omega arith };
+      reads = record {
+        narrows = λ files listings k. c.loop-evaluations.invariant.reads.narrows files listings
+            (c.walk_directory.ensures.reads.narrows files listings k);
+        counts_failures = omega arith;
+      };
       unfailed = c.in_ok-walk_directory.ensures.failed ∙ c.loop-evaluations.invariant.unfailed;
       within = omega (arith, c.len.ensures.len);
       walked = λ files listings k.

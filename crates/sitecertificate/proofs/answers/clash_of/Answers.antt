@@ -6,7 +6,9 @@ use Rattle.sitecertificate.proofs.answers.clash_of.Goals as goal
 
 pub returns-in-Some : goal.returns-in-Some
 returns-in-Some c =
-    is_clash (users_at c.args.table.now) (module_of c.args.candidate.now) (user_view c.in-Some.users.own) (user_view c.in-Some.users.other) c.in_ok-clash_between-in-Some.field-0 c.in_ok-clash_between-in-Some.ensures c.in-Some.ensures
+    is_clash (users_at c.args.table.now) (module_of c.args.candidate.now) (user_view c.in-Some.users.own)
+    (user_view c.in-Some.users.other) c.in_ok-clash_between-in-Some.field-0 c.in_ok-clash_between-in-Some.ensures
+    c.in-Some.ensures
 
 pub returns : goal.returns
 returns c = clashes_with_none (users_at c.args.table.now) (module_of c.args.candidate.now) c.in-None.ensures

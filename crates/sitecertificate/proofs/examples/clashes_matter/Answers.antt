@@ -1,4 +1,5 @@
-use Rattle.sitecertificate.proofs.Lost.{by_delimiters, by_path_and_stack, by_set_and_push, by_unset_and_push, by_both_set, starts_agree}
+use Rattle.sitecertificate.proofs.Lost.{by_delimiters, by_path_and_stack, by_set_and_push, by_unset_and_push}
+use Rattle.sitecertificate.proofs.Lost.{by_both_set, starts_agree}
 use Rattle.sitecertificate.proofs.OneModule.{leave_value}
 use Rattle.sitecertificate.proofs.examples.clashes_matter.Goals as goal
 

@@ -16,5 +16,7 @@ returns-in_err-drop_loaded-clause-only c =
 
 pub returns-clause-decided : goal.returns-clause-decided
 returns-clause-decided c =
-    loaded_anew c.args.env.now c.over-anew.result.new c.add_loaded.new.env.new c.drop_loaded.new.env.new (entry_view c.in_ok-entry.entry) (map entry_view c.in-Some.entries.items) (string_bytes c.in_ok-entry.entry.name) c.is_list_unchanged.result
+    loaded_anew c.args.env.now c.over-anew.result.new c.add_loaded.new.env.new c.drop_loaded.new.env.new
+    (entry_view c.in_ok-entry.entry) (map entry_view c.in-Some.entries.items)
+    (string_bytes c.in_ok-entry.entry.name) c.is_list_unchanged.result
     c.over-anew.ensures.new (search (rules)) c.in_ok-add_loaded.ensures.edits refl (search (rules, tests)) c.is_list_unchanged.ensures

@@ -28,7 +28,9 @@ loop-candidate-preserved c =
     let i = c.loop-candidate.invariant in (
       insert_all same_used i.0 (used_by_modules (without_clash (module_of c.in-Some.candidate.now) c.in-Some.answer.now)),
       c.in_ok-add_unclashed.ensures i.0 i.1,
-      unclashed_turn module_of i.0 _ (iter_rest (zip_first old)) (iter_rest (zip_first new)) (iter_rest (zip_second old)) (iter_rest (zip_second new)) c.in-Some.candidate.now c.in-Some.answer.now z.0 z.1 i.2,
+      unclashed_turn module_of i.0 _ (iter_rest (zip_first old)) (iter_rest (zip_first new))
+          (iter_rest (zip_second old)) (iter_rest (zip_second new)) c.in-Some.candidate.now c.in-Some.answer.now z.0 z.1
+          i.2,
     )
 
 pub returns : goal.returns

@@ -10,5 +10,6 @@ use Rattle.sitecertificate.proofs.pairs.is_meant.Goals as goal
 
 pub returns : goal.returns
 returns c =
-    any_from_yields_List (λ (x : String Global). means (string_bytes x) c.args.full_name.now) _ _ c.any.result c.any.ensures.ran (YieldsList-from_slice c.args.names.now cc) (λ x b q k. search (rules, tests))
+    any_from_yields_List (λ (x : String Global). means (string_bytes x) c.args.full_name.now) _ _ c.any.result
+    c.any.ensures.ran (YieldsList-from_slice c.args.names.now cc) (λ x b q k. search (rules, tests))
     ∙ any_seen (λ (t : Text). means t c.args.full_name.now) (λ (s : String Global). string_bytes s) c.args.names.now

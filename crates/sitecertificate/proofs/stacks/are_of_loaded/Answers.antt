@@ -12,6 +12,8 @@ use Rattle.sitecertificate.proofs.stacks.are_of_loaded.Goals as goal
 
 pub returns : goal.returns
 returns c =
-    all_from_yields_List (λ (x : String Global). is_of_loaded (names_of (map entry_view c.args.owners.now)) (string_bytes x)) _ _ c.all.result c.all.ensures.ran (YieldsList-from_slice c.deref.result.now cc) (λ x b q k. search (rules, tests))
+    all_from_yields_List (λ (x : String Global). is_of_loaded (names_of (map entry_view c.args.owners.now))
+    (string_bytes x)) _ _ c.all.result c.all.ensures.ran (YieldsList-from_slice c.deref.result.now cc)
+    (λ x b q k. search (rules, tests))
     ∙ (all_texts (is_of_loaded (names_of (map entry_view c.args.owners.now))) c.deref.result.now
     ∙ ap (list_all (is_of_loaded (names_of (map entry_view c.args.owners.now)))) (ap (map (λ (s : String Global). string_bytes s)) c.deref.ensures.value ∙ c.in_ok-elements.ensures))

@@ -7,5 +7,6 @@ use Rattle.sitecertificate.proofs.stacks.is_among.Goals as goal
 
 pub returns : goal.returns
 returns c =
-    any_from_yields_List (λ (x : Loaded). bytes_eq c.args.name.now (string_bytes x.name)) _ _ c.any.result c.any.ensures.ran (YieldsList-from_slice c.args.owners.now cc) (λ x b q k. search (rules, tests))
+    any_from_yields_List (λ (x : Loaded). bytes_eq c.args.name.now (string_bytes x.name)) _ _ c.any.result
+    c.any.ensures.ran (YieldsList-from_slice c.args.owners.now cc) (λ x b q k. search (rules, tests))
     ∙ named_among c.args.name.now c.args.owners.now

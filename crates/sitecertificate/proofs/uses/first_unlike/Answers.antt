@@ -10,4 +10,6 @@ use Rattle.sitecertificate.proofs.uses.first_unlike.Goals as goal
 pub returns : goal.returns
 returns c =
     find_seen (λ (x : uses.UsedVariable). not (uses.use_alike (used_view c.args.one.now) x)) used_view c.args.all_used.now c.find.result
-    (find_from_yields_List (λ (x : UsedVariable). not (uses.use_alike (used_view c.args.one.now) (used_view x))) _ _ c.find.result c.find.ensures.ran (YieldsList-from_slice c.args.all_used.now cc) (λ x b q k. search (rules, tests)))
+    (find_from_yields_List (λ (x : UsedVariable). not (uses.use_alike (used_view c.args.one.now) (used_view x))) _ _
+    c.find.result c.find.ensures.ran (YieldsList-from_slice c.args.all_used.now cc)
+    (λ x b q k. search (rules, tests)))

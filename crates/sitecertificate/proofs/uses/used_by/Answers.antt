@@ -8,5 +8,7 @@ use Rattle.sitecertificate.proofs.uses.used_by.Goals as goal
 
 pub loop-recorded-preserved : goal.loop-recorded-preserved
 loop-recorded-preserved c =
-    turn record_view uses.used_by used-append (map used_view c.loop-recorded.used.items) (map used_view c.push_use.new.used.items) c.args.records.now c.loop-recorded.recorded-index c.recorded-item.result
+    turn record_view uses.used_by used-append (map used_view c.loop-recorded.used.items)
+    (map used_view c.push_use.new.used.items) c.args.records.now c.loop-recorded.recorded-index
+    c.recorded-item.result
     c.loop-recorded-test.true c.recorded-item.is c.loop-recorded.invariant c.in_ok-push_use.ensures

@@ -29,7 +29,8 @@ returns-in_err-judge_directory-clause-cause g c =
     let first = g.T.Tree.failures c.args.tree.now in
     let was = g.T.Tree.failures c.loop-dir.tree in
     let is = g.T.Tree.failures c.judge_directory.new.tree in
-    rw (p.1, p.2) (fault_among (g.T.Tree.agrees c.loop-dir.tree) (g.T.Tree.agrees c.judge_directory.new.tree) (was < is) (first < is) c.args.dirs.now c.loop-dir.dir-index c.dir-item.result c.in_err-judge_directory.field-0.0
+    rw (p.1, p.2) (fault_among (g.T.Tree.agrees c.loop-dir.tree) (g.T.Tree.agrees c.judge_directory.new.tree) (was < is)
+    (first < is) c.args.dirs.now c.loop-dir.dir-index c.dir-item.result c.in_err-judge_directory.field-0.0
     (λ h. fails_later first was is c.loop-dir.invariant.reads.counts_failures h) c.loop-dir-test.true c.dir-item.is c.in_err-judge_directory.ensures.reads.narrows c.loop-dir.invariant.there
     (rw c.as_str.ensures.value at c.in_err-judge_directory.ensures.cause))
 
@@ -42,9 +43,11 @@ returns-in_err-judge_directory-clause-failed g c =
     let fails = is_failure c.in_err-judge_directory.field-0.0 in
     let agrees = g.T.Tree.agrees c.judge_directory.new.tree in
     let word = string_bytes c.dir-item.result in
-    rw (p.1, p.2) (fails_then fails fails (g.T.Tree.failed c.args.tree.now) (g.T.Tree.failed c.loop-dir.tree) (g.T.Tree.failed c.judge_directory.new.tree) (λ at. (at ≡ word) × (has_colon word ≡ false))
+    rw (p.1, p.2) (fails_then fails fails (g.T.Tree.failed c.args.tree.now) (g.T.Tree.failed c.loop-dir.tree)
+    (g.T.Tree.failed c.judge_directory.new.tree) (λ at. (at ≡ word) × (has_colon word ≡ false))
     (λ at. InEachPair agrees (λ files listings. DirectoriesLookAt listings (map (λ (s : String Global). string_bytes s) c.args.dirs.now) at)) c.loop-dir.invariant.unfailed refl
-    (λ at h. looks_in_turn (g.T.Tree.agrees c.loop-dir.tree) agrees c.args.dirs.now c.loop-dir.dir-index c.dir-item.result at c.loop-dir-test.true c.dir-item.is c.in_err-judge_directory.ensures.reads.narrows
+    (λ at h. looks_in_turn (g.T.Tree.agrees c.loop-dir.tree) agrees c.args.dirs.now c.loop-dir.dir-index
+    c.dir-item.result at c.loop-dir-test.true c.dir-item.is c.in_err-judge_directory.ensures.reads.narrows
     c.loop-dir.invariant.there h) (rw c.as_str.ensures.value at c.in_err-judge_directory.ensures.failed))
 
 pub returns-clause-failed : goal.returns-clause-failed

@@ -33,5 +33,6 @@ returns-in_err-is_listed-clause-failed g c =
 
 pub returns-then-not-branch-clause-failed : goal.returns-then-not-branch-clause-failed
 returns-then-not-branch-clause-failed g c =
-    names_unfailed c.no_directory-then-not-branch.result c.args.dir.now (g.T.Tree.failed c.args.tree.now) (g.T.Tree.failed c.is_listed.new.tree) (λ at. (at ≡ c.args.dir.now) × (has_colon c.args.dir.now ≡ false))
+    names_unfailed c.no_directory-then-not-branch.result c.args.dir.now (g.T.Tree.failed c.args.tree.now)
+    (g.T.Tree.failed c.is_listed.new.tree) (λ at. (at ≡ c.args.dir.now) × (has_colon c.args.dir.now ≡ false))
     c.no_directory-then-not-branch.ensures c.in_ok-is_listed.ensures.failed

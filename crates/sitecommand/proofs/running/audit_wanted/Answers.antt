@@ -52,14 +52,17 @@ returns-in_err-judge_directories-clause-failed g c =
     let agrees = g.T.Tree.agrees c.judge_directories.new.tree in
     let p = err_from_is_err_and c.from_residual.result c.from_residual.ensures.1 in
     rw (p.1, p.2) (fails_then fails fails (g.T.Tree.failed c.args.tree.now) (g.T.Tree.failed c.args.tree.now) (g.T.Tree.failed c.judge_directories.new.tree)
-    (λ at. InEachPair agrees (λ files listings. DirectoriesLookAt listings wanted.directories at)) (λ at. InEachPair agrees (λ files listings. WantedLooksAt c.args.env wanted files listings at)) refl refl
+    (λ at. InEachPair agrees (λ files listings. DirectoriesLookAt listings wanted.directories at))
+    (λ at. InEachPair agrees (λ files listings. WantedLooksAt c.args.env wanted files listings at)) refl refl
     (λ at h files listings a. inl (h files listings a)) (rw c.as_slice.ensures.value at c.in_err-judge_directories.ensures.failed))
 
 pub returns-in_err-judged-clause-failed : goal.returns-in_err-judged-clause-failed
 returns-in_err-judged-clause-failed g c =
     let p = err_from_is_err_and c.from_residual-in_err-judged.result c.from_residual-in_err-judged.ensures.1 in
     rw (p.1, p.2) (unfailed_without c.in_err-judged.field-0.0 (g.T.Tree.failed c.args.tree.now) (g.T.Tree.failed c.judge_directories.new.tree)
-    (λ at. InEachPair (g.T.Tree.agrees c.judge_directories.new.tree) (λ files listings. WantedLooksAt c.args.env (wanted_view c.args.wanted.now) files listings at)) c.in_err-judged.ensures.cause c.in_ok-judge_directories.ensures.failed)
+    (λ at. InEachPair (g.T.Tree.agrees c.judge_directories.new.tree)
+    (λ files listings. WantedLooksAt c.args.env (wanted_view c.args.wanted.now) files listings at))
+    c.in_err-judged.ensures.cause c.in_ok-judge_directories.ensures.failed)
 
 pub returns-in_err-found-clause-failed : goal.returns-in_err-found-clause-failed
 returns-in_err-found-clause-failed g c =

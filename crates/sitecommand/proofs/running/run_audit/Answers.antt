@@ -11,7 +11,8 @@ returns-in-Ok-clause-ended g c =
     let arguments = map (λ (s : String Global). string_bytes s) c.args.args.now in
     let agrees = g.T.Tree.agrees c.answer_of-answer.new.tree in
     answered c.write_report.result agrees (g.T.Tree.failures c.args.tree.now < g.T.Tree.failures c.answer_of-answer.new.tree)
-    (λ fails. FailsIf fails (g.T.Tree.failed c.args.tree.now) (g.T.Tree.failed c.answer_of-answer.new.tree) (λ at. InEachPair agrees (λ files listings. AuditCommandLooksAt c.args.env arguments files listings at)))
+    (λ fails. FailsIf fails (g.T.Tree.failed c.args.tree.now) (g.T.Tree.failed c.answer_of-answer.new.tree)
+    (λ at. InEachPair agrees (λ files listings. AuditCommandLooksAt c.args.env arguments files listings at)))
     c.args.env arguments c.in-Ok.answer _ _ _ _ c.in-Ok.ensures.answered c.in-Ok.ensures.failed c.write_report.ensures
 
 pub returns-in-Err-clause-ended : goal.returns-in-Err-clause-ended

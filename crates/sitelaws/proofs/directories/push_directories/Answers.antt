@@ -12,5 +12,6 @@ unfolding nothing
 loop-dir-preserved c =
     let of : List (Bor Text) → List Text = map (λ (dir : Bor Text). dir.now) in
     let x = get_or c.deref-dir-items.result.now c.loop-dir.dir-index nothing in
-    dirs_turn of (map-append (λ (dir : Bor Text). dir.now)) (map string_bytes c.args.dirs.now.keys) (map string_bytes c.loop-dir.dirs.keys) (map string_bytes c.push_directory.new.dirs.keys) (of (x ∷ []))
+    dirs_turn of (map-append (λ (dir : Bor Text). dir.now)) (map string_bytes c.args.dirs.now.keys)
+    (map string_bytes c.loop-dir.dirs.keys) (map string_bytes c.push_directory.new.dirs.keys) (of (x ∷ []))
     c.deref-dir-items.result.now c.loop-dir.dir-index nothing x c.loop-dir-test.true refl refl c.loop-dir.invariant c.in_ok-push_directory.ensures

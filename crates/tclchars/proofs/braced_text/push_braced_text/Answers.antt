@@ -3,7 +3,8 @@ use Rattle.tclchars.specs.Runs.{Text}
 use Rattle.tclchars.specs.Classes.{in_class}
 use Rattle.tclchars.specs.declared.runs.Class.TheVariants.{Unescaped}
 use Rattle.tclchars.specs.BracedText.{braced_text}
-use Rattle.tclchars.proofs.BracedTextLemmas.{SoFar, so_far-none, so_far-run, so_far-escape, so_far-end, back_no_longer, run_added}
+use Rattle.tclchars.proofs.BracedTextLemmas.{SoFar, so_far-none, so_far-run, so_far-escape, so_far-end, back_no_longer}
+use Rattle.tclchars.proofs.BracedTextLemmas.{run_added}
 use Rattle.tclchars.proofs.braced_text.push_braced_text.Goals as goal
 
 pub loop-after-init : goal.loop-after-init

@@ -1,8 +1,10 @@
-use Rattle.std.proofs.Common.{◌≡◌, ◌+◌, ◌++◌, [], ℕ, List, Some, get_or, take, drop, false, sym, ap, ap₂, subst, ◌∙◌, arith, append-nil}
+use Rattle.std.proofs.Common.{◌≡◌, ◌+◌, ◌++◌, [], ℕ, List, Some, get_or, take, drop, false, sym, ap, ap₂, subst, ◌∙◌}
+use Rattle.std.proofs.Common.{arith, append-nil}
 use Rattle.std.proofs.Math.ListN.{drop_of_length-le}
 use Rattle.tclchars.proofs.RunLemmas.{mark_cut, drop_one}
 use Rattle.tclchars.specs.Braces.{braced_at}
-use Rattle.tclchars.proofs.BraceLemmas.{behind_all, brace-more, brace-closed, brace_step-None, brace_step-few, braced_at-nil}
+use Rattle.tclchars.proofs.BraceLemmas.{behind_all, brace-more, brace-closed, brace_step-None, brace_step-few}
+use Rattle.tclchars.proofs.BraceLemmas.{braced_at-nil}
 use Rattle.tclchars.proofs.braces.split_close.Goals as goal
 
 pub split_at-requires-in-None : goal.split_at-requires-in-None
@@ -27,7 +29,8 @@ returns-in-None c =
 pub loop-i-preserved : goal.loop-i-preserved
 loop-i-preserved c = record {
   few = omega (arith, brace_step-few c.loop-i.escaped c.in-Some.next c.loop-i.depth c.in-Some.open (get_or c.as_bytes-bytes.result.now c.loop-i.i 0) (sym c.brace_step.ensures ∙ c.in-Some.is));
-  found = brace-more c.as_bytes-bytes.result.now c.loop-i.i c.loop-i.escaped c.in-Some.next c.loop-i.depth c.in-Some.open _ (omega arith) (sym c.brace_step.ensures ∙ c.in-Some.is) c.loop-i.invariant.found;
+  found = brace-more c.as_bytes-bytes.result.now c.loop-i.i c.loop-i.escaped c.in-Some.next c.loop-i.depth
+      c.in-Some.open _ (omega arith) (sym c.brace_step.ensures ∙ c.in-Some.is) c.loop-i.invariant.found;
 }
 
 pub returns : goal.returns

@@ -22,13 +22,19 @@ pub returns-in-Exists : goal.returns-in-Exists
 returns-in-Exists g c = λ most remaining used r k. rw c.in-Exists.is (c.exists.ensures most used (bounds c.args.limits.value_bytes remaining) r k)
 
 pub returns-in-Global : goal.returns-in-Global
-returns-in-Global g c = λ most remaining used r k. rw c.in-Global.is (c.global.ensures most (bounds c.args.limits.value_bytes remaining) r k (point (g.H.Host.oracle c.args.host.now) (g.H.Host.trace c.args.host.now) used))
+returns-in-Global g c = λ most remaining used r k. rw c.in-Global.is
+    (c.global.ensures most (bounds c.args.limits.value_bytes remaining) r k
+    (point (g.H.Host.oracle c.args.host.now) (g.H.Host.trace c.args.host.now) used))
 
 pub returns-in-Unset : goal.returns-in-Unset
-returns-in-Unset g c = λ most remaining used r k. rw c.in-Unset.is (c.unset.ensures most (bounds c.args.limits.value_bytes remaining) r k (point (g.H.Host.oracle c.args.host.now) (g.H.Host.trace c.args.host.now) used))
+returns-in-Unset g c = λ most remaining used r k. rw c.in-Unset.is
+    (c.unset.ensures most (bounds c.args.limits.value_bytes remaining) r k
+    (point (g.H.Host.oracle c.args.host.now) (g.H.Host.trace c.args.host.now) used))
 
 pub returns-in-Define : goal.returns-in-Define
-returns-in-Define g c = λ most remaining used r k. rw c.in-Define.is (c.define.ensures most (bounds c.args.limits.value_bytes remaining) r k (point (g.H.Host.oracle c.args.host.now) (g.H.Host.trace c.args.host.now) used))
+returns-in-Define g c = λ most remaining used r k. rw c.in-Define.is
+    (c.define.ensures most (bounds c.args.limits.value_bytes remaining) r k
+    (point (g.H.Host.oracle c.args.host.now) (g.H.Host.trace c.args.host.now) used))
 
 pub returns-in-Put : goal.returns-in-Put
 returns-in-Put g c = λ most remaining used r k. rw c.in-Put.is (c.put.ensures most used (bounds c.args.limits.value_bytes remaining) r k)

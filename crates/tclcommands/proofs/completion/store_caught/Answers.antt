@@ -11,10 +11,15 @@ pub returns-in_ok-from_str-in-None : goal.returns-in_ok-from_str-in-None
 returns-in_ok-from_str-in-None c = λ most remaining r k x. rw (c.in-None.is, c.in_ok-from_str-in-None.ensures.ok) stay
 
 pub returns-in_err-write-in-Some : goal.returns-in_err-write-in-Some
-returns-in_err-write-in-Some c = λ most remaining r k x. rw c.in-Some.is (passed_on _ _ _ _ c.from_residual-in_err-write-in-Some.ensures.1 (c.in_err-write-in-Some.ensures most remaining r (λ (t : Text) (s' : State). k c.args.caught.code.now s') x))
+returns-in_err-write-in-Some c = λ most remaining r k x. rw c.in-Some.is
+    (passed_on _ _ _ _ c.from_residual-in_err-write-in-Some.ensures.1
+    (c.in_err-write-in-Some.ensures most remaining r (λ (t : Text) (s' : State). k c.args.caught.code.now s') x))
 
 pub returns-in_err-from_str-in-Some : goal.returns-in_err-from_str-in-Some
-returns-in_err-from_str-in-Some c = λ most remaining r k x. rw c.in-Some.is (starved_after _ _ _ (c.in_ok-write-in-Some.ensures most remaining r (λ (t : Text) (s' : State). k c.args.caught.code.now s') x) c.from_residual-in_err-from_str-in-Some.ensures.1)
+returns-in_err-from_str-in-Some c = λ most remaining r k x. rw c.in-Some.is
+    (starved_after _ _ _ (c.in_ok-write-in-Some.ensures most remaining r
+    (λ (t : Text) (s' : State). k c.args.caught.code.now s') x) c.from_residual-in_err-from_str-in-Some.ensures.1)
 
 pub returns-in_ok-from_str-in-Some : goal.returns-in_ok-from_str-in-Some
-returns-in_ok-from_str-in-Some c = λ most remaining r k x. rw (c.in-Some.is, c.in_ok-from_str-in-Some.ensures.ok) (c.in_ok-write-in-Some.ensures most remaining r (λ (t : Text) (s' : State). k c.args.caught.code.now s') x)
+returns-in_ok-from_str-in-Some c = λ most remaining r k x. rw (c.in-Some.is, c.in_ok-from_str-in-Some.ensures.ok)
+    (c.in_ok-write-in-Some.ensures most remaining r (λ (t : Text) (s' : State). k c.args.caught.code.now s') x)

@@ -12,7 +12,9 @@ use Rattle.tclsubstitution.proofs.Leading.{given_stops, given_on}
 use Rattle.tclcommands.proofs.defining.define.Goals as goal
 
 -- the parameters are judged by equal lists of reserved names
-fails_alike : (e : ValueFault) (names others : List Text) (name list : Text) → names ≡ others → IfSome (reason_of e) (λ f. defined names name list ≡ Err f) → IfSome (reason_of e) (λ f. defined others name list ≡ Err f)
+fails_alike : (e : ValueFault) (names others : List Text) (name list : Text) → names ≡ others
+    → IfSome (reason_of e) (λ f. defined names name list ≡ Err f)
+    → IfSome (reason_of e) (λ f. defined others name list ≡ Err f)
 fails_alike e names others name list same h = subst (λ ns. IfSome (reason_of e) (λ f. defined ns name list ≡ Err f)) same h
 
 gives_alike : {ps : List Parameter} (names others : List Text) (name list : Text) → names ≡ others → defined names name list ≡ Ok ps → defined others name list ≡ Ok ps
@@ -21,7 +23,9 @@ gives_alike {ps = ps} names others name list same h = subst (λ ns. defined ns n
 pub returns-in_err-parameters : goal.returns-in_err-parameters
 returns-in_err-parameters c =
     let p = err_from_is_err_and c.from_residual.result c.from_residual.ensures.1 in
-    rw (p.1, p.2) (λ most b r k x. given_stops _ (defined c.args.variables.now.reserved c.args.name.now c.args.list.now) _ _ (fails_alike _ _ c.args.variables.now.reserved c.args.name.now c.args.list.now c.reserved.ensures c.in_err-parameters.ensures))
+    rw (p.1, p.2) (λ most b r k x. given_stops _ (defined c.args.variables.now.reserved c.args.name.now c.args.list.now)
+    _ _ (fails_alike _ _ c.args.variables.now.reserved c.args.name.now c.args.list.now c.reserved.ensures
+    c.in_err-parameters.ensures))
 
 pub returns-in_err-body : goal.returns-in_err-body
 returns-in_err-body c =
@@ -34,4 +38,7 @@ returns-in_err-define c =
     rw (p.1, p.2) (λ most b r k x. starve)
 
 pub returns : goal.returns
-returns c = λ most b r k x. rw (c.in_ok-define.ensures.ok, c.in_ok-body.ensures.ok) (given_on (defined c.args.variables.now.reserved c.args.name.now c.args.list.now) _ _ _ (gives_alike _ c.args.variables.now.reserved c.args.name.now c.args.list.now c.reserved.ensures c.in_ok-parameters.ensures))
+returns c = λ most b r k x. rw (c.in_ok-define.ensures.ok, c.in_ok-body.ensures.ok)
+    (given_on (defined c.args.variables.now.reserved c.args.name.now c.args.list.now) _ _ _
+    (gives_alike _ c.args.variables.now.reserved c.args.name.now c.args.list.now c.reserved.ensures
+    c.in_ok-parameters.ensures))

@@ -7,4 +7,6 @@ use Rattle.tclrules.specs.Rules.{share}
 use Rattle.tclcommands.proofs.global_names.share.Given as goal
 
 abbrev pub invariant-loop-name : goal.invariant-loop-name
-invariant-loop-name l = (most : ℕ) (r : Job → plans.Step) (k : State → plans.Step) (x : Point) → Simulates most r (share (map string_bytes l.names) l.fn.variables k) x (share (map string_bytes (drop l.name-index l.names)) l.variables k) x
+invariant-loop-name l = (most : ℕ) (r : Job → plans.Step) (k : State → plans.Step) (x : Point)
+    → Simulates most r (share (map string_bytes l.names) l.fn.variables k) x
+    (share (map string_bytes (drop l.name-index l.names)) l.variables k) x

@@ -30,7 +30,12 @@ returns-in_ok-value-in-Global g c =
     let e = rw (c.in-Element.is, c.in-Global.is) at c.in_ok-location.ensures in
     let h = c.in_ok-value-in-Global.ensures in
     let s = c.args.variables.now in
-    λ most used b r k. rw (c.truth-in-Global.ensures s, ← seen s k c.in_ok-value-in-Global.value c.is_some.result c.is_some.ensures, h.answer.1) (continue_with (given_on _ _ _ _ e) (read_on h.answer.0 h.same))
+    λ most used b r k. rw (
+      c.truth-in-Global.ensures s,
+      ← seen s k c.in_ok-value-in-Global.value c.is_some.result
+          c.is_some.ensures,
+      h.answer.1,
+    ) (continue_with (given_on _ _ _ _ e) (read_on h.answer.0 h.same))
 
 pub returns-in-Procedure : goal.returns-in-Procedure
 returns-in-Procedure g c =

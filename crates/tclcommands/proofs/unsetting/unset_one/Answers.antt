@@ -32,4 +32,6 @@ returns-in-IsError c =
     let p = scalar_view c.in_ok-variable.variable in
     let s = c.args.variables.now in
     let v : is_some (value_at s p) ≡ false = search rules in
-    λ most r k x. rw (c.in-IsError.is, c.from.ensures) (continue_with (given_on _ _ _ _ c.in_ok-variable.ensures) (rw ((unset_absent c.args.name.now s p k (value_at s p) v).1) (reason_stops _ _ _ c.cannot_unset.ensures)))
+    λ most r k x. rw (c.in-IsError.is, c.from.ensures)
+    (continue_with (given_on _ _ _ _ c.in_ok-variable.ensures)
+    (rw ((unset_absent c.args.name.now s p k (value_at s p) v).1) (reason_stops _ _ _ c.cannot_unset.ensures)))

@@ -19,13 +19,17 @@ write-requires-text-name c = search rules
 pub loop-name-preserved : goal.loop-name-preserved
 loop-name-preserved c =
     let i = rw c.in-Some.ensures.steps.0 at c.loop-name.invariant in
-    λ most remaining r k x. continue_with (i most remaining r k x) (c.in_ok-write.ensures most remaining r (λ t s. assign (bounds c.args.limit remaining) (named_values (into_iter_items c.next.new.self)) s k) x)
+    λ most remaining r k x. continue_with (i most remaining r k x)
+    (c.in_ok-write.ensures most remaining r (λ t s. assign (bounds c.args.limit remaining)
+    (named_values (into_iter_items c.next.new.self)) s k) x)
 
 pub returns-in_err-write : goal.returns-in_err-write
 returns-in_err-write c =
     let p = err_from_is_err_and c.from_residual.result c.from_residual.ensures.1 in
     let i = rw c.in-Some.ensures.steps.0 at c.loop-name.invariant in
-    rw (p.1, p.2) (λ most remaining r k x. continue_with (i most remaining r k x) (c.in_err-write.ensures most remaining r (λ t s. assign (bounds c.args.limit remaining) (named_values (into_iter_items c.next.new.self)) s k) x))
+    rw (p.1, p.2) (λ most remaining r k x. continue_with (i most remaining r k x)
+    (c.in_err-write.ensures most remaining r (λ t s. assign (bounds c.args.limit remaining)
+    (named_values (into_iter_items c.next.new.self)) s k) x))
 
 pub returns : goal.returns
 returns c =

@@ -10,4 +10,6 @@ use Rattle.tclcommands.specs.Continuations.{named_values}
 use Rattle.tclcommands.proofs.writing.assign.Given as goal
 
 abbrev pub invariant-loop-name : goal.invariant-loop-name
-invariant-loop-name l = (most remaining : ℕ) (r : Job → plans.Step) (k : State → plans.Step) (x : Point) → Simulates most r (assign (bounds l.limit remaining) (named_values l.fn.pairs.items) l.fn.variables k) x (assign (bounds l.limit remaining) (named_values (into_iter_items l.name-iterator)) l.variables k) x
+invariant-loop-name l = (most remaining : ℕ) (r : Job → plans.Step) (k : State → plans.Step) (x : Point)
+    → Simulates most r (assign (bounds l.limit remaining) (named_values l.fn.pairs.items) l.fn.variables k) x
+    (assign (bounds l.limit remaining) (named_values (into_iter_items l.name-iterator)) l.variables k) x

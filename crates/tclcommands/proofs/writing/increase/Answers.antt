@@ -24,4 +24,6 @@ returns-in_err-sum c =
 pub returns : goal.returns
 returns c =
     let fits : FitsSigned w64 c.in_ok-sum.sum = search rules in
-    λ most remaining r k x. rw (to_z-of_z w64 c.in_ok-sum.sum fits) (continue_with (given_on _ _ _ _ c.in_ok-variable.ensures) (rw c.in_ok-increment.ensures (c.in_ok-sum.ensures most remaining r k x)))
+    λ most remaining r k x. rw (to_z-of_z w64 c.in_ok-sum.sum fits)
+    (continue_with (given_on _ _ _ _ c.in_ok-variable.ensures)
+    (rw c.in_ok-increment.ensures (c.in_ok-sum.ensures most remaining r k x)))

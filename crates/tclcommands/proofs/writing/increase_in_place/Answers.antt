@@ -15,4 +15,6 @@ returns-in-Some-clause-sum c =
     let p = scalar_view c.args.variable in
     let fits : FitsSigned w64 c.in-Some.amount = search rules in
     let amount : numeral (increment_text c.args.increment) ≡ Whole (to_z w64 (of_z w64 c.in-Some.amount)) = c.in-Some.ensures ∙ ap Whole (sym (to_z-of_z w64 c.in-Some.amount fits)) in
-    by_rule c.increase.result (value_at s p) (to_z w64 (of_z w64 c.in-Some.amount)) c.args.limit (increment_text c.args.increment) c.increase.new.self (λ total. with_value s p (signed_decimal total)) amount c.increase.ensures.sum
+    by_rule c.increase.result (value_at s p) (to_z w64 (of_z w64 c.in-Some.amount)) c.args.limit
+    (increment_text c.args.increment) c.increase.new.self (λ total. with_value s p (signed_decimal total)) amount
+    c.increase.ensures.sum

@@ -43,7 +43,11 @@ loop-command-preserved g c =
     let l = rw (d, command_place (range_text c.args.file.source.now) c.command-item.result) at c.loop-command.invariant.evaluates_to in
     let rest = commands_of (map view (drop (c.loop-command.command-index + 1) (out-Script ByteRange c.args.file.tree.now).commands.items)) in
     let w = rw c.set_offset.ensures at (c.in_ok-last.ensures.evaluates_to.2 (λ (u : Text) (s2 : State). table.file_commands b rest u s2)) in
-    record { evaluates_to = rw (c.in_ok-last.ensures.evaluates_to.1.1 refl) (continue_with l w); only_grows = later_on c.loop-command.invariant.only_grows (later_beside refl refl refl refl c.in_ok-last.ensures.only_grows) }
+    record {
+      evaluates_to = rw (c.in_ok-last.ensures.evaluates_to.1.1 refl) (continue_with l w);
+      only_grows = later_on
+          c.loop-command.invariant.only_grows (later_beside refl refl refl refl c.in_ok-last.ensures.only_grows);
+    }
 
 pub returns-clause-evaluates_to : goal.returns-clause-evaluates_to
 returns-clause-evaluates_to g c =

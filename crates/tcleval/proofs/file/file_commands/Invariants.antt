@@ -18,6 +18,11 @@ invariant-loop-command g l =
     let b = bounds_of l.bounds in
     let view = map (command_view (range_text l.file.source.now)) in
     record {
-      evaluates_to : Simulates l.bounds.limits.commands (rule l.bounds.limits.value_bytes) (rules.file_commands b (script_view (range_text l.file.source.now) l.file.tree.now) [] l.fn.evaluator.variables) (point (o l.fn.host) (t l.fn.host) l.fn.evaluator.used) (rules.file_commands b (commands_of (view (drop l.command-index (out-Script ByteRange l.file.tree.now).commands.items))) (string_bytes l.last) l.evaluator.variables) (point (o l.host) (t l.host) l.evaluator.used);
+      evaluates_to : Simulates l.bounds.limits.commands (rule l.bounds.limits.value_bytes)
+          (rules.file_commands b (script_view (range_text l.file.source.now) l.file.tree.now) []
+          l.fn.evaluator.variables) (point (o l.fn.host) (t l.fn.host) l.fn.evaluator.used)
+          (rules.file_commands b (commands_of (view
+          (drop l.command-index (out-Script ByteRange l.file.tree.now).commands.items))) (string_bytes l.last)
+          l.evaluator.variables) (point (o l.host) (t l.host) l.evaluator.used);
       only_grows : OnlyGrows l.fn.evaluator l.evaluator;
     }

@@ -10,7 +10,9 @@ abbrev pub invariant-parts_nesting-loop-part : goal.invariant-parts_nesting-loop
 invariant-parts_nesting-loop-part g l = (shown : g.row.P.Denot → Text) → Tallest 18446744073709551615 l.height (parts_nesting (parts_view shown (take l.part-index l.part-items)))
 
 abbrev pub invariant-script_nesting-loop-command : goal.invariant-script_nesting-loop-command
-invariant-script_nesting-loop-command g l = (shown : g.row.P.Denot → Text) → Tallest 18446744073709551615 l.height (nesting (commands_of (map (command_view shown) (take l.command-index l.command-items))))
+invariant-script_nesting-loop-command g l = (shown : g.row.P.Denot → Text)
+    → Tallest 18446744073709551615 l.height (nesting
+    (commands_of (map (command_view shown) (take l.command-index l.command-items))))
 
 abbrev pub invariant-words_nesting-loop-word : goal.invariant-words_nesting-loop-word
 invariant-words_nesting-loop-word g l = (shown : g.row.P.Denot → Text) → Tallest 18446744073709551615 l.height (words_nesting (words_view shown (take l.word-index l.word-items)))

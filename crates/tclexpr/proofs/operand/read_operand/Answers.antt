@@ -27,10 +27,14 @@ returns-in-Some-after_mark-3 g c =
     (sym (at_brace c.args.depth c.args.text.now c.in-Some-after_mark-3.following.now c.in-Some-after_mark-3.ensures)) c.read_braced.ensures
 
 pub read_quoted-requires : goal.read_quoted-requires
-read_quoted-requires g c = end_through (g.S.Source.text c.args.source.now) c.args.text.now c.in-Some-after_mark-2.following.now c.requires (end_mark c.args.text.now 34 c.in-Some-after_mark-2.following.now c.in-Some-after_mark-2.ensures)
+read_quoted-requires g c = end_through (g.S.Source.text c.args.source.now) c.args.text.now
+    c.in-Some-after_mark-2.following.now c.requires (end_mark c.args.text.now 34 c.in-Some-after_mark-2.following.now
+    c.in-Some-after_mark-2.ensures)
 
 pub read_braced-requires : goal.read_braced-requires
-read_braced-requires g c = end_through (g.S.Source.text c.args.source.now) c.args.text.now c.in-Some-after_mark-3.following.now c.requires (end_mark c.args.text.now 123 c.in-Some-after_mark-3.following.now c.in-Some-after_mark-3.ensures)
+read_braced-requires g c = end_through (g.S.Source.text c.args.source.now) c.args.text.now
+    c.in-Some-after_mark-3.following.now c.requires (end_mark c.args.text.now 123 c.in-Some-after_mark-3.following.now
+    c.in-Some-after_mark-3.ensures)
 
 pub returns-in-None : goal.returns-in-None
 returns-in-None g c =

@@ -14,6 +14,8 @@ pub returns : goal.returns
 returns g c =
     let shown = g.S.Source.shown c.args.source.now in
     let ps = parts_view shown c.in_ok-parts.parts.items in
-    let deep : parts_nesting (parts_view shown c.in_ok-parts.parts.items) ≤ c.args.depth = quotes_deep c.args.depth c.args.text.now (parts_view shown c.in_ok-parts.parts.items) c.in_ok-parts.rest.now c.in_ok-parts.ensures in
+    let deep : parts_nesting (parts_view shown c.in_ok-parts.parts.items) ≤ c.args.depth = quotes_deep c.args.depth
+    c.args.text.now (parts_view shown c.in_ok-parts.parts.items) c.in_ok-parts.rest.now c.in_ok-parts.ensures in
     let small : parts_nesting (parts_view shown c.in_ok-parts.parts.items) ≤ 18446744073709551615 = omega arith in
-    quoted-read c.args.depth c.args.text.now (parts_view shown c.in_ok-parts.parts.items) c.in_ok-parts.rest.now c.parts_nesting-height.result c.in_ok-parts.ensures (c.parts_nesting-height.ensures shown small)
+    quoted-read c.args.depth c.args.text.now (parts_view shown c.in_ok-parts.parts.items) c.in_ok-parts.rest.now
+    c.parts_nesting-height.result c.in_ok-parts.ensures (c.parts_nesting-height.ensures shown small)

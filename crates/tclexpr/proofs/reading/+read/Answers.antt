@@ -12,8 +12,12 @@ use Rattle.tclexpr.specs.Operands.{operand_at}
 use Rattle.tclexpr.specs.View.{with_height_view}
 use Rattle.tclexpr.proofs.Results.{found_once, found_none}
 use Rattle.tclexpr.proofs.Sound.{open_is, question_is, true_false}
-use Rattle.tclexpr.proofs.Turns.{white_end, mark_end, expect_end, whole_leaves, chain_leaves, right_leaves, chain-first, chain-end, chain-starts, chain-fails, chain-shorter, chain-more}
-use Rattle.tclexpr.proofs.Steps.{enclosed-deep, enclosed-fails, enclosed-open, enclosed-read, signed-deep, signed-fails, signed-read, right-chain, prefix-leaf, prefix-open, prefix-signed, prefix-other, whole-fails, whole-asks, whole-ends, branches-yes, branches-colon, branches-no, branches-read}
+use Rattle.tclexpr.proofs.Turns.{white_end, mark_end, expect_end, whole_leaves, chain_leaves, right_leaves, chain-first}
+use Rattle.tclexpr.proofs.Turns.{chain-end, chain-starts, chain-fails, chain-shorter, chain-more}
+use Rattle.tclexpr.proofs.Steps.{enclosed-deep, enclosed-fails, enclosed-open, enclosed-read, signed-deep, signed-fails}
+use Rattle.tclexpr.proofs.Steps.{signed-read, right-chain, prefix-leaf, prefix-open, prefix-signed, prefix-other}
+use Rattle.tclexpr.proofs.Steps.{whole-fails, whole-asks, whole-ends, branches-yes, branches-colon, branches-no}
+use Rattle.tclexpr.proofs.Steps.{branches-read}
 use Rattle.tclexpr.proofs.reading.+read.Goals as goal
 
 pub read_branches-returns-in_err-yes : goal.read_branches-returns-in_err-yes
@@ -24,7 +28,9 @@ read_branches-returns-in_err-yes g t c =
 pub read_branches-returns-in_err-following : goal.read_branches-returns-in_err-following
 read_branches-returns-in_err-following g t c =
     let p = err_from_is_err_and c.from_residual-in_err-following.result c.from_residual-in_err-following.ensures.1 in
-    rw (p.1, p.2) (branches-colon c.args.depth (with_height_view (g.S.Source.shown c.args.source.now) c.args.condition) (with_height_view (g.S.Source.shown c.args.source.now) c.in_ok-yes.yes) c.args.text.now c.in_ok-yes.rest.now c.in_err-following.field-0.0
+    rw (p.1, p.2) (branches-colon c.args.depth (with_height_view (g.S.Source.shown c.args.source.now) c.args.condition)
+    (with_height_view (g.S.Source.shown c.args.source.now) c.in_ok-yes.yes) c.args.text.now c.in_ok-yes.rest.now
+    c.in_err-following.field-0.0
     (omega arith) c.in_ok-yes.ensures c.in_err-following.ensures)
 
 pub read_branches-read_whole-requires-2 : goal.read_branches-read_whole-requires-2
@@ -41,7 +47,9 @@ read_branches-read_whole-requires-2 g t c =
 pub read_branches-returns-in_err-no : goal.read_branches-returns-in_err-no
 read_branches-returns-in_err-no g t c =
     let p = err_from_is_err_and c.from_residual-in_err-no.result c.from_residual-in_err-no.ensures.1 in
-    rw (p.1, p.2) (branches-no c.args.depth (with_height_view (g.S.Source.shown c.args.source.now) c.args.condition) (with_height_view (g.S.Source.shown c.args.source.now) c.in_ok-yes.yes) c.args.text.now c.in_ok-yes.rest.now c.in_ok-following.following.now c.in_err-no.field-0.0
+    rw (p.1, p.2) (branches-no c.args.depth (with_height_view (g.S.Source.shown c.args.source.now) c.args.condition)
+    (with_height_view (g.S.Source.shown c.args.source.now) c.in_ok-yes.yes) c.args.text.now c.in_ok-yes.rest.now
+    c.in_ok-following.following.now c.in_err-no.field-0.0
     (omega arith) c.in_ok-yes.ensures c.in_ok-following.ensures c.in_err-no.ensures)
 
 pub read_branches-choice-requires-clause-positive : goal.read_branches-choice-requires-clause-positive
@@ -59,7 +67,9 @@ read_branches-choice-requires-clause-negative g t c =
 pub read_branches-returns : goal.read_branches-returns
 read_branches-returns g t c =
     let shown = g.S.Source.shown c.args.source.now in
-    branches-read c.args.depth (with_height_view shown c.args.condition) (with_height_view shown c.in_ok-yes.yes) (with_height_view shown c.in_ok-no.no) c.args.text.now c.in_ok-yes.rest.now c.in_ok-following.following.now c.in_ok-no.end.now
+    branches-read c.args.depth (with_height_view shown c.args.condition) (with_height_view shown c.in_ok-yes.yes)
+    (with_height_view shown c.in_ok-no.no) c.args.text.now c.in_ok-yes.rest.now c.in_ok-following.following.now
+    c.in_ok-no.end.now
     (omega arith) c.in_ok-yes.ensures c.in_ok-following.ensures c.in_ok-no.ensures
     ∙ ap (λ x. Ok (x, c.in_ok-no.end.now)) (sym (c.in_ok-choice.ensures shown))
 
@@ -76,26 +86,33 @@ read_chain-loop-between-init g t c = (
 
 pub read_chain-returns-in_default : goal.read_chain-returns-in_default
 read_chain-returns-in_default g t c =
-    chain-end c.args.depth c.args.limit c.args.text.now (with_height_view (g.S.Source.shown c.args.source.now) c.loop-between.left) c.loop-between.rest.now c.loop-between.invariant.1 c.in_default.ensures
+    chain-end c.args.depth c.args.limit c.args.text.now
+    (with_height_view (g.S.Source.shown c.args.source.now) c.loop-between.left) c.loop-between.rest.now
+    c.loop-between.invariant.1 c.in_default.ensures
 
 pub read_chain-read_right-requires : goal.read_chain-read_right-requires
 read_chain-read_right-requires g t c =
     let r : IsSuffixOf (g.S.Source.text c.args.source.now) c.args.text.now = search rules in
     let e : IsSuffixOf (g.S.Source.text c.args.source.now) c.in-Some.following.now =
     end_through (g.S.Source.text c.args.source.now) c.args.text.now c.in-Some.following.now r
-    (end_through c.args.text.now c.loop-between.rest.now c.in-Some.following.now c.loop-between.invariant.1.end (mark_end c.loop-between.rest.now (marks.Infix c.in-Some.between) c.in-Some.following.now c.in-Some.ensures.0))
+    (end_through c.args.text.now c.loop-between.rest.now c.in-Some.following.now c.loop-between.invariant.1.end
+    (mark_end c.loop-between.rest.now (marks.Infix c.in-Some.between) c.in-Some.following.now c.in-Some.ensures.0))
     in
     search rules
 
 pub read_chain-returns-in_err-right : goal.read_chain-returns-in_err-right
 read_chain-returns-in_err-right g t c =
     let p = err_from_is_err_and c.from_residual-in_err-right.result c.from_residual-in_err-right.ensures.1 in
-    rw (p.1, p.2) (chain-fails c.args.depth c.args.limit c.args.text.now (with_height_view (g.S.Source.shown c.args.source.now) c.loop-between.left) c.loop-between.rest.now c.loop-between.invariant.1 c.in-Some.between c.in-Some.following.now
+    rw (p.1, p.2) (chain-fails c.args.depth c.args.limit c.args.text.now
+    (with_height_view (g.S.Source.shown c.args.source.now) c.loop-between.left) c.loop-between.rest.now
+    c.loop-between.invariant.1 c.in-Some.between c.in-Some.following.now
     c.in-Some.ensures.0 c.in-Some.ensures.1 c.in_err-right.field-0.0 c.in_err-right.ensures)
 
 pub read_chain-join-requires-clause-right : goal.read_chain-join-requires-clause-right
 read_chain-join-requires-clause-right g t c =
-    let l = right_leaves c.args.depth c.loop-between.left.height (level c.in-Some.between - 1) c.in-Some.following.now (with_height_view (g.S.Source.shown c.args.source.now) c.in_ok-right.right) c.in_ok-right.end.now c.in_ok-right.ensures in
+    let l = right_leaves c.args.depth c.loop-between.left.height (level c.in-Some.between - 1) c.in-Some.following.now
+    (with_height_view (g.S.Source.shown c.args.source.now) c.in_ok-right.right) c.in_ok-right.end.now
+    c.in_ok-right.ensures in
     let deep : c.in_ok-right.right.height < c.args.depth = l.2 in
     omega arith
 
@@ -107,8 +124,12 @@ read_chain-loop-between-smaller g t c =
 pub read_chain-loop-between-preserved : goal.read_chain-loop-between-preserved
 read_chain-loop-between-preserved g t c = (
   search rules,
-  chain-more c.args.depth c.args.limit c.args.text.now (with_height_view (g.S.Source.shown c.args.source.now) c.loop-between.left) c.loop-between.rest.now c.loop-between.invariant.1 c.in-Some.between c.in-Some.following.now c.in-Some.ensures.0 c.in-Some.ensures.1
-      (with_height_view (g.S.Source.shown c.args.source.now) c.in_ok-right.right) c.in_ok-right.end.now c.in_ok-right.ensures (with_height_view (g.S.Source.shown c.args.source.now) c.in_ok-left-2.left) (c.in_ok-left-2.ensures (g.S.Source.shown c.args.source.now)),
+  chain-more c.args.depth c.args.limit c.args.text.now
+      (with_height_view (g.S.Source.shown c.args.source.now) c.loop-between.left) c.loop-between.rest.now
+      c.loop-between.invariant.1 c.in-Some.between c.in-Some.following.now c.in-Some.ensures.0 c.in-Some.ensures.1
+      (with_height_view (g.S.Source.shown c.args.source.now) c.in_ok-right.right) c.in_ok-right.end.now
+      c.in_ok-right.ensures (with_height_view (g.S.Source.shown c.args.source.now) c.in_ok-left-2.left)
+      (c.in_ok-left-2.ensures (g.S.Source.shown c.args.source.now)),
 )
 
 pub read_enclosed-returns-then-depth-eq0 : goal.read_enclosed-returns-then-depth-eq0
@@ -122,7 +143,9 @@ read_enclosed-returns-in_err-inner g t c =
 pub read_enclosed-returns-in_err-following : goal.read_enclosed-returns-in_err-following
 read_enclosed-returns-in_err-following g t c =
     let p = err_from_is_err_and c.from_residual-in_err-following.result c.from_residual-in_err-following.ensures.1 in
-    rw (p.1, p.2) (enclosed-open c.args.depth c.args.text.now (with_height_view (g.S.Source.shown c.args.source.now) c.in_ok-inner.inner) c.in_ok-inner.rest.now c.in_err-following.field-0.0 (omega arith) c.in_ok-inner.ensures c.in_err-following.ensures)
+    rw (p.1, p.2) (enclosed-open c.args.depth c.args.text.now
+    (with_height_view (g.S.Source.shown c.args.source.now) c.in_ok-inner.inner) c.in_ok-inner.rest.now
+    c.in_err-following.field-0.0 (omega arith) c.in_ok-inner.ensures c.in_err-following.ensures)
 
 pub read_enclosed-enclosed-requires : goal.read_enclosed-enclosed-requires
 read_enclosed-enclosed-requires g t c =
@@ -133,7 +156,8 @@ read_enclosed-enclosed-requires g t c =
 pub read_enclosed-returns : goal.read_enclosed-returns
 read_enclosed-returns g t c =
     let shown = g.S.Source.shown c.args.source.now in
-    enclosed-read c.args.depth c.args.text.now (with_height_view shown c.in_ok-inner.inner) c.in_ok-inner.rest.now c.in_ok-following.following.now (omega arith) c.in_ok-inner.ensures c.in_ok-following.ensures
+    enclosed-read c.args.depth c.args.text.now (with_height_view shown c.in_ok-inner.inner) c.in_ok-inner.rest.now
+    c.in_ok-following.following.now (omega arith) c.in_ok-inner.ensures c.in_ok-following.ensures
     ∙ ap (λ x. Ok (x, c.in_ok-following.following.now)) (sym (c.enclosed.ensures shown))
 
 pub read_prefix-read_leaf-requires : goal.read_prefix-read_leaf-requires
@@ -165,7 +189,9 @@ pub read_right-returns : goal.read_right-returns
 read_right-returns g t c =
     let lower : c.args.height < c.args.depth = omega arith in
     subst (λ r. Gives stopped_by (λ x. (with_height_view (g.S.Source.shown c.args.source.now) x.0, x.1.now)) c.read_chain.result r)
-    (sym (right-chain c.args.depth c.args.height (level c.args.between - 1) c.args.text.now lower ∙ ap (λ k. chain_at operand_at (c.args.depth - 1) (below_at operand_at (c.args.depth - 1)) k c.args.text.now) (sym c.right_level.ensures))) c.read_chain.ensures
+    (sym (right-chain c.args.depth c.args.height (level c.args.between - 1) c.args.text.now lower
+    ∙ ap (λ k. chain_at operand_at (c.args.depth - 1) (below_at operand_at (c.args.depth - 1)) k c.args.text.now)
+    (sym c.right_level.ensures))) c.read_chain.ensures
 
 pub read_signed-returns-then-depth-eq0 : goal.read_signed-returns-then-depth-eq0
 read_signed-returns-then-depth-eq0 g t c = signed-deep c.args.depth c.args.operator c.args.text.now (omega arith)
@@ -203,30 +229,40 @@ read_prefix-returns-then-is_open g t c =
     let found : mark_at c.skip_white-start.result.now ≡ Some (c.in-Some.mark, c.in-Some.following.now) = sym c.in-Some.ensures in
     let opens : is_open c.in-Some.mark ≡ true = sym c.is_open.ensures ∙ c.if-is_open.true in
     subst (λ r. Gives stopped_by (λ x. (with_height_view (g.S.Source.shown c.args.source.now) x.0, x.1.now)) c.read_enclosed.result r)
-    (sym (prefix-open c.args.depth c.args.text.now c.skip_white-start.result.now c.in-Some.following.now c.skip_white-start.ensures (found ∙ ap (λ m. Some (m, c.in-Some.following.now)) (open_is c.in-Some.mark opens)))) c.read_enclosed.ensures
+    (sym (prefix-open c.args.depth c.args.text.now c.skip_white-start.result.now c.in-Some.following.now
+    c.skip_white-start.ensures (found ∙ ap (λ m. Some (m, c.in-Some.following.now))
+    (open_is c.in-Some.mark opens)))) c.read_enclosed.ensures
 
 pub read_prefix-returns-in-Some-sign_of : goal.read_prefix-returns-in-Some-sign_of
 read_prefix-returns-in-Some-sign_of g t c =
     let found : mark_at c.skip_white-start.result.now ≡ Some (c.in-Some.mark, c.in-Some.following.now) = sym c.in-Some.ensures in
     subst (λ r. Gives stopped_by (λ x. (with_height_view (g.S.Source.shown c.args.source.now) x.0, x.1.now)) c.read_signed.result r)
-    (sym (prefix-signed c.args.depth c.args.text.now c.skip_white-start.result.now c.in-Some.mark c.in-Some-sign_of.operator c.in-Some.following.now c.skip_white-start.ensures found (sym c.sign_of.ensures ∙ c.in-Some-sign_of.is))) c.read_signed.ensures
+    (sym (prefix-signed c.args.depth c.args.text.now c.skip_white-start.result.now c.in-Some.mark
+    c.in-Some-sign_of.operator c.in-Some.following.now c.skip_white-start.ensures found
+    (sym c.sign_of.ensures ∙ c.in-Some-sign_of.is))) c.read_signed.ensures
 
 pub read_prefix-returns-in-None : goal.read_prefix-returns-in-None
 read_prefix-returns-in-None g t c =
     let found : mark_at c.skip_white-start.result.now ≡ Some (c.in-Some.mark, c.in-Some.following.now) = sym c.in-Some.ensures in
-    prefix-other c.args.depth c.args.text.now c.skip_white-start.result.now c.in-Some.mark c.in-Some.following.now c.skip_white-start.ensures found (sym c.is_open.ensures ∙ c.if-is_open.false) (sym c.sign_of.ensures ∙ c.in-None.is)
+    prefix-other c.args.depth c.args.text.now c.skip_white-start.result.now c.in-Some.mark c.in-Some.following.now
+    c.skip_white-start.ensures found (sym c.is_open.ensures ∙ c.if-is_open.false)
+    (sym c.sign_of.ensures ∙ c.in-None.is)
 
 pub read_whole-returns-in_default : goal.read_whole-returns-in_default
 read_whole-returns-in_default g t c =
     let none : mark_at c.skip_white.result.now ≡ None = sym c.in_default.ensures in
-    whole-ends c.args.depth c.args.text.now (with_height_view (g.S.Source.shown c.args.source.now) c.in_ok-condition.condition) c.in_ok-condition.rest.now c.skip_white.result.now c.in_ok-condition.ensures c.skip_white.ensures
+    whole-ends c.args.depth c.args.text.now (with_height_view (g.S.Source.shown c.args.source.now)
+    c.in_ok-condition.condition) c.in_ok-condition.rest.now c.skip_white.result.now c.in_ok-condition.ensures
+    c.skip_white.ensures
     (λ after is. found_none (mark_at c.skip_white.result.now) marks.QuestionMark after none is)
 
 pub read_whole-read_branches-requires : goal.read_whole-read_branches-requires
 read_whole-read_branches-requires g t c =
     let r : IsSuffixOf (g.S.Source.text c.args.source.now) c.args.text.now = search rules in
     let found : mark_at c.skip_white.result.now ≡ Some (c.in-Some.mark, c.in-Some.following.now) = sym c.in-Some.ensures in
-    let first : IsSuffixOf c.args.text.now c.in_ok-condition.rest.now = (chain_leaves c.args.depth 13 c.args.text.now (with_height_view (g.S.Source.shown c.args.source.now) c.in_ok-condition.condition) c.in_ok-condition.rest.now c.in_ok-condition.ensures).0 in
+    let first : IsSuffixOf c.args.text.now c.in_ok-condition.rest.now =
+    (chain_leaves c.args.depth 13 c.args.text.now (with_height_view (g.S.Source.shown c.args.source.now)
+    c.in_ok-condition.condition) c.in_ok-condition.rest.now c.in_ok-condition.ensures).0 in
     let e : IsSuffixOf (g.S.Source.text c.args.source.now) c.in-Some.following.now =
     end_through (g.S.Source.text c.args.source.now) c.args.text.now c.in-Some.following.now r
     (end_through c.args.text.now c.in_ok-condition.rest.now c.in-Some.following.now first
@@ -239,12 +275,15 @@ read_whole-returns-then-is_question_mark g t c =
     let found : mark_at c.skip_white.result.now ≡ Some (c.in-Some.mark, c.in-Some.following.now) = sym c.in-Some.ensures in
     let asks : is_question_mark c.in-Some.mark ≡ true = sym c.is_question_mark.ensures ∙ c.if-is_question_mark.true in
     subst (λ r. Gives stopped_by (λ x. (with_height_view (g.S.Source.shown c.args.source.now) x.0, x.1.now)) c.read_branches.result r)
-    (sym (whole-asks c.args.depth c.args.text.now (with_height_view (g.S.Source.shown c.args.source.now) c.in_ok-condition.condition) c.in_ok-condition.rest.now c.skip_white.result.now c.in-Some.following.now
+    (sym (whole-asks c.args.depth c.args.text.now (with_height_view (g.S.Source.shown c.args.source.now)
+    c.in_ok-condition.condition) c.in_ok-condition.rest.now c.skip_white.result.now c.in-Some.following.now
     c.in_ok-condition.ensures c.skip_white.ensures (found ∙ ap (λ m. Some (m, c.in-Some.following.now)) (question_is c.in-Some.mark asks)))) c.read_branches.ensures
 
 pub read_whole-returns-else-is_question_mark : goal.read_whole-returns-else-is_question_mark
 read_whole-returns-else-is_question_mark g t c =
     let found : mark_at c.skip_white.result.now ≡ Some (c.in-Some.mark, c.in-Some.following.now) = sym c.in-Some.ensures in
     let other : is_question_mark c.in-Some.mark ≡ false = sym c.is_question_mark.ensures ∙ c.if-is_question_mark.false in
-    whole-ends c.args.depth c.args.text.now (with_height_view (g.S.Source.shown c.args.source.now) c.in_ok-condition.condition) c.in_ok-condition.rest.now c.skip_white.result.now c.in_ok-condition.ensures c.skip_white.ensures
+    whole-ends c.args.depth c.args.text.now (with_height_view (g.S.Source.shown c.args.source.now)
+    c.in_ok-condition.condition) c.in_ok-condition.rest.now c.skip_white.result.now c.in_ok-condition.ensures
+    c.skip_white.ensures
     (λ after is. true_false (sym (ap is_question_mark (found_once (mark_at c.skip_white.result.now) c.in-Some.mark marks.QuestionMark c.in-Some.following.now after found is).0) ∙ other))

@@ -12,11 +12,15 @@ returns-in_err-expression g c =
 
 pub returns-then-remaining-eq0 : goal.returns-then-remaining-eq0
 returns-then-remaining-eq0 g c =
-    expr-ends max_nesting (g.S.Source.text c.args.source.now) c.as_str.result.now (with_height_view (g.S.Source.shown c.args.source.now) c.in_ok-expression.expression) c.in_ok-expression.rest.now c.skip_white-remaining.result.now
+    expr-ends max_nesting (g.S.Source.text c.args.source.now) c.as_str.result.now
+    (with_height_view (g.S.Source.shown c.args.source.now) c.in_ok-expression.expression)
+    c.in_ok-expression.rest.now c.skip_white-remaining.result.now
     c.as_str.ensures c.in_ok-expression.ensures c.skip_white-remaining.ensures (omega arith)
     ∙ ap (λ e. Ok (expr_view (g.S.Source.shown c.args.source.now) e)) (sym c.into_tree.ensures)
 
 pub returns-else-remaining-eq0 : goal.returns-else-remaining-eq0
 returns-else-remaining-eq0 g c =
-    expr-left max_nesting (g.S.Source.text c.args.source.now) c.as_str.result.now (with_height_view (g.S.Source.shown c.args.source.now) c.in_ok-expression.expression) c.in_ok-expression.rest.now c.skip_white-remaining.result.now
+    expr-left max_nesting (g.S.Source.text c.args.source.now) c.as_str.result.now
+    (with_height_view (g.S.Source.shown c.args.source.now) c.in_ok-expression.expression)
+    c.in_ok-expression.rest.now c.skip_white-remaining.result.now
     c.as_str.ensures c.in_ok-expression.ensures c.skip_white-remaining.ensures (omega arith)

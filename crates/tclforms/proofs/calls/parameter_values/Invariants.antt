@@ -8,7 +8,9 @@ use Rattle.tclforms.proofs.calls.parameter_values.Given as goal
 abbrev pub invariant-loop-parameters : goal.invariant-loop-parameters
 invariant-loop-parameters l = record {
   names : AreNamesOf l.names.keys l.values.items;
-  parameter_values : parameter_values l.name (map parameter_view l.fn.parameters) (map string_bytes l.words) ≡ prefixed_firsts (named_values l.values.items) (parameter_values l.name (map parameter_view l.parameters) (map string_bytes l.rest));
+  parameter_values : parameter_values l.name (map parameter_view l.fn.parameters) (map string_bytes l.words) ≡
+      prefixed_firsts (named_values l.values.items) (parameter_values l.name (map parameter_view l.parameters)
+      (map string_bytes l.rest));
 }
 
 abbrev pub decreases-loop-parameters : goal.decreases-loop-parameters

@@ -6,7 +6,11 @@ abbrev pub invariant-loop-rest : goal.invariant-loop-rest
 invariant-loop-rest l = record {
   within : length l.rest ≤ length l.fn.words;
   is : l.rest ≡ drop (length l.fn.words - length l.rest) l.fn.words;
-  same : options (map string_bytes l.fn.words) ≡ (map string_bytes (take (length l.fn.words - length l.rest) l.fn.words) ++ (options (map string_bytes l.rest)).0, (options (map string_bytes l.rest)).1);
+  same : options (map string_bytes l.fn.words) ≡ (
+    map string_bytes (take (length l.fn.words - length l.rest) l.fn.words)
+        ++ (options (map string_bytes l.rest)).0,
+    (options (map string_bytes l.rest)).1,
+  );
 }
 
 abbrev pub decreases-loop-rest : goal.decreases-loop-rest

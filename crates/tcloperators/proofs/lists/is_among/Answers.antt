@@ -1,4 +1,5 @@
-use Rattle.std.proofs.Common.{◌≡◌, List, [], ◌∷◌, ◌||◌, map, bytes_eq, string_bytes, String, refl, ap, ◌∙◌, rules, tests}
+use Rattle.std.proofs.Common.{◌≡◌, List, [], ◌∷◌, ◌||◌, map, bytes_eq, string_bytes, String, refl, ap, ◌∙◌, rules}
+use Rattle.std.proofs.Common.{tests}
 use Rattle.std.specs.List.{list_any}
 use Rattle.std.specs.declared.alloc.Global.{Global}
 use Rattle.std.proofs.lemmas.Iterator.{YieldsList-from_slice}
@@ -12,5 +13,6 @@ by_bytes sought (x ∷ xs) = ap (λ b. bytes_eq sought (string_bytes x) || b) (b
 
 pub returns : goal.returns
 returns c =
-    any_from_yields_List (λ (text : String Global). bytes_eq c.args.sought.now (string_bytes text)) _ _ c.any.result c.any.ensures.ran (YieldsList-from_slice c.args.texts.now cc) (λ x b q k. search (rules, tests))
+    any_from_yields_List (λ (text : String Global). bytes_eq c.args.sought.now (string_bytes text)) _ _ c.any.result
+    c.any.ensures.ran (YieldsList-from_slice c.args.texts.now cc) (λ x b q k. search (rules, tests))
     ∙ by_bytes c.args.sought.now c.args.texts.now

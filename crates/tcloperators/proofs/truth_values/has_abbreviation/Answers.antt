@@ -19,4 +19,7 @@ front_test w (c ∷ cs) x y n r some least ex ey same =
     ∙ ap (λ f. bytes_eq (map to_ascii_lowercase f) (map to_ascii_lowercase (c ∷ cs))) (ap (λ m. take m w) least ∙ take_min (length (c ∷ cs)) w)
 
 pub returns-then-not-is_empty : goal.returns-then-not-is_empty
-returns-then-not-is_empty c = front_test c.args.word.now c.args.text.now c.as_bytes.result.now c.as_bytes-then-not-is_empty.result.now c.min-length.result c.eq_ignore_ascii_case.result (sym c.if-not-is_empty.ensures) c.min-length.ensures c.as_bytes.ensures.value c.as_bytes-then-not-is_empty.ensures.value c.eq_ignore_ascii_case.ensures.test
+returns-then-not-is_empty c = front_test c.args.word.now c.args.text.now c.as_bytes.result.now
+    c.as_bytes-then-not-is_empty.result.now c.min-length.result c.eq_ignore_ascii_case.result
+    (sym c.if-not-is_empty.ensures) c.min-length.ensures c.as_bytes.ensures.value
+    c.as_bytes-then-not-is_empty.ensures.value c.eq_ignore_ascii_case.ensures.test

@@ -17,6 +17,8 @@ runs-returns-in-None t c =
 pub runs-loop-middle-preserved : goal.runs-loop-middle-preserved
 runs-loop-middle-preserved t c = record {
   utf8 = search rules;
-  remaining = remaining-more (λ ms. RunsBy (chars c.args.from.now) (chars c.args.text.now) ms c.args.count (chars c.args.to.now)) (chars c.args.from.now) (chars c.loop-middle.middle.now) c.in-Some.field-0-0 (chars c.in-Some.rest.now)
+  remaining = remaining-more (λ ms. RunsBy (chars c.args.from.now) (chars c.args.text.now) ms c.args.count
+      (chars c.args.to.now)) (chars c.args.from.now) (chars c.loop-middle.middle.now) c.in-Some.field-0-0
+      (chars c.in-Some.rest.now)
       c.in-Some.ensures.characters (no_way c.runs_by.result c.if-runs_by.false c.runs_by.ensures) c.loop-middle.invariant.remaining;
 }

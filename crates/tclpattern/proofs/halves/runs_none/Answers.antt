@@ -13,4 +13,6 @@ loop-pattern-preserved c = record {
 }
 
 pub returns : goal.returns
-returns c = none-same (chars c.loop-pattern.pattern.now) (chars c.args.to.now) (Run (chars c.args.from.now) [] (chars c.args.to.now)) (c.is_same.ensures.0 c.loop-pattern-test.false) c.loop-pattern.invariant.same
+returns c = none-same (chars c.loop-pattern.pattern.now) (chars c.args.to.now)
+    (Run (chars c.args.from.now) [] (chars c.args.to.now)) (c.is_same.ensures.0 c.loop-pattern-test.false)
+    c.loop-pattern.invariant.same

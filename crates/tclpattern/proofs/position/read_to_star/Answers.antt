@@ -7,9 +7,15 @@ use Rattle.tclpattern.proofs.position.read_to_star.Goals as goal
 pub loop-first-preserved : goal.loop-first-preserved
 loop-first-preserved c = record {
   text = search rules;
-  same = run-more (chars c.loop-first.position.pattern.now) (chars c.loop-first.position.text.now) c.in-Some.first (chars c.in-Some.rest.now) c.in-Some-split_char.c (chars c.in-Some-split_char.text.now) (chars c.in-Some-after_char.pattern.now)
-      (IsMatch (chars c.args.pattern.now) (chars c.args.text.now)) c.in-Some.ensures.characters c.in-Some-split_char.ensures.characters c.if-first-eq42.false c.in-Some-after_char.ensures.steps c.loop-first.invariant.same;
-  steps_to_star = steps_to_star-more (chars c.loop-first.position.pattern.now) (chars c.loop-first.position.text.now) c.in-Some.first (chars c.in-Some.rest.now) c.in-Some-split_char.c (chars c.in-Some-split_char.text.now) (chars c.in-Some-after_char.pattern.now)
+  same = run-more (chars c.loop-first.position.pattern.now) (chars c.loop-first.position.text.now) c.in-Some.first
+      (chars c.in-Some.rest.now) c.in-Some-split_char.c (chars c.in-Some-split_char.text.now)
+      (chars c.in-Some-after_char.pattern.now)
+      (IsMatch (chars c.args.pattern.now) (chars c.args.text.now)) c.in-Some.ensures.characters
+      c.in-Some-split_char.ensures.characters c.if-first-eq42.false c.in-Some-after_char.ensures.steps
+      c.loop-first.invariant.same;
+  steps_to_star = steps_to_star-more (chars c.loop-first.position.pattern.now) (chars c.loop-first.position.text.now)
+      c.in-Some.first (chars c.in-Some.rest.now) c.in-Some-split_char.c (chars c.in-Some-split_char.text.now)
+      (chars c.in-Some-after_char.pattern.now)
       (chars c.args.pattern.now) (chars c.args.text.now) c.in-Some.ensures.characters c.in-Some-split_char.ensures.characters c.in-Some-after_char.ensures.steps.0 c.loop-first.invariant.steps_to_star;
   no_longer = omega (arith, c.in-Some.ensures.shorter, c.in-Some-split_char.ensures.shorter, c.in-Some-after_char.ensures.no_longer);
 }
@@ -34,4 +40,6 @@ returns-then-first-eq42-clause-steps_to_star c =
 pub returns-in_default-after_char-clause-same : goal.returns-in_default-after_char-clause-same
 returns-in_default-after_char-clause-same c =
     run-none (chars c.loop-first.position.pattern.now) (chars c.loop-first.position.text.now) c.in-Some.first (chars c.in-Some.rest.now) c.in-Some-split_char.c (chars c.in-Some-split_char.text.now)
-    (IsMatch (chars c.args.pattern.now) (chars c.args.text.now)) c.in-Some.ensures.characters c.in-Some-split_char.ensures.characters c.if-first-eq42.false c.in_default-after_char.ensures.steps c.loop-first.invariant.same
+    (IsMatch (chars c.args.pattern.now) (chars c.args.text.now)) c.in-Some.ensures.characters
+    c.in-Some-split_char.ensures.characters c.if-first-eq42.false c.in_default-after_char.ensures.steps
+    c.loop-first.invariant.same

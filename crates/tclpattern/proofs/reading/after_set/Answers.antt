@@ -12,6 +12,7 @@ returns-then-is_between-clause-holds c =
 pub loop-item-preserved : goal.loop-item-preserved
 loop-item-preserved c = record {
   text = search rules;
-  holds = holds_as-more c.args.c (chars c.args.set.now) (chars c.loop-item.rest.now) (item_view c.in-Some.item) (sym c.in-Some.ensures.item) (sym c.is_between.ensures ∙ c.if-is_between.false) c.loop-item.invariant.holds;
+  holds = holds_as-more c.args.c (chars c.args.set.now) (chars c.loop-item.rest.now) (item_view c.in-Some.item)
+      (sym c.in-Some.ensures.item) (sym c.is_between.ensures ∙ c.if-is_between.false) c.loop-item.invariant.holds;
   no_longer = omega (arith, c.in-Some.ensures.shorter);
 }

@@ -3,8 +3,9 @@ use Rattle.std.specs.Str.{chars}
 use Rattle.std.specs.Str.Iter.{chars_rest}
 use Rattle.std.proofs.lemmas.Str.{chars-nil, IsUtf8-past_char, chars_past_char}
 use Rattle.tclpattern.specs.Search.Uniform.{reading_of, is_closed}
-use Rattle.tclpattern.specs.declared.star.Reading.{Reading}
-use Rattle.tclpattern.specs.declared.star.Reading.TheVariants.{Outside, Escaped, AtItem, AfterLow, AfterDash, RangeToClose}
+use Rattle.tclpattern.specs.declared.star.ReadingState.{ReadingState}
+use Rattle.tclpattern.specs.declared.star.ReadingState.TheVariants.{Outside, Escaped, AtItem, AfterLow, AfterDash}
+use Rattle.tclpattern.specs.declared.star.ReadingState.TheVariants.{RangeToClose}
 use Rattle.tclpattern.proofs.star.is_uniform.Goals as goal
 use Rattle.tclpattern.proofs.star.is_uniform.Goals.{in-RangeToClose, in_default}
 
@@ -25,7 +26,7 @@ empty [] h = refl
 empty (b ∷ bs) h = absurd (omega arith)
 
 -- every state but the last is closed
-closed : (r : Reading) → (r ≡ RangeToClose → ⊥) → true ≡ is_closed r
+closed : (r : ReadingState) → (r ≡ RangeToClose → ⊥) → true ≡ is_closed r
 closed Outside other = refl
 closed Escaped other = refl
 closed AtItem other = refl

@@ -2,7 +2,7 @@ use Rattle.std.proofs.Common.{◌≡◌}
 use Rattle.std.specs.Str.{chars, IsUtf8}
 use Rattle.std.specs.Str.Iter.{chars_rest}
 use Rattle.tclpattern.specs.Search.Uniform.{reading_of}
-use Rattle.tclpattern.specs.declared.star.Reading.TheVariants.{Outside}
+use Rattle.tclpattern.specs.declared.star.ReadingState.TheVariants.{Outside}
 use Rattle.tclpattern.proofs.star.is_uniform.Given as goal
 
 abbrev pub invariant-loop-c : goal.invariant-loop-c

@@ -26,4 +26,6 @@ loop-star-preserved c = record {
 }
 
 pub returns : goal.returns
-returns c = uniform-all (chars c.loop-star.star.pattern.now) (chars c.loop-star.star.text.now) (StarMatches c.args.first) (chars_none c.loop-star.star.pattern.now c.is_empty.result c.loop-star-test.false c.is_empty.ensures) c.loop-star.invariant.same
+returns c = uniform-all (chars c.loop-star.star.pattern.now) (chars c.loop-star.star.text.now)
+    (StarMatches c.args.first) (chars_none c.loop-star.star.pattern.now c.is_empty.result c.loop-star-test.false
+    c.is_empty.ensures) c.loop-star.invariant.same

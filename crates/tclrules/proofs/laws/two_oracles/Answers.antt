@@ -11,7 +11,10 @@ use Rattle.tclrules.proofs.Consultations.{same_or_refused, unasked, unrefused, a
 use Rattle.tclrules.proofs.laws.two_oracles.Goals as goal
 
 -- the same plan for an oracle that reserves the same names
-same_plan : (s : Setting) (second : Oracle) (o : EvaluationOutcome Completion) (w : World) → second.reserved ≡ s.oracle.reserved → EvaluatesTo (with_oracle second s) o w → Eval false second s.limits.commands (rule s.limits.value_bytes) (plan_of s.limits s.script s.oracle.reserved s.globals) (first s.trace) o w
+same_plan : (s : Setting) (second : Oracle) (o : EvaluationOutcome Completion) (w : World)
+    → second.reserved ≡ s.oracle.reserved → EvaluatesTo (with_oracle second s) o w
+    → Eval false second s.limits.commands (rule s.limits.value_bytes)
+    (plan_of s.limits s.script s.oracle.reserved s.globals) (first s.trace) o w
 same_plan s second o w e d = subst (λ (names : List Text). Eval false second s.limits.commands (rule s.limits.value_bytes) (plan_of s.limits s.script names s.globals) (first s.trace) o w) e d
 
 pub returns-clause-each : goal.returns-clause-each

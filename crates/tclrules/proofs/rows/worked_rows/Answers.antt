@@ -2,7 +2,8 @@ use Rattle.std.proofs.Common.{[], ◌∷◌, true, None}
 use Rattle.std.specs.Prelude.{codes}
 use Rattle.tclchars.specs.declared.fault.TextFault.TheVariants as text
 use Rattle.tclrules.specs.Derivation.{BadText, TooManyCommands, TooDeep, ValueTooLong, ByHost}
-use Rattle.tclrules.specs.Shown.{standard, with_commands, with_depth, with_bytes, within, recorded, trace_of, setenv_words, Result, Fails, Halts}
+use Rattle.tclrules.specs.Shown.{standard, with_commands, with_depth, with_bytes, within, recorded, trace_of}
+use Rattle.tclrules.specs.Shown.{setenv_words, Result, Fails, Halts}
 use Rattle.tclrules.proofs.Computed as computed
 use Rattle.tclrules.proofs.Seen.{shows, sights}
 use Rattle.tclrules.proofs.rows.worked_rows.Goals as goal
@@ -41,7 +42,9 @@ pub returns-clause-shared_variable : goal.returns-clause-shared_variable
 returns-clause-shared_variable c = sights (within standard (codes "set x 1; proc f {} {set x 3; global x; set x}; f")) (Result (codes "1") 6) 300 computed.shared_variable_row
 
 pub returns-clause-asked_mode : goal.returns-clause-asked_mode
-returns-clause-asked_mode c = shows (recorded standard (codes "if {[mode] eq \"unload\"} {setenv A 1}")) trace_of (record { records = (setenv_words (codes "A") (codes "1") ∷ []); messages = []; asked = true; refused = None }) 300 computed.asked_mode_row
+returns-clause-asked_mode c = shows (recorded standard (codes "if {[mode] eq \"unload\"} {setenv A 1}")) trace_of
+    (record { records = (setenv_words (codes "A") (codes "1") ∷ []); messages = []; asked = true; refused = None }) 300
+    computed.asked_mode_row
 
 pub returns-clause-in_a_procedure : goal.returns-clause-in_a_procedure
 returns-clause-in_a_procedure c = sights (within standard (codes "proc f {} {\nset x\n}\nf")) (Fails (codes "can't read \"x\": no such variable") 4) 300 computed.in_a_procedure_row

@@ -10,7 +10,9 @@ use Rattle.tclscript.proofs.Ends.{end_mark, end_through, end_no_longer}
 use Rattle.tclscript.proofs.Passes.{pass_end, pass_front}
 use Rattle.tclscript.proofs.Readers.{expanded_end, inner_leaves}
 use Rattle.tclscript.proofs.Loops.{so_far-none}
-use Rattle.tclscript.proofs.Turns.{script-end, script-fails, script-following, script-more, words-none, command-end, command-fails, first-fails, first-end, command-following, command-more, parts-end, parts-fails, parts-following, parts-more}
+use Rattle.tclscript.proofs.Turns.{script-end, script-fails, script-following, script-more, words-none, command-end}
+use Rattle.tclscript.proofs.Turns.{command-fails, first-fails, first-end, command-following, command-more, parts-end}
+use Rattle.tclscript.proofs.Turns.{parts-fails, parts-following, parts-more}
 use Rattle.tclscript.proofs.Nested.{bracket-read, index-read, index-fails}
 use Rattle.tclscript.proofs.Views.{view-Command, view-Script, view-Bracket}
 use Rattle.tclscript.proofs.reading.+read.Goals as goal
@@ -29,7 +31,9 @@ read_index-returns g t c =
 pub read_index-returns-in_err-rest : goal.read_index-returns-in_err-rest
 read_index-returns-in_err-rest g t c =
     let p = err_from_is_err_and c.from_residual-in_err-rest.result c.from_residual-in_err-rest.ensures.1 in
-    rw (p.1, p.2) (index-fails c.args.depth c.remaining_with_mark.result c.args.text.now (parts_view (g.S.Source.shown c.args.source.now) c.in_ok-parts.parts.items) c.in_ok-parts.close.now c.in_err-rest.field-0.0
+    rw (p.1, p.2) (index-fails c.args.depth c.remaining_with_mark.result c.args.text.now
+    (parts_view (g.S.Source.shown c.args.source.now) c.in_ok-parts.parts.items) c.in_ok-parts.close.now
+    c.in_err-rest.field-0.0
     (omega arith) c.remaining_with_mark.ensures c.in_ok-parts.ensures c.in_err-rest.ensures)
 
 pub read_command-returns-in_err-first : goal.read_command-returns-in_err-first
@@ -44,19 +48,25 @@ read_command-taken-first_text-requires-clause-rest g t c =
 pub read_command-loop-alloc-init : goal.read_command-loop-alloc-init
 read_command-loop-alloc-init g t c =
     let r : IsSuffixOf (g.S.Source.text c.args.source.now) c.args.text.now = search rules in
-    let following = first-end (is_nested c.args.nesting) c.args.depth c.args.text.now (word_view (g.S.Source.shown c.args.source.now) c.in_ok-first.first) c.in_ok-first.following.now c.in_ok-first.ensures in
+    let following = first-end (is_nested c.args.nesting) c.args.depth c.args.text.now
+    (word_view (g.S.Source.shown c.args.source.now) c.in_ok-first.first) c.in_ok-first.following.now
+    c.in_ok-first.ensures in
     record {
       utf8 = search rules;
       end = end_through (g.S.Source.text c.args.source.now) c.args.text.now c.in_ok-first.following.now r following;
       so_far =
-          words-none (is_nested c.args.nesting) c.args.depth c.args.text.now (g.S.Source.shown c.args.source.now c.taken-first_text.result) (word_view (g.S.Source.shown c.args.source.now) c.in_ok-first.first)
+          words-none (is_nested c.args.nesting) c.args.depth c.args.text.now
+          (g.S.Source.shown c.args.source.now c.taken-first_text.result)
+          (word_view (g.S.Source.shown c.args.source.now) c.in_ok-first.first)
           (map (word_view (g.S.Source.shown c.args.source.now)) c.push.new.self.items) c.in_ok-first.following.now c.in_ok-first.ensures c.taken-first_text.ensures
           (rw (c.in_ok-push.ensures.items, c.in_ok-words.ensures.items) refl);
     }
 
 pub read_command-returns-then-command_ends : goal.read_command-returns-then-command_ends
 read_command-returns-then-command_ends g t c =
-    command-end (is_nested c.args.nesting) c.args.depth c.args.offset c.args.text.now (g.S.Source.shown c.args.source.now c.taken-first_text.result) (map (word_view (g.S.Source.shown c.args.source.now)) c.loop-alloc.words.items)
+    command-end (is_nested c.args.nesting) c.args.depth c.args.offset c.args.text.now
+    (g.S.Source.shown c.args.source.now c.taken-first_text.result)
+    (map (word_view (g.S.Source.shown c.args.source.now)) c.loop-alloc.words.items)
     c.loop-alloc.rest.now c.skip_blanks-start.result.now c.skip_blanks-start.ensures (sym c.command_ends.ensures ∙ c.if-command_ends.true) c.loop-alloc.invariant.so_far
     ∙ ap (λ x. Ok (x, c.skip_blanks-start.result.now)) (sym (view-Command (g.S.Source.shown c.args.source.now) c.args.offset c.taken-first_text.result c.loop-alloc.words))
 
@@ -71,24 +81,32 @@ read_command-read_word-requires-in-loop-alloc g t c =
 pub read_command-returns-in_err-word : goal.read_command-returns-in_err-word
 read_command-returns-in_err-word g t c =
     let p = err_from_is_err_and c.from_residual-in_err-word.result c.from_residual-in_err-word.ensures.1 in
-    rw (p.1, p.2) (command-fails (is_nested c.args.nesting) c.args.depth c.args.offset c.args.text.now (g.S.Source.shown c.args.source.now c.taken-first_text.result) (map (word_view (g.S.Source.shown c.args.source.now)) c.loop-alloc.words.items)
-    c.loop-alloc.rest.now c.skip_blanks-start.result.now c.in_err-word.field-0.0 c.skip_blanks-start.ensures (sym c.command_ends.ensures ∙ c.if-command_ends.false) c.in_err-word.ensures c.loop-alloc.invariant.so_far)
+    rw (p.1, p.2) (command-fails (is_nested c.args.nesting) c.args.depth c.args.offset c.args.text.now
+    (g.S.Source.shown c.args.source.now c.taken-first_text.result)
+    (map (word_view (g.S.Source.shown c.args.source.now)) c.loop-alloc.words.items)
+    c.loop-alloc.rest.now c.skip_blanks-start.result.now c.in_err-word.field-0.0 c.skip_blanks-start.ensures
+    (sym c.command_ends.ensures ∙ c.if-command_ends.false) c.in_err-word.ensures c.loop-alloc.invariant.so_far)
 
 pub read_command-loop-alloc-smaller : goal.read_command-loop-alloc-smaller
 read_command-loop-alloc-smaller g t c =
-    (command-following (is_nested c.args.nesting) c.args.depth c.loop-alloc.rest.now c.skip_blanks-start.result.now (word_view (g.S.Source.shown c.args.source.now) c.in_ok-word.word) c.in_ok-word.after.now
+    (command-following (is_nested c.args.nesting) c.args.depth c.loop-alloc.rest.now c.skip_blanks-start.result.now
+    (word_view (g.S.Source.shown c.args.source.now) c.in_ok-word.word) c.in_ok-word.after.now
     c.skip_blanks-start.ensures (sym c.command_ends.ensures ∙ c.if-command_ends.false) c.in_ok-word.ensures).1
 
 pub read_command-loop-alloc-preserved : goal.read_command-loop-alloc-preserved
 read_command-loop-alloc-preserved g t c =
-    let following = command-following (is_nested c.args.nesting) c.args.depth c.loop-alloc.rest.now c.skip_blanks-start.result.now (word_view (g.S.Source.shown c.args.source.now) c.in_ok-word.word) c.in_ok-word.after.now
+    let following = command-following (is_nested c.args.nesting) c.args.depth c.loop-alloc.rest.now
+    c.skip_blanks-start.result.now (word_view (g.S.Source.shown c.args.source.now) c.in_ok-word.word)
+    c.in_ok-word.after.now
     c.skip_blanks-start.ensures (sym c.command_ends.ensures ∙ c.if-command_ends.false) c.in_ok-word.ensures
     in
     record {
       utf8 = search rules;
       end = end_through (g.S.Source.text c.args.source.now) c.loop-alloc.rest.now c.in_ok-word.after.now c.loop-alloc.invariant.end following.0;
       so_far =
-          command-more (is_nested c.args.nesting) c.args.depth c.args.text.now (g.S.Source.shown c.args.source.now c.taken-first_text.result) (map (word_view (g.S.Source.shown c.args.source.now)) c.loop-alloc.words.items)
+          command-more (is_nested c.args.nesting) c.args.depth c.args.text.now
+          (g.S.Source.shown c.args.source.now c.taken-first_text.result)
+          (map (word_view (g.S.Source.shown c.args.source.now)) c.loop-alloc.words.items)
           (map (word_view (g.S.Source.shown c.args.source.now)) c.push-in-loop-alloc.new.self.items)
           c.loop-alloc.rest.now c.skip_blanks-start.result.now (word_view (g.S.Source.shown c.args.source.now) c.in_ok-word.word) c.in_ok-word.after.now
           c.skip_blanks-start.ensures (sym c.command_ends.ensures ∙ c.if-command_ends.false) c.in_ok-word.ensures
@@ -100,7 +118,8 @@ read_script-loop-alloc-init g t c = record {
   utf8 = search rules;
   end = search rules;
   shorter = omega arith;
-  so_far = rw c.new-commands.ensures.items (so_far-none skip_gap (script_ends (is_nested c.args.nesting)) (command_in (length c.args.text.now) (is_nested c.args.nesting) (inner_at c.args.depth)) c.args.text.now);
+  so_far = rw c.new-commands.ensures.items (so_far-none skip_gap (script_ends (is_nested c.args.nesting))
+      (command_in (length c.args.text.now) (is_nested c.args.nesting) (inner_at c.args.depth)) c.args.text.now);
 }
 
 pub read_script-overflow_sub-offset : goal.read_script-overflow_sub-offset
@@ -126,16 +145,21 @@ pub read_script-returns-in_err-command : goal.read_script-returns-in_err-command
 read_script-returns-in_err-command g t c =
     let p = err_from_is_err_and c.from_residual.result c.from_residual.ensures.1 in
     rw (p.1, p.2) (script-fails (is_nested c.args.nesting) c.args.depth c.args.text.now (map (command_view (g.S.Source.shown c.args.source.now)) c.loop-alloc.commands.items)
-    c.loop-alloc.rest.now c.skip_gap-start.result.now c.in_err-command.field-0.0 c.skip_gap-start.ensures (sym c.script_ends.ensures ∙ c.if-script_ends.false) c.in_err-command.ensures c.loop-alloc.invariant.so_far)
+    c.loop-alloc.rest.now c.skip_gap-start.result.now c.in_err-command.field-0.0 c.skip_gap-start.ensures
+    (sym c.script_ends.ensures ∙ c.if-script_ends.false) c.in_err-command.ensures c.loop-alloc.invariant.so_far)
 
 pub read_script-loop-alloc-smaller : goal.read_script-loop-alloc-smaller
 read_script-loop-alloc-smaller g t c =
-    (script-following (is_nested c.args.nesting) c.args.depth (length c.args.text.now - length c.skip_gap-start.result.now) c.loop-alloc.rest.now c.skip_gap-start.result.now (command_view (g.S.Source.shown c.args.source.now) c.in_ok-command.command) c.in_ok-command.after.now
+    (script-following (is_nested c.args.nesting) c.args.depth
+    (length c.args.text.now - length c.skip_gap-start.result.now) c.loop-alloc.rest.now c.skip_gap-start.result.now
+    (command_view (g.S.Source.shown c.args.source.now) c.in_ok-command.command) c.in_ok-command.after.now
     c.skip_gap-start.ensures (sym c.script_ends.ensures ∙ c.if-script_ends.false) c.in_ok-command.ensures).1
 
 pub read_script-loop-alloc-preserved : goal.read_script-loop-alloc-preserved
 read_script-loop-alloc-preserved g t c =
-    let following = script-following (is_nested c.args.nesting) c.args.depth (length c.args.text.now - length c.skip_gap-start.result.now) c.loop-alloc.rest.now c.skip_gap-start.result.now (command_view (g.S.Source.shown c.args.source.now) c.in_ok-command.command) c.in_ok-command.after.now
+    let following = script-following (is_nested c.args.nesting) c.args.depth
+    (length c.args.text.now - length c.skip_gap-start.result.now) c.loop-alloc.rest.now c.skip_gap-start.result.now
+    (command_view (g.S.Source.shown c.args.source.now) c.in_ok-command.command) c.in_ok-command.after.now
     c.skip_gap-start.ensures (sym c.script_ends.ensures ∙ c.if-script_ends.false) c.in_ok-command.ensures
     in
     record {
@@ -170,16 +194,22 @@ read_parts-returns-in_err-part g t c =
 
 pub read_parts-loop-alloc-smaller : goal.read_parts-loop-alloc-smaller
 read_parts-loop-alloc-smaller g t c =
-    (parts-following c.args.context c.args.depth c.loop-alloc.rest.now (part_view (g.S.Source.shown c.args.source.now) c.in_ok-part.part) c.in_ok-part.after.now (sym c.parts_end.ensures ∙ c.if-parts_end.false) c.in_ok-part.ensures).1
+    (parts-following c.args.context c.args.depth c.loop-alloc.rest.now
+    (part_view (g.S.Source.shown c.args.source.now) c.in_ok-part.part) c.in_ok-part.after.now
+    (sym c.parts_end.ensures ∙ c.if-parts_end.false) c.in_ok-part.ensures).1
 
 pub read_parts-loop-alloc-preserved : goal.read_parts-loop-alloc-preserved
 read_parts-loop-alloc-preserved g t c =
-    let following = parts-following c.args.context c.args.depth c.loop-alloc.rest.now (part_view (g.S.Source.shown c.args.source.now) c.in_ok-part.part) c.in_ok-part.after.now (sym c.parts_end.ensures ∙ c.if-parts_end.false) c.in_ok-part.ensures in
+    let following = parts-following c.args.context c.args.depth c.loop-alloc.rest.now
+    (part_view (g.S.Source.shown c.args.source.now) c.in_ok-part.part) c.in_ok-part.after.now
+    (sym c.parts_end.ensures ∙ c.if-parts_end.false) c.in_ok-part.ensures in
     record {
       utf8 = search rules;
       end = end_through (g.S.Source.text c.args.source.now) c.loop-alloc.rest.now c.in_ok-part.after.now c.loop-alloc.invariant.end following.0;
       so_far =
-          parts-more c.args.context c.args.depth c.args.text.now (map (part_view (g.S.Source.shown c.args.source.now)) c.loop-alloc.parts.items) (map (part_view (g.S.Source.shown c.args.source.now)) c.push.new.self.items)
+          parts-more c.args.context c.args.depth c.args.text.now
+          (map (part_view (g.S.Source.shown c.args.source.now)) c.loop-alloc.parts.items)
+          (map (part_view (g.S.Source.shown c.args.source.now)) c.push.new.self.items)
           c.loop-alloc.rest.now (part_view (g.S.Source.shown c.args.source.now) c.in_ok-part.part) c.in_ok-part.after.now (sym c.parts_end.ensures ∙ c.if-parts_end.false) c.in_ok-part.ensures
           (rw c.in_ok-push.ensures.items (map_push (part_view (g.S.Source.shown c.args.source.now)) c.loop-alloc.parts.items c.in_ok-part.part)) c.loop-alloc.invariant.so_far;
     }
@@ -189,7 +219,9 @@ read_dollar-read_braced_name-requires g t c =
     let r : IsSuffixOf (g.S.Source.text c.args.source.now) c.args.text.now = search rules in
     let dollar : c.args.text.now ≡ 36 ∷ c.args.following.now = search rules in
     end_through (g.S.Source.text c.args.source.now) c.args.text.now c.in-Some.inner.now r
-    (end_through c.args.text.now c.args.following.now c.in-Some.inner.now (end_mark c.args.text.now 36 c.args.following.now dollar) (end_mark c.args.following.now 123 c.in-Some.inner.now c.in-Some.ensures))
+    (end_through c.args.text.now c.args.following.now c.in-Some.inner.now
+    (end_mark c.args.text.now 36 c.args.following.now dollar)
+    (end_mark c.args.following.now 123 c.in-Some.inner.now c.in-Some.ensures))
 
 pub read_dollar-read_index-requires : goal.read_dollar-read_index-requires
 read_dollar-read_index-requires g t c =
@@ -241,6 +273,8 @@ pub read_word-read_unexpanded_word-requires : goal.read_word-read_unexpanded_wor
 read_word-read_unexpanded_word-requires g t c =
     let r : IsSuffixOf (g.S.Source.text c.args.source.now) c.args.text.now = search rules in
     let e : IsSuffixOf (g.S.Source.text c.args.source.now) c.in-Some.following.now =
-    end_through (g.S.Source.text c.args.source.now) c.args.text.now c.in-Some.following.now r (expanded_end (inner_at 0) (inner_leaves 0) (is_nested c.args.nesting) c.args.text.now c.in-Some.following.now c.in-Some.ensures)
+    end_through (g.S.Source.text c.args.source.now) c.args.text.now c.in-Some.following.now r
+    (expanded_end (inner_at 0) (inner_leaves 0) (is_nested c.args.nesting) c.args.text.now c.in-Some.following.now
+    c.in-Some.ensures)
     in
     search rules

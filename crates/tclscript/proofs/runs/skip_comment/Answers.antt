@@ -16,7 +16,9 @@ loop-n-preserved c =
 pub split_at-requires : goal.split_at-requires
 split_at-requires c =
     let e = c.as_bytes-bytes.ensures.value in
-    let small : get_or c.as_bytes-bytes.result.now c.loop-n.n 0 < 128 = ends_small (get_or c.as_bytes-bytes.result.now c.loop-n.n 0) c.loop-n.escaped (sym c.ends_comment.ensures ∙ c.if-ends_comment.true) in
+    let small : get_or c.as_bytes-bytes.result.now c.loop-n.n 0 < 128 = ends_small
+    (get_or c.as_bytes-bytes.result.now c.loop-n.n 0) c.loop-n.escaped
+    (sym c.ends_comment.ensures ∙ c.if-ends_comment.true) in
     IsCharBoundary-before_ascii c.args.text.now c.loop-n.n (rw (← e) c.loop-n-test.true) (subst (λ (bs : Text). get_or bs c.loop-n.n 0 < 128) e small)
 
 pub returns-then-ends_comment-clause-same : goal.returns-then-ends_comment-clause-same

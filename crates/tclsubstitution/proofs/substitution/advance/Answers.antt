@@ -17,8 +17,17 @@ loop-next-smaller g c = let h = rw c.in-Next.is at c.in_ok-step.ensures in omega
 
 pub loop-next-preserved : goal.loop-next-preserved
 loop-next-preserved g c = let h = rw c.in-Next.is at c.in_ok-step.ensures in
-    record { evaluates_to = λ most used remaining r k. continue_with (c.loop-next.invariant.evaluates_to most used remaining r k) (h.0 most used remaining r k); less = omega (arith, c.loop-next.invariant.less, h.1) }
+    record {
+      evaluates_to = λ most used remaining r k. continue_with
+          (c.loop-next.invariant.evaluates_to most used remaining r k) (h.0 most used remaining r k);
+      less = omega
+          (arith, c.loop-next.invariant.less, h.1);
+    }
 
 pub returns-in_default : goal.returns-in_default
-returns-in_default g c = let h = c.in_ok-step.ensures in
-    (λ most used remaining r k. continue_with (c.loop-next.invariant.evaluates_to most used remaining r k) (h.0 most used remaining r k), less_more c.args.context.source.now (reverse c.step.new.stack.items) _ _ (Ok c.in_ok-step.step) h.1 c.loop-next.invariant.less)
+returns-in_default g c = let h = c.in_ok-step.ensures in (
+  λ most used remaining r k. continue_with (c.loop-next.invariant.evaluates_to most used remaining r k)
+      (h.0 most used remaining r k),
+  less_more c.args.context.source.now (reverse c.step.new.stack.items) _ _
+      (Ok c.in_ok-step.step) h.1 c.loop-next.invariant.less,
+)

@@ -11,7 +11,13 @@ invariant-loop-next g l =
     let t = g.H.Host.trace in
     let source = l.context.source.now in
     record {
-      evaluates_to : (most used remaining : ℕ) (r : Job → plans.Step) (k : Next) → Simulates most r (control_plan source (bounds l.context.limits.value_bytes remaining) l.fn.control l.context.variables.now (stack_continuation source (bounds l.context.limits.value_bytes remaining) (reverse l.fn.stack.items) k)) (point (o l.fn.host) (t l.fn.host) used) (control_plan source (bounds l.context.limits.value_bytes remaining) l.control l.context.variables.now (stack_continuation source (bounds l.context.limits.value_bytes remaining) (reverse l.stack.items) k)) (point (o l.host) (t l.host) used);
+      evaluates_to : (most used remaining : ℕ) (r : Job → plans.Step) (k : Next)
+          → Simulates most r (control_plan source (bounds l.context.limits.value_bytes remaining) l.fn.control
+          l.context.variables.now (stack_continuation source (bounds l.context.limits.value_bytes remaining)
+          (reverse l.fn.stack.items) k)) (point (o l.fn.host) (t l.fn.host) used)
+          (control_plan source (bounds l.context.limits.value_bytes remaining) l.control l.context.variables.now
+          (stack_continuation source (bounds l.context.limits.value_bytes remaining) (reverse l.stack.items) k))
+          (point (o l.host) (t l.host) used);
       less : control_weight source l.control + frames_weight source (reverse l.stack.items) ≤ control_weight source l.fn.control + frames_weight source (reverse l.fn.stack.items);
     }
 

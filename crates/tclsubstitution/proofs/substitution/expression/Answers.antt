@@ -4,7 +4,8 @@ use Rattle.tclexpr.specs.View.{expr_view}
 use Rattle.tclrules.proofs.Leading.{stay, continue_with, starve}
 use Rattle.tclsubstitution.specs.Machine.{range_text, bounds, stack_continuation}
 use Rattle.tclsubstitution.proofs.Leading.{given_on, given_stops}
-use Rattle.tclsubstitution.proofs.Trees.{view-Operand, view-Unary, view-Binary, view-And, view-Or, view-Choice, on_top, less_more}
+use Rattle.tclsubstitution.proofs.Trees.{view-Operand, view-Unary, view-Binary, view-And, view-Or, view-Choice, on_top}
+use Rattle.tclsubstitution.proofs.Trees.{less_more}
 use Rattle.tclsubstitution.proofs.substitution.expression.Goals as goal
 
 pub returns-in_err-push_frame-in-Operand : goal.returns-in_err-push_frame-in-Operand

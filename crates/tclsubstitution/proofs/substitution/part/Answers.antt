@@ -3,7 +3,8 @@ use Rattle.std.proofs.lemmas.Result.{err_from_is_err_and}
 use Rattle.tclscript.specs.View.{part_view}
 use Rattle.tclrules.proofs.Leading.{stay, continue_with, starve}
 use Rattle.tclsubstitution.specs.Machine.{range_text}
-use Rattle.tclsubstitution.proofs.Trees.{view-Literal, view-Backslash, view-Variable, view-Indexed, view-Bracket, on_top, less_more}
+use Rattle.tclsubstitution.proofs.Trees.{view-Literal, view-Backslash, view-Variable, view-Indexed, view-Bracket}
+use Rattle.tclsubstitution.proofs.Trees.{on_top, less_more}
 use Rattle.tclsubstitution.proofs.substitution.part.Goals as goal
 
 pub source_text-requires-text-source : goal.source_text-requires-text-source

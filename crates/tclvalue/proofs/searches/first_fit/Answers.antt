@@ -10,4 +10,5 @@ use Rattle.tclvalue.proofs.searches.first_fit.Goals as goal
 pub returns : goal.returns
 returns c =
     find_seen (fits c.args.text.now) pair_view c.args.replacements.now c.find.result
-    (find_from_yields_List (λ (x : Replacement). fits c.args.text.now (pair_view x)) _ _ c.find.result c.find.ensures.ran (YieldsList-from_slice c.args.replacements.now cc) (λ x b q k. search (rules, tests)))
+    (find_from_yields_List (λ (x : Replacement). fits c.args.text.now (pair_view x)) _ _ c.find.result
+    c.find.ensures.ran (YieldsList-from_slice c.args.replacements.now cc) (λ x b q k. search (rules, tests)))

@@ -6,4 +6,6 @@ use Rattle.tclvalue.specs.Characters.{is_among}
 use Rattle.tclvalue.proofs.texts.character_runs.Goals as goal
 
 pub returns : goal.returns
-returns c = map_from_collect _ c.collect.ensures.ran (YieldsList-from_slice_split _ (is_among c.args.set.now) c.args.text.now c.split.ensures.rest c.split.ensures.done c.split.ensures.closure (λ x b q h. search (rules, nat_tests)))
+returns c = map_from_collect _ c.collect.ensures.ran
+    (YieldsList-from_slice_split _ (is_among c.args.set.now) c.args.text.now c.split.ensures.rest c.split.ensures.done
+    c.split.ensures.closure (λ x b q h. search (rules, nat_tests)))

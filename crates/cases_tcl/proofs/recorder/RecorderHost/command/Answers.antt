@@ -20,6 +20,10 @@ returns-else-is_err-2-clause-answer c =
     let f : bytes_eq (string_bytes c.name-item.result) (codes "puts") ≡ true = search rules in
     let g : Some (string_bytes c.in-Some.message) ≡ message_in (map string_bytes c.args.words.now) = search rules in
     let p : c.push.new.self.items ≡ c.args.self.now.messages.items ++ c.in-Some.message ∷ [] = search rules in
-    let q : map string_bytes c.push.new.self.items ≡ map string_bytes c.args.self.now.messages.items ++ string_bytes c.in-Some.message ∷ [] = ap (map string_bytes) p ∙ map-append string_bytes c.args.self.now.messages.items _ in
-    let a = put_answer (string_bytes c.args.self.now.mode) (map record_texts c.args.self.now.records.items) c.args.words.now c.name-item.result (string_bytes c.in-Some.message) c.in-len1-up.len_at_least c.name-item.is e f g in
+    let q : map string_bytes c.push.new.self.items ≡ map string_bytes c.args.self.now.messages.items
+    ++ string_bytes c.in-Some.message ∷ [] = ap (map string_bytes) p
+    ∙ map-append string_bytes c.args.self.now.messages.items _ in
+    let a = put_answer (string_bytes c.args.self.now.mode) (map record_texts c.args.self.now.records.items)
+    c.args.words.now c.name-item.result (string_bytes c.in-Some.message) c.in-len1-up.len_at_least c.name-item.is e
+    f g in
     (Message (string_bytes c.in-Some.message), false, (rw c.new-then-eq-2.ensures.bytes a, rw (a, q, or-false) refl))

@@ -6,7 +6,11 @@ use Rattle.envvars.proofs.TableLemmas.{kept_over, entered_over}
 use Rattle.envvars.proofs.env.Env.set.Goals as goal
 
 pub returns-in_err-write_entry-clause-err : goal.returns-in_err-write_entry-clause-err
-returns-in_err-write_entry-clause-err c = refused c.from_residual.result _ (kept_over (variables_of c.self.inside.given) c.self.inside.written c.write_entry.new.table c.in_err-write_entry.ensures.err ∙ c.self.view_is)
+returns-in_err-write_entry-clause-err c = refused c.from_residual.result _
+    (kept_over (variables_of c.self.inside.given) c.self.inside.written c.write_entry.new.table
+    c.in_err-write_entry.ensures.err ∙ c.self.view_is)
 
 pub returns-clause-ok : goal.returns-clause-ok
-returns-clause-ok c = entered_over (variables_of c.self.inside.given) c.self.inside.written c.write_entry.new.table c.args.name.now (Some c.args.value.now) c.in_ok-write_entry.ensures.ok ∙ ap (λ e. finite.insert e c.args.name.now c.args.value.now) c.self.view_is
+returns-clause-ok c = entered_over (variables_of c.self.inside.given) c.self.inside.written c.write_entry.new.table
+    c.args.name.now (Some c.args.value.now) c.in_ok-write_entry.ensures.ok
+    ∙ ap (λ e. finite.insert e c.args.name.now c.args.value.now) c.self.view_is

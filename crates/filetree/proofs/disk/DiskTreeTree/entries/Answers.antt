@@ -3,8 +3,8 @@ use Rattle.std.proofs.lemmas.Result.{IfOk-weaker}
 use Rattle.std.specs.HashMap.{get_by_text}
 use Rattle.std.specs.Option.{option_copied}
 use Rattle.filetree.specs.Known.{SaysNoLess}
-use Rattle.filetree.specs.declared.known.Known.{Known}
-use Rattle.filetree.specs.declared.known.Known.TheVariants.{Directory}
+use Rattle.filetree.specs.declared.known.KnownPath.{KnownPath}
+use Rattle.filetree.specs.declared.known.KnownPath.TheVariants.{Directory}
 use Rattle.filetree.proofs.CachedAnswers.{of_some}
 use Rattle.filetree.proofs.WasThere.{directory_known}
 use Rattle.filetree.proofs.disk.DiskTreeTree.entries.Goals as goal
@@ -20,7 +20,7 @@ answer_listing-requires-in-Some-Directory-clause-later g c =
     let there = get_by_text c.args.self.now.known c.args.dir.now in
     let had : there ≡ Some Directory = sym c.get.ensures.value ∙ (ap option_copied c.in-Some-Directory.is ∙ ap Some c.in-Some-Directory.field-0-is) in
     IfOk-weaker c.load_names-loaded.result (λ known. SaysNoLess known Directory)
-    (λ known. (earlier : Known) → there ≡ Some earlier → SaysNoLess known earlier)
+    (λ known. (earlier : KnownPath) → there ≡ Some earlier → SaysNoLess known earlier)
     (λ known less earlier e. of_some (SaysNoLess known) there Directory earlier had e less)
     c.load_names-loaded.ensures.directory
 

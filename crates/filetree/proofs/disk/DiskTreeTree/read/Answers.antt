@@ -3,8 +3,8 @@ use Rattle.std.proofs.lemmas.Result.{IfOk-weaker}
 use Rattle.std.specs.HashMap.{get_by_text}
 use Rattle.std.specs.Option.{option_copied}
 use Rattle.filetree.specs.Known.{SaysNoLess}
-use Rattle.filetree.specs.declared.known.Known.{Known}
-use Rattle.filetree.specs.declared.known.Known.TheVariants.{File}
+use Rattle.filetree.specs.declared.known.KnownPath.{KnownPath}
+use Rattle.filetree.specs.declared.known.KnownPath.TheVariants.{File}
 use Rattle.filetree.proofs.CachedAnswers.{of_some}
 use Rattle.filetree.proofs.WasThere.{file_known}
 use Rattle.filetree.proofs.disk.DiskTreeTree.read.Goals as goal
@@ -20,7 +20,7 @@ answer_file-requires-in-Some-File-clause-later g c =
     let there = get_by_text c.args.self.now.known c.args.path.now in
     let had : there ≡ Some (File c.in-Some-File.prefix) = sym c.get.ensures.value ∙ (ap option_copied c.in-Some-File.is ∙ ap Some c.in-Some-File.field-0-is) in
     IfOk-weaker c.load_rest-loaded.result (λ known. SaysNoLess known (File c.in-Some-File.prefix))
-    (λ known. (earlier : Known) → there ≡ Some earlier → SaysNoLess known earlier)
+    (λ known. (earlier : KnownPath) → there ≡ Some earlier → SaysNoLess known earlier)
     (λ known less earlier e. of_some (SaysNoLess known) there (File c.in-Some-File.prefix) earlier had e less)
     c.load_rest-loaded.ensures.same_prefix
 

@@ -1,4 +1,5 @@
-use Rattle.std.proofs.Common.{◌≡◌, ◌++◌, ◌∷◌, [], Bor, List, ℕ, map, string_bytes, sym, ap, ◌∙◌, get_or, arith, rules, tests}
+use Rattle.std.proofs.Common.{◌≡◌, ◌++◌, ◌∷◌, [], Bor, List, ℕ, map, string_bytes, sym, ap, ◌∙◌, get_or, arith, rules}
+use Rattle.std.proofs.Common.{tests}
 use Rattle.std.specs.List.{list_any}
 use Rattle.std.proofs.lemmas.List.{take_all}
 use Rattle.std.proofs.lemmas.Iterator.{YieldsList-from_slice}
@@ -31,7 +32,8 @@ invariant_of-result c =
     let same : names_of (string_bytes c.loop-name.text) ≡ map (λ x. x.now) names = ap names_of whole ∙ names_of-text (map (λ x. x.now) names) c.requires.names in
     record {
       hides_some =
-          any_from_yields_List (λ (name : Bor (List ℕ)). is_hidden name.now) _ _ c.any.result c.any.ensures.ran (YieldsList-from_slice names c.iter.ensures.rest) (λ x b q k. search (rules, tests, is_hidden-first))
+          any_from_yields_List (λ (name : Bor (List ℕ)). is_hidden name.now) _ _ c.any.result c.any.ensures.ran
+          (YieldsList-from_slice names c.iter.ensures.rest) (λ x b q k. search (rules, tests, is_hidden-first))
           ∙ any-map is_hidden names
           ∙ ap (list_any is_hidden) (sym same);
     }

@@ -14,6 +14,9 @@ returns-clause-records g c =
 
 pub returns-clause-changes : goal.returns-clause-changes
 returns-clause-changes g c =
-    subst (λ (s : JournalState). effects (mode_view s.mode) s.module_name (map record_view c.in_ok-records.records.items) s.before ≡ Ok (applied (new_values_in c.in_ok-changes.changes) s.before)) c.self.view_is
-    (made_by c.self.inside.mode c.self.inside.module_name.now c.self.inside.working.old c.self.inside.working.new c.self.inside.entries.items c.in_ok-records.records.items (new_values_in c.in_ok-changes.changes)
+    subst (λ (s : JournalState). effects (mode_view s.mode) s.module_name
+    (map record_view c.in_ok-records.records.items) s.before ≡ Ok
+    (applied (new_values_in c.in_ok-changes.changes) s.before)) c.self.view_is
+    (made_by c.self.inside.mode c.self.inside.module_name.now c.self.inside.working.old c.self.inside.working.new
+    c.self.inside.entries.items c.in_ok-records.records.items (new_values_in c.in_ok-changes.changes)
     c.self.invariant c.in_ok-records.ensures c.in_ok-changes.ensures.ok)

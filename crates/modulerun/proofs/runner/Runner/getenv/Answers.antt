@@ -18,12 +18,18 @@ edit_fault (Some x) r h = ap bad_edit h
 pub returns-then-is_variable_name-clause-replies : goal.returns-then-is_variable_name-clause-replies
 returns-then-is_variable_name-clause-replies g c =
     let value = value_shown (mode_view c.args.self.now.journal.mode) (environment_so_far c.args.self.now.journal) c.args.var.now c.args.default.now in
-    by_answer _ (question_answer value) c.answer_question.result (trace_with c.args.self.now.journal c.args.self.now.messages c.args.self.now.asked c.args.self.now.refusal) (trace_with c.answer_question.new.self.journal c.answer_question.new.self.messages c.answer_question.new.self.asked c.answer_question.new.self.refusal)
+    by_answer _ (question_answer value) c.answer_question.result
+    (trace_with c.args.self.now.journal c.args.self.now.messages c.args.self.now.asked c.args.self.now.refusal)
+    (trace_with c.answer_question.new.self.journal c.answer_question.new.self.messages
+    c.answer_question.new.self.asked c.answer_question.new.self.refusal)
     (read_named c.args.var.now value (sym c.is_variable_name.ensures ∙ c.if-is_variable_name.true))
     (c.answer_question.ensures.replies value c.value_shown-value.ensures)
 
 pub returns-else-is_variable_name-clause-replies : goal.returns-else-is_variable_name-clause-replies
 returns-else-is_variable_name-clause-replies g c =
-    by_answer _ (not_done (bad_record (bad_edit (bad_variable c.args.var.now)))) c.refuse.result (trace_with c.args.self.now.journal c.args.self.now.messages c.args.self.now.asked c.args.self.now.refusal) (trace_with c.refuse.new.self.journal c.refuse.new.self.messages c.refuse.new.self.asked c.refuse.new.self.refusal)
+    by_answer _ (not_done (bad_record (bad_edit (bad_variable c.args.var.now)))) c.refuse.result
+    (trace_with c.args.self.now.journal c.args.self.now.messages c.args.self.now.asked c.args.self.now.refusal)
+    (trace_with c.refuse.new.self.journal c.refuse.new.self.messages c.refuse.new.self.asked
+    c.refuse.new.self.refusal)
     (read_unnamed c.args.var.now _ (sym c.is_variable_name.ensures ∙ c.if-is_variable_name.false))
     (c.refuse.ensures.replies (bad_edit (bad_variable c.args.var.now)) (edit_fault (reason_of c.bad_variable.result) (bad_variable c.args.var.now) c.bad_variable.ensures))

@@ -7,5 +7,7 @@ use Rattle.sitecertificate.proofs.families.Family.push.Goals as goal
 
 pub invariant_of-self : goal.invariant_of-self
 invariant_of-self c = record {
-  rooted = kept_by_push user_view (λ (y : ModuleUse). first_part y.owner.name ≡ c.args.self.now.root.now) c.args.self.now.users.items c.push.new.self.items c.args.user (is_ok c.push.result) c.push.ensures.items c.args.self.now.rooted c.requires;
+  rooted = kept_by_push user_view (λ (y : ModuleUse). first_part y.owner.name ≡ c.args.self.now.root.now)
+      c.args.self.now.users.items c.push.new.self.items c.args.user (is_ok c.push.result) c.push.ensures.items
+      c.args.self.now.rooted c.requires;
 }

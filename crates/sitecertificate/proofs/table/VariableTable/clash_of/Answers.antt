@@ -8,7 +8,9 @@ use Rattle.sitecertificate.proofs.table.VariableTable.clash_of.Goals as goal
 
 pub returns-in-Some : goal.returns-in-Some
 returns-in-Some c = (
-  use_among (module_of c.args.candidate.now) c.deref-used-items.result.now c.args.candidate.now.used.items c.loop-used.used-index c.used-item.result c.deref-used-items.ensures.value c.loop-used-test.true c.used-item.is c.args.candidate.now.exact,
+  use_among (module_of c.args.candidate.now) c.deref-used-items.result.now c.args.candidate.now.used.items
+      c.loop-used.used-index c.used-item.result c.deref-used-items.ensures.value c.loop-used-test.true c.used-item.is
+      c.args.candidate.now.exact,
   c.in-Some.ensures.0,
   c.in-Some.ensures.1,
 )
@@ -16,5 +18,6 @@ returns-in-Some c = (
 pub returns : goal.returns
 returns c =
     subst (λ (xs : List ModuleUse). some_clash (users_at c.args.self.now) xs ≡ false)
-    (uses_through (module_of c.args.candidate.now) c.deref-used-items.result.now c.args.candidate.now.used.items c.loop-used.used-index c.deref-used-items.ensures.value c.loop-used-test.false c.args.candidate.now.exact)
+    (uses_through (module_of c.args.candidate.now) c.deref-used-items.result.now c.args.candidate.now.used.items
+    c.loop-used.used-index c.deref-used-items.ensures.value c.loop-used-test.false c.args.candidate.now.exact)
     c.loop-used.invariant

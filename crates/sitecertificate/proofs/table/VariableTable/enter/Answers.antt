@@ -10,6 +10,9 @@ pub returns-in-Some : goal.returns-in-Some
 returns-in-Some c =
     on_ok_weaker c.push.result
     (λ (h : HasOneMore (users_in c.in-Some.users.now.ways.items) (users_in c.push.new.self.ways.items) (user_view c.args.user)).
-    user_entered c.args.self.now.variables (c.get_mut.follows.lender c.push.new.self) c.variable.result.now c.push.new.self ((c.get_mut.follows.holds c.push.new.self).3 (search rules)) (user_view c.args.user) c.variable.ensures
-    (subst (λ (xs : List ModuleUse). HasOneMore xs (users_in c.push.new.self.ways.items) (user_view c.args.user)) (users_found c.args.self.now.variables c.variable.result.now c.in-Some.users.now c.in-Some.ensures.value) h))
+    user_entered c.args.self.now.variables (c.get_mut.follows.lender c.push.new.self) c.variable.result.now
+    c.push.new.self ((c.get_mut.follows.holds c.push.new.self).3 (search rules)) (user_view c.args.user)
+    c.variable.ensures
+    (subst (λ (xs : List ModuleUse). HasOneMore xs (users_in c.push.new.self.ways.items) (user_view c.args.user))
+    (users_found c.args.self.now.variables c.variable.result.now c.in-Some.users.now c.in-Some.ensures.value) h))
     c.push.ensures

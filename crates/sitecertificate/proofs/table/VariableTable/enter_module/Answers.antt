@@ -7,11 +7,14 @@ use Rattle.sitecertificate.proofs.table.VariableTable.enter_module.Goals as goal
 
 pub loop-used-preserved : goal.loop-used-preserved
 loop-used-preserved c =
-    enters_turn (users_at c.args.self.now) (users_at c.loop-used.self) (users_at c.enter.new.self) (module_of c.args.candidate.now) c.deref-used-items.result.now c.loop-used.used-index c.used-item.result c.loop-used-test.true c.used-item.is
+    enters_turn (users_at c.args.self.now) (users_at c.loop-used.self) (users_at c.enter.new.self)
+    (module_of c.args.candidate.now) c.deref-used-items.result.now c.loop-used.used-index c.used-item.result
+    c.loop-used-test.true c.used-item.is
     c.loop-used.invariant c.in_ok-enter.ensures
 
 pub returns : goal.returns
 returns c =
     subst (EntersAll (users_at c.args.self.now) (users_at c.loop-used.self))
-    (uses_through (module_of c.args.candidate.now) c.deref-used-items.result.now c.args.candidate.now.used.items c.loop-used.used-index c.deref-used-items.ensures.value c.loop-used-test.false c.args.candidate.now.exact)
+    (uses_through (module_of c.args.candidate.now) c.deref-used-items.result.now c.args.candidate.now.used.items
+    c.loop-used.used-index c.deref-used-items.ensures.value c.loop-used-test.false c.args.candidate.now.exact)
     c.loop-used.invariant

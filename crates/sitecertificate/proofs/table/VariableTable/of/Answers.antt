@@ -8,5 +8,6 @@ loop-candidate-init c = no_users (users_at c.new-table.result) c.new-table.ensur
 
 pub loop-candidate-preserved : goal.loop-candidate-preserved
 loop-candidate-preserved c =
-    table_turn module_of (users_at c.loop-candidate.table) (users_at c.enter_module.new.self) c.args.users.now c.loop-candidate.candidate-index c.candidate-item.result c.loop-candidate-test.true c.candidate-item.is
+    table_turn module_of (users_at c.loop-candidate.table) (users_at c.enter_module.new.self) c.args.users.now
+    c.loop-candidate.candidate-index c.candidate-item.result c.loop-candidate-test.true c.candidate-item.is
     c.loop-candidate.invariant c.in_ok-enter_module.ensures

@@ -9,12 +9,16 @@ use Rattle.sitecertificate.proofs.ways.Way.begin_family.Goals as goal
 
 pub invariant_of-self : goal.invariant_of-self
 invariant_of-self c = record {
-  alike = kept_by_list members (λ (y : ModuleUse). y.used.1 ≡ use_view c.args.self.now.used.now) c.args.self.now.families.items c.push.new.self.items c.in_ok-family.family (user_view c.args.user) (is_ok c.push.result) c.push.ensures.items c.in_ok-family.ensures c.args.self.now.alike c.requires;
+  alike = kept_by_list members (λ (y : ModuleUse). y.used.1 ≡ use_view c.args.self.now.used.now)
+      c.args.self.now.families.items c.push.new.self.items c.in_ok-family.family (user_view c.args.user)
+      (is_ok c.push.result) c.push.ensures.items c.in_ok-family.ensures c.args.self.now.alike c.requires;
 }
 
 pub invariant_of-self-2 : goal.invariant_of-self-2
 invariant_of-self-2 c = record {
-  alike = kept_by_list members (λ (y : ModuleUse). y.used.1 ≡ use_view c.args.self.now.used.now) c.args.self.now.families.items c.push.new.self.items c.in_ok-family.family (user_view c.args.user) (is_ok c.push.result) c.push.ensures.items c.in_ok-family.ensures c.args.self.now.alike c.requires;
+  alike = kept_by_list members (λ (y : ModuleUse). y.used.1 ≡ use_view c.args.self.now.used.now)
+      c.args.self.now.families.items c.push.new.self.items c.in_ok-family.family (user_view c.args.user)
+      (is_ok c.push.result) c.push.ensures.items c.in_ok-family.ensures c.args.self.now.alike c.requires;
 }
 
 pub returns : goal.returns

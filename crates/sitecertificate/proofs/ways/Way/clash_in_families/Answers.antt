@@ -6,16 +6,23 @@ use Rattle.sitecertificate.proofs.ways.Way.clash_in_families.Goals as goal
 
 pub first_clash-requires : goal.first_clash-requires
 first_clash-requires c = λ y h.
-    c.args.self.now.alike y (among_all members c.deref-family-items.result.now c.args.self.now.families.items c.loop-family.family-index c.family-item.result y c.deref-family-items.ensures.value c.loop-family-test.true c.family-item.is h)
+    c.args.self.now.alike y (among_all members c.deref-family-items.result.now c.args.self.now.families.items
+    c.loop-family.family-index c.family-item.result y c.deref-family-items.ensures.value c.loop-family-test.true
+    c.family-item.is h)
 
 pub loop-family-preserved : goal.loop-family-preserved
 loop-family-preserved c =
-    none_in_more (user_view c.args.seeker.now.user) members c.deref-family-items.result.now c.loop-family.family-index c.family-item.result c.loop-family-test.true c.family-item.is c.loop-family.invariant c.in_default.ensures
+    none_in_more (user_view c.args.seeker.now.user) members c.deref-family-items.result.now c.loop-family.family-index
+    c.family-item.result c.loop-family-test.true c.family-item.is c.loop-family.invariant c.in_default.ensures
 
 pub returns-in-Some : goal.returns-in-Some
 returns-in-Some c =
-    found_in_one (user_view c.args.seeker.now.user) members c.deref-family-items.result.now c.args.self.now.families.items c.loop-family.family-index c.family-item.result (user_view c.in-Some.other) c.deref-family-items.ensures.value c.loop-family-test.true c.family-item.is c.in-Some.ensures
+    found_in_one (user_view c.args.seeker.now.user) members c.deref-family-items.result.now
+    c.args.self.now.families.items c.loop-family.family-index c.family-item.result (user_view c.in-Some.other)
+    c.deref-family-items.ensures.value c.loop-family-test.true c.family-item.is c.in-Some.ensures
 
 pub returns : goal.returns
 returns c =
-    none_in_all (user_view c.args.seeker.now.user) members c.deref-family-items.result.now c.args.self.now.families.items c.loop-family.family-index c.deref-family-items.ensures.value c.loop-family-test.false c.loop-family.invariant
+    none_in_all (user_view c.args.seeker.now.user) members c.deref-family-items.result.now
+    c.args.self.now.families.items c.loop-family.family-index c.deref-family-items.ensures.value
+    c.loop-family-test.false c.loop-family.invariant

@@ -1,4 +1,5 @@
-use Rattle.std.proofs.Common.{rules, arith, refl, sym, ap, ◌∙◌, ◌≡◌, ◌<◌, [], List, Bor, get_or, map, option_map, string_bytes, ℕ, ◌+◌, ◌++◌, drop}
+use Rattle.std.proofs.Common.{rules, arith, refl, sym, ap, ◌∙◌, ◌≡◌, ◌<◌, [], List, Bor, get_or, map, option_map}
+use Rattle.std.proofs.Common.{string_bytes, ℕ, ◌+◌, ◌++◌, drop}
 use Rattle.tclchars.specs.Runs.{Text}
 use Rattle.tclscript.specs.Tree.{words_of}
 use Rattle.tclscript.specs.View.{word_view, content_view}
@@ -26,11 +27,17 @@ use Rattle.tclrules.specs.Plans.{given}
 use Rattle.tclrules.specs.Words.{expanded}
 use Rattle.tclrules.specs.Expressions.{normal}
 use Rattle.tclrules.proofs.Leading.{stay, continue_with, starve, count_on, count_over, run_on, run_halts, run_tail}
-use Rattle.tclsubstitution.proofs.Leading.{passed_on, starved_end, given_on, given_stops, value_stops, sized_on, run_stops}
+use Rattle.tclsubstitution.proofs.Leading.{passed_on, starved_end, given_on, given_stops, value_stops, sized_on}
+use Rattle.tclsubstitution.proofs.Leading.{run_stops}
 use Rattle.tclsubstitution.proofs.Trees.{empty_of}
 use Rattle.tclcommands.proofs.Stopping.{same_as}
 use Rattle.tclcommands.proofs.CommandWordLemmas.{whole}
-use Rattle.tcleval.proofs.Running.{run_known, run_normal, run_comes, run_turn, run_next, comes_stopped, comes_cut, begin_on, begin_stops, drop_here, script_commands, command_words, word_content, content_bare, content_braced, content_parts, later_refl, later_on, later_still, later_counted, later_beside, later_begun, later_parsed, text_stops, limited_stops, limited_on, ok_any, counted_on, core_stops, turned_some, turned_none, foreach_done, foreach_more, on_branch, branch_on}
+use Rattle.tcleval.proofs.Running.{run_known, run_normal, run_comes, run_turn, run_next, comes_stopped, comes_cut}
+use Rattle.tcleval.proofs.Running.{begin_on, begin_stops, drop_here, script_commands, command_words, word_content}
+use Rattle.tcleval.proofs.Running.{content_bare, content_braced, content_parts, later_refl, later_on, later_still}
+use Rattle.tcleval.proofs.Running.{later_counted, later_beside, later_begun, later_parsed, text_stops, limited_stops}
+use Rattle.tcleval.proofs.Running.{limited_on, ok_any, counted_on, core_stops, turned_some, turned_none, foreach_done}
+use Rattle.tcleval.proofs.Running.{foreach_more, on_branch, branch_on}
 use Rattle.tcleval.proofs.evaluator.Evaluator.+evaluate.Goals as goal
 
 pub bracket-commands-requires : goal.bracket-commands-requires
@@ -98,7 +105,9 @@ branches-returns-in_err-decide-clause-evaluates_to g t c =
     let d : Bor (List ℕ) × Bor (List ℕ) = (record { ref_ptr = (0, 0); now = [] }, record { ref_ptr = (0, 0); now = [] }) in
     let other = option_map (λ (t : Bor (List ℕ)). t.now) c.args.other in
     let next = λ (k : Next). on_branch b (get_or c.args.branches.now i d).1.now (pair_texts (drop (i + 1) c.args.branches.now)) other (sized_next c.args.bounds.limits.value_bytes k) in
-    let l = λ (k : Next). branch_on b c.args.branches.now i d other c.loop-condition.self.variables (sized_next c.args.bounds.limits.value_bytes k) c.loop-condition-test.true (c.loop-condition.invariant.evaluates_to (sized_next c.args.bounds.limits.value_bytes k)) in
+    let l = λ (k : Next). branch_on b c.args.branches.now i d other c.loop-condition.self.variables
+    (sized_next c.args.bounds.limits.value_bytes k) c.loop-condition-test.true
+    (c.loop-condition.invariant.evaluates_to (sized_next c.args.bounds.limits.value_bytes k)) in
     comes_stopped _ _ _ _ _ c.from_residual.ensures.1 (λ k. continue_with (l k) (c.in_err-decide.ensures.evaluates_to (next k)))
 
 pub branches-returns-in_err-decide-clause-only_grows : goal.branches-returns-in_err-decide-clause-only_grows
@@ -111,7 +120,9 @@ branches-returns-then-branch-clause-evaluates_to g t c =
     let d : Bor (List ℕ) × Bor (List ℕ) = (record { ref_ptr = (0, 0); now = [] }, record { ref_ptr = (0, 0); now = [] }) in
     let other = option_map (λ (t : Bor (List ℕ)). t.now) c.args.other in
     let next = λ (k : Next). on_branch b (get_or c.args.branches.now i d).1.now (pair_texts (drop (i + 1) c.args.branches.now)) other (sized_next c.args.bounds.limits.value_bytes k) in
-    let l = λ (k : Next). branch_on b c.args.branches.now i d other c.loop-condition.self.variables (sized_next c.args.bounds.limits.value_bytes k) c.loop-condition-test.true (c.loop-condition.invariant.evaluates_to (sized_next c.args.bounds.limits.value_bytes k)) in
+    let l = λ (k : Next). branch_on b c.args.branches.now i d other c.loop-condition.self.variables
+    (sized_next c.args.bounds.limits.value_bytes k) c.loop-condition-test.true
+    (c.loop-condition.invariant.evaluates_to (sized_next c.args.bounds.limits.value_bytes k)) in
     let n = run_comes _ _ _ _ c.script.ensures.evaluates_to in
     (n.0, n.1, λ k. continue_with (continue_with (l k) (rw c.if-branch.true at (c.in_ok-decide.ensures.evaluates_to (next k)))) (n.2 k))
 
@@ -135,7 +146,9 @@ call-returns-clause-evaluates_to g t c = λ k.
     let b = bounds_of c.args.bounds in
     let next = λ (s' : State). table.body b (string_bytes c.args.procedure.now.body) s' (table.after_call c.args.self.now.variables.frame k) in
     let v = rw (c.name.ensures, c.operands.ensures, c.deref.ensures.value) at c.in_ok-values.ensures in
-    let a = rw c.enter-caller.ensures.entered at (c.in_ok-assign.ensures c.args.bounds.limits.commands c.args.bounds.remaining (rule c.args.bounds.limits.value_bytes) next (point (g.H.Host.oracle c.args.host.now) (g.H.Host.trace c.args.host.now) c.args.self.now.used)) in
+    let a = rw c.enter-caller.ensures.entered at (c.in_ok-assign.ensures c.args.bounds.limits.commands
+    c.args.bounds.remaining (rule c.args.bounds.limits.value_bytes) next
+    (point (g.H.Host.oracle c.args.host.now) (g.H.Host.trace c.args.host.now) c.args.self.now.used)) in
     let r = rw c.as_str.ensures.value at c.script-outcome.ensures.evaluates_to in
     let l = continue_with (continue_with (given_on _ _ _ _ v) a) (run_known _ _ _ _ r) in
     rw (c.leave.ensures, c.enter-caller.ensures.caller) (continue_with l (c.after_call.ensures _ _ c.args.self.now.variables.frame k _ _))
@@ -148,7 +161,9 @@ call-returns-in_err-assign-clause-evaluates_to g t c = λ k.
     let b = bounds_of c.args.bounds in
     let next = λ (s' : State). table.body b (string_bytes c.args.procedure.now.body) s' (table.after_call c.args.self.now.variables.frame k) in
     let v = rw (c.name.ensures, c.operands.ensures, c.deref.ensures.value) at c.in_ok-values.ensures in
-    let a = rw c.enter-caller.ensures.entered at (c.in_err-assign.ensures c.args.bounds.limits.commands c.args.bounds.remaining (rule c.args.bounds.limits.value_bytes) next (point (g.H.Host.oracle c.args.host.now) (g.H.Host.trace c.args.host.now) c.args.self.now.used)) in
+    let a = rw c.enter-caller.ensures.entered at (c.in_err-assign.ensures c.args.bounds.limits.commands
+    c.args.bounds.remaining (rule c.args.bounds.limits.value_bytes) next
+    (point (g.H.Host.oracle c.args.host.now) (g.H.Host.trace c.args.host.now) c.args.self.now.used)) in
     passed_on _ _ _ _ c.from_residual-in_err-assign.ensures.1 (continue_with (given_on _ _ _ _ v) a)
 
 pub call-returns-in_err-assign-clause-only_grows : goal.call-returns-in_err-assign-clause-only_grows
@@ -184,8 +199,12 @@ called-returns-in-Some-2-clause-evaluates_to g t c =
     let command = c.in-Some.command in
     let e = ap (map string_bytes) (sym c.in-Some.ensures) ∙ whole command.words.now command.not_empty in
     let h = rw (e, c.in-Some-2.is) at c.in_ok-value.ensures in
-    let w = c.within.ensures c.args.result_use c.args.self.now.variables in
-    (w.0, w.1, λ k. from_same (ap (λ ws. called (bounds_of c.args.bounds) ws c.args.self.now.variables (sized_next c.args.bounds.limits.value_bytes k)) e) (continue_with (given_on _ _ _ _ h) (w.2 _ _ k _)))
+    let w = c.within.ensures c.args.result_use c.args.self.now.variables in (
+      w.0,
+      w.1,
+      λ k. from_same (ap (λ ws. called (bounds_of c.args.bounds) ws c.args.self.now.variables
+          (sized_next c.args.bounds.limits.value_bytes k)) e) (continue_with (given_on _ _ _ _ h) (w.2 _ _ k _)),
+    )
 
 pub called-returns-in-Some-2-clause-only_grows : goal.called-returns-in-Some-2-clause-only_grows
 called-returns-in-Some-2-clause-only_grows g t c = later_refl
@@ -202,7 +221,9 @@ called-returns-in_err-value-clause-evaluates_to g t c =
     let command = c.in-Some.command in
     let e = ap (map string_bytes) (sym c.in-Some.ensures) ∙ whole command.words.now command.not_empty in
     let h = rw e at c.in_err-value.ensures in
-    comes_stopped _ _ _ _ _ c.from_residual.ensures.1 (λ k. from_same (ap (λ ws. called (bounds_of c.args.bounds) ws c.args.self.now.variables (sized_next c.args.bounds.limits.value_bytes k)) e) (given_stops _ _ _ _ h))
+    comes_stopped _ _ _ _ _ c.from_residual.ensures.1 (λ k. from_same
+    (ap (λ ws. called (bounds_of c.args.bounds) ws c.args.self.now.variables
+    (sized_next c.args.bounds.limits.value_bytes k)) e) (given_stops _ _ _ _ h))
 
 pub called-returns-in_err-value-clause-only_grows : goal.called-returns-in_err-value-clause-only_grows
 called-returns-in_err-value-clause-only_grows g t c = later_refl
@@ -225,8 +246,15 @@ command-returns-clause-evaluates_to g t c =
     let h = c.in_ok-count.ensures in
     let v = command_words (range_text c.args.command.source.now) c.args.command.tree.now in
     let a = rw c.deref.ensures.value at c.called.ensures.evaluates_to in
-    let w = λ (k : Next). rw (h.variables, h.counted.1, c.as_slice.ensures.value) at (c.in_ok-texts.ensures.evaluates_to (λ texts s1. called b texts s1 (sized_next c.args.bounds.limits.value_bytes k))) in
-    (a.0, a.1, λ k. from_same (ap (λ ws. Counts (pieces.words (bounds_of c.args.bounds) ws [] c.args.self.now.variables (λ texts s1. called (bounds_of c.args.bounds) texts s1 (sized_next c.args.bounds.limits.value_bytes k)))) v) (continue_with (continue_with (count_on h.counted.0) (w k)) (a.2 k)))
+    let w = λ (k : Next). rw (h.variables, h.counted.1, c.as_slice.ensures.value) at
+    (c.in_ok-texts.ensures.evaluates_to (λ texts s1. called b texts s1
+    (sized_next c.args.bounds.limits.value_bytes k))) in (
+      a.0,
+      a.1,
+      λ k. from_same (ap (λ ws. Counts (pieces.words (bounds_of c.args.bounds) ws [] c.args.self.now.variables
+          (λ texts s1. called (bounds_of c.args.bounds) texts s1 (sized_next c.args.bounds.limits.value_bytes k)))) v)
+          (continue_with (continue_with (count_on h.counted.0) (w k)) (a.2 k)),
+    )
 
 pub command-returns-clause-only_grows : goal.command-returns-clause-only_grows
 command-returns-clause-only_grows g t c = later_on (later_counted c.in_ok-count.ensures.counted.1 c.in_ok-count.ensures.cache) (later_on c.in_ok-texts.ensures.only_grows c.called.ensures.only_grows)
@@ -244,8 +272,13 @@ command-returns-in_err-texts-clause-evaluates_to g t c =
     let b = bounds_of c.args.bounds in
     let h = c.in_ok-count.ensures in
     let v = command_words (range_text c.args.command.source.now) c.args.command.tree.now in
-    let w = λ (k : Next). rw (h.variables, h.counted.1, c.as_slice.ensures.value) at (c.in_err-texts.ensures.evaluates_to (λ texts s1. called b texts s1 (sized_next c.args.bounds.limits.value_bytes k))) in
-    comes_stopped _ _ _ _ _ c.from_residual-in_err-texts.ensures.1 (λ k. from_same (ap (λ ws. Counts (pieces.words (bounds_of c.args.bounds) ws [] c.args.self.now.variables (λ texts s1. called (bounds_of c.args.bounds) texts s1 (sized_next c.args.bounds.limits.value_bytes k)))) v) (continue_with (count_on h.counted.0) (w k)))
+    let w = λ (k : Next). rw (h.variables, h.counted.1, c.as_slice.ensures.value) at
+    (c.in_err-texts.ensures.evaluates_to (λ texts s1. called b texts s1
+    (sized_next c.args.bounds.limits.value_bytes k))) in
+    comes_stopped _ _ _ _ _ c.from_residual-in_err-texts.ensures.1
+    (λ k. from_same (ap (λ ws. Counts (pieces.words (bounds_of c.args.bounds) ws [] c.args.self.now.variables
+    (λ texts s1. called (bounds_of c.args.bounds) texts s1 (sized_next c.args.bounds.limits.value_bytes k)))) v)
+    (continue_with (count_on h.counted.0) (w k)))
 
 pub command-returns-in_err-texts-clause-only_grows : goal.command-returns-in_err-texts-clause-only_grows
 command-returns-in_err-texts-clause-only_grows g t c = later_on (later_counted c.in_ok-count.ensures.counted.1 c.in_ok-count.ensures.cache) c.in_err-texts.ensures.only_grows
@@ -257,7 +290,15 @@ pub commands-command-requires : goal.commands-command-requires
 commands-command-requires g t c κs within = search rules
 
 pub commands-loop-command-init : goal.commands-loop-command-init
-commands-loop-command-init g t c = record { evaluates_to = ([], (omega arith, λ q. c.new-last.ensures.bytes), rw (script_commands (range_text c.args.script.source.now) c.args.script.tree.now) stay); only_grows = later_refl }
+commands-loop-command-init g t c = record {
+  evaluates_to = (
+    [],
+    (omega arith, λ q. c.new-last.ensures.bytes),
+    rw
+        (script_commands (range_text c.args.script.source.now) c.args.script.tree.now) stay,
+  );
+  only_grows = later_refl;
+}
 
 pub commands-loop-command-preserved : goal.commands-loop-command-preserved
 commands-loop-command-preserved g t c =
@@ -357,7 +398,11 @@ for_turns-loop-next-preserved g t c = record {
   evaluates_to = λ k.
       let again = λ (s3 : State). Runs (plans.For c.args.bounds.remaining c.args.parts.condition.now c.args.parts.next.now c.args.parts.body.now s3) plans.ended in
       let between = λ (s2 : State). table.body (bounds_of c.args.bounds) c.args.parts.next.now s2 (table.after_next again) in
-      let h = rw c.if-not-branch.false at (continue_with (given_on _ _ c.loop-next.self.variables (λ e. condition_plan (bounds_of c.args.bounds) e c.loop-next.self.variables (guarded (bounds_of c.args.bounds) c.args.parts.body.now between)) c.in_ok-condition.ensures.tree) (rw (c.deref.ensures, c.loop-next.invariant.body.0) at (c.in_ok-guarded_turn.ensures.evaluates_to between))) in
+      let h = rw c.if-not-branch.false at (continue_with
+      (given_on _ _ c.loop-next.self.variables (λ e. condition_plan (bounds_of c.args.bounds) e
+      c.loop-next.self.variables (guarded (bounds_of c.args.bounds) c.args.parts.body.now between))
+      c.in_ok-condition.ensures.tree) (rw (c.deref.ensures, c.loop-next.invariant.body.0) at
+      (c.in_ok-guarded_turn.ensures.evaluates_to between))) in
       let n = continue_with h (run_next again _ _ _ (rw c.loop-next.invariant.next.0 at c.repeated_script.ensures.evaluates_to)) in
       let e = rw c.if-not-branch-2.false at (c.in_ok-after_next.ensures again c.repeated_script.new.self.variables) in
       continue_with (c.loop-next.invariant.evaluates_to k) (run_tail (same_as e n));
@@ -375,7 +420,11 @@ pub for_turns-returns-in_err-after_next-clause-evaluates_to : goal.for_turns-ret
 for_turns-returns-in_err-after_next-clause-evaluates_to g t c = λ k.
     let again = λ (s3 : State). Runs (plans.For c.args.bounds.remaining c.args.parts.condition.now c.args.parts.next.now c.args.parts.body.now s3) plans.ended in
     let between = λ (s2 : State). table.body (bounds_of c.args.bounds) c.args.parts.next.now s2 (table.after_next again) in
-    let h = rw c.if-not-branch.false at (continue_with (given_on _ _ c.loop-next.self.variables (λ e. condition_plan (bounds_of c.args.bounds) e c.loop-next.self.variables (guarded (bounds_of c.args.bounds) c.args.parts.body.now between)) c.in_ok-condition.ensures.tree) (rw (c.deref.ensures, c.loop-next.invariant.body.0) at (c.in_ok-guarded_turn.ensures.evaluates_to between))) in
+    let h = rw c.if-not-branch.false at (continue_with
+    (given_on _ _ c.loop-next.self.variables (λ e. condition_plan (bounds_of c.args.bounds) e
+    c.loop-next.self.variables (guarded (bounds_of c.args.bounds) c.args.parts.body.now between))
+    c.in_ok-condition.ensures.tree) (rw (c.deref.ensures, c.loop-next.invariant.body.0) at
+    (c.in_ok-guarded_turn.ensures.evaluates_to between))) in
     let n = continue_with h (run_next again _ _ _ (rw c.loop-next.invariant.next.0 at c.repeated_script.ensures.evaluates_to)) in
     passed_on _ _ _ _ c.from_residual-in_err-after_next.ensures.1 (continue_with (c.loop-next.invariant.evaluates_to k) (run_stops _ _ (same_as (c.in_err-after_next.ensures again _) n)))
 
@@ -386,7 +435,12 @@ pub for_turns-returns-in_err-guarded_turn-clause-evaluates_to : goal.for_turns-r
 for_turns-returns-in_err-guarded_turn-clause-evaluates_to g t c = λ k.
     let again = λ (s3 : State). Runs (plans.For c.args.bounds.remaining c.args.parts.condition.now c.args.parts.next.now c.args.parts.body.now s3) plans.ended in
     let between = λ (s2 : State). table.body (bounds_of c.args.bounds) c.args.parts.next.now s2 (table.after_next again) in
-    passed_on _ _ _ _ c.from_residual-in_err-guarded_turn.ensures.1 (continue_with (c.loop-next.invariant.evaluates_to k) (run_stops _ _ (continue_with (given_on _ _ c.loop-next.self.variables (λ e. condition_plan (bounds_of c.args.bounds) e c.loop-next.self.variables (guarded (bounds_of c.args.bounds) c.args.parts.body.now between)) c.in_ok-condition.ensures.tree) (rw (c.deref.ensures, c.loop-next.invariant.body.0) at (c.in_err-guarded_turn.ensures.evaluates_to between)))))
+    passed_on _ _ _ _ c.from_residual-in_err-guarded_turn.ensures.1
+    (continue_with (c.loop-next.invariant.evaluates_to k)
+    (run_stops _ _ (continue_with (given_on _ _ c.loop-next.self.variables
+    (λ e. condition_plan (bounds_of c.args.bounds) e c.loop-next.self.variables
+    (guarded (bounds_of c.args.bounds) c.args.parts.body.now between)) c.in_ok-condition.ensures.tree)
+    (rw (c.deref.ensures, c.loop-next.invariant.body.0) at (c.in_err-guarded_turn.ensures.evaluates_to between)))))
 
 pub for_turns-returns-in_err-guarded_turn-clause-only_grows : goal.for_turns-returns-in_err-guarded_turn-clause-only_grows
 for_turns-returns-in_err-guarded_turn-clause-only_grows g t c = later_on c.loop-next.invariant.only_grows c.in_err-guarded_turn.ensures.only_grows
@@ -395,7 +449,11 @@ pub for_turns-returns-then-not-branch-2-clause-evaluates_to : goal.for_turns-ret
 for_turns-returns-then-not-branch-2-clause-evaluates_to g t c = λ k.
     let again = λ (s3 : State). Runs (plans.For c.args.bounds.remaining c.args.parts.condition.now c.args.parts.next.now c.args.parts.body.now s3) plans.ended in
     let between = λ (s2 : State). table.body (bounds_of c.args.bounds) c.args.parts.next.now s2 (table.after_next again) in
-    let h = rw c.if-not-branch.false at (continue_with (given_on _ _ c.loop-next.self.variables (λ e. condition_plan (bounds_of c.args.bounds) e c.loop-next.self.variables (guarded (bounds_of c.args.bounds) c.args.parts.body.now between)) c.in_ok-condition.ensures.tree) (rw (c.deref.ensures, c.loop-next.invariant.body.0) at (c.in_ok-guarded_turn.ensures.evaluates_to between))) in
+    let h = rw c.if-not-branch.false at (continue_with
+    (given_on _ _ c.loop-next.self.variables (λ e. condition_plan (bounds_of c.args.bounds) e
+    c.loop-next.self.variables (guarded (bounds_of c.args.bounds) c.args.parts.body.now between))
+    c.in_ok-condition.ensures.tree) (rw (c.deref.ensures, c.loop-next.invariant.body.0) at
+    (c.in_ok-guarded_turn.ensures.evaluates_to between))) in
     let n = continue_with h (run_next again _ _ _ (rw c.loop-next.invariant.next.0 at c.repeated_script.ensures.evaluates_to)) in
     let e = rw c.if-not-branch-2.true at (c.in_ok-after_next.ensures again c.repeated_script.new.self.variables) in
     rw c.new-then-not-branch-2.ensures.bytes (continue_with (c.loop-next.invariant.evaluates_to k) (run_on (same_as e n)))
@@ -407,7 +465,11 @@ pub for_turns-returns-then-not-branch-clause-evaluates_to : goal.for_turns-retur
 for_turns-returns-then-not-branch-clause-evaluates_to g t c = λ k.
     let again = λ (s3 : State). Runs (plans.For c.args.bounds.remaining c.args.parts.condition.now c.args.parts.next.now c.args.parts.body.now s3) plans.ended in
     let between = λ (s2 : State). table.body (bounds_of c.args.bounds) c.args.parts.next.now s2 (table.after_next again) in
-    let h = rw c.if-not-branch.true at (continue_with (given_on _ _ c.loop-next.self.variables (λ e. condition_plan (bounds_of c.args.bounds) e c.loop-next.self.variables (guarded (bounds_of c.args.bounds) c.args.parts.body.now between)) c.in_ok-condition.ensures.tree) (rw (c.deref.ensures, c.loop-next.invariant.body.0) at (c.in_ok-guarded_turn.ensures.evaluates_to between))) in
+    let h = rw c.if-not-branch.true at (continue_with
+    (given_on _ _ c.loop-next.self.variables (λ e. condition_plan (bounds_of c.args.bounds) e
+    c.loop-next.self.variables (guarded (bounds_of c.args.bounds) c.args.parts.body.now between))
+    c.in_ok-condition.ensures.tree) (rw (c.deref.ensures, c.loop-next.invariant.body.0) at
+    (c.in_ok-guarded_turn.ensures.evaluates_to between))) in
     rw c.new.ensures.bytes (continue_with (c.loop-next.invariant.evaluates_to k) (run_on h))
 
 pub for_turns-returns-then-not-branch-clause-only_grows : goal.for_turns-returns-then-not-branch-clause-only_grows
@@ -442,7 +504,9 @@ foreach_turns-loop-bounds-preserved g t c = record {
       let again = λ (s2 : State). Runs (plans.Foreach c.args.bounds.remaining (table.shortened c.loop-bounds.loops) c.args.body.now s2) plans.ended in
       let next = λ (s1 : State). turn b c.args.body.now s1 again in
       let here = point (g.H.Host.oracle c.loop-bounds.host) (g.H.Host.trace c.loop-bounds.host) c.loop-bounds.self.used in
-      let a = continue_with (foreach_more b c.loop-bounds.loops c.args.body.now c.loop-bounds.self.variables e) (c.in_ok-begin_turn.ensures.evaluates_to c.args.bounds.limits.commands c.args.bounds.remaining (rule c.args.bounds.limits.value_bytes) next here) in
+      let a = continue_with (foreach_more b c.loop-bounds.loops c.args.body.now c.loop-bounds.self.variables e)
+      (c.in_ok-begin_turn.ensures.evaluates_to c.args.bounds.limits.commands c.args.bounds.remaining
+      (rule c.args.bounds.limits.value_bytes) next here) in
       let h = rw (c.if-not-branch.false, c.loop-bounds.invariant.script.0) at (c.in_ok-turn.ensures.evaluates_to again) in
       rw c.in_ok-begin_turn.ensures.rest (continue_with (c.loop-bounds.invariant.evaluates_to k) (run_tail (continue_with a h)));
   script = (c.in_ok-turn.ensures.kept.0 ∙ c.loop-bounds.invariant.script.0, c.in_ok-turn.ensures.kept.1);
@@ -461,7 +525,9 @@ foreach_turns-returns-in_err-begin_turn-clause-evaluates_to g t c = λ k.
     let again = λ (s2 : State). Runs (plans.Foreach c.args.bounds.remaining (table.shortened c.loop-bounds.loops) c.args.body.now s2) plans.ended in
     let next = λ (s1 : State). turn b c.args.body.now s1 again in
     let here = point (g.H.Host.oracle c.loop-bounds.host) (g.H.Host.trace c.loop-bounds.host) c.loop-bounds.self.used in
-    let a = continue_with (foreach_more b c.loop-bounds.loops c.args.body.now c.loop-bounds.self.variables e) (c.in_err-begin_turn.ensures.evaluates_to c.args.bounds.limits.commands c.args.bounds.remaining (rule c.args.bounds.limits.value_bytes) next here) in
+    let a = continue_with (foreach_more b c.loop-bounds.loops c.args.body.now c.loop-bounds.self.variables e)
+    (c.in_err-begin_turn.ensures.evaluates_to c.args.bounds.limits.commands c.args.bounds.remaining
+    (rule c.args.bounds.limits.value_bytes) next here) in
     passed_on _ _ _ _ c.from_residual.ensures.1 (continue_with (c.loop-bounds.invariant.evaluates_to k) (run_stops _ _ a))
 
 pub foreach_turns-returns-in_err-begin_turn-clause-only_grows : goal.foreach_turns-returns-in_err-begin_turn-clause-only_grows
@@ -474,8 +540,13 @@ foreach_turns-returns-in_err-turn-clause-evaluates_to g t c = λ k.
     let again = λ (s2 : State). Runs (plans.Foreach c.args.bounds.remaining (table.shortened c.loop-bounds.loops) c.args.body.now s2) plans.ended in
     let next = λ (s1 : State). turn b c.args.body.now s1 again in
     let here = point (g.H.Host.oracle c.loop-bounds.host) (g.H.Host.trace c.loop-bounds.host) c.loop-bounds.self.used in
-    let a = continue_with (foreach_more b c.loop-bounds.loops c.args.body.now c.loop-bounds.self.variables e) (c.in_ok-begin_turn.ensures.evaluates_to c.args.bounds.limits.commands c.args.bounds.remaining (rule c.args.bounds.limits.value_bytes) next here) in
-    passed_on _ _ _ _ c.from_residual-in_err-turn.ensures.1 (continue_with (c.loop-bounds.invariant.evaluates_to k) (run_stops _ _ (continue_with a (rw c.loop-bounds.invariant.script.0 at (c.in_err-turn.ensures.evaluates_to again)))))
+    let a = continue_with (foreach_more b c.loop-bounds.loops c.args.body.now c.loop-bounds.self.variables e)
+    (c.in_ok-begin_turn.ensures.evaluates_to c.args.bounds.limits.commands c.args.bounds.remaining
+    (rule c.args.bounds.limits.value_bytes) next here) in
+    passed_on _ _ _ _ c.from_residual-in_err-turn.ensures.1
+    (continue_with (c.loop-bounds.invariant.evaluates_to k)
+    (run_stops _ _ (continue_with a (rw c.loop-bounds.invariant.script.0 at
+    (c.in_err-turn.ensures.evaluates_to again)))))
 
 pub foreach_turns-returns-in_err-turn-clause-only_grows : goal.foreach_turns-returns-in_err-turn-clause-only_grows
 foreach_turns-returns-in_err-turn-clause-only_grows g t c = later_on c.loop-bounds.invariant.only_grows (later_beside refl refl refl refl c.in_err-turn.ensures.only_grows)
@@ -496,7 +567,9 @@ foreach_turns-returns-then-not-branch-clause-evaluates_to g t c = λ k.
     let again = λ (s2 : State). Runs (plans.Foreach c.args.bounds.remaining (table.shortened c.loop-bounds.loops) c.args.body.now s2) plans.ended in
     let next = λ (s1 : State). turn b c.args.body.now s1 again in
     let here = point (g.H.Host.oracle c.loop-bounds.host) (g.H.Host.trace c.loop-bounds.host) c.loop-bounds.self.used in
-    let a = continue_with (foreach_more b c.loop-bounds.loops c.args.body.now c.loop-bounds.self.variables e) (c.in_ok-begin_turn.ensures.evaluates_to c.args.bounds.limits.commands c.args.bounds.remaining (rule c.args.bounds.limits.value_bytes) next here) in
+    let a = continue_with (foreach_more b c.loop-bounds.loops c.args.body.now c.loop-bounds.self.variables e)
+    (c.in_ok-begin_turn.ensures.evaluates_to c.args.bounds.limits.commands c.args.bounds.remaining
+    (rule c.args.bounds.limits.value_bytes) next here) in
     let h = rw (c.if-not-branch.true, c.loop-bounds.invariant.script.0) at (c.in_ok-turn.ensures.evaluates_to again) in
     rw c.new-then-not-branch.ensures.bytes (continue_with (c.loop-bounds.invariant.evaluates_to k) (run_on (continue_with a h)))
 
@@ -529,16 +602,26 @@ form-otherwise-requires g t c κs within = search rules
 
 pub form-returns-in-Catch-clause-evaluates_to : goal.form-returns-in-Catch-clause-evaluates_to
 form-returns-in-Catch-clause-evaluates_to g t c =
-    let w = c.within-in-Catch.ensures c.args.result_use c.catch.new.self.variables in
-    (w.0, w.1, λ k. from_same (ap (λ form. table.form (bounds_of c.args.bounds) (form_view form) c.args.self.now.variables (sized_next c.args.bounds.limits.value_bytes k)) c.in-Catch.is) (continue_with (c.catch.ensures.evaluates_to (sized_next c.args.bounds.limits.value_bytes k)) (w.2 _ _ k _)))
+    let w = c.within-in-Catch.ensures c.args.result_use c.catch.new.self.variables in (
+      w.0,
+      w.1,
+      λ k. from_same (ap (λ form. table.form (bounds_of c.args.bounds) (form_view form)
+          c.args.self.now.variables (sized_next c.args.bounds.limits.value_bytes k)) c.in-Catch.is)
+          (continue_with (c.catch.ensures.evaluates_to (sized_next c.args.bounds.limits.value_bytes k)) (w.2 _ _ k _)),
+    )
 
 pub form-returns-in-Catch-clause-only_grows : goal.form-returns-in-Catch-clause-only_grows
 form-returns-in-Catch-clause-only_grows g t c = c.catch.ensures.only_grows
 
 pub form-returns-in-For-clause-evaluates_to : goal.form-returns-in-For-clause-evaluates_to
 form-returns-in-For-clause-evaluates_to g t c =
-    let w = c.within-in-For.ensures c.args.result_use c.for_loop.new.self.variables in
-    (w.0, w.1, λ k. from_same (ap (λ form. table.form (bounds_of c.args.bounds) (form_view form) c.args.self.now.variables (sized_next c.args.bounds.limits.value_bytes k)) c.in-For.is) (continue_with (c.for_loop.ensures.evaluates_to (sized_next c.args.bounds.limits.value_bytes k)) (w.2 _ _ k _)))
+    let w = c.within-in-For.ensures c.args.result_use c.for_loop.new.self.variables in (
+      w.0,
+      w.1,
+      λ k. from_same (ap (λ form. table.form (bounds_of c.args.bounds) (form_view form)
+          c.args.self.now.variables (sized_next c.args.bounds.limits.value_bytes k)) c.in-For.is)
+          (continue_with (c.for_loop.ensures.evaluates_to (sized_next c.args.bounds.limits.value_bytes k)) (w.2 _ _ k _)),
+    )
 
 pub form-returns-in-For-clause-only_grows : goal.form-returns-in-For-clause-only_grows
 form-returns-in-For-clause-only_grows g t c = c.for_loop.ensures.only_grows
@@ -550,7 +633,8 @@ form-returns-in-Foreach-clause-evaluates_to g t c =
       w.1,
       λ k.
           let h = rw c.as_slice-in-Foreach.ensures.value at (c.foreach.ensures.evaluates_to (sized_next c.args.bounds.limits.value_bytes k)) in
-          from_same (ap (λ form. table.form (bounds_of c.args.bounds) (form_view form) c.args.self.now.variables (sized_next c.args.bounds.limits.value_bytes k)) c.in-Foreach.is) (continue_with h (w.2 _ _ k _)),
+          from_same (ap (λ form. table.form (bounds_of c.args.bounds) (form_view form) c.args.self.now.variables
+          (sized_next c.args.bounds.limits.value_bytes k)) c.in-Foreach.is) (continue_with h (w.2 _ _ k _)),
     )
 
 pub form-returns-in-Foreach-clause-only_grows : goal.form-returns-in-Foreach-clause-only_grows
@@ -575,8 +659,14 @@ form-returns-in-Switch-clause-only_grows g t c = c.otherwise.ensures.only_grows
 
 pub form-returns-in-While-clause-evaluates_to : goal.form-returns-in-While-clause-evaluates_to
 form-returns-in-While-clause-evaluates_to g t c =
-    let w = c.within-in-While.ensures c.args.result_use c.while_turns.new.self.variables in
-    (w.0, w.1, λ k. from_same (ap (λ form. table.form (bounds_of c.args.bounds) (form_view form) c.args.self.now.variables (sized_next c.args.bounds.limits.value_bytes k)) c.in-While.is) (continue_with (c.while_turns.ensures.evaluates_to (sized_next c.args.bounds.limits.value_bytes k)) (w.2 _ _ k _)))
+    let w = c.within-in-While.ensures c.args.result_use c.while_turns.new.self.variables in (
+      w.0,
+      w.1,
+      λ k. from_same (ap (λ form. table.form (bounds_of c.args.bounds) (form_view form)
+          c.args.self.now.variables (sized_next c.args.bounds.limits.value_bytes k)) c.in-While.is)
+          (continue_with (c.while_turns.ensures.evaluates_to (sized_next c.args.bounds.limits.value_bytes k))
+          (w.2 _ _ k _)),
+    )
 
 pub form-returns-in-While-clause-only_grows : goal.form-returns-in-While-clause-only_grows
 form-returns-in-While-clause-only_grows g t c = c.while_turns.ensures.only_grows
@@ -633,7 +723,9 @@ guarded_turn-returns-then-branch-clause-evaluates_to g t c = λ again.
     continue_with h (c.turn.ensures.evaluates_to again)
 
 pub guarded_turn-returns-then-branch-clause-counted : goal.guarded_turn-returns-then-branch-clause-counted
-guarded_turn-returns-then-branch-clause-counted g t c = counted_on c.args.bounds.limits.commands c.turn.new.self.used c.args.self.now.used c.holds.new.self.used c.turn.result c.in_ok-holds.ensures.only_grows.rises c.turn.ensures.counted
+guarded_turn-returns-then-branch-clause-counted g t c = counted_on c.args.bounds.limits.commands c.turn.new.self.used
+    c.args.self.now.used c.holds.new.self.used c.turn.result c.in_ok-holds.ensures.only_grows.rises
+    c.turn.ensures.counted
 
 pub guarded_turn-returns-then-branch-clause-only_grows : goal.guarded_turn-returns-then-branch-clause-only_grows
 guarded_turn-returns-then-branch-clause-only_grows g t c = later_on c.in_ok-holds.ensures.only_grows c.turn.ensures.only_grows
@@ -814,7 +906,8 @@ pub value-loop-stack-preserved : goal.value-loop-stack-preserved
 value-loop-stack-preserved g t c =
     let h = rw c.in-Bracket.is at c.in_ok-next.ensures in
     record {
-      evaluates_to = λ k. continue_with (continue_with (c.loop-stack.invariant.evaluates_to k) (h.0 _ c.loop-stack.self.used c.args.bounds.remaining _ k)) (c.in_ok-value-in-Bracket.ensures.evaluates_to _);
+      evaluates_to = λ k. continue_with (continue_with (c.loop-stack.invariant.evaluates_to k)
+          (h.0 _ c.loop-stack.self.used c.args.bounds.remaining _ k)) (c.in_ok-value-in-Bracket.ensures.evaluates_to _);
       only_grows = later_on c.loop-stack.invariant.only_grows c.in_ok-value-in-Bracket.ensures.only_grows;
     }
 
@@ -842,7 +935,9 @@ pub value-returns-in-Done-clause-only_grows : goal.value-returns-in-Done-clause-
 value-returns-in-Done-clause-only_grows g t c = c.loop-stack.invariant.only_grows
 
 pub value-returns-in_err-next-clause-evaluates_to : goal.value-returns-in_err-next-clause-evaluates_to
-value-returns-in_err-next-clause-evaluates_to g t c = λ k. passed_on _ _ _ _ c.from_residual.ensures.1 (continue_with (c.loop-stack.invariant.evaluates_to k) (c.in_err-next.ensures.0 _ c.loop-stack.self.used c.args.bounds.remaining _ k))
+value-returns-in_err-next-clause-evaluates_to g t c = λ k. passed_on _ _ _ _ c.from_residual.ensures.1
+    (continue_with (c.loop-stack.invariant.evaluates_to k)
+    (c.in_err-next.ensures.0 _ c.loop-stack.self.used c.args.bounds.remaining _ k))
 
 pub value-returns-in_err-next-clause-only_grows : goal.value-returns-in_err-next-clause-only_grows
 value-returns-in_err-next-clause-only_grows g t c = c.loop-stack.invariant.only_grows
@@ -850,7 +945,9 @@ value-returns-in_err-next-clause-only_grows g t c = c.loop-stack.invariant.only_
 pub value-returns-in_err-value-in-Bracket-clause-evaluates_to : goal.value-returns-in_err-value-in-Bracket-clause-evaluates_to
 value-returns-in_err-value-in-Bracket-clause-evaluates_to g t c = λ k.
     let h = rw c.in-Bracket.is at c.in_ok-next.ensures in
-    passed_on _ _ _ _ c.from_residual-in_err-value-in-Bracket.ensures.1 (continue_with (continue_with (c.loop-stack.invariant.evaluates_to k) (h.0 _ c.loop-stack.self.used c.args.bounds.remaining _ k)) (c.in_err-value-in-Bracket.ensures.evaluates_to _))
+    passed_on _ _ _ _ c.from_residual-in_err-value-in-Bracket.ensures.1
+    (continue_with (continue_with (c.loop-stack.invariant.evaluates_to k)
+    (h.0 _ c.loop-stack.self.used c.args.bounds.remaining _ k)) (c.in_err-value-in-Bracket.ensures.evaluates_to _))
 
 pub value-returns-in_err-value-in-Bracket-clause-only_grows : goal.value-returns-in_err-value-in-Bracket-clause-only_grows
 value-returns-in_err-value-in-Bracket-clause-only_grows g t c = later_on c.loop-stack.invariant.only_grows c.in_err-value-in-Bracket.ensures.only_grows
@@ -865,7 +962,11 @@ pub while_turns-loop-body-preserved : goal.while_turns-loop-body-preserved
 while_turns-loop-body-preserved g t c = record {
   evaluates_to = λ k.
       let again = λ (s2 : State). Runs (plans.While c.args.bounds.remaining c.args.parts.condition.now c.args.parts.body.now s2) plans.ended in
-      let h = rw c.if-not-branch.false at (continue_with (given_on _ _ c.loop-body.self.variables (λ e. condition_plan (bounds_of c.args.bounds) e c.loop-body.self.variables (guarded (bounds_of c.args.bounds) c.args.parts.body.now again)) c.in_ok-condition.ensures.tree) (rw (c.deref.ensures, c.loop-body.invariant.body.0) at (c.in_ok-guarded_turn.ensures.evaluates_to again))) in
+      let h = rw c.if-not-branch.false at (continue_with
+      (given_on _ _ c.loop-body.self.variables (λ e. condition_plan (bounds_of c.args.bounds) e
+      c.loop-body.self.variables (guarded (bounds_of c.args.bounds) c.args.parts.body.now again))
+      c.in_ok-condition.ensures.tree) (rw (c.deref.ensures, c.loop-body.invariant.body.0) at
+      (c.in_ok-guarded_turn.ensures.evaluates_to again))) in
       continue_with (c.loop-body.invariant.evaluates_to k) (run_tail h);
   body = (c.in_ok-guarded_turn.ensures.kept.0 ∙ c.loop-body.invariant.body.0, c.in_ok-guarded_turn.ensures.kept.1);
   only_grows = later_on c.loop-body.invariant.only_grows c.in_ok-guarded_turn.ensures.only_grows;
@@ -879,7 +980,12 @@ while_turns-loop-body-smaller g t c =
 pub while_turns-returns-in_err-guarded_turn-clause-evaluates_to : goal.while_turns-returns-in_err-guarded_turn-clause-evaluates_to
 while_turns-returns-in_err-guarded_turn-clause-evaluates_to g t c = λ k.
     let again = λ (s2 : State). Runs (plans.While c.args.bounds.remaining c.args.parts.condition.now c.args.parts.body.now s2) plans.ended in
-    passed_on _ _ _ _ c.from_residual-in_err-guarded_turn.ensures.1 (continue_with (c.loop-body.invariant.evaluates_to k) (run_stops _ _ (continue_with (given_on _ _ c.loop-body.self.variables (λ e. condition_plan (bounds_of c.args.bounds) e c.loop-body.self.variables (guarded (bounds_of c.args.bounds) c.args.parts.body.now again)) c.in_ok-condition.ensures.tree) (rw (c.deref.ensures, c.loop-body.invariant.body.0) at (c.in_err-guarded_turn.ensures.evaluates_to again)))))
+    passed_on _ _ _ _ c.from_residual-in_err-guarded_turn.ensures.1
+    (continue_with (c.loop-body.invariant.evaluates_to k)
+    (run_stops _ _ (continue_with (given_on _ _ c.loop-body.self.variables
+    (λ e. condition_plan (bounds_of c.args.bounds) e c.loop-body.self.variables
+    (guarded (bounds_of c.args.bounds) c.args.parts.body.now again)) c.in_ok-condition.ensures.tree)
+    (rw (c.deref.ensures, c.loop-body.invariant.body.0) at (c.in_err-guarded_turn.ensures.evaluates_to again)))))
 
 pub while_turns-returns-in_err-guarded_turn-clause-only_grows : goal.while_turns-returns-in_err-guarded_turn-clause-only_grows
 while_turns-returns-in_err-guarded_turn-clause-only_grows g t c = later_on c.loop-body.invariant.only_grows c.in_err-guarded_turn.ensures.only_grows
@@ -887,7 +993,11 @@ while_turns-returns-in_err-guarded_turn-clause-only_grows g t c = later_on c.loo
 pub while_turns-returns-then-not-branch-clause-evaluates_to : goal.while_turns-returns-then-not-branch-clause-evaluates_to
 while_turns-returns-then-not-branch-clause-evaluates_to g t c = λ k.
     let again = λ (s2 : State). Runs (plans.While c.args.bounds.remaining c.args.parts.condition.now c.args.parts.body.now s2) plans.ended in
-    let h = rw c.if-not-branch.true at (continue_with (given_on _ _ c.loop-body.self.variables (λ e. condition_plan (bounds_of c.args.bounds) e c.loop-body.self.variables (guarded (bounds_of c.args.bounds) c.args.parts.body.now again)) c.in_ok-condition.ensures.tree) (rw (c.deref.ensures, c.loop-body.invariant.body.0) at (c.in_ok-guarded_turn.ensures.evaluates_to again))) in
+    let h = rw c.if-not-branch.true at (continue_with
+    (given_on _ _ c.loop-body.self.variables (λ e. condition_plan (bounds_of c.args.bounds) e
+    c.loop-body.self.variables (guarded (bounds_of c.args.bounds) c.args.parts.body.now again))
+    c.in_ok-condition.ensures.tree) (rw (c.deref.ensures, c.loop-body.invariant.body.0) at
+    (c.in_ok-guarded_turn.ensures.evaluates_to again))) in
     rw c.new.ensures.bytes (continue_with (c.loop-body.invariant.evaluates_to k) (run_on h))
 
 pub while_turns-returns-then-not-branch-clause-only_grows : goal.while_turns-returns-then-not-branch-clause-only_grows
@@ -1053,8 +1163,13 @@ command-returns-in-Some-clause-evaluates_to g t c =
     let v = command_words (range_text c.args.command.source.now) c.args.command.tree.now in
     let a = c.simple.ensures.evaluates_to in
     let e = λ (k : Next). rw c.as_slice.ensures.value at (c.in-Some.ensures c.args.bounds.remaining c.args.self.now.variables (sized_next c.args.bounds.limits.value_bytes k)) in
-    let w = λ (k : Next). rw (h.variables, h.counted.1) at (a.2 k) in
-    (a.0, a.1, λ k. from_same (ap (λ ws. Counts (pieces.words (bounds_of c.args.bounds) ws [] c.args.self.now.variables (λ texts s1. called (bounds_of c.args.bounds) texts s1 (sized_next c.args.bounds.limits.value_bytes k)))) v) (continue_with (count_on h.counted.0) (from_same (e k) (w k))))
+    let w = λ (k : Next). rw (h.variables, h.counted.1) at (a.2 k) in (
+      a.0,
+      a.1,
+      λ k. from_same (ap (λ ws. Counts (pieces.words (bounds_of c.args.bounds) ws [] c.args.self.now.variables
+          (λ texts s1. called (bounds_of c.args.bounds) texts s1 (sized_next c.args.bounds.limits.value_bytes k)))) v)
+          (continue_with (count_on h.counted.0) (from_same (e k) (w k))),
+    )
 
 pub command-returns-in-Some-clause-only_grows : goal.command-returns-in-Some-clause-only_grows
 command-returns-in-Some-clause-only_grows g t c = later_on (later_counted c.in_ok-count.ensures.counted.1 c.in_ok-count.ensures.cache) c.simple.ensures.only_grows
@@ -1175,7 +1290,9 @@ while_turns-returns-in_err-condition-clause-evaluates_to g t c = λ k.
     let b = bounds_of c.args.bounds in
     let s = c.args.self.now.variables in
     let again = λ (s2 : State). Runs (plans.While c.args.bounds.remaining c.args.parts.condition.now c.args.parts.body.now s2) plans.ended in
-    passed_on _ _ _ _ c.from_residual.ensures.1 (run_stops s (stop_of c.before.in_err-condition.field-0.0) (given_stops _ _ s (λ e. condition_plan b e s (guarded b c.args.parts.body.now again)) c.in_err-condition.ensures.tree))
+    passed_on _ _ _ _ c.from_residual.ensures.1 (run_stops s (stop_of c.before.in_err-condition.field-0.0)
+    (given_stops _ _ s (λ e. condition_plan b e s (guarded b c.args.parts.body.now again))
+    c.in_err-condition.ensures.tree))
 
 pub while_turns-returns-in_err-condition-clause-only_grows : goal.while_turns-returns-in_err-condition-clause-only_grows
 while_turns-returns-in_err-condition-clause-only_grows g t c = later_begun refl c.in_err-condition.ensures.begins
@@ -1189,15 +1306,23 @@ for_turns-returns-in_err-condition-clause-evaluates_to g t c = λ k.
     let s = c.args.self.now.variables in
     let again = λ (s3 : State). Runs (plans.For c.args.bounds.remaining c.args.parts.condition.now c.args.parts.next.now c.args.parts.body.now s3) plans.ended in
     let between = λ (s2 : State). table.body b c.args.parts.next.now s2 (table.after_next again) in
-    passed_on _ _ _ _ c.from_residual.ensures.1 (run_stops s (stop_of c.before.in_err-condition.field-0.0) (given_stops _ _ s (λ e. condition_plan b e s (guarded b c.args.parts.body.now between)) c.in_err-condition.ensures.tree))
+    passed_on _ _ _ _ c.from_residual.ensures.1 (run_stops s (stop_of c.before.in_err-condition.field-0.0)
+    (given_stops _ _ s (λ e. condition_plan b e s (guarded b c.args.parts.body.now between))
+    c.in_err-condition.ensures.tree))
 
 pub for_turns-returns-in_err-condition-clause-only_grows : goal.for_turns-returns-in_err-condition-clause-only_grows
 for_turns-returns-in_err-condition-clause-only_grows g t c = later_begun refl c.in_err-condition.ensures.begins
 
 pub form-returns-in-Express-clause-evaluates_to : goal.form-returns-in-Express-clause-evaluates_to
 form-returns-in-Express-clause-evaluates_to g t c =
-    let w = c.within.ensures c.args.result_use c.express_words.new.self.variables in
-    (w.0, w.1, λ k. from_same (ap (λ form. table.form (bounds_of c.args.bounds) (form_view form) c.args.self.now.variables (sized_next c.args.bounds.limits.value_bytes k)) c.in-Express.is) (continue_with (c.express_words.ensures.evaluates_to (sized_next c.args.bounds.limits.value_bytes k)) (w.2 _ _ k _)))
+    let w = c.within.ensures c.args.result_use c.express_words.new.self.variables in (
+      w.0,
+      w.1,
+      λ k. from_same (ap (λ form. table.form (bounds_of c.args.bounds) (form_view form)
+          c.args.self.now.variables (sized_next c.args.bounds.limits.value_bytes k)) c.in-Express.is)
+          (continue_with (c.express_words.ensures.evaluates_to (sized_next c.args.bounds.limits.value_bytes k))
+          (w.2 _ _ k _)),
+    )
 
 pub form-returns-in-Express-clause-only_grows : goal.form-returns-in-Express-clause-only_grows
 form-returns-in-Express-clause-only_grows g t c = c.express_words.ensures.only_grows

@@ -114,7 +114,11 @@ invariant-branches-loop-condition g l =
     let b = bounds_of l.bounds in
     let other = option_map (λ t. t.now) l.other in
     record {
-      evaluates_to : (k : Next) → Simulates l.bounds.limits.commands (rule l.bounds.limits.value_bytes) (rules.branches b (pair_texts l.branches) other l.fn.self.variables k) (point (o l.fn.host) (t l.fn.host) l.fn.self.used) (rules.branches b (pair_texts (drop l.condition-index l.branches)) other l.self.variables k) (point (o l.host) (t l.host) l.self.used);
+      evaluates_to : (k : Next) → Simulates l.bounds.limits.commands (rule l.bounds.limits.value_bytes)
+          (rules.branches b (pair_texts l.branches) other l.fn.self.variables k)
+          (point (o l.fn.host) (t l.fn.host) l.fn.self.used)
+          (rules.branches b (pair_texts (drop l.condition-index l.branches)) other l.self.variables k)
+          (point (o l.host) (t l.host) l.self.used);
       only_grows : OnlyGrows l.fn.self l.self;
     }
 
@@ -125,7 +129,13 @@ invariant-commands-loop-command g l =
     let b = bounds_of l.bounds in
     let view = map (command_view (range_text l.script.source.now)) in
     record {
-      evaluates_to : EvaluatesToText l.result_use l.bounds.limits.value_bytes (Ok l.last) (λ u. Simulates l.bounds.limits.commands (rule l.bounds.limits.value_bytes) (rules.commands b (script_view (range_text l.script.source.now) l.script.tree.now) [] l.fn.self.variables) (point (o l.fn.host) (t l.fn.host) l.fn.self.used) (rules.commands b (commands_of (view (drop l.command-index (out-Script ByteRange l.script.tree.now).commands.items))) u l.self.variables) (point (o l.host) (t l.host) l.self.used));
+      evaluates_to : EvaluatesToText l.result_use l.bounds.limits.value_bytes (Ok l.last)
+          (λ u. Simulates l.bounds.limits.commands (rule l.bounds.limits.value_bytes)
+          (rules.commands b (script_view (range_text l.script.source.now) l.script.tree.now) [] l.fn.self.variables)
+          (point (o l.fn.host) (t l.fn.host) l.fn.self.used)
+          (rules.commands b (commands_of (view (drop l.command-index
+          (out-Script ByteRange l.script.tree.now).commands.items))) u l.self.variables)
+          (point (o l.host) (t l.host) l.self.used));
       only_grows : OnlyGrows l.fn.self l.self;
     }
 
@@ -134,7 +144,11 @@ invariant-for_turns-loop-next g l =
     let o = g.H.Host.oracle in
     let t = g.H.Host.trace in
     record {
-      evaluates_to : (k : Next) → Simulates l.bounds.limits.commands (rule l.bounds.limits.value_bytes) (Runs (plans.For l.bounds.remaining l.parts.condition.now l.parts.next.now l.parts.body.now l.fn.self.variables) (on_normal k)) (point (o l.fn.host) (t l.fn.host) l.fn.self.used) (Runs (plans.For l.bounds.remaining l.parts.condition.now l.parts.next.now l.parts.body.now l.self.variables) (on_normal k)) (point (o l.host) (t l.host) l.self.used);
+      evaluates_to : (k : Next) → Simulates l.bounds.limits.commands (rule l.bounds.limits.value_bytes)
+          (Runs (plans.For l.bounds.remaining l.parts.condition.now l.parts.next.now l.parts.body.now
+          l.fn.self.variables) (on_normal k)) (point (o l.fn.host) (t l.fn.host) l.fn.self.used)
+          (Runs (plans.For l.bounds.remaining l.parts.condition.now l.parts.next.now l.parts.body.now l.self.variables)
+          (on_normal k)) (point (o l.host) (t l.host) l.self.used);
       body : (l.body.text.now ≡ l.parts.body.now) × HasItsTree l.body;
       next : (l.next.text.now ≡ l.parts.next.now) × HasItsTree l.next;
       only_grows : OnlyGrows l.fn.self l.self;
@@ -148,7 +162,11 @@ invariant-while_turns-loop-body g l =
     let o = g.H.Host.oracle in
     let t = g.H.Host.trace in
     record {
-      evaluates_to : (k : Next) → Simulates l.bounds.limits.commands (rule l.bounds.limits.value_bytes) (Runs (plans.While l.bounds.remaining l.parts.condition.now l.parts.body.now l.fn.self.variables) (on_normal k)) (point (o l.fn.host) (t l.fn.host) l.fn.self.used) (Runs (plans.While l.bounds.remaining l.parts.condition.now l.parts.body.now l.self.variables) (on_normal k)) (point (o l.host) (t l.host) l.self.used);
+      evaluates_to : (k : Next) → Simulates l.bounds.limits.commands (rule l.bounds.limits.value_bytes)
+          (Runs (plans.While l.bounds.remaining l.parts.condition.now l.parts.body.now l.fn.self.variables)
+          (on_normal k)) (point (o l.fn.host) (t l.fn.host) l.fn.self.used)
+          (Runs (plans.While l.bounds.remaining l.parts.condition.now l.parts.body.now l.self.variables) (on_normal k))
+          (point (o l.host) (t l.host) l.self.used);
       body : (l.body.text.now ≡ l.parts.body.now) × HasItsTree l.body;
       only_grows : OnlyGrows l.fn.self l.self;
     }
@@ -162,7 +180,10 @@ invariant-value-loop-stack g l =
     let t = g.H.Host.trace in
     let b = bounds_of l.bounds in
     record {
-      evaluates_to : (k : Next) → Simulates l.bounds.limits.commands (rule l.bounds.limits.value_bytes) (control_plan l.source b l.fn.start l.fn.self.variables k) (point (o l.fn.host) (t l.fn.host) l.fn.self.used) (control_plan l.source b l.control l.self.variables (stack_continuation l.source b (reverse l.stack.items) k)) (point (o l.host) (t l.host) l.self.used);
+      evaluates_to : (k : Next) → Simulates l.bounds.limits.commands (rule l.bounds.limits.value_bytes)
+          (control_plan l.source b l.fn.start l.fn.self.variables k) (point (o l.fn.host) (t l.fn.host) l.fn.self.used)
+          (control_plan l.source b l.control l.self.variables (stack_continuation l.source b (reverse l.stack.items) k))
+          (point (o l.host) (t l.host) l.self.used);
       only_grows : OnlyGrows l.fn.self l.self;
     }
 
@@ -176,7 +197,12 @@ invariant-words-loop-word g l =
     let b = bounds_of l.bounds in
     let view = map (word_view (range_text l.words.source.now)) in
     record {
-      evaluates_to : (k : List Text → State → plans.Step) → Simulates l.bounds.limits.commands (rule l.bounds.limits.value_bytes) (pieces.words b (words_of (view l.words.tree.now)) [] l.fn.self.variables k) (point (o l.fn.host) (t l.fn.host) l.fn.self.used) (pieces.words b (words_of (view (drop l.word-index l.words.tree.now))) (map string_bytes l.texts.items) l.self.variables k) (point (o l.host) (t l.host) l.self.used);
+      evaluates_to : (k : List Text → State → plans.Step)
+          → Simulates l.bounds.limits.commands (rule l.bounds.limits.value_bytes)
+          (pieces.words b (words_of (view l.words.tree.now)) [] l.fn.self.variables k)
+          (point (o l.fn.host) (t l.fn.host) l.fn.self.used)
+          (pieces.words b (words_of (view (drop l.word-index l.words.tree.now))) (map string_bytes l.texts.items)
+          l.self.variables k) (point (o l.host) (t l.host) l.self.used);
       only_grows : OnlyGrows l.fn.self l.self;
     }
 
@@ -185,7 +211,11 @@ invariant-foreach_turns-loop-bounds g l =
     let o = g.H.Host.oracle in
     let t = g.H.Host.trace in
     record {
-      evaluates_to : (k : Next) → Simulates l.bounds.limits.commands (rule l.bounds.limits.value_bytes) (Runs (plans.Foreach l.bounds.remaining l.fn.loops l.fn.body l.fn.self.variables) (on_normal k)) (point (o l.fn.host) (t l.fn.host) l.fn.self.used) (Runs (plans.Foreach l.bounds.remaining l.loops l.fn.body l.self.variables) (on_normal k)) (point (o l.host) (t l.host) l.self.used);
+      evaluates_to : (k : Next) → Simulates l.bounds.limits.commands (rule l.bounds.limits.value_bytes)
+          (Runs (plans.Foreach l.bounds.remaining l.fn.loops l.fn.body l.fn.self.variables) (on_normal k))
+          (point (o l.fn.host) (t l.fn.host) l.fn.self.used)
+          (Runs (plans.Foreach l.bounds.remaining l.loops l.fn.body l.self.variables) (on_normal k))
+          (point (o l.host) (t l.host) l.self.used);
       script : (l.script.text.now ≡ l.fn.body) × HasItsTree l.script;
       only_grows : OnlyGrows l.fn.self l.self;
     }

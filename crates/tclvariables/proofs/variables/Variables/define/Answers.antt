@@ -5,4 +5,11 @@ use Rattle.tclvariables.proofs.variables.Variables.define.Goals as goal
 
 pub returns-clause-ok : goal.returns-clause-ok
 returns-clause-ok c =
-    rw (c.in_ok-insert.ensures.entries, ← c.self.view_is, store_named (λ p. procedure_view p.value) c.self.inside.procedures.entries c.in_ok-name.name c.in_ok-procedure.procedure, c.in_ok-name.ensures.ok, c.in_ok-procedure.ensures.ok) refl
+    rw (
+      c.in_ok-insert.ensures.entries,
+      ← c.self.view_is,
+      store_named (λ p. procedure_view p.value)
+          c.self.inside.procedures.entries c.in_ok-name.name c.in_ok-procedure.procedure,
+      c.in_ok-name.ensures.ok,
+      c.in_ok-procedure.ensures.ok,
+    ) refl

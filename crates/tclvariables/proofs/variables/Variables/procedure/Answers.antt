@@ -5,4 +5,6 @@ use Rattle.tclvariables.proofs.Frames.{lookup_named, map_copied}
 use Rattle.tclvariables.proofs.variables.Variables.procedure.Goals as goal
 
 pub returns : goal.returns
-returns c = rw (← c.self.view_is) (map_copied (λ p. procedure_view p.value) c.get.result ∙ ap (option_map (λ p. procedure_view p.value)) c.get.ensures.value ∙ lookup_named (λ p. procedure_view p.value) c.self.inside.procedures.entries c.args.name.now)
+returns c = rw (← c.self.view_is) (map_copied (λ p. procedure_view p.value) c.get.result ∙ ap
+    (option_map (λ p. procedure_view p.value)) c.get.ensures.value
+    ∙ lookup_named (λ p. procedure_view p.value) c.self.inside.procedures.entries c.args.name.now)
