@@ -1,26 +1,21 @@
 """Compares the calls of tcltext with a real tclsh over generated texts.
 
 The program `cases_tcl` and answers.tcl read the same calls from standard input, a line each, and write an answer a line; the
-first reads the word `text` before each.
-Each known difference stands in DIFFERENCES with the rule of the profile (the pages of the crates of Tcl) that means it."""
+first reads the word `text` before each. Two rules of the profile (the pages of the crates of Tcl) mean other answers, and
+those are counted by rule."""
 
+import collections
+import functools
 import random
 import re
-import subprocess
-import sys
-import os
 
+import pytest
+
+from tests.tcl.answers import ask, digits, tclsh, text_of
 from tests.tcl.grouping import PROFILE, TCLSH, grouped
 
-HERE = os.path.dirname(os.path.abspath(__file__))
 SEED = 20261122
-CASES = 10000
-SECONDS = 60
-SHOWN = 20
-
-
-def shown(text):
-    return text.encode().hex() or "-"
+CALLS = 10000
 
 
 def made(draw, alphabet, longest):
@@ -32,7 +27,6 @@ PATTERN = list("**??ab[]-\\") + ["[ab]", "[a-c]", "[c-a]", "[b-]", "é", "*a", "
 PATTERN_TEXT = list("aabb]-^\\é")
 SCRIPT = list("aab {}]\"\\ \n\r\v\f;#") + ["\\x41", "\\x4", "\\400", "\\u00e9", "\\n", "{a b}", "\"a b\"", "\\\n ", "é"]
 
-
 OPERAND = ["0", "1", "2", "7", "0x1F", "010", "1.5", "2e1", ".5", "{3}", "true", "no"]
 OPERATOR = ["+", "-", "*", "/", "%", "<<", ">>", "<", ">", "<=", ">=", "==", "!=", " eq ", " ne ", " in ", " ni ", "&", "^", "|", "&&", "||"]
 NOISE = ["(", ")", "?", ":", " ", "\t", "\\\n", "**", "1 1", "a(", "~", "!", "-", "+"]
@@ -40,15 +34,15 @@ ELEMENT = list("aab {}[]$\"\\ \n\t;#") + ["é", "{a}", "{*}"]
 
 
 def list_call(draw):
-    return "list " + shown(made(draw, LIST, 12))
+    return "list " + digits(made(draw, LIST, 12))
 
 
 def glob_call(draw):
-    return f"glob {shown(made(draw, PATTERN, 6))} {shown(made(draw, PATTERN_TEXT, 6))}"
+    return f"glob {digits(made(draw, PATTERN, 6))} {digits(made(draw, PATTERN_TEXT, 6))}"
 
 
 def script_call(draw):
-    return "script " + shown(made(draw, SCRIPT, 14))
+    return "script " + digits(made(draw, SCRIPT, 14))
 
 
 def expression(draw, depth):
@@ -69,34 +63,26 @@ def expr_call(draw):
     if draw.random() < 0.3:
         at = draw.randint(0, len(text))
         text = text[:at] + draw.choice(NOISE) + text[at:]
-    return "expr " + shown(text)
+    return "expr " + digits(text)
 
 
 def write_call(draw):
-    return " ".join(["write"] + [shown(made(draw, ELEMENT, 6)) for _ in range(draw.randint(1, 4))])
+    return " ".join(["write"] + [digits(made(draw, ELEMENT, 6)) for _ in range(draw.randint(1, 4))])
 
 
-GENERATORS = [list_call, glob_call, script_call, expr_call, write_call]
+GENERATORS = {"list": list_call, "glob": glob_call, "script": script_call, "expr": expr_call, "write": write_call}
 
-# The rules of the profile by which an answer differs from tclsh's: a name, and a test of call, our answer and tclsh's.
-DIFFERENCES = []
-
-
-def difference(rule):
-    """Adds a test of call, our answer and tclsh's to the known differences."""
-    def add(test):
-        DIFFERENCES.append((rule, test))
-        return test
-    return add
+# The rules of the profile by which an answer differs from tclsh's.
+NO_POWER = "`**` is left out"
+LEVELS = "`== !=`, `eq ne` and `in ni` have three levels"
 
 
-def text_of(call):
-    return bytes.fromhex(call.split()[1].replace("-", "")).decode()
+def text_in(call):
+    return text_of(call.split()[1])
 
 
-@difference("`**` is left out")
-def power(call, ours, _theirs):
-    return call.startswith("expr ") and ours == "fault 8" and "**" in text_of(call)
+def is_power(call, ours):
+    return call.startswith("expr ") and ours == "fault 8" and "**" in text_in(call)
 
 
 # What tclsh says of the texts of each kind of fault, by the verb of the call.
@@ -134,7 +120,7 @@ def agree(call, ours, theirs):
     if not (ours.startswith("fault ") and theirs.startswith("error ")):
         return False
     messages = FAULTS.get(call.split()[0], {}).get(ours.split()[1], ())
-    return bytes.fromhex(theirs.split()[1]).decode().startswith(messages)
+    return text_in(theirs).startswith(messages)
 
 
 def grouped_otherwise(call, answer):
@@ -143,8 +129,8 @@ def grouped_otherwise(call, answer):
     `== !=`, `eq ne` and `in ni` have three levels in the profile, as expr(n) lists them, and one in tclsh."""
     if not call.startswith("expr "):
         return None
-    ours, theirs = (grouped(text_of(call), levels) for levels in (PROFILE, TCLSH))
-    return theirs if ours != theirs and answer == f"ok {shown(ours)}" else None
+    ours, theirs = (grouped(text_in(call), levels) for levels in (PROFILE, TCLSH))
+    return theirs if ours != theirs and answer == f"ok {digits(ours)}" else None
 
 
 def plain(call, answer):
@@ -159,7 +145,7 @@ def question(call, answer):
     means another; and of a list the elements."""
     if call.startswith("expr ") and answer.startswith("ok "):
         other = grouped_otherwise(call, answer)
-        return f"{call} {answer[3:] if other is None else shown(other)}"
+        return f"{call} {answer[3:] if other is None else digits(other)}"
     if call.startswith("write "):
         return "list " + answer[3:]
     return call
@@ -174,35 +160,27 @@ def wanted(call, answer):
     return answer
 
 
-def answers(command, calls):
-    ran = subprocess.run(command, input="\n".join(calls) + "\n", capture_output=True, encoding="utf-8", timeout=SECONDS, check=True)
-    return ran.stdout.split("\n")[: len(calls)]
-
-
-def main():
+@functools.cache
+def calls():
+    """The calls of each kind."""
     draw = random.Random(SEED)
-    calls = [generate(draw) for generate in GENERATORS for _ in range(CASES)]
-    told = answers([sys.argv[1]], ["text " + call for call in calls])
-    ours = [plain(call, answer) for call, answer in zip(calls, told, strict=True)]
-    regrouped = sum(grouped_otherwise(*it) is not None for it in zip(calls, ours, strict=True))
-    theirs = answers(["tclsh", os.path.join(HERE, "answers.tcl")], list(map(question, calls, ours)))
-    ours = list(map(wanted, calls, ours))
-    explained, failed = {"`== !=`, `eq ne` and `in ni` have three levels": regrouped}, []
-    for call, one, other in zip(calls, ours, theirs, strict=True):
+    return {kind: [generate(draw) for _ in range(CALLS)] for kind, generate in GENERATORS.items()}
+
+
+@pytest.mark.parametrize("kind", GENERATORS)
+def test_generated_texts(kind, built, judge_rows, note):
+    asked = calls()[kind]
+    ours = list(map(plain, asked, ask([built("cases_tcl")], [f"text {call}" for call in asked])))
+    theirs = ask(tclsh("answers.tcl"), map(question, asked, ours))
+    rules = collections.Counter(LEVELS for it in zip(asked, ours) if grouped_otherwise(*it))
+    wrong = []
+    for call, one, other in zip(asked, map(wanted, asked, ours), theirs):
         if agree(call, one, other):
             continue
-        rule = next((rule for rule, test in DIFFERENCES if test(call, one, other)), None)
-        if rule is None:
-            failed.append((call, one, other))
+        if is_power(call, one):
+            rules[NO_POWER] += 1
         else:
-            explained[rule] = explained.get(rule, 0) + 1
-    for call, one, other in failed[:SHOWN]:
-        print(f"FAILED: {call}: {one!r}, tclsh {other!r}")
-    for rule, count in sorted(explained.items()):
-        print(f"{count} differ by the profile: {rule}")
-    print(f"{len(calls) - len(failed)} passed, {len(failed)} failed")
-    return 1 if failed else 0
-
-
-if __name__ == "__main__":
-    sys.exit(main())
+            wrong.append(f"{call}: {one!r}, tclsh {other!r}")
+    for rule, count in sorted(rules.items()):
+        note(f"{count} differ by the profile: {rule}")
+    judge_rows(len(asked), wrong)

@@ -1,24 +1,25 @@
 """Compares whole scripts with those of the real tclsh, over generated cases: results, messages of errors with their lines, final
 variables, what the host was told, and how many commands and turns were counted.
 
-    scripts.py PROGRAM [CASES]      PROGRAM is cases_tcl, built
-
 A script is made twice: as the profile reads it, and as it is for Tcl, where a stub in front of each command and at the
 beginning of each body of a loop counts, and what the profile does otherwise stands as what it does (DIFFERENCES). Messages
 that are the profile's own are read out of Tcl's (TRANSLATED). What is left differs by one of two rules that no script
 can foresee (`explained`), and is counted by it."""
 
-import os
+import collections
 import random
 import re
-import subprocess
-import sys
-import time
-from concurrent.futures import ThreadPoolExecutor
 
-HERE = os.path.dirname(os.path.abspath(__file__))
-SEED = 20261123
+import pytest
+
+from tests.tcl.answers import ask, digits, tclsh, text_of
+
+SEED, SCRIPTS = 20261123, 30000
 COMMANDS, DEPTH, BYTES = 100000, 200, 1048576
+
+# How many scripts are evaluated under limits of their own.
+LIMITED = 2000
+
 ENVIRONMENT = (("HOME", "/home/p"), ("EMPTY", ""), ("N", "12"))
 
 
@@ -48,7 +49,6 @@ DIFFERENCES = [
     ("set q [expr {1.5 + 1}]", halt(18, "A number with a fraction is not computed"), "no number has a fraction"),
     ("set q [expr {1 < 1e3}]", halt(18, "A number with a fraction is not computed"), "no number has an exponent"),
     ("set q [expr 08]", halt(18, "A number with a fraction is not computed"), "a leading 0 with an 8 or 9 is a fraction"),
-    ("set q [expr {Inf}]", "set q Inf", "a bare word is no number", "skip"),
     ("while 0.5 {}", halt(18, "A number with a fraction is not computed"), "a condition has no fraction"),
     ("string repeat p 1.5", halt(18, "A number with a fraction is not computed"), "a count has no fraction"),
     ("set q 1; incr q 0.5", "set q 1; " + halt(18, "A number with a fraction is not computed"), "incr adds no fraction"),
@@ -81,7 +81,6 @@ DIFFERENCES = [
     ('if 1 "set q \\{"', halt(12, "Missing close-brace at byte 6"), "the fault of a body is not caught"),
     ('catch "set q \\[p" q', halt(12, "Missing close-bracket at byte 6"), "the fault of a body is not caught"),
     ("set q [expr {1 +}]", halt(12, "Bad expression at byte 3"), "the fault of an expression is not caught"),
-    ("expr {(1}", halt(12, "Bad expression at byte 2"), "the fault of an expression is not caught", "skip"),
     ("conflict p", halt(21, "Refused by 51"), "a refusal by the host is not caught"),
     ("proc set {} {}", counted('error {can\'t redefine "set"}'), "a name that is kept"),
     ("proc conflict {} {}", counted('error {can\'t redefine "conflict"}'), "a name that the host reserves"),
@@ -96,7 +95,6 @@ DIFFERENCES = [
     ("set q [list p \\\\]", counted("set q [__count; list p \\\\]"), "how a list is written"),
     ("set q [split {[p]} {}]", counted("set q [__count; set q {{[} p {]}}]"), "how a list is written"),
     ("set q [list p #q]", counted("set q [__count; set q {p {#q}}]"), "how a list is written"),
-    ("set q [list p \\} q\\\"]", "set q {p \\} q\\\"}", "how a list is written", "skip"),
     ("switch -odd p q r {}", counted('error {wrong # args for "switch"}'), "a wrong number of words comes before a bad option"),
     ("expr {!{p q}}", counted('error {expected boolean value but got "p q"}'), "what ! takes is a truth value"),
     ("set q $env", counted('error {can\'t read "env": it is an array}'), "the environment is an array"),
@@ -107,7 +105,6 @@ for name in (
     "seek socket source subst tailcall tell throw time trace try unknown unload update uplevel upvar variable vwait"
 ).split():
     DIFFERENCES.append((name + " p q", left_out(name), "a command that is left out"))
-DIFFERENCES = [d[:3] for d in DIFFERENCES if len(d) == 3]
 
 # Tcl's messages, and the profile's
 TRANSLATED = [
@@ -133,14 +130,6 @@ def translated(text):
     for pattern, ours in TRANSLATED:
         text = re.sub(pattern, ours, text)
     return text
-
-
-def digits(text):
-    return text.encode().hex() or "-"
-
-
-def text_of(shown):
-    return "" if shown == "-" else bytes.fromhex(shown).decode()
 
 
 # How the program reads and writes a text.
@@ -742,31 +731,16 @@ def explained(own, other):
     return None
 
 
-def ask(command, lines):
-    """The answers to the lines, by as many processes as there are processors."""
-    parts = max(1, os.cpu_count() or 1)
-    size = (len(lines) + parts - 1) // parts or 1
-
-    def part(some):
-        asked = ("\n".join(some) + "\n").encode()
-        done = subprocess.run(command, input=asked, stdout=subprocess.PIPE, check=False)
-        return done.stdout.decode().split("\n")[:-1]
-
-    with ThreadPoolExecutor(parts) as pool:
-        return [a for answers in pool.map(part, [lines[i : i + size] for i in range(0, len(lines), size)]) for a in answers]
-
-
-def case(script, commands=COMMANDS):
+def case(script, commands):
     environment = " ".join(f"env.{name}={written(value)}" for name, value in ENVIRONMENT)
     return f"script - commands={commands} depth={DEPTH} bytes={BYTES} {environment}: {written(script)}"
 
 
-def main():
-    program = sys.argv[1:2]
-    count = int(sys.argv[2]) if len(sys.argv) > 2 else 30000
+def generated():
+    """The generated scripts, and those of each difference by itself."""
     maker = Maker(SEED)
-    scripts = [maker.script() for _ in range(count)]
-    # each difference by itself: at the file's level, in catch, and in the second turn of a loop
+    scripts = [maker.script() for _ in range(SCRIPTS)]
+    # each difference at the file's level, in catch, and in the second turn of a loop
     for ours, tcl, _ in DIFFERENCES:
         alone = Pair(ours, tcl)
         scripts.append(alone)
@@ -776,50 +750,50 @@ def main():
     # more different bodies and conditions than are kept
     bodies = [command("if {$n >= -%d} {%s}" % (n, "%s"), command("incr n %d" % n)) for n in range(1100)]
     scripts.append(joined("; ", [command("set n 0"), command("foreach j {0 1} {%s}", turned(joined("; ", bodies)))]))
-    start = time.time()
-    ours = [own_answer(line) for line in ask(program, [case(s.ours) for s in scripts])]
-    took = time.time() - start
-    tclsh = ["tclsh", os.path.join(HERE, "scripts.tcl")]
-    theirs = [tcl_answer(line) for line in ask(tclsh, [digits(s.tcl) for s in scripts])]
-    failures = 0
-    rules = {}
-    for script, own, other in zip(scripts, ours, theirs):
+    return scripts
+
+
+@pytest.fixture(scope="module")
+def evaluated(built):
+    """Evaluates scripts, each with the most commands that it may take."""
+
+    def answers(scripts):
+        return [own_answer(line) for line in ask([built("cases_tcl")], [case(*script) for script in scripts])]
+
+    return answers
+
+
+@pytest.fixture(scope="module")
+def answered(evaluated):
+    """The scripts, each with the program's own answer."""
+    scripts = generated()
+    return list(zip(scripts, evaluated([(script.ours, COMMANDS) for script in scripts])))
+
+
+def test_scripts(answered, judge_rows, note):
+    theirs = [tcl_answer(line) for line in ask(tclsh("scripts.tcl"), [digits(script.tcl) for script, _ in answered])]
+    rules, wrong = collections.Counter(), []
+    for (script, own), other in zip(answered, theirs):
         if own.shown == other.shown:
             continue
         rule = explained(own, other)
         if rule:
-            rules[rule] = rules.get(rule, 0) + 1
-            continue
-        failures += 1
-        if failures <= 20:
-            print(f"--- {script.ours}\n  own {own.shown}\n  Tcl {other.shown}")
-    for rule, number in sorted(rules.items()):
-        print(f"{number} differ by the profile: {rule}")
-    failures += limits(program, scripts, ours)
-    if len(ours) != len(scripts) or len(theirs) != len(scripts):
-        failures += 1
-        print(f"{len(ours)} and {len(theirs)} answers to {len(scripts)} scripts")
-    ends = {}
-    for own in ours:
-        end = "ok" if own.kind == "ok" else str(own.number)
-        ends[end] = ends.get(end, 0) + 1
-    print("ends: " + ", ".join(f"{n} {end}" for end, n in sorted(ends.items())))
-    print(f"{took:.1f} s for {len(scripts)} scripts")
-    print(f"{len(scripts) - failures} passed, {failures} failed")
-    return 1 if failures else 0
+            rules[rule] += 1
+        else:
+            wrong.append(f"--- {script.ours}\n  own {own.shown}\n  Tcl {other.shown}")
+    for rule, count in sorted(rules.items()):
+        note(f"{count} differ by the profile: {rule}")
+    ends = collections.Counter("ok" if own.kind == "ok" else str(own.number) for _, own in answered)
+    note("ends: " + ", ".join(f"{count} {end}" for end, count in sorted(ends.items())))
+    judge_rows(len(answered), wrong)
 
 
-def limits(program, scripts, ours):
+def test_scripts_under_the_number_of_their_own_commands(answered, evaluated, judge_rows):
     """A script that counts so many comes to the same under that limit, and to 14 under one less."""
-    ended = [(s, o) for s, o in zip(scripts, ours) if o.kind == "ok"][:2000]
-    same = [own_answer(line) for line in ask(program, [case(s.ours, o.count) for s, o in ended])]
-    less = [own_answer(line) for line in ask(program, [case(s.ours, o.count - 1) for s, o in ended if o.count])]
-    wrong = sum(o.shown != again.shown for (_, o), again in zip(ended, same))
-    wrong += sum(again.kind != "err" or again.number != 14 for again in less)
-    if wrong:
-        print(f"{wrong} scripts come to something else under their own limit")
-    return wrong
-
-
-if __name__ == "__main__":
-    sys.exit(main())
+    ended = [(script.ours, own) for script, own in answered if own.kind == "ok"][:LIMITED]
+    counting = [(text, own) for text, own in ended if own.count]
+    same = evaluated([(text, own.count) for text, own in ended])
+    less = evaluated([(text, own.count - 1) for text, own in counting])
+    wrong = [text for (text, own), again in zip(ended, same) if again.shown != own.shown]
+    wrong += [f"one less: {text}" for (text, _), again in zip(counting, less) if again.shown[:2] != ("err", 14)]
+    judge_rows(len(ended) + len(counting), wrong)

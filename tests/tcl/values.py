@@ -1,17 +1,13 @@
 """Compares the operators and the commands of values with those of the real tclsh, over generated cases.
 
-    values.py PROGRAM [CASES]      PROGRAM is cases_tcl, built
-
 Where the profile differs from Tcl 8.6 the expected answer is made here, each difference with its rule."""
 
-import os
 import random
 import re
-import subprocess
-import sys
-import time
 
-HERE = os.path.dirname(os.path.abspath(__file__))
+from tests.tcl.answers import ask, digits, tclsh, text_of
+
+SEED, CASES = 20261122, 20000
 SPACE = " \t\n\v\f\r"
 LIMIT = 1048576
 UNARY = ["-", "+", "~", "!"]
@@ -19,14 +15,8 @@ WHOLE_OPERATORS = ["*", "/", "%", "+", "-", "<<", ">>", "&", "^", "|"]
 ORDERS = ["<", ">", "<=", ">=", "==", "!="]
 TEXT_OPERATORS = ["eq", "ne"]
 LIST_OPERATORS = ["in", "ni"]
-
-
-def digits(text):
-    return text.encode().hex() or "-"
-
-
-def text_of(shown):
-    return "" if shown == "-" else bytes.fromhex(shown).decode()
+OF_LISTS = "list llength lindex lindex lrange split join concat".split()
+OF_STRINGS = "length index range equal compare match match first last map repeat trim trimleft trimright".split()
 
 
 def numeral(text):
@@ -67,6 +57,11 @@ def cut(answer):
     """A result outside 64 bits is refused."""
     value = int(answer)
     return ("ok", answer) if -(2**63) <= value < 2**63 else ("err", 17)
+
+
+def escaped(element):
+    """An element of a list, with a backslash before each character that may mean something there."""
+    return re.sub(r"([^A-Za-z0-9é€])", r"\\\1", element) or "{}"
 
 
 class Maker:
@@ -118,7 +113,7 @@ class Maker:
             elif element.count("{") == element.count("}") == 0 and "\\" not in element:
                 shown.append("{" + element + "}")
             else:
-                shown.append(re.sub(r"([^A-Za-z0-9é€])", r"\\\1", element) or "{}")
+                shown.append(escaped(element))
         return r.choice([" ", "  ", "\n", "\t "]).join(shown)
 
     def index(self):
@@ -148,56 +143,56 @@ class Maker:
         return ("c", *self.command())
 
     def command(self):
+        name = self.random.choice(OF_LISTS + OF_STRINGS)
+        return [name, *self.of_list(name)] if name in OF_LISTS else ["string", name, *self.of_string(name)]
+
+    def some(self, *text):
+        """A word of such a text, or none."""
+        return [self.text(*text)] if self.random.randrange(2) else []
+
+    def of_list(self, name):
+        """The words behind the name of a command of lists."""
         r = self.random
-        name = r.choice(
-            "list llength lindex lindex lrange split join concat length index range equal compare match match first last map repeat trim trimleft trimright".split()
-        )
         if name == "list":
-            return [name] + [self.text() for _ in range(r.randrange(4))]
-        if name == "llength":
-            return [name, self.list()]
-        if name == "lindex":
-            return [name, self.list(), self.index()]
-        if name == "lrange":
-            return [name, self.list(), self.index(), self.index()]
-        if name == "split":
-            return [name, self.text(12)] + ([self.text(3)] if r.randrange(2) else [])
-        if name == "join":
-            return [name, self.list()] + ([self.text(3)] if r.randrange(2) else [])
+            return [self.text() for _ in range(r.randrange(4))]
         if name == "concat":
-            return [name] + [self.text(6, " ab\tc{}") for _ in range(r.randrange(4))]
-        words = ["string", name]
-        if name == "length":
-            return words + [self.text(12)]
-        if name == "index":
-            return words + [self.text(12), self.index()]
-        if name == "range":
-            return words + [self.text(12), self.index(), self.index()]
+            return [self.text(6, " ab\tc{}") for _ in range(r.randrange(4))]
+        if name == "split":
+            return [self.text(12), *self.some(3)]
+        indexes = {"lindex": 1, "lrange": 2}.get(name, 0)
+        return [self.list(), *(self.index() for _ in range(indexes)), *(self.some(3) if name == "join" else [])]
+
+    def of_string(self, name):
+        """The words behind the name of a command of strings."""
+        r = self.random
+        if name in ("length", "index", "range"):
+            indexes = {"index": 1, "range": 2}.get(name, 0)
+            return [self.text(12), *(self.index() for _ in range(indexes))]
         if name in ("equal", "compare"):
             a = self.text(5)
-            return words + [a, a + self.text(2) if r.randrange(3) == 0 else self.text(5)]
+            return [a, a + self.text(2) if r.randrange(3) == 0 else self.text(5)]
         if name == "match":
-            return words + [self.pattern(), self.text(8, r.choice(["ab", "abc-]", "ab*[\\"]))]
+            return [self.pattern(), self.text(8, r.choice(["ab", "abc-]", "ab*[\\"]))]
         if name in ("first", "last"):
-            return words + [self.text(3, "ab"), self.text(12, "abé")]
+            return [self.text(3, "ab"), self.text(12, "abé")]
         if name == "map":
             pairs = [self.text(2, "abé") if i % 2 == 0 else self.text(3) for i in range(r.randrange(7))]
-            plain = [re.sub(r"([^A-Za-z0-9é€])", r"\\\1", p) or "{}" for p in pairs]
-            return words + [" ".join(plain), self.text(12, "abéc")]
+            return [" ".join(map(escaped, pairs)), self.text(12, "abéc")]
         if name == "repeat":
-            return words + [self.text(4), r.choice([str(r.randint(-2, 12)), "x", "1.5", "0x3"])]
-        return words + [self.text(10, " \tab\n")] + ([self.text(3, "ab ")] if r.randrange(2) else [])
+            return [self.text(4), r.choice([str(r.randint(-2, 12)), "x", "1.5", "0x3"])]
+        return [self.text(10, " \tab\n"), *self.some(3, "ab ")]
 
 
-def expected(case, tcl):
-    """What the profile wants, where Tcl answered so: `("ok", TEXT)`, `("err", NUMBER)`, `("elements",)` or None for any."""
+def expected(case, tcl, lists):
+    """What the profile wants, where Tcl answered so, and reads these texts as lists: `("ok", TEXT)`, `("err", NUMBER)` or
+    `("elements",)`."""
     failed, answer = tcl[0] == "err", text_of(tcl[1])
     if case[0] == "b":
         return expected_binary(case[1:], failed, answer)
     if case[0] == "u":
         return expected_unary(case[1:], failed, answer)
     words = list(case[1:])
-    number = index_fault(words)
+    number = index_fault(words, lists)
     if number:
         return ("err", number)
     if failed:
@@ -233,7 +228,7 @@ def expected_unary(case, failed, answer):
     return ("err", 13) if failed else cut(answer)
 
 
-def index_fault(words):
+def index_fault(words, lists):
     """17 and 18 of an index or a count, and bad indexes that Tcl knows: sums, fronts of end, and white space in front."""
     if words[0] in ("lindex", "lrange"):
         indexes = words[2:]
@@ -244,7 +239,7 @@ def index_fault(words):
         return {"large": 17, "fraction": 18, "text": 13}.get(kind)
     else:
         return None
-    if words[0] in ("lindex", "lrange") and not is_list(words[1]):
+    if words[0] in ("lindex", "lrange") and words[1] not in lists:
         return 13
     for index in indexes:
         if index == "end":
@@ -263,56 +258,39 @@ def question(case):
     return " ".join(["value", case[0], *limit, *map(digits, case[1:])])
 
 
-LISTS = {}
+def elements(lists):
+    """How tclsh reads these texts as lists: it says `list` and the elements."""
+    return ask(tclsh("values.tcl"), [f"e {digits(text)}" for text in lists])
 
 
-def is_list(text):
-    return LISTS[text]
+def results(answers):
+    """The texts of answers, empty where there is none."""
+    return [text_of(answer.split()[1]) if answer.startswith("ok") else "" for answer in answers]
 
 
-def ask(command, lines):
-    done = subprocess.run(command, input="\n".join(lines) + "\n", capture_output=True, text=True, check=False)
-    return done.stdout.splitlines()
+def shown(answer):
+    """An answer with its text as one reads it."""
+    *kind, text = answer.split()
+    return f"{' '.join(kind)} {text_of(text)!r}" if kind else answer
 
 
-def main():
-    program = sys.argv[1:2]
-    count = int(sys.argv[2]) if len(sys.argv) > 2 else 20000
-    maker = Maker(20261122)
-    cases = [maker.case() for _ in range(count)]
-    start = time.time()
-    ours = ask(program, [question(c) for c in cases])
-    took = time.time() - start
-    tclsh = ["tclsh", os.path.join(HERE, "values.tcl")]
-    lists = sorted({c[2] for c in cases if c[0] == "c" and c[1] in ("lindex", "lrange")})
-    for text, answer in zip(lists, ask(tclsh, ["e " + digits(t) for t in lists])):
-        LISTS[text] = answer.startswith("list")
-    theirs = ask(tclsh, [" ".join([c[0], *map(digits, c[1:])]) for c in cases])
-    read = iter(ask(tclsh, ["e " + (o.split()[1] if o.startswith("ok") else "-") for o in ours]))
-    again = iter(ask(tclsh, ["e " + (t.split()[1] if t.startswith("ok") else "-") for t in theirs]))
-    failures = 0
-    for case, answer, tcl in zip(cases, ours, theirs):
-        own, other = next(read), next(again)
-        want = expected(case, tcl.split())
-        parts = answer.split()
-        if want[0] == "elements":
-            right = parts[0] == "ok" and own == other
-        elif want[0] == "err":
-            right = parts[0] == "err" and int(parts[1]) == want[1]
-        else:
-            right = parts[0] == "ok" and text_of(parts[1]) == want[1]
-        if not right:
-            failures += 1
-            if failures <= 40:
-                shown = parts[:-1] + [text_of(parts[-1])] if parts[0] != "none" else parts
-                print(f"{case}: {shown}, wanted {want}, Tcl {tcl.split()[0]} {text_of(tcl.split()[1])!r}")
-    if len(ours) != count or len(theirs) != count:
-        failures += 1
-        print(f"{len(ours)} and {len(theirs)} answers to {count} cases")
-    print(f"{took:.1f} s for {count} cases")
-    print(f"{count - failures} passed, {failures} failed")
-    return 1 if failures else 0
+def is_met(want, own, same_elements):
+    """Whether the program's own answer, in parts, is the wanted one."""
+    if want[0] == "err":
+        return own[0] == "err" and int(own[1]) == want[1]
+    return own[0] == "ok" and (same_elements if want[0] == "elements" else text_of(own[1]) == want[1])
 
 
-if __name__ == "__main__":
-    sys.exit(main())
+def test_generated_values(built, judge_rows):
+    maker = Maker(SEED)
+    cases = [maker.case() for _ in range(CASES)]
+    ours = ask([built("cases_tcl")], map(question, cases))
+    theirs = ask(tclsh("values.tcl"), [" ".join([case[0], *map(digits, case[1:])]) for case in cases])
+    indexed = sorted({case[2] for case in cases if case[0] == "c" and case[1] in ("lindex", "lrange")})
+    lists = {text for text, answer in zip(indexed, elements(indexed)) if answer.startswith("list")}
+    wrong = []
+    for case, own, tcl, one, other in zip(cases, ours, theirs, elements(results(ours)), elements(results(theirs))):
+        want = expected(case, tcl.split(), lists)
+        if not is_met(want, own.split(), one == other):
+            wrong.append(f"{case}: {shown(own)}, wanted {want}, Tcl {shown(tcl)}")
+    judge_rows(len(cases), wrong)
