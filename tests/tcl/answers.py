@@ -35,7 +35,7 @@ def in_words(answer):
 
 
 def digits(text):
-    """A text in hexadecimal digits, where `-` is the empty one."""
+    """A text in hexadecimal digits, as scripts.tcl reads it. The empty one is `-`."""
     return text.encode().hex() or "-"
 
 
