@@ -118,7 +118,7 @@ step_by m asks rs (InStep records) f rest =
     ∙ (kept_step (with_records m rs) rest (and_from (list_all is_reversible rs) (are_in_step (used_by rs)) f.1 f.2)
     ∙ ap (λ (o : Option Module). filter is_in_step (cons_option o rest)) (sym (plainly m rs f.1))))
 
-step_one : (m : SiteModule) (outcome : Result code.Ran Refusal) (out : Result Ran RequestReason) (finding : ModuleFinding) → IsOutcome outcome out → IsFinding outcome finding → (rest : List Module)
+step_one : (m : SiteModule) (outcome : Result code.FileRun Refusal) (out : Result Ran RequestReason) (finding : ModuleFinding) → IsOutcome outcome out → IsFinding outcome finding → (rest : List Module)
     → steps_of m finding ++ filter is_in_step rest ≡ filter is_in_step (cons_option (plain_of (m, out)) rest)
 step_one m (Err refusal) out finding o f rest =
     ap (λ (k : ModuleFinding). steps_of m k ++ filter is_in_step rest) f ∙ sym (ap (λ (x : Result Ran RequestReason). filter is_in_step (cons_option (plain_of (m, x)) rest)) o.2)
@@ -260,7 +260,7 @@ stands_ran site ms m ran (InStep records) answers more j e o f h =
     answered site ms m ran.records answers more j (plain_records site m ran e f.0 f.1) o (and_from (list_all is_reversible ran.records) (are_in_step (used_by ran.records)) f.1 f.2)
     (subst (λ (l : List Record). AreAnswers (in_step_of ms) (with_records m l ∷ more) answers) f.3 h)
 
-stands_one : (site : Site) (ms : List Module) (m : SiteModule) (outcome : Result code.Ran Refusal)
+stands_one : (site : Site) (ms : List Module) (m : SiteModule) (outcome : Result code.FileRun Refusal)
     (out : Result Ran RequestReason) (finding : ModuleFinding) (answers : List (Option Clash)) (more : List Module)
     → IsJudging site ms → IsOutcome outcome out → IsFinding outcome finding → EvaluatesTo site m out → IsOfSite site m → AreAnswers (in_step_of ms) (steps_of m finding ++ more) answers
     → StandsAs site ms m (standing_with (standing_of finding) answers)
@@ -302,7 +302,7 @@ files_are ((e, finding) ∷ shown) ((m, out) ∷ outs) answers (one, more) =
     ∙ ap (λ (k : SiteModule). k ∷ map (λ (o : Evaluated). o.0) outs) (sym (same_file e (m, out) one))
 
 -- a finding that is decided is no certificate
-undecided : (standing : Standing) (outcome : Result code.Ran Refusal) → IsFinding outcome (Stands standing) → is_certified standing ≡ false
+undecided : (standing : Standing) (outcome : Result code.FileRun Refusal) → IsFinding outcome (Stands standing) → is_certified standing ≡ false
 undecided Certified (Ok ran) f = absurd f
 undecided Certified (Err refusal) f = absurd (cc)
 undecided (Asks question) outcome f = refl

@@ -176,7 +176,7 @@ record IsOfRan (known : Text → Bool) (m : SiteModule) (out : Result Ran Reques
   accepted : out ≡ Ok ran
   of_it : IsOf known m ran.records mention
 
-of_outcome : (known : Text → Bool) (m : SiteModule) (outcome : Result code.Ran Refusal) (out : Result Ran RequestReason)
+of_outcome : (known : Text → Bool) (m : SiteModule) (outcome : Result code.FileRun Refusal) (out : Result Ran RequestReason)
     (mention : Mention) → IsOutcome outcome out → IsAmong mention (unknown_after known m outcome)
     → IsOfRan known m out mention
 of_outcome known m (Ok ran) out mention o a = record { ran = ran_view ran o.0; accepted = o.1; of_it = of_records known m (map record_view ran.records.items) mention a }
@@ -188,7 +188,7 @@ ok_is a b e = cc
 refused_is : (reason : RequestReason) (a : Ran) → ◌≡◌ {A = Result Ran RequestReason} (Err reason) (Ok a) → ⊥
 refused_is reason a e = cc
 
-in_outcome : (known : Text → Bool) (m : SiteModule) (outcome : Result code.Ran Refusal) (out : Result Ran RequestReason)
+in_outcome : (known : Text → Bool) (m : SiteModule) (outcome : Result code.FileRun Refusal) (out : Result Ran RequestReason)
     (ran : Ran) (b : Bool) (names : List Text) → IsOutcome outcome out → out ≡ Ok ran
     → AreMentioned ran.records b names → list_any known names ≡ false → IsAmong (record { by = m; is_prereq = b; names = names }) (unknown_after known m outcome)
 in_outcome known m (Ok done) out ran b names o e a f =

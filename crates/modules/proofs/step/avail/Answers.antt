@@ -22,7 +22,7 @@ returns-clause-over_tree g c = λ files listings a.
       ls,
       subst (λ (path : Text). Listed (HasResult c.args.settings.limits) files listings path ls) c.modulepath.ensures (c.in_ok-listings.ensures.listed files listings a),
       ap Ok (c.done_with_report.ensures e ∙ ap (λ (t : Text). with_report (nothing_done e) [] t)
-          (c.in_ok-text.ensures ∙ ap (λ (vs : List code.Listing). avail_text texts (map listing_view vs))
+          (c.in_ok-text.ensures ∙ ap (λ (vs : List code.DirectoryListing). avail_text texts (map listing_view vs))
           c.as_slice.ensures.value)),
     )
 
