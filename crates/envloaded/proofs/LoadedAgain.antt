@@ -348,7 +348,7 @@ from_found f g (x ∷ xs) h d a =
     ap (λ (y : Entry). y ∷ entries_from f g (names_of xs) (map (λ z. z.path) xs)) (same_entry x _ _ c p) ∙ ap (λ (l : List Entry). x ∷ l) (from_found f g xs k.1 e.1 a.1)
 
 -- The names and the files fit together.
-good_names : (xs : List Entry) → list_all is_entry xs ≡ true → list_all is_module_name (names_of xs) ≡ true
+pub good_names : (xs : List Entry) → list_all is_entry xs ≡ true → list_all is_module_name (names_of xs) ≡ true
 good_names [] h = refl
 good_names (x ∷ xs) h = let k = both_true (is_entry x) (list_all is_entry xs) h in and_both (is_module_name x.name) (list_all is_module_name (names_of xs)) (good x k.0).name (good_names xs k.1)
 

@@ -1,17 +1,23 @@
 -- Edits leave the loaded list in order.
 use Rattle.std.proofs.Common.{◌≡◌, Bool, true, false, cond, List, [], ◌∷◌, ◌++◌, refl, sym, ap, ◌∙◌, subst, Option}
-use Rattle.std.proofs.Common.{Some, None, Result, Ok, Err}
+use Rattle.std.proofs.Common.{Some, None, Result, Ok, Err, IsTrue}
 use Rattle.std.specs.Prelude.{bytes_eq, if◌then◌else◌}
+use Rattle.std.specs.List.{list_all}
 use Rattle.envvars.specs.Texts.{Text, has}
 use Rattle.envvars.specs.Environment.{Environment, lookup, with_value}
 use Rattle.envloaded.specs.LoadedTexts.{names_variable, files_variable, conflicts_variable, prereqs_variable}
 use Rattle.envloaded.specs.Loaded.{Entry, names_of, names_text, files_text, conflicts_text, prereqs_text, loaded_in}
-use Rattle.envloaded.specs.Loaded.{with_loaded, IsLoadedList, AreLoadedInOrder, can_be_added, with_conflicts_once}
-use Rattle.envloaded.specs.Loaded.{added_to, added_loaded, without_entry, dropped_from, dropped_loaded}
+use Rattle.envloaded.specs.Loaded.{loaded_changes, with_loaded, IsLoadedList, AreLoadedInOrder, can_be_added}
+use Rattle.envloaded.specs.Loaded.{with_conflicts_once, added_to, added_loaded, without_entry, dropped_from}
+use Rattle.envloaded.specs.Loaded.{dropped_loaded}
+use Rattle.envvars.specs.Changes.{NewValue, same_value, applied}
 use Rattle.envvars.specs.Reasons.{EnvReason, inconsistent}
-use Rattle.envvars.proofs.EnvLemmas.{lookup-with_value, same_environment}
+use Rattle.envvars.proofs.EnvLemmas.{lookup-with_value, same_environment, with_value-same}
+use Rattle.envvars.proofs.ChangeLemmas.{same_value_is}
+use Rattle.envvars.proofs.EditLemmas.{both_true, and_both}
 use Rattle.envloaded.proofs.LoadedReadable.{loaded_readable}
 use Rattle.envloaded.proofs.LoadedEdits.{list_push, list_less}
+use Rattle.envloaded.proofs.LoadedAgain.{at_names, at_files, at_conflicts, at_prereqs, loaded_again}
 
 -- a list that is written twice is written once
 abbrev chosen : (a b c d : Bool) (p q r s o : Option Text) → Option Text
@@ -87,3 +93,43 @@ drop_keeps_order old new name o h = at (loaded_in old) refl
     at : (o : Option (List Entry)) → loaded_in old ≡ o → AreLoadedInOrder new
     at None e = let k : dropped_from old name None ≡ Ok new = sym (ap (dropped_from old name) e) ∙ h in cc
     at (Some xs) e = at_list xs e (has name (names_of xs)) refl
+
+-- the list that is read is in order exactly where writing it changes nothing
+
+made_already : (cs : List NewValue) (e : Environment) → list_all (λ c. same_value (lookup e c.0) c.1) cs ≡ true → applied cs e ≡ e
+made_already [] e h = refl
+made_already (c ∷ cs) e h =
+    let b = both_true (same_value (lookup e c.0) c.1) (list_all (λ (d : NewValue). same_value (lookup e d.0) d.1) cs) h in
+    let same : with_value e c.0 c.1 ≡ e = ap (with_value e c.0) (sym ((same_value_is _ (lookup e c.0) c.1 refl).0 b.0)) ∙ with_value-same e c.0 in
+    ap (applied cs) same ∙ made_already cs e b.1
+
+made_next : (e : Environment) (c : NewValue) (cs : List NewValue) → lookup e c.0 ≡ c.1
+    → list_all (λ d. same_value (lookup e d.0) d.1) cs ≡ true
+    → list_all (λ d. same_value (lookup e d.0) d.1) (c ∷ cs) ≡ true
+made_next e c cs h k = and_both (same_value (lookup e c.0) c.1) (list_all (λ (d : NewValue). same_value (lookup e d.0) d.1) cs) ((same_value_is _ (lookup e c.0) c.1 refl).1 h) k
+
+all_made : (e : Environment) (xs : List Entry) → with_loaded e xs ≡ e → list_all (λ c. same_value (lookup e c.0) c.1) (loaded_changes xs) ≡ true
+all_made e xs w =
+    let at : (name : Text) (t : Option Text) → lookup (with_loaded e xs) name ≡ t → lookup e name ≡ t = λ name t h. ap (λ (d : Environment). lookup d name) (sym w) ∙ h in
+    let p : NewValue = (prereqs_variable, prereqs_text xs) in
+    let c : NewValue = (conflicts_variable, conflicts_text xs) in
+    let f : NewValue = (files_variable, files_text xs) in
+    made_next e (names_variable, names_text xs) (f ∷ c ∷ p ∷ []) (at names_variable (names_text xs) (at_names e xs))
+    (made_next e f (c ∷ p ∷ []) (at files_variable (files_text xs) (at_files e xs))
+    (made_next e c (p ∷ []) (at conflicts_variable (conflicts_text xs) (at_conflicts e xs)) (made_next e p [] (at prereqs_variable (prereqs_text xs) (at_prereqs e xs)) refl)))
+
+pub order_is_read : (e : Environment) (o : AreLoadedInOrder e) → loaded_in e ≡ Some o.entries
+order_is_read e o = ap loaded_in (sym o.written) ∙ loaded_again e o.entries o.list
+
+same_list : (o : Option (List Entry)) (xs ys : List Entry) → o ≡ Some xs → o ≡ Some ys → xs ≡ ys
+same_list o xs ys h k = cc
+
+pub order_decided : (e : Environment) (xs : List Entry) (b : Bool) → loaded_in e ≡ Some xs → b ≡ list_all (λ c. same_value (lookup e c.0) c.1) (loaded_changes xs)
+    → (IsTrue b → AreLoadedInOrder e) × (AreLoadedInOrder e → IsTrue b)
+order_decided e xs b h test = (
+  λ t. record { entries = xs; list = loaded_readable e xs h; written = made_already (loaded_changes xs) e (sym test ∙ t) },
+  λ o. test ∙ all_made e xs (subst (λ (ys : List Entry). with_loaded e ys ≡ e) (same_list (loaded_in e) o.entries xs (order_is_read e o) h) o.written),
+)
+
+pub unread_unordered : (e : Environment) → loaded_in e ≡ None → (IsTrue false → AreLoadedInOrder e) × (AreLoadedInOrder e → IsTrue false)
+unread_unordered e h = (λ t. cc, λ o. let g : (let p : Option (List Entry) = None in p) ≡ Some o.entries = sym h ∙ order_is_read e o in cc)

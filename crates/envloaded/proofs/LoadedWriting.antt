@@ -19,7 +19,6 @@ use Rattle.envloaded.specs.Loaded.{with_loaded, is_group, can_be_added, without_
 use Rattle.envloaded.specs.Loaded.{with_conflicts_once, entry_named}
 use Rattle.envloaded.specs.LoadedEntries.{entry_view}
 use Rattle.envloaded.proofs.ElementLemmas.{elements_more, element_written}
-use Rattle.envvars.specs.Reasons.{inconsistent}
 use Rattle.envloaded.specs.declared.entry.Loaded.{Loaded}
 use Rattle.envvars.proofs.TextLemmas.{bytes_eq-symmetric, or_left, or_right}
 use Rattle.envvars.specs.declared.fault.EnvFault.{EnvFault}
@@ -112,10 +111,6 @@ names_there (n ∷ ns) h = refl
 pub group_is : (names : List (String Global)) (a : Bool) → 0 < length names → a ≡ list_all (λ name. is_module_name (string_bytes name)) names → a ≡ is_group (map string_bytes names)
 group_is names a h e = e ∙ sym (list_all-map is_module_name string_bytes names) ∙ (rw (names_there names h) refl)
 
-pub no_group_is : (names : List (String Global)) → length names ≡ 0 → false ≡ is_group (map string_bytes names)
-no_group_is [] h = refl
-no_group_is (n ∷ ns) h = absurd (omega arith)
-
 pub words_are : (x : Loaded) → (list_all (λ name. is_module_name (string_bytes name)) x.conflicts.items && list_all (λ group. is_group (texts_in group)) x.prereqs.items)
     ≡ (list_all is_module_name (entry_view x).conflicts && list_all is_group (entry_view x).prereqs)
 words_are x =
@@ -125,9 +120,6 @@ words_are x =
 pub added_is : (e : Environment) (x : Entry) (entries : List Entry) (b : Bool) → b ≡ can_be_added entries x → b ≡ true
     → added_to e x (Some entries) ≡ Ok (with_loaded e (entries ++ with_conflicts_once x ∷ []))
 added_is e x entries b k t = rw (sym k ∙ t) refl
-
-pub not_added_is : (e : Environment) (x : Entry) (entries : List Entry) (b : Bool) → b ≡ can_be_added entries x → b ≡ false → added_to e x (Some entries) ≡ Err inconsistent
-not_added_is e x entries b k t = rw (sym k ∙ t) refl
 
 pub dropped_is : (e : Environment) (name : Text) (entries : List Entry) (b : Bool) → b ≡ has name (names_of entries)
     → b ≡ true → dropped_from e name (Some entries) ≡ Ok (with_loaded e (without_entry name entries))

@@ -236,18 +236,19 @@ fn entries_from_elements(
 }
 
 /// The loaded modules in load order, read from `LOADEDMODULES`, `_LMFILES_`, `__MODULES_LMCONFLICT` and
-/// `__MODULES_LMPREREQ` (module(1), ENVIRONMENT).
-///
-/// The error is `Inconsistent` where there aren't as many names as paths, a path is empty, or a name is empty, ill
-/// spelled or there twice; or it is `OutOfMemory`. The texts of conflicts and prereqs are never a reason: what is ill
-/// spelled in them is passed over.
-pub fn loaded<V: Vars>(alloc: Global, env: &V) -> Result<Vec<Loaded>, EnvFault>
-    ensures { GivesList result (loaded_in (V.vars env.now)) }
+/// `__MODULES_LMPREREQ` (module(1), ENVIRONMENT); none where the first two are inconsistent: there aren't as many names
+/// as paths, a path is empty, or a name is empty, ill spelled or there twice. The texts of conflicts and prereqs are
+/// never a reason: what is ill spelled in them is passed over.
+pub fn loaded_if_consistent<V: Vars>(
+    alloc: Global,
+    env: &V,
+) -> Result<Option<Vec<Loaded>>, AllocError>
+    ensures { IfOk result (λ found. option_map (λ v. map entry_view v.items) found ≡ loaded_in (V.vars env.now)) }
 {
     let names = elements(alloc, env.get(NAMES))?;
     let files = elements(alloc, env.get(FILES))?;
     if !are_consistent(alloc, names.as_slice(), files.as_slice())? {
-        return Err(EnvFault::Inconsistent);
+        return Ok(None);
     }
     let conflicts = elements(alloc, env.get(CONFLICTS))?;
     let prereqs = elements(alloc, env.get(PREREQS))?;
@@ -258,7 +259,19 @@ pub fn loaded<V: Vars>(alloc: Global, env: &V) -> Result<Vec<Loaded>, EnvFault>
         conflicts.as_slice(),
         prereqs.as_slice(),
     )?;
-    Ok(entries)
+    Ok(Some(entries))
+}
+
+/// The loaded modules in load order, as `loaded_if_consistent` reads them.
+///
+/// The error is `Inconsistent` where that gives none, or `OutOfMemory`.
+pub fn loaded<V: Vars>(alloc: Global, env: &V) -> Result<Vec<Loaded>, EnvFault>
+    ensures { GivesList result (loaded_in (V.vars env.now)) }
+{
+    match loaded_if_consistent(alloc, env)? {
+        Some(entries) => Ok(entries),
+        None => Err(EnvFault::Inconsistent),
+    }
 }
 
 /// A copy of the entry.

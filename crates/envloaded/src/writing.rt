@@ -11,7 +11,7 @@ ghost use Rattle.envloaded.specs.Loaded.{names_of, names_text, files_text, confl
 ghost use Rattle.envloaded.specs.Loaded.{prereq_elements, prereqs_text, loaded_changes, is_path, is_group, is_entry};
 ghost use Rattle.envloaded.specs.Loaded.{can_be_added, with_conflicts_once};
 ghost use Rattle.envloaded.specs.LoadedEntries.{entry_view};
-ghost use Rattle.envvars.specs.Texts.{has, texts_in};
+ghost use Rattle.envvars.specs.Texts.{has, slice_texts, texts_in};
 
 use crate::entry::Loaded;
 use crate::list::{CONFLICTS, FILES, NAMES, PREREQS};
@@ -20,14 +20,22 @@ use envvars::{Change, push_change};
 use modulename::is_module_name;
 use std::alloc::{AllocError, Global};
 
-/// The text of `LOADEDMODULES`: the names, in load order; none for an empty list.
-fn names_text(alloc: Global, list: &[Loaded]) -> Result<Option<String>, AllocError>
-    ensures { IfOk result (λ t. option_map string_bytes t ≡ names_text (map entry_view list.now)) }
+/// The names of the modules in a list, in load order.
+pub fn names_of(alloc: Global, list: &[Loaded]) -> Result<Vec<&str>, AllocError>
+    ensures { IfOk result (λ v. slice_texts v.items ≡ names_of (map entry_view list.entry.now)) }
 {
     let mut names = Vec::with_capacity(alloc, list.len())?;
     for entry in list {
         names.push(entry.name.as_str())?;
     }
+    Ok(names)
+}
+
+/// The text of `LOADEDMODULES`: the names, in load order; none for an empty list.
+fn names_text(alloc: Global, list: &[Loaded]) -> Result<Option<String>, AllocError>
+    ensures { IfOk result (λ t. option_map string_bytes t ≡ names_text (map entry_view list.now)) }
+{
+    let names = names_of(alloc, list)?;
     text_of_elements(alloc, names.as_slice())
 }
 

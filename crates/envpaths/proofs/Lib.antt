@@ -11,5 +11,3 @@ pub mod PathOrderLemmas
 pub mod UncountedLemmas
 pub mod ElementSearch
 pub mod OneElement
-pub mod CopyLemmas
-pub mod PathAnew

@@ -1,13 +1,13 @@
 -- What edits of path variables leave in an environment.
 use Rattle.std.proofs.Common.{◌≡◌, ℕ, ◌-◌, ◌≤◌, Bool, true, false, cond, not, ◌||◌, ◌&&◌, List, [], ◌∷◌, ◌++◌, refl}
-use Rattle.std.proofs.Common.{sym, ap, ◌∙◌, subst, arith, ltb, leb, eqb, Option, Some, None, Result, Ok, Err}
+use Rattle.std.proofs.Common.{sym, ap, ◌∙◌, subst, arith, ltb, leb, eqb, Ok, Err, IsTrue, string_bytes}
 use Rattle.std.specs.Prelude.{bytes_eq, if◌then◌else◌}
 use Rattle.std.specs.List.{list_all, list_any, AllByRecursion}
 use Rattle.std.proofs.Math.ListN.{length}
 use Rattle.std.proofs.lemmas.Bool.{false≢true}
 use Rattle.std.proofs.lemmas.Bool.Decides.{nat_tests}
 use Rattle.envvars.specs.Texts.{Text, has}
-use Rattle.std.specs.Option.{option_or}
+use Rattle.std.specs.Option.{option_map}
 use Rattle.envvars.specs.Names.{share_name, name_reason}
 use Rattle.envvars.specs.Environment.{Environment, lookup, with_value}
 use Rattle.envvars.specs.Fields.{without}
@@ -16,22 +16,20 @@ use Rattle.envpaths.specs.Paths.{add_back, add_all, drop_all}
 use Rattle.envpaths.specs.PathTexts.{is_delimiter, HasNoDelimiter, IsWritable, state_of, elements_text, pairs_text}
 use Rattle.envpaths.specs.PathVariables.{path_in, with_path, is_element, counters_fit, path_reason, added_path}
 use Rattle.envpaths.specs.PathVariables.{dropped_path, written_path}
+use Rattle.envpaths.specs.PathEdits.{AreTexts}
 use Rattle.envpaths.specs.PathOrder.{IsPathInOrder, LeavesPath}
-use Rattle.envvars.specs.Reasons.{EnvReason, unless, counter_full, bad_value}
+use Rattle.envpaths.specs.declared.path.PathTexts.{PathTexts}
+use Rattle.envvars.specs.Reasons.{EnvReason, counter_full}
 use Rattle.envpaths.specs.declared.adding.End.{End}
 use Rattle.envpaths.specs.declared.adding.End.TheVariants.{Front, Back}
 use Rattle.envvars.proofs.TextLemmas.{same_text, bytes_eq-same}
+use Rattle.envvars.proofs.EditLemmas.{both_true, passes_each, looked, no_reason, no_value_reason, same_ok}
 use Rattle.envvars.proofs.EnvLemmas.{lookup-with_value}
 use Rattle.envpaths.proofs.PathLemmas.{IsPathState-add, IsPathState-drop}
 use Rattle.envpaths.proofs.RoundTrip.{state_of-written, unparted_filter}
 use Rattle.envpaths.proofs.Readable.{IsWritable-state_of}
 
 -- elements without the delimiter
-
-both_true : (a b : Bool) → (a && b) ≡ true → (a ≡ true) × (b ≡ true)
-both_true true true h = (refl, refl)
-both_true true false h = absurd (false≢true h)
-both_true false b h = absurd (false≢true h)
 
 neither : (a b : Bool) → not (a || b) ≡ true → a ≡ false
 neither true b h = absurd (false≢true h)
@@ -79,14 +77,6 @@ sound_all : (d : ℕ) (s : PathState) (xs : List Text) (end : End) → list_all 
 sound_all d s xs Front e h = sound_front d s xs e h
 sound_all d s xs Back e h = sound_back d s xs e h
 
-passes_at : (p : Text → Bool) (x y : Text) (ys : List Text) (b : Bool) → bytes_eq x y ≡ b → (p y && list_all p ys) ≡ true → (b || has x ys) ≡ true → (has x ys ≡ true → p x ≡ true) → p x ≡ true
-passes_at p x y ys true e a h k = ap p (same_text x y e) ∙ (both_true (p y) (list_all p ys) a).0
-passes_at p x y ys false e a h k = k h
-
-pub passes_each : (p : Text → Bool) (x : Text) (xs : List Text) → list_all p xs ≡ true → has x xs ≡ true → p x ≡ true
-passes_each p x [] a h = absurd (false≢true h)
-passes_each p x (y ∷ ys) a h = passes_at p x y ys (bytes_eq x y) refl a h (λ k. passes_each p x ys (both_true (p y) (list_all p ys) a).1 k)
-
 fits_at : (n : ℕ) (h : Bool) → h ≡ ltb 0 n → (h ≡ true → leb n largest_counter ≡ true) → n ≤ largest_counter
 fits_at n true e k = let l : leb n largest_counter ≡ true = k refl in grind (arith, nat_tests)
 fits_at n false e k = let l : ltb 0 n ≡ false = sym e in grind (arith, nat_tests)
@@ -124,9 +114,6 @@ share_apart name = apart (bytes_eq name (share_name name)) refl
     apart true e = let l : length name ≡ length (share_name name) = ap length (same_text name (share_name name) e) in absurd (omega arith)
     apart false e = refl
 
-looked : (b : Bool) (v o : Option Text) → b ≡ false → cond b v o ≡ o
-looked b v o e = ap (λ (t : Bool). cond t v o) e
-
 lookup-elements : (e : Environment) (name : Text) (d : ℕ) (s : PathState) → lookup (with_path e name d s) name ≡ elements_text d s.elements
 lookup-elements e name d s =
     lookup-with_value (with_value e name (elements_text d s.elements)) (share_name name) (pairs_text s) name ∙ looked (bytes_eq name (share_name name)) _ _ (share_apart name)
@@ -159,29 +146,16 @@ record Accepts (old new : Environment) (name : Text) (d : ℕ) (s : PathState) :
   written : new ≡ with_path old name d s
   writable : IsWritable d s
 
-no_reason : (o : Option EnvReason) (r : Result Environment EnvReason) (new : Environment) → unless o r ≡ Ok new → (o ≡ None) × (r ≡ Ok new)
-no_reason None r new h = (refl, h)
-no_reason (Some x) r new h = cc
-
-no_value_reason : (o : Option EnvReason) (name : Text) (b t : Bool) → option_or o (if b && t then None else Some (bad_value name)) ≡ None → t ≡ true
-no_value_reason None name true true h = refl
-no_value_reason None name true false h = cc
-no_value_reason None name false t h = cc
-no_value_reason (Some x) name b t h = cc
-
 fits_from : (t : Bool) (e new : Environment) (r : EnvReason) → (if t then Ok e else Err r) ≡ Ok new → (t ≡ true) × (new ≡ e)
 fits_from true e new r h = (refl, cc)
 fits_from false e new r h = cc
-
-same_ok : (e new : Environment) (r : Result Environment EnvReason) → r ≡ Ok e → r ≡ Ok new → new ≡ e
-same_ok e new r a h = cc
 
 add_accepts : (old new : Environment) (name : Text) (d : ℕ) (xs : List Text) (end : End) → added_path old name d xs end ≡ Ok new → Accepts old new name d (add_all (path_in old name d) xs end)
 add_accepts old new name d xs end h =
     let g = no_reason (path_reason name d xs) (written_path old name d (add_all (path_in old name d) xs end)) new h in
     let f = fits_from (counters_fit (add_all (path_in old name d) xs end)) (with_path old name d (add_all (path_in old name d) xs end)) new (counter_full name) g.1 in
-    let e = no_value_reason (name_reason name) name (is_delimiter d) (list_all (is_element d) xs) g.0 in
-    record { written = f.1; writable = IsWritable-add_all d (path_in old name d) xs end (IsWritable-state_of d (lookup old name) (lookup old (share_name name))) e f.0 }
+    let e = both_true (is_delimiter d) (list_all (is_element d) xs) (no_value_reason (name_reason name) name (is_delimiter d && list_all (is_element d) xs) g.0) in
+    record { written = f.1; writable = IsWritable-add_all d (path_in old name d) xs end (IsWritable-state_of d (lookup old name) (lookup old (share_name name))) e.1 f.0 }
 
 drop_accepts : (old new : Environment) (name : Text) (d : ℕ) (xs : List Text) → dropped_path old name d xs ≡ Ok new → Accepts old new name d (drop_all (path_in old name d) xs)
 drop_accepts old new name d xs h =
@@ -204,3 +178,16 @@ LeavesPath-added old new name d xs end h = leaves old new name d _ (add_accepts 
 
 pub LeavesPath-dropped : (old new : Environment) (name : Text) (d : ℕ) (xs : List Text) → dropped_path old name d xs ≡ Ok new → LeavesPath old new name d (drop_all (path_in old name d) xs)
 LeavesPath-dropped old new name d xs h = leaves old new name d _ (drop_accepts old new name d xs h)
+
+-- a path is in order exactly where its texts are those that its state is written as
+pub order_decided : (e : Environment) (name share : Text) (d : ℕ) (s : PathState) (texts : PathTexts) (b : Bool) → share ≡ share_name name → s ≡ path_in e name d → AreTexts texts d s
+    → (IsTrue b → (lookup e name ≡ option_map string_bytes texts.elements) × (lookup e share ≡ option_map string_bytes texts.counters))
+    × ((lookup e name ≡ option_map string_bytes texts.elements) × (lookup e share ≡ option_map string_bytes texts.counters) → IsTrue b)
+    → (IsTrue b → IsPathInOrder e name d) × (IsPathInOrder e name d → IsTrue b)
+order_decided e name share d s texts b named read written held =
+    let t : option_map string_bytes texts.elements ≡ elements_text d (path_in e name d).elements = written.elements ∙ ap (λ (k : PathState). elements_text d k.elements) read in
+    let u : option_map string_bytes texts.counters ≡ pairs_text (path_in e name d) = written.counters ∙ ap pairs_text read in
+    let same : lookup e share ≡ lookup e (share_name name) = ap (lookup e) named in (
+      λ k. let h = held.0 k in record { elements = h.0 ∙ t; counters = sym same ∙ (h.1 ∙ u) },
+      λ o. held.1 (o.elements ∙ sym t, same ∙ (o.counters ∙ sym u)),
+    )

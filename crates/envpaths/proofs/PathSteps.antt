@@ -62,14 +62,6 @@ no_number false c e = refl
 pub unnoted : (m : CounterTable) (x number : Text) → None ≡ counter_of number → (y : Text) → m y ≡ overwritten_by ((x, number) ∷ []) m y
 unnoted m x number e y = none_over (m y) _ (no_number (bytes_eq y x) (counter_of number) (sym e))
 
-absent_at : (b : Bool) (o c : Option ℕ) → (b ≡ true → o ≡ None) → o ≡ option_map (λ k. unwrap_or (option_or (if b then c else None) None) k) o
-absent_at true o c h = rw (h refl) refl
-absent_at false None c h = refl
-absent_at false (Some k) c h = refl
-
-pub unnoted_absent : (m : CounterTable) (x number : Text) → None ≡ m x → (y : Text) → m y ≡ overwritten_by ((x, number) ∷ []) m y
-unnoted_absent m x number e y = absent_at (bytes_eq y x) (m y) (counter_of number) (λ b. ap m (same_text y x b) ∙ sym e)
-
 noted_at : (b : Bool) (o : Option ℕ) (k j : ℕ) (c : Option ℕ) → Some k ≡ c → (b ≡ true → o ≡ Some j) → cond b (Some k) o ≡ option_map (λ i. unwrap_or (option_or (if b then c else None) None) i) o
 noted_at true o k j c e h = rw (h refl, ← e) refl
 noted_at false None k j c e h = refl

@@ -2,7 +2,7 @@
 use Rattle.std.proofs.Common.{◌≡◌, ◌≢◌, ℕ, ◌+◌, ◌<◌, ◌≤◌, Bool, true, false, cond, not, ◌||◌, List, [], ◌∷◌, ◌++◌, refl}
 use Rattle.std.proofs.Common.{sym, ap, ◌∙◌, arith, leb, Option, Some, None, Result, Ok, Err, Bor, get_or, append_assoc}
 use Rattle.std.proofs.Common.{append-nil, string_bytes, drop as cut}
-use Rattle.std.specs.Prelude.{filter, flat_map, bytes_eq, unwrap_or, decimal, encode_utf8, if◌then◌else◌}
+use Rattle.std.specs.Prelude.{filter, flat_map, bytes_eq, unwrap_or, decimal, if◌then◌else◌}
 use Rattle.std.specs.Option.{option_map}
 use Rattle.std.specs.Result.{IfOk}
 use Rattle.std.specs.List.{list_any, join_with_byte}
@@ -11,7 +11,6 @@ use Rattle.std.proofs.Math.ListN.{length}
 use Rattle.std.specs.Map as maps
 use Rattle.std.proofs.lemmas.Bool.{false≢true}
 use Rattle.std.proofs.lemmas.Bool.Decides.{nat_tests}
-use Rattle.std.proofs.lemmas.Str.{encode_ascii}
 use Rattle.std.proofs.lemmas.List.{drop_more, at_drop_all}
 use Rattle.indexmap.specs.IndexMap.{IndexMap, values}
 use Rattle.envvars.specs.Texts.{Text, slice_texts}
@@ -58,11 +57,6 @@ pair-pushed old split_elements new element fs count l p h e =
     let b : leb 2 count ≡ true = grind (arith, nat_tests) in
     pushed_behind old new (escaped element) (decimal count) fs e (h ∙ ap (λ (t : Text). t ++ (escaped element ++ 58 ∷ decimal count)) p)
     ∙ ap (λ (c : Bool). text_of_elements (fs ++ cond c (escaped element ∷ decimal count ∷ []) [])) (sym b)
-
--- a text behind which a field is put
-pub split_elements-text : (text : Text) → length text ≢ 0 → text ++ encode_utf8 58 ≡ with_separator text
-split_elements-text [] h = absurd (h refl)
-split_elements-text (b ∷ bs) h = ap (λ (l : Text). (b ∷ bs) ++ l) (encode_ascii 58 (omega arith))
 
 -- one element after another
 

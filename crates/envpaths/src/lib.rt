@@ -4,7 +4,6 @@
 #![tactic(auto)]
 
 mod adding;
-pub mod copies;
 mod counters;
 mod dropping;
 mod edits;

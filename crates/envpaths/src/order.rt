@@ -1,33 +1,37 @@
 //! Whether a path variable is in order.
-ghost use Rattle.std.specs.Prelude.{◌≡◌, ◌↔◌, ◌≤◌, IfOk, IfErr, IsTrue};
-ghost use Rattle.envvars.specs.declared.fault.EnvFault.TheVariants.{OutOfMemory};
+ghost use Rattle.std.specs.Prelude.{◌≡◌, ◌↔◌, ◌<◌, string_bytes, IfOk, IsTrue};
+ghost use Rattle.std.specs.Option.{option_map};
+ghost use Rattle.envvars.specs.Environment.{lookup};
 ghost use Rattle.envpaths.specs.PathOrder.{IsPathInOrder};
 
-use crate::copies::{COPY, copy_of, is_kept};
-use crate::edits::drop_path;
-use envvars::{Env, EnvFault, share_name};
-use std::alloc::Global;
+use crate::path::PathTexts;
+use crate::texts::read_path;
+use crate::writing::write_path;
+use envvars::{Env, has_value, share_name};
+use std::alloc::{AllocError, Global};
 
-/// The variable of the counters of a copy.
-const COUNTERS: &str = "__MODULES_SHARE_V";
+/// Whether a variable and that of its counters have these texts.
+fn are_held(env: &Env, variable: &str, share: &str, texts: &PathTexts) -> bool
+    ensures { IsTrue result ↔ (lookup env.now variable.now ≡ option_map string_bytes texts.now.elements)
+        × (lookup env.now share.now ≡ option_map string_bytes texts.now.counters) }
+{
+    has_value(env, variable, texts.elements.as_deref())
+        && has_value(env, share, texts.counters.as_deref())
+}
 
-/// Whether a path variable is in order with this delimiter: where nothing is dropped from a copy of it, so that its two
-/// texts are written anew, neither changes.
-///
-/// The delimiter is a character from the space to the tilde. The only error is want of memory.
+/// Whether a path variable is in order with this delimiter: whether what its two texts are read as is written as these
+/// texts. The delimiter is ASCII.
 pub fn is_path_in_order(
     alloc: Global,
     env: &Env,
     variable: &str,
     delim: char,
-) -> Result<bool, EnvFault>
-    requires from_space { 32 ≤ delim }
-    requires to_tilde { delim ≤ 126 }
-    ensures decided { IfOk result (λ b. IsTrue b ↔ IsPathInOrder env.now variable.now delim) }
-    ensures only { IfErr result (λ e. e ≡ OutOfMemory) }
+) -> Result<bool, AllocError>
+    requires { delim < 128 }
+    ensures { IfOk result (λ b. IsTrue b ↔ IsPathInOrder env.now variable.now delim) }
 {
-    let counters = share_name(alloc, variable)?;
-    let mut anew = copy_of(alloc, env, variable, counters.as_str(), COUNTERS)?;
-    drop_path(alloc, &mut anew, COPY, delim, &[])?;
-    Ok(is_kept(env, variable, counters.as_str(), &anew, COUNTERS))
+    let share = share_name(alloc, variable)?;
+    let mut path = read_path(alloc, delim, env.get(variable), env.get(share.as_str()))?;
+    let written = write_path(alloc, delim, &mut path)?;
+    Ok(are_held(env, variable, share.as_str(), &written))
 }

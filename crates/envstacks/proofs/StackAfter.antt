@@ -203,11 +203,11 @@ pub written_after_push : (old new : Environment) (name owner value : Text) (s : 
 written_after_push old new name owner value s e h = written_after old new name (push s owner value) (push_accepts old new name owner value s e h)
 
 -- an accepted edit has read a stack
-pub was_stack : (o : Option StackState) (P : Type 0) → ((s : StackState) → o ≡ Some s → P) → (o ≡ None → P) → P
+was_stack : (o : Option StackState) (P : Type 0) → ((s : StackState) → o ≡ Some s → P) → (o ≡ None → P) → P
 was_stack None P f g = g refl
 was_stack (Some s) P f g = f s refl
 
-pub no_stack_pushed : (old new : Environment) (name owner value : Text) → stack_in old name ≡ None → pushed_value old name owner value ≡ Ok new → ⊥
+no_stack_pushed : (old new : Environment) (name owner value : Text) → stack_in old name ≡ None → pushed_value old name owner value ≡ Ok new → ⊥
 no_stack_pushed old new name owner value e h =
     let g = no_reason (push_reason name owner value) (pushed_on old name owner value (stack_in old name)) new h in
     let k : pushed_on old name owner value None ≡ Ok new = sym (ap (pushed_on old name owner value) e) ∙ g.1 in

@@ -1,6 +1,6 @@
 -- A stack that is written is read as it was.
-use Rattle.std.proofs.Common.{◌≡◌, ℕ, Bool, true, false, cond, not, ◌&&◌, List, [], ◌∷◌, ◌++◌, refl, sym, ap, ◌∙◌}
-use Rattle.std.proofs.Common.{subst, arith, length, nat_eq, Option, Some, None, map}
+use Rattle.std.proofs.Common.{◌≡◌, ℕ, Bool, true, false, cond, List, [], ◌∷◌, ◌++◌, refl, sym, ap, ◌∙◌, subst, arith}
+use Rattle.std.proofs.Common.{length, nat_eq, Option, Some, None, map}
 use Rattle.std.specs.Prelude.{bytes_eq, if◌then◌else◌}
 use Rattle.std.specs.List.{list_all, list_any}
 use Rattle.std.specs.Option.{option_map, option_and_then}
@@ -17,12 +17,8 @@ use Rattle.envstacks.specs.StackTexts.{is_writable_owner, is_writable_stack}
 use Rattle.envstacks.specs.StackVariables.{stack_in, with_stack}
 use Rattle.envvars.proofs.TextLemmas.{same_text, bytes_eq-same}
 use Rattle.envvars.proofs.EnvLemmas.{lookup-with_value}
+use Rattle.envvars.proofs.EditLemmas.{both_true, not_is}
 use Rattle.envvars.proofs.EscapeLemmas.{fields-escaped}
-
-both_true : (a b : Bool) → (a && b) ≡ true → (a ≡ true) × (b ≡ true)
-both_true true true h = (refl, refl)
-both_true true false h = absurd (false≢true h)
-both_true false b h = absurd (false≢true h)
 
 map-twice : (items : List OwnedValue) → map (λ item. escaped (element_text item)) items ≡ map escaped (map element_text items)
 map-twice [] = refl
@@ -37,14 +33,10 @@ cut_plain (c ∷ o) v h = at (nat_eq c 38) refl (cut_plain o v)
     at true e ih = absurd (false≢true (sym (rw e at h)))
     at false e ih = let k : list_any (λ d. nat_eq d 38) o ≡ false = rw e at h in rw (e, ih k) refl
 
-not_false : (b : Bool) → not b ≡ true → b ≡ false
-not_false true h = absurd (false≢true h)
-not_false false h = refl
-
 item_again : (o : Option Text) (v : Text) → is_writable_owner o ≡ true → item_of (owner_text o ++ 38 ∷ v) ≡ Some (o, v)
 item_again None v h = refl
 item_again (Some []) v h = absurd (false≢true h)
-item_again (Some (c ∷ o)) v h = rw (cut_plain (c ∷ o) v (not_false _ h)) refl
+item_again (Some (c ∷ o)) v h = rw (cut_plain (c ∷ o) v (not_is _ h)) refl
 
 items_again : (items : List OwnedValue) → list_all (λ item. is_writable_owner item.0) items ≡ true → items_of_elements (map element_text items) ≡ Some items
 items_again [] h = refl

@@ -40,7 +40,7 @@ front_owned (x ∷ []) (suc n) e = absurd (omega arith)
 front_owned (x ∷ y ∷ ys) zero e = absurd (omega arith)
 front_owned (x ∷ y ∷ ys) (suc n) e = both_owned _ _ _ _ (owned_is x.owner) (front_owned (y ∷ ys) n (omega arith))
 
-any_owned : (items : List StackItem) → list_any (λ item. is_some item.owner) items ≡ list_any (λ item. has_owner item.0) (map item_in items)
+pub any_owned : (items : List StackItem) → list_any (λ item. is_some item.owner) items ≡ list_any (λ item. has_owner item.0) (map item_in items)
 any_owned [] = refl
 any_owned (i ∷ is) = ap (λ (b : Bool). b || list_any (λ item. is_some item.owner) is) (owned_is i.owner) ∙ ap (λ (b : Bool). has_owner (option_map string_bytes i.owner) || b) (any_owned is)
 
@@ -66,15 +66,6 @@ holds_is m (i ∷ is) = ap (λ (b : Bool). is_owner m (option_map string_bytes i
 pub stack_read : (e : Environment) (name : Text) (o : Option (List OwnedValue)) (t : Option Text) (n : Text)
     → o ≡ items_in t → t ≡ lookup e n → n ≡ stack_name name → stack_from o (lookup e name) ≡ stack_in e name
 stack_read e name o t n h k l = ap (λ (p : Option (List OwnedValue)). stack_from p (lookup e name)) (h ∙ ap items_in (k ∙ ap (lookup e) l))
-
-pub no_push : (e : Environment) (name owner value s : Text) (o : Option (List OwnedValue)) → push_reason name owner value ≡ None → stack_from o (lookup e name) ≡ stack_in e name → o ≡ None → s ≡ name
-    → (e ≡ e) × (pushed_value e name owner value ≡ Err (bad_stack s))
-no_push e name owner value s o r h n k = (
-  refl,
-  rw r
-      (ap (pushed_on e name owner value) (sym h ∙ ap (λ (p : Option (List OwnedValue)). stack_from p (lookup e name)) n)
-      ∙ ap (λ (t : Text). Err (bad_stack t)) (sym k)),
-)
 
 pub no_pop : (e : Environment) (name owner s : Text) (o : Option (List OwnedValue)) → pop_reason name owner ≡ None → stack_from o (lookup e name) ≡ stack_in e name → o ≡ None → s ≡ name
     → (e ≡ e) × (popped_value e name owner ≡ Err (bad_stack s))

@@ -1,7 +1,7 @@
 -- Edits keep stacks in order.
 use Rattle.std.proofs.Common.{◌≡◌, Bool, true, false, cond, not, ◌||◌, List, [], ◌∷◌, ◌++◌, refl, sym, ap, ◌∙◌, subst}
-use Rattle.std.proofs.Common.{Option, Some, None, Ok, inl, inr}
-use Rattle.std.specs.Prelude.{bytes_eq, if◌then◌else◌}
+use Rattle.std.proofs.Common.{Option, Some, None, Result, Ok, Err, inl, inr, IsTrue}
+use Rattle.std.specs.Prelude.{bytes_eq, if◌then◌else◌, IfOk}
 use Rattle.std.specs.List.{list_all, list_any}
 use Rattle.modulename.specs.ModuleName.{is_module_name}
 use Rattle.envvars.specs.Texts.{Text, has}
@@ -13,10 +13,11 @@ use Rattle.envstacks.specs.Stacks.{items_or_bottom, push, without_lone_bottom, o
 use Rattle.envstacks.specs.StackTexts.{items_in, is_stack, is_writable_owner, is_writable_stack, stack_text}
 use Rattle.envstacks.specs.StackVariables.{stack_from, stack_in, with_stack, pushed_value, popped_value}
 use Rattle.envstacks.specs.StackVariables.{is_loaded_owner, IsWrittenStack, IsStackInOrder}
+use Rattle.envstacks.specs.StackOrder.{HoldsStack}
 use Rattle.envvars.proofs.TextLemmas.{bytes_eq-symmetric, has-push, has-without}
 use Rattle.envvars.proofs.EditLemmas.{passes_each, both_true, and_both}
 use Rattle.envstacks.proofs.StackLemmas.{without_stranger}
-use Rattle.envstacks.proofs.StackAgain.{stack_again}
+use Rattle.envstacks.proofs.StackAgain.{stack_again, stack_readable}
 use Rattle.envstacks.proofs.StackAfter.{all_less, name_owns, whole, push_accepts, pop_new, pop_accepts, written_after}
 
 -- owners that are loaded can be read again
@@ -36,11 +37,15 @@ loaded_own loaded (i ∷ is) n h =
 stack_none : (e : Environment) (name : Text) → lookup e (stack_name name) ≡ None → stack_in e name ≡ Some (record { items = []; value = lookup e name })
 stack_none e name h = ap (λ (t : Option Text). stack_from (items_in t) (lookup e name)) h
 
-stack_written : (loaded : List Text) (e : Environment) (name : Text) (w : IsWrittenStack loaded e name)
-    → list_all is_module_name loaded ≡ true → stack_in e name ≡ Some (record { items = w.items; value = lookup e name })
-stack_written loaded e name w n =
+items_written : (loaded : List Text) (e : Environment) (name : Text) (w : IsWrittenStack loaded e name) → list_all is_module_name loaded ≡ true → items_in (lookup e (stack_name name)) ≡ Some w.items
+items_written loaded e name w n =
     let k : is_writable_stack w.items ≡ true = and_both (is_stack w.items) (list_all (λ item. is_writable_owner item.0) w.items) w.valid (loaded_own loaded w.items n w.owners) in
-    ap (λ (o : Option (List OwnedValue)). stack_from o (lookup e name)) (ap items_in w.text ∙ stack_again w.items k)
+    ap items_in w.text ∙ stack_again w.items k
+
+stack_written : (loaded : List Text) (e : Environment) (name : Text) (w : IsWrittenStack loaded e name)
+    → list_all is_module_name loaded ≡ true
+    → stack_in e name ≡ Some (record { items = w.items; value = lookup e name })
+stack_written loaded e name w n = ap (λ (o : Option (List OwnedValue)). stack_from o (lookup e name)) (items_written loaded e name w n)
 
 base_loaded : (loaded : List Text) (items : List OwnedValue) (value : Option Text)
     → list_all (λ item. is_loaded_owner loaded item.0) items ≡ true
@@ -201,3 +206,84 @@ order_of_fewer loaded e name owner s n (inl x) h k = inl x
 order_of_fewer loaded e name owner s n (inr w) h k =
     let i = same_items w.items (lookup e name) s (stack_in e name) (stack_written loaded e name w n) h in
     inr (kept loaded e name owner w (ap (holds owner) (sym i) ∙ k))
+
+-- a stack that is set is in order exactly where it is read, and its items are written as its texts
+
+pub record IsRead (e : Environment) (name : Text) (items : List OwnedValue) : Type 0 where
+  pub text : Text
+  pub there : lookup e (stack_name name) ≡ Some text
+  pub read : items_in (lookup e (stack_name name)) ≡ Some items
+
+pub read_is : (e : Environment) (name stack t : Text) (o : Option (List OwnedValue)) (items : List OwnedValue)
+    → stack ≡ stack_name name → Some t ≡ lookup e stack → o ≡ items_in (Some t) → o ≡ Some items → IsRead e name items
+read_is e name stack t o items named there read some =
+    let h : lookup e (stack_name name) ≡ Some t = ap (lookup e) (sym named) ∙ sym there in
+    record { text = t; there = h; read = ap items_in h ∙ (sym read ∙ some) }
+
+nothing_there : (e : Environment) (name t : Text) → lookup e (stack_name name) ≡ Some t → lookup e (stack_name name) ≡ None → ⊥
+nothing_there e name t h k = let g : (let o : Option Text = Some t in o) ≡ None = sym h ∙ k in cc
+
+same_read : (o : Option (List OwnedValue)) (xs ys : List OwnedValue) → o ≡ Some xs → o ≡ Some ys → xs ≡ ys
+same_read o xs ys h k = cc
+
+record AreWritten (loaded : List Text) (e : Environment) (name : Text) (items : List OwnedValue) : Type 0 where
+  owned : list_any (λ item. has_owner item.0) items ≡ true
+  owners : list_all (λ item. is_loaded_owner loaded item.0) items ≡ true
+  held : HoldsStack e name (record { items = items; value = visible items })
+
+ordered : (loaded : List Text) (e : Environment) (name : Text) (items : List OwnedValue) → IsRead e name items → AreWritten loaded e name items → IsStackInOrder loaded e name
+ordered loaded e name items r a =
+    inr (record {
+      items = items;
+      valid = (both_true (is_stack items) (list_all (λ item. is_writable_owner item.0) items) (stack_readable (lookup e (stack_name name)) items r.read)).0;
+      owned = a.owned;
+      owners = a.owners;
+      text = a.held.text;
+      value = a.held.value;
+    })
+
+written : (loaded : List Text) (e : Environment) (name : Text) (items : List OwnedValue)
+    → list_all is_module_name loaded ≡ true → IsRead e name items → IsStackInOrder loaded e name
+    → AreWritten loaded e name items
+written loaded e name items n r (inl none) = absurd (nothing_there e name r.text r.there none)
+written loaded e name items n r (inr w) =
+    subst (AreWritten loaded e name) (same_read (items_in (lookup e (stack_name name))) w.items items (items_written loaded e name w n) r.read)
+    (record { owned = w.owned; owners = w.owners; held = record { text = w.text; value = w.value } })
+
+-- a text that is none of a stack
+pub unread_unordered : (loaded : List Text) (e : Environment) (name stack t : Text) (o : Option (List OwnedValue))
+    → list_all is_module_name loaded ≡ true → stack ≡ stack_name name → Some t ≡ lookup e stack
+    → o ≡ items_in (Some t) → o ≡ None
+    → (IsTrue false → IsStackInOrder loaded e name) × (IsStackInOrder loaded e name → IsTrue false)
+unread_unordered loaded e name stack t o n named there read none = (λ k. cc, λ k. absurd (not_so k))
+  where
+    h : lookup e (stack_name name) ≡ Some t
+    h = ap (lookup e) (sym named) ∙ sym there
+
+    not_so : IsStackInOrder loaded e name → ⊥
+    not_so (inl x) = nothing_there e name t h x
+    not_so (inr w) = let g : (let p : Option (List OwnedValue) = None in p) ≡ Some w.items = sym none ∙ (read ∙ (ap items_in (sym h) ∙ items_written loaded e name w n)) in cc
+
+-- a stack without an owner, or with one that isn't loaded
+pub unowned : (loaded : List Text) (e : Environment) (name : Text) (items : List OwnedValue)
+    → list_all is_module_name loaded ≡ true → IsRead e name items → list_any (λ item. has_owner item.0) items ≡ false
+    → (IsTrue false → IsStackInOrder loaded e name) × (IsStackInOrder loaded e name → IsTrue false)
+unowned loaded e name items n r f = (λ k. cc, λ k. sym f ∙ (written loaded e name items n r k).owned)
+
+pub stranger_owns : (loaded : List Text) (e : Environment) (name : Text) (items : List OwnedValue)
+    → list_all is_module_name loaded ≡ true → IsRead e name items
+    → list_all (λ item. is_loaded_owner loaded item.0) items ≡ false
+    → (IsTrue false → IsStackInOrder loaded e name) × (IsStackInOrder loaded e name → IsTrue false)
+stranger_owns loaded e name items n r f = (λ k. cc, λ k. sym f ∙ (written loaded e name items n r k).owners)
+
+-- else its texts decide
+pub order_decided : {E : Type 0} (r : Result Bool E) (loaded : List Text) (e : Environment) (name : Text) (items held : List OwnedValue) → list_all is_module_name loaded ≡ true → IsRead e name items
+    → list_any (λ item. has_owner item.0) items ≡ true → list_all (λ item. is_loaded_owner loaded item.0) items ≡ true → held ≡ items
+    → IfOk r (λ b. (IsTrue b → HoldsStack e name (record { items = held; value = visible held })) × (HoldsStack e name (record { items = held; value = visible held }) → IsTrue b))
+    → IfOk r (λ b. (IsTrue b → IsStackInOrder loaded e name) × (IsStackInOrder loaded e name → IsTrue b))
+order_decided (Ok b) loaded e name items held n read owned owners same h =
+    let P : List OwnedValue → Type 0 = λ is. HoldsStack e name (record { items = is; value = visible is }) in (
+      λ t. ordered loaded e name items read (record { owned = owned; owners = owners; held = subst P same (h.0 t) }),
+      λ o. h.1 (subst P (sym same) (written loaded e name items n read o).held),
+    )
+order_decided (Err x) loaded e name items held n read owned owners same h = tt

@@ -122,6 +122,16 @@ fn pushed(
     Ok(stack)
 }
 
+/// The value of the first item, which the variable has.
+pub(crate) fn visible(items: &[StackItem]) -> Option<&str>
+    ensures { option_map (λ x. x.now) result ≡ visible (map item_in items.entry.now) }
+{
+    match items {
+        [] => None,
+        [top, ..] => Some(top.value.as_str()),
+    }
+}
+
 /// The variable's value after a pop: that of the item which is now first where the popped one was on top, else
 /// `current`.
 fn value_after(
@@ -133,17 +143,15 @@ fn value_after(
     ensures { IfOk result (λ v. option_map string_bytes v
         ≡ (if was_top then visible (map item_in items.now) else option_map (λ x. x.now) current.entry)) }
 {
-    if !was_top {
-        return copy(alloc, current);
-    }
-    match items {
-        [] => Ok(None),
-        [top, ..] => copy(alloc, Some(top.value.as_str())),
+    if was_top {
+        copy(alloc, visible(items))
+    } else {
+        copy(alloc, current)
     }
 }
 
 /// Whether a module pushed one of the items.
-fn has_owner(items: &[StackItem]) -> bool
+pub(crate) fn has_owner(items: &[StackItem]) -> bool
     ensures { result ≡ list_any (λ item. is_some item.owner) items.now }
 {
     items.iter().any(|item| item.owner.is_some())

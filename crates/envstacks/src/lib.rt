@@ -4,6 +4,8 @@
 
 mod edits;
 pub mod laws;
+mod order;
 mod texts;
 
 pub use edits::{pop_value, push_value};
+pub use order::is_stack_in_order;

@@ -1,7 +1,7 @@
 -- Changes, written over an environment.
 use Rattle.std.proofs.Common.{◌≡◌, Bool, true, false, cond, not, ◌||◌, ◌&&◌, List, [], ◌∷◌, ◌++◌, map, length, subst}
 use Rattle.std.proofs.Common.{arith, Bor, Ordering, refl, sym, ap, ◌∙◌, Option, Some, None, Result, Ok, Err, Vec}
-use Rattle.std.proofs.Common.{Global}
+use Rattle.std.proofs.Common.{Global, IsTrue}
 use Rattle.std.specs.Prelude.{bytes_eq, filter, is_some, unwrap_or, if◌then◌else◌}
 use Rattle.std.specs.List.{dedup, dedup_from, AllByRecursion}
 use Rattle.std.specs.List.Retain.{IsFiltered, DiffersFromLast}
@@ -179,6 +179,13 @@ new_value_at-listed new (n ∷ ns) q =
 pub same_as_itself : (o : Option Text) → same_value o o ≡ true
 same_as_itself None = refl
 same_as_itself (Some x) = bytes_eq-same x
+
+-- the test of values decides whether they are one
+pub same_value_is : (t : Bool) (x y : Option Text) → t ≡ same_value x y → (IsTrue t → x ≡ y) × (x ≡ y → IsTrue t)
+same_value_is t x y h = (
+  λ k. same_values x y (sym h ∙ k),
+  λ e. h ∙ (ap (same_value x) (sym e) ∙ same_as_itself x),
+)
 
 difference_is : (h s : Bool) (y : Option Text) → (h ≡ false → s ≡ true) → cond (not s && h) (Some y) None ≡ (if s then None else Some y)
 difference_is h true y e = refl

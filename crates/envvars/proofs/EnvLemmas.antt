@@ -34,6 +34,14 @@ with_value-back e name value = same_environment _ _ (λ q.
     ∙ ap (cond (bytes_eq q name) (lookup e name)) (lookup-with_value e name value q)
     ∙ back e name q value (bytes_eq q name) refl)
 
+kept : (e : Environment) (name q : Text) (b : Bool) → bytes_eq q name ≡ b → cond b (lookup e name) (lookup e q) ≡ lookup e q
+kept e name q true h = ap (lookup e) (sym (same_text q name h))
+kept e name q false h = refl
+
+-- a variable that is given the value that it has
+pub with_value-same : (e : Environment) (name : Text) → with_value e name (lookup e name) ≡ e
+with_value-same e name = same_environment _ _ (λ q. lookup-with_value e name (lookup e name) q ∙ kept e name q (bytes_eq q name) refl)
+
 pub lookup-set : (e : Environment) (name : Text) (value : Option Text) → lookup (with_value e name value) name ≡ value
 lookup-set e name value = lookup-with_value e name value name ∙ (rw (bytes_eq-same name) refl)
 

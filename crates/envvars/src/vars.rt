@@ -1,5 +1,5 @@
 //! The interface of everything that holds variables: an environment, or a working environment over one.
-ghost use Rattle.std.specs.Prelude.{◌≡◌, map, string_bytes, IfErr, OnOk, OnErr};
+ghost use Rattle.std.specs.Prelude.{◌≡◌, ◌↔◌, map, string_bytes, IsTrue, IfErr, OnOk, OnErr};
 ghost use Rattle.std.specs.Option.{option_map};
 ghost use Rattle.std.specs.FinMap as finite;
 ghost use Rattle.envvars.specs.Environment.{Environment, lookup};
@@ -49,4 +49,11 @@ pub trait Vars {
         ensures err { OnErr result (vars self.new ≡ vars self.old) }
         ensures only { IfErr result (λ e. e ≡ OutOfMemory) }
         ensures base { base self.new ≡ base self.old };
+}
+
+/// Whether a variable has this value; where there is none, whether it is unset.
+pub fn has_value<V: Vars>(env: &V, name: &str, value: Option<&str>) -> bool
+    ensures { IsTrue result ↔ (lookup (V.vars env.now) name.now ≡ option_map (λ x. x.now) value.entry) }
+{
+    env.get(name) == value
 }

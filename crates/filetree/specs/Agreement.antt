@@ -1,7 +1,7 @@
 -- What the answers of a tree of files say: pairs of maps from paths to files and directories, those that agree with the
 -- answers, and where the device failed. Paths and bytes are as POSIX has them.
-use Rattle.std.specs.Prelude.{◌≡◌, ◌⊎◌, ℕ, ◌<◌, ◌≤◌, Bool, true, false, List, length, map, nat_eq, Option, Some, None}
-use Rattle.std.specs.Prelude.{Result, Ok, Err, IsErrOf, if◌then◌else◌, string_bytes, vec_items}
+use Rattle.std.specs.Prelude.{◌≡◌, ◌⊎◌, ℕ, ◌<◌, ◌≤◌, Bool, true, false, List, [], length, map, nat_eq, Option, Some}
+use Rattle.std.specs.Prelude.{None, Result, Ok, Err, IsErrOf, if◌then◌else◌, string_bytes, vec_items}
 use Rattle.std.specs.declared.alloc.Global.{Global}
 use Rattle.std.specs.List.{starts_with}
 use Rattle.std.specs.Option.{option_map}

@@ -22,5 +22,6 @@ abbrev pub listing_at : Option KnownPath → Option (List (List ℕ))
 listing_at = cached listing_of
 
 -- what is at a path fits what is known of it
-pub cached-fits : (had : Option KnownPath) (known : KnownPath) → had ≡ Some known → Fits known (file_at had) (listing_at had)
+pub cached-fits : (had : Option KnownPath) (known : KnownPath) → had ≡ Some known
+    → Fits known (file_at had) (listing_at had)
 cached-fits had known e = subst (λ h. Fits known (file_at h) (listing_at h)) (sym e) (fits known)

@@ -8,7 +8,7 @@ use Rattle.tclrules.specs.Plans.{Completion, Normal, Raised, Returned, Broken, C
 use Rattle.tclrules.specs.Names.{is_among}
 use Rattle.tclrules.specs.Meaning.{Setting, EvaluatesTo}
 use Rattle.tclrules.specs.declared.limits.Limits.{Limits}
-use Rattle.modulefile.specs.CommandNames.{unsupported_commands, command_names}
+use Rattle.modulefile.specs.Calls.{unsupported_commands, command_names}
 use Rattle.search.specs.DefaultFiles.{DefaultFileResult}
 
 -- `module-version NAME WORD...` has a name and at least one word, and is recorded

@@ -48,7 +48,10 @@ fn push_modules(
 }
 
 /// The modules of all directories in one list, directory after directory.
-fn joined(alloc: Global, directories: &[search::DirectoryListing]) -> Result<Vec<Listing>, AllocError>
+fn joined(
+    alloc: Global,
+    directories: &[search::DirectoryListing],
+) -> Result<Vec<Listing>, AllocError>
     ensures { IfOk result (λ listings.
         map line_view listings.items ≡ lines_of (map listing_view directories.now)) }
 {

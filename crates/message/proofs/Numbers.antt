@@ -7,51 +7,15 @@ use Rattle.message.specs.declared.refusals.RefusalKind.TheVariants as kinds
 
 all : List RefusalKind
 all =
-    kinds.MemoryForText ∷
-    kinds.OpenBrace ∷
-    kinds.OpenQuote ∷
-    kinds.OpenBracket ∷
-    kinds.JoinedToClose ∷
-    kinds.TextTooDeep ∷
-    kinds.BadCharacter ∷
-    kinds.BadExpression ∷
-    kinds.TooLong ∷
-    kinds.MemoryForEvaluation ∷
-    kinds.BadText ∷
-    kinds.TclError ∷
-    kinds.TooManyCommands ∷
-    kinds.EvaluationTooDeep ∷
-    kinds.ValueTooLong ∷
-    kinds.NumberTooLarge ∷
-    kinds.FractionOperand ∷
-    kinds.LeftOut ∷
-    kinds.Stopped ∷
-    kinds.Host ∷
-    kinds.MemoryForRequest ∷
-    kinds.BadVariable ∷
-    kinds.Protected ∷
-    kinds.CounterFull ∷
-    kinds.Inconsistent ∷
-    kinds.BadStack ∷
-    kinds.BadValue ∷
-    kinds.MemoryForSearch ∷
-    kinds.NotFound ∷
-    kinds.Device ∷
-    kinds.BadName ∷
-    kinds.BadDefaultFile ∷
-    kinds.NotUtf8 ∷
-    kinds.ConflictWith ∷
-    kinds.PrereqMissing ∷
-    kinds.StillNeededBy ∷
-    kinds.FileGone ∷
-    kinds.NotAModulefile ∷
-    kinds.BadArguments ∷
-    kinds.UnknownSubcommand ∷
-    kinds.MemoryForPrinting ∷
-    kinds.NotSayable ∷
-    kinds.UnknownShell ∷
-    kinds.WriteFailed ∷
-    []
+    kinds.MemoryForText ∷ kinds.OpenBrace ∷ kinds.OpenQuote ∷ kinds.OpenBracket ∷ kinds.JoinedToClose ∷
+    kinds.TextTooDeep ∷ kinds.BadCharacter ∷ kinds.BadExpression ∷ kinds.TooLong ∷ kinds.MemoryForEvaluation ∷
+    kinds.BadText ∷ kinds.TclError ∷ kinds.TooManyCommands ∷ kinds.EvaluationTooDeep ∷ kinds.ValueTooLong ∷
+    kinds.NumberTooLarge ∷ kinds.FractionOperand ∷ kinds.LeftOut ∷ kinds.Stopped ∷ kinds.Host ∷
+    kinds.MemoryForRequest ∷ kinds.BadVariable ∷ kinds.Protected ∷ kinds.CounterFull ∷ kinds.Inconsistent ∷
+    kinds.BadStack ∷ kinds.BadValue ∷ kinds.MemoryForSearch ∷ kinds.NotFound ∷ kinds.Device ∷ kinds.BadName ∷
+    kinds.BadDefaultFile ∷ kinds.NotUtf8 ∷ kinds.ConflictWith ∷ kinds.PrereqMissing ∷ kinds.StillNeededBy ∷
+    kinds.FileGone ∷ kinds.NotAModulefile ∷ kinds.BadArguments ∷ kinds.UnknownSubcommand ∷ kinds.MemoryForPrinting ∷
+    kinds.NotSayable ∷ kinds.UnknownShell ∷ kinds.WriteFailed ∷ []
 
 named_by : ℕ → Option RefusalKind
 named_by n = find (λ kind. number_of kind == n) all

@@ -214,7 +214,7 @@ impl RefusalKind {
         self.about(Subject::Name(name))
     }
 
-    /// The refusal that names this number, as a byte offset.
+    /// The refusal that names this number.
     pub fn numbering(self, number: usize) -> NumberedMessage<'static>
         ensures { numbered_text result ≡ table.about self (decimal number) }
     {

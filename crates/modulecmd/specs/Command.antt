@@ -18,10 +18,10 @@ use Rattle.requests.specs.Reasons.{RequestReason, bad_arguments}
 use Rattle.requests.specs.Requests.{RequestedAction, Request, request_of}
 use Rattle.requests.specs.Steps.{Done, RequestStep, request_context_in}
 use Rattle.filetree.specs.Causes.{Applies}
-use Rattle.modules.specs.Answers.{cause_of}
+use Rattle.modules.specs.Answers.{cause_of, refused_read}
 use Rattle.modules.specs.Messages as texts
 use Rattle.modules.specs.declared.refusal.Refusal.TheVariants as refusals
-use Rattle.search.specs.declared.find_fault.FindFault.TheVariants as finds
+use Rattle.filetree.specs.declared.tree.TreeFault.TheVariants as trees
 use Rattle.processinput.specs.declared.input.InputFault.{InputFault}
 use Rattle.processinput.specs.declared.input.InputFault.TheVariants as inputs
 use Rattle.modulecmd.specs.declared.command_fault.CommandFault.{CommandFault}
@@ -109,7 +109,7 @@ IsNumbered fault =
 -- arguments that can't be handed on, and an input that isn't read whole or isn't text, as a refusal
 abbrev pub of_input : InputFault → CommandFault
 of_input inputs.OutOfMemory = Refused refusals.OutOfMemory
-of_input inputs.ReadFailed = Refused (refusals.Find finds.Device)
+of_input inputs.ReadFailed = Refused (refused_read trees.Device)
 of_input inputs.BadInput = Refused refusals.BadArguments
 
 -- A command has one effect at most, or one reason.

@@ -21,12 +21,11 @@ use Rattle.tclvalue.specs.Characters.{white_space, split_space}
 use Rattle.tclrules.specs.Messages.{no_variable, no_command, outside_loop, cannot_unset, is_array, bad_option, no_body}
 use Rattle.tclrules.specs.Messages.{no_loop_variable, cannot_redefine}
 use Rattle.tclrules.specs.Names.{unsupported_commands, core_commands}
-use Rattle.modulefile.specs.CommandNames as names
 use Rattle.tclrules.specs.Forms.{core_form}
 use Rattle.tclrules.specs.Derivation.{LeftOut}
 use Rattle.envvars.specs.Environment.{Environment, with_value}
 use Rattle.modulefile.specs.Records.{Set, Unset, Front, Back, Conflict}
-use Rattle.modulefile.specs.Calls.{call_of}
+use Rattle.modulefile.specs.Calls as calls
 use Rattle.modulefile.specs.Answers.{FileContext}
 use Rattle.modulefile.specs.Files.{Ran, FileReason, halted, refused, failed, RunsFile, play}
 use Rattle.modulefile.specs.Rows.{standard, file, loading, unloading, showing}
@@ -40,8 +39,8 @@ unfolding chars digits encode braced_at scan whole_script script_with command_at
     piece_at value_messages.divide_by_zero value_messages.negative_shift value_messages.not_a_list
     value_messages.not_numeric value_messages.not_a_boolean value_messages.not_a_whole_number value_messages.bad_index
     value_messages.wrong_words white_space split_space no_variable no_command outside_loop cannot_unset is_array
-    bad_option no_body no_loop_variable cannot_redefine unsupported_commands core_commands names.supported_commands
-    names.unsupported_commands core_form call_of
+    bad_option no_body no_loop_variable cannot_redefine unsupported_commands core_commands calls.unsupported_commands
+    calls.commands core_form calls.call_of
 computed c text steps = play standard c text steps
 
 is_played : (c : FileContext) (text : Text) (steps : ℕ) → play standard c text steps ≡ computed c text steps

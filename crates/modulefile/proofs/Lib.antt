@@ -1,7 +1,7 @@
-pub mod RecordLemmas
 pub mod Effected
 pub mod Moved
 pub mod Bound
+mod CutLemmas
 mod FileEnds
 mod OneFile
 pub mod HasEffects

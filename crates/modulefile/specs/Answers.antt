@@ -18,10 +18,9 @@ use Rattle.modulefile.specs.Effects.{Mode, load, unload, display, whatis, effect
 use Rattle.shelltext.specs.declared.shell.Shell.{Shell}
 use Rattle.modulefile.specs.Results.{◌>>=◌}
 use Rattle.shelltext.specs.Shells.{shell_name, shell_family_name}
-use Rattle.modulefile.specs.CommandNames.{command_names}
 use Rattle.modulefile.specs.Calls.{InfoField, mode, shell, shell_type, Call, adds_record, adds_message, getenv}
 use Rattle.modulefile.specs.Calls.{is_loaded, own_name, typed_name, info, info_test, CallReason, unknown, unsupported}
-use Rattle.modulefile.specs.Calls.{bad_arguments, bad_record, CallForm, call_of}
+use Rattle.modulefile.specs.Calls.{bad_arguments, bad_record, CallForm, command_names, call_of}
 
 -- What a file is evaluated in: the mode, and whether it is half of a switch; the module's full name and the path of its
 -- file; the shell; the name as it was typed; the names of the modules that are loaded before the file, and the

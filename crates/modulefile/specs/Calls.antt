@@ -1,17 +1,15 @@
 -- The commands of modulefiles by their words, as modulefile(5) shows their forms. What a command means is a function of
 -- its words alone.
-use Rattle.std.specs.Prelude.{ℕ, ◌||◌, List, [], ◌∷◌, ◌++◌, codes, flat_map, bytes_eq, if◌then◌else◌, Option, Some}
-use Rattle.std.specs.Prelude.{None, Result, Ok, Err}
+use Rattle.std.specs.Prelude.{ℕ, ◌||◌, List, [], ◌∷◌, ◌++◌, codes, map, find, flat_map, bytes_eq, if◌then◌else◌}
+use Rattle.std.specs.Prelude.{Option, Some, None, Result, Ok, Err}
 use Rattle.std.specs.List.{join_with_byte}
 use Rattle.tclchars.specs.Runs.{begins}
 use Rattle.tclvalue.specs.Indexes.{after_prefix}
-use Rattle.tclrules.specs.Names.{is_among}
 use Rattle.envvars.specs.Texts.{Text}
 use Rattle.envvars.specs.Fields.{colon}
 use Rattle.envpaths.specs.PathTexts.{is_delimiter, split_elements}
 use Rattle.modulefile.specs.Records.{Record, Set, Unset, Push, Front, Back, Remove, Conflict, Prereq, Whatis}
 use Rattle.modulefile.specs.Judgments.{RecordReason}
-use Rattle.modulefile.specs.CommandNames.{unsupported_commands}
 use Rattle.modulefile.specs.Results.{◌>>=◌}
 
 -- what `module-info` answers, or tests by a further word
@@ -155,25 +153,62 @@ info_form (field ∷ words) =
 abbrev pub description : List Text → Record
 description words = Whatis (join_with_byte 32 words)
 
--- why a name is no command of this tool
-abbrev pub not_a_command : Text → CallReason
-not_a_command name = if is_among unsupported_commands name then unsupported name else unknown
+-- a command that no modulefile has, only a default file
+abbrev pub of_default_files : List Text → CallForm
+of_default_files words = Err unknown
+
+-- a command that is unsupported
+abbrev pub unsupported_form : Text → List Text → CallForm
+unsupported_form name words = Err (unsupported name)
+
+-- the commands that are unsupported
+unfoldable pub unsupported_commands : List Text
+unsupported_commands =
+    codes "module" ∷ codes "depends-on" ∷ codes "set-alias" ∷ codes "set-function" ∷ codes "system" ∷ codes "uname" ∷
+    codes "source-sh" ∷ codes "x-resource" ∷ codes "chdir" ∷ codes "family" ∷ codes "complete" ∷ codes "module-alias" ∷
+    codes "module-virtual" ∷ codes "module-tag" ∷ codes "module-hide" ∷ codes "module-forbid" ∷ codes "prereq-all" ∷
+    codes "prereq-any" ∷ codes "module-help" ∷ codes "is-avail" ∷ codes "is-saved" ∷ codes "is-used" ∷
+    codes "unset-alias" ∷ codes "unset-function" ∷ codes "uncomplete" ∷ codes "variant" ∷ codes "getvariant" ∷
+    codes "versioncmp" ∷ []
+
+-- a command: its name, and the form of the words after it
+abbrev pub Command : Type 0
+Command = Text × (List Text → CallForm)
+
+-- The commands of modulefiles and of default files (modulefile(5)). Of Tcl's own it has `puts`, which the evaluator
+-- hands on.
+unfoldable pub commands : List Command
+commands =
+    (codes "setenv", without_option (var_and_value Set))
+    ∷ (codes "unsetenv", without_option var_and_optional)
+    ∷ (codes "pushenv", without_option (var_and_value Push))
+    ∷ (codes "prepend-path", path_form Front)
+    ∷ (codes "append-path", path_form Back)
+    ∷ (codes "remove-path", path_form Remove)
+    ∷ (codes "conflict", without_option (some_words Conflict))
+    ∷ (codes "prereq", without_option (some_words Prereq))
+    ∷ (codes "module-whatis", some_words description)
+    ∷ (codes "getenv", without_option getenv_form)
+    ∷ (codes "is-loaded", without_option is_loaded_form)
+    ∷ (codes "module-info", info_form)
+    ∷ (codes "puts", puts_form)
+    ∷ (codes "module-version", of_default_files)
+    ∷ map (λ name. (name, unsupported_form name)) unsupported_commands
+
+-- No procedure of a modulefile or a default file may have one of these names.
+abbrev pub command_names : List Text
+command_names = map (λ command. command.0) commands
+
+-- the command of this name
+abbrev pub command_named : Text → Option Command
+command_named name = find (λ command. bytes_eq name command.0) commands
+
+-- these words, after the name of this command
+abbrev pub called : Option Command → List Text → CallForm
+called None words = Err unknown
+called (Some command) words = command.1 words
 
 -- The command that these words call.
 unfoldable pub call_of : List Text → CallForm
 call_of [] = Err unknown
-call_of (name ∷ words) =
-    if bytes_eq name (codes "setenv") then without_option (var_and_value Set) words
-    else if bytes_eq name (codes "unsetenv") then without_option var_and_optional words
-    else if bytes_eq name (codes "pushenv") then without_option (var_and_value Push) words
-    else if bytes_eq name (codes "prepend-path") then path_form Front words
-    else if bytes_eq name (codes "append-path") then path_form Back words
-    else if bytes_eq name (codes "remove-path") then path_form Remove words
-    else if bytes_eq name (codes "conflict") then without_option (some_words Conflict) words
-    else if bytes_eq name (codes "prereq") then without_option (some_words Prereq) words
-    else if bytes_eq name (codes "module-whatis") then some_words description words
-    else if bytes_eq name (codes "getenv") then without_option getenv_form words
-    else if bytes_eq name (codes "is-loaded") then without_option is_loaded_form words
-    else if bytes_eq name (codes "module-info") then info_form words
-    else if bytes_eq name (codes "puts") then puts_form words
-    else Err (not_a_command name)
+call_of (name ∷ words) = called (command_named name) words

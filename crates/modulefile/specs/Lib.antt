@@ -4,11 +4,10 @@ pub mod Effects
 pub mod Moves
 pub mod RecordLaws
 pub mod Results
-pub mod CommandNames
 pub mod Calls
-pub mod CallViews
 pub mod RecordFaults
 pub mod RecordViews
+pub mod CallViews
 pub mod Answers
 pub mod Files
 pub mod Reports

@@ -1,18 +1,19 @@
 -- What the records of the code and their faults stand for in the definitions (own).
-use Rattle.std.specs.Prelude.{string_bytes, Option, Some}
+use Rattle.std.specs.Prelude.{ℕ, List, string_bytes, Option, Some}
 use Rattle.std.specs.Option.{option_map}
-use Rattle.envvars.specs.Texts.{texts_in}
+use Rattle.envvars.specs.Texts.{Text, texts_in}
 use Rattle.envvars.specs.Reasons.{reason_of}
 use Rattle.modulefile.specs.Records as records
 use Rattle.modulefile.specs.Judgments.{RecordReason, bad_edit, bad_module_name}
 use Rattle.modulefile.specs.Effects as effects
 use Rattle.modulefile.specs.declared.records.Record.{Record}
 use Rattle.modulefile.specs.declared.records.Record.TheVariants as code
+use Rattle.modulefile.specs.declared.records.PathEdit.{PathEdit}
+use Rattle.modulefile.specs.declared.records.PathEdit.TheVariants as edits
 use Rattle.modulefile.specs.declared.records.Mode.{Mode}
 use Rattle.modulefile.specs.declared.records.Mode.TheVariants as modes
 use Rattle.modulefile.specs.declared.record_fault.RecordFault.{RecordFault}
 use Rattle.modulefile.specs.declared.record_fault.RecordFault.TheVariants as faults
-use Rattle.modulefile.specs.CallViews.{edit_record}
 
 -- a mode
 abbrev pub mode_view : Mode → effects.Mode
@@ -20,6 +21,12 @@ mode_view modes.Load = effects.load
 mode_view modes.Unload = effects.unload
 mode_view modes.Display = effects.display
 mode_view modes.Whatis = effects.whatis
+
+-- the record of a path command
+abbrev pub edit_record : PathEdit → ℕ → Text → List Text → records.Record
+edit_record edits.Front delim var xs = records.Front delim var xs
+edit_record edits.Back delim var xs = records.Back delim var xs
+edit_record edits.Remove delim var xs = records.Remove delim var xs
 
 -- a record
 abbrev pub record_view : Record → records.Record

@@ -1,6 +1,6 @@
 -- What an accepted command of a modulefile leaves on record, one for each command of the table of modulefile(5), in
 -- every mode.
-use Rattle.std.specs.Prelude.{ℕ, List, [], ◌∷◌, ◌++◌, Option, Some, None}
+use Rattle.std.specs.Prelude.{ℕ, List, [], flat_map, filter_map, Option, Some, None}
 use Rattle.envvars.specs.Texts.{Text}
 
 -- the delimiter of a path is a character
@@ -34,20 +34,29 @@ variable_of (Conflict names) = None
 variable_of (Prereq names) = None
 variable_of (Whatis text) = None
 
+-- the names of a `conflict`; other records have none
+abbrev pub conflicts_of : Record → List Text
+conflicts_of (Conflict names) = names
+conflicts_of r = []
+
+-- the alternatives of a `prereq`
+abbrev pub prereqs_of : Record → Option (List Text)
+prereqs_of (Prereq names) = Some names
+prereqs_of r = None
+
+-- the text of a `module-whatis`
+abbrev pub description_of : Record → Option Text
+description_of (Whatis text) = Some text
+description_of r = None
+
 -- the names that the records are in conflict with, in the order of their mention
 abbrev pub conflict_names : List Record → List Text
-conflict_names [] = []
-conflict_names (Conflict names ∷ rs) = names ++ conflict_names rs
-conflict_names (r ∷ rs) = conflict_names rs
+conflict_names rs = flat_map conflicts_of rs
 
 -- the alternatives of each `prereq`
 abbrev pub prereq_groups : List Record → List (List Text)
-prereq_groups [] = []
-prereq_groups (Prereq names ∷ rs) = names ∷ prereq_groups rs
-prereq_groups (r ∷ rs) = prereq_groups rs
+prereq_groups rs = filter_map prereqs_of rs
 
 -- the texts of each `module-whatis`
 abbrev pub whatis_texts : List Record → List Text
-whatis_texts [] = []
-whatis_texts (Whatis text ∷ rs) = text ∷ whatis_texts rs
-whatis_texts (r ∷ rs) = whatis_texts rs
+whatis_texts rs = filter_map description_of rs

@@ -1,7 +1,8 @@
 //! Why the words of a command of a modulefile call none.
-ghost use Rattle.std.specs.Prelude.{◌++◌, codes};
+ghost use Rattle.std.specs.Prelude.{◌≡◌, ◌++◌, codes};
 ghost use Rattle.modulefile.specs.Calls.{unsupported};
 ghost use Rattle.modulefile.specs.CallViews.{HasReason};
+ghost use Rattle.modulefile.specs.declared.call_fault.CallFault.TheVariants.{OutOfMemory};
 
 use std::alloc::{AllocError, Global};
 
@@ -37,5 +38,13 @@ impl CallFault {
             Ok(name) => CallFault::LeftOut(name),
             Err(_) => CallFault::OutOfMemory,
         }
+    }
+}
+
+impl From<AllocError> for CallFault {
+    ghost from_gives = { λ _ e. e ≡ OutOfMemory };
+
+    fn from(_refused: AllocError) -> CallFault {
+        CallFault::OutOfMemory
     }
 }

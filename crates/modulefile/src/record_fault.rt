@@ -39,10 +39,7 @@ impl RecordFault {
         ensures exact { result ≡ (refusal_of self.now).number }
         ensures by_reason { IfSome (fault_reason self.now) (λ reason. result ≡ record_number reason) }
     {
-        match self {
-            RecordFault::Env(fault) => fault.number(),
-            RecordFault::BadModuleName(_) => RefusalKind::BadName.number(),
-        }
+        self.numbered().number
     }
 
     /// Whether memory ran out, which is no reason against the record.

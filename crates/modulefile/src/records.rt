@@ -1,5 +1,9 @@
 //! What accepted commands of modulefiles leave on record.
-use crate::call::PathEdit;
+ghost use Rattle.std.specs.Prelude.{◌≡◌, map, string_bytes};
+ghost use Rattle.std.specs.Option.{option_map};
+ghost use Rattle.modulefile.specs.Records.{conflicts_of, prereqs_of, description_of};
+ghost use Rattle.modulefile.specs.RecordViews.{record_view};
+
 use crate::delimiter::Delimiter;
 
 /// What a file is evaluated for.
@@ -13,6 +17,17 @@ pub enum Mode {
     Display,
     /// Its descriptions are shown, by `whatis`.
     Whatis,
+}
+
+/// Where a path command puts its elements, or that it drops them.
+#[derive(Clone, Copy, Debug, PartialEq, Eq)]
+pub enum PathEdit {
+    /// `prepend-path`
+    Front,
+    /// `append-path`
+    Back,
+    /// `remove-path`
+    Remove,
 }
 
 /// What an accepted command leaves on record: what it does, whatever the mode.
@@ -46,4 +61,36 @@ pub enum Record {
     Prereq(Vec<String>),
     /// `module-whatis WORD...`, the words joined by spaces.
     Whatis(String),
+}
+
+impl Record {
+    /// The names of a `conflict`; other records have none.
+    pub fn conflicts(&self) -> &[String]
+        ensures { map string_bytes result.now ≡ conflicts_of (record_view self.now) }
+    {
+        match self {
+            Record::Conflict(names) => names.as_slice(),
+            _ => &[],
+        }
+    }
+
+    /// The alternatives of a `prereq`; None for other records.
+    pub fn prereqs(&self) -> Option<&[String]>
+        ensures { option_map (λ names. map string_bytes names.now) result ≡ prereqs_of (record_view self.now) }
+    {
+        match self {
+            Record::Prereq(names) => Some(names.as_slice()),
+            _ => None,
+        }
+    }
+
+    /// The text of a `module-whatis`; None for other records.
+    pub fn description(&self) -> Option<&str>
+        ensures { option_map (λ text. text.now) result ≡ description_of (record_view self.now) }
+    {
+        match self {
+            Record::Whatis(text) => Some(text.as_str()),
+            _ => None,
+        }
+    }
 }

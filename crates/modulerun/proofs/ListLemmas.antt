@@ -1,41 +1,16 @@
--- Lists from their fronts.
-use Rattle.std.proofs.Common.{◌≡◌, ◌+◌, ◌<◌, ◌≤◌, ℕ, Bool, true, ◌||◌, List, [], ◌∷◌, ◌++◌, length, map, drop, get_or}
-use Rattle.std.proofs.Common.{string_bytes, String, Bor, refl, ap, sym, ◌∙◌, arith}
+-- Lists of texts in which some text is sought.
+use Rattle.std.proofs.Common.{◌≡◌, ◌≤◌, Bool, true, ◌||◌, List, [], ◌∷◌, length, map, string_bytes, String, refl, ap}
+use Rattle.std.proofs.Common.{arith}
 use Rattle.std.specs.declared.alloc.Global.{Global}
 use Rattle.std.specs.List.{list_any}
-use Rattle.std.proofs.lemmas.List.{append_assoc, map-append, drop_more}
-use Rattle.envvars.specs.Texts.{Text, slice_texts}
-use Rattle.envpaths.specs.PathTexts.{split_elements}
-use Rattle.modulefile.specs.Calls.{elements_of}
+use Rattle.envvars.specs.Texts.{Text}
 
 -- there is a text, so some text is any
 pub some_text : (texts : List (String Global)) → 1 ≤ length texts → true ≡ list_any (λ (text : Text). true) (map string_bytes texts)
 some_text [] h = absurd (omega (arith, h))
 some_text (t ∷ ts) h = refl
 
--- the next text, and those after it
-pub split_next : (texts : List (String Global)) (i : ℕ) (x : String Global) → i < length texts → x ≡ get_or texts i x
-    → map string_bytes (drop i texts) ≡ string_bytes x ∷ map string_bytes (drop (i + 1) texts)
-split_next texts i x l is = ap (map string_bytes) (drop_more texts i x l) ∙ ap (λ (y : String Global). string_bytes y ∷ map string_bytes (drop (i + 1) texts)) (sym is)
-
 -- whether some text passes
 pub any_text : (p : Text → Bool) (texts : List (String Global)) → list_any (λ x. p (string_bytes x)) texts ≡ list_any p (map string_bytes texts)
 any_text p [] = refl
 any_text p (x ∷ xs) = ap (λ (b : Bool). p (string_bytes x) || b) (any_text p xs)
-
--- one value more is cut
-pub cut_more : (delim : ℕ) (old new parts : List (Bor Text)) (value : Text) (rest : List Text) (all : List Text)
-    → new ≡ old ++ parts → slice_texts parts ≡ split_elements delim value → slice_texts old ++ elements_of delim (value ∷ rest) ≡ all → slice_texts new ++ elements_of delim rest ≡ all
-cut_more delim old new parts value rest all e p h =
-    ap (λ xs. slice_texts xs ++ elements_of delim rest) e
-    ∙ ap (λ xs. xs ++ elements_of delim rest) (map-append (λ (x : Bor Text). x.now) old parts)
-    ∙ append_assoc (slice_texts old) (slice_texts parts) (elements_of delim rest)
-    ∙ ap (λ ps. slice_texts old ++ (ps ++ elements_of delim rest)) p ∙ h
-
-pub cut_on : (delim : ℕ) (old new parts : List (Bor Text)) (value : Text) (left right : List (String Global)) (all : List Text)
-    → map string_bytes left ≡ value ∷ map string_bytes right → new ≡ old ++ parts
-    → slice_texts parts ≡ split_elements delim value → slice_texts old
-    ++ elements_of delim (map string_bytes left) ≡ all → slice_texts new
-    ++ elements_of delim (map string_bytes right) ≡ all
-cut_on delim old new parts value left right all s e p h =
-    cut_more delim old new parts value (map string_bytes right) all e p (ap (λ vs. slice_texts old ++ elements_of delim vs) (sym s) ∙ h)

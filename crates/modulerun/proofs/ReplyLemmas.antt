@@ -1,11 +1,9 @@
 -- How the host's replies follow from what its parts say.
 use Rattle.std.proofs.Common.{◌≡◌, ◌==◌, ℕ, Bool, true, false, ◌||◌, List, [], string_bytes, String, is_none}
-use Rattle.std.proofs.Common.{if◌then◌else◌, Option, Some, None, IfSome, Result, Ok, Err, IfOk, refl, ap, sym, subst}
-use Rattle.std.proofs.Common.{◌∙◌}
+use Rattle.std.proofs.Common.{if◌then◌else◌, Option, Some, None, IfSome, Ok, Err, refl, ap, sym, subst, ◌∙◌}
 use Rattle.std.specs.Option.{option_map}
 use Rattle.std.specs.declared.vec.Vec.{Vec}
 use Rattle.std.specs.declared.alloc.Global.{Global}
-use Rattle.std.specs.declared.alloc.AllocError.{AllocError}
 use Rattle.envvars.specs.Texts.{Text, texts_in}
 use Rattle.envvars.specs.Names.{is_variable_name}
 use Rattle.envvars.specs.Environment.{Environment}
@@ -19,12 +17,11 @@ use Rattle.modulefile.specs.Records as records
 use Rattle.modulefile.specs.Judgments.{RecordReason, bad_edit, bad_module_name}
 use Rattle.modulefile.specs.declared.call.Call.{Call}
 use Rattle.modulefile.specs.declared.call_fault.CallFault.{CallFault}
-use Rattle.modulefile.specs.declared.records.Record.{Record}
 use Rattle.modulefile.specs.declared.record_fault.RecordFault.{RecordFault}
 use Rattle.modulefile.specs.Calls as calls
 use Rattle.modulefile.specs.Calls.{CallReason, bad_record, bad_arguments, unknown, adds_record, call_of}
 use Rattle.modulefile.specs.CallViews.{reason_of, call_view, HasReason}
-use Rattle.modulefile.specs.RecordViews.{record_view, fault_reason}
+use Rattle.modulefile.specs.RecordViews.{fault_reason}
 use Rattle.modulerun.specs.RecordAnswers.{HasFault}
 use Rattle.modulefile.specs.Answers as answers
 use Rattle.modulefile.specs.Answers.{command_answer, question_answer, record_answer, not_done, variable_answer}
@@ -130,11 +127,6 @@ refused_reply s t cx messages mark held words r fault h new call same e f = go (
         by_answer _ (not_done (bad_record reason)) h (trace_with s messages mark held) new
         (ap (command_answer (context_with s cx) (environment_so_far s) words) call ∙ ap (record_answer words) d)
         (at reason (subst (λ o. IfSome o (λ x. x ≡ reason)) (sym q) refl))
-
-pub call_made : (made : Result Record AllocError) (accepted : Record) (words : List Text) → made ≡ Ok accepted
-    → IfOk made (λ r. call_of words ≡ Ok (adds_record (record_view r)))
-    → call_of words ≡ Ok (adds_record (record_view accepted))
-call_made made accepted words e h = subst (λ (m : Result Record AllocError). IfOk m (λ r. call_of words ≡ Ok (adds_record (record_view r)))) e h
 
 pub read_named : (var value : Text) → is_variable_name var ≡ true → variable_answer var value ≡ question_answer value
 read_named var value e = ap (λ b. if b then question_answer value else not_done (bad_record (bad_edit (bad_variable var)))) e

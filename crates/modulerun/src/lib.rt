@@ -8,7 +8,6 @@ mod context;
 mod effects;
 mod journal;
 mod questions;
-mod recording;
 mod run;
 mod run_fault;
 mod runner;

@@ -21,7 +21,6 @@ use crate::command_refusal::CommandRefusal;
 use crate::context::FileContext;
 use crate::journal::{FinishedFile, Journal};
 use crate::questions::{any_loaded, is_mode, mode_word, truth};
-use crate::recording;
 use crate::run::{FileDraft, FileRun, refusal};
 use crate::run_fault::RunFault;
 use envvars::{EnvFault, Vars, is_variable_name};
@@ -110,19 +109,16 @@ impl<'a, V: Vars> Runner<'a, V> {
     }
 
     /// Adds the record of a command to the journal, where it has its effect.
-    fn add_record(&mut self, words: &[String], recorded: Result<Record, AllocError>) -> HostAnswer
-        requires { IfOk recorded (λ r. call_of (map string_bytes words.now) ≡ Ok (adds_record (record_view r))) }
+    fn add_record(&mut self, words: &[String], recorded: Record) -> HostAnswer
+        requires { call_of (map string_bytes words.now) ≡ Ok (adds_record (record_view recorded)) }
         ensures replies { Replies (command_answer (context_of self.old) (environment_so_far self.old.journal)
             (map string_bytes words.now) (call_of (map string_bytes words.now))) result
             (trace_of self.old) (trace_of self.new) }
         ensures same { context_of self.new ≡ context_of self.old }
     {
-        match recorded {
-            Err(_) => HostAnswer::OutOfMemory,
-            Ok(record) => match self.journal.add_command(words, record) {
-                Ok(()) => HostAnswer::Done(String::new(self.alloc)),
-                Err(fault) => self.refuse(fault),
-            },
+        match self.journal.add_command(words, recorded) {
+            Ok(()) => HostAnswer::Done(String::new(self.alloc)),
+            Err(fault) => self.refuse(fault),
         }
     }
 
@@ -297,21 +293,7 @@ impl<'a, V: Vars> Runner<'a, V> {
     {
         let alloc = self.alloc;
         match call {
-            Call::Set { var, value } => self.add_record(words, recording::set(alloc, var, value)),
-            Call::Unset { var, value } => self.add_record(
-                words,
-                recording::unset(alloc, var, value),
-            ),
-            Call::Push { var, value } => self.add_record(words, recording::push(alloc, var, value)),
-            Call::Path {
-                edit,
-                delim,
-                var,
-                values,
-            } => self.add_record(words, recording::path(alloc, edit, delim, var, values)),
-            Call::Conflict(names) => self.add_record(words, recording::conflict(alloc, names)),
-            Call::Prereq(names) => self.add_record(words, recording::prereq(alloc, names)),
-            Call::Whatis(texts) => self.add_record(words, recording::whatis(alloc, texts)),
+            Call::Adds(record) => self.add_record(words, record),
             Call::Puts { text, newline } => self.add_message(text, newline),
             Call::Getenv { var, default } => self.getenv(var, default),
             Call::OwnName => self.own_name(),

@@ -64,10 +64,8 @@ fn push_conflicts<'a>(
     ensures { OnOk result (slice_texts all.new.items
         ≡ slice_texts all.old.items ++ conflict_names (record_view recorded.entry.now ∷ [])) }
 {
-    if let Record::Conflict(names) = recorded {
-        let mut names = slices(alloc, names.as_slice())?;
-        all.append(&mut names)?;
-    }
+    let mut names = slices(alloc, recorded.conflicts())?;
+    all.append(&mut names)?;
     Ok(())
 }
 
@@ -91,8 +89,8 @@ fn push_group(
     ensures { OnOk result (map texts_in groups.new.items
         ≡ map texts_in groups.old.items ++ prereq_groups (record_view recorded.now ∷ [])) }
 {
-    if let Record::Prereq(names) = recorded {
-        groups.push(copies(alloc, names.as_slice())?)?;
+    if let Some(names) = recorded.prereqs() {
+        groups.push(copies(alloc, names)?)?;
     }
     Ok(())
 }

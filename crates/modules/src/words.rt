@@ -1,9 +1,8 @@
 //! Parses the words of a command line into a request (module(1)).
-ghost use Rattle.std.specs.Prelude.{◌≡◌, List, map, IfOk, string_bytes};
-ghost use Rattle.envvars.specs.Texts.{Text};
+ghost use Rattle.std.specs.Prelude.{◌≡◌, map, IfOk, string_bytes};
 ghost use Rattle.filetree.specs.Relations.{Is};
-ghost use Rattle.requests.specs.Requests.{RequestedAction, some_names, switch_of, no_names, request_of};
-ghost use Rattle.requests.specs.RequestViews.{action_view, texts_of};
+ghost use Rattle.requests.specs.Requests.{some_names, switch_of, no_names, request_of};
+ghost use Rattle.requests.specs.RequestViews.{action_view};
 ghost use Rattle.modules.specs.Answers.{GivesOrRefuses};
 
 use crate::refusal::Refusal;
@@ -12,16 +11,15 @@ use requests::{Action, Request};
 use shelltext::Shell;
 use std::alloc::Global;
 
-/// A copy of the names that follow a subcommand which needs at least one; 56 where there is none.
-fn some_names(alloc: Global, words: &[String]) -> Result<Vec<String>, Refusal>
-    ensures { (make : List Text → RequestedAction)
-        → GivesOrRefuses (λ names. make (texts_of names)) result
-        (Is (some_names make (map string_bytes words.now))) }
+/// The action, where at least one name follows the subcommand; else 56.
+fn some_names(action: Action, words: &[String]) -> Result<Action, Refusal>
+    ensures { GivesOrRefuses action_view result
+        (Is (some_names (action_view action) (map string_bytes words.now))) }
 {
-    if words.is_empty() {
-        return Err(Refusal::BadArguments);
+    match words {
+        [] => Err(Refusal::BadArguments),
+        [_, ..] => Ok(action),
     }
-    Ok(copies(alloc, words)?)
 }
 
 /// The action, where no name follows the subcommand; else 56.
@@ -54,14 +52,14 @@ fn action_of(alloc: Global, words: &[String]) -> Result<Action, Refusal>
         return Err(Refusal::BadArguments);
     };
     match word.as_str() {
-        "load" | "add" => some_names(alloc, names).map(Action::Load),
-        "unload" | "rm" => some_names(alloc, names).map(Action::Unload),
+        "load" | "add" => some_names(Action::Load(copies(alloc, names)?), names),
+        "unload" | "rm" => some_names(Action::Unload(copies(alloc, names)?), names),
         "switch" | "swap" => switch_of(names),
         "purge" => no_names(Action::Purge, names),
         "list" => no_names(Action::List, names),
         "avail" => Ok(Action::Avail(copies(alloc, names)?)),
-        "show" | "display" => some_names(alloc, names).map(Action::Show),
-        "whatis" => some_names(alloc, names).map(Action::Whatis),
+        "show" | "display" => some_names(Action::Show(copies(alloc, names)?), names),
+        "whatis" => some_names(Action::Whatis(copies(alloc, names)?), names),
         other => Err(Refusal::UnknownSubcommand(String::from_str(alloc, other)?)),
     }
 }

@@ -21,9 +21,9 @@ abbrev pub Request : Type 0
 Request = Shell × RequestedAction
 
 -- at least one name
-abbrev pub some_names : (List Text → RequestedAction) → List Text → Result RequestedAction RequestReason
-some_names make [] = Err bad_arguments
-some_names make (name ∷ names) = Ok (make (name ∷ names))
+abbrev pub some_names : RequestedAction → List Text → Result RequestedAction RequestReason
+some_names action [] = Err bad_arguments
+some_names action (name ∷ names) = Ok action
 
 -- `switch [OLD] NEW`
 abbrev pub switch_of : List Text → Result RequestedAction RequestReason
@@ -44,12 +44,12 @@ is_word one other word = bytes_eq word one || bytes_eq word other
 abbrev pub request_of : List Text → Result RequestedAction RequestReason
 request_of [] = Err bad_arguments
 request_of (word ∷ names) =
-    if is_word (codes "load") (codes "add") word then some_names load names
-    else if is_word (codes "unload") (codes "rm") word then some_names unload names
+    if is_word (codes "load") (codes "add") word then some_names (load names) names
+    else if is_word (codes "unload") (codes "rm") word then some_names (unload names) names
     else if is_word (codes "switch") (codes "swap") word then switch_of names
     else if bytes_eq word (codes "purge") then no_names purge names
     else if bytes_eq word (codes "list") then no_names list names
     else if bytes_eq word (codes "avail") then Ok (avail names)
-    else if is_word (codes "show") (codes "display") word then some_names show names
-    else if bytes_eq word (codes "whatis") then some_names whatis names
+    else if is_word (codes "show") (codes "display") word then some_names (show names) names
+    else if bytes_eq word (codes "whatis") then some_names (whatis names) names
     else Err (unknown_subcommand word)

@@ -12,19 +12,12 @@ fn push_description(report: &mut String, name: &str, recorded: &Record) -> Resul
     ensures { OnOk result (string_bytes report.new
         ≡ string_bytes report.old ++ whatis_text name.now (record_view recorded.now ∷ [])) }
 {
-    match recorded {
-        Record::Whatis(text) => {
-            report.push_str(name)?;
-            report.push_str(": ")?;
-            push_line(report, text)
-        }
-        Record::Set { .. }
-        | Record::Unset { .. }
-        | Record::Push { .. }
-        | Record::Path { .. }
-        | Record::Conflict(_)
-        | Record::Prereq(_) => Ok(()),
-    }
+    let Some(text) = recorded.description() else {
+        return Ok(());
+    };
+    report.push_str(name)?;
+    report.push_str(": ")?;
+    push_line(report, text)
 }
 
 /// The report of `whatis` on a file: its descriptions, each on a line after the module's name. It fails for want of

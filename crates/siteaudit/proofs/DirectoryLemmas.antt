@@ -11,7 +11,7 @@ use Rattle.envvars.proofs.TextLemmas.{same_text}
 use Rattle.envvars.proofs.FieldLemmas.{without_repeats-step, without_repeats-start}
 use Rattle.filetree.specs.Modulefiles.{colon, is_empty, directories}
 use Rattle.sitecertificate.specs.RecordUses.{IsAmong, modulepath}
-use Rattle.modulefile.specs.Records.{Record, Set, Unset, Push, Front, Back, Remove, Conflict, Prereq, Whatis}
+use Rattle.modulefile.specs.Records.{Record, Front, Back}
 use Rattle.requests.specs.Steps as requests
 use Rattle.sitelaws.specs.Sites.{Site, IsDirectory, first, added, directories_by}
 use Rattle.sitelaws.specs.DirectorySets.{with_directories}
@@ -130,15 +130,9 @@ by_name d elements true a = let i = of_flat_map directories d elements a in alon
 by_name d elements false a = absurd a
 
 alone_by : (d : Text) (r : Record) → IsAmong d (directories_by r) → IsAlone d
-alone_by d (Set var value) a = absurd a
-alone_by d (Unset var value) a = absurd a
-alone_by d (Push var value) a = absurd a
 alone_by d (Front delim var elements) a = by_name d elements (bytes_eq var modulepath) a
 alone_by d (Back delim var elements) a = by_name d elements (bytes_eq var modulepath) a
-alone_by d (Remove delim var elements) a = absurd a
-alone_by d (Conflict names) a = absurd a
-alone_by d (Prereq names) a = absurd a
-alone_by d (Whatis text) a = absurd a
+alone_by d r a = absurd a
 
 -- so is each directory of a site
 pub is_alone : (site : Site) (d : Text) → IsDirectory site d → IsAlone d

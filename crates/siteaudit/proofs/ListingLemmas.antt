@@ -20,7 +20,9 @@ module _ (results : Text → Text → Option DefaultFileResult → Type 0) (file
   no_more [] x h = h
   no_more (y ∷ xs) x h = h
 
-  only_one : (xs : List DirectoryListing) (x : DirectoryListing) → AreListings results files listings (dir ∷ []) (map listing_view (xs ++ x ∷ [])) → IsListing results files listings dir (listing_view x).1
+  only_one : (xs : List DirectoryListing) (x : DirectoryListing)
+      → AreListings results files listings (dir ∷ []) (map listing_view (xs ++ x ∷ []))
+      → IsListing results files listings dir (listing_view x).1
   only_one [] x h = h.1
   only_one (y ∷ xs) x h = absurd (no_more xs x h.2)
 

@@ -118,7 +118,8 @@ step_by m asks rs (InStep records) f rest =
     ∙ (kept_step (with_records m rs) rest (and_from (list_all is_reversible rs) (are_in_step (used_by rs)) f.1 f.2)
     ∙ ap (λ (o : Option Module). filter is_in_step (cons_option o rest)) (sym (plainly m rs f.1))))
 
-step_one : (m : SiteModule) (outcome : Result code.FileRun Refusal) (out : Result Ran RequestReason) (finding : ModuleFinding) → IsOutcome outcome out → IsFinding outcome finding → (rest : List Module)
+step_one : (m : SiteModule) (outcome : Result code.FileRun Refusal) (out : Result Ran RequestReason)
+    (finding : ModuleFinding) → IsOutcome outcome out → IsFinding outcome finding → (rest : List Module)
     → steps_of m finding ++ filter is_in_step rest ≡ filter is_in_step (cons_option (plain_of (m, out)) rest)
 step_one m (Err refusal) out finding o f rest =
     ap (λ (k : ModuleFinding). steps_of m k ++ filter is_in_step rest) f ∙ sym (ap (λ (x : Result Ran RequestReason). filter is_in_step (cons_option (plain_of (m, x)) rest)) o.2)

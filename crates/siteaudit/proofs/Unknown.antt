@@ -1,6 +1,6 @@
 -- The names that modules mention and that mean no module of the site.
-use Rattle.std.proofs.Common.{◌≡◌, inl, inr, Bool, true, false, List, [], ◌∷◌, map, flat_map, Result, Ok, Err, refl, ap}
-use Rattle.std.proofs.Common.{sym, ◌∙◌, subst, string_bytes}
+use Rattle.std.proofs.Common.{◌≡◌, inl, inr, Bool, true, false, List, [], ◌∷◌, map, flat_map, Option, Some, None}
+use Rattle.std.proofs.Common.{Result, Ok, Err, refl, ap, sym, ◌∙◌, subst, string_bytes}
 use Rattle.std.specs.List.{list_any}
 use Rattle.std.proofs.lemmas.Bool.{false≢true}
 use Rattle.modulename.specs.ModuleName.{means}
@@ -10,19 +10,20 @@ use Rattle.modulefile.specs.Laws as files
 use Rattle.modulefile.specs.RecordViews.{record_view}
 use Rattle.modulerun.specs.declared.run.FileRun as code
 use Rattle.modulerun.specs.Running.{ran_view}
-use Rattle.modulefile.specs.Records.{Record, Set, Unset, Push, Front, Back, Remove, Conflict, Prereq, Whatis}
-use Rattle.modulefile.specs.Records.{conflict_names, prereq_groups}
+use Rattle.modulefile.specs.Records.{Record, conflicts_of, prereqs_of, conflict_names, prereq_groups}
 use Rattle.requests.specs.Reasons.{RequestReason}
 use Rattle.modules.specs.declared.refusal.Refusal.{Refusal}
 use Rattle.sitecertificate.specs.RecordUses.{IsAmong}
-use Rattle.sitecertificate.proofs.UsedLemmas.{by_test, by_cases, among_left, among_right, among_either}
+use Rattle.sitecertificate.proofs.UsedLemmas.{by_test, by_cases, among_left, among_right, among_either, cons_later}
+use Rattle.sitecertificate.proofs.UsedLemmas.{cons_first, cons_either}
 use Rattle.sitecertificate.proofs.Exact.{any_some, some_any}
 use Rattle.sitelaws.specs.Sites.{Site, SiteModule, EvaluatesTo, IsOfSite, Evaluated, AreEvaluated}
 use Rattle.siteaudit.specs.declared.walk.Evaluation.{Evaluation}
 use Rattle.siteaudit.specs.Walks.{IsOutcome, AreEvaluations}
 use Rattle.siteaudit.specs.Audits.{Mention, AreMentioned, IsUnknown}
 use Rattle.siteaudit.specs.Findings.{evaluated_file}
-use Rattle.siteaudit.specs.Mentions.{is_known, unknown_by, unknown_in, unknown_after, unknown_of}
+use Rattle.siteaudit.specs.Mentions.{is_known, unknown_by, unknown_each, unknown_group, unknown_in, unknown_after}
+use Rattle.siteaudit.specs.Mentions.{unknown_of}
 use Rattle.siteaudit.proofs.Evaluations.{one_outcome, same_file, outcome_of, of_site, is_evaluated}
 
 -- ---- members of parts
@@ -78,46 +79,42 @@ in_names : (known : Text → Bool) (m : SiteModule) (b : Bool) (names : List Tex
 in_names known m b names f = rw f (inl refl)
 
 conflict_later : (r : Record) (rs : List Record) (name : Text) → IsAmong name (conflict_names rs) → IsAmong name (conflict_names (r ∷ rs))
-conflict_later (Set var value) rs name a = a
-conflict_later (Unset var value) rs name a = a
-conflict_later (Push var value) rs name a = a
-conflict_later (Front delim var elements) rs name a = a
-conflict_later (Back delim var elements) rs name a = a
-conflict_later (Remove delim var elements) rs name a = a
-conflict_later (Conflict names) rs name a = among_right name names (conflict_names rs) a
-conflict_later (Prereq names) rs name a = a
-conflict_later (Whatis text) rs name a = a
+conflict_later r rs name a = among_right name (conflicts_of r) (conflict_names rs) a
 
 groups_later : (r : Record) (rs : List Record) (names : List Text) → IsAmong names (prereq_groups rs) → IsAmong names (prereq_groups (r ∷ rs))
-groups_later (Set var value) rs names a = a
-groups_later (Unset var value) rs names a = a
-groups_later (Push var value) rs names a = a
-groups_later (Front delim var elements) rs names a = a
-groups_later (Back delim var elements) rs names a = a
-groups_later (Remove delim var elements) rs names a = a
-groups_later (Conflict others) rs names a = a
-groups_later (Prereq others) rs names a = inr a
-groups_later (Whatis text) rs names a = a
+groups_later r rs names a = cons_later names (prereqs_of r) (prereq_groups rs) a
 
 later : (r : Record) (rs : List Record) (b : Bool) (names : List Text) → AreMentioned rs b names → AreMentioned (r ∷ rs) b names
 later r rs true names a = groups_later r rs names a
 later r rs false names a = (a.0, conflict_later r rs a.0 a.1, a.2)
 
-of_record : (known : Text → Bool) (m : SiteModule) (r : Record) (rs : List Record) (mention : Mention) → IsAmong mention (unknown_in known m r) → IsOf known m (r ∷ rs) mention
-of_record known m (Set var value) rs mention a = absurd a
-of_record known m (Unset var value) rs mention a = absurd a
-of_record known m (Push var value) rs mention a = absurd a
-of_record known m (Front delim var elements) rs mention a = absurd a
-of_record known m (Back delim var elements) rs mention a = absurd a
-of_record known m (Remove delim var elements) rs mention a = absurd a
-of_record known m (Conflict names) rs mention a =
-    let p = of_parts (λ name. unknown_by known m false (name ∷ [])) mention names a in
+of_conflicts : (known : Text → Bool) (m : SiteModule) (r : Record) (rs : List Record) (mention : Mention) → IsAmong mention (unknown_each known m (conflicts_of r)) → IsOf known m (r ∷ rs) mention
+of_conflicts known m r rs mention a =
+    let p = of_parts (λ name. unknown_by known m false (name ∷ [])) mention (conflicts_of r) a in
     let q = of_names known m false (p.0 ∷ []) mention p.2 in
-    subst (IsOf known m (Conflict names ∷ rs)) (sym q.0) (record { by_it = refl; mentioned = (p.0, among_left p.0 names (conflict_names rs) p.1, refl); none = q.1 })
-of_record known m (Prereq names) rs mention a =
-    let q = of_names known m true names mention a in
-    subst (IsOf known m (Prereq names ∷ rs)) (sym q.0) (record { by_it = refl; mentioned = inl refl; none = q.1 })
-of_record known m (Whatis text) rs mention a = absurd a
+    subst (IsOf known m (r ∷ rs)) (sym q.0) (record { by_it = refl; mentioned = (p.0, among_left p.0 (conflicts_of r) (conflict_names rs) p.1, refl); none = q.1 })
+
+record IsOfGroup (known : Text → Bool) (m : SiteModule) (group : Option (List Text)) (mention : Mention) : Type 0 where
+  names : List Text
+  is : group ≡ Some names
+  same : mention ≡ record { by = m; is_prereq = true; names = names }
+  none : list_any known names ≡ false
+
+of_group : (known : Text → Bool) (m : SiteModule) (group : Option (List Text)) (mention : Mention) → IsAmong mention (unknown_group known m group) → IsOfGroup known m group mention
+of_group known m None mention a = absurd a
+of_group known m (Some names) mention a =
+    let q = of_names known m true names mention a in record { names = names; is = refl; same = q.0; none = q.1 }
+
+of_prereqs : (known : Text → Bool) (m : SiteModule) (r : Record) (rs : List Record) (mention : Mention) → IsAmong mention (unknown_group known m (prereqs_of r)) → IsOf known m (r ∷ rs) mention
+of_prereqs known m r rs mention a =
+    let q = of_group known m (prereqs_of r) mention a in
+    subst (IsOf known m (r ∷ rs)) (sym q.same)
+    (record { by_it = refl; mentioned = cons_first q.names (prereqs_of r) (prereq_groups rs) q.is; none = q.none })
+
+of_record : (known : Text → Bool) (m : SiteModule) (r : Record) (rs : List Record) (mention : Mention) → IsAmong mention (unknown_in known m r) → IsOf known m (r ∷ rs) mention
+of_record known m r rs mention a = by_cases (among_either mention (unknown_each known m (conflicts_of r)) (unknown_group known m (prereqs_of r)) a)
+    (of_conflicts known m r rs mention)
+    (of_prereqs known m r rs mention)
 
 of_records : (known : Text → Bool) (m : SiteModule) (rs : List Record) (mention : Mention) → IsAmong mention (flat_map (unknown_in known m) rs) → IsOf known m rs mention
 of_records known m [] mention a = absurd a
@@ -137,32 +134,17 @@ found_first known m r rs b names a = among_left _ (unknown_in known m r) (flat_m
 
 in_conflicts : (known : Text → Bool) (m : SiteModule) (rs : List Record) (name : Text) → IsAmong name (conflict_names rs) → list_any known (name ∷ []) ≡ false → Found known m rs false (name ∷ [])
 in_conflicts known m [] name a f = absurd a
-in_conflicts known m (Set var value ∷ rs) name a f = found_later known m (Set var value) rs false (name ∷ []) (in_conflicts known m rs name a f)
-in_conflicts known m (Unset var value ∷ rs) name a f = found_later known m (Unset var value) rs false (name ∷ []) (in_conflicts known m rs name a f)
-in_conflicts known m (Push var value ∷ rs) name a f = found_later known m (Push var value) rs false (name ∷ []) (in_conflicts known m rs name a f)
-in_conflicts known m (Front delim var elements ∷ rs) name a f = found_later known m (Front delim var elements) rs false (name ∷ []) (in_conflicts known m rs name a f)
-in_conflicts known m (Back delim var elements ∷ rs) name a f = found_later known m (Back delim var elements) rs false (name ∷ []) (in_conflicts known m rs name a f)
-in_conflicts known m (Remove delim var elements ∷ rs) name a f = found_later known m (Remove delim var elements) rs false (name ∷ []) (in_conflicts known m rs name a f)
-in_conflicts known m (Conflict names ∷ rs) name a f = by_cases (among_either name names (conflict_names rs) a)
-    (λ b. found_first known m (Conflict names) rs false (name ∷ []) (in_parts (λ n. unknown_by known m false (n ∷ [])) _ names name b (in_names known m false (name ∷ []) f)))
-    (λ b. found_later known m (Conflict names) rs false (name ∷ []) (in_conflicts known m rs name b f))
-in_conflicts known m (Prereq names ∷ rs) name a f = found_later known m (Prereq names) rs false (name ∷ []) (in_conflicts known m rs name a f)
-in_conflicts known m (Whatis text ∷ rs) name a f = found_later known m (Whatis text) rs false (name ∷ []) (in_conflicts known m rs name a f)
+in_conflicts known m (r ∷ rs) name a f = by_cases (among_either name (conflicts_of r) (conflict_names rs) a)
+    (λ b. found_first known m r rs false (name ∷ []) (among_left _ (unknown_each known m (conflicts_of r)) (unknown_group known m (prereqs_of r))
+    (in_parts (λ n. unknown_by known m false (n ∷ [])) _ (conflicts_of r) name b (in_names known m false (name ∷ []) f))))
+    (λ b. found_later known m r rs false (name ∷ []) (in_conflicts known m rs name b f))
 
 in_groups : (known : Text → Bool) (m : SiteModule) (rs : List Record) (names : List Text) → IsAmong names (prereq_groups rs) → list_any known names ≡ false → Found known m rs true names
 in_groups known m [] names a f = absurd a
-in_groups known m (Set var value ∷ rs) names a f = found_later known m (Set var value) rs true names (in_groups known m rs names a f)
-in_groups known m (Unset var value ∷ rs) names a f = found_later known m (Unset var value) rs true names (in_groups known m rs names a f)
-in_groups known m (Push var value ∷ rs) names a f = found_later known m (Push var value) rs true names (in_groups known m rs names a f)
-in_groups known m (Front delim var elements ∷ rs) names a f = found_later known m (Front delim var elements) rs true names (in_groups known m rs names a f)
-in_groups known m (Back delim var elements ∷ rs) names a f = found_later known m (Back delim var elements) rs true names (in_groups known m rs names a f)
-in_groups known m (Remove delim var elements ∷ rs) names a f = found_later known m (Remove delim var elements) rs true names (in_groups known m rs names a f)
-in_groups known m (Conflict others ∷ rs) names a f = found_later known m (Conflict others) rs true names (in_groups known m rs names a f)
-in_groups known m (Prereq others ∷ rs) names (inl e) f =
-    subst (λ (l : List Text). Found known m (Prereq others ∷ rs) true l) (sym e)
-    (found_first known m (Prereq others) rs true others (in_names known m true others (ap (list_any known) (sym e) ∙ f)))
-in_groups known m (Prereq others ∷ rs) names (inr a) f = found_later known m (Prereq others) rs true names (in_groups known m rs names a f)
-in_groups known m (Whatis text ∷ rs) names a f = found_later known m (Whatis text) rs true names (in_groups known m rs names a f)
+in_groups known m (r ∷ rs) names a f = by_cases (cons_either names (prereqs_of r) (prereq_groups rs) a)
+    (λ e. found_first known m r rs true names (among_right _ (unknown_each known m (conflicts_of r)) (unknown_group known m (prereqs_of r))
+    (subst (λ (o : Option (List Text)). IsAmong (record { by = m; is_prereq = true; names = names }) (unknown_group known m o)) (sym e) (in_names known m true names f))))
+    (λ b. found_later known m r rs true names (in_groups known m rs names b f))
 
 in_records : (known : Text → Bool) (m : SiteModule) (rs : List Record) (b : Bool) (names : List Text) → AreMentioned rs b names → list_any known names ≡ false → Found known m rs b names
 in_records known m rs true names a f = in_groups known m rs names a f

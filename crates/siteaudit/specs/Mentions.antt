@@ -1,6 +1,6 @@
 -- The names that records mention, and which of them are unknown: for this crate's own contracts alone.
-use Rattle.std.specs.Prelude.{Bool, true, false, List, [], ◌∷◌, map, flat_map, if◌then◌else◌, Result, Ok, Err}
-use Rattle.std.specs.Prelude.{string_bytes}
+use Rattle.std.specs.Prelude.{Bool, true, false, List, [], ◌∷◌, ◌++◌, map, flat_map, if◌then◌else◌, Option, Some, None}
+use Rattle.std.specs.Prelude.{Result, Ok, Err, string_bytes}
 use Rattle.std.specs.List.{list_any}
 use Rattle.std.specs.declared.alloc.Global.{Global}
 use Rattle.std.specs.declared.string.String.{String}
@@ -8,7 +8,7 @@ use Rattle.modulename.specs.ModuleName.{means}
 use Rattle.envvars.specs.Texts.{Text, has}
 use Rattle.modulefile.specs.RecordViews.{record_view}
 use Rattle.modulerun.specs.declared.run.FileRun.{FileRun}
-use Rattle.modulefile.specs.Records.{Record, Set, Unset, Push, Front, Back, Remove, Conflict, Prereq, Whatis}
+use Rattle.modulefile.specs.Records.{Record, conflicts_of, prereqs_of}
 use Rattle.modules.specs.declared.refusal.Refusal.{Refusal}
 use Rattle.sitelaws.specs.Sites.{SiteModule}
 use Rattle.siteaudit.specs.declared.walk.Evaluation.{Evaluation}
@@ -28,17 +28,18 @@ abbrev pub unknown_by : (Text → Bool) → SiteModule → Bool → List Text �
 unknown_by known m is_prereq names =
     if list_any known names then [] else record { by = m; is_prereq = is_prereq; names = names } ∷ []
 
+-- each name that a module has in a conflict, where it isn't known
+abbrev pub unknown_each : (Text → Bool) → SiteModule → List Text → List Mention
+unknown_each known m names = flat_map (λ name. unknown_by known m false (name ∷ [])) names
+
+-- the alternatives that a module has in a prereq, where none of them is known
+abbrev pub unknown_group : (Text → Bool) → SiteModule → Option (List Text) → List Mention
+unknown_group known m None = []
+unknown_group known m (Some names) = unknown_by known m true names
+
 -- what a record of a module mentions that is unknown
 abbrev pub unknown_in : (Text → Bool) → SiteModule → Record → List Mention
-unknown_in known m (Set var value) = []
-unknown_in known m (Unset var value) = []
-unknown_in known m (Push var value) = []
-unknown_in known m (Front delim var elements) = []
-unknown_in known m (Back delim var elements) = []
-unknown_in known m (Remove delim var elements) = []
-unknown_in known m (Conflict names) = flat_map (λ name. unknown_by known m false (name ∷ [])) names
-unknown_in known m (Prereq names) = unknown_by known m true names
-unknown_in known m (Whatis text) = []
+unknown_in known m r = unknown_each known m (conflicts_of r) ++ unknown_group known m (prereqs_of r)
 
 -- what the records of an evaluation mention
 abbrev pub unknown_after : (Text → Bool) → SiteModule → Result FileRun Refusal → List Mention

@@ -134,18 +134,10 @@ fn judge_record(
         ++ unknown_in (known_in meaning.now.keys) (evaluated_file module.now)
         (record_view recorded.now)) }
 {
-    match recorded {
-        Record::Conflict(names) => {
-            judge_conflict(alloc, meaning, module, names.as_slice(), unknown)
-        }
-        Record::Prereq(names) => {
-            judge_names(alloc, meaning, module, true, names.as_slice(), unknown)
-        }
-        Record::Set { .. }
-        | Record::Unset { .. }
-        | Record::Push { .. }
-        | Record::Path { .. }
-        | Record::Whatis(_) => Ok(()),
+    judge_conflict(alloc, meaning, module, recorded.conflicts(), unknown)?;
+    match recorded.prereqs() {
+        Some(names) => judge_names(alloc, meaning, module, true, names, unknown),
+        None => Ok(()),
     }
 }
 

@@ -1,7 +1,6 @@
 -- From the users of each variable to what is answered of each module.
-use Rattle.std.proofs.Common.{zero, suc, arith, ◌≡◌, inl, inr, ℕ, ◌+◌, ◌<◌, ◌≤◌, Bool, true, false, ◌&&◌, List, [], ◌∷◌}
-use Rattle.std.proofs.Common.{◌++◌, map, length, take, get_or, append_assoc, append-nil, refl, sym, ap, ◌∙◌, subst}
-use Rattle.std.proofs.Common.{Option}
+use Rattle.std.proofs.Common.{zero, suc, arith, ◌≡◌, inl, inr, ℕ, ◌+◌, ◌<◌, ◌≤◌, true, false, ◌&&◌, List, [], ◌∷◌, ◌++◌}
+use Rattle.std.proofs.Common.{map, length, take, get_or, append_assoc, append-nil, refl, sym, ap, ◌∙◌, subst, Option}
 use Rattle.std.specs.Prelude.{bytes_eq, string_bytes}
 use Rattle.std.specs.List.{list_any, flat_map}
 use Rattle.std.proofs.lemmas.Bool.{false≢true}
@@ -9,6 +8,7 @@ use Rattle.std.proofs.lemmas.List.{take_more, take_all, map-append}
 use Rattle.std.proofs.lemmas.Grind.{flat_map-append}
 use Rattle.envvars.specs.Texts.{Text}
 use Rattle.envvars.proofs.TextLemmas.{same_text}
+use Rattle.envvars.proofs.EditLemmas.{both_true, and_both}
 use Rattle.modulefile.specs.Moves.{Module}
 use Rattle.reversal.specs.VariableUses.{VariableUse}
 use Rattle.sitecertificate.specs.RecordUses.{UsedVariable, used_by, IsAmong}
@@ -20,8 +20,7 @@ use Rattle.sitecertificate.proofs.UsedLemmas.{by_test, by_cases, among_left, amo
 use Rattle.sitecertificate.specs.declared.answers.Clash.{Clash}
 use Rattle.sitecertificate.specs.Users.{ModuleUse, Enters, EntersAll, AreUsersOf, do_users_clash, uses_of_module}
 use Rattle.sitecertificate.specs.Users.{uses_of_modules}
-use Rattle.sitecertificate.specs.ClashingUsers.{IsClashBetween}
-use Rattle.sitecertificate.specs.ClashAnswers.{IsClashOf, ClashesWithNone, IsAnswer, AreAnswers}
+use Rattle.sitecertificate.specs.ClashAnswers.{IsClashBetween, IsClashOf, ClashesWithNone, IsAnswer, AreAnswers}
 use Rattle.sitecertificate.proofs.Members.{fails_each}
 use Rattle.sitecertificate.proofs.TableLemmas.{use_of, some_clash}
 
@@ -106,9 +105,6 @@ enters_one old new x enters all before = record { complete = entered_complete ol
 enters_both : (old mid new : Text → List ModuleUse) (xs ys : List ModuleUse) → EntersAll old mid xs → EntersAll mid new ys → EntersAll old new (xs ++ ys)
 enters_both old mid new xs ys h k all before = subst (AreUsersOf new) (append_assoc all xs ys) (k (all ++ xs) (h all before))
 
-pub enters_none : (users : Text → List ModuleUse) → EntersAll users users []
-enters_none users all before = subst (AreUsersOf users) (sym (append-nil all)) before
-
 pub enters_turn : (old mid new : Text → List ModuleUse) (m : Module) (ps : List code.UsedVariable) (i : ℕ) (p : code.UsedVariable) → i < length ps → p ≡ get_or ps i p
     → EntersAll old mid (map (use_of m) (take i ps)) → Enters mid new (use_of m p) → EntersAll old new (map (use_of m) (take (i + 1) ps))
 enters_turn old mid new m ps i p l is h k =
@@ -140,14 +136,6 @@ owner_listed ms y h =
     let o = owner_is r.0 y r.2 in
     (subst (λ (n : Module). IsAmong n ms) (sym o.1) r.1, subst (λ (n : Module). IsAmong y.used (used_by n.records)) (sym o.1) o.0)
 
-both_hold : (a b : Bool) → (a && b) ≡ true → (a ≡ true) × (b ≡ true)
-both_hold true b h = (refl, h)
-both_hold false b h = absurd (false≢true h)
-
-and_true : (a b : Bool) → a ≡ true → b ≡ true → (a && b) ≡ true
-and_true true b h k = k
-and_true false b h k = absurd (false≢true h)
-
 pub is_clash : (users : Text → List ModuleUse) (m : Module) (x y : ModuleUse) (c : Clash) → IsClashBetween x y c
     → IsAmong x (uses_of_module m) × IsAmong y (users x.used.0) × (do_users_clash x y ≡ true)
     → (ms : List Module) → AreUsersOf users (uses_of_modules ms) → IsClashOf ms m c
@@ -157,7 +145,7 @@ is_clash users m x y c b found ms all =
     let theirs = owner_listed ms y s.0 in
     let test : (is_other m y.owner && uses_clash (exclude m y.owner) x.used.1 y.used.1) ≡ true
     = subst (λ (n : Module). (is_other n y.owner && uses_clash (exclude n y.owner) x.used.1 y.used.1) ≡ true) own.1 found.2 in
-    let both = both_hold (is_other m y.owner) (uses_clash (exclude m y.owner) x.used.1 y.used.1) test in
+    let both = both_true (is_other m y.owner) (uses_clash (exclude m y.owner) x.used.1 y.used.1) test in
     let first : x.used ≡ (string_bytes c.variable, use_view c.own) = λ i. (sym b.variable i, sym b.own i) in
     let variable : y.used.0 ≡ string_bytes c.variable = s.1 ∙ sym b.variable in
     let second : y.used ≡ (string_bytes c.variable, use_view c.theirs) = λ i. (variable i, sym b.theirs i) in
@@ -183,7 +171,7 @@ clashes_with_none users m h ms all n v x y listed other clash =
     let of_theirs : IsAmong theirs (uses_of_module n) = among_map (λ (p : UsedVariable). record { owner = n; used = p }) (used_by n.records) (v, y) clash.second in
     let none : list_any (do_users_clash own) (users v) ≡ false = fails_each (λ (z : ModuleUse). list_any (do_users_clash z) (users z.used.0)) (uses_of_module m) own h of_own in
     let apart : do_users_clash own theirs ≡ false = fails_each (do_users_clash own) (users v) theirs none (all.complete theirs (among_of uses_of_module ms n theirs listed of_theirs)) in
-    false≢true (sym apart ∙ and_true (is_other m n) (uses_clash (exclude m n) x y) other clash.clash)
+    false≢true (sym apart ∙ and_both (is_other m n) (uses_clash (exclude m n) x y) other clash.clash)
 
 -- one more answer
 

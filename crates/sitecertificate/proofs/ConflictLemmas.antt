@@ -3,13 +3,13 @@ use Rattle.std.proofs.Common.{◌≡◌, ℕ, ◌+◌, ◌<◌, length, take, ge
 use Rattle.std.proofs.Common.{◌||◌, List, [], ◌∷◌, ◌++◌, refl, sym, ap, ◌∙◌}
 use Rattle.std.specs.Prelude.{bytes_eq, if◌then◌else◌}
 use Rattle.std.specs.List.{list_any}
+use Rattle.std.proofs.lemmas.List.Concat.{flat_map-append}
 use Rattle.std.proofs.lemmas.List.Folds.{list_any-append}
 use Rattle.std.proofs.lemmas.List.{take_more, map-append}
 use Rattle.std.specs.declared.string.String.{String}
 use Rattle.envvars.specs.Texts.{Text, has}
-use Rattle.modulefile.specs.Records.{Record, conflict_names}
+use Rattle.modulefile.specs.Records.{Record, conflicts_of, conflict_names}
 use Rattle.envvars.proofs.TextLemmas.{same_text}
-use Rattle.modulefile.proofs.RecordLemmas.{conflicts-append}
 
 -- whether a key is this name
 abbrev pub any_key : Text → List (Bor Text) → Bool
@@ -67,5 +67,5 @@ pub conflicts_turn : {X : Type 0} (view : X → Record) (name : Text) (old new :
 conflicts_turn view name old new xs i x l is e h =
     e ∙ (ap (λ b. b || has name (conflict_names (view x ∷ []))) h
     ∙ (sym (has-append name (conflict_names (map view (take i xs))) (conflict_names (view x ∷ [])))
-    ∙ ap (has name) (sym (conflicts-append (map view (take i xs)) (view x ∷ []))
+    ∙ ap (has name) (sym (flat_map-append conflicts_of (map view (take i xs)) (view x ∷ []))
     ∙ ap conflict_names (sym (ap (map view) (take_more xs i x l ∙ ap (λ y. take i xs ++ y ∷ []) (sym is)) ∙ map-append view (take i xs) (x ∷ []))))))

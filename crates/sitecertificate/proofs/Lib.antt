@@ -9,11 +9,7 @@ mod Runs
 mod Lost
 mod OneModule
 mod Recorded
-mod NotRefused
-mod LoadedAnew
-mod UnusedNames
-mod StackAnew
-mod StackRewritten
+mod LoadedOwners
 mod Reported
 mod Members
 mod ClashLemmas

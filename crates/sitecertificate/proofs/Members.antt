@@ -6,6 +6,7 @@ use Rattle.std.proofs.Math.ListN.{set}
 use Rattle.std.specs.List.{list_any, flat_map}
 use Rattle.std.proofs.lemmas.List.{map-append}
 use Rattle.std.proofs.lemmas.List.Folds.{list_any-append}
+use Rattle.envvars.proofs.TextLemmas.{or_left, or_right}
 use Rattle.sitecertificate.specs.RecordUses.{IsAmong}
 use Rattle.sitecertificate.proofs.UsedLemmas.{by_cases, among_left, among_right, among_either}
 use Rattle.sitecertificate.specs.Users.{ModuleUse, HasOneMore}
@@ -92,18 +93,14 @@ kept_in_place f P (x ∷ xs) (suc i) d z u b l e h k y a =
     (λ c. kept_in_place f P xs i d z u b (omega arith) e (λ w n. h w (among_right w (f x) (flat_map f xs) n)) k y c)
 
 -- tests of members
-or_none : (a b : Bool) → (a || b) ≡ false → (a ≡ false) × (b ≡ false)
-or_none false b h = (refl, h)
-or_none true b h = cc
-
 pub none_passes : {Y : Type 0} (p : Y → Bool) (ys : List Y) → ((y : Y) → IsAmong y ys → p y ≡ false) → list_any p ys ≡ false
 none_passes p [] h = refl
 none_passes p (y ∷ ys) h = rw (h y (inl refl)) (none_passes p ys (λ z k. h z (inr k)))
 
 pub fails_each : {Y : Type 0} (p : Y → Bool) (ys : List Y) (y : Y) → list_any p ys ≡ false → IsAmong y ys → p y ≡ false
 fails_each p [] y h a = absurd a
-fails_each p (z ∷ ys) y h (inl e) = ap p e ∙ (or_none (p z) (list_any p ys) h).0
-fails_each p (z ∷ ys) y h (inr a) = fails_each p ys y (or_none (p z) (list_any p ys) h).1 a
+fails_each p (z ∷ ys) y h (inl e) = ap p e ∙ or_left (p z) (list_any p ys) h
+fails_each p (z ∷ ys) y h (inr a) = fails_each p ys y (or_right (p z) (list_any p ys) h) a
 
 pub any_flat : {X Y : Type 0} (p : Y → Bool) (f : X → List Y) (xs : List X) → list_any p (flat_map f xs) ≡ list_any (λ x. list_any p (f x)) xs
 any_flat p f [] = refl

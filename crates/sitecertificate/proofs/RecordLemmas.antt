@@ -8,7 +8,7 @@ use Rattle.std.proofs.lemmas.Bool.{false≢true}
 use Rattle.envvars.specs.Texts.{Text}
 use Rattle.envvars.proofs.TextLemmas.{same_text}
 use Rattle.envvars.proofs.EditLemmas.{both_true}
-use Rattle.modulefile.specs.Records.{Record, Set, Unset, Push, Front, Back, Remove, Conflict, Prereq, Whatis}
+use Rattle.modulefile.specs.Records.{Record, Set, Unset, Push, Front, Back}
 use Rattle.modulefile.specs.Moves.{Module}
 use Rattle.reversal.specs.VariableUses.{VariableUse, Fixed, Pathed, Stacked, is_reversible, FollowsUse, AllFollowUses}
 use Rattle.reversal.specs.Live.{set_by, last_set, live_set, adds_by, adds, live_adds, push_by, last_push, with_push}
@@ -20,15 +20,11 @@ use Rattle.sitecertificate.proofs.UsedLemmas.{by_test, among_left, among_right, 
 
 follows : (u : Text → VariableUse) (r : Record) → ((v : Text) (x : VariableUse) → use_by r ≡ Some (v, x) → u v ≡ x) → FollowsUse u r
 follows u (Set var value) h = h var (Fixed None) refl
-follows u (Unset var None) h = tt
 follows u (Unset var (Some value)) h = h var (Fixed (Some value)) refl
 follows u (Push var value) h = h var Stacked refl
 follows u (Front delim var xs) h = h var (Pathed delim) refl
 follows u (Back delim var xs) h = h var (Pathed delim) refl
-follows u (Remove delim var xs) h = tt
-follows u (Conflict names) h = tt
-follows u (Prereq names) h = tt
-follows u (Whatis text) h = tt
+follows u r h = tt
 
 pub all_follow : (u : Text → VariableUse) (rs : List Record) → ((v : Text) (x : VariableUse) → Uses rs v x → u v ≡ x) → AllFollowUses u rs
 all_follow u [] h = tt
@@ -43,35 +39,16 @@ no_set : (v : Text) (r : Record) → is_reversible r ≡ true → ((x : Variable
 no_set v (Set var value) k h = by_test (bytes_eq v var) _ (λ t. at_name v var (Fixed None) h t) (λ t. ap (λ (b : Bool). cond b (Some (Some value)) None) t)
 no_set v (Unset var None) k h = absurd (false≢true k)
 no_set v (Unset var (Some value)) k h = by_test (bytes_eq v var) _ (λ t. at_name v var (Fixed (Some value)) h t) (λ t. ap (λ (b : Bool). cond b (Some None) None) t)
-no_set v (Push var value) k h = refl
-no_set v (Front delim var xs) k h = refl
-no_set v (Back delim var xs) k h = refl
-no_set v (Remove delim var xs) k h = refl
-no_set v (Conflict names) k h = refl
-no_set v (Prereq names) k h = refl
-no_set v (Whatis text) k h = refl
+no_set v r k h = refl
 
 no_add : (v y : Text) (r : Record) → ((x : VariableUse) → use_by r ≡ Some (v, x) → ⊥) → adds_by v y r ≡ 0
-no_add v y (Set var value) h = refl
-no_add v y (Unset var value) h = refl
-no_add v y (Push var value) h = refl
 no_add v y (Front delim var xs) h = by_test (bytes_eq v var) _ (λ t. at_name v var (Pathed delim) h t) (λ t. ap (λ (b : Bool). cond b (count_by (bytes_eq y) xs) 0) t)
 no_add v y (Back delim var xs) h = by_test (bytes_eq v var) _ (λ t. at_name v var (Pathed delim) h t) (λ t. ap (λ (b : Bool). cond b (count_by (bytes_eq y) xs) 0) t)
-no_add v y (Remove delim var xs) h = refl
-no_add v y (Conflict names) h = refl
-no_add v y (Prereq names) h = refl
-no_add v y (Whatis text) h = refl
+no_add v y r h = refl
 
 no_push : (v : Text) (r : Record) → ((x : VariableUse) → use_by r ≡ Some (v, x) → ⊥) → push_by v r ≡ None
-no_push v (Set var value) h = refl
-no_push v (Unset var value) h = refl
 no_push v (Push var value) h = by_test (bytes_eq v var) _ (λ t. at_name v var Stacked h t) (λ t. ap (λ (b : Bool). cond b (Some value) None) t)
-no_push v (Front delim var xs) h = refl
-no_push v (Back delim var xs) h = refl
-no_push v (Remove delim var xs) h = refl
-no_push v (Conflict names) h = refl
-no_push v (Prereq names) h = refl
-no_push v (Whatis text) h = refl
+no_push v r h = refl
 
 -- the same of several records
 
@@ -139,13 +116,7 @@ set_used v (Unset var None) k h = absurd (false≢true k)
 set_used v (Unset var (Some value)) k h = by_test (bytes_eq v var) _
     (λ t. (Some value, ap (λ (w : Text). Some (w, Fixed (Some value))) (sym (same_text v var t))))
     (λ t. absurd (unset (bytes_eq v var) (Some None) t h))
-set_used v (Push var value) k h = absurd (false≢true h)
-set_used v (Front delim var xs) k h = absurd (false≢true h)
-set_used v (Back delim var xs) k h = absurd (false≢true h)
-set_used v (Remove delim var xs) k h = absurd (false≢true h)
-set_used v (Conflict names) k h = absurd (false≢true h)
-set_used v (Prereq names) k h = absurd (false≢true h)
-set_used v (Whatis text) k h = absurd (false≢true h)
+set_used v r k h = absurd (false≢true h)
 
 later_none : (o p : Option (Option Text)) → is_some o ≡ false → is_some (option_or o p) ≡ true → is_some p ≡ true
 later_none None p h k = k

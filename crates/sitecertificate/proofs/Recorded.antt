@@ -1,6 +1,5 @@
 -- The conflicts of live modules, as the loaded list records them.
-use Rattle.std.proofs.Common.{◌≡◌, Bool, true, false, cond, not, ◌||◌, List, [], ◌∷◌, ◌++◌, refl, sym, ap, ◌∙◌, inl}
-use Rattle.std.proofs.Common.{inr}
+use Rattle.std.proofs.Common.{◌≡◌, Bool, true, false, ◌||◌, List, [], ◌∷◌, refl, sym, ap, ◌∙◌}
 use Rattle.std.specs.Prelude.{bytes_eq}
 use Rattle.std.specs.List.{list_any}
 use Rattle.std.proofs.lemmas.List.Folds.{list_any-append}
@@ -8,14 +7,12 @@ use Rattle.modulename.specs.ModuleName.{means}
 use Rattle.envvars.specs.Texts.{Text}
 use Rattle.envvars.specs.Fields.{without, without_repeats}
 use Rattle.envvars.proofs.TextLemmas.{same_text, or_left, or_right}
-use Rattle.envloaded.specs.Loaded.{Entry}
 use Rattle.modulefile.specs.Records.{conflict_names}
 use Rattle.modulefile.specs.Moves.{Module, entry_of}
 use Rattle.reversal.specs.Live.{entries_over}
-use Rattle.sitecertificate.specs.RecordUses.{IsAmong}
 use Rattle.sitecertificate.specs.Clashes.{names_in_conflict, in_conflict, in_conflict_with_entry}
 use Rattle.sitecertificate.specs.Laws.{EntriesHaveConflicts}
-use Rattle.sitecertificate.proofs.UsedLemmas.{by_test, by_cases}
+use Rattle.sitecertificate.proofs.UsedLemmas.{by_test, by_cases, neither}
 
 -- a test of some element, where repetitions are left out
 
@@ -34,9 +31,6 @@ any_once p [] = refl
 any_once p (x ∷ xs) = first_any (p x) (list_any p (without x (without_repeats xs))) (list_any p xs) (λ f. any_left p x (without_repeats xs) f ∙ any_once p xs)
 
 -- each live module has its entry
-
-neither : (a b : Bool) → a ≡ false → b ≡ false → (a || b) ≡ false
-neither a b h k = rw (h, k) refl
 
 with_newest : (m k : Module) → in_conflict_with_entry m (entry_of k) ≡ false → in_conflict m k ≡ false
 with_newest m k h = neither (names_in_conflict m k) (names_in_conflict k m)

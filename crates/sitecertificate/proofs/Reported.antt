@@ -176,10 +176,6 @@ found_named e ps ds r d = (named_is e ps ds r d, is_named e ps ds r d)
 
 -- a use is judged
 
-pub judged_good : (e : Environment) (p : UsedVariable) (ds new : List Disagreement) (b : Bool) → b ≡ true → (IsTrue b → AgreesWithUse e p.0 p.1) × (AgreesWithUse e p.0 p.1 → IsTrue b) → new ≡ ds
-    → IsJudged e p ds new
-judged_good e p ds new b t d h = inl (d.0 t, h)
-
 pub judged_bad : {X : Type 0} (view : X → Disagreement) (e : Environment) (p : UsedVariable) (xs ys : List X) (x : X) (b : Bool) → b ≡ false
     → (IsTrue b → AgreesWithUse e p.0 p.1) × (AgreesWithUse e p.0 p.1 → IsTrue b) → use_named (view x) ≡ Some p → ys ≡ xs ++ x ∷ [] → IsJudged e p (map view xs) (map view ys)
 judged_bad {X} view e p xs ys x b f d named h =

@@ -1,6 +1,6 @@
 -- Moves of certified modules, one after the other.
-use Rattle.std.proofs.Common.{◌≡◌, inl, inr, Bool, true, false, cond, ◌||◌, List, [], ◌∷◌, ◌++◌, refl, sym, ◌∙◌, subst}
-use Rattle.std.proofs.Common.{Some, Ok}
+use Rattle.std.proofs.Common.{◌≡◌, inl, inr, Bool, true, false, cond, List, [], ◌∷◌, ◌++◌, refl, sym, ◌∙◌, subst, Some}
+use Rattle.std.proofs.Common.{Ok}
 use Rattle.std.specs.Prelude.{bytes_eq}
 use Rattle.std.proofs.lemmas.Option.{same_Some}
 use Rattle.envvars.specs.Texts.{Text, has}
@@ -16,15 +16,12 @@ use Rattle.sitecertificate.specs.RecordUses.{used_by_modules, IsAmong, uses_by}
 use Rattle.sitecertificate.specs.Clashes.{in_conflict}
 use Rattle.sitecertificate.specs.Certificates.{IsCertified, certificate, AgreesWith}
 use Rattle.sitecertificate.specs.Laws.{AreCertified, AreCertifiedTogether, CertifiedRunsStand, CertifiedMovesPreserve}
-use Rattle.sitecertificate.proofs.UsedLemmas.{by_cases, used_among, user_of, first_or_none}
+use Rattle.sitecertificate.proofs.UsedLemmas.{by_cases, used_among, user_of, first_or_none, neither}
 use Rattle.sitecertificate.proofs.OneUse.{of_kind, one_use, each_use, newest_fits, all_fit}
 use Rattle.sitecertificate.proofs.Variables.{not_named}
 use Rattle.sitecertificate.proofs.Moments.{is_start, IsOver, taken_up, laid_down}
 
 -- A module that is loaded beside live ones, and the live ones without one of them.
-
-neither : (a b : Bool) → a ≡ false → b ≡ false → (a || b) ≡ false
-neither a b h k = rw (h, k) refl
 
 newest : (ms live : List Module) (m : Module) (start old : Environment) → AgreesWith (certificate ms) start → IsOver (uses_by live) start live old → AreCertifiedTogether ms live
     → IsCertified ms m → ((n : Module) → IsAmong n live → in_conflict m n ≡ false) → Fits (Loads m) old → AreCertifiedTogether ms (m ∷ live)

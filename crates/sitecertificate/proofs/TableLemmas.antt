@@ -12,7 +12,7 @@ use Rattle.sitecertificate.specs.declared.uses.UsedVariable as code
 use Rattle.sitecertificate.specs.UseViews.{used_view}
 use Rattle.std.specs.List.{list_any}
 use Rattle.sitecertificate.specs.Users.{ModuleUse, HasOneMore, Enters, do_users_clash}
-use Rattle.sitecertificate.specs.Ways.{users_in}
+use Rattle.sitecertificate.specs.Tables.{users_in}
 use Rattle.sitecertificate.specs.declared.variables.VariableUsers.{VariableUsers}
 
 -- the users of a variable in the map

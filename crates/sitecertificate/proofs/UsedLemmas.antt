@@ -1,6 +1,6 @@
 -- Members of lists, and what modules use.
-use Rattle.std.proofs.Common.{◌≡◌, ◌⊎◌, inl, inr, Bool, true, false, cond, List, [], ◌∷◌, ◌++◌, refl, sym, ap, ◌∙◌}
-use Rattle.std.proofs.Common.{subst, Option, Some, None}
+use Rattle.std.proofs.Common.{◌≡◌, ◌⊎◌, inl, inr, Bool, true, false, cond, ◌||◌, List, [], ◌∷◌, ◌++◌, refl, sym, ap}
+use Rattle.std.proofs.Common.{◌∙◌, subst, Option, Some, None}
 use Rattle.std.specs.Prelude.{bytes_eq}
 use Rattle.std.specs.List.{cons_option}
 use Rattle.std.proofs.lemmas.Bool.{false≢true}
@@ -18,6 +18,9 @@ by_test false P f g = g refl
 pub by_cases : {A B P : Type 0} → A ⊎ B → (A → P) → (B → P) → P
 by_cases (inl a) f g = f a
 by_cases (inr b) f g = g b
+
+pub neither : (a b : Bool) → a ≡ false → b ≡ false → (a || b) ≡ false
+neither a b h k = rw (h, k) refl
 
 -- members
 
@@ -37,12 +40,20 @@ among_either x (y ∷ xs) ys (inr h) = by_cases (among_either x xs ys h) (λ k. 
 
 -- of records
 
-cons_later : {X : Type 0} (x : X) (o : Option X) (xs : List X) → IsAmong x xs → IsAmong x (cons_option o xs)
+pub cons_first : {X : Type 0} (x : X) (o : Option X) (xs : List X) → o ≡ Some x → IsAmong x (cons_option o xs)
+cons_first {X} x o xs h = subst (λ (p : Option X). IsAmong x (cons_option p xs)) (sym h) (inl refl)
+
+pub cons_later : {X : Type 0} (x : X) (o : Option X) (xs : List X) → IsAmong x xs → IsAmong x (cons_option o xs)
 cons_later x None xs h = h
 cons_later x (Some y) xs h = inr h
 
+pub cons_either : {X : Type 0} (x : X) (o : Option X) (xs : List X) → IsAmong x (cons_option o xs) → (o ≡ Some x) ⊎ IsAmong x xs
+cons_either x None xs h = inr h
+cons_either x (Some y) xs (inl e) = inl (ap Some (sym e))
+cons_either x (Some y) xs (inr h) = inr h
+
 pub used_first : (p : UsedVariable) (r : Record) (rs : List Record) → use_by r ≡ Some p → IsAmong p (used_by (r ∷ rs))
-used_first p r rs h = subst (λ (o : Option UsedVariable). IsAmong p (cons_option o (used_by rs))) (sym h) (inl refl)
+used_first p r rs h = cons_first p (use_by r) (used_by rs) h
 
 pub used_later : (p : UsedVariable) (r : Record) (rs : List Record) → IsAmong p (used_by rs) → IsAmong p (used_by (r ∷ rs))
 used_later p r rs h = cons_later p (use_by r) (used_by rs) h

@@ -7,6 +7,7 @@ use Rattle.sitecertificate.specs.RecordUses.{IsAmong}
 use Rattle.sitecertificate.specs.Clashes as clashes
 use Rattle.sitecertificate.specs.Certificates.{is_other}
 use Rattle.sitecertificate.specs.UseViews.{use_view}
+use Rattle.sitecertificate.specs.Users.{ModuleUse}
 use Rattle.sitecertificate.specs.declared.answers.Clash.{Clash}
 
 -- The module clashes with another one of these, as the answer says: in this variable, by these two uses, and the other
@@ -46,3 +47,12 @@ abbrev pub without_clashes : List Module → List (Option Clash) → List Module
 without_clashes [] answers = []
 without_clashes (m ∷ ms) [] = []
 without_clashes (m ∷ ms) (answer ∷ answers) = without_clash m answer ++ without_clashes ms answers
+
+-- For the contracts of private functions: the clash names the variable of the first, the uses of both, and the module
+-- of the second
+pub record IsClashBetween (x y : ModuleUse) (c : Clash) : Type 0 where
+  pub variable : string_bytes c.variable ≡ x.used.0
+  pub own : use_view c.own ≡ x.used.1
+  pub theirs : use_view c.theirs ≡ y.used.1
+  pub name : string_bytes c.other_name ≡ y.owner.name
+  pub path : string_bytes c.other_path ≡ y.owner.path

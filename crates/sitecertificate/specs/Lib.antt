@@ -6,16 +6,12 @@ pub mod Examples
 pub mod UseViews
 pub mod Disagreements
 pub mod DisagreementViews
-pub mod Rewriting
 pub mod ClashAnswers
 pub mod EachOnce
 pub mod Users
 pub mod UserViews
 pub mod Families
-pub mod Ways
 pub mod Tables
 pub mod Conflicts
 pub mod UsingModules
-pub mod ClashingUsers
 pub mod UseKeys
-pub mod Once

@@ -5,7 +5,7 @@ use Rattle.std.specs.List.{list_all}
 use Rattle.std.specs.Option.{option_eq}
 use Rattle.envvars.specs.Texts.{Text}
 use Rattle.envvars.specs.Fields.{colon}
-use Rattle.modulefile.specs.Records.{Record, Set, Unset, Push, Front, Back, Remove, Conflict, Prereq, Whatis}
+use Rattle.modulefile.specs.Records.{Record, Set, Unset, Push, Front, Back}
 use Rattle.modulefile.specs.Moves.{Module}
 use Rattle.reversal.specs.VariableUses.{VariableUse, Untouched, Fixed, Pathed, Stacked, is_reversible}
 
@@ -18,15 +18,11 @@ UsedVariable = Text × VariableUse
 -- unloading doesn't undo.
 abbrev pub use_by : Record → Option UsedVariable
 use_by (Set var value) = Some (var, Fixed None)
-use_by (Unset var None) = None
 use_by (Unset var (Some value)) = Some (var, Fixed (Some value))
 use_by (Push var value) = Some (var, Stacked)
 use_by (Front delim var xs) = Some (var, Pathed delim)
 use_by (Back delim var xs) = Some (var, Pathed delim)
-use_by (Remove delim var xs) = None
-use_by (Conflict names) = None
-use_by (Prereq names) = None
-use_by (Whatis text) = None
+use_by r = None
 
 -- what the records use
 abbrev pub used_by : List Record → List UsedVariable

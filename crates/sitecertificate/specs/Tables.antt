@@ -1,11 +1,16 @@
 -- The table of variables in the code, as the definitions see it (own).
-use Rattle.std.specs.Prelude.{List, [], bytes_eq}
+use Rattle.std.specs.Prelude.{List, [], flat_map, bytes_eq}
 use Rattle.std.specs.Option.{option_map_or}
 use Rattle.envvars.specs.Texts.{Text}
 use Rattle.indexmap.specs.IndexMap.{get_by}
 use Rattle.sitecertificate.specs.Users.{ModuleUse}
-use Rattle.sitecertificate.specs.Ways.{users_in}
+use Rattle.sitecertificate.specs.Families.{all_members}
+use Rattle.sitecertificate.specs.declared.ways.Way.{Way}
 use Rattle.sitecertificate.specs.declared.table.VariableTable.{VariableTable}
+
+-- who uses the variable in these ways
+abbrev pub users_in : List Way → List ModuleUse
+users_in ways = flat_map (λ way. all_members way.families.items) ways
 
 -- the users of a variable in a table
 abbrev pub users_at : VariableTable → Text → List ModuleUse

@@ -1,10 +1,12 @@
 -- The keys of uses in the code, as the definitions see them (own).
-use Rattle.std.specs.Prelude.{Some, None}
+use Rattle.std.specs.Prelude.{◌≡◌, List, map, Some, None}
 use Rattle.reversal.specs.VariableUses.{VariableUse, Fixed, Pathed, Stacked}
 use Rattle.sitecertificate.specs.RecordUses.{UsedVariable}
+use Rattle.sitecertificate.specs.UseViews.{used_view}
 use Rattle.sitecertificate.specs.declared.keys.UseKey.{UseKey}
 use Rattle.sitecertificate.specs.declared.keys.UseKey.TheVariants as keys
 use Rattle.sitecertificate.specs.declared.keys.UsedKey.{UsedKey}
+use Rattle.sitecertificate.specs.declared.once.UsesOnce.{UsesOnce}
 
 -- the use of a key
 abbrev pub key_view : UseKey → VariableUse
@@ -16,3 +18,7 @@ key_view keys.Stack = Stacked
 -- the variable of a key, and the use of it
 abbrev pub used_key_view : UsedKey → UsedVariable
 used_key_view key = (key.variable.now, key_view key.used)
+
+-- it has these uses, and the same as keys
+abbrev pub HasUses : UsesOnce → List UsedVariable → Type 0
+HasUses once ps = (map used_view once.uses.items ≡ ps) × (map used_key_view once.keys.keys ≡ ps)

@@ -3,7 +3,12 @@ use Rattle.modules.specs.MoveViews.{module_view}
 use Rattle.sitecertificate.specs.UseViews.{used_view}
 use Rattle.sitecertificate.specs.Users.{ModuleUse}
 use Rattle.sitecertificate.specs.declared.users.User.{User}
+use Rattle.sitecertificate.specs.declared.users.ClashingUsers.{ClashingUsers}
 
 -- a user
 abbrev pub user_view : User → ModuleUse
 user_view u = record { owner = module_view u.owner.now; used = used_view u.used.now }
+
+-- the user, and the other with which it clashes
+abbrev pub users_view : ClashingUsers → ModuleUse × ModuleUse
+users_view users = (user_view users.own, user_view users.other)

@@ -1,8 +1,9 @@
 //! Where an environment doesn't agree with a certificate.
 ghost use Rattle.std.specs.Prelude.{◌≡◌, ◌↔◌, [], Some, map, IfOk, IfErr, OnOk, IsTrue};
 ghost use Rattle.std.specs.Option.{option_map};
+ghost use Rattle.envvars.specs.Texts.{slice_texts};
 ghost use Rattle.envvars.specs.declared.fault.EnvFault.TheVariants.{OutOfMemory};
-ghost use Rattle.envloaded.specs.Loaded.{loaded_in};
+ghost use Rattle.envloaded.specs.Loaded.{names_of, loaded_in};
 ghost use Rattle.envloaded.specs.LoadedEntries.{entry_view};
 ghost use Rattle.sitecertificate.specs.RecordUses.{IsAmong};
 ghost use Rattle.sitecertificate.specs.Certificates.{AgreesWithUse, AgreesWith};
@@ -12,26 +13,23 @@ ghost use Rattle.sitecertificate.specs.Disagreements.{IsDisagreement, use_named,
 ghost use Rattle.sitecertificate.specs.DisagreementViews.{disagreement_view};
 
 use crate::disagreement::Disagreement;
-use crate::list::{are_loaded_in_order, loaded_entries};
-use crate::stacks::is_stack_in_order;
 use crate::uses::{UsedVariable, VariableUse};
-use envloaded::Loaded;
+use envloaded::{Loaded, are_loaded_in_order, loaded_if_consistent, names_of};
 use envpaths::is_path_in_order;
+use envstacks::is_stack_in_order;
 use envvars::{Env, EnvFault};
 use std::alloc::{AllocError, Global};
 
-/// Whether an environment with these modules loaded agrees with a use of a variable. Where the texts of the loaded modules
-/// don't fit together, it agrees with each stack.
+/// Whether an environment in which the modules of these names are loaded agrees with a use of a variable. Where their
+/// texts don't fit together, it agrees with each stack.
 fn agrees_with_use(
     alloc: Global,
     env: &Env,
-    owners: &Option<Vec<Loaded>>,
+    owners: &Option<Vec<&str>>,
     wanted: &UsedVariable,
-) -> Result<bool, EnvFault>
-    requires { option_map (λ v. map entry_view v.items) owners.now ≡ loaded_in env.now }
-    ensures decided { IfOk result (λ b. IsTrue b
-        ↔ AgreesWithUse env.now (used_view wanted.now).0 (used_view wanted.now).1) }
-    ensures only { IfErr result (λ e. e ≡ OutOfMemory) }
+) -> Result<bool, AllocError>
+    requires { option_map (λ v. slice_texts v.items) owners.now ≡ option_map names_of (loaded_in env.now) }
+    ensures { IfOk result (λ b. IsTrue b ↔ AgreesWithUse env.now (used_view wanted.now).0 (used_view wanted.now).1) }
 {
     let variable = wanted.variable.as_str();
     match &wanted.used {
@@ -68,14 +66,13 @@ fn reason_for(alloc: Global, wanted: &UsedVariable) -> Result<Disagreement, Allo
 fn judge_use(
     alloc: Global,
     env: &Env,
-    owners: &Option<Vec<Loaded>>,
+    owners: &Option<Vec<&str>>,
     wanted: &UsedVariable,
     found: &mut Vec<Disagreement>,
-) -> Result<(), EnvFault>
-    requires { option_map (λ v. map entry_view v.items) owners.now ≡ loaded_in env.now }
-    ensures judged { OnOk result (IsJudged env.now (used_view wanted.now) (map disagreement_view found.old.items)
+) -> Result<(), AllocError>
+    requires { option_map (λ v. slice_texts v.items) owners.now ≡ option_map names_of (loaded_in env.now) }
+    ensures { OnOk result (IsJudged env.now (used_view wanted.now) (map disagreement_view found.old.items)
         (map disagreement_view found.new.items)) }
-    ensures only { IfErr result (λ e. e ≡ OutOfMemory) }
 {
     if agrees_with_use(alloc, env, owners, wanted)? {
         return Ok(());
@@ -85,9 +82,8 @@ fn judge_use(
 }
 
 /// The reason of the loaded modules' texts, where they aren't in order.
-fn judge_list(alloc: Global, env: &Env) -> Result<Vec<Disagreement>, EnvFault>
-    ensures judged { IfOk result (λ found. IsListJudged env.now (map disagreement_view found.items)) }
-    ensures only { IfErr result (λ e. e ≡ OutOfMemory) }
+fn judge_list(alloc: Global, env: &Env) -> Result<Vec<Disagreement>, AllocError>
+    ensures { IfOk result (λ found. IsListJudged env.now (map disagreement_view found.items)) }
 {
     let mut found = Vec::new(alloc);
     if !are_loaded_in_order(alloc, env)? {
@@ -100,22 +96,35 @@ fn judge_list(alloc: Global, env: &Env) -> Result<Vec<Disagreement>, EnvFault>
 fn judge_uses(
     alloc: Global,
     env: &Env,
-    owners: &Option<Vec<Loaded>>,
+    owners: &Option<Vec<&str>>,
     certificate: &[UsedVariable],
     list: Vec<Disagreement>,
-) -> Result<Vec<Disagreement>, EnvFault>
-    requires owners { option_map (λ v. map entry_view v.items) owners.now ≡ loaded_in env.now }
+) -> Result<Vec<Disagreement>, AllocError>
+    requires owners { option_map (λ v. slice_texts v.items) owners.now ≡ option_map names_of (loaded_in env.now) }
     requires list { IsListJudged env.now (map disagreement_view list.items) }
     ensures agrees { IfOk result (λ found. (found.items ≡ []) ↔ AgreesWith (map used_view certificate.now) env.now) }
     ensures named { IfOk result (λ found. (d : reasons.Disagreement) → IsAmong d (map disagreement_view found.items)
         ↔ IsDisagreement (map used_view certificate.now) env.now d) }
-    ensures only { IfErr result (λ e. e ≡ OutOfMemory) }
 {
     let mut found = list;
     for wanted in certificate {
         judge_use(alloc, env, owners, wanted, &mut found)?;
     }
     Ok(found)
+}
+
+/// The names of the modules in a list, if there is one.
+fn names_in<'a>(
+    alloc: Global,
+    list: &'a Option<Vec<Loaded>>,
+) -> Result<Option<Vec<&'a str>>, AllocError>
+    ensures { IfOk result (λ names. option_map (λ v. slice_texts v.items) names
+        ≡ option_map names_of (option_map (λ v. map entry_view v.items) list.entry.now)) }
+{
+    match list {
+        Some(list) => names_of(alloc, list.as_slice()).map(Some),
+        None => Ok(None),
+    }
 }
 
 /// Where an environment doesn't agree with a certificate: each variable that doesn't, and why; nothing where it agrees.
@@ -131,7 +140,8 @@ pub fn disagreements(
         ↔ IsDisagreement (map used_view certificate.now) env.now d) }
     ensures only { IfErr result (λ e. e ≡ OutOfMemory) }
 {
-    let list = judge_list(alloc, env)?;
-    let owners = loaded_entries(alloc, env)?;
-    judge_uses(alloc, env, &owners, certificate, list)
+    let list = loaded_if_consistent(alloc, env)?;
+    let owners = names_in(alloc, &list)?;
+    let found = judge_list(alloc, env)?;
+    Ok(judge_uses(alloc, env, &owners, certificate, found)?)
 }

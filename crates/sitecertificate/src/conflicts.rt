@@ -28,15 +28,7 @@ fn enter_conflict<'a>(entered: &mut Names<'a>, recorded: &'a Record) -> Result<(
     ensures { OnOk result ((name : Text) → has_name entered.new name
         ≡ (has_name entered.old name || has name (conflict_names (record_view recorded.entry.now ∷ [])))) }
 {
-    match recorded {
-        Record::Conflict(names) => enter_names(entered, names.as_slice()),
-        Record::Set { .. }
-        | Record::Unset { .. }
-        | Record::Push { .. }
-        | Record::Path { .. }
-        | Record::Prereq(_)
-        | Record::Whatis(_) => Ok(()),
-    }
+    enter_names(entered, recorded.conflicts())
 }
 
 /// The names that the records are in conflict with.

@@ -51,9 +51,9 @@ pub fn out_of_step()
     ensures one_way { OneWay }
 {}
 
-/// Why uses clash: a start agrees with those of two modules, the loads and unloads of both are accepted, and the start is
-/// lost, or the value of a module that stays. One module with two uses of a variable loses it alone. And no start agrees
-/// with two uses that don't agree there.
+/// Why uses clash: a start agrees with those of two modules, the loads and unloads of both are accepted, and the start
+/// is lost, or the value of a module that stays. One module with two uses of a variable loses it alone. And no start
+/// agrees with two uses that don't agree there.
 pub fn clashes_matter()
     ensures delimiters { LoseByDelimiters }
     ensures path_and_stack { LoseByPathAndStack }

@@ -7,8 +7,8 @@ pub fn certified()
     ensures { CertifiedAreExact }
 {}
 
-/// A module that is in conflict with no entry of the loaded list, as those record it and as it names them, is in conflict
-/// with no live module.
+/// A module that is in conflict with no entry of the loaded list, as those record it and as it names them, is in
+/// conflict with no live module.
 pub fn conflicts()
     ensures { EntriesHaveConflicts }
 {}

@@ -1,4 +1,4 @@
-//! Which modules of a site need no judgement: their certificate, the starts that agree with it, and where modules clash.
+//! Which modules of a site need no judgement: their certificate, which starts agree with it, and where modules clash.
 //! Takes memory and touches nothing else.
 #![tactic(auto)]
 
@@ -10,12 +10,10 @@ mod examples;
 mod families;
 mod keys;
 pub mod laws;
-mod list;
+mod module_uses;
 mod names;
 mod once;
 mod pairs;
-mod pairs_of_modules;
-mod stacks;
 mod table;
 mod users;
 mod uses;

@@ -6,12 +6,12 @@ ghost use Rattle.sitecertificate.specs.RecordUses.{used_by_modules};
 ghost use Rattle.sitecertificate.specs.UseViews.{used_view};
 ghost use Rattle.sitecertificate.specs.ClashAnswers.{without_clash, without_clashes};
 ghost use Rattle.sitecertificate.specs.EachOnce.{same_used, each_once};
-ghost use Rattle.sitecertificate.specs.Once.{HasUses};
+ghost use Rattle.sitecertificate.specs.UseKeys.{HasUses};
 ghost use Rattle.sitecertificate.specs.UsingModules.{module_of};
 
 use crate::answers::Clash;
 use crate::keys::{UsedKey, used_key};
-use crate::pairs_of_modules::UsingModule;
+use crate::module_uses::UsingModule;
 use crate::uses::UsedVariable;
 use indexmap::IndexSet;
 use std::alloc::{AllocError, Global};

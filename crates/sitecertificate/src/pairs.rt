@@ -1,8 +1,8 @@
 //! Two modules: whether they exclude each other, so that they are never loaded at once.
-ghost use Rattle.std.specs.Prelude.{◌≡◌, [], ◌∷◌, map, string_bytes};
+ghost use Rattle.std.specs.Prelude.{◌≡◌, map, string_bytes};
 ghost use Rattle.std.specs.List.{list_any};
 ghost use Rattle.modulename.specs.ModuleName.{means};
-ghost use Rattle.modulefile.specs.Records.{conflict_names};
+ghost use Rattle.modulefile.specs.Records.{conflicts_of};
 ghost use Rattle.modulefile.specs.RecordViews.{record_view};
 ghost use Rattle.modules.specs.MoveViews.{module_view};
 ghost use Rattle.sitecertificate.specs.Clashes as clashes;
@@ -21,22 +21,14 @@ fn is_meant(names: &[String], full_name: &str) -> bool
 
 /// Whether the record is a `conflict` of which a name means the module of this full name.
 fn is_conflict_with(recorded: &Record, full_name: &str) -> bool
-    ensures { result ≡ list_any (λ name. means name full_name.now) (conflict_names (record_view recorded.now ∷ [])) }
+    ensures { result ≡ list_any (λ name. means name full_name.now) (conflicts_of (record_view recorded.now)) }
 {
-    match recorded {
-        Record::Conflict(names) => is_meant(names.as_slice(), full_name),
-        Record::Set { .. }
-        | Record::Unset { .. }
-        | Record::Push { .. }
-        | Record::Path { .. }
-        | Record::Prereq(_)
-        | Record::Whatis(_) => false,
-    }
+    is_meant(recorded.conflicts(), full_name)
 }
 
 /// Whether a conflict among the records means the module of this full name.
 fn are_in_conflict_with(records: &[Record], full_name: &str) -> bool
-    ensures { result ≡ list_any (λ r. list_any (λ name. means name full_name.now) (conflict_names (record_view r ∷ [])))
+    ensures { result ≡ list_any (λ r. list_any (λ name. means name full_name.now) (conflicts_of (record_view r)))
         records.now }
 {
     records

@@ -5,14 +5,13 @@ ghost use Rattle.envvars.specs.Texts.{Text, has};
 ghost use Rattle.modulefile.specs.Records.{conflict_names};
 ghost use Rattle.sitecertificate.specs.Users.{Enters, EntersAll, AreUsersOf, IsClashAmong, IsFoundOf, uses_of_module};
 ghost use Rattle.sitecertificate.specs.Users.{uses_of_modules};
-ghost use Rattle.sitecertificate.specs.UserViews.{user_view};
-ghost use Rattle.sitecertificate.specs.ClashingUsers.{users_view};
+ghost use Rattle.sitecertificate.specs.UserViews.{user_view, users_view};
 ghost use Rattle.sitecertificate.specs.Conflicts.{has_name};
 ghost use Rattle.sitecertificate.specs.Tables.{users_at};
 ghost use Rattle.sitecertificate.specs.UsingModules.{module_of};
 
 use crate::conflicts::{Names, Seeker};
-use crate::pairs_of_modules::UsingModule;
+use crate::module_uses::UsingModule;
 use crate::users::{ClashingUsers, User};
 use crate::variables::VariableUsers;
 use indexmap::IndexMap;

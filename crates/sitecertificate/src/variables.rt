@@ -5,7 +5,7 @@ ghost use Rattle.std.specs.Option.{option_map};
 ghost use Rattle.sitecertificate.specs.UseViews.{use_view};
 ghost use Rattle.sitecertificate.specs.Users.{HasOneMore, IsClashAmong};
 ghost use Rattle.sitecertificate.specs.UserViews.{user_view};
-ghost use Rattle.sitecertificate.specs.Ways.{users_in};
+ghost use Rattle.sitecertificate.specs.Tables.{users_in};
 
 use crate::conflicts::Seeker;
 use crate::keys::{UseKey, key_of};

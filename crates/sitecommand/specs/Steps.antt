@@ -51,7 +51,8 @@ AreDirectoriesFault agrees failed words fault =
     ⊎ IsGivenUp failed fault
 
 -- What is to be written of an audit of what is asked for.
-pub record IsPrepared (agrees : Files → Listings → Type 0) (e : Environment) (wanted : Wanted) (answer : PreparedAudit) :
+pub record IsPrepared (agrees : Files → Listings → Type 0) (e : Environment) (wanted : Wanted) (answer : PreparedAudit)
+    :
     Type 0 where
   pub found : SiteAudit
   pub directories : AreDirectories agrees wanted.directories

@@ -10,7 +10,7 @@ use Rattle.shelltext.specs.declared.shell.Shell.TheVariants.{Sh}
 use Rattle.filetree.specs.Agreement.{Files, Listings}
 use Rattle.filetree.specs.Modulefiles.{modulefile, directories, path_of}
 use Rattle.filetree.specs.Relations.{Is, ◌>>◌}
-use Rattle.modulefile.specs.Records.{Record, Set, Unset, Push, Front, Back, Remove, Conflict, Prereq, Whatis}
+use Rattle.modulefile.specs.Records.{Record, Front, Back}
 use Rattle.modulefile.specs.Effects as modes
 use Rattle.modulefile.specs.Moves.{Module}
 use Rattle.modulefile.specs.Files.{Ran, RunsFile}
@@ -78,15 +78,9 @@ directories_in v elements = if bytes_eq v modulepath then flat_map directories e
 
 -- the directories that a record adds to MODULEPATH
 abbrev pub directories_by : Record → List Text
-directories_by (Set var value) = []
-directories_by (Unset var value) = []
-directories_by (Push var value) = []
 directories_by (Front delim var elements) = directories_in var elements
 directories_by (Back delim var elements) = directories_in var elements
-directories_by (Remove delim var elements) = []
-directories_by (Conflict names) = []
-directories_by (Prereq names) = []
-directories_by (Whatis text) = []
+directories_by r = []
 
 -- the directories that records add to it
 abbrev pub added_directories : List Record → List Text

@@ -29,7 +29,9 @@ returns-in-Load-clause-out_of_memory g c =
 
 pub returns-in-Unload-clause-done : goal.returns-in-Unload-clause-done
 returns-in-Unload-clause-done g c =
-    answers_of c.args.action.now (actions.Unload c.in-Unload.names) c.in-Unload.is (λ (x : RequestResults). done_view x (g.V.Vars.vars c.change_names-in-Unload.new.env)) c.change_names-in-Unload.result
+    answers_of c.args.action.now (actions.Unload c.in-Unload.names) c.in-Unload.is
+    (λ (x : RequestResults). done_view x (g.V.Vars.vars c.change_names-in-Unload.new.env))
+    c.change_names-in-Unload.result
     (λ (action : Action) files listings. RequestStep (request_context_of c.args.settings files listings) (g.V.Vars.vars c.args.env.now) (action_view action))
     (λ (action : Action) files listings. RequestLooksAt (request_context_of c.args.settings files listings) (g.V.Vars.vars c.args.env.now) (action_view action))
     (rw c.deref-in-Unload.ensures.value at c.change_names-in-Unload.ensures.done)
@@ -104,7 +106,9 @@ returns-in-Show-clause-out_of_memory g c =
 
 pub returns-in-Whatis-clause-done : goal.returns-in-Whatis-clause-done
 returns-in-Whatis-clause-done g c =
-    answers_of c.args.action.now (actions.Whatis c.in-Whatis.names) c.in-Whatis.is (λ (x : RequestResults). done_view x (g.V.Vars.vars c.report_names-in-Whatis.new.env)) c.report_names-in-Whatis.result
+    answers_of c.args.action.now (actions.Whatis c.in-Whatis.names) c.in-Whatis.is
+    (λ (x : RequestResults). done_view x (g.V.Vars.vars c.report_names-in-Whatis.new.env))
+    c.report_names-in-Whatis.result
     (λ (action : Action) files listings. RequestStep (request_context_of c.args.settings files listings) (g.V.Vars.vars c.args.env.now) (action_view action))
     (λ (action : Action) files listings. RequestLooksAt (request_context_of c.args.settings files listings) (g.V.Vars.vars c.args.env.now) (action_view action))
     (rw c.deref-in-Whatis.ensures.value at c.report_names-in-Whatis.ensures.done)

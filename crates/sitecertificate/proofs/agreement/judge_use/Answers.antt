@@ -4,9 +4,9 @@ use Rattle.sitecertificate.specs.DisagreementViews.{disagreement_view}
 use Rattle.sitecertificate.proofs.Reported.{judged_bad}
 use Rattle.sitecertificate.proofs.agreement.judge_use.Goals as goal
 
-pub returns-clause-judged : goal.returns-clause-judged
-returns-clause-judged c =
+pub returns : goal.returns
+returns c =
     judged_bad disagreement_view c.args.env.now (used_view c.args.wanted.now) c.args.found.now.items
     c.push.new.self.items c.in_ok-reason_for.field-0 c.in_ok-agrees_with_use.field-0 (search (rules, tests))
-    c.in_ok-agrees_with_use.ensures.decided
+    c.in_ok-agrees_with_use.ensures
     c.in_ok-reason_for.ensures c.in_ok-push.ensures.items

@@ -11,7 +11,7 @@ pub loop-wanted-preserved : goal.loop-wanted-preserved
 loop-wanted-preserved c =
     reports-turn c.args.env.now c.args.certificate.now c.loop-wanted.wanted-index c.wanted-item.result
     (map disagreement_view c.loop-wanted.found.items) (map disagreement_view c.judge_use.new.found.items)
-    c.loop-wanted-test.true c.wanted-item.is c.loop-wanted.invariant c.in_ok-judge_use.ensures.judged
+    c.loop-wanted-test.true c.wanted-item.is c.loop-wanted.invariant c.in_ok-judge_use.ensures
 
 pub returns : goal.returns
 returns c =
@@ -21,5 +21,4 @@ returns c =
     record {
       agrees = found_agrees disagreement_view c.args.env.now (map used_view c.args.certificate.now) c.loop-wanted.found.items r;
       named = found_named c.args.env.now (map used_view c.args.certificate.now) (map disagreement_view c.loop-wanted.found.items) r;
-      only = tt;
     }

@@ -4,7 +4,7 @@ use Rattle.std.specs.Slice.Iter.{iter_rest}
 use Rattle.indexmap.specs.IndexSet.{insert_all}
 use Rattle.sitecertificate.specs.RecordUses.{UsedVariable}
 use Rattle.sitecertificate.specs.EachOnce.{same_used, each_once}
-use Rattle.sitecertificate.specs.Once.{HasUses}
+use Rattle.sitecertificate.specs.UseKeys.{HasUses}
 use Rattle.sitecertificate.specs.UsingModules.{module_of}
 use Rattle.sitecertificate.proofs.OnceLemmas.{unclashed}
 use Rattle.sitecertificate.proofs.once.unclashed_uses.Given as goal

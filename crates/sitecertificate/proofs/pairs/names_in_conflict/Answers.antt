@@ -1,4 +1,4 @@
-use Rattle.std.proofs.Common.{rules, Bool, [], ◌∷◌, map, string_bytes, ◌∙◌}
+use Rattle.std.proofs.Common.{rules, Bool, map, string_bytes, ◌∙◌}
 use Rattle.std.specs.List.{list_any}
 use Rattle.modulename.specs.ModuleName.{means}
 use Rattle.envvars.specs.Texts.{Text}
@@ -11,7 +11,7 @@ use Rattle.sitecertificate.proofs.pairs.names_in_conflict.Goals as goal
 pub returns : goal.returns
 returns c =
     let test : (Text → Bool) = λ name. means name (string_bytes c.args.other.now.name) in
-    let by_record : (records.Record → Bool) = λ r. list_any test (records.conflict_names (r ∷ [])) in
+    let by_record : (records.Record → Bool) = λ r. list_any test (records.conflicts_of r) in
     search (rules)
     ∙ (any_seen by_record record_view c.args.one.now.records.items
     ∙ any_conflict test (map record_view c.args.one.now.records.items))

@@ -2,7 +2,7 @@ use Rattle.std.proofs.Common.{map, take, subst}
 use Rattle.indexmap.specs.IndexSet.{insert_all}
 use Rattle.sitecertificate.specs.UseViews.{used_view}
 use Rattle.sitecertificate.specs.EachOnce.{same_used}
-use Rattle.sitecertificate.specs.Once.{HasUses}
+use Rattle.sitecertificate.specs.UseKeys.{HasUses}
 use Rattle.sitecertificate.proofs.OnceLemmas.{inserted_turn}
 use Rattle.sitecertificate.proofs.once.UsesOnce.add_all.Goals as goal
 

@@ -3,7 +3,7 @@ use Rattle.indexmap.specs.IndexSet.{insert_all}
 use Rattle.sitecertificate.specs.RecordUses.{UsedVariable}
 use Rattle.sitecertificate.specs.UseViews.{used_view}
 use Rattle.sitecertificate.specs.EachOnce.{same_used}
-use Rattle.sitecertificate.specs.Once.{HasUses}
+use Rattle.sitecertificate.specs.UseKeys.{HasUses}
 use Rattle.sitecertificate.proofs.once.UsesOnce.add_all.Given as goal
 
 abbrev pub invariant-loop-used : goal.invariant-loop-used

@@ -1,7 +1,7 @@
 use Rattle.std.proofs.Common.{◌≡◌, List, [], sym, ap, ◌∙◌, subst}
 use Rattle.sitecertificate.specs.Users.{ModuleUse, HasOneMore}
 use Rattle.sitecertificate.specs.UserViews.{user_view}
-use Rattle.sitecertificate.specs.Ways.{users_in}
+use Rattle.sitecertificate.specs.Tables.{users_in}
 use Rattle.sitecertificate.proofs.TableLemmas.{users_of, user_entered}
 use Rattle.sitecertificate.proofs.table.VariableTable.begin_variable.Goals as goal
 

@@ -2,7 +2,7 @@ use Rattle.std.proofs.Common.{rules, List, subst}
 use Rattle.std.proofs.lemmas.Result.{on_ok_weaker}
 use Rattle.sitecertificate.specs.Users.{ModuleUse, HasOneMore}
 use Rattle.sitecertificate.specs.UserViews.{user_view}
-use Rattle.sitecertificate.specs.Ways.{users_in}
+use Rattle.sitecertificate.specs.Tables.{users_in}
 use Rattle.sitecertificate.proofs.TableLemmas.{user_entered, users_found}
 use Rattle.sitecertificate.proofs.table.VariableTable.enter.Goals as goal
 
