@@ -1,4 +1,4 @@
-use Rattle.std.proofs.Common.{rules, sym, ◌∙◌, string_bytes}
+use Rattle.std.proofs.Common.{rules, tests, refl, sym, ◌∙◌, string_bytes}
 use Rattle.std.specs.Option.{option_map}
 use Rattle.std.proofs.lemmas.Bool.Decides.{same_from_decides}
 use Rattle.std.proofs.lemmas.Iterator.Search.{all_from_yields_List}
@@ -15,5 +15,6 @@ returns c =
     all_from_yields_List
     (λ (x : Change). same_value (lookup c.args.env.now (string_bytes x.name)) (option_map string_bytes x.value)) _ _ _
     c.all.ensures.ran (YieldsList-from_slice c.args.changes.now cc)
-    (λ x b q k. same_from_decides _ _ (search rules) (same_value_is _ (lookup c.args.env.now (string_bytes x.name)) (option_map string_bytes x.value) refl))
+    (λ x b q k. (search (rules, tests), same_from_decides _ _ (search (rules, tests))
+    (same_value_is _ (lookup c.args.env.now (string_bytes x.now.name)) (option_map string_bytes x.now.value) refl)))
     ∙ sym (list_all-map (λ (d : NewValue). same_value (lookup c.args.env.now d.0) d.1) new_value_of c.args.changes.now)
