@@ -1,6 +1,6 @@
 """What pytest gives the suites: the built programs, folders of modulefiles, and libraries that make calls fail.
 
-    python3 -B -m pytest tests/rows.py -k counters
+    python3 -B -m pytest tests/program.py -k reader
 
 At the end stands what wasn't run and why, and then how many cases passed and how many failed. A case that compares rows
 counts as that many, and a property that holds as many as it had examples.

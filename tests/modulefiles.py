@@ -7,18 +7,21 @@ typed for it; `text LINE` adds a line to its file, and `clear` takes them all ou
 
 `> load`, `> unload`, `> display` and `> whatis` are commands on the module, and `> switch load` and `> switch unload`
 switches from an empty module to it and back. An unload finds the module loaded, and a load doesn't; each goes on from
-the variables that the one before it made. Below stands `ok`, `says` before each message, what is shown, and each
-variable that changes, but for the two lists of loaded modules; or the number of a refusal and its text. A newline is
-`␤` in a message and in a value. `ok, asked` is a file of the verdict `Asked`, `ok` one of another, and `ok, no load` one
-whose load is refused, by modcheck.
+the variables that the one before it made. `> load of TEXT` is a load where the file has this text alone, and nothing
+goes on from it. Below stands `ok`, `says` before each message, what is shown, and each variable that changes, but for
+the two lists of loaded modules; or the number of a refusal and its text. `ok, asked` is a file of the verdict `Asked`,
+`ok` one of another, and `ok, no load` one whose load is refused, by modcheck.
+examples.py says how that text is written, and a newline in a message and in a value.
 """
 
+import copy
 import os
 import re
 import subprocess
 
 import pytest
 
+from tests.examples import meant, written
 from tests.harness import HERE, SECONDS, examples, same, true
 from tests.plain import FAMILIES, printed
 from tests.worked import real, write
@@ -64,7 +67,7 @@ class Answer:
         true(not refused or not lines[1:], f"nothing stands below {lines[0]!r}")
         true(not refused or is_refusal(int(refused[1]), refused[2]), f"REFUSALS.md has {lines[0]!r}")
         below = [line[2:] for line in lines[1:]]
-        said = [line.removeprefix("says ").replace("␤", "\n") for line in below if line.startswith("says ")]
+        said = [written(line.removeprefix("says ")) for line in below if line.startswith("says ")]
         rest = [line for line in below if not line.startswith("says ")]
         shown = rest if command in ("display", "whatis") else []
         self.said = [*said, *(f"{line}\n" for line in shown)]
@@ -75,7 +78,7 @@ def changed(line):
     """A variable, and its new value or None."""
     found = CHANGE.fullmatch(line)
     true(found, f"{line!r} is a change")
-    return found[1], found[2] and found[2].replace("␤", "\n")
+    return found[1], found[2] and written(found[2])
 
 
 class Example:
@@ -105,6 +108,12 @@ class Example:
         else:
             same(line, "clear", "a line of an example")
             self.text = ""
+
+    def aside(self, text):
+        """The same with a file of this text alone. This one doesn't go on from what it does."""
+        other = copy.copy(self)
+        other.text, other.variables = f"{meant(text)}\n", dict(self.variables)
+        return other
 
     def real(self, text):
         return real(self.folder, text)
@@ -190,4 +199,5 @@ def test_modulefiles(lines, folder, built):
         answer = [rest.pop(0)]
         while rest and rest[0].startswith("  "):
             answer.append(rest.pop(0))
-        example.answers(line.removeprefix("> "), answer)
+        command, of, text = line.removeprefix("> ").partition(" of ")
+        (example.aside(text) if of else example).answers(command, answer)

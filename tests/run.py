@@ -41,8 +41,7 @@ MODULES = {"pytest": "python3-pytest", "hypothesis": "python3-hypothesis"}
 # The tests outside the gate. pytest runs a suite that stands alone; another is a script with the program that it is
 # given, and further words.
 SUITES = (
-    ("program.py", "modulecmd"),
-    ("rows.py", "modulecmd"),
+    ("program.py",),
     ("modulefiles.py",),
     ("commands.py",),
     ("sites.py",),

@@ -1,6 +1,7 @@
 """Lines that are put to a program of rows or to a real tclsh, and texts as both read and write them."""
 
 import os
+import re
 import subprocess
 from concurrent.futures import ThreadPoolExecutor
 
@@ -9,9 +10,32 @@ from tests.harness import same
 HERE = os.path.dirname(os.path.abspath(__file__))
 SECONDS = 600
 
+# How a text is written in a line, with its escapes, and read again.
+WRITTEN = str.maketrans(
+    {"\\": "\\\\", "\n": "\\n", "\t": "\\t", "\r": "\\r", "\v": "\\v", "\f": "\\f", "|": "\\|", " ": "\\s"}
+)
+READ = {"n": "\n", "t": "\t", "r": "\r", "v": "\v", "f": "\f", "s": " "}
+KIND = re.compile(r"ok |err \d+ ")
+
+
+def word(text):
+    """A text as one word of a line. The empty one is `-`."""
+    return {"": "-", "-": "\\-"}.get(text) or text.translate(WRITTEN)
+
+
+def meant(written):
+    """The text that is written so."""
+    return "" if written == "-" else re.sub(r"(?s)\\(.)", lambda found: READ.get(found[1], found[1]), written)
+
+
+def in_words(answer):
+    """An answer of the program with its text as one word, so that its blanks are escapes too."""
+    kind = KIND.match(answer)
+    return kind[0] + answer[kind.end() :].replace(" ", "\\s") if kind else answer
+
 
 def digits(text):
-    """A text in hexadecimal digits, where `-` is the empty one."""
+    """A text in hexadecimal digits, as scripts.tcl reads it. The empty one is `-`."""
     return text.encode().hex() or "-"
 
 

@@ -1,31 +1,16 @@
-# Answers calls on texts as tclsh does, a line each. A call is a verb and texts in hexadecimal, of which `-` is the empty one.
+# Answers calls on texts as tclsh does, a line each. A call is a verb and words (texts.tcl).
 #
-#   list TEXT              ok and the elements, or error and its message
+#   list TEXT              ok and the elements, parted by bars, or error and its message
 #   glob PATTERN TEXT      1 or 0
-#   script TEXT            ok and the words of each command that ran, parted by `;`, or error and its message
+#   script TEXT            the same of the words of each command that ran, parted by tabs, or error and its message
 #   expr TEXT              error and its message where the text is no expression, else ok
 #   expr TEXT OTHER        same where both texts have one value, or one error that no syntax is, else what they have
 #   value WORD...          ok and the result, or error and its message
 
-fconfigure stdin -translation lf -encoding utf-8
-fconfigure stdout -translation lf -encoding utf-8
-
-proc shown {text} {
-    if {$text eq ""} {
-        return -
-    }
-    binary encode hex [encoding convertto utf-8 $text]
-}
-
-proc meant {word} {
-    if {$word eq "-"} {
-        return ""
-    }
-    encoding convertfrom utf-8 [binary decode hex $word]
-}
+source [file join [file dirname [info script]] texts.tcl]
 
 proc all_shown {texts} {
-    join [lmap text $texts {shown $text}] ,
+    join [lmap text $texts {shown $text}] |
 }
 
 proc answer_list {text} {
@@ -50,7 +35,7 @@ proc answer_script {text} {
     if {[catch {interp eval words $text} message]} {
         return "error [shown $message]"
     }
-    return "ok [join $::commands {;}]"
+    return "ok [join $::commands \t]"
 }
 
 # the messages of tclsh for texts that are no expressions

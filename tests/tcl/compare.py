@@ -11,7 +11,7 @@ import re
 
 import pytest
 
-from tests.tcl.answers import ask, digits, tclsh, text_of
+from tests.tcl.answers import ask, in_words, meant, tclsh, word
 from tests.tcl.grouping import PROFILE, TCLSH, grouped
 
 SEED = 20261122
@@ -34,15 +34,15 @@ ELEMENT = list("aab {}[]$\"\\ \n\t;#") + ["é", "{a}", "{*}"]
 
 
 def list_call(draw):
-    return "list " + digits(made(draw, LIST, 12))
+    return "list " + word(made(draw, LIST, 12))
 
 
 def glob_call(draw):
-    return f"glob {digits(made(draw, PATTERN, 6))} {digits(made(draw, PATTERN_TEXT, 6))}"
+    return f"glob {word(made(draw, PATTERN, 6))} {word(made(draw, PATTERN_TEXT, 6))}"
 
 
 def script_call(draw):
-    return "script " + digits(made(draw, SCRIPT, 14))
+    return "script " + word(made(draw, SCRIPT, 14))
 
 
 def expression(draw, depth):
@@ -63,11 +63,11 @@ def expr_call(draw):
     if draw.random() < 0.3:
         at = draw.randint(0, len(text))
         text = text[:at] + draw.choice(NOISE) + text[at:]
-    return "expr " + digits(text)
+    return "expr " + word(text)
 
 
 def write_call(draw):
-    return " ".join(["write"] + [digits(made(draw, ELEMENT, 6)) for _ in range(draw.randint(1, 4))])
+    return " ".join(["write"] + [word(made(draw, ELEMENT, 6)) for _ in range(draw.randint(1, 4))])
 
 
 GENERATORS = {"list": list_call, "glob": glob_call, "script": script_call, "expr": expr_call, "write": write_call}
@@ -78,7 +78,7 @@ LEVELS = "`== !=`, `eq ne` and `in ni` have three levels"
 
 
 def text_in(call):
-    return text_of(call.split()[1])
+    return meant(call.split()[1])
 
 
 def is_power(call, ours):
@@ -130,13 +130,13 @@ def grouped_otherwise(call, answer):
     if not call.startswith("expr "):
         return None
     ours, theirs = (grouped(text_in(call), levels) for levels in (PROFILE, TCLSH))
-    return theirs if ours != theirs and answer == f"ok {digits(ours)}" else None
+    return theirs if ours != theirs and answer == f"ok {word(ours)}" else None
 
 
 def plain(call, answer):
     """The answer without what tclsh doesn't say: the places of commands and of faults."""
     if call.startswith("script "):
-        answer = re.sub(r"(^ok |;)[0-9]+:", r"\1", answer)
+        answer = re.sub(r"(^ok |\t)[0-9]+:", r"\1", answer)
     return re.sub(r"^(fault [0-9]+) [0-9]+$", r"\1", answer)
 
 
@@ -145,7 +145,7 @@ def question(call, answer):
     means another; and of a list the elements."""
     if call.startswith("expr ") and answer.startswith("ok "):
         other = grouped_otherwise(call, answer)
-        return f"{call} {answer[3:] if other is None else digits(other)}"
+        return f"{call} {answer[3:] if other is None else word(other)}"
     if call.startswith("write "):
         return "list " + answer[3:]
     return call
@@ -156,7 +156,7 @@ def wanted(call, answer):
     if call.startswith("expr ") and answer.startswith("ok "):
         return "same"
     if call.startswith("write "):
-        return "ok " + ",".join(call.split()[1:])
+        return "ok " + "|".join(call.split()[1:])
     return answer
 
 
@@ -170,7 +170,8 @@ def calls():
 @pytest.mark.parametrize("kind", GENERATORS)
 def test_generated_texts(kind, built, judge_rows, note):
     asked = calls()[kind]
-    ours = list(map(plain, asked, ask([built("cases_tcl")], [f"text {call}" for call in asked])))
+    told = map(in_words, ask([built("cases_tcl")], [f"text {call}" for call in asked]))
+    ours = list(map(plain, asked, told))
     theirs = ask(tclsh("answers.tcl"), map(question, asked, ours))
     rules = collections.Counter(LEVELS for it in zip(asked, ours) if grouped_otherwise(*it))
     wrong = []

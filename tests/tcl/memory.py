@@ -5,7 +5,7 @@ import subprocess
 import pytest
 
 from tests.harness import SECONDS, refuses_each, true
-from tests.tcl.answers import digits
+from tests.tcl.answers import word
 
 SCRIPT = 'setenv A {b c} "d\\n$e(f) [g h]"\n# i\nj {*}$k \\x41\n'
 
@@ -53,7 +53,7 @@ REFUSED = (
     "",
     "no answer\n",
     "fault 1\n",
-    f"err 11 {digits('Out of memory')}\n",
+    "err 11 Out of memory\n",
     "memory: err 11 0 Out of memory\n",
     "memory: err 11 0 Out of memory\tasked\n",
 )
@@ -77,7 +77,7 @@ def answers_or_refuses(built, shim):
 
 @pytest.mark.parametrize("call, words, begins", [pytest.param(*it, id=" ".join([it[0], *it[1]])) for it in CALLS])
 def test_a_call_with_too_little_memory(call, words, begins, answers_or_refuses):
-    answers_or_refuses(f"{call} {' '.join(map(digits, words))}", begins)
+    answers_or_refuses(f"{call} {' '.join(map(word, words))}", begins)
 
 
 @pytest.mark.parametrize("script, begins", SCRIPTS, ids=[script for script, _ in SCRIPTS])

@@ -12,7 +12,7 @@ import re
 
 import pytest
 
-from tests.tcl.answers import ask, digits, tclsh, text_of
+from tests.tcl.answers import ask, digits, meant, tclsh, text_of, word
 
 SEED, SCRIPTS = 20261123, 30000
 COMMANDS, DEPTH, BYTES = 100000, 200, 1048576
@@ -132,21 +132,8 @@ def translated(text):
     return text
 
 
-# How the program reads and writes a text.
-WRITTEN = {"\\": "\\\\", "\n": "\\n", "\t": "\\t", "\r": "\\r", "|": "\\|"}
-READ = {"n": "\n", "t": "\t", "r": "\r"}
 ENDING = re.compile(r"-: (?:ok (\d+)|err (\d+) (\d+)) (.*)")
 RECORD_WORD = re.compile(r"(?:^|\|)((?:[^\\|]|\\.)*)")
-
-
-def written(text):
-    if text in ("", "-"):
-        return "\\-" if text else "-"
-    return "".join(WRITTEN.get(c, c) for c in text)
-
-
-def read(shown):
-    return "" if shown == "-" else re.sub(r"(?s)\\(.)", lambda found: READ.get(found[1], found[1]), shown)
 
 
 class Pair:
@@ -694,14 +681,14 @@ def own_answer(line):
     for field in fields:
         kind, _, text = field.partition(" ")
         told[kind].append(text)
-    variables = [tuple(map(read, variable.split("=", 1))) for variable in told["var"]]
-    messages = [read(message) for message in told["message"]]
-    records = [[read(word) for word in RECORD_WORD.findall(record)] for record in told["record"]]
+    variables = [tuple(map(meant, variable.split("=", 1))) for variable in told["var"]]
+    messages = [meant(message) for message in told["message"]]
+    records = [[meant(word) for word in RECORD_WORD.findall(record)] for record in told["record"]]
     count, number, place, text = ending.groups()
     asked = bool(told["asked"])
     if count:
-        return Answer("ok", int(count), read(text), 0, variables, messages, records, asked)
-    return Answer("err", int(number), read(text), int(place), variables, messages, records, asked)
+        return Answer("ok", int(count), meant(text), 0, variables, messages, records, asked)
+    return Answer("err", int(number), meant(text), int(place), variables, messages, records, asked)
 
 
 def tcl_answer(line):
@@ -732,8 +719,8 @@ def explained(own, other):
 
 
 def case(script, commands):
-    environment = " ".join(f"env.{name}={written(value)}" for name, value in ENVIRONMENT)
-    return f"script - commands={commands} depth={DEPTH} bytes={BYTES} {environment}: {written(script)}"
+    environment = " ".join(f"env.{name}={word(value)}" for name, value in ENVIRONMENT)
+    return f"script - commands={commands} depth={DEPTH} bytes={BYTES} {environment}: {word(script)}"
 
 
 def generated():

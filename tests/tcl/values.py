@@ -5,7 +5,7 @@ Where the profile differs from Tcl 8.6 the expected answer is made here, each di
 import random
 import re
 
-from tests.tcl.answers import ask, digits, tclsh, text_of
+from tests.tcl.answers import ask, in_words, meant, tclsh, word
 
 SEED, CASES = 20261122, 20000
 SPACE = " \t\n\v\f\r"
@@ -186,7 +186,7 @@ class Maker:
 def expected(case, tcl, lists):
     """What the profile wants, where Tcl answered so, and reads these texts as lists: `("ok", TEXT)`, `("err", NUMBER)` or
     `("elements",)`."""
-    failed, answer = tcl[0] == "err", text_of(tcl[1])
+    failed, answer = tcl[0] == "err", meant(tcl[1])
     if case[0] == "b":
         return expected_binary(case[1:], failed, answer)
     if case[0] == "u":
@@ -255,37 +255,37 @@ def index_fault(words, lists):
 
 def question(case):
     limit = [str(LIMIT)] if case[0] == "c" else []
-    return " ".join(["value", case[0], *limit, *map(digits, case[1:])])
+    return " ".join(["value", case[0], *limit, *map(word, case[1:])])
 
 
 def elements(lists):
     """How tclsh reads these texts as lists: it says `list` and the elements."""
-    return ask(tclsh("values.tcl"), [f"e {digits(text)}" for text in lists])
+    return ask(tclsh("values.tcl"), [f"e {word(text)}" for text in lists])
 
 
 def results(answers):
     """The texts of answers, empty where there is none."""
-    return [text_of(answer.split()[1]) if answer.startswith("ok") else "" for answer in answers]
+    return [meant(answer.split()[1]) if answer.startswith("ok") else "" for answer in answers]
 
 
 def shown(answer):
     """An answer with its text as one reads it."""
     *kind, text = answer.split()
-    return f"{' '.join(kind)} {text_of(text)!r}" if kind else answer
+    return f"{' '.join(kind)} {meant(text)!r}" if kind else answer
 
 
 def is_met(want, own, same_elements):
     """Whether the program's own answer, in parts, is the wanted one."""
     if want[0] == "err":
         return own[0] == "err" and int(own[1]) == want[1]
-    return own[0] == "ok" and (same_elements if want[0] == "elements" else text_of(own[1]) == want[1])
+    return own[0] == "ok" and (same_elements if want[0] == "elements" else meant(own[1]) == want[1])
 
 
 def test_generated_values(built, judge_rows):
     maker = Maker(SEED)
     cases = [maker.case() for _ in range(CASES)]
-    ours = ask([built("cases_tcl")], map(question, cases))
-    theirs = ask(tclsh("values.tcl"), [" ".join([case[0], *map(digits, case[1:])]) for case in cases])
+    ours = list(map(in_words, ask([built("cases_tcl")], map(question, cases))))
+    theirs = ask(tclsh("values.tcl"), [" ".join([case[0], *map(word, case[1:])]) for case in cases])
     indexed = sorted({case[2] for case in cases if case[0] == "c" and case[1] in ("lindex", "lrange")})
     lists = {text for text, answer in zip(indexed, elements(indexed)) if answer.startswith("list")}
     wrong = []

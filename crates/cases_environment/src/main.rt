@@ -21,6 +21,8 @@
 //! where it is unset. Each line is shown after `> `, and then the text, or after `!` the number and the text of the
 //! fault.
 //!
+//! `names` takes the public names that no call of these lines has: each fault of the environment, with its number.
+//!
 //! After a mark, which is `^` in the calls and a backslash elsewhere, `n`, `t` and `s` mean a newline, a tab and a
 //! space, `0` and `@` NUL, `_` the character 31, `?` the character 127, `!` a byte that is in no UTF-8, `*` 40,959
 //! times x, and every other character means itself.
@@ -28,6 +30,7 @@
 
 mod disks;
 mod edits;
+mod names;
 mod printing;
 mod processes;
 mod queries;
@@ -44,6 +47,7 @@ fn answer_about(rt: &HostRuntime, subject: &str, lines: &[String]) -> io::Result
         "variables" => variables::answer(rt, lines),
         "system" => system_lines::answer(rt, lines),
         "shells" => printing::answer(rt, lines),
+        "names" => names::answer(rt),
         _ => println!(rt; "no such lines: {subject}"),
     }
 }

@@ -32,12 +32,15 @@
 //! FAULT REQUEST` and `failing FAULT verdict NAME` show what each call answers where one read after another fails, by
 //! the `device` or for want of `memory`, once where answers in a row are the same, and then where none fails. `write
 //! OUT ERR KIND WORD...` runs a command whose writers take so many bytes, and shows how it ended and what they hold.
+//!
+//! `names` takes the public names that no other line has: faults and refusals with their numbers, actions and shells.
 #![tactic(auto)]
 
 mod calls;
 mod counted;
 mod failing;
 mod failures;
+mod names;
 mod parts;
 mod poor;
 mod rehearsed;
@@ -54,6 +57,7 @@ fn answer_about(rt: &HostRuntime, subject: &str, lines: &[String]) -> io::Result
     match subject {
         "searches" => searches::answer(rt, lines),
         "requests" => request_lines::answer(rt, lines),
+        "names" => names::answer(rt),
         _ => println!(rt; "no such lines: {subject}"),
     }
 }

@@ -4,23 +4,22 @@
 //!
 //! The first word of a line says of which kind it is:
 //!
-//! - `text`, `value`: a call of tcltext, or of tclvalue (`texts.rt`, `values.rt`). Their texts are in hexadecimal
-//!   digits.
+//! - `text`, `value`: a call of tcltext, or of tclvalue (`texts.rt`, `values.rt`).
 //! - `command`: a command that evaluates no script, over variables that all these lines share (`commands.rt`).
-//! - `script`: a script and its result (`scripts.rt`). Its texts stand as they are, but for the escapes of
-//!   `escapes.rt`.
-//! - `cached`: a script, and which texts are cached after its evaluation (`cache.rt`). The texts are written as in
-//!   `script`.
+//! - `script`: a script and its result (`scripts.rt`).
+//! - `cached`: a script, and which texts are cached after its evaluation (`cache.rt`).
+//! - `names`: the faults by their names and numbers, and what a host may answer (`names.rt`).
 //! - `#`: a heading, which is its own answer.
 //!
-//! Each answer is a line. `no answer` stands for a line that asks nothing, and for want of memory.
+//! Texts stand as they are, but for the escapes of `escapes.rt`; of several, each blank is `\s`. Each answer is a line.
+//! `no answer` stands for a line that asks nothing, and for want of memory.
 #![tactic(auto)]
 
 mod cache;
 mod commands;
-mod digits;
 mod escapes;
 mod lines;
+mod names;
 mod recorder;
 mod scripts;
 mod texts;
@@ -40,6 +39,7 @@ fn answer(alloc: Global, state: &mut State, line: &str) -> Option<String> {
         "command" => commands::answer(alloc, state, rest).ok(),
         "script" => scripts::answer(alloc, rest),
         "cached" => cache::answer(alloc, rest),
+        "names" => names::answer(alloc, rest),
         "#" => String::from_str(alloc, line).ok(),
         _ => None,
     }

@@ -7,7 +7,7 @@
 //! counted, or `err NUMBER LINE MESSAGE` with the line of an error, and 0 for that of another fault; `var NAME=VALUE`
 //! for each global variable where the script ended; `message TEXT` for each message; `record WORDS` for each record, with
 //! bars between its words; and `asked`, where a question was asked.
-use crate::escapes::{push_made_text, push_text, text_of};
+use crate::escapes::{push_made_text, push_text, push_texts, text_of};
 use crate::lines::Line;
 use crate::recorder::Recorder;
 use std::alloc::{AllocError, Global};
@@ -150,12 +150,7 @@ fn push_fault(alloc: Global, line: &mut Line, fault: &EvalFault) {
 
 fn push_record(line: &mut Line, record: &[String]) {
     line.push_str("\trecord ");
-    for (index, word) in record.iter().enumerate() {
-        if index > 0 {
-            line.push('|');
-        }
-        push_text(line, word);
-    }
+    push_texts(line, record);
 }
 
 fn push_messages(line: &mut Line, messages: &[String]) {

@@ -7,18 +7,17 @@
 //! of memory.
 //!
 //! The answer is `ok` and what was read or written, `fault NUMBER` with the byte offset where there is one, 1 or 0, or
-//! the class of a number. Of a script the words of each command follow its byte offset, commands are parted by `;`, and
-//! a word with a substitution is `$`. An expression is written with parentheses around each operator and its operands,
-//! and `?` for a substitution.
-use crate::digits::{push_shown, shown, text_of, texts_of};
+//! the class of a number. Bars part the elements of a list and the words of a command. Of a script the words of each
+//! command follow its byte offset, commands are parted by tabs, and a word with a substitution is `\$`. An expression is
+//! written with parentheses around each operator and its operands, and `?` for a substitution.
+use crate::escapes::{push_made_text, push_texts, shown, text_of, texts_of};
 use crate::lines::Line;
 use crate::trees::{fault, owned, tree};
 use std::alloc::{AllocError, Global};
 use tcltext::{
     ByteRange, Command, Expr, Numeral, Operand, Part, Script, TextFault, Word, WordContent,
-    glob_match, parse_expr, parse_list, parse_script, push_braced_text, read_number,
+    glob_match, parse_expr, parse_list, parse_script, push_braced_text, read_number, write_list,
 };
-use tclvalue::list_text;
 
 /// The byte offset of a fault, where it has one.
 fn offset_of(fault: &TextFault) -> Option<usize> {
@@ -45,12 +44,7 @@ fn shown_fault(alloc: Global, fault: TextFault) -> Option<String> {
 fn shown_list(alloc: Global, elements: &[String]) -> Option<String> {
     let mut line = Line::new(alloc);
     line.push_str("ok ");
-    for (i, element) in elements.iter().enumerate() {
-        if i > 0 {
-            line.push(',');
-        }
-        push_shown(alloc, &mut line, element);
-    }
+    push_texts(&mut line, elements);
     line.finish()
 }
 
@@ -87,21 +81,13 @@ fn push_content(text: &mut Line, content: &WordContent<&str>) -> bool {
     true
 }
 
-/// Adds what was written of another line.
-fn push_line(alloc: Global, line: &mut Line, other: Line) {
-    match other.finish() {
-        Some(text) => push_shown(alloc, line, &text),
-        None => line.note(Err(AllocError)),
-    }
-}
-
-/// Adds a word, which is `$` where it has a substitution.
+/// Adds a word, which is `\$` where it has a substitution.
 fn push_word(alloc: Global, line: &mut Line, word: &Word<&str>) {
     let mut text = Line::new(alloc);
     if push_content(&mut text, &word.content) && !word.expands {
-        push_line(alloc, line, text);
+        push_made_text(line, text.finish().ok_or(AllocError));
     } else {
-        line.push('$');
+        line.push_str("\\$");
     }
 }
 
@@ -111,7 +97,7 @@ fn push_command(alloc: Global, line: &mut Line, command: &Command<&str>) {
     line.push_made(format!(in alloc; "{offset}:"));
     for (i, word) in command.words.iter().enumerate() {
         if i > 0 {
-            line.push(',');
+            line.push('|');
         }
         push_word(alloc, line, word);
     }
@@ -122,7 +108,7 @@ fn shown_script(alloc: Global, script: &Script<&str>) -> Option<String> {
     line.push_str("ok ");
     for (i, command) in script.commands.iter().enumerate() {
         if i > 0 {
-            line.push(';');
+            line.push('\t');
         }
         push_command(alloc, &mut line, command);
     }
@@ -195,11 +181,12 @@ fn shown_expression(alloc: Global, expression: &Expr<&str>) -> Option<String> {
 
 /// The list of the texts of a call.
 fn written(alloc: Global, words: &str) -> Option<String> {
-    shown(
-        alloc,
-        "ok",
-        &list_text(alloc, &texts_of(alloc, words)?).ok()?,
-    )
+    let texts = texts_of(alloc, words)?;
+    let mut elements = Vec::new(alloc);
+    for text in &texts {
+        elements.push(text.as_str()).ok()?;
+    }
+    shown(alloc, "ok", &write_list(alloc, &elements).ok()?)
 }
 
 /// The class of a number, and a whole number itself.
@@ -215,18 +202,18 @@ fn shown_number(alloc: Global, number: Numeral) -> Option<String> {
 /// The range of a text, with the words of a call `START END TEXT`.
 fn shown_range(alloc: Global, words: &str) -> Option<String> {
     let (start, rest) = words.split_once(' ')?;
-    let (end, digits) = rest.split_once(' ')?;
+    let (end, written) = rest.split_once(' ')?;
     let range = ByteRange {
         start: start.parse().ok()?,
         end: end.parse().ok()?,
     };
-    shown(alloc, "ok", range.of(&text_of(alloc, digits)?))
+    shown(alloc, "ok", range.of(&text_of(alloc, written)?))
 }
 
 /// The answer to a call about trees.
 fn tree_answer(alloc: Global, verb: &str, rest: &str) -> Option<String> {
-    let (kind, digits) = rest.split_once(' ')?;
-    let text = text_of(alloc, digits)?;
+    let (kind, written) = rest.split_once(' ')?;
+    let text = text_of(alloc, written)?;
     match verb {
         "tree" => tree(alloc, kind, text.as_str()),
         "owned" => owned(alloc, kind, text),

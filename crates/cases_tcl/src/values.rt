@@ -1,8 +1,8 @@
 //! `value` answers a call of tclvalue: `u OP OPERAND`, `b OP LEFT RIGHT`, `t WORD` for a truth value, `c LIMIT WORD...`
-//! for a command, where LIMIT is how many bytes its value may have. Operators are in hexadecimal digits too.
+//! for a command, where LIMIT is how many bytes its value may have. An operator is written as a text too.
 //!
 //! The answer is `ok WORD`, `none`, or `err NUMBER WORD` with the text of the fault.
-use crate::digits::{shown, text_of, texts_of};
+use crate::escapes::{shown, text_of, texts_of};
 use std::alloc::Global;
 use tcltext::{BinaryOperator, UnaryOperator};
 use tclvalue::{ValueFault, binary, truth, unary, value_command};
