@@ -5,10 +5,7 @@
 mod laws;
 
 pub use laws::number_in_expression;
-pub use tclchars::{
-    MAX_BYTES, MAX_NESTING, Numeral, TextFault, numeral_of_fraction, numeral_of_whole,
-    push_braced_text, read_number,
-};
+pub use tclchars::{MAX_BYTES, MAX_NESTING, Numeral, TextFault, push_braced_text, read_number};
 pub use tclexpr::{
     BinaryOperator, Expr, Operand, OwnedExpr, UnaryOperator, own_expr, parse_expr,
     parse_expr_pieces,
