@@ -139,7 +139,7 @@ fn simple_form<'a>(
 ) -> Result<Option<SimpleForm<'a>>, Stop> {
     let form = core_form(alloc, name, words)?;
     match &form {
-        Some(Form::SimpleForm(simple)) => Ok(Some(*simple)),
+        Some(Form::Simple(simple)) => Ok(Some(*simple)),
         Some(_) => Err(Stop::Fault(EvalFault::Stopped)),
         None => Ok(None),
     }

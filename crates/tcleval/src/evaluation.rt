@@ -630,7 +630,7 @@ impl Evaluator {
     {
         let limits = bounds.limits;
         match form {
-            Form::SimpleForm(form) => self.simple(host, bounds, form, result_use),
+            Form::Simple(form) => self.simple(host, bounds, form, result_use),
             Form::Express(words) => within(limits, self.express_words(host, bounds, words)),
             Form::If(branches, other) => {
                 self.branches(host, bounds, branches.as_slice(), other, result_use)

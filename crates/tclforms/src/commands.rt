@@ -46,21 +46,18 @@ pub fn core_form<'a>(
         "switch" => switch_form(alloc, words).map(Some),
         "proc" => proc_form(alloc, words).map(Some),
         "return" => return_form(alloc, words).map(Some),
-        "break" => without_words(alloc, "break", Form::SimpleForm(SimpleForm::Break), words).map(
-            Some,
-        ),
+        "break" => without_words(alloc, "break", Form::Simple(SimpleForm::Break), words).map(Some),
         "continue" => without_words(
             alloc,
             "continue",
-            Form::SimpleForm(SimpleForm::Continue),
+            Form::Simple(SimpleForm::Continue),
             words,
-        )
-        .map(Some),
+        ).map(Some),
         "exit" => exit_form(alloc, words).map(Some),
         "error" => error_form(alloc, words).map(Some),
         "catch" => catch_form(alloc, words).map(Some),
         "info" => info_form(alloc, words).map(Some),
-        "global" => Ok(Some(Form::SimpleForm(SimpleForm::Global(words)))),
+        "global" => Ok(Some(Form::Simple(SimpleForm::Global(words)))),
         "puts" => puts_form(alloc, words).map(Some),
         _ => Ok(None),
     }

@@ -6,7 +6,7 @@ ghost use Rattle.std.specs.Prelude.{◌≡◌, map, string_bytes};
 #[derive(Drop)]
 pub enum Form<'a> {
     /// A command that evaluates no script.
-    SimpleForm(SimpleForm<'a>),
+    Simple(SimpleForm<'a>),
     /// `expr a...`
     Express(&'a [String]),
     /// `if`: conditions with their bodies, and the last body.

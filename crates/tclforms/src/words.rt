@@ -17,8 +17,8 @@ pub(crate) fn set_form(alloc: Global, words: &[String]) -> Result<Form<'_>, Valu
     ensures { Gives reason_of form_view result (set_form (map string_bytes words.entry.now)) }
 {
     match words {
-        [name] => Ok(Form::SimpleForm(SimpleForm::Get(name))),
-        [name, value] => Ok(Form::SimpleForm(SimpleForm::Set(name, value))),
+        [name] => Ok(Form::Simple(SimpleForm::Get(name))),
+        [name, value] => Ok(Form::Simple(SimpleForm::Set(name, value))),
         _ => Err(wrong_words(alloc, "set")),
     }
 }
@@ -39,9 +39,9 @@ pub(crate) fn unset_form(words: &[String]) -> Form<'_>
 {
     match words {
         [word, rest @ ..] if word.as_str() == "-nocomplain" => {
-            Form::SimpleForm(SimpleForm::Unset(WhenMissing::Ignored, after_dashes(rest)))
+            Form::Simple(SimpleForm::Unset(WhenMissing::Ignored, after_dashes(rest)))
         }
-        _ => Form::SimpleForm(SimpleForm::Unset(WhenMissing::IsError, after_dashes(words))),
+        _ => Form::Simple(SimpleForm::Unset(WhenMissing::IsError, after_dashes(words))),
     }
 }
 
@@ -50,7 +50,7 @@ pub(crate) fn append_form(alloc: Global, words: &[String]) -> Result<Form<'_>, V
     ensures { Gives reason_of form_view result (append_form (map string_bytes words.entry.now)) }
 {
     match words {
-        [name, texts @ ..] => Ok(Form::SimpleForm(SimpleForm::Append(name, texts))),
+        [name, texts @ ..] => Ok(Form::Simple(SimpleForm::Append(name, texts))),
         [] => Err(wrong_words(alloc, "append")),
     }
 }
@@ -60,7 +60,7 @@ pub(crate) fn lappend_form(alloc: Global, words: &[String]) -> Result<Form<'_>, 
     ensures { Gives reason_of form_view result (lappend_form (map string_bytes words.entry.now)) }
 {
     match words {
-        [name, elements @ ..] => Ok(Form::SimpleForm(SimpleForm::ListAppend(name, elements))),
+        [name, elements @ ..] => Ok(Form::Simple(SimpleForm::ListAppend(name, elements))),
         [] => Err(wrong_words(alloc, "lappend")),
     }
 }
@@ -70,7 +70,7 @@ pub(crate) fn incr_form(alloc: Global, words: &[String]) -> Result<Form<'_>, Val
     ensures { Gives reason_of form_view result (incr_form (map string_bytes words.entry.now)) }
 {
     match words {
-        [name, numbers @ ..] => Ok(Form::SimpleForm(SimpleForm::Increase(name, numbers))),
+        [name, numbers @ ..] => Ok(Form::Simple(SimpleForm::Increase(name, numbers))),
         [] => Err(wrong_words(alloc, "incr")),
     }
 }
@@ -115,9 +115,7 @@ pub(crate) fn proc_form(alloc: Global, words: &[String]) -> Result<Form<'_>, Val
     ensures { Gives reason_of form_view result (proc_form (map string_bytes words.entry.now)) }
 {
     match words {
-        [name, parameters, body] => Ok(Form::SimpleForm(SimpleForm::Define(
-            name, parameters, body,
-        ))),
+        [name, parameters, body] => Ok(Form::Simple(SimpleForm::Define(name, parameters, body))),
         _ => Err(wrong_words(alloc, "proc")),
     }
 }
@@ -127,8 +125,8 @@ pub(crate) fn return_form(alloc: Global, words: &[String]) -> Result<Form<'_>, V
     ensures { Gives reason_of form_view result (return_form (map string_bytes words.entry.now)) }
 {
     match words {
-        [] => Ok(Form::SimpleForm(SimpleForm::Return(""))),
-        [value] => Ok(Form::SimpleForm(SimpleForm::Return(value))),
+        [] => Ok(Form::Simple(SimpleForm::Return(""))),
+        [value] => Ok(Form::Simple(SimpleForm::Return(value))),
         _ => Err(unsupported(alloc, "return")),
     }
 }
@@ -138,7 +136,7 @@ pub(crate) fn exit_form(alloc: Global, words: &[String]) -> Result<Form<'_>, Val
     ensures { Gives reason_of form_view result (exit_form (map string_bytes words.entry.now)) }
 {
     match words {
-        [] | [_] => Ok(Form::SimpleForm(SimpleForm::Exit)),
+        [] | [_] => Ok(Form::Simple(SimpleForm::Exit)),
         _ => Err(wrong_words(alloc, "exit")),
     }
 }
@@ -148,9 +146,7 @@ pub(crate) fn error_form(alloc: Global, words: &[String]) -> Result<Form<'_>, Va
     ensures { Gives reason_of form_view result (error_form (map string_bytes words.entry.now)) }
 {
     match words {
-        [message] | [message, _] | [message, _, _] => Ok(Form::SimpleForm(SimpleForm::Error(
-            message,
-        ))),
+        [message] | [message, _] | [message, _, _] => Ok(Form::Simple(SimpleForm::Error(message))),
         _ => Err(wrong_words(alloc, "error")),
     }
 }
@@ -171,7 +167,7 @@ fn exists_form(alloc: Global, words: &[String]) -> Result<Form<'_>, ValueFault>
     ensures { Gives reason_of form_view result (exists_form (map string_bytes words.entry.now)) }
 {
     match words {
-        [name] => Ok(Form::SimpleForm(SimpleForm::Exists(name))),
+        [name] => Ok(Form::Simple(SimpleForm::Exists(name))),
         _ => Err(wrong_words(alloc, "info")),
     }
 }
@@ -223,7 +219,7 @@ fn to_stderr<'a>(alloc: Global, channel: &str, words: &'a [String]) -> Result<Fo
     ensures { Gives reason_of form_view result (to_stderr channel.now (map string_bytes words.entry.now)) }
 {
     if channel == "stderr" {
-        Ok(Form::SimpleForm(SimpleForm::Put(words)))
+        Ok(Form::Simple(SimpleForm::Put(words)))
     } else {
         Err(unsupported(alloc, "puts"))
     }
