@@ -16,7 +16,7 @@ use Rattle.tclrules.specs.declared.outcome.Ending.{Ending}
 use Rattle.tclrules.specs.declared.outcome.EvalFault.{EvalFault}
 use Rattle.tclrules.specs.declared.outcome.EvalFault.TheVariants as faults
 use Rattle.modulefile.specs.Effects.{Mode, load, unload, display, whatis}
-use Rattle.modulefile.specs.Calls.{call_of, mode, info, own_name}
+use Rattle.modulefile.specs.Calls.{call_of, commands, mode, info, own_name}
 use Rattle.modulefile.specs.Answers.{FileContext, command_answer, mode_word, oracle_of}
 use Rattle.modulefile.specs.Files as files
 use Rattle.modulefile.specs.Files.{FileReason, failed, halt_reason, RunsFile, FinishesFile, ran_of, empty_trace}
@@ -58,11 +58,11 @@ of_stop p (Some stop) Q e h = subst (λ x. IfSome x Q) e h
 
 -- An oracle gives back what it was made of: the module's name, the mode and the environment before the file.
 name_call : call_of (codes "module-info" ∷ codes "name" ∷ []) ≡ Ok own_name
-unfolding call_of
+unfolding call_of commands
 name_call = refl
 
 mode_call : call_of (codes "module-info" ∷ codes "mode" ∷ []) ≡ Ok (info mode)
-unfolding call_of
+unfolding call_of commands
 mode_call = refl
 
 abbrev mode_named : Text → Mode

@@ -1,5 +1,5 @@
 -- The number and the text of each refusal (own): those of its layer's fault, or its own.
-use Rattle.std.specs.Prelude.{ℕ, ◌≡◌, ◌==◌, true, List, [], string_bytes}
+use Rattle.std.specs.Prelude.{ℕ, ◌≡◌, ◌==◌, true, List, [], ◌∷◌, string_bytes}
 use Rattle.std.specs.List.{list_any}
 use Rattle.envvars.specs.Reasons as edits
 use Rattle.envvars.specs.Texts.{texts_in}
