@@ -1,4 +1,5 @@
-"""What the function adds to the program: directories of MODULEPATH, collections, reload, reports of reports."""
+"""What the function adds to the program: directories of MODULEPATH, collections, reload, reports of reports. The
+programs that it runs for that are tried by themselves in changes.py, and beside Environment Modules in original.py."""
 
 import os
 

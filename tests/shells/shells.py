@@ -51,8 +51,8 @@ LANGUAGES = {
 
 
 class Shell(typing.NamedTuple):
-    """A shell: the init file, whose name the program is given; how it is started; the line that says its version; what its
-    user may have set before the init file is sourced; and its options at a terminal, if it is tried there."""
+    """A shell: the init file, whose name the program is given; how it is started; the line that says its version; what
+    its user may have set before the init file is sourced; and its options at a terminal, if it is tried there."""
 
     title: str
     init: str
