@@ -57,7 +57,7 @@ SUITES = (
     ("device.py",),
     ("hostile.py",),
     ("search.py",),
-    ("shells/run.py", "modulecmd"),
+    ("shells",),
     ("pages.py",),
     ("allocations.py",),
     ("systems.py",),
@@ -185,12 +185,12 @@ def suite(python, script, *given):
 
 def chosen(names):
     """The suites of these names, each with or without `.py`; all where none is named."""
-    scripts = {name if name.endswith(".py") else f"{name}.py" for name in names}
-    unknown = scripts - {script for script, *_ in SUITES}
+    wanted = {name.removesuffix(".py") for name in names}
+    known = [script.removesuffix(".py") for script, *_ in SUITES]
+    unknown = wanted.difference(known)
     if unknown:
-        known = " ".join(dict.fromkeys(script for script, *_ in SUITES))
-        sys.exit(f"no suite is called {' '.join(sorted(unknown))}; there are: {known}")
-    return [it for it in SUITES if not names or it[0] in scripts]
+        sys.exit(f"no suite is called {' '.join(sorted(unknown))}; there are: {' '.join(dict.fromkeys(known))}")
+    return [it for it, name in zip(SUITES, known) if not names or name in wanted]
 
 
 def words():

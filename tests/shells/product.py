@@ -5,14 +5,13 @@ import re
 import shutil
 import subprocess
 
-from tests.harness import case, loaded, same, true
-from tests.shells.sessions import REFUSAL
-from tests.shells.shells import SHELLS, content
+import pytest
+
+from tests.harness import loaded, same, true
+from tests.shells.shells import FAMILIES, content, in_sh, in_shells
 
 HERE = os.path.dirname(os.path.abspath(__file__))
 TOP = os.path.dirname(os.path.dirname(HERE))
-
-INIT = ("bash", "csh", "fish", "ksh", "profile.csh", "profile.sh", "sh", "tcsh", "zsh")
 
 # Every file below the prefix.
 FILES = [
@@ -25,7 +24,7 @@ FILES = [
     "completion/tcsh",
     "etc/modulespath",
     "etc/modulespath.example",
-    *(f"init/{name}" for name in INIT),
+    *(f"init/{name}" for name in sorted([*FAMILIES, "profile.csh", "profile.sh"])),
     "libexec/changes",
     "libexec/collection.awk",
     "libexec/listing.awk",
@@ -84,8 +83,7 @@ def below(path):
     return sorted(found)
 
 
-@case
-def install_lays_out_every_file_and_uninstall_takes_it_away(folder):
+def test_install_lays_out_every_file_and_uninstall_takes_it_away(folder):
     place = os.path.join(folder.path, b"new place").decode()
     made("install", f"PREFIX={place}")
     same(below(place), sorted(FILES), "the files")
@@ -98,8 +96,7 @@ def install_lays_out_every_file_and_uninstall_takes_it_away(folder):
     same(os.path.exists(place), False, "the folder is gone")
 
 
-@case
-def install_for_a_package_names_the_final_place(folder):
+def test_install_for_a_package_names_the_final_place(folder):
     here = folder.path.decode()
     stage, final = os.path.join(here, "stage"), os.path.join(here, "final place")
     made("install", f"DESTDIR={stage}", f"PREFIX={final}/")
@@ -115,8 +112,7 @@ def install_for_a_package_names_the_final_place(folder):
     same(os.path.exists(final), False, "the folder is gone")
 
 
-@case
-def install_keeps_the_site_s_own_file(folder):
+def test_install_keeps_the_site_s_own_file(folder):
     place = os.path.join(folder.path, b"p").decode()
     made("install", f"PREFIX={place}")
     own = os.path.join(place, "etc/modulespath")
@@ -137,8 +133,7 @@ def elsewhere(folder):
     return {**os.environ, "CDPATH": place}
 
 
-@case
-def an_exported_cdpath_leads_no_script_astray(folder):
+def test_an_exported_cdpath_leads_no_script_astray(folder):
     env = elsewhere(folder)
     tools = os.path.join(folder.path.decode(), "tools")
     os.mkdir(tools)
@@ -151,8 +146,7 @@ def an_exported_cdpath_leads_no_script_astray(folder):
         same((done.stdout.decode(), done.stderr, done.returncode), (wanted, b"", 0), f"what {words} writes")
 
 
-@case
-def install_refuses_a_prefix_that_shells_would_misread(folder):
+def test_install_refuses_a_prefix_that_shells_would_misread(folder):
     marks = ("'", '"', "`", "$$", "!", "\\", "|", "&", "*", "?", "[", "]", "{", "}")
     for prefix in ("relative", "", "/", *(f"/a{mark}b" for mark in marks)):
         done = make("install", f"PREFIX={prefix}", f"DESTDIR={folder.path.decode()}/no")
@@ -160,8 +154,7 @@ def install_refuses_a_prefix_that_shells_would_misread(folder):
     same(os.path.exists(folder.path + b"/no"), False, "nothing is laid out")
 
 
-@case
-def the_usage_tells_what_the_program_does(folder):
+def test_the_usage_tells_what_the_program_does(folder):
     """Each subcommand is known, and none is missing."""
     usage = ["sh", os.path.join(TOP, "libexec", "usage")]
     text = subprocess.run(usage, capture_output=True, check=True).stdout.decode()
@@ -174,16 +167,14 @@ def the_usage_tells_what_the_program_does(folder):
         folder.refuses(["sh", name], f"Unknown subcommand '{name}'")
 
 
-@case
-def completion_offers_what_the_program_does(folder):
+def test_completion_offers_what_the_program_does():
     names = subprocess.run(
         ["sh", os.path.join(TOP, "libexec", "names"), "subcommands"], capture_output=True, check=True
     )
     same(names.stdout.decode().split(), sorted([*SUBCOMMANDS, *OF_FUNCTIONS, *ADDED]), "the names for completion")
 
 
-@case
-def the_pages_are_well_formed(folder):
+def test_the_pages_are_well_formed():
     pages = [os.path.join(TOP, "man", name) for name in ("module.1", "modcheck.1", "modaudit.1", "modulefile.5")]
     true(shutil.which("mandoc"), "mandoc is installed")
     lint = subprocess.run(["mandoc", "-T", "lint", *pages], capture_output=True, check=False)
@@ -196,8 +187,7 @@ def the_pages_are_well_formed(folder):
             same((done.stderr, done.returncode), (b"", 0), f"what man says of {page}")
 
 
-@case
-def the_page_has_each_sub_command(folder):
+def test_the_page_has_each_sub_command():
     page = content(os.path.join(TOP, "man", "module.1")).decode()
     there = page.split(".Sh DESCRIPTION")[1].split(".Ss Names and versions")[0]
     for name in (*SUBCOMMANDS, *OF_FUNCTIONS, *ADDED):
@@ -210,8 +200,7 @@ def refusals():
     return re.findall(r"^\| `\w+`[^|]*\| ([0-9, ]+) \| `?([^|`]*)`? \|", text, re.MULTILINE)
 
 
-@case
-def the_page_has_each_refusal(folder):
+def test_the_page_has_each_refusal():
     page = content(os.path.join(TOP, "man", "module.1")).decode()
     rows = refusals()
     wanted = [*range(1, 10), *range(11, 22), *range(31, 38), *range(41, 47), *range(51, 58), *range(61, 65)]
@@ -256,8 +245,7 @@ def left_out_names(page):
     return [name for line in lines for name in line.split() if name not in (",", ".")]
 
 
-@case
-def the_modulefile_page_has_each_command(folder):
+def test_the_modulefile_page_has_each_command(folder):
     page = content(os.path.join(TOP, "man", "modulefile.5")).decode()
     there = page.split(".Ss Commands that change the environment")[1].split(".Ss What a file has to keep to")[0]
     env = loaded(folder, "gcc/9", A="b")
@@ -271,8 +259,7 @@ def the_modulefile_page_has_each_command(folder):
         folder.refuses(["sh", "load", "foo"], "Stopped by the modulefile")
 
 
-@case
-def the_modulefile_page_has_what_is_left_out(folder):
+def test_the_modulefile_page_has_what_is_left_out(folder):
     names = left_out_names(content(os.path.join(TOP, "man", "modulefile.5")).decode())
     true(len(names) > 80, f"the names {names}")
     for line in [*LEFT_OUT, *names]:
@@ -281,8 +268,7 @@ def the_modulefile_page_has_what_is_left_out(folder):
         true(done.stderr.endswith(b"' is left out\n") and done.returncode == 1, f"{line} is left out: {done.stderr!r}")
 
 
-@case
-def the_example_of_the_modulefile_page_loads(folder):
+def test_the_example_of_the_modulefile_page_loads(folder):
     page = content(os.path.join(TOP, "man", "modulefile.5")).decode()
     text = page.split(".Sh EXAMPLES\n.Bd -literal -offset indent\n")[1].split(".Ed")[0]
     path = folder.file("foo/1.0", text)
@@ -304,8 +290,7 @@ def the_example_of_the_modulefile_page_loads(folder):
     folder.answers(["sh", "whatis", "foo"], b"", "foo/1.0: the tools of foo\n", 0, env=env)
 
 
-@case
-def shellcheck_finds_nothing(folder):
+def test_shellcheck_finds_nothing():
     true(shutil.which("shellcheck"), "shellcheck is installed")
     tools = [f"tools/{name}" for name in sorted(os.listdir(os.path.join(TOP, "tools"))) if name.endswith(".sh")]
     scripts = [*SCRIPTS, *tools, "tests/shells/stand_in.sh"]
@@ -318,115 +303,97 @@ def readme_blocks():
     return re.findall(r"```(\w*)\n(.*?)```", text, re.DOTALL)
 
 
-@case
-def the_readme_names_what_is_installed(folder):
+def test_the_readme_names_what_is_installed():
     text = content(os.path.join(TOP, "README.md")).decode()
     named = re.findall(r"(?:/opt/modulecmd|PREFIX)/([a-z0-9_./]*[a-z0-9_])", text)
     installed = [name for name in named if any(file == name or file.startswith(name + "/") for file in FILES)]
     same(named, installed, "the names")
 
 
-def add_demo(prefixes):
-    """Adds the demonstration, in each shell of the POSIX kind."""
-    for shell in SHELLS:
-        if shell.init == "sh" and shell.is_there():
-
-            def demonstrates(folder, shell=shell):
-                command = [*shell.command, "demo/demo.sh", prefixes.program]
-                done = subprocess.run(command, cwd=TOP, env=elsewhere(folder), capture_output=True, check=False)
-                same((done.stderr, done.returncode), (b"", 0), "standard error and status")
-                shown = [part.split(b"\n\n")[0].split(b"\n") for part in done.stdout.split(b"--- ")[1:]]
-                titles = [b"before", b"after module load hello greet", b"after module switch hello/2.0"]
-                same([part[0] for part in shown], [*titles, b"after module unload hello greet"], "the parts")
-                same(shown[3][1:], shown[0][1:], "the environment after")
-                between = [b"GREETING=hi", b"HELLO=world", b"LOADEDMODULES=hello/1.0:greet/1"]
-                same([line for line in between if line not in shown[1]], [], "the environment between")
-                true(b"LOADEDMODULES=greet/1:hello/2.0" in shown[2], "the environment behind the switch")
-                same(done.stdout.count(b"refused, with status 1\n"), 2, "the refusals that are shown")
-                true(b"hello/1.0(default)\n" in done.stdout, "what can be loaded is shown")
-                lines = b"1 accepted\n2 accepted\n3 refused: Unable to locate a modulefile for 'nope'\nhello/1.0: Plain\n"
-                true(lines in done.stdout, "what a check says is shown")
-
-            demonstrates.__name__ = f"{shell.title} runs the demonstration"
-            case(demonstrates)
+@in_shells(lambda it: it.init == "sh")
+def test_runs_the_demonstration(shell, folder, product):
+    command = [*shell.command, "demo/demo.sh", product]
+    done = subprocess.run(command, cwd=TOP, env=elsewhere(folder), capture_output=True, check=False)
+    same((done.stderr, done.returncode), (b"", 0), "standard error and status")
+    shown = [part.split(b"\n\n")[0].split(b"\n") for part in done.stdout.split(b"--- ")[1:]]
+    titles = [b"before", b"after module load hello greet", b"after module switch hello/2.0"]
+    same([part[0] for part in shown], [*titles, b"after module unload hello greet"], "the parts")
+    same(shown[3][1:], shown[0][1:], "the environment after")
+    between = [b"GREETING=hi", b"HELLO=world", b"LOADEDMODULES=hello/1.0:greet/1"]
+    same([line for line in between if line not in shown[1]], [], "the environment between")
+    true(b"LOADEDMODULES=greet/1:hello/2.0" in shown[2], "the environment behind the switch")
+    same(done.stdout.count(b"refused, with status 1\n"), 2, "the refusals that are shown")
+    true(b"hello/1.0(default)\n" in done.stdout, "what can be loaded is shown")
+    lines = b"1 accepted\n2 accepted\n3 refused: Unable to locate a modulefile for 'nope'\nhello/1.0: Plain\n"
+    true(lines in done.stdout, "what a check says is shown")
 
 
-def add_names(prefixes):
-    """Adds what completion is told over the program."""
-
-    @case
-    def completion_offers_what_can_be_loaded_and_what_is(folder):
-        for name in ("foo/1.0", "foo/2.0", "bar/1"):
-            folder.module(name, "")
-        folder.file("foo/.version", "#%Module\nset ModulesVersion 1.0\n")
-        home = os.path.join(folder.path, b"home")
-        env = loaded(folder, "foo/1.0", "baz/3", PATH=os.environ["PATH"], HOME=home)
-        os.makedirs(os.path.join(home, b".config/modulecmd"))
-        for name in (b"a b", b"default"):
-            with open(os.path.join(home, b".config/modulecmd", name), "wb"):
-                pass
-
-        def names(*words, line=""):
-            command = ["sh", os.path.join(prefixes.program, "libexec", "names"), *words]
-            given = {**env, b"COMMAND_LINE": line.encode()}
-            done = subprocess.run(command, env=given, capture_output=True, check=False)
-            same((done.stderr, done.returncode), (b"", 0), f"standard error and status of names {words}")
-            return done.stdout.decode().split("\n")[:-1]
-
-        same(names("avail"), ["bar/1", "foo/1.0", "foo/2.0"], "what can be loaded")
-        same(names("avail", "fo"), ["foo/1.0", "foo/2.0"], "what can be loaded and begins so")
-        same(names("avail", "'fo"), ["bar/1", "foo/1.0", "foo/2.0"], "what can be loaded, where a quote is typed")
-        same(names("loaded"), ["foo/1.0", "baz/3"], "what is loaded")
-        same(names("shells"), ["bash", "csh", "fish", "ksh", "sh", "tcsh", "zsh"], "the shells")
-        for line, wanted in (
-            ("module load fo", ["foo/1.0", "foo/2.0"]),
-            ("module show b", ["bar/1"]),
-            ("module whatis ", ["bar/1", "foo/1.0", "foo/2.0"]),
-            ("module unload f", ["foo/1.0", "baz/3"]),
-            ("module switch b", ["foo/1.0", "baz/3", "bar/1"]),
-            ("module switch foo b", ["bar/1"]),
-            ("module avail fo", ["foo/1.0", "foo/2.0"]),
-            ("module help ba", ["bar/1"]),
-            ("module purge ", []),
-            ("module is-avail fo", ["foo/1.0", "foo/2.0"]),
-            ("module is-loaded f", ["foo/1.0", "baz/3"]),
-            ("module restore ", ["a b", "default"]),
-            ("module saverm d", ["a b", "default"]),
-            ("module unuse ", [folder.modules.decode()]),
-            ("module reload ", []),
-            ("ml -b", ["-foo/1.0", "-baz/3"]),
-        ):
-            same(names("line", line=line), wanted, f"what can stand at the end of {line!r}")
-        env[b"MODULEPATH"] = folder.program
-        same(names("avail"), [], "what can be loaded from no directory")
+# What can stand at the end of a line, where foo/1.0 and baz/3 are loaded.
+COMPLETED = {
+    "module load fo": ["foo/1.0", "foo/2.0"],
+    "module show b": ["bar/1"],
+    "module whatis ": ["bar/1", "foo/1.0", "foo/2.0"],
+    "module unload f": ["foo/1.0", "baz/3"],
+    "module switch b": ["foo/1.0", "baz/3", "bar/1"],
+    "module switch foo b": ["bar/1"],
+    "module avail fo": ["foo/1.0", "foo/2.0"],
+    "module help ba": ["bar/1"],
+    "module purge ": [],
+    "module is-avail fo": ["foo/1.0", "foo/2.0"],
+    "module is-loaded f": ["foo/1.0", "baz/3"],
+    "module restore ": ["a b", "default"],
+    "module saverm d": ["a b", "default"],
+    "module unuse ": ["DIRECTORY"],
+    "module reload ": [],
+    "ml -b": ["-foo/1.0", "-baz/3"],
+}
 
 
-def add(prefixes):
-    """Adds the blocks of the README, each run as it stands by the shells that it is for."""
-    add_demo(prefixes)
-    add_names(prefixes)
-    for number, (language, block) in enumerate(readme_blocks()):
-        is_function = "module() {" in block
-        is_session = "/init/" in block and "module load" in block
-        if not is_function and not is_session:
-            continue
-        for shell in SHELLS:
-            if shell.family != "sh" or not shell.is_there():
-                continue
+def test_completion_offers_what_can_be_loaded_and_what_is(folder, product):
+    for name in ("foo/1.0", "foo/2.0", "bar/1"):
+        folder.module(name, "")
+    folder.file("foo/.version", "#%Module\nset ModulesVersion 1.0\n")
+    home = os.path.join(folder.path, b"home")
+    env = loaded(folder, "foo/1.0", "baz/3", PATH=os.environ["PATH"], HOME=home)
+    os.makedirs(os.path.join(home, b".config/modulecmd"))
+    for name in (b"a b", b"default"):
+        with open(os.path.join(home, b".config/modulecmd", name), "wb"):
+            pass
 
-            def of_readme(folder, shell=shell, block=block, is_function=is_function):
-                folder.module("foo/1.0", "setenv FOO on\nprepend-path MANPATH /opt/foo/man\n")
-                path = os.path.join(prefixes.program, "bin") + ":" + os.environ["PATH"]
-                env = folder.environment(PATH=path, MANPATH="/usr/man", LANG="C.UTF-8")
-                lines = block.replace("/opt/modulecmd/init/sh", f"'{prefixes.program}'/init/sh").split("\n")
-                if is_function:
-                    steps = ["show", "module load foo/1.0", "module load nope/1", "status", "module unload foo", "show"]
-                    kept = shell.keeps(folder, env, [*lines, *steps], None, err=REFUSAL)
-                    same(kept.statuses, ["1"], "the status")
-                else:
-                    kept = shell.keeps(folder, env, [lines[0], "show", *lines[1:], "show"], None)
-                before, after = kept.shown[0], kept.shown[-1]
-                same(after, before, "the environment after")
+    def names(*words, line=""):
+        command = ["sh", os.path.join(product, "libexec", "names"), *words]
+        given = {**env, b"COMMAND_LINE": line.encode()}
+        done = subprocess.run(command, env=given, capture_output=True, check=False)
+        same((done.stderr, done.returncode), (b"", 0), f"standard error and status of names {words}")
+        return done.stdout.decode().split("\n")[:-1]
 
-            of_readme.__name__ = f"{shell.title} runs block {number + 1} of the README"
-            case(of_readme)
+    same(names("avail"), ["bar/1", "foo/1.0", "foo/2.0"], "what can be loaded")
+    same(names("avail", "fo"), ["foo/1.0", "foo/2.0"], "what can be loaded and begins so")
+    same(names("avail", "'fo"), ["bar/1", "foo/1.0", "foo/2.0"], "what can be loaded, where a quote is typed")
+    same(names("loaded"), ["foo/1.0", "baz/3"], "what is loaded")
+    same(names("shells"), sorted(FAMILIES), "the shells")
+    for line, wanted in COMPLETED.items():
+        wanted = [name.replace("DIRECTORY", folder.modules.decode()) for name in wanted]
+        same(names("line", line=line), wanted, f"what can stand at the end of {line!r}")
+    env[b"MODULEPATH"] = folder.program
+    same(names("avail"), [], "what can be loaded from no directory")
+
+
+# The sessions of the README.
+SESSIONS = [
+    pytest.param(block, id=f"block {number}")
+    for number, (_, block) in enumerate(readme_blocks(), 1)
+    if "/init/" in block and "module load" in block
+]
+
+
+@in_sh
+@pytest.mark.parametrize("block", SESSIONS)
+def test_runs_a_block_of_the_README(shell, folder, product, block):
+    """It runs as it stands, and the environment behind it is that before."""
+    folder.module("foo/1.0", "setenv FOO on\nprepend-path MANPATH /opt/foo/man\n")
+    path = os.path.join(product, "bin") + ":" + os.environ["PATH"]
+    env = folder.environment(PATH=path, MANPATH="/usr/man", LANG="C.UTF-8")
+    first, *rest = block.replace("/opt/modulecmd/init/sh", f"'{product}'/init/sh").split("\n")
+    before, after = shell.keeps(folder, env, [first, "show", *rest, "show"], None).shown
+    same(after, before, "the environment after")

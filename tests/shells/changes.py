@@ -1,0 +1,358 @@
+"""The programs that the functions of shells run for changes and reports, by themselves."""
+
+import os
+import re
+import resource
+import shutil
+import signal
+import subprocess
+
+import pytest
+
+from tests.harness import NOBODY, SECONDS, encoded, same, true
+from tests.shells.session import ODD_NAME
+from tests.shells.shells import FAMILIES, content
+from tests.shells.texts import text
+
+# Whom a run is by that may not read and write what its owner does.
+BY_NOBODY = {"user": NOBODY, "group": NOBODY, "extra_groups": []} if os.geteuid() == 0 else {}
+
+
+class Changes:
+    """The program that the functions run for changes, by itself."""
+
+    def __init__(self, folder, prefix):
+        self.prefix = prefix
+        self.start = folder.modules.decode()
+        self.home = os.path.join(folder.path, b"home").decode()
+        os.mkdir(self.home)
+        os.chmod(self.home, 0o777)
+        self.env = folder.environment(PATH=os.environ["PATH"], HOME=self.home)
+
+    def run(self, *words, program="changes", env=(), under=(), **more):
+        """Runs a program, behind the words of a command that runs others."""
+        given = {**self.env, **encoded(dict(env))}
+        command = [*under, os.path.join(self.prefix, "libexec", program), *words]
+        more = {"stdin": subprocess.DEVNULL, "capture_output": True, "timeout": SECONDS, "check": False, **more}
+        done = subprocess.run(command, env=given, **more)
+        return done.stdout, done.stderr, done.returncode
+
+    def answers(self, words, out="", err="", status=0, **more):
+        wanted = (out.encode(errors="surrogateescape"), err.encode(errors="surrogateescape"), status)
+        same(self.run("sh", *words, **more), wanted, f"what {words} writes")
+
+    def refuses(self, words, text, **more):
+        self.answers(words, err=f"ERROR: {text}\n", status=1, **more)
+
+    def file(self, name, data, folder=".config/modulecmd"):
+        path = os.path.join(self.home, folder, name)
+        os.makedirs(os.path.dirname(path), exist_ok=True)
+        with open(path, "wb") as file:
+            file.write(data if isinstance(data, bytes) else data.encode())
+        return path
+
+
+@pytest.fixture
+def here(folder, product):
+    return Changes(folder, product)
+
+
+def instead(name, other):
+    """How a command begins that finds another program at a name, by a mount that no other process sees."""
+    found = [shutil.which(program, path="/usr/bin:/bin") for program in (other, name)]
+    lines = 'mount --bind "$1" "$2" && shift 2 && exec "$@"'
+    return ["unshare", "-m", "sh", "-c", lines, "sh", *[os.path.realpath(path) for path in found]]
+
+
+@pytest.fixture(scope="session")
+def mounts():
+    """Gives what finds another program at a name, where this user can mount."""
+    if subprocess.run(["unshare", "-m", "mount", "--bind", "/", "/"], capture_output=True, check=False).returncode:
+        pytest.skip("over other programs of the system, since this user can't mount")
+    return instead
+
+
+# What the system's awk and sh can be.
+OTHERS = {"awk": ("mawk", "gawk", "busybox"), "sh": ("dash", "bash", "ksh93", "mksh", "zsh", "busybox")}
+SYSTEMS = [pytest.param(None, id="here")]
+SYSTEMS += [pytest.param((it, other), id=f"where {it} is {other}") for it, others in OTHERS.items() for other in others]
+
+
+@pytest.fixture(params=SYSTEMS)
+def under(request):
+    """How a command begins that runs on this system, or where one of its programs is another."""
+    if request.param is None:
+        return []
+    name, other = request.param
+    if not shutil.which(other):
+        pytest.skip(f"{other} is not installed")
+    return request.getfixturevalue("mounts")(name, other)
+
+
+# What the programs of libexec are made of.
+SCRIPTS = ("changes", "report", "suggest")
+
+
+# What no collection is, and what is said of it.
+NO_COLLECTIONS = (
+    ("module purge\n", "line 1: it is neither `module use' nor `module load' with words"),
+    ("module use\n", "line 1: it is neither `module use' nor `module load' with words"),
+    ("#x\n\nmodule load $(touch HERE)\n", "line 3: the character $ without quotes"),
+    ("module load a; touch HERE\n", "line 1: the character ; without quotes"),
+    ("module load [exec touch HERE]\n", "line 1: the character [ without quotes"),
+    ("module load {a b}\n", "line 1: no name of a module: 'a b'"),
+    ('module load ""\n', "line 1: no name of a module: ''"),
+    ("module load -f\n", "line 1: no name of a module: '-f'"),
+    ("module use --nope /a\n", "line 1: no absolute directory without a colon: '--nope'"),
+    ("module use a\n", "line 1: no absolute directory without a colon: 'a'"),
+    ("module use /a:/b\n", "line 1: no absolute directory without a colon: '/a:/b'"),
+    ("module use {/a\n", "line 1: braces that aren't closed at the end of a word, or a backslash in them"),
+    ("module use {/a}/b\n", "line 1: braces that aren't closed at the end of a word, or a backslash in them"),
+    ('module use "/a\n', "line 1: a quote that isn't closed"),
+    ('module use "/a"b\n', "line 1: a quote that isn't closed at the end of a word"),
+    ("module use /a\\x41\n", "line 1: a backslash before what it gives no meaning"),
+    ("", "no line names a module or a directory"),
+    ("# empty\n\n \t\nmodule load --notuasked\n", "no line names a module or a directory"),
+    ("module load a\0b\n", "it has a byte that is no text"),
+    ("#" * 65537, "it has more than 65536 bytes"),
+)
+
+
+def test_no_collection_is_refused_and_never_evaluated(here):
+    for written, reason in NO_COLLECTIONS:
+        path = here.file("c", written)
+        here.refuses(["restore", "c"], f"No collection: '{path}': {reason}", cwd=here.home)
+    here.file("c", "module load 'a`touch HERE`\n")
+    here.refuses(["restore", "c"], "Unable to locate a modulefile for ''a`touch'", cwd=here.home)
+    same(os.listdir(here.home), [".config"], "what is made")
+
+
+def test_what_is_no_file_of_a_collection_is_refused(here):
+    top = os.path.dirname(here.file("c", "module load foo\n"))
+    os.mkdir(os.path.join(top, "folder"))
+    os.mkfifo(os.path.join(top, "pipe"))
+    os.symlink("ring", os.path.join(top, "ring"))
+    os.symlink("/dev/zero", os.path.join(top, "zero"))
+    for name in ("folder", "pipe", "ring", "zero"):
+        for subcommand in ("restore", "saveshow"):
+            here.refuses([subcommand, name], f"No file: '{top}/{name}'")
+    for name in ("folder", "pipe", "zero"):
+        same(here.run("sh", "save", name)[2], 1 if name == "folder" else 0, f"the status of save {name}")
+    here.refuses(["saverm", "folder"], f"No file: '{top}/folder'")
+    here.answers(["saverm", "ring"])
+    os.chmod(os.path.join(top, "c"), 0)
+    here.refuses(["restore", "c"], f"Reading failed: '{top}/c'", **BY_NOBODY)
+    here.answers(["savelist"], err="c\npipe\nzero\n")
+
+
+def test_names_of_collections_are_judged(here):
+    for name in ("", "a/b", "/a", ".a", "..", "-a", "a\nb", "a\t", "a\033b"):
+        for subcommand in ("save", "restore", "saveshow", "saverm"):
+            here.refuses([subcommand, name], f"Bad name of a collection: '{name}'")
+    here.refuses(["saverm"], "Bad arguments")
+    here.refuses(["savelist", "a"], "Bad arguments")
+    same(os.listdir(here.home), [], "what is made")
+    long = "n" * 300
+    here.refuses(["save", long], f"Writing failed: '{here.home}/.config/modulecmd/{long}'")
+    for name in ("a b", "it's", '"$HOME" `x` *', "é\\", "~", "a=b"):
+        here.answers(["save", name])
+        here.answers(["restore", name], out=f"MODULEPATH='{here.start}'; export MODULEPATH;\n")
+        here.answers(["saverm", name])
+    same(os.listdir(os.path.join(here.home, ".config/modulecmd")), [], "what is left")
+
+
+def refuses_to_write(here, run):
+    """A save is refused, the collection stays what it was, and no other file is left."""
+    path = here.file("c", "module load old\n")
+    run(["save", "c"], f"Writing failed: '{path}'")
+    same(content(path), b"module load old\n", "the file")
+    same(os.listdir(os.path.dirname(path)), ["c"], "the files")
+
+
+def test_a_collection_is_written_whole_or_not_at_all(here, under):
+    def small():
+        signal.signal(signal.SIGXFSZ, signal.SIG_IGN)
+        resource.setrlimit(resource.RLIMIT_FSIZE, (10, 10))
+
+    refuses_to_write(here, lambda *refused: here.refuses(*refused, under=under, preexec_fn=small))
+
+
+def test_a_collection_of_which_nothing_is_read_again_is_not_written(here, mounts):
+    refuses_to_write(here, lambda *refused: here.refuses(*refused, under=mounts("cat", "true")))
+
+
+def test_a_collection_in_a_folder_that_cannot_be_written_stays(here):
+    def read_only(words, refusal):
+        os.chmod(os.path.join(here.home, ".config/modulecmd"), 0o555)
+        here.refuses(words, refusal, **BY_NOBODY)
+        here.refuses(["saverm", "c"], refusal, **BY_NOBODY)
+
+    refuses_to_write(here, read_only)
+
+
+def test_a_collection_is_the_same_by_every_awk_and_sh(here, folder, under):
+    folder.module("foo/1", "setenv FOO 1\n")
+    lists = {"LOADEDMODULES": "foo/1", "_LMFILES_": f"{here.start}/foo/1"}
+    path = f"{here.start}:/a b:/it's $x"
+    saved = f"module use --append {here.start}\nmodule use --append {{/a b}}\nmodule use --append {{/it's $x}}\n"
+    here.answers(["save", "c"], env={"MODULEPATH": path + ":", "FOO": "1", **lists}, under=under)
+    file = os.path.join(here.home, ".config/modulecmd/c")
+    same(content(file).decode(), saved + "module load foo/1\n", "what is saved")
+    out = text("sh", {"MODULEPATH": path}) + text("sh", {"FOO": "1", **lists})
+    here.answers(["restore", "c"], out=out.decode(), under=under)
+
+
+def test_a_collection_is_restored_whatever_tools_say(here, folder):
+    folder.module("foo/1", "setenv FOO 1\n")
+    here.file("c", "module load foo\n")
+    lists = {"LOADEDMODULES": "foo/1", "_LMFILES_": f"{here.start}/foo/1"}
+    for under, name, value in (
+        (["bash", "--posix"], "LC_ALL", "zz_ZZ.UTF-8"),
+        (["bash", "--posix"], "SHELLOPTS", "xtrace"),
+        (["dash"], "LD_PRELOAD", "/no/such.so"),
+    ):
+        out, said, status = here.run("sh", "restore", "c", env={name: value}, under=under)
+        same((out, status), (text("sh", {"FOO": "1", **lists}), 0), f"a restore with {name}={value}: {said!r}")
+        true(said, f"something is said with {name}={value}")
+
+
+def test_nothing_is_no_collection(here):
+    nothing = "Nothing to save: no module is loaded, and MODULEPATH names no directory"
+    for path in (None, "", ":", "::"):
+        here.env.pop(b"MODULEPATH", None)
+        here.refuses(["save"], nothing, env={} if path is None else {"MODULEPATH": path})
+    same(os.listdir(here.home), [], "what is made")
+
+
+def test_a_home_that_cannot_be_written_is_said(here):
+    os.chmod(here.home, 0o555)
+    here.refuses(["save"], f"Writing failed: '{here.home}/.config/modulecmd'", **BY_NOBODY)
+    here.refuses(["save"], "Writing failed: '/dev/null/.config/modulecmd'", env={"HOME": "/dev/null"})
+    here.refuses(["restore"], "There is no collection 'default'", env={"HOME": "/dev/null"})
+    del here.env[b"HOME"]
+    for words in (["save"], ["restore"], ["savelist"], ["saveshow"], ["saverm", "a"]):
+        here.refuses(words, "HOME is not set")
+
+
+def test_collections_stand_where_the_user_s_settings_do(here):
+    here.answers(["save", "a"])
+    here.answers(["save", "b"], env={"XDG_CONFIG_HOME": f"{here.home}/settings"})
+    here.answers(["save", "c"], env={"XDG_CONFIG_HOME": "settings"})
+    same(sorted(os.listdir(f"{here.home}/.config/modulecmd")), ["a", "c"], "by HOME")
+    same(os.listdir(f"{here.home}/settings/modulecmd"), ["b"], "by XDG_CONFIG_HOME")
+
+
+def test_collections_of_the_original_are_read_and_left(here, folder):
+    folder.module("foo/1", "setenv FOO 1\n")
+    used = f"module use --append {{{here.home}/a b}}\nmodule use --append {here.start}\n"
+    written = used + "module load --notuasked foo\n\n"
+    path = here.file("theirs", written, ".module")
+    here.file("both", "module purge\n", ".module")
+    here.file("both", "module load foo\n")
+    here.answers(["savelist"], err="both\ntheirs\n")
+    loaded = "FOO='1'; export FOO;\nLOADEDMODULES='foo/1'; export LOADEDMODULES;\n"
+    files = f"_LMFILES_='{here.start}/foo/1'; export _LMFILES_;\n"
+    directories = f"MODULEPATH='{here.home}/a b:{here.start}'; export MODULEPATH;\n"
+    here.answers(["restore", "theirs"], out=directories + loaded + files)
+    here.answers(["restore", "both"], out=loaded + files)
+    here.refuses(["saverm", "theirs"], f"A collection of Environment Modules, which is left to it: '{path}'")
+    same(content(path).decode(), written, "their file")
+
+
+def test_directories_are_quoted_by_the_rules_of_each_shell(here, folder):
+    name = ODD_NAME + "!\\'!"
+    os.makedirs(os.path.join(folder.path.decode(), name))
+    for shell, family in FAMILIES.items():
+        for value in (name, "\n" + name + "\n\n"):
+            place = f"{folder.path.decode()}/{value}"
+            os.makedirs(place, exist_ok=True)
+            found = here.run(shell, "use", place)
+            path = f"{place}:{here.start}"
+            if family == "csh" and "\n" in value:
+                wanted = (b"", b"ERROR: Value of 'MODULEPATH' can't be said in this shell\n", 1)
+            else:
+                wanted = (text(family, {"MODULEPATH": path}), b"", 0)
+            same(found, wanted, f"what use writes for {shell}")
+        relative = "a\\b:'q:!r\\:'\\s!:\\:!'"
+        found = here.run(shell, "use", "/", env={"MODULEPATH": relative})
+        same(found, (text(family, {"MODULEPATH": f"/:{relative}"}), b"", 0), f"what use writes for {shell}")
+
+
+def test_directories_that_no_modulepath_can_hold_are_refused(here):
+    here.refuses(["use", ""], "Bad value of 'MODULEPATH': a directory without a name")
+    here.refuses(["unuse", ""], "Bad value of 'MODULEPATH': a directory without a name")
+    here.refuses(["use", "/a:b"], "Bad value of 'MODULEPATH': '/a:b' has a colon")
+    here.refuses(["use", "/a\udcff"], f"Not UTF-8: '/a\udcff:{here.start}'")
+    long = ["/" + "d" * 250 + str(number) for number in range(500)]
+    here.refuses(["use", *long], "Bad value of 'MODULEPATH': it is too long")
+    odd = {"MODULEPATH": b"/a\xff:/b"}
+    here.refuses(["use", "/c"], "Not UTF-8: '/c:/a\udcff:/b'", env=odd)
+    here.answers(["unuse", "/a\udcff"], out="MODULEPATH='/b'; export MODULEPATH;\n", env=odd)
+    line = "MODULEPATH='{}'; export MODULEPATH;\n".format
+    relative = {"MODULEPATH": f":{here.start}/::rel:"}
+    here.answers(["use", here.start + "//"], out=line(f"{here.start}:rel"), env=relative)
+    here.answers(["unuse", "rel"], out=line(f"{here.start}/"), env=relative)
+    here.answers(["use", "/", "//"], out=line(f"/:{here.start}"))
+
+
+def test_tools_are_found_whatever_path_is(here, folder):
+    folder.module("foo/1", "prepend-path PATH /opt/foo\n")
+    here.env[b"PATH"] = b"/nowhere"
+    here.file("c", "module load foo\n")
+    out = (
+        "LOADEDMODULES='foo/1'; export LOADEDMODULES;\nPATH='/opt/foo:/nowhere'; export PATH;\n"
+        f"_LMFILES_='{here.start}/foo/1'; export _LMFILES_;\n"
+    )
+    here.answers(["restore", "c"], out=out)
+    here.answers(["save"])
+    here.answers(["savelist"], err="c\ndefault\n")
+    here.answers(["saverm", "c"])
+    here.answers(["avail", "-L"], err=f"{here.start}:\nfoo/1\n", program="report")
+
+
+def test_variables_of_the_user_stay_what_they_are(here, folder):
+    """Whatever name a variable of the scripts has, that of the user is what the program and modulefiles see."""
+    scripts = "".join(content(os.path.join(here.prefix, "libexec", name)).decode() for name in SCRIPTS)
+    names = sorted(set(re.findall(r"\b([a-z_]+)=", scripts)))
+    names = [name for name in names if not name.startswith("_module_")]
+    true(len(names) > 20, f"the variables {names}")
+    lines = "".join(f"append-path {name} /m/{name}\n" for name in names)
+    asked = f"$env({names[0]}) $env({names[-1]}) [getenv report] [getenv names]"
+    folder.module("foo/1", lines + f'module-whatis "{asked}"\n')
+    here.file("c", "module load foo\n")
+    here.env.update({name.encode(): b"/user" for name in names})
+    wanted = {name: f"/user:/m/{name}" for name in names}
+    lists = {"LOADEDMODULES": "foo/1", "_LMFILES_": f"{here.start}/foo/1"}
+    here.answers(["restore", "c"], out=text("sh", {**wanted, **lists}).decode())
+    said = "foo/1: /user /user /user /user\n"
+    here.answers(["whatis"], err=said, program="report")
+    here.answers(["keyword", "USER"], err=said, program="report")
+    here.answers(["whatis", "foo"], err=said, program="report")
+    here.env.update({name.encode(): value.encode() for name, value in {**wanted, **lists}.items()})
+    out = text("sh", {**dict.fromkeys(names, "/user"), **dict.fromkeys(lists)}) + text("sh", {**wanted, **lists})
+    here.answers(["reload"], out=out.decode())
+
+
+def test_columns_are_as_wide_as_their_names(product):
+    names = "/m:\né/1\nab/1\nc\033/1\nd/1\n/n:\nlong/name\n".encode()
+    for width, colour, wanted in (
+        (14, 0, "/m:\né/1   c?/1\nab/1  d/1\n/n:\nlong/name\n"),
+        (22, 0, "/m:\né/1   ab/1  c?/1  d/1\n/n:\nlong/name\n"),
+        (1, 1, "\033[1m/m:\033[0m\né/1\nab/1\nc?/1\nd/1\n\033[1m/n:\033[0m\nlong/name\n"),
+    ):
+        command = ["awk", "-v", "wanted=columns", "-v", f"width={width}", "-v", f"colour={colour}", "-f"]
+        command.append(os.path.join(product, "libexec/listing.awk"))
+        env = {"PATH": os.environ["PATH"], "LC_ALL": "C"}
+        done = subprocess.run(command, input=names, env=env, capture_output=True, check=True)
+        same(done.stdout.decode(), wanted, f"columns of {width}")
+
+
+def test_a_heading_of_several_lines_names_no_module(here):
+    odd = here.start + "\nnope/1\nx"
+    os.makedirs(odd + "/foo")
+    with open(odd + "/foo/1", "w") as file:
+        file.write("#%Module\n")
+    here.env[b"MODULEPATH"] = odd.encode()
+    here.answers(["is-avail", "foo/1"], program="report")
+    here.answers(["is-avail", "nope/1"], status=1, program="report")
+    here.answers(["is-avail", "*", "?oo", "foo*"], status=1, program="report")

@@ -1,0 +1,126 @@
+"""What the functions of shells add does what Environment Modules does, where that is installed or unpacked."""
+
+import glob
+import os
+import subprocess
+
+import pytest
+
+from tests.harness import same
+from tests.shells.changes import Changes
+from tests.shells.shells import content, without_own
+
+TOP = os.path.dirname(os.path.dirname(os.path.dirname(os.path.abspath(__file__))))
+
+# What is done by both, and after how much of it the two may differ in what follows.
+BOTH = (
+    ["use", "a", "./b/"],
+    ["use", "--append", "c d", "a/../nope"],
+    ["use", "-x"],
+    ["use", ""],
+    ["unuse", "b/", "never"],
+    ["unuse", "-x"],
+    ["use", "b"],
+    ["is-loaded"],
+    ["is-loaded", "foo"],
+    ["is-avail", "foo"],
+    ["is-avail", "nope"],
+    ["load", "foo/1.0", "bar"],
+    ["is-loaded"],
+    ["is-loaded", "foo"],
+    ["is-loaded", "nope", "bar/1"],
+    ["is-loaded", "nope"],
+    ["is-avail", "nope", "foo"],
+    ["is-avail"],
+    ["save"],
+    ["save", "x y"],
+    ["use", "b/more"],
+    ["switch", "foo/2.0"],
+    ["restore"],
+    ["save", "a", "b"],
+    ["saveshow", "nope"],
+    ["saverm", "nope"],
+    ["restore", "nope"],
+    ["purge"],
+    ["restore", "x y"],
+    ["saverm", "x y"],
+    ["restore", "x y"],
+    ["reload"],
+    ["unuse", "b", "c d", "nope"],
+    ["purge"],
+    ["unuse", "a", "{start}"],
+    ["use", "b"],
+)
+
+# Where the program of Environment Modules can be.
+PLACES = ("/usr/lib/*/modulecmd.tcl", f"{TOP}/build/bench/environment-modules/usr/lib/*/modulecmd.tcl")
+
+# The programs of ours that do what is added.
+PROGRAMS = {
+    "libexec/report": ("is-loaded", "is-avail", "saveshow"),
+    "libexec/changes": ("use", "unuse", "save", "saverm", "restore", "reload"),
+}
+
+
+@pytest.fixture(scope="session")
+def theirs():
+    """Gives their command of these words."""
+    found = [path for place in PLACES for path in sorted(glob.glob(place))]
+    if not found:
+        pytest.skip("Environment Modules is neither installed nor unpacked")
+    return lambda words: [found[0], "bash", *words]
+
+
+@pytest.fixture
+def ours(product):
+    """Gives our command of these words."""
+
+    def command(words):
+        program = next((name for name, added in PROGRAMS.items() if words[0] in added), "bin/modulecmd")
+        return [os.path.join(product, program), "bash", *words]
+
+    return command
+
+
+@pytest.fixture
+def here(folder, product):
+    """Modules, and directories to use."""
+    for name, body in (("foo/1.0", "setenv FOO 1\n"), ("foo/2.0", "setenv FOO 2\n"), ("bar/1", "setenv BAR 1\n")):
+        folder.module(name, body)
+    for name in ("a", "b", "c d"):
+        os.mkdir(os.path.join(folder.path.decode(), name))
+    return Changes(folder, product)
+
+
+def environment_after(command, env, place):
+    """The environment that the text of a command makes, in a shell, and its status."""
+    lines = 'text=$("$@") && eval "$text"; status=$?; command -p env -0; exit $status'
+    done = subprocess.run(["bash", "-c", lines, "bash", *command], env=env, cwd=place, capture_output=True, check=False)
+    return without_own(done.stdout), done.returncode
+
+
+def kept(env):
+    return {name: env.get(name) for name in (b"MODULEPATH", b"LOADEDMODULES", b"_LMFILES_", b"FOO", b"BAR")}
+
+
+def test_what_is_added_does_what_the_original_does(here, folder, ours, theirs):
+    first, second = here.env, dict(here.env)
+    for given in BOTH:
+        words = [word.format(start=here.start) for word in given]
+        first, status = environment_after(ours(words), first, folder.path)
+        second, wanted = environment_after(theirs(words), second, folder.path)
+        same((status, kept(first)), (wanted, kept(second)), f"status and environment behind {words}")
+
+
+def test_each_reads_the_collections_of_the_other(here, folder, ours, theirs):
+    place = folder.path.decode()
+    env, _ = environment_after(ours(["use", f"{place}/c d", f"{place}/it's {{$x}};"]), here.env, place)
+    env, _ = environment_after(ours(["load", "foo/1.0", "bar"]), env, place)
+    same(environment_after(ours(["save", "mine"]), env, place)[1], 0, "a save")
+    same(environment_after(theirs(["save", "theirs"]), env, place)[1], 0, "a save of the original")
+    with open(f"{here.home}/.module/mine", "wb") as file:
+        file.write(content(f"{here.home}/.config/modulecmd/mine"))
+    for name in ("mine", "theirs"):
+        for command in (ours(["restore", name]), theirs(["restore", name])):
+            found, status = environment_after(command, here.env, place)
+            same((status, kept(found)), (0, kept(env)), f"what {command[0]} restores of {name}")
