@@ -19,7 +19,7 @@ CHECKS = {
     "a definition is cited where it stands": named.check_citations,
     "the table of REFUSALS has the numbers and texts of the program's, and of the definitions": named.check_refusals,
     "the words of sources that pages name are there": named.check_words,
-    "the suites that pages name are there": lambda: named.check_suites({script for script, *_ in SUITES}),
+    "the suites that pages name are there": lambda: named.check_suites({script.removesuffix(".py") for script in SUITES}),
 }
 
 

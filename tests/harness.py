@@ -29,14 +29,6 @@ MOST_RUNS = 2000
 # What the modulefile of most cases says.
 FOO = "setenv FOO on\nprepend-path PATH /opt/foo/bin\n"
 
-CASES = []
-
-
-def case(function):
-    """Adds a function of one folder to the cases."""
-    CASES.append(function)
-    return function
-
 
 def examples(name):
     """The examples of a file of this folder: each a title after `# `, and its lines. Empty lines part them."""
@@ -227,29 +219,3 @@ def loaded(folder, *names, **variables):
     """An environment in which these modules are loaded."""
     paths = b":".join(os.path.join(folder.modules, name.encode()) for name in names)
     return folder.environment(LOADEDMODULES=":".join(names), _LMFILES_=paths, **variables)
-
-
-def run_all(program):
-    """Runs each case, says how it went, and gives the numbers of the passed and the failed."""
-    passed = 0
-    failed = 0
-    for function in CASES:
-        name = function.__name__.replace("_", " ")
-        folder = None
-        try:
-            folder = Folder(program)
-            function(folder)
-            passed += 1
-            print(f"ok: {name}")
-        except Failed as found:
-            failed += 1
-            print(f"FAILED: {name}: {found}")
-        except Exception:
-            failed += 1
-            print(f"FAILED: {name}: it could not run")
-            traceback.print_exc(file=sys.stdout)
-        finally:
-            if folder is not None:
-                folder.remove()
-        sys.stdout.flush()
-    return passed, failed

@@ -357,7 +357,7 @@ def check_suites(suites):
     for page, text in pages().items():
         for names in re.findall(r'ONLY="([^".]+)"', text):
             for name in names.split():
-                true(f"{name}.py" in suites, f"{page} names a suite that is there: {name}")
+                true(name in suites, f"{page} names a suite that is there: {name}")
 
 
 def check_words():

@@ -38,37 +38,36 @@ PROGRAMS = {
 # What the suites take of Debian beside Python: a module, and its package.
 MODULES = {"pytest": "python3-pytest", "hypothesis": "python3-hypothesis"}
 
-# The tests outside the gate. pytest runs a suite that stands alone; another is a script with the program that it is
-# given, and further words.
+# The tests outside the gate: files below tests/, or a folder of them, that pytest runs.
 SUITES = (
-    ("program.py",),
-    ("modulefiles.py",),
-    ("commands.py",),
-    ("sites.py",),
-    ("documents.py",),
-    ("sentence.py",),
-    ("certified.py",),
-    ("losses.py",),
-    ("modcheck.py",),
-    ("modaudit.py",),
-    ("plain.py",),
-    ("memory.py",),
-    ("numbers.py",),
-    ("device.py",),
-    ("hostile.py",),
-    ("search.py",),
-    ("shells",),
-    ("pages.py",),
-    ("allocations.py",),
-    ("systems.py",),
-    ("tcl/compare.py",),
-    ("tcl/values.py",),
-    ("tcl/scripts.py",),
-    ("tcl/commands.py",),
-    ("tcl/memory.py",),
-    ("package.py",),
-    ("costs.py",),
-    ("runs.py",),
+    "program.py",
+    "modulefiles.py",
+    "commands.py",
+    "sites.py",
+    "documents.py",
+    "sentence.py",
+    "certified.py",
+    "losses.py",
+    "modcheck.py",
+    "modaudit.py",
+    "plain.py",
+    "memory.py",
+    "numbers.py",
+    "device.py",
+    "hostile.py",
+    "search.py",
+    "shells",
+    "pages.py",
+    "allocations.py",
+    "systems.py",
+    "tcl/compare.py",
+    "tcl/values.py",
+    "tcl/scripts.py",
+    "tcl/commands.py",
+    "tcl/memory.py",
+    "package.py",
+    "costs.py",
+    "runs.py",
 )
 
 
@@ -171,25 +170,20 @@ def make_object(kit, name, made):
     return done.returncode == 0
 
 
-def suite(python, script, *given):
+def suite(python, script):
     """Runs one suite, and gives what passed, what failed, why something wasn't run, and its processor seconds."""
     before = children_seconds()
-    if given:
-        program, *words = given
-        module = f"tests.{script.removesuffix('.py').replace('/', '.')}"
-        counts = counted([python, "-B", "-m", module, os.path.join(BUILT, program), *words])
-    else:
-        counts = counted([python, "-B", "-m", "pytest", "-q", f"tests/{script}"])
+    counts = counted([python, "-B", "-m", "pytest", "-q", f"tests/{script}"])
     return *counts, children_seconds() - before
 
 
 def chosen(names):
     """The suites of these names, each with or without `.py`; all where none is named."""
     wanted = {name.removesuffix(".py") for name in names}
-    known = [script.removesuffix(".py") for script, *_ in SUITES]
+    known = [script.removesuffix(".py") for script in SUITES]
     unknown = wanted.difference(known)
     if unknown:
-        sys.exit(f"no suite is called {' '.join(sorted(unknown))}; there are: {' '.join(dict.fromkeys(known))}")
+        sys.exit(f"no suite is called {' '.join(sorted(unknown))}; there are: {' '.join(known)}")
     return [it for it, name in zip(SUITES, known) if not names or name in wanted]
 
 
@@ -212,9 +206,9 @@ def main(only):
         with Sampler(os.getpid()) as sampler:
             passed, failed, _ = gate()
         spent["rt ci"], crates = children_seconds() - start, sampler.crates()
-    for script, *given in suites:
-        suite_passed, suite_failed, reasons, seconds = suite(python, script, *given)
-        spent[" ".join([script, *given[1:]])] = seconds
+    for script in suites:
+        suite_passed, suite_failed, reasons, seconds = suite(python, script)
+        spent[script] = seconds
         passed += suite_passed
         failed += suite_failed
         not_run += [f"{NOT_RUN}{script}: {reason}" for reason in reasons]
