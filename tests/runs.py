@@ -620,9 +620,9 @@ def loses_standing(ways, start, moves):
     return False
 
 
-def premises(ways, start, moves, loaded=()):
+def premises(ways, start, moves):
     """Which premises the run breaks."""
-    broken, live, by_name = set(), [], dict(loaded)
+    broken, live = set(), []
     for name, way in ways.items():
         one = {name: way}
         if way[0] == "fixed" and start.get(name) != way[1]:
