@@ -3,7 +3,7 @@ pub mod UsedLemmas
 mod RecordLemmas
 mod OneUse
 pub mod Exact
-mod Variables
+mod MovedVariables
 mod Moments
 mod Runs
 mod Lost

@@ -21,8 +21,8 @@ use Rattle.sitecertificate.proofs.UsedLemmas.{by_cases, Unused, used_among, user
 use Rattle.sitecertificate.proofs.RecordLemmas.{AreOfKind}
 use Rattle.sitecertificate.proofs.OneUse.{certified_of}
 use Rattle.sitecertificate.proofs.Exact.{to_certified}
-use Rattle.sitecertificate.proofs.Variables.{IsAsIn, path_moved, stack_moved, stack_over, by_any_use, IsUseInOrder}
-use Rattle.sitecertificate.proofs.Variables.{as_before}
+use Rattle.sitecertificate.proofs.MovedVariables.{IsAsIn, path_moved, stack_moved, stack_over, by_any_use, IsUseInOrder}
+use Rattle.sitecertificate.proofs.MovedVariables.{as_before}
 
 -- A start that agrees with the certificate is one by the uses of certified modules.
 

@@ -18,7 +18,7 @@ use Rattle.sitecertificate.specs.Certificates.{IsCertified, certificate, AgreesW
 use Rattle.sitecertificate.specs.Laws.{AreCertified, AreCertifiedTogether, CertifiedRunsStand, CertifiedMovesPreserve}
 use Rattle.sitecertificate.proofs.UsedLemmas.{by_cases, used_among, user_of, first_or_none, neither}
 use Rattle.sitecertificate.proofs.OneUse.{of_kind, one_use, each_use, newest_fits, all_fit}
-use Rattle.sitecertificate.proofs.Variables.{not_named}
+use Rattle.sitecertificate.proofs.MovedVariables.{not_named}
 use Rattle.sitecertificate.proofs.Moments.{is_start, IsOver, taken_up, laid_down}
 
 -- A module that is loaded beside live ones, and the live ones without one of them.
