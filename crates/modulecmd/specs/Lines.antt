@@ -16,10 +16,14 @@ refusal_of (Unprinted fault) = prints.refusal_of fault
 refusal_of (UnknownShell word) = about kinds.UnknownShell (string_bytes word)
 refusal_of WriteFailed = about kinds.WriteFailed []
 
+-- the text of a fault
+abbrev pub message_of : CommandFault → Text
+message_of fault = (refusal_of fault).text
+
 -- the error line with this text
 abbrev pub error_line : Text → Text
 error_line message = codes "ERROR: " ++ (message ++ 10 ∷ [])
 
 -- the whole line
 abbrev pub line_of : CommandFault → Text
-line_of fault = error_line (refusal_of fault).text
+line_of fault = error_line (message_of fault)

@@ -2,15 +2,17 @@
 ghost use Rattle.std.specs.Prelude.{◌≡◌, Some, OnOk, OnErr};
 ghost use Rattle.std.specs.Io.KnownBytes.{Appends};
 ghost use Rattle.modulecmd.specs.Writing.{AppendsPart};
+ghost use Rattle.message.specs.Messages.{around, text_of};
 ghost use Rattle.message.specs.Refusals.{numbered_text};
-ghost use Rattle.modulecmd.specs.Lines.{line_of, refusal_of};
+ghost use Rattle.modulecmd.specs.Lines.{error_line, line_of, message_of, refusal_of};
 ghost use Rattle.modules.specs.declared.refusal.Refusal.TheVariants as refusals;
 ghost use Rattle.modulecmd.specs.declared.command_fault.CommandFault.TheVariants.{Refused, Unprinted};
 ghost use Rattle.modulecmd.specs.Command.{number_of, of_input};
 
-use crate::writers::{WriteFault, write_error};
+use crate::writers::{WriteFault, write_line};
 use envvars::EnvFault;
-use message::{NumberedMessage, RefusalKind};
+use itoa::Buffer;
+use message::{Message, NumberedMessage, RefusalKind};
 use modules::Refusal;
 use processinput::InputFault;
 use search::FindFault;
@@ -47,6 +49,13 @@ impl CommandFault {
         }
     }
 
+    /// The text of the refusal.
+    fn message(&self) -> Message<'_>
+        ensures { text_of result ≡ message_of self.now }
+    {
+        self.numbered().message
+    }
+
     /// The number of the refusal.
     pub fn number(&self) -> u16
         ensures { result ≡ number_of self.now }
@@ -61,10 +70,10 @@ impl CommandFault {
 }
 
 impl fmt::Display for CommandFault {
-    ghost output = { λ fault. Some (refusal_of fault).text };
+    ghost output = { λ fault. Some (message_of fault) };
 
     fn fmt<W: fmt::Write>(&self, f: &mut fmt::Formatter<W>) -> fmt::Result {
-        self.numbered().message.fmt(f)
+        self.message().fmt(f)
     }
 }
 
@@ -120,5 +129,8 @@ pub fn write_refusal<E: Write>(fault: &CommandFault, err: &mut E) -> Result<(), 
     ensures whole { OnOk result (Appends (E.contents err.old) (E.contents err.new) (line_of fault.now)) }
     ensures cut { OnErr result (AppendsPart (E.contents err.old) (E.contents err.new) (line_of fault.now)) }
 {
-    write_error(&fault.numbered().message, err)
+    let mut digits = Buffer::new();
+    let message = fault.message();
+    let [before, left, subject, right, after] = message.parts(&mut digits);
+    write_line(before, left, subject, right, after, err)
 }

@@ -38,4 +38,4 @@ pub use sessions::rehearse;
 pub use shelltext::{PrintFault, Shell, print_changes};
 pub use tclchars::TextFault;
 pub use tclrules::{EvalFault, Limits};
-pub use writers::{WriteFault, write_bytes, write_error};
+pub use writers::{WriteFault, write_bytes, write_line};

@@ -2,12 +2,10 @@
 ghost use Rattle.std.specs.Prelude.{OnOk, OnErr, string_bytes};
 ghost use Rattle.std.specs.List.{flat_map};
 ghost use Rattle.std.specs.Io.KnownBytes.{Appends};
-ghost use Rattle.message.specs.Messages.{around, text_of};
+ghost use Rattle.message.specs.Messages.{around};
 ghost use Rattle.modulecmd.specs.Lines.{error_line};
 ghost use Rattle.modulecmd.specs.Writing.{AppendsPart};
 
-use itoa::Buffer;
-use message::Message;
 use std::io::Write;
 
 /// A write failed.
@@ -58,8 +56,9 @@ pub(crate) fn write_texts<W: Write>(to: &mut W, texts: &[String]) -> Result<(), 
     Ok(())
 }
 
-/// Writes an error line of these parts: `ERROR: `, the five texts one after another, and a newline.
-fn write_line<'a, E: Write>(
+/// Writes an error line of these parts, as a message has them: `ERROR: `, the five texts one after another, and a newline.
+/// It is tried once: a write that fails ends it. Then the first part of the line is written, not all.
+pub fn write_line<'a, E: Write>(
     before: &'a str,
     left: &'a str,
     subject: &'a str,
@@ -73,17 +72,4 @@ fn write_line<'a, E: Write>(
         (error_line (around before.now (around left.now subject.now right.now) after.now))) }
 {
     write_parts(err, &["ERROR: ", before, left, subject, right, after, "\n"])
-}
-
-/// Writes the error line of a message, without taking memory. It is tried once: a write that fails ends it. Then the
-/// first part of the line is written, not all.
-pub fn write_error<E: Write>(message: &Message<'_>, err: &mut E) -> Result<(), WriteFault>
-    ensures whole { OnOk result (Appends (E.contents err.old) (E.contents err.new)
-        (error_line (text_of message.now))) }
-    ensures cut { OnErr result (AppendsPart (E.contents err.old) (E.contents err.new)
-        (error_line (text_of message.now))) }
-{
-    let mut digits = Buffer::new();
-    let [before, left, subject, right, after] = message.parts(&mut digits);
-    write_line(before, left, subject, right, after, err)
 }

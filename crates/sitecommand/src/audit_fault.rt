@@ -1,7 +1,8 @@
 //! Why there is no audit, with the texts of these faults, and the line on standard error.
 ghost use Rattle.std.specs.Prelude.{◌≡◌, Some, OnOk, OnErr};
 ghost use Rattle.std.specs.Io.KnownBytes.{Appends};
-ghost use Rattle.message.specs.Messages.{text_of};
+ghost use Rattle.message.specs.Messages.{around, text_of};
+ghost use Rattle.modulecmd.specs.Lines.{error_line};
 ghost use Rattle.modulecmd.specs.Writing.{AppendsPart};
 ghost use Rattle.modules.specs.declared.refusal.Refusal.TheVariants as refusals;
 ghost use Rattle.modules.specs.Answers.{refused_read};
@@ -10,8 +11,9 @@ ghost use Rattle.sitecommand.specs.Faults.{line_of, message_of, of_walk};
 
 use envvars::EnvFault;
 use filetree::TreeFault;
+use itoa::Buffer;
 use message::{Message, RefusalKind};
-use modulecmd::{WriteFault, write_error};
+use modulecmd::{WriteFault, write_line};
 use modules::Refusal;
 use siteaudit::WalkFault;
 use std::alloc::{AllocError, AllocFailed};
@@ -106,5 +108,8 @@ pub fn write_fault<E: Write>(fault: &AuditFault, err: &mut E) -> Result<(), Writ
     ensures whole { OnOk result (Appends (E.contents err.old) (E.contents err.new) (line_of fault.now)) }
     ensures cut { OnErr result (AppendsPart (E.contents err.old) (E.contents err.new) (line_of fault.now)) }
 {
-    write_error(&fault.message(), err)
+    let mut digits = Buffer::new();
+    let message = fault.message();
+    let [before, left, subject, right, after] = message.parts(&mut digits);
+    write_line(before, left, subject, right, after, err)
 }
