@@ -1,7 +1,7 @@
 -- Reading the loaded texts.
 use Rattle.std.proofs.Common.{◌≡◌, ℕ, suc, Bool, true, false, cond, not, ◌+◌, ◌&&◌, ◌<◌, ◌≤◌, List, [], ◌∷◌, ◌++◌, refl}
 use Rattle.std.proofs.Common.{sym, ap, ◌∙◌, arith, length, append_assoc, append-nil, get_or, Bor, nat_eq, Option, Some}
-use Rattle.std.proofs.Common.{None, Result, Ok, Err, map, Vec, Global, drop as cut}
+use Rattle.std.proofs.Common.{◌⊎◌, inl, inr, None, Result, Ok, Err, map, Vec, Global, drop as cut}
 use Rattle.std.specs.Prelude.{filter, bytes_eq, if◌then◌else◌}
 use Rattle.std.specs.List.{onto_first, slice_split, list_all, position_or_len}
 use Rattle.std.specs.Option.{option_or, option_map, option_copied, is_some}
@@ -128,6 +128,13 @@ pub same_entries : (f g k l : Text → Option Text) (names files : List Text) �
 same_entries f g k l [] files h i = refl
 same_entries f g k l (n ∷ names) [] h i = refl
 same_entries f g k l (n ∷ names) (p ∷ files) h i = rw (h n, i n, same_entries f g k l names files h i) refl
+
+-- where no names or no files are left, no entries are
+pub entries_done : (f g : Text → Option Text) (made all : List Entry) (names files : List (Bor Text)) → (names ≡ []) ⊎ (files ≡ []) → made ++ entries_from f g (slice_texts names) (slice_texts files) ≡ all → made ≡ all
+entries_done f g made all [] files e h = sym (append-nil made) ∙ h
+entries_done f g made all (n ∷ names) [] e h = sym (append-nil made) ∙ h
+entries_done f g made all (n ∷ names) (p ∷ files) (inl e) h = absurd (cc)
+entries_done f g made all (n ∷ names) (p ∷ files) (inr e) h = absurd (cc)
 
 -- the tests of the names and the files
 empty_is : (file : Text) → not (nat_eq (length file) 0) ≡ not (is_empty file)

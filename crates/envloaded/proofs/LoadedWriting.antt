@@ -1,8 +1,10 @@
 -- Edits of the loaded list, and the texts that it is written as.
-use Rattle.std.proofs.Common.{◌≡◌, ℕ, Bool, true, false, cond, not, ◌+◌, ◌||◌, ◌&&◌, ◌<◌, ◌≤◌, ◌-◌, List, [], ◌∷◌, ◌++◌}
-use Rattle.std.proofs.Common.{refl, sym, ap, ◌∙◌, arith, length, take, get_or, take_all, Option, Some, Result, Ok, Err}
-use Rattle.std.proofs.Common.{string_bytes, map, Global, drop as cut}
-use Rattle.std.specs.Prelude.{filter, flat_map, bytes_eq}
+use Rattle.std.proofs.Common.{◌≡◌, ℕ, Bool, true, false, cond, not, ◌+◌, ◌||◌, ◌&&◌, ◌<◌, List, [], ◌∷◌, ◌++◌}
+use Rattle.std.proofs.Common.{refl, sym, ap, ◌∙◌, arith, length, take, get_or, Option, Some, None, Result, Ok, Err}
+use Rattle.std.proofs.Common.{string_bytes, map, Global}
+use Rattle.std.specs.Prelude.{filter, find, flat_map, bytes_eq}
+use Rattle.std.specs.Borrow.{Bor}
+use Rattle.std.specs.Option.{option_map}
 use Rattle.std.specs.List.{list_all, list_any}
 use Rattle.std.specs.declared.string.String.{String}
 use Rattle.std.proofs.lemmas.List.{take_more}
@@ -50,17 +52,21 @@ without_is (x ∷ xs) name =
     ∙ ap (λ (b : Bool). cond (not b) (entry_view x ∷ without_entry name (map entry_view xs)) (without_entry name (map entry_view xs))) (bytes_eq-symmetric (string_bytes x.name) name)
 
 -- the entry of a module
-found_at : (b : Bool) (x : Entry) (o p : Option Entry) → b ≡ false → cond b (Some x) o ≡ p → o ≡ p
-found_at true x o p e h = cc
-found_at false x o p e h = h
+pub found_is : (name : Text) (xs : List Loaded) (r : Option (Bor Loaded)) → option_map (λ x. x.now) r ≡ find (λ x. bytes_eq name (string_bytes x.name)) xs
+    → option_map (λ x. entry_view x.now) r ≡ entry_named name (map entry_view xs)
+found_is name xs r h = lent r ∙ ap (option_map entry_view) h ∙ found xs
+  where
+    lent : (r : Option (Bor Loaded)) → option_map (λ x. entry_view x.now) r ≡ option_map entry_view (option_map (λ x. x.now) r)
+    lent None = refl
+    lent (Some x) = refl
 
-pub find-turn : (name : Text) (xs : List Loaded) (x : Loaded) (o : Option Entry) → 1 ≤ length xs → x ≡ get_or xs 0 x → bytes_eq (string_bytes x.name) name ≡ false
-    → entry_named name (map entry_view xs) ≡ o → entry_named name (map entry_view (take (length xs - 1) (cut 1 xs))) ≡ o
-find-turn name [] x o l i e h = absurd (omega arith)
-find-turn name (y ∷ ys) x o l i e h =
-    let w : take (length (y ∷ ys) - 1) ys ≡ ys = take_all _ ys (omega arith) in
-    let f : bytes_eq name (string_bytes y.name) ≡ false = bytes_eq-symmetric name (string_bytes y.name) ∙ ap (λ (z : Loaded). bytes_eq (string_bytes z.name) name) (sym i) ∙ e in
-    rw w (found_at (bytes_eq name (string_bytes y.name)) (entry_view y) (entry_named name (map entry_view ys)) o f h)
+    at : (b : Bool) (x : Loaded) (o : Option Loaded) (p : Option Entry) → option_map entry_view o ≡ p → option_map entry_view (cond b (Some x) o) ≡ cond b (Some (entry_view x)) p
+    at true x o p e = refl
+    at false x o p e = e
+
+    found : (xs : List Loaded) → option_map entry_view (find (λ x. bytes_eq name (string_bytes x.name)) xs) ≡ entry_named name (map entry_view xs)
+    found [] = refl
+    found (x ∷ xs) = at (bytes_eq name (string_bytes x.name)) x _ _ (found xs)
 
 -- the elements of one more entry
 conflicts-append : (xs ys : List Entry) → conflict_elements (xs ++ ys) ≡ conflict_elements xs ++ conflict_elements ys
@@ -142,9 +148,6 @@ same_without name entries b k t = sym (without_absent name entries (sym k ∙ t)
 pub on_any : {P : Type 0} (r : Result (Unit {0}) EnvFault) → P → OnOk r P
 on_any (Ok u) p = p
 on_any (Err e) p = tt
-
-pub name_is : (m n name : Text) (b : Bool) → n ≡ m → b ≡ bytes_eq n name → b ≡ false → bytes_eq m name ≡ false
-name_is m n name b e h k = ap (λ (t : Text). bytes_eq t name) (sym e) ∙ sym h ∙ k
 
 -- the list with the entry at its end
 pub pushed_is : (xs ys : List Loaded) (x : Loaded) (y : Entry) → ys ≡ xs ++ x ∷ [] → entry_view x ≡ y → map entry_view ys ≡ map entry_view xs ++ y ∷ []

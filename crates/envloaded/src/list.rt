@@ -203,17 +203,10 @@ fn entries(
         ≡ entries_from (element_in conflicts.now) (element_in prereqs.now) (slice_texts names.now) (slice_texts files.now)) }
 {
     let mut entries = Vec::with_capacity(alloc, names.len())?;
-    let mut remaining_names = names;
-    let mut remaining_files = files;
-    while let [name, later_names @ ..] = remaining_names {
-        let [file, later_files @ ..] = remaining_files else {
-            return Ok(entries);
-        };
+    for (name, file) in names.iter().zip(files) {
         let conflicts = conflicts.get(*name).copied();
         let prereqs = prereqs.get(*name).copied();
         entries.push(entry(alloc, name, file, conflicts, prereqs)?)?;
-        remaining_names = later_names;
-        remaining_files = later_files;
     }
     Ok(entries)
 }
@@ -302,14 +295,7 @@ pub fn copy_list(alloc: Global, list: &[Loaded]) -> Result<Vec<Loaded>, AllocErr
 fn find<'a>(list: &'a [Loaded], name: &str) -> Option<&'a Loaded>
     ensures { option_map (λ x. entry_view x.now) result ≡ entry_named name.now (map entry_view list.entry.now) }
 {
-    let mut rest = list;
-    while let [entry, after @ ..] = rest {
-        if entry.name.as_str() == name {
-            return Some(entry);
-        }
-        rest = after;
-    }
-    None
+    list.iter().find(|entry| name == entry.name.as_str())
 }
 
 /// The names that a loaded module conflicts with, each once; none where it isn't loaded.

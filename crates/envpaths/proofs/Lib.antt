@@ -11,3 +11,5 @@ pub mod PathOrderLemmas
 pub mod UncountedLemmas
 pub mod ElementSearch
 pub mod OneElement
+pub mod RoomLemmas
+pub mod PathBatches

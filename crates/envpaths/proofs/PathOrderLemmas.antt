@@ -124,40 +124,40 @@ lookup-counters e name d s =
     lookup-with_value (with_value e name (elements_text d s.elements)) (share_name name) (pairs_text s) (share_name name)
     ∙ ap (λ (t : Bool). cond t (pairs_text s) (lookup (with_value e name (elements_text d s.elements)) (share_name name))) (bytes_eq-same (share_name name))
 
-path_in-written : (e : Environment) (name : Text) (d : ℕ) (s : PathState) → IsWritable d s → path_in (with_path e name d s) name d ≡ s
+pub path_in-written : (e : Environment) (name : Text) (d : ℕ) (s : PathState) → IsWritable d s → path_in (with_path e name d s) name d ≡ s
 path_in-written e name d s w =
     ap (λ t. state_of d t (lookup (with_path e name d s) (share_name name))) (lookup-elements e name d s) ∙ ap (state_of d (elements_text d s.elements)) (lookup-counters e name d s)
     ∙ state_of-written d s w
 
-in_order-written : (e : Environment) (name : Text) (d : ℕ) (s : PathState) → IsWritable d s → IsPathInOrder (with_path e name d s) name d
+pub in_order-written : (e : Environment) (name : Text) (d : ℕ) (s : PathState) → IsWritable d s → IsPathInOrder (with_path e name d s) name d
 in_order-written e name d s w = record {
   elements = lookup-elements e name d s ∙ ap (λ (t : PathState). elements_text d t.elements) (sym (path_in-written e name d s w));
   counters = lookup-counters e name d s ∙ ap pairs_text (sym (path_in-written e name d s w));
 }
 
-lookup-others : (e : Environment) (name : Text) (d : ℕ) (s : PathState) (q : Text) → bytes_eq q name ≡ false → bytes_eq q (share_name name) ≡ false → lookup (with_path e name d s) q ≡ lookup e q
+pub lookup-others : (e : Environment) (name : Text) (d : ℕ) (s : PathState) (q : Text) → bytes_eq q name ≡ false → bytes_eq q (share_name name) ≡ false → lookup (with_path e name d s) q ≡ lookup e q
 lookup-others e name d s q a b =
     lookup-with_value (with_value e name (elements_text d s.elements)) (share_name name) (pairs_text s) q ∙ looked (bytes_eq q (share_name name)) _ _ b
     ∙ lookup-with_value e name (elements_text d s.elements) q ∙ looked (bytes_eq q name) _ _ a
 
 -- accepted edits
 
-record Accepts (old new : Environment) (name : Text) (d : ℕ) (s : PathState) : Type 0 where
-  written : new ≡ with_path old name d s
-  writable : IsWritable d s
+pub record Accepts (old new : Environment) (name : Text) (d : ℕ) (s : PathState) : Type 0 where
+  pub written : new ≡ with_path old name d s
+  pub writable : IsWritable d s
 
 fits_from : (t : Bool) (e new : Environment) (r : EnvReason) → (if t then Ok e else Err r) ≡ Ok new → (t ≡ true) × (new ≡ e)
 fits_from true e new r h = (refl, cc)
 fits_from false e new r h = cc
 
-add_accepts : (old new : Environment) (name : Text) (d : ℕ) (xs : List Text) (end : End) → added_path old name d xs end ≡ Ok new → Accepts old new name d (add_all (path_in old name d) xs end)
+pub add_accepts : (old new : Environment) (name : Text) (d : ℕ) (xs : List Text) (end : End) → added_path old name d xs end ≡ Ok new → Accepts old new name d (add_all (path_in old name d) xs end)
 add_accepts old new name d xs end h =
     let g = no_reason (path_reason name d xs) (written_path old name d (add_all (path_in old name d) xs end)) new h in
     let f = fits_from (counters_fit (add_all (path_in old name d) xs end)) (with_path old name d (add_all (path_in old name d) xs end)) new (counter_full name) g.1 in
     let e = both_true (is_delimiter d) (list_all (is_element d) xs) (no_value_reason (name_reason name) name (is_delimiter d && list_all (is_element d) xs) g.0) in
     record { written = f.1; writable = IsWritable-add_all d (path_in old name d) xs end (IsWritable-state_of d (lookup old name) (lookup old (share_name name))) e.1 f.0 }
 
-drop_accepts : (old new : Environment) (name : Text) (d : ℕ) (xs : List Text) → dropped_path old name d xs ≡ Ok new → Accepts old new name d (drop_all (path_in old name d) xs)
+pub drop_accepts : (old new : Environment) (name : Text) (d : ℕ) (xs : List Text) → dropped_path old name d xs ≡ Ok new → Accepts old new name d (drop_all (path_in old name d) xs)
 drop_accepts old new name d xs h =
     let g = no_reason (path_reason name d xs) (Ok (with_path old name d (drop_all (path_in old name d) xs))) new h in
     record {

@@ -394,17 +394,14 @@ front_full e name m xs rest before x all w k h =
     (ap slice_texts w ∙ slice_texts-append before (x ∷ [])) ∙ full_front m xs x.now (slice_texts before) k.0 o)
 
 -- the elements in front, turned round, and the others behind them
-pub front_done : (m : CounterTable) (front turned elements done : List (Bor Text)) (rest : List (Bor Text)) (all : PathState) → length rest < 1 → turned ≡ reverse front → done ≡ turned ++ elements
+pub front_done : (m : CounterTable) (front turned elements done : List (Bor Text)) (rest : List (Bor Text)) (all : PathState) → length rest ≡ 0 → turned ≡ reverse front → done ≡ turned ++ elements
     → add_front (state_from_table (reverse (slice_texts front) ++ slice_texts elements) m) (slice_texts rest) ≡ all → state_from_table (slice_texts done) m ≡ all
 front_done m front turned elements done [] all l t d h =
     ap (λ (zs : List (Bor Text)). state_from_table (slice_texts zs) m) (d ∙ ap (λ (zs : List (Bor Text)). zs ++ elements) t)
     ∙ ap (λ (zs : List Text). state_from_table zs m) (slice_texts-append (reverse front) elements ∙ ap (λ (l : List Text). l ++ slice_texts elements) (slice_texts-reverse front)) ∙ h
 front_done m front turned elements done (z ∷ zs) all l t d h = absurd (omega arith)
 
-pub shorter : (xs : List (Bor Text)) (n : ℕ) → length xs ≤ n → length (take (length xs - 1) xs) ≤ n
-shorter xs n l = grind (arith, length-take)
-
-pub last_cut : (xs : List (Bor Text)) (d : Bor Text) → 1 ≤ length xs → xs ≡ take (length xs - 1) xs ++ get_or xs (length xs - 1) d ∷ []
+last_cut : (xs : List (Bor Text)) (d : Bor Text) → 1 ≤ length xs → xs ≡ take (length xs - 1) xs ++ get_or xs (length xs - 1) d ∷ []
 last_cut xs d l =
     let more : length xs - 1 + 1 ≡ length xs = omega arith in
     let whole : take (length xs) xs ≡ xs = take_all _ xs (omega arith) in

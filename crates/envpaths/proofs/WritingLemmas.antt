@@ -1,5 +1,5 @@
 -- The text of the counters as it is written.
-use Rattle.std.proofs.Common.{◌≡◌, ◌≢◌, ℕ, ◌+◌, ◌<◌, ◌≤◌, Bool, true, false, cond, not, ◌||◌, List, [], ◌∷◌, ◌++◌, refl}
+use Rattle.std.proofs.Common.{◌≡◌, ℕ, ◌+◌, ◌<◌, ◌≤◌, Bool, true, false, cond, not, ◌||◌, List, [], ◌∷◌, ◌++◌, refl}
 use Rattle.std.proofs.Common.{sym, ap, ◌∙◌, arith, leb, Option, Some, None, Result, Ok, Err, Bor, get_or, append_assoc}
 use Rattle.std.proofs.Common.{append-nil, string_bytes, drop as cut}
 use Rattle.std.specs.Prelude.{filter, flat_map, bytes_eq, unwrap_or, decimal, if◌then◌else◌}

@@ -1,4 +1,4 @@
--- For the contracts of this crate and of envpaths: the results of the parts of an edit of a path variable.
+-- For the contracts of private functions: the results of the parts of an edit of a path variable.
 use Rattle.std.specs.Prelude.{◌≡◌, ℕ, true, false, string_bytes, Result, Ok, Err, IfSome}
 use Rattle.std.specs.Option.{option_map}
 use Rattle.envvars.specs.Texts.{Text}

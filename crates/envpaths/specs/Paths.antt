@@ -23,6 +23,10 @@ largest_counter = 4294967295
 abbrev pub CountersFit : PathState → Type 0
 CountersFit s = (x : Text) → s.counter x ≤ largest_counter
 
+-- so many additions, of whatever elements, leave no counter past the largest
+abbrev pub HasRoom : PathState → ℕ → Type 0
+HasRoom s more = (x : Text) → s.counter x + more ≤ largest_counter
+
 -- the list with the element at that end
 abbrev pub put_at : List Text → Text → End → List Text
 put_at xs x Front = x ∷ xs

@@ -1,5 +1,5 @@
--- For the contracts of this crate and of envpaths: tables of counters, and the path state of a list of elements with
--- such a table.
+-- For the contracts of private functions: tables of counters, and the path state of a list of elements with such a
+-- table.
 use Rattle.std.specs.Prelude.{◌≡◌, ℕ, ◌+◌, ◌-◌, List, [], ◌∷◌, ◌++◌, filter, bytes_eq, nat_le, if◌then◌else◌, Option}
 use Rattle.std.specs.Prelude.{Some, None, is_some, unwrap_or, decimal}
 use Rattle.std.specs.Borrow.{Bor}

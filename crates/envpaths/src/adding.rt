@@ -85,10 +85,8 @@ fn add_front<'a>(
         (counter_in counters.old)) (slice_texts more.now))) }
 {
     let mut front = Vec::new(alloc);
-    let mut rest = more;
-    while let [before @ .., element] = rest {
-        add_one(alloc, var, &mut front, counters, element)?;
-        rest = before;
+    for element in more.iter().rev() {
+        add_one(alloc, var, &mut front, counters, *element)?;
     }
     front.reverse();
     front.extend_from_slice(elements)?;

@@ -4,16 +4,17 @@
 #![tactic(auto)]
 
 mod adding;
-mod counters;
 mod dropping;
 mod edits;
 pub mod laws;
 mod one_element;
 mod order;
 mod path;
+mod room;
 mod texts;
 mod writing;
 
 pub use adding::End;
 pub use edits::{add_path, drop_path, is_element};
 pub use order::is_path_in_order;
+pub use room::has_room;

@@ -1,5 +1,5 @@
 //! Reading the two texts of a path variable: its elements, and the counters of its elements.
-ghost use Rattle.std.specs.Prelude.{◌≡◌, ◌≤◌, ◌<◌, IfOk, [], ◌∷◌, is_some};
+ghost use Rattle.std.specs.Prelude.{◌≡◌, ◌≤◌, ◌<◌, ◌&&◌, nat_le, slice_index, IfOk, [], ◌∷◌, is_some};
 ghost use Rattle.std.specs.Option.{option_map};
 ghost use Rattle.envvars.specs.Texts.{Text, slice_texts};
 ghost use Rattle.envpaths.specs.Paths.{largest_counter};
@@ -8,12 +8,34 @@ ghost use Rattle.envpaths.specs.Tables.{counter_in, count_in, overwritten_by, on
 ghost use Rattle.envpaths.specs.Tables.{HasCountersOf};
 ghost use Rattle.envpaths.specs.PathTexts.{counter_in_pairs, paired, elements_of, state_from_pairs, state_of};
 
-use crate::counters::counter_of;
 use crate::path::{Counters, Path};
 use envvars::escapes::unescaped_fields;
 use envvars::fields::{parts, slices};
 use indexmap::IndexMap;
 use std::alloc::{AllocError, Global};
+
+/// Whether the text begins with a digit from 1 to 9, as a counter without leading zeros does.
+fn begins_as_counter(text: &str) -> bool
+    ensures { result ≡ (nat_le 49 (slice_index text.now 0) && nat_le (slice_index text.now 0) 57) }
+{
+    match text.as_bytes() {
+        [first, ..] => b'1' <= *first && *first <= b'9',
+        [] => false,
+    }
+}
+
+/// The counter that the text spells in decimal, without leading zeros; none where it spells none.
+fn counter_of(text: &str) -> Option<u32>
+    ensures { result ≡ counter_of text.now }
+{
+    if !begins_as_counter(text) {
+        return None;
+    }
+    match text.parse() {
+        Ok(count) => Some(count),
+        Err(_) => None,
+    }
+}
 
 /// Sets the counter of an element to the one that a text spells, where the element is there and the text spells one.
 fn set_counter(counters: &mut Counters<'_>, element: &str, number: &str)

@@ -176,7 +176,7 @@ stack_kept : (loaded : List Text) (old new : Environment) (name : Text) → look
 stack_kept loaded old new name a b (inl h) = inl (b ∙ h)
 stack_kept loaded old new name a b (inr h) = inr (record { items = h.items; valid = h.valid; owned = h.owned; owners = h.owners; text = b ∙ h.text; value = a ∙ h.value })
 
-keeps : (old new : Environment) (name : Text) → lookup new name ≡ lookup old name
+pub keeps : (old new : Environment) (name : Text) → lookup new name ≡ lookup old name
     → lookup new (share_name name) ≡ lookup old (share_name name)
     → lookup new (stack_name name) ≡ lookup old (stack_name name) → IsVariableUnchanged old new name
 keeps old new name a b c = record {
@@ -264,7 +264,7 @@ list_order old new a b c d o =
     let t = texts_of old o.entries o.written in
     record { entries = o.entries; list = o.list; written = texts_written new o.entries (record { names = a ∙ t.names; files = b ∙ t.files; conflicts = c ∙ t.conflicts; prereqs = d ∙ t.prereqs }) }
 
-keeps_list : (old new : Environment) → lookup new names_variable ≡ lookup old names_variable
+pub keeps_list : (old new : Environment) → lookup new names_variable ≡ lookup old names_variable
     → lookup new files_variable ≡ lookup old files_variable
     → lookup new conflicts_variable ≡ lookup old conflicts_variable
     → lookup new prereqs_variable ≡ lookup old prereqs_variable

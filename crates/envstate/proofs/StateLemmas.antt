@@ -46,7 +46,7 @@ all_own loaded (item ∷ items) n h =
 writable : (loaded : List Text) (e : Environment) (name : Text) → list_all is_module_name loaded ≡ true → (w : IsWrittenStack loaded e name) → is_writable_stack w.items ≡ true
 writable loaded e name n w = rw (w.valid, all_own loaded w.items n w.owners) refl
 
-state_of_written : (loaded : List Text) (e : Environment) (name : Text) → list_all is_module_name loaded ≡ true
+pub state_of_written : (loaded : List Text) (e : Environment) (name : Text) → list_all is_module_name loaded ≡ true
     → (w : IsWrittenStack loaded e name) → stack_in e name ≡ Some (record { items = w.items; value = lookup e name })
 state_of_written loaded e name n w = ap (λ o. stack_from o (lookup e name)) (ap items_in w.text ∙ stack_again w.items (writable loaded e name n w))
 

@@ -1,5 +1,5 @@
 //! The state of modules in the environment: variables, path variables, stacks, the loaded modules, and their laws.
-//! Touches nothing by itself: it hands on the calls of envvars, envpaths, envstacks and envloaded under one name.
+//! Touches nothing by itself: it hands on calls of envvars, envpaths, envstacks and envloaded under one name.
 #![tactic(auto)]
 
 pub mod laws;

@@ -2,12 +2,14 @@
 -- For this crate's own contracts alone.
 use Rattle.std.specs.Prelude.{◌≡◌, ◌⊎◌, refl, ℕ, Bool, true, false, not, List, Option, Some, None, Result, Ok, Err}
 use Rattle.std.specs.Prelude.{string_bytes, vec_items}
+use Rattle.std.specs.Io.Buffered.{reader_remaining}
 use Rattle.filetree.specs.Agreement.{HaveSamePrefix}
 use Rattle.filetree.specs.Names.{names_of, has_name}
 use Rattle.filetree.specs.Prefixes.{prefix_bytes}
 use Rattle.filetree.specs.Systems as systems
-use Rattle.filetree.specs.Systems.{Answers, IsLooked, IsFileThere, IsBeginningThere, AreEntriesThere, IsFault}
-use Rattle.filetree.specs.Systems.{IsHiddenAndAbsent, WasFile}
+use Rattle.filetree.specs.Systems.{Answers, IsLooked, IsFileThere, IsBeginningThere, IsBegunThere, AreEntriesThere}
+use Rattle.filetree.specs.Systems.{IsFault, IsHiddenAndAbsent, WasFile}
+use Rattle.filetree.specs.declared.begun.Begun.{Begun}
 use Rattle.filetree.specs.declared.known.KnownPath.{KnownPath}
 use Rattle.filetree.specs.declared.known.KnownPath.TheVariants as known
 use Rattle.filetree.specs.declared.look.PathKind.{PathKind}
@@ -83,6 +85,11 @@ IsAnswered Answered path (known.File prefix) = WasFile Answered path
 IsAnswered Answered path (known.WholeFile bytes) = WasFile Answered path × IsFileThere Answered path (vec_items bytes)
 IsAnswered Answered path known.Directory = IsLooked Answered path (Ok path_kinds.Directory)
 IsAnswered Answered path (known.Listing names) = AreEntriesThere Answered path (string_bytes names.text)
+
+-- A file that was begun is one that the system opened, less the bytes that were read of it.
+abbrev pub IsBegun : {F : Type 0} → (F → Option (List ℕ)) → Answers → Begun F → Type 0
+IsBegun remaining Answered begun =
+    IsBegunThere Answered (string_bytes begun.path) (prefix_bytes begun.prefix) (reader_remaining remaining begun.rest)
 
 -- What is loaded of a path is made of answers of the system about it: what is known, or the fault.
 abbrev pub IsLoaded : Answers → List ℕ → Result KnownPath TreeFault → Type 0

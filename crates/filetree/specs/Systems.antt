@@ -4,6 +4,7 @@ use Rattle.std.specs.Prelude.{◌≡◌, ◌⊎◌, ℕ, Bool, true, false, ◌=
 use Rattle.std.specs.Prelude.{Result, Ok, Err, IsOkAnd, IfErr, take}
 use Rattle.std.specs.List.{list_any}
 use Rattle.std.specs.List.Sorted.{IsPermutation}
+use Rattle.std.specs.Io.KnownBytes.{Consumes}
 use Rattle.std.specs.Fs.{IsDir, IsFile, file_type}
 use Rattle.std.specs.declared.fs.attrs.FileType.{FileType}
 use Rattle.std.specs.declared.fs.attrs.Metadata.{Metadata}
@@ -98,6 +99,11 @@ abbrev pub IsBeginningThere : Answers → List ℕ → ℕ → List ℕ → Type
 IsBeginningThere Answered path size bytes =
     ((there : Option (List ℕ)) × Answered path (file (Ok there)) × IfSome there (λ all. bytes ≡ take size all))
     ⊎ ((size ≡ 0) × (bytes ≡ []))
+
+-- These are first bytes of such a file, and those that are left of it, where they are known.
+abbrev pub IsBegunThere : Answers → List ℕ → List ℕ → Option (List ℕ) → Type 0
+IsBegunThere Answered path bytes left =
+    (there : Option (List ℕ)) × Answered path (file (Ok there)) × Consumes there left bytes
 
 -- the path of a directory with a slash, by which it is opened
 abbrev pub slashed : List ℕ → List ℕ

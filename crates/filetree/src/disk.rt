@@ -1,17 +1,21 @@
 //! The tree over a real disk, which caches each answer and gives it again.
-ghost use Rattle.std.specs.Prelude.{◌≡◌, ◌+◌, if◌then◌else◌, ℕ, List, None, Some, Option, IfErr, IfOk, IfSome, OnOk};
+ghost use Rattle.std.specs.Prelude.{◌≡◌, ◌+◌, if◌then◌else◌, ℕ, List, None, Some, Option, IfOk, IfSome, OnOk};
 ghost use Rattle.std.specs.Prelude.{false, true, vec_len};
 ghost use Rattle.std.specs.HashMap.{get_by_text};
+ghost use Rattle.std.specs.Option.{ForSome};
 ghost use Rattle.filetree.specs.Agreement.{FailsAt, FailsIf, Files, FailsOnlyByDevice, InEachPair, Listings, Narrows};
 ghost use Rattle.filetree.specs.Agreement.{begins_with, file_answer, is_device, listing_answer};
 ghost use Rattle.filetree.specs.Disk.{cached-fits, file_at, has_failed, listing_at};
-ghost use Rattle.filetree.specs.Known.{Fits, IsAnswered, IsLoaded, SaysNoLess, is_read_in_part, is_unlisted};
+ghost use Rattle.filetree.specs.Known.{Fits, IsAnswered, IsBegun, IsLoaded, SaysNoLess};
+ghost use Rattle.filetree.specs.Known.{is_read_in_part, is_unlisted};
 ghost use Rattle.filetree.specs.Systems.{IsFault, IsHiddenAndAbsent, IsHiddenIn};
 ghost use Rattle.filetree.specs.declared.known.KnownPath.{KnownPath};
 
+use crate::begun::Begun;
 use crate::known::{KnownPath, USUAL};
 use crate::load::{
-    load_file, load_likely_directory, load_listing, load_names, load_prefix, load_rest,
+    Start, load_begun, load_file, load_likely_directory, load_listing, load_names, load_prefix,
+    load_rest,
 };
 use crate::system::System;
 use crate::tree::{SeenPath, Tree, TreeFault};
@@ -27,6 +31,8 @@ use std::collections::HashMap;
 /// symbolic links, a path that the system refuses, a directory with a name that is not UTF-8, a file or directory that
 /// is gone after its type was asked for, and a file whose first bytes are no longer those that were read before.
 ///
+/// The last file that `begins_with` read stays open, and `read` reads on in it.
+///
 /// A name that begins with a point, as those of default files, is looked for in the listing of its directory where that
 /// is cached: where the listing hasn't the name, nothing is there, and the system isn't asked.
 #[derive(Drop)]
@@ -38,6 +44,9 @@ pub struct DiskTree<S: System + AllocGlobal + Clone + Drop> {
     failed: Vec<String>,
     /// How many directories were found in a row where files were asked for, at most `USUAL`.
     directories_in_row: u8,
+    /// The last file that `begins_with` read, where it can be read on.
+    begun: Option<Begun<S::File>>,
+    ghost opened: { ForSome begun (λ begun. ∥ IsBegun S.File.remaining (S.answers system) begun ∥₁) },
     ghost answered: { ∥ ((path : List ℕ) (k : KnownPath) → get_by_text known path ≡ Some k
         → IsAnswered (S.answers system) path k) ∥₁ },
 }
@@ -65,12 +74,13 @@ impl<S: System + AllocGlobal + Clone + Drop> DiskTree<S> {
             known: HashMap::new(alloc),
             failed: Vec::new(alloc),
             directories_in_row: 0,
+            begun: None,
         }
     }
 
     /// The fault; where it is the device's, the path is added to those at which the device failed.
     fn record_failure(&mut self, path: &str, fault: TreeFault) -> TreeFault
-        requires { IsFault (S.answers self.old.system) path.now fault }
+        requires { ∥ IsFault (S.answers self.old.system) path.now fault ∥₁ }
         ensures known { self.new.known ≡ self.old.known }
         ensures failed { FailsIf (is_device result) (has_failed self.old.failed)
             (has_failed self.new.failed) (λ at. at ≡ path.now) }
@@ -95,7 +105,8 @@ impl<S: System + AllocGlobal + Clone + Drop> DiskTree<S> {
     /// Caches what is known of a path, in place of what was, which said no more.
     fn learn(&mut self, path: &str, known: KnownPath) -> Result<(), AllocError>
         requires answered { ∥ IsAnswered (S.answers self.old.system) path.now known ∥₁ }
-        requires later { (earlier : KnownPath) → get_by_text self.old.known path.now ≡ Some earlier → SaysNoLess known earlier }
+        requires later { (earlier : KnownPath) → get_by_text self.old.known path.now ≡ Some earlier
+            → SaysNoLess known earlier }
         ensures narrows { Narrows (⟦<DiskTree<S> as Tree>⟧.agrees self.old)
             (⟦<DiskTree<S> as Tree>⟧.agrees self.new) }
         ensures known { OnOk result (InEachPair (⟦<DiskTree<S> as Tree>⟧.agrees self.new)
@@ -113,7 +124,7 @@ impl<S: System + AllocGlobal + Clone + Drop> DiskTree<S> {
         path: &str,
         loaded: Result<KnownPath, TreeFault>,
     ) -> Result<Option<Vec<u8>>, TreeFault>
-        requires answered { IsLoaded (S.answers self.old.system) path.now loaded }
+        requires answered { ∥ IsLoaded (S.answers self.old.system) path.now loaded ∥₁ }
         requires later { IfOk loaded (λ known. (earlier : KnownPath) → get_by_text self.old.known path.now ≡ Some earlier
             → SaysNoLess known earlier) }
         requires whole { IfOk loaded (λ known. is_read_in_part known ≡ false) }
@@ -205,8 +216,7 @@ impl<S: System + AllocGlobal + Clone + Drop> DiskTree<S> {
 
     /// What is at a path of which nothing is known, of whose file the first `size` bytes are read.
     fn load_start(&self, path: &str, size: usize) -> Result<KnownPath, TreeFault>
-        ensures answered { IfOk result (λ known. ∥ IsAnswered (S.answers self.now.system) path.now known ∥₁) }
-        ensures fault { IfErr result (IsFault (S.answers self.now.system) path.now) }
+        ensures { ∥ IsLoaded (S.answers self.now.system) path.now result ∥₁ }
     {
         if self.is_hidden_and_absent(path) {
             Ok(KnownPath::Neither)
@@ -214,6 +224,58 @@ impl<S: System + AllocGlobal + Clone + Drop> DiskTree<S> {
             load_likely_directory(&self.system, path, size)
         } else {
             load_prefix(&self.system, path, size)
+        }
+    }
+
+    /// What is at a path of which nothing is known, of whose file the first `size` bytes are read, and which stays open.
+    #[tactic(auto, using(crate::proofs::BegunFiles::begun_too))]
+    fn load_begun(&mut self, path: &str, size: usize) -> Result<KnownPath, TreeFault>
+        ensures answered { ∥ IsLoaded (S.answers self.new.system) path.now result ∥₁ }
+        ensures system { self.new.system ≡ self.old.system }
+        ensures known { self.new.known ≡ self.old.known }
+        ensures failed { self.new.failed ≡ self.old.failed }
+    {
+        if self.is_hidden_and_absent(path) {
+            return Ok(KnownPath::Neither);
+        }
+        match load_begun(&self.system, path, size) {
+            Ok(Start { known, begun }) => {
+                self.begun = begun;
+                Ok(known)
+            }
+            Err(fault) => Err(fault),
+        }
+    }
+
+    /// What is seen at the path, of which nothing is known, by what the system answered, which is cached.
+    fn answer_start(
+        &mut self,
+        path: &str,
+        prefix: &[u8],
+        loaded: Result<KnownPath, TreeFault>,
+    ) -> Result<SeenPath, TreeFault>
+        requires unknown { get_by_text self.old.known path.now ≡ None }
+        requires answered { ∥ IsLoaded (S.answers self.old.system) path.now loaded ∥₁ }
+        ensures narrows { Narrows (⟦<DiskTree<S> as Tree>⟧.agrees self.old)
+            (⟦<DiskTree<S> as Tree>⟧.agrees self.new) }
+        ensures answer { IfOk result (λ seen. InEachPair (⟦<DiskTree<S> as Tree>⟧.agrees self.new)
+            (λ files listings. begins_with prefix.now (files path.now) ≡ seen.begins)) }
+        ensures nothing { IfOk result (λ seen. seen.may_list ≡ false
+            → InEachPair (⟦<DiskTree<S> as Tree>⟧.agrees self.new) (λ files listings. listings path.now ≡ None)) }
+        ensures failed { FailsAt is_device (has_failed self.old.failed)
+            (has_failed self.new.failed) result (λ at. at ≡ path.now) }
+        ensures cause { FailsOnlyByDevice (vec_len self.old.failed) (vec_len self.new.failed) result }
+    {
+        match loaded {
+            Ok(known) => {
+                self.directories_in_row = known.row_after(self.directories_in_row);
+                let answer = known.begins_with(prefix);
+                let may_list = known.is_directory();
+                self.learn(path, known)?;
+                let begins = self.answer_prefix(path, prefix, answer)?;
+                Ok(SeenPath { begins, may_list })
+            }
+            Err(fault) => Err(self.record_failure(path, fault)),
         }
     }
 
@@ -230,17 +292,23 @@ impl<S: System + AllocGlobal + Clone + Drop> DiskTree<S> {
             (has_failed self.new.failed) result (λ at. at ≡ path.now) }
         ensures cause { FailsOnlyByDevice (vec_len self.old.failed) (vec_len self.new.failed) result }
     {
-        match self.load_start(path, prefix.len()) {
-            Ok(known) => {
-                self.directories_in_row = known.row_after(self.directories_in_row);
-                let answer = known.begins_with(prefix);
-                let may_list = known.is_directory();
-                self.learn(path, known)?;
-                let begins = self.answer_prefix(path, prefix, answer)?;
-                Ok(SeenPath { begins, may_list })
-            }
-            Err(fault) => Err(self.record_failure(path, fault)),
-        }
+        let loaded = self.load_start(path, prefix.len());
+        self.answer_start(path, prefix, loaded)
+    }
+
+    /// Whether the file at the path, of which nothing is known, begins with these bytes. It stays open.
+    fn begin_unknown(&mut self, path: &str, prefix: &[u8]) -> Result<bool, TreeFault>
+        requires { get_by_text self.old.known path.now ≡ None }
+        ensures narrows { Narrows (⟦<DiskTree<S> as Tree>⟧.agrees self.old)
+            (⟦<DiskTree<S> as Tree>⟧.agrees self.new) }
+        ensures answer { IfOk result (λ answer. InEachPair (⟦<DiskTree<S> as Tree>⟧.agrees self.new)
+            (λ files listings. begins_with prefix.now (files path.now) ≡ answer)) }
+        ensures failed { FailsAt is_device (has_failed self.old.failed)
+            (has_failed self.new.failed) result (λ at. at ≡ path.now) }
+        ensures cause { FailsOnlyByDevice (vec_len self.old.failed) (vec_len self.new.failed) result }
+    {
+        let loaded = self.load_begun(path, prefix.len());
+        Ok(self.answer_start(path, prefix, loaded)?.begins)
     }
 }
 
@@ -265,7 +333,8 @@ impl<S: System + AllocGlobal + Clone + Drop> Tree for DiskTree<S> {
                 self.answer_file(path, loaded)
             }
             Some(KnownPath::File(prefix)) => {
-                let loaded = load_rest(&self.system, path, prefix);
+                let begun = self.begun.take();
+                let loaded = load_rest(&self.system, path, prefix, begun);
                 self.answer_file(path, loaded)
             }
             Some(known) => Ok(known.file()?),
@@ -273,7 +342,13 @@ impl<S: System + AllocGlobal + Clone + Drop> Tree for DiskTree<S> {
     }
 
     fn begins_with(&mut self, path: &str, prefix: &[u8]) -> Result<bool, TreeFault> {
-        Ok(self.see(path, prefix)?.begins)
+        match self.known.get(path) {
+            None => self.begin_unknown(path, prefix),
+            Some(known) => {
+                let answer = known.begins_with(prefix);
+                self.answer_prefix(path, prefix, answer)
+            }
+        }
     }
 
     fn may_list(&self, path: &str) -> bool {

@@ -1,7 +1,8 @@
 //! Files and directories by their paths, in memory or on a disk.
-//! `MemoryTree` takes memory; `DiskTree` reads files and directories by the runtime that it is given, and writes none.
+//! Takes memory; `DiskTree` reads files and directories by the runtime that it is given, and writes none.
 #![tactic(auto)]
 
+mod begun;
 mod disk;
 mod known;
 mod laws;

@@ -1,8 +1,11 @@
 //! Asks the system for files and directories, and says what its answers make known of a path.
-ghost use Rattle.std.specs.Prelude.{◌≡◌, true, false, Ok, IfErr, IfOk};
-ghost use Rattle.filetree.specs.Known.{IsLoaded, SaysNoLess, has_directory, has_file, is_read_in_part, is_unlisted};
+ghost use Rattle.std.specs.Prelude.{◌≡◌, true, false, Ok, IfErr, IfOk, IfSome};
+ghost use Rattle.std.specs.Option.{ForSome};
+ghost use Rattle.filetree.specs.Known.{IsAnswered, IsBegun, IsLoaded, SaysNoLess, has_directory, has_file};
+ghost use Rattle.filetree.specs.Known.{is_read_in_part, is_unlisted};
 ghost use Rattle.filetree.specs.Systems.{IsFault, IsFileThere, IsLooked, WasDirectory, WasFile, is_directory, is_file};
 
+use crate::begun::Begun;
 use crate::known::KnownPath;
 use crate::look::{PathKind, look};
 use crate::names::list;
@@ -56,20 +59,42 @@ pub(crate) fn load_file<S: System + AllocGlobal>(
     file_of_kind(system, path, path_kind)
 }
 
-/// The whole file at a path, of which these first bytes were read before.
+/// The whole file at a path where one was: the one that was begun, where that is at this path.
+fn read_on<S: System + AllocGlobal>(
+    system: &S,
+    path: &str,
+    begun: Option<Begun<S::File>>,
+) -> Result<Vec<u8>, TreeFault>
+    requires was { WasFile (S.answers system.now) path.now }
+    requires begun { ForSome begun (λ begun. ∥ IsBegun S.File.remaining (S.answers system.now) begun ∥₁) }
+    ensures bytes { IfOk result (λ bytes. ∥ IsFileThere (S.answers system.now) path.now bytes.items ∥₁) }
+    ensures fault { IfErr result (λ fault. ∥ IsFault (S.answers system.now) path.now fault ∥₁) }
+{
+    if let Some(begun) = begun {
+        if begun.is_at(path) {
+            return Ok(begun.whole(system.alloc())?);
+        }
+    }
+    read_file(system, path)
+}
+
+/// The whole file at a path, of which these first bytes were read before. It is read on where it is the one that was
+/// begun.
 ///
 /// It fails with `Device` where the file does not begin with them.
 pub(crate) fn load_rest<S: System + AllocGlobal>(
     system: &S,
     path: &str,
     prefix: &Prefix,
+    begun: Option<Begun<S::File>>,
 ) -> Result<KnownPath, TreeFault>
-    requires { WasFile (S.answers system.now) path.now }
-    ensures answered { IsLoaded (S.answers system.now) path.now result }
+    requires was { WasFile (S.answers system.now) path.now }
+    requires begun { ForSome begun (λ begun. ∥ IsBegun S.File.remaining (S.answers system.now) begun ∥₁) }
+    ensures answered { ∥ IsLoaded (S.answers system.now) path.now result ∥₁ }
     ensures whole { IfOk result (λ known. is_read_in_part known ≡ false) }
     ensures same_prefix { IfOk result (λ known. SaysNoLess known (KnownPath.File prefix.now)) }
 {
-    let bytes = read_file(system, path)?;
+    let bytes = read_on(system, path, begun)?;
     if has_same_prefix(&bytes, prefix) {
         Ok(KnownPath::WholeFile(bytes))
     } else {
@@ -90,7 +115,8 @@ fn start_of_file<S: System + AllocGlobal>(
     ensures directory { IfOk result (λ known. has_directory known ≡ false) }
 {
     if size <= MOST {
-        if let Some(prefix) = first_bytes(system.open(path)?, size)? {
+        let mut file = system.open(path)?;
+        if let Some(prefix) = first_bytes(&mut file, size)? {
             return Ok(KnownPath::File(prefix));
         }
     }
@@ -145,6 +171,59 @@ pub(crate) fn load_likely_directory<S: System + AllocGlobal>(
     }
 }
 
+/// What is at a path, and the file there where its first bytes were read.
+#[derive(Drop)]
+pub(crate) struct Start<F: Read + Drop> {
+    pub(crate) known: KnownPath,
+    pub(crate) begun: Option<Begun<F>>,
+}
+
+/// The file at a path where one was, of which the first `size` bytes are read, and which stays open. One that is shorter
+/// is read whole, and so is one of which more is asked for than is kept as a prefix.
+fn begin_file<S: System + AllocGlobal>(
+    system: &S,
+    path: &str,
+    size: usize,
+) -> Result<Start<S::File>, TreeFault>
+    requires { WasFile (S.answers system.now) path.now }
+    ensures answered { IfOk result (λ start. IsAnswered (S.answers system.now) path.now start.known) }
+    ensures begun { IfOk result (λ start. IfSome start.begun (IsBegun S.File.remaining (S.answers system.now))) }
+    ensures fault { IfErr result (IsFault (S.answers system.now) path.now) }
+{
+    if size <= MOST {
+        let file = system.open(path)?;
+        if let Some(begun) = Begun::begin(system.alloc(), path, file, size)? {
+            return Ok(Start {
+                known: KnownPath::File(begun.prefix),
+                begun: Some(begun),
+            });
+        }
+    }
+    Ok(Start {
+        known: KnownPath::WholeFile(read_file(system, path)?),
+        begun: None,
+    })
+}
+
+/// What is at a path, of whose file the first `size` bytes are read, and which stays open.
+#[tactic(auto, using(crate::proofs::WasThere::file_looked))]
+pub(crate) fn load_begun<S: System + AllocGlobal>(
+    system: &S,
+    path: &str,
+    size: usize,
+) -> Result<Start<S::File>, TreeFault>
+    ensures answered { IfOk result (λ start. IsAnswered (S.answers system.now) path.now start.known) }
+    ensures begun { IfOk result (λ start. IfSome start.begun (IsBegun S.File.remaining (S.answers system.now))) }
+    ensures fault { IfErr result (IsFault (S.answers system.now) path.now) }
+{
+    let known = match look(system, path)? {
+        PathKind::File => return begin_file(system, path, size),
+        PathKind::Directory => KnownPath::Directory,
+        PathKind::Nothing | PathKind::Other => KnownPath::Neither,
+    };
+    Ok(Start { known, begun: None })
+}
+
 /// The directory at a path where one was, with its names.
 pub(crate) fn load_names<S: System + AllocGlobal>(
     system: &S,
@@ -178,7 +257,16 @@ fn listing_of_kind<S: System + AllocGlobal>(
     }
 }
 
-/// What is at a path, whose directory is listed.
+/// What is at a path, whose directory is listed where a look shows one.
+fn look_and_list<S: System + AllocGlobal>(system: &S, dir: &str) -> Result<KnownPath, TreeFault>
+    ensures answered { IsLoaded (S.answers system.now) dir.now result }
+    ensures listed { IfOk result (λ known. is_unlisted known ≡ false) }
+{
+    let path_kind = look(system, dir)?;
+    listing_of_kind(system, dir, path_kind)
+}
+
+/// What is at a path, whose directory is listed at once, since no other thing is opened so.
 pub(crate) fn load_listing<S: System + AllocGlobal>(
     system: &S,
     dir: &str,
@@ -186,6 +274,8 @@ pub(crate) fn load_listing<S: System + AllocGlobal>(
     ensures answered { IsLoaded (S.answers system.now) dir.now result }
     ensures listed { IfOk result (λ known. is_unlisted known ≡ false) }
 {
-    let path_kind = look(system, dir)?;
-    listing_of_kind(system, dir, path_kind)
+    match list(system, dir) {
+        Ok(names) => Ok(KnownPath::Listing(names)),
+        Err(_) => look_and_list(system, dir),
+    }
 }

@@ -4,6 +4,7 @@ ghost use Rattle.filetree.specs.Contents.{files_of, listings_of};
 ghost use Rattle.filetree.specs.Agreement.{with_at};
 
 use crate::tree::{Tree, TreeFault};
+use message::texts::copies;
 use std::alloc::{AllocError, Global};
 use std::collections::BTreeMap;
 
@@ -14,17 +15,6 @@ pub struct MemoryTree {
     alloc: Global,
     files: BTreeMap<String, Vec<u8>>,
     listings: BTreeMap<String, Vec<String>>,
-}
-
-/// A copy of some names.
-fn copy_names(alloc: Global, names: &Vec<String>) -> Result<Vec<String>, AllocError>
-    ensures { IfOk result (λ copy. map string_bytes (vec_items copy) ≡ map string_bytes (vec_items names.now)) }
-{
-    let mut copy = Vec::with_capacity(alloc, names.len())?;
-    for name in names {
-        copy.push(name.clone()?)?;
-    }
-    Ok(copy)
 }
 
 /// The same names as owned strings.
@@ -109,7 +99,7 @@ impl Tree for MemoryTree {
     fn entries(&mut self, dir: &str) -> Result<Option<Vec<String>>, TreeFault> {
         match self.listings.get(dir) {
             None => Ok(None),
-            Some(names) => Ok(Some(copy_names(self.alloc, names)?)),
+            Some(names) => Ok(Some(copies(self.alloc, names.as_slice())?)),
         }
     }
 }

@@ -9,12 +9,11 @@ ghost use Rattle.filetree.specs.Utf8.{is_text};
 use crate::memory::own_names;
 use crate::system::System;
 use crate::tree::TreeFault;
-use modulename::version_order;
 use std::alloc::{AllocError, Global};
 use std::io;
 use std::io::Read;
 
-/// The names in a directory, hidden ones too, in version order, since whoever asks for them mostly sorts them so.
+/// The names in a directory, hidden ones too, in the order in which the system gives them.
 #[derive(Drop)]
 pub(crate) struct Names {
     /// The names, each ended by a NUL.
@@ -67,8 +66,7 @@ impl Names {
     fn of_text(alloc: Global, text: &str) -> Result<Names, AllocError>
         ensures { IfOk result (λ names. IsPermutation (entries_of text.now) (names_of (string_bytes names.text))) }
     {
-        let mut names = entries(alloc, text)?;
-        names.sort_by(|left, right| version_order(left, right))?;
+        let names = entries(alloc, text)?;
         Names::joined(String::with_capacity(alloc, text.len())?, &names)
     }
 

@@ -1,5 +1,6 @@
 //! The first bytes of files: read without the rest, and compared with what is read later.
 ghost use Rattle.std.specs.Prelude.{◌≡◌, ◌≤◌, Some, List, ℕ, Option, take, IfOk, IfSome, true};
+ghost use Rattle.std.specs.Io.KnownBytes.{Consumes};
 ghost use Rattle.std.specs.Str.{bytes_eq};
 ghost use Rattle.filetree.specs.Agreement.{HaveSamePrefix, begins_with};
 ghost use Rattle.filetree.specs.Prefixes.{prefix_bytes};
@@ -11,7 +12,7 @@ use std::io::{ErrorKind, Read};
 pub(crate) const MOST: usize = 8;
 
 /// The first bytes of a file, as far as they were asked for.
-#[derive(Drop)]
+#[derive(Clone, Copy)]
 pub(crate) struct Prefix {
     /// How many bytes were asked for, at most `MOST`.
     pub(crate) size: usize,
@@ -37,7 +38,8 @@ impl Prefix {
         }
     }
 
-    fn bytes(&self) -> &[u8]
+    /// The bytes.
+    pub(crate) fn bytes(&self) -> &[u8]
         ensures { result.now ≡ prefix_bytes self.entry.now }
     {
         first(&self.room, self.count)
@@ -57,13 +59,14 @@ impl Prefix {
 }
 
 /// So many first bytes of a reader, at most `MOST`, or `None` where it has fewer. No more is read.
-pub(crate) fn first_bytes<F: Read + Drop>(file: F, size: usize) -> io::Result<Option<Prefix>>
+pub(crate) fn first_bytes<F: Read>(file: &mut F, size: usize) -> io::Result<Option<Prefix>>
     requires { size ≤ MOST }
     ensures size { IfOk result (λ prefix. IfSome prefix (λ prefix. prefix.size ≡ size)) }
-    ensures bytes { IfSome (F.remaining file) (λ bytes. IfOk result (λ prefix. IfSome prefix (λ prefix.
+    ensures bytes { IfSome (F.remaining file.old) (λ bytes. IfOk result (λ prefix. IfSome prefix (λ prefix.
         prefix_bytes prefix ≡ take size bytes))) }
+    ensures rest { IfOk result (λ prefix. IfSome prefix (λ prefix.
+        Consumes (F.remaining file.old) (F.remaining file.new) (prefix_bytes prefix))) }
 {
-    let mut file = file;
     let mut room = [0; MOST];
     match file.read_exact(&mut room[..size]) {
         Ok(()) => Ok(Some(Prefix {

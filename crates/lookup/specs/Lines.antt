@@ -1,5 +1,5 @@
 -- All modules along a MODULEPATH in one list, each with its directory (module(1), avail).
-use Rattle.std.specs.Prelude.{◌≡◌, Bool, List, map, flat_map, Option}
+use Rattle.std.specs.Prelude.{◌≡◌, Bool, List, [], map, flat_map, Option}
 use Rattle.modulename.specs.ModuleName.{Text}
 use Rattle.filetree.specs.Agreement.{Files, Listings}
 use Rattle.search.specs.DefaultFiles.{DefaultFileResult}
@@ -20,4 +20,4 @@ lines_of listings = flat_map (λ listing. map (line_of listing.0) listing.1) lis
 -- These are all modules along a MODULEPATH, in order.
 abbrev pub Available : (Text → Text → Option DefaultFileResult → Type 0) → Files → Listings → Text → List Line → Type 0
 Available results files folders modulepath lines =
-    (listings : List Listing) × Listed results files folders modulepath listings × (lines ≡ lines_of listings)
+    (listings : List Listing) × Listed results files folders [] modulepath listings × (lines ≡ lines_of listings)

@@ -1,5 +1,5 @@
 //! All modules along MODULEPATH, in one list with their directories (module(1), avail).
-ghost use Rattle.std.specs.Prelude.{◌≡◌, ◌<◌, ◌++◌, map, IfOk, IfErr, OnOk};
+ghost use Rattle.std.specs.Prelude.{◌≡◌, ◌<◌, ◌++◌, [], map, IfOk, IfErr, OnOk};
 ghost use Rattle.filetree.specs.Agreement.{FailsWhere, InEachPair, ReadsOn};
 ghost use Rattle.filetree.specs.Causes.{Applies};
 ghost use Rattle.search.specs.Looked.{ListingLooksAt};
@@ -81,7 +81,7 @@ pub fn available<T: Tree>(
     ensures fault { IfErr result (λ e.
         Applies (cause_of e) (T.failures tree.old < T.failures tree.new) (λ reason. ⊥)) }
     ensures failed { FailsWhere is_failure T.agrees T.failed tree.old tree.new result (λ files folders.
-        ListingLooksAt (HasResult limits) files folders modulepath.now) }
+        ListingLooksAt (HasResult limits) files folders [] modulepath.now) }
 {
     let default_files = EvaluatedDefaultFiles { limits };
     let directories = search::available(alloc, tree, &default_files, modulepath)?;

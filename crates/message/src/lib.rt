@@ -1,5 +1,6 @@
 //! The texts of faults, and the table of refusals: a message has parts, so that it is shown without taking memory.
-//! Touches nothing but the text or writer that it is shown on, and takes no memory; `texts` copies lists of texts.
+//! Touches nothing but the text or writer that a message is shown on, or the buffer of digits. Only `texts`, which copies
+//! lists, takes memory.
 #![tactic(auto)]
 
 mod laws;

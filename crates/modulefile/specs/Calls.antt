@@ -31,7 +31,7 @@ pub data Call : Type 0 where
   -- `module-info name`, `module-info specified`
   own_name : Call
   typed_name : Call
-  -- `module-info FIELD`, and `module-info TOPIC WORD`
+  -- `module-info FIELD`, and `module-info FIELD WORD`
   info : InfoField → Call
   info_test : InfoField → (word : Text) → Call
 

@@ -66,13 +66,11 @@ pub fn is_module_name(name: &str) -> bool
         begins: true,
         parts: MAX_PARTS,
     };
-    let mut rest = name.as_bytes();
-    while let [b, after @ ..] = rest {
+    for b in name.as_bytes() {
         let Some(next) = spelling.with(*b) else {
             return false;
         };
         spelling = next;
-        rest = after;
     }
     !spelling.begins
 }

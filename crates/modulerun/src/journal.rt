@@ -35,7 +35,7 @@ impl<'a, V: Vars> Drop for Journal<'a, V> {
         let Journal {
             alloc: _alloc,
             mode: _mode,
-            module_name: _owner,
+            module_name: _module_name,
             entries: _entries,
             working: _working,
         } = self;
@@ -175,7 +175,7 @@ impl<'a, V: Vars> Journal<'a, V> {
         let Journal {
             alloc,
             mode: _mode,
-            module_name: _owner,
+            module_name: _module_name,
             entries,
             working,
         } = self;

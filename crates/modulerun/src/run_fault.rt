@@ -25,7 +25,8 @@ pub enum RunFault {
     BadRecord(RecordFault),
 }
 
-/// A fault of the evaluation. The number of a text's fault is that one's own, and that of a refused command the command's.
+/// A fault of the evaluation. The number of a text's fault is that one's own, and that of a refused command the
+/// command's.
 fn evaluation_numbered(fault: &EvalFault) -> NumberedMessage<'_>
     ensures { numbered_text result ≡ texts.evaluation_refusal fault.now }
 {

@@ -6,7 +6,6 @@ ghost use Rattle.envloaded.specs.Loaded.{names_of};
 ghost use Rattle.envloaded.specs.LoadedEntries.{entry_view};
 ghost use Rattle.filetree.specs.Relations.{Is};
 ghost use Rattle.modulefile.specs.Records.{conflict_names, prereq_groups};
-ghost use Rattle.modulefile.specs.Moves as moves;
 ghost use Rattle.modulefile.specs.RecordViews.{record_view};
 ghost use Rattle.requests.specs.Refusals.{unless};
 ghost use Rattle.requests.specs.Steps.{entries_of, modulepath};

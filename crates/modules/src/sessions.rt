@@ -92,9 +92,9 @@ pub fn respond<T: Tree>(
 /// by 43 than the device failed, and it failed only at paths that a request of the session looks at.
 ///
 /// The session returns to its start where the environment is in order, no module is unloaded that was loaded in it, the
-/// modules that are loaded are reversible and apart, and each unload has the records of the load that it undoes. Then
-/// each environment of the session is in order and is the first one with the live modules layered on it, and with none
-/// live it is the first one again. The tree is one: relative paths mean the same throughout.
+/// modules that are loaded are reversible and apart, and the records of each unload undo what those of its load
+/// undo. Then each environment of the session is in order and is the first one with the live modules layered on it, and
+/// with none live it is the first one again. The tree is one: relative paths mean the same throughout.
 ///
 /// Errors: want of memory for the list of outcomes (31).
 pub fn session<T: Tree>(

@@ -15,7 +15,7 @@ ghost use Rattle.requests.specs.Reports.{loaded_text};
 ghost use Rattle.requests.specs.RequestViews.{action_view};
 ghost use Rattle.requests.specs.Steps as steps;
 ghost use Rattle.requests.specs.Steps.{nothing_done, Each, EndsRequest, NeedsNames, ChangesLoaded, ShowsNames};
-ghost use Rattle.requests.specs.Steps.{ListsLoaded, ListsAll, RequestStep, request_context_in};
+ghost use Rattle.requests.specs.Steps.{ListsLoaded, ListsAvailable, RequestStep, request_context_in};
 ghost use Rattle.requests.specs.Looked.{PurgeLooksAt, SwitchLooksAt, RequestLooksAt};
 ghost use Rattle.modules.specs.Views.{request_context_of, done_view};
 ghost use Rattle.modules.specs.Answers.{GivesOrRefuses, StepAnswersOverTree, is_failure};
@@ -35,7 +35,7 @@ use envvars::Vars;
 use filetree::Tree;
 use lookup::EvaluatedDefaultFiles;
 use requests::{Action, Request, avail_report, list_report};
-use search::available;
+use search::selected;
 use std::alloc::{AllocError, Global};
 use tclrules::Limits;
 
@@ -375,17 +375,19 @@ fn avail<T: Tree, V: Vars>(
     ensures reads { ReadsOn T.agrees T.failures tree.old tree.new }
     ensures over_tree { StepAnswersOverTree (T.agrees tree.new) (T.failures tree.old < T.failures tree.new)
         (λ done. done_view done (V.vars env.now)) result
-        (λ files listings. ListsAll (request_context_of settings files listings) (V.vars env.now) (map string_bytes texts.now)) }
+        (λ files listings. ListsAvailable (request_context_of settings files listings) (V.vars env.now)
+        (map string_bytes texts.now)) }
     ensures out_of_memory { IfErr result (MemoryNumberAmong (31 ∷ 41 ∷ [])) }
     ensures failed { FailsAt is_failure (T.failed tree.old) (T.failed tree.new) result (λ at.
         InEachPair (T.agrees tree.new) (λ files listings.
-        ListingLooksAt (HasResult settings.limits) files listings (steps.modulepath (V.vars env.now)) at)) }
+        ListingLooksAt (HasResult settings.limits) files listings (map string_bytes texts.now)
+        (steps.modulepath (V.vars env.now)) at)) }
 {
     let default_files = EvaluatedDefaultFiles {
         limits: settings.limits,
     };
-    let listings = available(alloc, tree, &default_files, modulepath(env))?;
-    let text = avail_report(alloc, texts, listings.as_slice())?;
+    let listings = selected(alloc, tree, &default_files, texts, modulepath(env))?;
+    let text = avail_report(alloc, listings.as_slice())?;
     Ok(done_with_report(alloc, text))
 }
 

@@ -1,14 +1,15 @@
 //! What the system gives to a process: its arguments, and its environment as a block of entries.
 ghost use Rattle.std.specs.Prelude.{◌<◌, ◌≤◌, IfOk, IfSome, OnOk, vec_len};
+ghost use Rattle.std.specs.Io.{WritesAtMost};
 
 use crate::input::InputFault;
 use memchr::{memchr, memchr_iter};
 use std::alloc::AllocError;
 use std::env::FillError;
 use std::fs::File;
-use std::io::{ErrorKind, Read};
+use std::io::Read;
 use std::rt::{Env, Files};
-use std::{env, io};
+use std::{io, str};
 
 /// The file in which Linux gives a process its environment at once (proc(5)).
 const OWN_ENVIRONMENT: &str = "/proc/self/environ";
@@ -16,23 +17,39 @@ const OWN_ENVIRONMENT: &str = "/proc/self/environ";
 /// The length in bytes that most environments have room in.
 const USUAL_LENGTH: usize = 2000;
 
-/// The length in bytes of the first buffer for one entry.
-const FIRST_LENGTH: usize = 4096;
+/// By how many bytes the room for a text grows at a time: most texts have room in as many.
+const MORE_LENGTH: usize = 1024;
+
+/// A text that the system gives to a process.
+#[derive(Clone, Copy)]
+enum Given {
+    /// An argument; the first is the program's name.
+    Argument(usize),
+    /// An entry of the environment.
+    Entry(usize),
+}
 
 /// The arguments after the program's name.
 ///
-/// The errors: `OutOfMemory`, and `BadInput` where an argument isn't UTF-8.
+/// The errors: `OutOfMemory`, and `BadInput` where an argument, or the program's name, isn't UTF-8.
 pub fn arguments<R: Env + AllocGlobal>(rt: &R) -> Result<Vec<String>, InputFault> {
-    let all = match env::args(rt) {
-        Ok(all) => all,
-        Err(error) if error.kind() == ErrorKind::OutOfMemory => {
-            return Err(InputFault::OutOfMemory);
+    let mut arguments = Vec::new(rt.alloc());
+    let mut room = Vec::new(rt.alloc());
+    for i in 0..usize::MAX {
+        let Some(length) = copy_given(rt, Given::Argument(i), &mut room)? else {
+            break;
+        };
+        let Ok(text) = str::from_utf8(&room.as_slice()[..length]) else {
+            return Err(InputFault::BadInput);
+        };
+        if i > 0 {
+            let argument = String::from_str(rt.alloc(), text)?;
+            arguments
+                .push(argument)
+                .map_err(|_| InputFault::OutOfMemory)?;
         }
-        Err(_) => return Err(InputFault::BadInput),
-    };
-    all.skip(1)
-        .collect(rt.alloc())
-        .map_err(|_| InputFault::OutOfMemory)
+    }
+    Ok(arguments)
 }
 
 /// The environment as the system has it (environ(7)): entry after entry, each ended by NUL.
@@ -40,29 +57,35 @@ pub fn arguments<R: Env + AllocGlobal>(rt: &R) -> Result<Vec<String>, InputFault
 /// The system's file is read at once. Where it can't be read, or isn't the list that the process has, the entries are
 /// asked for one by one, in time that grows with the square of their number, so that none is lost.
 pub fn environment_block<R: Env + Files + AllocGlobal>(rt: &R) -> Result<Vec<u8>, AllocError> {
+    let mut room = Vec::new(rt.alloc());
     if let Ok(block) = own_environment(rt) {
-        if is_complete(rt, block.as_slice())? {
+        if is_complete(rt, block.as_slice(), &mut room)? {
             return Ok(block);
         }
     }
-    block_by_entries(rt)
+    block_by_entries(rt, &mut room)
 }
 
-/// The text of the system's file.
+/// The text of the system's file. One that fits is read by one call, without asking whether it ends there.
 fn own_environment<R: Files + AllocGlobal>(rt: &R) -> io::Result<Vec<u8>> {
     let mut file = File::open(rt, OWN_ENVIRONMENT)?;
-    let mut block = Vec::with_capacity(rt.alloc(), USUAL_LENGTH)?;
-    file.read_to_end(&mut block)?;
+    let mut piece = [0; USUAL_LENGTH];
+    let length = file.read(&mut piece)?;
+    let mut block = Vec::with_capacity(rt.alloc(), length)?;
+    block.extend_from_slice(&piece[..length])?;
+    if length == USUAL_LENGTH {
+        file.read_to_end(&mut block)?;
+    }
     Ok(block)
 }
 
 /// Whether the block has as many entries as the process, the same first one, and NUL at its end.
-fn is_complete<R: Env + AllocGlobal>(rt: &R, block: &[u8]) -> Result<bool, AllocError> {
+fn is_complete<R: Env>(rt: &R, block: &[u8], room: &mut Vec<u8>) -> Result<bool, AllocError> {
     let Some((last, _)) = memchr_iter(0, block).enumerate().last() else {
         return Ok(block.is_empty() && !has_entry(rt, 0));
     };
     let is_whole = block.ends_with(b"\0") && has_entry(rt, last) && !has_entry(rt, last + 1);
-    Ok(is_whole && begins_alike(rt, block)?)
+    Ok(is_whole && begins_alike(rt, block, room)?)
 }
 
 /// Whether the process has more than `i` entries.
@@ -74,21 +97,22 @@ fn has_entry<R: Env>(rt: &R, i: usize) -> bool {
 }
 
 /// Whether the first entry of the process is that of the block.
-fn begins_alike<R: Env + AllocGlobal>(rt: &R, block: &[u8]) -> Result<bool, AllocError> {
+fn begins_alike<R: Env>(rt: &R, block: &[u8], room: &mut Vec<u8>) -> Result<bool, AllocError> {
     let first = &block[..memchr(0, block).unwrap_or(block.len())];
-    let mut room = Vec::from_elem(rt.alloc(), 0, first.len())?;
-    Ok(match rt.var_at(0, room.as_mut_slice()) {
-        Ok(length) => &room.as_slice()[..length] == first,
-        Err(_) => false,
+    Ok(match copy_given(rt, Given::Entry(0), room)? {
+        Some(length) => &room.as_slice()[..length] == first,
+        None => false,
     })
 }
 
 /// The block of the environment, made of the entries one by one.
-fn block_by_entries<R: Env + AllocGlobal>(rt: &R) -> Result<Vec<u8>, AllocError> {
+fn block_by_entries<R: Env + AllocGlobal>(
+    rt: &R,
+    room: &mut Vec<u8>,
+) -> Result<Vec<u8>, AllocError> {
     let mut block = Vec::new(rt.alloc());
-    let mut room = Vec::new(rt.alloc());
     for i in 0..usize::MAX {
-        match copy_entry(rt, i, &mut room)? {
+        match copy_given(rt, Given::Entry(i), room)? {
             None => break,
             Some(length) => {
                 block.extend_from_slice(&room.as_slice()[..length])?;
@@ -99,13 +123,23 @@ fn block_by_entries<R: Env + AllocGlobal>(rt: &R) -> Result<Vec<u8>, AllocError>
     Ok(block)
 }
 
-/// Copies entry `i` to the start of `room`, which grows until the entry fits. The result is the length of the entry in
-/// bytes; none where there are no more than `i` entries.
-fn copy_entry<R: Env>(rt: &R, i: usize, room: &mut Vec<u8>) -> Result<Option<usize>, AllocError>
+/// Copies a text to the start of a buffer. The result is the length of the text in bytes.
+fn fill<R: Env>(rt: &R, given: Given, buffer: &mut [u8]) -> Result<usize, FillError>
+    ensures { WritesAtMost result buffer.new }
+{
+    match given {
+        Given::Argument(i) => rt.arg(i, buffer),
+        Given::Entry(i) => rt.var_at(i, buffer),
+    }
+}
+
+/// Copies a text to the start of `room`, which grows until the text fits. The result is the length of the text in
+/// bytes; none where there is no such text.
+fn copy_given<R: Env>(rt: &R, given: Given, room: &mut Vec<u8>) -> Result<Option<usize>, AllocError>
     ensures { IfOk result (λ found. IfSome found (λ n. n ≤ vec_len room.new)) }
 {
     loop {
-        match rt.var_at(i, room.as_mut_slice()) {
+        match fill(rt, given, room.as_mut_slice()) {
             Ok(length) => return Ok(Some(length)),
             Err(FillError::NotPresent) => return Ok(None),
             Err(FillError::TooLong) => grow(room)?,
@@ -113,9 +147,9 @@ fn copy_entry<R: Env>(rt: &R, i: usize, room: &mut Vec<u8>) -> Result<Option<usi
     }
 }
 
-/// Doubles the length of a buffer; an empty one gets its first length.
+/// Makes a buffer longer.
 fn grow(room: &mut Vec<u8>) -> Result<(), AllocError>
     ensures { OnOk result (vec_len room.old < vec_len room.new) }
 {
-    room.resize(room.len() + room.len().max(FIRST_LENGTH), 0)
+    room.extend_from_slice(&[0; MORE_LENGTH])
 }

@@ -14,4 +14,4 @@ mod Judging
 mod JudgedMoves
 pub mod ListLemmas
 pub mod ReportLemmas
-pub mod Selected
+pub mod AvailLemmas

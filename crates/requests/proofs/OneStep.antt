@@ -32,7 +32,7 @@ use Rattle.requests.specs.Steps.{RequestContext, Done, nothing_done, continued, 
 use Rattle.requests.specs.Steps.{entries_of, modulepath, context_of, script_at, Finds, LoadsFound, LoadsName}
 use Rattle.requests.specs.Steps.{UnloadsEntry, UnloadsMeant, last_meant, UnloadsName, ShowsName, shown_text}
 use Rattle.requests.specs.Steps.{described_text, Each, NeedsNames, EndsRequest, ChangesLoaded, Switches, ShowsNames}
-use Rattle.requests.specs.Steps.{ListsAll, RequestStep, old_name}
+use Rattle.requests.specs.Steps.{ListsAvailable, RequestStep, old_name}
 use Rattle.requests.proofs.Bound.{one_refused_as}
 
 -- a default file leaves one thing
@@ -108,9 +108,9 @@ one_shown file left s mode text_of e names =
     one_then {First = Is (entries_of e)} {Rest = λ xs. Each (ShowsName s mode text_of) names (nothing_done e)} (one_is (entries_of e)) (λ xs.
     one_each (ShowsName s mode text_of) (one_show file left s mode text_of) names (nothing_done e))
 
-one_lists : (s : RequestContext) (e : Environment) (texts : List Text) → IsOne (ListsAll s e texts)
+one_lists : (s : RequestContext) (e : Environment) (texts : List Text) → IsOne (ListsAvailable s e texts)
 one_lists s e texts o p (ls, h, g) (ks, k, f) =
-    g ∙ (ap (λ x. Ok (with_report (nothing_done e) [] (avail_text texts x))) (one_listed (HasResult s.limits) s.files s.listings (modulepath e) ls ks h k) ∙ sym f)
+    g ∙ (ap (λ x. Ok (with_report (nothing_done e) [] (avail_text x))) (one_listed (HasResult s.limits) s.files s.listings texts (modulepath e) ls ks h k) ∙ sym f)
 
 pub one_step : files.OneOutcome → OneResult → (s : RequestContext) (e : Environment) (asked : RequestedAction) → IsOne (RequestStep s e asked)
 one_step file left s e (load names) =

@@ -19,6 +19,7 @@ use Rattle.modulefile.specs.Files.{Ran, refused_by, RunsFile, IsSameOrRefused}
 use Rattle.modulefile.specs.Laws.{PlainFilesAgree}
 use Rattle.reversal.specs.VariableUses.{VariableUse}
 use Rattle.reversal.specs.Live.{entries_over}
+use Rattle.reversal.specs.Undone.{undo_of}
 use Rattle.reversal.specs.Starts.{IsInOrder, IsStart, IsStartWith}
 use Rattle.reversal.specs.Runs.{live_named, without_live, AreReversibleTogether}
 use Rattle.reversal.specs.Laws.{RunsReturn, MovesPreserve}
@@ -26,7 +27,7 @@ use Rattle.requests.specs.Requests.{Request}
 use Rattle.requests.specs.Steps.{RequestContext}
 use Rattle.requests.specs.Sessions.{Response, accepted, refused, given_up, IsResponse, env_after, end_environment}
 use Rattle.requests.specs.Sessions.{in_shell, Session, session_moves}
-use Rattle.requests.specs.Returning.{AreNew, HasLoadRecords, AreReversibleBeside}
+use Rattle.requests.specs.Returning.{AreNew, UndoesItsLoad, AreReversibleBeside}
 use Rattle.requests.specs.PlainRuns.{HasEvaluatedTo, IsPlain, ArePlain}
 use Rattle.requests.specs.Laws.{SessionsReach, SessionsReturn, PlainSessionsReturn}
 use Rattle.requests.proofs.Undone.{entries_at, entries_read, is_entry_of, not_among, same_list, undoes}
@@ -129,7 +130,7 @@ unload_records agree s m l name path (ran, left, is) (other, loaded, was) (plain
 
 has_records : PlainFilesAgree → (s : RequestContext) (uses : Text → VariableUse) (start old : Environment)
     (bs : List Entry) (live : List Module) (m : Module) → loaded_in start ≡ Some bs → IsInOrder uses old
-    → IsStartWith uses start live old → LiveFrom s live → IsFrom s m → Fits (Unloads m) old → HasLoadRecords live m
+    → IsStartWith uses start live old → LiveFrom s live → IsFrom s m → Fits (Unloads m) old → UndoesItsLoad live m
 has_records agree s uses start old bs live m list order start_with_live froms from (xs, read, any) l found =
     let now : loaded_in old ≡ Some (entries_over bs live) = start_with_live.entries bs list in
     let same : xs ≡ entries_over bs live = same_list xs (entries_over bs live) (sym read ∙ now) in
@@ -137,7 +138,7 @@ has_records agree s uses start old bs live m list order start_with_live froms fr
     let distinct : are_distinct (names_of (entries_over bs live)) ≡ true = subst (λ (ys : List Entry). are_distinct (names_of ys) ≡ true) same_entries order.loaded.list.names in
     let p = same_live m l bs live distinct (subst (λ (ys : List Entry). list_any (is_entry_of m) ys ≡ true) same any) found in
     let f = live_from s m.name live l froms found in
-    unload_records agree s m l p.0 p.1 from f.0 f.1
+    ap undo_of (unload_records agree s m l p.0 p.1 from f.0 f.1)
 
 fitting : MovesPreserve → PlainFilesAgree → (uses : Text → VariableUse) (s : RequestContext) (start : Environment)
     → IsStart uses start → (ms : List Move) (live : List Module) (old new : Environment) → IsInOrder uses old
@@ -149,7 +150,7 @@ fitting step_law agree uses s start begin (Loads m ∷ ms) live old new order st
     (plains.0.0, fitting step_law agree uses s start begin ms (m ∷ live) mid new h.0.order h.0.start_with_live h.1 ((from.0, plains.0.1), froms) from.1 news.1 plains.1 reach)
 fitting step_law agree uses s start begin (Unloads m ∷ ms) live old new order start_with_live fit froms from news plains (fits, (mid, move, reach)) =
     let bs = entries_at start begin.order.loaded in
-    let records : HasLoadRecords live m = has_records agree s uses start old bs.0 live m bs.1 order start_with_live froms from.0 fits in
+    let records : UndoesItsLoad live m = has_records agree s uses start old bs.0 live m bs.1 order start_with_live froms from.0 fits in
     let u = undoes uses start old bs.0 live m bs.1 start_with_live news.0 records fits in
     let h = step_law uses start old mid live (Unloads m ∷ []) begin order start_with_live fit (u, tt) (fits, (mid, move, refl)) in
     (records, fitting step_law agree uses s start begin ms (without_live m.name live) mid new h.0.order h.0.start_with_live h.1 (without_from s m.name live froms) from.1 news.1 plains reach)

@@ -1,17 +1,23 @@
 -- What only reports leaves the environment, and moves nothing.
-use Rattle.std.proofs.Common.{◌≡◌, List, [], ◌∷◌, Result, Ok, Err, refl, subst}
+use Rattle.std.proofs.Common.{◌≡◌, List, [], ◌∷◌, map, Result, Ok, Err, refl, ap, ◌∙◌, subst}
 use Rattle.envvars.specs.Texts.{Text}
 use Rattle.envvars.specs.Environment.{Environment}
 use Rattle.filetree.specs.Relations.{Is, Then}
 use Rattle.modulefile.specs.Records.{Record}
 use Rattle.modulefile.specs.Effects as modes
 use Rattle.modulefile.specs.Effects.{Mode}
+use Rattle.lookup.specs.DefaultFileResults.{HasResult}
 use Rattle.search.specs.Found as search
+use Rattle.search.specs.Listed.{selected_of}
+use Rattle.search.proofs.OneListing.{one_listed}
+use Rattle.search.proofs.SelectedListing.{selected_listed}
 use Rattle.requests.specs.Reasons.{RequestReason}
 use Rattle.requests.specs.Requests.{RequestedAction, load, unload, switch, purge, list, avail, show, whatis}
 use Rattle.requests.specs.Steps.{RequestContext, Done, nothing_done, entries_of, ShowsName, shown_text, described_text}
 use Rattle.requests.specs.Steps.{Each, NeedsNames, ShowsNames, RequestStep}
-use Rattle.requests.specs.Laws.{Reports}
+use Rattle.requests.specs.Steps.{with_report, modulepath}
+use Rattle.requests.specs.Reports.{avail_text}
+use Rattle.requests.specs.Laws.{Reports, SelectionsReported}
 use Rattle.requests.proofs.Bound.{went_on}
 
 abbrev Still : Environment → Done → Type 0
@@ -48,6 +54,14 @@ stay_shown s mode text_of e (name ∷ names) =
     stay_then {First = Is (entries_of e)} {Rest = λ xs. Each (ShowsName s mode text_of) (name ∷ names) (nothing_done e)}
     e (λ xs h. stay_each e (ShowsName s mode text_of) (stay_show s mode text_of e) (name ∷ names) (nothing_done e)
     (refl, refl))
+
+pub selections_reported : SelectionsReported
+selections_reported s e texts listings d all (ls, some, g) =
+    let results = HasResult s.limits in
+    let one : ls ≡ map (selected_of texts) listings = one_listed results s.files s.listings texts (modulepath e) ls _ some
+    (selected_listed results s.files s.listings texts (modulepath e) listings all) in
+    let same : d ≡ with_report (nothing_done e) [] (avail_text ls) = cc in
+    same ∙ ap (λ x. with_report (nothing_done e) [] (avail_text x)) one
 
 pub reports_leave : (s : RequestContext) (e : Environment) (asked : RequestedAction) (d : Done) → Reports asked → RequestStep s e asked (Ok d) → Still e d
 reports_leave s e (load names) d r h = absurd r

@@ -13,7 +13,7 @@ use Rattle.reversal.specs.Live.{entries_over}
 use Rattle.reversal.specs.Starts.{IsInOrder, IsStart, IsStartWith}
 use Rattle.reversal.specs.Runs.{live_named, without_live, AreReversibleTogether, Undoes, AreReversible}
 use Rattle.reversal.specs.Laws.{MovesPreserve}
-use Rattle.requests.specs.Returning.{IsNew, AreNew, HasLoadRecords, AreReversibleBeside}
+use Rattle.requests.specs.Returning.{IsNew, AreNew, UndoesItsLoad, AreReversibleBeside}
 
 pub entries_read : (e : Environment) (o : AreLoadedInOrder e) → loaded_in e ≡ Some o.entries
 entries_read e o = subst (λ (x : Environment). loaded_in x ≡ Some o.entries) o.written (loaded_again e o.entries o.list)
@@ -52,12 +52,12 @@ pub same_list : (xs ys : List Entry) → Some xs ≡ Some ys → xs ≡ ys
 same_list xs ys e = cc
 
 pub undoes : (uses : Text → VariableUse) (start old : Environment) (bs : List Entry) (live : List Module) (m : Module)
-    → loaded_in start ≡ Some bs → IsStartWith uses start live old → IsNew start (Unloads m) → HasLoadRecords live m
+    → loaded_in start ≡ Some bs → IsStartWith uses start live old → IsNew start (Unloads m) → UndoesItsLoad live m
     → Fits (Unloads m) old → Undoes live m
 undoes uses start old bs live m list start_with_live new records (xs, read, any) =
     let same : xs ≡ entries_over bs live = same_list xs (entries_over bs live) (sym read ∙ start_with_live.entries bs list) in
     let l = live_among m bs live (new bs list) (subst (λ (ys : List Entry). list_any (is_entry_of m) ys ≡ true) same any) in
-    record { loaded = l.0; found = l.1; records = records l.0 l.1 }
+    record { loaded = l.0; found = l.1; alike = records l.0 l.1 }
 
 pub reversible : MovesPreserve → (uses : Text → VariableUse) (start : Environment) → IsStart uses start
     → (ms : List Move) (live : List Module) (old new : Environment) → IsInOrder uses old

@@ -10,9 +10,12 @@ use Rattle.reversal.specs.Starts.{IsInOrder, IsStart, IsStartWith}
 use Rattle.reversal.specs.Runs.{live_after, AreReversibleTogether}
 use Rattle.reversal.specs.Requests as moves
 use Rattle.reversal.specs.Laws.{Holds}
+use Rattle.lookup.specs.DefaultFileResults.{HasResult}
+use Rattle.search.specs.Listed.{Listing, Listed, selected_of}
 use Rattle.requests.specs.Reasons.{RequestReason}
 use Rattle.requests.specs.Requests.{RequestedAction, Request, load, unload, switch, purge, list, avail, show, whatis}
-use Rattle.requests.specs.Steps.{RequestContext, Done, RequestStep}
+use Rattle.requests.specs.Reports.{avail_text}
+use Rattle.requests.specs.Steps.{RequestContext, Done, RequestStep, nothing_done, with_report, modulepath}
 use Rattle.requests.specs.Sessions.{Response, Session, end_environment, outcome_of, session_moves, is_decided}
 use Rattle.requests.specs.Returning.{AreNew, AreReversibleBeside}
 use Rattle.requests.specs.PlainRuns.{ArePlain}
@@ -69,6 +72,14 @@ ReportsChangeNothing =
     (s : RequestContext) (e : Environment) (action : RequestedAction) (d : Done) → Reports action
     → RequestStep s e action (Ok d)
     → (d.env ≡ e) × (d.moves ≡ [])
+
+-- `avail` reports what its texts select of the listing of all modules.
+abbrev pub SelectionsReported : Type 0
+SelectionsReported =
+    (s : RequestContext) (e : Environment) (texts : List Text) (listings : List Listing) (d : Done)
+    → Listed (HasResult s.limits) s.files s.listings [] (modulepath e) listings
+    → RequestStep s e (avail texts) (Ok d)
+    → d ≡ with_report (nothing_done e) [] (avail_text (map (selected_of texts) listings))
 
 -- A session is a run of what its requests moved.
 abbrev pub SessionsRun : Type 0

@@ -14,5 +14,3 @@ pub mod PlainRuns
 pub mod JudgedRuns
 pub mod Laws
 pub mod Rows
--- for this crate's own contracts alone
-pub mod AvailRest

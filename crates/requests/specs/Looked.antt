@@ -70,7 +70,7 @@ RequestLooksAt s e (switch old new) at = SwitchLooksAt s (old_name old new) new 
 RequestLooksAt s e purge at = PurgeLooksAt s e at
 RequestLooksAt s e list at = ⊥
 RequestLooksAt s e (avail texts) at =
-    search.ListingLooksAt (HasResult s.limits) s.files s.listings (modulepath e) at
+    search.ListingLooksAt (HasResult s.limits) s.files s.listings texts (modulepath e) at
 RequestLooksAt s e (show names) at =
     EachLooksAt (ShowsName s modes.display shown_text) (ShowLooksAt s) names (nothing_done e) at
 RequestLooksAt s e (whatis names) at =

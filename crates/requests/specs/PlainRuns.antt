@@ -1,4 +1,4 @@
--- Runs of modules whose files are plain (own): that an unload has the records of its load is then no premise.
+-- Runs of modules whose files are plain (own): that an unload undoes what its load did is then no premise.
 use Rattle.std.specs.Prelude.{◌≡◌, false, List, [], ◌∷◌, Ok}
 use Rattle.envvars.specs.Texts.{Text}
 use Rattle.envvars.specs.Environment.{Environment}

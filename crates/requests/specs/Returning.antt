@@ -5,6 +5,7 @@ use Rattle.envvars.specs.Environment.{Environment}
 use Rattle.envloaded.specs.Loaded.{Entry, names_of, loaded_in}
 use Rattle.modulefile.specs.Moves.{Module, Move, Loads, Unloads}
 use Rattle.reversal.specs.VariableUses.{VariableUse}
+use Rattle.reversal.specs.Undone.{UndoAlike}
 use Rattle.reversal.specs.Runs.{live_named, without_live, IsReversibleAndApart}
 
 -- no module that is loaded at the start is unloaded
@@ -17,14 +18,14 @@ abbrev pub AreNew : Environment → List Move → Type 0
 AreNew start [] = Unit {0}
 AreNew start (m ∷ ms) = IsNew start m × AreNew start ms
 
--- the unloaded module has the records of the load that this undoes
-abbrev pub HasLoadRecords : List Module → Module → Type 0
-HasLoadRecords live m = (loaded : Module) → live_named m.name live ≡ Some loaded → m.records ≡ loaded.records
+-- the records of the unloaded module undo what those of its load undo
+abbrev pub UndoesItsLoad : List Module → Module → Type 0
+UndoesItsLoad live m = (loaded : Module) → live_named m.name live ≡ Some loaded → UndoAlike m.records loaded.records
 
--- Each load is of a module that is reversible and apart from the live ones, and each unload has the records of the load
--- that it undoes.
+-- Each load is of a module that is reversible and apart from the live ones, and the records of each unload undo what
+-- those of its load undo.
 abbrev pub AreReversibleBeside : (Text → VariableUse) → List Module → List Move → Type 0
 AreReversibleBeside uses live [] = Unit {0}
 AreReversibleBeside uses live (Loads m ∷ ms) = IsReversibleAndApart uses live m × AreReversibleBeside uses (m ∷ live) ms
-AreReversibleBeside uses live (Unloads m ∷ ms) = HasLoadRecords live m
+AreReversibleBeside uses live (Unloads m ∷ ms) = UndoesItsLoad live m
     × AreReversibleBeside uses (without_live m.name live) ms

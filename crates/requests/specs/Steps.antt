@@ -48,7 +48,7 @@ request_context_in limits shell files listings = record
 
 -- What a request has done so far: its moves and what they made of the environment, the messages of its files, and its
 -- report.
--- The type `Done` of modules has no environment: the call edits the variables that it is given.
+-- The type `RequestResults` of modules has no environment: the call edits the variables that it is given.
 pub record Done : Type 0 where
   pub env : Environment
   pub moves : List Move
@@ -232,11 +232,11 @@ ShowsNames s mode text_of e names = Is (entries_of e) >> (λ xs. Each (ShowsName
 abbrev pub ListsLoaded : Environment → Result Done RequestReason → Type 0
 ListsLoaded e = Is (entries_of e) >> (λ xs. Is (Ok (with_report (nothing_done e) [] (loaded_text (names_of xs)))))
 
--- the modules along MODULEPATH are reported, whatever is loaded
-abbrev pub ListsAll : RequestContext → Environment → List Text → Result Done RequestReason → Type 0
-ListsAll s e texts o =
-    (listings : List Listing) × Listed (HasResult s.limits) s.files s.listings (modulepath e) listings
-    × (o ≡ Ok (with_report (nothing_done e) [] (avail_text texts listings)))
+-- the modules along MODULEPATH that texts select are reported, whatever is loaded
+abbrev pub ListsAvailable : RequestContext → Environment → List Text → Result Done RequestReason → Type 0
+ListsAvailable s e texts o =
+    (listings : List Listing) × Listed (HasResult s.limits) s.files s.listings texts (modulepath e) listings
+    × (o ≡ Ok (with_report (nothing_done e) [] (avail_text listings)))
 
 -- The step of a request.
 abbrev pub RequestStep : RequestContext → Environment → RequestedAction → Result Done RequestReason → Type 0
@@ -245,6 +245,6 @@ RequestStep s e (unload names) = NeedsNames names (ChangesLoaded e (λ before. E
 RequestStep s e (switch old new) = ChangesLoaded e (λ before. Switches s old new)
 RequestStep s e purge = ChangesLoaded e (λ before. Each (UnloadsName s false) (reverse (names_of before)))
 RequestStep s e list = ListsLoaded e
-RequestStep s e (avail texts) = ListsAll s e texts
+RequestStep s e (avail texts) = ListsAvailable s e texts
 RequestStep s e (show names) = NeedsNames names (ShowsNames s modes.display shown_text e names)
 RequestStep s e (whatis names) = NeedsNames names (ShowsNames s modes.whatis described_text e names)

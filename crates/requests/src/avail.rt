@@ -1,40 +1,12 @@
 //! The report of `avail` (module(1)): the modules of each directory.
-ghost use Rattle.std.specs.Prelude.{◌≡◌, ◌++◌, map, codes, nat_eq, IfOk, OnOk, string_bytes};
-ghost use Rattle.std.specs.List.{list_any, starts_with};
+ghost use Rattle.std.specs.Prelude.{◌≡◌, ◌++◌, map, codes, flat_map, IfOk, OnOk, string_bytes};
 ghost use Rattle.search.specs.Listings.{listing_view};
 ghost use Rattle.search.specs.ListingEntries.{listing_entry_view};
 ghost use Rattle.modulefile.specs.Reports.{line_of};
-ghost use Rattle.requests.specs.Reports.{is_selected, module_line, selected_text, avail_text};
+ghost use Rattle.requests.specs.Reports.{module_line, modules_text, avail_text};
 
 use search::{DirectoryListing, ListingEntry};
 use std::alloc::{AllocError, Global};
-
-fn begins(name: &str, text: &str) -> bool
-    ensures { result ≡ starts_with nat_eq name.now text.now }
-{
-    name.as_bytes().starts_with(text.as_bytes())
-}
-
-fn begins_with_one(name: &str, texts: &[String]) -> bool
-    ensures { result ≡ list_any (λ text. starts_with nat_eq name.now text) (map string_bytes texts.now) }
-{
-    let mut rest = texts;
-    while let [text, after @ ..] = rest {
-        if begins(name, text) {
-            return true;
-        }
-        rest = after;
-    }
-    false
-}
-
-/// Whether a name is reported: it begins with one of the texts, or there are none.
-#[tactic(auto, using(crate::proofs::Selected::selected))]
-fn is_selected(texts: &[String], name: &str) -> bool
-    ensures { result ≡ is_selected (map string_bytes texts.now) name.now }
-{
-    texts.is_empty() || begins_with_one(name, texts)
-}
 
 /// Adds the line of a directory.
 fn push_directory(report: &mut String, dir: &str) -> Result<(), AllocError>
@@ -56,47 +28,40 @@ fn push_module(report: &mut String, listing_entry: &ListingEntry) -> Result<(), 
     report.push('\n')
 }
 
-/// Adds the lines of a directory, where a name of it is reported.
-fn push_listing(
-    report: &mut String,
-    texts: &[String],
-    listing: &DirectoryListing,
-) -> Result<(), AllocError>
+/// Adds the lines of modules.
+fn push_modules(report: &mut String, modules: &[ListingEntry]) -> Result<(), AllocError>
     ensures { OnOk result (string_bytes report.new
-        ≡ string_bytes report.old ++ selected_text (map string_bytes texts.now) (listing_view listing.now)) }
+        ≡ string_bytes report.old ++ flat_map module_line (map listing_entry_view modules.now)) }
 {
-    let mut is_directory_written = false;
-    let mut rest = listing.modules.as_slice();
-    while let [listing_entry, after @ ..] = rest {
-        if is_selected(texts, &listing_entry.name) {
-            if !is_directory_written {
-                push_directory(report, &listing.dir)?;
-                is_directory_written = true;
-            }
-            push_module(report, listing_entry)?;
-        }
-        rest = after;
+    for listing_entry in modules {
+        push_module(report, listing_entry)?;
     }
     Ok(())
 }
 
-/// The report of `avail`: for each directory of which a name is reported a line `DIR:` and its modules, one a line,
-/// with `(default)` after one that a default file names. Where texts are given, only names that begin with one of them.
+/// Adds the lines of a directory, where it has a module.
+#[tactic(auto, using(crate::proofs::AvailLemmas::no_text, crate::proofs::AvailLemmas::some_text))]
+fn push_listing(report: &mut String, listing: &DirectoryListing) -> Result<(), AllocError>
+    ensures { OnOk result (string_bytes report.new ≡ string_bytes report.old
+        ++ modules_text (string_bytes listing.now.dir) (map listing_entry_view listing.now.modules.items)) }
+{
+    if listing.modules.is_empty() {
+        return Ok(());
+    }
+    push_directory(report, &listing.dir)?;
+    push_modules(report, &listing.modules)
+}
+
+/// The report of `avail`: for each directory with a module a line `DIR:` and its modules, one a line, with `(default)`
+/// after one that a default file names.
 ///
 /// It fails for want of memory alone.
-pub fn avail_report(
-    alloc: Global,
-    texts: &[String],
-    listings: &[DirectoryListing],
-) -> Result<String, AllocError>
-    ensures { IfOk result (λ report.
-        string_bytes report ≡ avail_text (map string_bytes texts.now) (map listing_view listings.now)) }
+pub fn avail_report(alloc: Global, listings: &[DirectoryListing]) -> Result<String, AllocError>
+    ensures { IfOk result (λ report. string_bytes report ≡ avail_text (map listing_view listings.now)) }
 {
     let mut report = String::new(alloc);
-    let mut rest = listings;
-    while let [listing, after @ ..] = rest {
-        push_listing(&mut report, texts, listing)?;
-        rest = after;
+    for listing in listings {
+        push_listing(&mut report, listing)?;
     }
     Ok(report)
 }

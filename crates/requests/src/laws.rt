@@ -1,7 +1,7 @@
 //! Laws about requests, sessions and verdicts. Each is a function that does nothing: its contract is the law.
 ghost use Rattle.requests.specs.Laws.{OneOutcome, SomeOutcome, StepsReach, StepsAreTheirMoves, ReportsChangeNothing};
 ghost use Rattle.requests.specs.Laws.{SessionsRun, SessionsReach, OneSession, SessionsReturn, PlainSessionsReturn};
-ghost use Rattle.requests.specs.Laws.{CommandsReturn};
+ghost use Rattle.requests.specs.Laws.{CommandsReturn, SelectionsReported};
 ghost use Rattle.requests.specs.PlainRuns.{JudgedIsPlain};
 ghost use Rattle.requests.specs.JudgedRuns.{SomeVerdict, JudgedIsReversible, JudgedSessionsReturn};
 ghost use Rattle.requests.specs.Verdicts.{OneVerdict, PlainHolds};
@@ -28,9 +28,11 @@ pub fn some_outcome()
     lookup::some_result();
 }
 
-/// `list`, `avail`, `show` and `whatis` leave the environment as it is.
+/// `list`, `avail`, `show` and `whatis` leave the environment as it is. What `avail` reports for texts is what they select
+/// of the listing of all modules.
 pub fn reports()
-    ensures { ReportsChangeNothing }
+    ensures unchanged { ReportsChangeNothing }
+    ensures selections { SelectionsReported }
 {}
 
 /// A session is a run of what its requests moved: its moves take its first environment to its last. Where no request
@@ -54,7 +56,7 @@ pub fn session_returns()
     reversal::laws::steps();
 }
 
-/// The same for modules whose files are plain: that an unload has the records of its load is then no premise.
+/// The same for modules whose files are plain: that unloads undo what their loads did is then no premise.
 pub fn plain_session_returns()
     ensures { PlainSessionsReturn }
 {

@@ -6,6 +6,7 @@ ghost use Rattle.requests.specs.Reasons.{bad_arguments, unknown_subcommand, conf
 ghost use Rattle.requests.specs.Requests.{request_of, load, switch};
 ghost use Rattle.requests.specs.Conditions.{load_objection, end_objection};
 ghost use Rattle.requests.specs.Reports.{loaded_text, avail_text};
+ghost use Rattle.search.specs.Listed.{selected_of};
 ghost use Rattle.requests.specs.Rows.{k1, n1, gcc9, mpi1, versions};
 
 /// Which request the words of a command line make, or why none.
@@ -30,8 +31,8 @@ pub fn condition_rows()
 /// The bytes of the reports of `list` and `avail`.
 pub fn report_rows()
     ensures list { loaded_text (codes "foo/1.0" ∷ []) ≡ codes "Currently Loaded Modulefiles:\nfoo/1.0\n" }
-    ensures avail { avail_text [] ((codes "/m", []) ∷ (codes "/n", versions) ∷ [])
+    ensures avail { avail_text ((codes "/m", []) ∷ (codes "/n", versions) ∷ [])
         ≡ codes "/n:\nver/1.9(default)\nver/1.10\nver/1.10-rc\n" }
-    ensures selected { avail_text (codes "ver/1.1" ∷ []) ((codes "/n", versions) ∷ [])
+    ensures selected { avail_text (selected_of (codes "ver/1.1" ∷ []) (codes "/n", versions) ∷ [])
         ≡ codes "/n:\nver/1.10\nver/1.10-rc\n" }
 {}

@@ -103,11 +103,8 @@ pub fn show_report(alloc: Global, path: &str, records: &[Record]) -> Result<Stri
 {
     let mut report = String::from_str(alloc, path)?;
     report.push_str(":\n")?;
-    let mut rest = records;
-    while let [recorded, after @ ..] = rest {
-        let line = record_text(alloc, recorded)?;
-        push_line(&mut report, &line)?;
-        rest = after;
+    for recorded in records {
+        push_line(&mut report, &record_text(alloc, recorded)?)?;
     }
     Ok(report)
 }

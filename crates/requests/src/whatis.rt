@@ -26,10 +26,8 @@ pub fn whatis_report(alloc: Global, name: &str, records: &[Record]) -> Result<St
     ensures { IfOk result (λ t. string_bytes t ≡ whatis_text name.now (map record_view records.now)) }
 {
     let mut report = String::new(alloc);
-    let mut rest = records;
-    while let [recorded, after @ ..] = rest {
+    for recorded in records {
         push_description(&mut report, name, recorded)?;
-        rest = after;
     }
     Ok(report)
 }

@@ -1,10 +1,12 @@
 pub mod VersionNamedLemmas
 pub mod VersionLemmas
 pub mod NameLemmas
+pub mod SelectionLemmas
 pub mod PartLemmas
 pub mod UnderLemmas
 pub mod OneFound
 pub mod OneListing
+pub mod SelectedListing
 pub mod NamedLemmas
 pub mod StepLemmas
 pub mod LookLemmas

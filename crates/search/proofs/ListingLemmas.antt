@@ -20,7 +20,7 @@ use Rattle.modulename.proofs.OrderLemmas.{total, equal}
 use Rattle.filetree.specs.Agreement.{Files, Listings}
 use Rattle.search.specs.DefaultVersions.{DefaultFileResult}
 use Rattle.search.specs.Listed as listed
-use Rattle.search.specs.BelowFolder.{ReachesThrough, IsBelow, IsUnder}
+use Rattle.search.specs.BelowFolder.{ReachesThrough, IsSelectedBelow, IsUnder}
 use Rattle.search.specs.Listed.{IsNamed, IsListing, names_of, is_marked}
 use Rattle.search.proofs.VersionLemmas.{has, same}
 use Rattle.search.specs.Walks.{IsMarkRight, AreListingEntries}
@@ -87,28 +87,28 @@ kept_name v first sorted moved h =
     any_name v (dedup is_same_name sorted)
     ∙ list_any-from_Any (λ r. bytes_eq v (name_of r)) (dedup is_same_name sorted) (j, y, jlt, jat, (bytes_eq-Decides v (name_of y)).1 n)
 
-module _ (results : Text → Text → Option DefaultFileResult → Type 0) (files : Files) (folders : Listings) (dir : Text) where
+module _ (results : Text → Text → Option DefaultFileResult → Type 0) (files : Files) (folders : Listings) (texts : List Text) (dir : Text) where
   abbrev Right : listed.ListingEntry → Type 0
-  Right listing_entry = IsUnder files folders dir None listing_entry.0 × IsMarkRight results files folders dir listing_entry
+  Right listing_entry = IsUnder files folders texts dir None listing_entry.0 × IsMarkRight results files folders dir listing_entry
 
-  below_from : (v : Text) → IsUnder files folders dir None v → IsBelow files folders dir v
-  below_from v u = record { spelled = u.spelled; reaches = subst (λ r. ReachesThrough folders dir (parts r)) (sym u.joined) u.reaches; file = u.file }
+  below_from : (v : Text) → IsUnder files folders texts dir None v → IsSelectedBelow files folders texts dir v
+  below_from v u = (record { spelled = u.spelled; reaches = subst (λ r. ReachesThrough folders dir (parts r)) (sym u.joined) u.reaches; file = u.file }, u.selected)
 
-  under_from : (v : Text) → IsBelow files folders dir v → IsUnder files folders dir None v
-  under_from v b = record { rest = v; joined = refl; spelled = b.spelled; reaches = b.reaches; file = b.file }
+  under_from : (v : Text) → IsSelectedBelow files folders texts dir v → IsUnder files folders texts dir None v
+  under_from v b = record { rest = v; joined = refl; spelled = b.0.spelled; reaches = b.0.reaches; file = b.0.file; selected = b.1 }
 
-  named_under : (v : Text) (listing_entries : List listed.ListingEntry) → AllByRecursion Right listing_entries → has v (names_of listing_entries) ≡ true → IsUnder files folders dir None v
+  named_under : (v : Text) (listing_entries : List listed.ListingEntry) → AllByRecursion Right listing_entries → has v (names_of listing_entries) ≡ true → IsUnder files folders texts dir None v
   named_under v [] a h = absurd (cc)
   named_under v (r ∷ listing_entries) a h =
-      ⊎_elim (λ q. subst (IsUnder files folders dir None) (sym (same v r.0 q)) a.0.0) (λ q. named_under v listing_entries a.1 q) (or_cases (bytes_eq v r.0) (has v (names_of listing_entries)) h)
+      ⊎_elim (λ q. subst (IsUnder files folders texts dir None) (sym (same v r.0 q)) a.0.0) (λ q. named_under v listing_entries a.1 q) (or_cases (bytes_eq v r.0) (has v (names_of listing_entries)) h)
 
   marked_named : (v : Text) (listing_entries : List listed.ListingEntry) → AllByRecursion Right listing_entries
-      → is_marked v listing_entries ≡ true → IsUnder files folders dir None v × IsNamed results files folders dir v
+      → is_marked v listing_entries ≡ true → IsUnder files folders texts dir None v × IsNamed results files folders dir v
   marked_named v [] a h = absurd (cc)
   marked_named v (r ∷ listing_entries) a h =
       ⊎_elim (λ q. let p = and_parts (bytes_eq v r.0) r.1 q in
       let e : r.0 ≡ v = sym (same v r.0 p.0) in
-      (subst (IsUnder files folders dir None) e a.0.0, subst (IsNamed results files folders dir) e (a.0.1.0 p.1)))
+      (subst (IsUnder files folders texts dir None) e a.0.0, subst (IsNamed results files folders dir) e (a.0.1.0 p.1)))
       (λ q. marked_named v listing_entries a.1 q) (or_cases (bytes_eq v r.0 && r.1) (is_marked v listing_entries) h)
 
   named_marked : (v : Text) (listing_entries : List listed.ListingEntry) → AllByRecursion Right listing_entries
@@ -129,17 +129,17 @@ module _ (results : Text → Text → Option DefaultFileResult → Type 0) (file
 
   pub listing_is : (first sorted last : List ListingEntry) (more : List listed.ListingEntry)
       → map listing_entry_view first ≡ [] ++ more → AreListingEntries results files folders dir
-      (IsUnder files folders dir None) more
-      → IsPermutation first sorted → IsSortedBy goes_before sorted → last ≡ dedup is_same_name sorted → IsListing results files folders dir (map listing_entry_view last)
-  listing_is first sorted last more made listing_entries moved up kept = subst (λ rs. IsListing results files folders dir (map listing_entry_view rs)) (sym kept) listing
+      (IsUnder files folders texts dir None) more
+      → IsPermutation first sorted → IsSortedBy goes_before sorted → last ≡ dedup is_same_name sorted → IsListing results files folders texts dir (map listing_entry_view last)
+  listing_is first sorted last more made listing_entries moved up kept = subst (λ rs. IsListing results files folders texts dir (map listing_entry_view rs)) (sym kept) listing
     where
       sound : AllByRecursion Right (map listing_entry_view (dedup is_same_name sorted))
       sound = sound_kept first sorted moved (subst (AllByRecursion Right) (sym made) listing_entries.sound)
 
-      complete : (v : Text) → IsBelow files folders dir v → has v (names_of (map listing_entry_view (dedup is_same_name sorted))) ≡ true
+      complete : (v : Text) → IsSelectedBelow files folders texts dir v → has v (names_of (map listing_entry_view (dedup is_same_name sorted))) ≡ true
       complete v b = kept_name v first sorted moved (ap (λ rs. has v (names_of rs)) made ∙ listing_entries.complete v (under_from v b))
 
-      listing : IsListing results files folders dir (map listing_entry_view (dedup is_same_name sorted))
+      listing : IsListing results files folders texts dir (map listing_entry_view (dedup is_same_name sorted))
       listing = record {
         order = strict_names (dedup is_same_name sorted) (IsStrictlySortedBy-dedup {R = row_order} (on_total name_of total) ties sorted up);
         names = λ v. (λ h. below_from v (named_under v (map listing_entry_view (dedup is_same_name sorted)) sound h), λ b. complete v b);

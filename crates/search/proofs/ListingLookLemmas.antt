@@ -3,7 +3,7 @@ use Rattle.std.proofs.Common.{◌≡◌, ℕ, Bool, true, false, nat_eq, List, [
 use Rattle.std.proofs.Common.{None, refl, sym, ap, ◌∙◌, subst, inl, inr}
 use Rattle.std.specs.Prelude.{bytes_eq}
 use Rattle.std.specs.List.{join_with_byte}
-use Rattle.std.proofs.lemmas.Bool.{or_left, or_right}
+use Rattle.std.proofs.lemmas.Bool.{or_left, or_right, and_parts}
 use Rattle.std.proofs.lemmas.List.Splits.{join_with_byte-slice_split}
 use Rattle.std.proofs.lemmas.Slice.Eq.{bytes_eq-Decides}
 use Rattle.modulename.specs.ModuleName.{Text, slash, parts, is_module_name}
@@ -12,8 +12,9 @@ use Rattle.filetree.specs.Modulefiles.{path_of}
 use Rattle.search.specs.Single.{is_single}
 use Rattle.search.specs.DefaultVersions.{DefaultFileResult}
 use Rattle.search.specs.Candidates.{HasEntry}
-use Rattle.search.specs.BelowFolder.{ReachesThrough, IsBelow, folder_path, name_below, names_in, is_module_below}
-use Rattle.search.specs.BelowFolder.{LooksAmong}
+use Rattle.search.specs.Selections.{is_selected}
+use Rattle.search.specs.BelowFolder.{ReachesThrough, IsSelectedBelow, folder_path, name_below, names_in, is_module_below}
+use Rattle.search.specs.BelowFolder.{is_selected_module, LooksAmong, AreAmong}
 use Rattle.search.specs.Looked.{IsReached}
 use Rattle.search.proofs.VersionLemmas.{has, in_filter}
 use Rattle.search.specs.Walks.{LooksForDefault, IsFolderOf, LooksFromFolder}
@@ -42,45 +43,49 @@ reaches_further : (folders : Listings) (path : Text) (ps : List Text) (e : Text)
 reaches_further folders path [] e l h = (h, tt)
 reaches_further folders path (p ∷ ps) e l h = (l.0, reaches_further folders (path_of path p) ps e l.1 h)
 
-entry_reached : (folders : Listings) (dir : Text) (prefix : Option Text) (e : Text) → IsFolderOf folders dir prefix → HasEntry folders (folder_path dir prefix) e → is_single e ≡ true
+entry_reached : (folders : Listings) (texts : List Text) (dir : Text) (prefix : Option Text) (e : Text) → IsFolderOf folders texts dir prefix → HasEntry folders (folder_path dir prefix) e → is_single e ≡ true
     → is_module_name (name_below prefix e) ≡ true → IsReached folders dir (name_below prefix e)
-entry_reached folders dir None e folder h s spelled = record { spelled = spelled; reaches = subst (ReachesThrough folders dir) (sym (parts-single e s)) (h, tt) }
-entry_reached folders dir (Some f) e folder h s spelled = record {
+entry_reached folders texts dir None e folder h s spelled = record { spelled = spelled; reaches = subst (ReachesThrough folders dir) (sym (parts-single e s)) (h, tt) }
+entry_reached folders texts dir (Some f) e folder h s spelled = record {
   spelled = spelled;
   reaches = subst (ReachesThrough folders dir) (sym (parts-path f e ∙ ap (λ x. parts f ++ x) (parts-single e s)))
-      (reaches_further folders dir (parts f) e folder.reaches (subst (λ p. HasEntry folders p e) (sym (walked_parts dir f)) h));
+      (reaches_further folders dir (parts f) e folder.0.reaches (subst (λ p. HasEntry folders p e) (sym (walked_parts dir f)) h));
 }
 
--- the names that are reached by the entries of a folder
-pub name_reached : (folders : Listings) (dir : Text) (prefix : Option Text) (entries : List Text) → folders (folder_path dir prefix) ≡ Some entries
-    → (n : Text) → has n (names_in prefix entries) ≡ true → IsFolderOf folders dir prefix → IsReached folders dir n
-name_reached folders dir prefix entries listed n h folder =
-    let r = name_from prefix entries n h in
-    subst (IsReached folders dir) (sym r.1) (entry_reached folders dir prefix r.0 folder (entries, listed, r.2) r.3 (ap is_module_name (sym r.1) ∙ r.4))
+-- the names that are reached by the entries of a folder, and sought
+pub name_reached : (folders : Listings) (texts : List Text) (dir : Text) (prefix : Option Text) (entries : List Text) → folders (folder_path dir prefix) ≡ Some entries
+    → (n : Text) → has n (names_in texts prefix entries) ≡ true → IsFolderOf folders texts dir prefix → IsFolderOf folders texts dir (Some n)
+name_reached folders texts dir prefix entries listed n h folder =
+    let r = name_from texts prefix entries n h in (
+      subst (IsReached folders dir) (sym r.1) (entry_reached folders texts dir prefix r.0 folder (entries, listed, r.2) r.3 (ap is_module_name (sym r.1) ∙ r.4)),
+      r.5,
+    )
 
-module _ (results : Text → Text → Option DefaultFileResult → Type 0) (files : Files) (folders : Listings) (dir : Text) where
-  pub looks_at_folder : (prefix : Option Text) (at : Text) → at ≡ folder_path dir prefix → LooksFromFolder results files folders dir prefix at
+module _ (results : Text → Text → Option DefaultFileResult → Type 0) (files : Files) (folders : Listings) (texts : List Text) (dir : Text) where
+  pub looks_at_folder : (prefix : Option Text) (at : Text) → at ≡ folder_path dir prefix → LooksFromFolder results files folders texts dir prefix at
   looks_at_folder None at e = λ folder. inl e
-  looks_at_folder (Some f) at e = λ folder. inr (inl (f, folder, e))
+  looks_at_folder (Some f) at e = λ folder. inr (inl (f, folder.0, folder.1, e))
 
-  module _ (prefix : Option Text) (entries : List Text) (listed : folders (folder_path dir prefix) ≡ Some entries) (names : List Text) (named : names ≡ names_in prefix entries) where
-    pub looks_among : (at : Text) → LooksAmong dir names at → LooksFromFolder results files folders dir prefix at
-    looks_among at (n, h, e) = λ folder. inr (inl (n, name_reached folders dir prefix entries listed n (ap (has n) (sym named) ∙ h) folder, e))
+  module _ (prefix : Option Text) (entries : List Text) (listed : folders (folder_path dir prefix) ≡ Some entries) (names : List Text) (named : AreAmong names (names_in texts prefix entries)) where
+    pub looks_among : (at : Text) → LooksAmong dir names at → LooksFromFolder results files folders texts dir prefix at
+    looks_among at (n, h, e) = λ folder.
+        let here = name_reached folders texts dir prefix entries listed n (named n h) folder in inr (inl (n, here.0, here.1, e))
 
-    pub looks_inside : (n : Text) → has n names ≡ true → (at : Text) → LooksFromFolder results files folders dir (Some n) at → LooksFromFolder results files folders dir prefix at
-    looks_inside n h at l = λ folder. l (name_reached folders dir prefix entries listed n (ap (has n) (sym named) ∙ h) folder)
+    pub looks_inside : (n : Text) → has n names ≡ true → (at : Text) → LooksFromFolder results files folders texts dir (Some n) at → LooksFromFolder results files folders texts dir prefix at
+    looks_inside n h at l = λ folder. l (name_reached folders texts dir prefix entries listed n (named n h) folder)
 
-  pub looks_at_default : (prefix : Option Text) (entries : List Text) → folders (folder_path dir prefix) ≡ Some entries → (names modules : List Text) → names ≡ names_in prefix entries
-      → modules ≡ filter (is_module_below files dir) names → (modules ≡ [] → ⊥) → (at : Text)
-      → LooksForDefault results files folders dir prefix at → LooksFromFolder results files folders dir prefix at
+  pub looks_at_default : (prefix : Option Text) (entries : List Text) → folders (folder_path dir prefix) ≡ Some entries → (names modules : List Text) → AreAmong names (names_in texts prefix entries)
+      → modules ≡ filter (is_selected_module files texts dir) names → (modules ≡ [] → ⊥) → (at : Text)
+      → LooksForDefault results files folders dir prefix at → LooksFromFolder results files folders texts dir prefix at
   looks_at_default None entries listed names modules named made some at l = absurd l
   looks_at_default (Some f) entries listed names [] named made some at l = absurd (some refl)
   looks_at_default (Some f) entries listed names (m ∷ ms) named made some at l = λ folder.
-      let p = in_filter (is_module_below files dir) m names (ap (has m) (sym made) ∙ or_left (bytes_eq m m) (has m ms) ((bytes_eq-Decides m m).1 refl)) in
-      let h = ap (has m) (sym named) ∙ p.0 in
-      let r = name_from (Some f) entries m h in
-      let here = name_reached folders dir (Some f) entries listed m h folder in
-      inr (inr (f, (r.0, r.3, subst (IsBelow files folders dir) r.1 (record { spelled = here.spelled; reaches = here.reaches; file = p.1 })), l))
+      let p = in_filter (is_selected_module files texts dir) m names (ap (has m) (sym made) ∙ or_left (bytes_eq m m) (has m ms) ((bytes_eq-Decides m m).1 refl)) in
+      let b = and_parts (is_selected texts m) (is_module_below files dir m) p.1 in
+      let h = named m p.0 in
+      let r = name_from texts (Some f) entries m h in
+      let here = (name_reached folders texts dir (Some f) entries listed m h folder).0 in
+      inr (inr (f, (r.0, r.3, subst (IsSelectedBelow files folders texts dir) r.1 (record { spelled = here.spelled; reaches = here.reaches; file = b.1 }, b.0)), l))
 
 -- the first of some texts, and those after it
 module _ (first : Text) (after rest : List Text) (split : rest ≡ first ∷ after) where

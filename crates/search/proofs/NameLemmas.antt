@@ -1,13 +1,15 @@
 -- Names in lists of names, one name more.
 use Rattle.std.proofs.Common.{◌≡◌, ◌⊎◌, Bool, true, false, List, [], ◌∷◌, ◌++◌, None, refl, sym, ap, ◌∙◌, inl, inr}
-use Rattle.std.proofs.Common.{⊎_elim, append-nil, append_assoc, filter}
+use Rattle.std.proofs.Common.{⊎_elim, append-nil, append_assoc, filter, map, string_bytes, String, Global}
 use Rattle.std.specs.Prelude.{bytes_eq, if◌then◌else◌}
+use Rattle.std.specs.List.Sorted.{IsPermutation}
+use Rattle.std.proofs.lemmas.List.Sorted.{IsPermutation-map, IsPermutation-sym}
 use Rattle.std.proofs.lemmas.Bool.{cases_Bool, or_cases, or_left, or_right}
 use Rattle.modulename.specs.ModuleName.{Text}
 use Rattle.filetree.specs.Agreement.{Listings}
 use Rattle.filetree.specs.Modulefiles.{path_of}
 use Rattle.search.specs.BelowFolder.{AreAmong, HasAllFolders}
-use Rattle.search.proofs.VersionLemmas.{has, same, itself}
+use Rattle.search.proofs.VersionLemmas.{has, has_permutation, same, itself}
 
 -- what some texts have, more texts have
 pub has_left : (v : Text) (xs ys : List Text) → has v xs ≡ true → has v (xs ++ ys) ≡ true
@@ -31,6 +33,14 @@ has_last v n (x ∷ xs) h =
 
 last_is : (v n : Text) (xs : List Text) → v ≡ n → has v (xs ++ n ∷ []) ≡ true
 last_is v n xs q = ap (λ x. has x (xs ++ n ∷ [])) q ∙ has_middle n xs []
+
+-- the names are the same in another order
+pub sorted_among : (first sorted : List (String Global)) (all : List Text) → IsPermutation first sorted → map string_bytes first ≡ all → AreAmong (map string_bytes sorted) all × AreAmong all (map string_bytes sorted)
+sorted_among first sorted all moved same =
+    let texts = IsPermutation-map (λ (s : String Global). string_bytes s) first sorted moved in (
+      λ v h. ap (has v) (sym same) ∙ has_permutation v (map string_bytes sorted) (map string_bytes first) (IsPermutation-sym (map string_bytes first) (map string_bytes sorted) texts) h,
+      λ v h. has_permutation v (map string_bytes first) (map string_bytes sorted) texts (ap (has v) same ∙ h),
+    )
 
 -- one name more, which is added where the test is true
 pub more_among : (test : Bool) (some all more : List Text) (n : Text) → more ≡ some ++ (if test then n ∷ [] else []) → AreAmong some all → AreAmong more (all ++ n ∷ [])

@@ -85,7 +85,7 @@ rest_mark n b c rs qs s m v h =
     (marked_has v rs h)))))
     (λ e. e) (or_cases (bytes_eq v n && c) (is_marked v qs) (m v (or_right (bytes_eq v n && b) (is_marked v rs) h)))
 
-alike : (b c : Bool) → (b ≡ true → c ≡ true) → (c ≡ true → b ≡ true) → b ≡ c
+pub alike : (b c : Bool) → (b ≡ true → c ≡ true) → (c ≡ true → b ≡ true) → b ≡ c
 alike true c f g = sym (f refl)
 alike false true f g = g refl
 alike false false f g = refl
@@ -106,28 +106,28 @@ one_rows ((n, b) ∷ rs) ((k, c) ∷ qs) s t e m =
     ap (λ z. (z, b) ∷ rs) h ∙ (ap (λ z. (k, z) ∷ rs) f ∙ ap (λ z. (k, c) ∷ z) r)
 
 one_listing : (results : Text → Text → Option DefaultFileResult → Type 0) (files : Files) (listings : Listings)
-    (dir : Text) (rs qs : List ListingEntry) → IsListing results files listings dir rs
-    → IsListing results files listings dir qs → rs ≡ qs
-one_listing results files listings dir rs qs h k =
+    (texts : List Text) (dir : Text) (rs qs : List ListingEntry) → IsListing results files listings texts dir rs
+    → IsListing results files listings texts dir qs → rs ≡ qs
+one_listing results files listings texts dir rs qs h k =
     one_rows rs qs h.order k.order
     (one_names (names_of rs) (names_of qs) h.order k.order (λ v. (λ e. (k.names v).1 ((h.names v).0 e), λ e. (h.names v).1 ((k.names v).0 e))))
     (λ v. (λ e. (k.marks v).1 ((h.marks v).0 e), λ e. (h.marks v).1 ((k.marks v).0 e)))
 
 one_listings : (results : Text → Text → Option DefaultFileResult → Type 0) (files : Files) (listings : Listings)
-    (dirs : List Text) (ls ks : List Listing) → AreListings results files listings dirs ls
-    → AreListings results files listings dirs ks → ls ≡ ks
-one_listings results files listings [] [] [] h k = refl
-one_listings results files listings [] [] (y ∷ ys) h k = absurd k
-one_listings results files listings [] (x ∷ xs) ks h k = absurd h
-one_listings results files listings (dir ∷ dirs) [] ks h k = absurd h
-one_listings results files listings (dir ∷ dirs) (x ∷ xs) [] h k = absurd k
-one_listings results files listings (dir ∷ dirs) ((d, rs) ∷ xs) ((c, qs) ∷ ys) h k =
+    (texts dirs : List Text) (ls ks : List Listing) → AreListings results files listings texts dirs ls
+    → AreListings results files listings texts dirs ks → ls ≡ ks
+one_listings results files listings texts [] [] [] h k = refl
+one_listings results files listings texts [] [] (y ∷ ys) h k = absurd k
+one_listings results files listings texts [] (x ∷ xs) ks h k = absurd h
+one_listings results files listings texts (dir ∷ dirs) [] ks h k = absurd h
+one_listings results files listings texts (dir ∷ dirs) (x ∷ xs) [] h k = absurd k
+one_listings results files listings texts (dir ∷ dirs) ((d, rs) ∷ xs) ((c, qs) ∷ ys) h k =
     let e : d ≡ c = h.0 ∙ sym k.0 in
-    let r : rs ≡ qs = one_listing results files listings dir rs qs h.1 k.1 in
-    let m : xs ≡ ys = one_listings results files listings dirs xs ys h.2 k.2 in
+    let r : rs ≡ qs = one_listing results files listings texts dir rs qs h.1 k.1 in
+    let m : xs ≡ ys = one_listings results files listings texts dirs xs ys h.2 k.2 in
     ap (λ z. (z, rs) ∷ xs) e ∙ (ap (λ z. (c, z) ∷ xs) r ∙ ap (λ z. (c, qs) ∷ z) m)
 
 pub one_listed : (results : Text → Text → Option DefaultFileResult → Type 0) (files : Files) (listings : Listings)
-    (modulepath : Text) (ls ks : List Listing) → Listed results files listings modulepath ls
-    → Listed results files listings modulepath ks → ls ≡ ks
-one_listed results files listings modulepath ls ks h k = one_listings results files listings (directories modulepath) ls ks h k
+    (texts : List Text) (modulepath : Text) (ls ks : List Listing) → Listed results files listings texts modulepath ls
+    → Listed results files listings texts modulepath ks → ls ≡ ks
+one_listed results files listings texts modulepath ls ks h k = one_listings results files listings texts (directories modulepath) ls ks h k

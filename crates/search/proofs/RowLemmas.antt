@@ -8,7 +8,7 @@ use Rattle.filetree.specs.Agreement.{Files, Listings}
 use Rattle.search.specs.DefaultVersions.{DefaultFileResult}
 use Rattle.search.specs.Listed.{ListingEntry, names_of}
 use Rattle.search.proofs.VersionLemmas.{has, in_filter, filter_has, itself}
-use Rattle.search.specs.BelowFolder.{is_module_below}
+use Rattle.search.specs.BelowFolder.{is_selected_module}
 use Rattle.search.proofs.NameLemmas.{has_left, has_right}
 use Rattle.search.specs.Walks.{IsMarkRight, AreEntriesOfFiles, AreListingEntries}
 
@@ -57,10 +57,10 @@ module _ (results : Text → Text → Option DefaultFileResult → Type 0) (file
         ∙ ⊎_elim (λ q. has_left v (names_of listing_entries) (names_of more) (a.complete v q)) (λ q. has_right v (names_of listing_entries) (names_of more) (b.complete v q)) (either v u);
   }
 
-  pub rows_of_files : (names : List Text) (listing_entries : List ListingEntry) → AreEntriesOfFiles results files folders dir names listing_entries
-      → AreListingEntries results files folders dir (λ v. (has v names ≡ true) × (is_module_below files dir v ≡ true)) listing_entries
-  rows_of_files names listing_entries a = record {
-    sound = all_named (λ v. (has v names ≡ true) × (is_module_below files dir v ≡ true)) (IsMarkRight results files folders dir) listing_entries
-        (λ v h. in_filter (is_module_below files dir) v names (ap (has v) (sym a.named) ∙ h)) a.marks;
-    complete = λ v u. ap (has v) a.named ∙ filter_has (is_module_below files dir) v names u.0 u.1;
+  pub rows_of_files : (texts names : List Text) (listing_entries : List ListingEntry) → AreEntriesOfFiles results files folders texts dir names listing_entries
+      → AreListingEntries results files folders dir (λ v. (has v names ≡ true) × (is_selected_module files texts dir v ≡ true)) listing_entries
+  rows_of_files texts names listing_entries a = record {
+    sound = all_named (λ v. (has v names ≡ true) × (is_selected_module files texts dir v ≡ true)) (IsMarkRight results files folders dir) listing_entries
+        (λ v h. in_filter (is_selected_module files texts dir) v names (ap (has v) (sym a.named) ∙ h)) a.marks;
+    complete = λ v u. ap (has v) a.named ∙ filter_has (is_selected_module files texts dir) v names u.0 u.1;
   }

@@ -1,6 +1,7 @@
--- Names below directories, versions, candidates and default files.
+-- Names below directories, those that are selected, versions, candidates and default files.
 pub mod Single
 pub mod Candidates
+pub mod Selections
 pub mod BelowFolder
 pub mod DefaultVersions
 -- How the type of the code shows the result of an evaluation.

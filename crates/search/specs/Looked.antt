@@ -1,4 +1,4 @@
--- The paths that the search for a module and the listing of all modules look at: those of the files and directories
+-- The paths that the search for a module and the listing of modules look at: those of the files and directories
 -- that they ask the tree for (module(1), modulefile(5)). A failure of the device at another path can't end them.
 use Rattle.std.specs.Prelude.{◌≡◌, ◌⊎◌, true, List, [], ◌∷◌, bytes_eq, codes, Option, Some, None, Ok, Err}
 use Rattle.std.specs.List.{list_any}
@@ -11,7 +11,8 @@ use Rattle.search.specs.DefaultVersions.{DefaultFileResult, VersionIn, by_comman
 use Rattle.search.specs.DefaultFiles.{Names}
 use Rattle.search.specs.Candidates.{IsModuleAt, IsCandidate, HasCandidates}
 use Rattle.search.specs.Found.{IsSomeCandidate, NamedDefault, default_file}
-use Rattle.search.specs.BelowFolder.{ReachesThrough, IsBelow}
+use Rattle.search.specs.Selections.{is_sought}
+use Rattle.search.specs.BelowFolder.{ReachesThrough, IsSelectedBelow}
 pub use Rattle.search.specs.Candidates.{IsVersionIn, LooksAtVersion, LooksForGreatest}
 
 -- the path of a default file, and that of the file of the version that it names
@@ -84,21 +85,24 @@ pub record IsReached (listings : Listings) (dir name : Text) : Type 0 where
   pub spelled : is_module_name name ≡ true
   pub reaches : ReachesThrough listings dir (parts name)
 
--- some module stands in the folder itself
-abbrev pub HasModule : Files → Listings → Text → Text → Type 0
-HasModule files listings dir folder =
-    (v : Text) × (is_single v ≡ true) × IsBelow files listings dir (path_of folder v)
+-- some selected module stands in the folder itself
+abbrev pub HasSelected : Files → Listings → List Text → Text → Text → Type 0
+HasSelected files listings texts dir folder =
+    (v : Text) × (is_single v ≡ true) × IsSelectedBelow files listings texts dir (path_of folder v)
 
--- the paths that are looked at for the listing of a directory: that of the directory, those of the names that are
--- reached from it, and those for the defaults of folders in which a module stands
-abbrev pub LooksForListing : (Text → Text → Option DefaultFileResult → Type 0) → Files → Listings → Text → Text → Type 0
-LooksForListing results files listings dir at =
+-- the paths that are looked at for the listing of a directory: that of the directory, those of the sought names that
+-- are reached from it, and those for the defaults of folders in which a selected module stands
+abbrev pub LooksForListing : (Text → Text → Option DefaultFileResult → Type 0) → Files → Listings → List Text → Text
+    → Text → Type 0
+LooksForListing results files listings texts dir at =
     (at ≡ dir)
-    ⊎ (((name : Text) × IsReached listings dir name × (at ≡ path_of dir name))
-    ⊎ ((folder : Text) × HasModule files listings dir folder × LooksForNamed results files listings dir folder at))
+    ⊎ (((name : Text) × IsReached listings dir name × (is_sought texts name ≡ true) × (at ≡ path_of dir name))
+    ⊎ ((folder : Text) × HasSelected files listings texts dir folder
+    × LooksForNamed results files listings dir folder at))
 
 -- The listing of a MODULEPATH looks at this path.
-abbrev pub ListingLooksAt : (Text → Text → Option DefaultFileResult → Type 0) → Files → Listings → Text → Text → Type 0
-ListingLooksAt results files listings modulepath at =
+abbrev pub ListingLooksAt : (Text → Text → Option DefaultFileResult → Type 0) → Files → Listings → List Text → Text
+    → Text → Type 0
+ListingLooksAt results files listings texts modulepath at =
     (dir : Text) × (list_any (bytes_eq dir) (directories modulepath) ≡ true)
-    × LooksForListing results files listings dir at
+    × LooksForListing results files listings texts dir at

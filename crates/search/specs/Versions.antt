@@ -1,5 +1,5 @@
--- The versions in the folder of a name, and the search among them from the greatest down. For the contracts of this
--- crate and of search.
+-- The versions in the folder of a name, and the search among them from the greatest down. For the contracts of private
+-- functions.
 use Rattle.std.specs.Prelude.{◌≡◌, ◌⊎◌, Bool, false, ◌&&◌, List, [], ◌∷◌, Option, Some, None}
 use Rattle.std.specs.Ordering.{is_lt}
 use Rattle.modulename.specs.ModuleName.{Text, is_module_name}

@@ -6,7 +6,8 @@ use Rattle.modulename.specs.ModuleName.{Text}
 use Rattle.filetree.specs.Agreement.{Files, Listings}
 use Rattle.search.specs.Single.{is_single}
 use Rattle.search.specs.DefaultVersions.{DefaultFileResult}
-use Rattle.search.specs.BelowFolder.{name_below, is_module_below}
+use Rattle.search.specs.Selections.{is_sought}
+use Rattle.search.specs.BelowFolder.{name_below, is_selected_module}
 use Rattle.search.specs.Listed.{IsNamed, ListingEntry, names_of}
 use Rattle.search.specs.Looked.{IsReached, LooksForNamed, LooksForListing}
 use Rattle.search.specs.Marks.{is_marked_by}
@@ -25,11 +26,11 @@ IsDefaultOf results files folders dir prefix default = (entry : Text) → is_sin
     → (is_marked_by default (name_below prefix entry) ≡ true) ↔ IsNamed results files folders dir
     (name_below prefix entry)
 
--- those of these names that are modules, with their marks
+-- those of these names that are selected modules, with their marks
 pub record AreEntriesOfFiles (results : Text → Text → Option DefaultFileResult → Type 0) (files : Files)
-    (folders : Listings) (dir : Text)
+    (folders : Listings) (texts : List Text) (dir : Text)
     (names : List Text) (listing_entries : List ListingEntry) : Type 0 where
-  pub named : names_of listing_entries ≡ filter (is_module_below files dir) names
+  pub named : names_of listing_entries ≡ filter (is_selected_module files texts dir) names
   pub marks : AllByRecursion (IsMarkRight results files folders dir) listing_entries
 
 -- the modules whose names have the property, with their marks: no other is there, and none is missing
@@ -46,13 +47,13 @@ abbrev pub LooksForDefault : (Text → Text → Option DefaultFileResult → Typ
 LooksForDefault results files folders dir None at = ⊥
 LooksForDefault results files folders dir (Some prefix) at = LooksForNamed results files folders dir prefix at
 
--- the directory itself, or a folder that is reached from it by entries
-abbrev pub IsFolderOf : Listings → Text → Option Text → Type 0
-IsFolderOf folders dir None = Unit {0}
-IsFolderOf folders dir (Some prefix) = IsReached folders dir prefix
+-- the directory itself, or a sought folder that is reached from it by entries
+abbrev pub IsFolderOf : Listings → List Text → Text → Option Text → Type 0
+IsFolderOf folders texts dir None = Unit {0}
+IsFolderOf folders texts dir (Some prefix) = IsReached folders dir prefix × (is_sought texts prefix ≡ true)
 
 -- a path that the listing of such a folder looks at
-abbrev pub LooksFromFolder : (Text → Text → Option DefaultFileResult → Type 0) → Files → Listings → Text
+abbrev pub LooksFromFolder : (Text → Text → Option DefaultFileResult → Type 0) → Files → Listings → List Text → Text
     → Option Text → Text → Type 0
-LooksFromFolder results files folders dir prefix at = IsFolderOf folders dir prefix
-    → LooksForListing results files folders dir at
+LooksFromFolder results files folders texts dir prefix at = IsFolderOf folders texts dir prefix
+    → LooksForListing results files folders texts dir at

@@ -1,11 +1,11 @@
 //! Laws of default files, of the search and of listings. The functions do nothing; their contracts are the theorems.
-ghost use Rattle.std.specs.Prelude.{◌≡◌, [], ◌∷◌, codes, Some, None, List, Result};
+ghost use Rattle.std.specs.Prelude.{◌≡◌, [], ◌∷◌, codes, map, Some, None, List, Result};
 ghost use Rattle.search.specs.DefaultVersions.{last_default};
 ghost use Rattle.modulename.specs.ModuleName.{Text};
 ghost use Rattle.filetree.specs.Agreement.{Files, Listings};
 ghost use Rattle.search.specs.Reasons.{FindReason};
 ghost use Rattle.search.specs.Found.{FoundModule, Found};
-ghost use Rattle.search.specs.Listed.{Listing, Listed};
+ghost use Rattle.search.specs.Listed.{Listing, Listed, selected_of};
 
 use crate::default_files::DefaultFiles;
 
@@ -31,11 +31,20 @@ pub fn one_found<D: DefaultFiles>(default_files: &D)
     let _ = default_files;
 }
 
-/// For the same files and directories, a MODULEPATH has one listing at most.
+/// For the same files and directories, a MODULEPATH has one listing at most of the names that texts select.
 pub fn one_listed<D: DefaultFiles>(default_files: &D)
-    ensures { (files : Files) (listings : Listings) (modulepath : Text) (ls ks : List Listing)
-        → Listed (D.results default_files.now) files listings modulepath ls
-        → Listed (D.results default_files.now) files listings modulepath ks → ls ≡ ks }
+    ensures { (files : Files) (listings : Listings) (texts : List Text) (modulepath : Text) (ls ks : List Listing)
+        → Listed (D.results default_files.now) files listings texts modulepath ls
+        → Listed (D.results default_files.now) files listings texts modulepath ks → ls ≡ ks }
+{
+    let _ = default_files;
+}
+
+/// The listing of the names that texts select is what they select of the listing of all names.
+pub fn selected_of_all<D: DefaultFiles>(default_files: &D)
+    ensures { (files : Files) (listings : Listings) (texts : List Text) (modulepath : Text) (ls : List Listing)
+        → Listed (D.results default_files.now) files listings [] modulepath ls
+        → Listed (D.results default_files.now) files listings texts modulepath (map (selected_of texts) ls) }
 {
     let _ = default_files;
 }

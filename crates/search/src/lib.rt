@@ -14,6 +14,7 @@ mod module_files;
 mod modulefile;
 mod names;
 mod paths;
+mod selections;
 mod version_named;
 mod versions;
 
@@ -21,8 +22,8 @@ pub use default_files::{DefaultFileEnding, DefaultFiles};
 pub use defaults::{NamedVersion, named_default};
 pub use find_fault::FindFault;
 pub use found::{LocatedModule, directories, locate};
-pub use laws::{one_found, one_listed, rows_of_defaults};
+pub use laws::{one_found, one_listed, rows_of_defaults, selected_of_all};
 pub use listing_entries::ListingEntry;
-pub use listings::{DirectoryListing, available};
+pub use listings::{DirectoryListing, available, selected};
 pub use modulefile::{FileContent, read_modulefile};
 pub use paths::{is_single, path_of};

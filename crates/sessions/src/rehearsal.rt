@@ -55,8 +55,8 @@ fn print_request<T: Tree>(
 /// far hold the environment that the session has there.
 ///
 /// They hold the first environment again at the end where it is in order, no module is unloaded that was loaded in it,
-/// the modules that are loaded are reversible and apart, each unload has the records of the load that it undoes, and
-/// none of them is loaded at the end.
+/// the modules that are loaded are reversible and apart, the records of each unload undo what those of its load
+/// undo, and none of them is loaded at the end.
 ///
 /// Errors: want of memory for the list of texts (31).
 pub fn rehearse<T: Tree>(

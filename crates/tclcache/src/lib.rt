@@ -1,4 +1,4 @@
-//! `KeptTrees`, the parsed texts: scripts and expressions with their trees, so that nothing is parsed twice.
+//! `KeptTrees`, the parsed texts: scripts and expressions with their trees; within limits none is parsed twice.
 //! Takes memory and touches nothing else.
 #![tactic(auto)]
 

@@ -17,7 +17,7 @@ pub use braced_text::push_braced_text;
 pub use braces::split_close;
 pub use division::quotient;
 pub use fault::{Fault, ReadError, TextFault, remaining_with_mark, with_offset};
-pub use laws::closing_brace;
+pub use laws::{closing_brace, numeral_of_fraction, numeral_of_whole};
 pub use limits::{MAX_BYTES, MAX_NESTING};
 pub use number::{Numeral, read_number};
 pub use runs::{

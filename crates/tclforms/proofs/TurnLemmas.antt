@@ -1,13 +1,13 @@
 -- The items of lists that remain after turns.
 use Rattle.std.proofs.Common.{◌≡◌, ℕ, zero, suc, ◌+◌, ◌-◌, ◌*◌, ◌^◌, ◌<◌, ◌≤◌, min, Bool, true, false, nat_lt, List, []}
 use Rattle.std.proofs.Common.{◌∷◌, ◌++◌, length, map, take, drop, get_or, String, Global, Bor, Ok, Err, refl, sym, ap}
-use Rattle.std.proofs.Common.{◌∙◌, add-one, append_assoc, arith, length-drop}
-use Rattle.std.specs.Prelude.{string_bytes}
+use Rattle.std.proofs.Common.{Option, Some, None, ◌∙◌, add-one, append_assoc, arith, length-drop}
+use Rattle.std.specs.Prelude.{string_bytes, IfSome}
 use Rattle.std.proofs.lemmas.Bool.Decides.{nat_tests}
 use Rattle.std.proofs.Math.Nat.{mul-suc, suc-mul}
-use Rattle.std.proofs.lemmas.List.{map-append, drop-map, drop-drop, drop_all, take_all}
+use Rattle.std.proofs.lemmas.List.{map-append, drop-map, drop-drop, drop_all, drop_more, take_all}
 use Rattle.tclchars.specs.Runs.{Text}
-use Rattle.tcloperators.specs.Faults.{Answer, ◌>>=◌}
+use Rattle.tcloperators.specs.Faults.{Answer, ValueReason, ◌>>=◌}
 use Rattle.tclrules.specs.Plans.{Items}
 use Rattle.tcloperators.specs.Elements.{elements_of}
 use Rattle.tclrules.specs.Rules.{loops, named, shortened}
@@ -94,16 +94,34 @@ loops_prefixed done p ps l e = ap (prefixed done) (loops_first p ps ∙ rw e ref
     go (Ok ls) = ap Ok (sym (append_assoc done (l ∷ []) ls))
     go (Err f) = refl
 
+-- the lists from one on
+loops_front : (all : List (Bor (List ℕ) × Bor (List ℕ))) (read : List program.Items) (i : ℕ)
+    (d : Bor (List ℕ) × Bor (List ℕ)) → i < length all
+    → loops (pair_texts all) ≡ prefixed (map (remaining_after 0) read) (loops (pair_texts (drop i all)))
+    → loops (pair_texts all) ≡ prefixed (map (remaining_after 0) read) (loops (pair_texts (get_or all i d ∷ drop (i + 1) all)))
+loops_front all read i d n h = h ∙ ap (λ ps. prefixed (map (remaining_after 0) read) (loops (pair_texts ps))) (drop_more all i d n)
+
 -- a step over the lists
-pub loops_step : (all rest : List (Bor (List ℕ) × Bor (List ℕ))) (read new : List program.Items)
-    (d : Bor (List ℕ) × Bor (List ℕ)) (l : program.Items)
-    → loops (pair_texts all) ≡ prefixed (map (remaining_after 0) read) (loops (pair_texts rest)) → 1 ≤ length rest
-    → one_loop ((get_or rest 0 d).0.now, (get_or rest 0 d).1.now) ≡ Ok (remaining_after 0 l) → new ≡ read ++ l ∷ []
-    → loops (pair_texts all) ≡ prefixed (map (remaining_after 0) new) (loops (pair_texts (take (length rest - 1) (drop 1 rest))))
-loops_step all [] read new d l i n e f = absurd (omega arith)
-loops_step all (p ∷ ps) read new d l i n e f =
-    let t : take (length (p ∷ ps) - 1) ps ≡ ps = take_all (length (p ∷ ps) - 1) ps (omega arith) in
-    rw (t, f, map-append (remaining_after 0) read (l ∷ [])) (i ∙ loops_prefixed (map (remaining_after 0) read) (p.0.now, p.1.now) (pair_texts ps) (remaining_after 0 l) e)
+pub loops_step : (all : List (Bor (List ℕ) × Bor (List ℕ))) (read new : List program.Items) (i : ℕ)
+    (d : Bor (List ℕ) × Bor (List ℕ)) (l : program.Items) → i < length all
+    → loops (pair_texts all) ≡ prefixed (map (remaining_after 0) read) (loops (pair_texts (drop i all)))
+    → one_loop ((get_or all i d).0.now, (get_or all i d).1.now) ≡ Ok (remaining_after 0 l) → new ≡ read ++ l ∷ []
+    → loops (pair_texts all) ≡ prefixed (map (remaining_after 0) new) (loops (pair_texts (drop (i + 1) all)))
+loops_step all read new i d l n h e f =
+    rw (f, map-append (remaining_after 0) read (l ∷ []))
+    (loops_front all read i d n h ∙ loops_prefixed (map (remaining_after 0) read) _ (pair_texts (drop (i + 1) all)) (remaining_after 0 l) e)
+
+-- a list of them is refused
+pub loops_refused : (all : List (Bor (List ℕ) × Bor (List ℕ))) (read : List program.Items) (i : ℕ)
+    (d : Bor (List ℕ) × Bor (List ℕ)) (o : Option ValueReason) → i < length all
+    → loops (pair_texts all) ≡ prefixed (map (remaining_after 0) read) (loops (pair_texts (drop i all)))
+    → IfSome o (λ r. one_loop ((get_or all i d).0.now, (get_or all i d).1.now) ≡ Err r) → IfSome o (λ r. loops (pair_texts all) ≡ Err r)
+loops_refused all read i d None n h e = e
+loops_refused all read i d (Some r) n h e =
+    loops_front all read i d n h ∙ refused (map (remaining_after 0) read) ((get_or all i d).0.now, (get_or all i d).1.now) (pair_texts (drop (i + 1) all)) e
+  where
+    refused : (done : List Items) (p : Text × Text) (ps : List (Text × Text)) → one_loop p ≡ Err r → prefixed done (loops (p ∷ ps)) ≡ Err r
+    refused done p ps f = ap (prefixed done) (loops_first p ps) ∙ rw f refl
 
 pub short_twos : (ws : List (String Global)) → length ws < 2 → in_pairs (map string_bytes ws) ≡ []
 short_twos [] h = refl

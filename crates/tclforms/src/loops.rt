@@ -48,17 +48,12 @@ fn push_pairs<'a>(
     ensures { OnOk result (named_values out.new.items
         ≡ named_values out.old.items ++ rules.pairs (map string_bytes names.entry.now) (map string_bytes items.now)) }
 {
-    let mut names = names;
-    let mut items = items;
-    while let [name, after @ ..] = names {
-        match items {
-            [item, rest @ ..] => {
-                out.push((name.as_str(), item.clone()?))?;
-                items = rest;
-            }
-            [] => out.push((name.as_str(), String::new(alloc)))?,
+    let mut items = items.iter();
+    for name in names {
+        match items.next() {
+            Some(item) => out.push((name.as_str(), item.clone()?))?,
+            None => out.push((name.as_str(), String::new(alloc)))?,
         }
-        names = after;
     }
     Ok(())
 }
@@ -90,10 +85,8 @@ impl Loops {
         ensures { Gives reason_of (λ l. l) result (loops (pair_texts lists.now)) }
     {
         let mut read = Vec::new(alloc);
-        let mut rest = lists;
-        while let [list, after @ ..] = rest {
-            read.push(items_of(alloc, list.0, list.1)?)?;
-            rest = after;
+        for (names, items) in lists {
+            read.push(items_of(alloc, names, items)?)?;
         }
         Ok(Loops {
             lists: read,

@@ -43,9 +43,9 @@ fn parameters_of(alloc: Global, lists: &[String]) -> Result<Vec<Parameter>, Valu
 /// The parameters of a procedure of this name, in the text that proc(n) has for them. `reserved` are the names that the
 /// host reserves.
 ///
-/// Errors: `TclError` (13) where the name is reserved or one of Tcl's commands, where the text or one of its elements is no list, and where an
-/// element has no name or more than a name and a default; `Text` (12) where a list is too long; `OutOfMemory` (11). The
-/// name is judged first, and then the parameters from left to right.
+/// Errors: `TclError` (13) where the name is reserved or one of Tcl's commands, where the text or one of its elements is
+/// no list, and where an element has no name or more than a name and a default; `Text` (12) where a list is too long;
+/// `OutOfMemory` (11). The name is judged first, and then the parameters from left to right.
 pub fn parameters(
     alloc: Global,
     reserved: &[&str],

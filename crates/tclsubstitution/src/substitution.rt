@@ -1,5 +1,6 @@
 //! The steps of a substitution. Each takes what is evaluated next and the stack of frames, and answers what is
-//! evaluated after it. By its clause a step follows the rules of evaluation, and makes the measure of what is still to be done smaller.
+//! evaluated after it. By its clause a step follows the rules of evaluation, and makes the measure of what is still to
+//! be done smaller.
 ghost use Rattle.std.specs.Prelude.{◌≡◌, ◌++◌, ◌+◌, ℕ, [], ◌∷◌, reverse, string_bytes, OnOk, OnErr, IfOk, IfErr};
 ghost use Rattle.std.specs.Prelude.{encode_utf8};
 ghost use Rattle.tclchars.specs.BracedText.{braced_text};

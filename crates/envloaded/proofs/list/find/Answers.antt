@@ -1,8 +1,12 @@
-use Rattle.std.proofs.Common.{string_bytes}
-use Rattle.envloaded.proofs.LoadedWriting.{find-turn, name_is}
+use Rattle.std.proofs.Common.{rules, tests, string_bytes, bytes_eq}
+use Rattle.std.proofs.lemmas.Iterator.Search.{find_from_yields_List}
+use Rattle.std.proofs.lemmas.Iterator.{YieldsList-from_slice}
+use Rattle.envloaded.specs.declared.entry.Loaded.{Loaded}
+use Rattle.envloaded.proofs.LoadedWriting.{found_is}
 use Rattle.envloaded.proofs.list.find.Goals as goal
 
-pub loop-rest-preserved : goal.loop-rest-preserved
-loop-rest-preserved c = find-turn c.args.name.now c.loop-rest.rest.now c.entry-item.result _ c.in-len1-up.len_at_least
-    c.entry-item.is (name_is (string_bytes c.entry-item.result.name) c.as_str.result.now c.args.name.now c.eq.result
-    c.as_str.ensures.value c.eq.ensures c.if-eq.false) c.loop-rest.invariant
+pub returns : goal.returns
+returns c =
+    found_is c.args.name.now c.args.list.now c.find.result
+    (find_from_yields_List (λ (x : Loaded). bytes_eq c.args.name.now (string_bytes x.name)) _ _ c.find.result c.find.ensures.ran
+    (YieldsList-from_slice c.args.list.now cc) (λ x b q k. search (rules, tests)))

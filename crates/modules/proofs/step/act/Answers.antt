@@ -7,7 +7,7 @@ use Rattle.search.specs.Looked.{ListingLooksAt}
 use Rattle.requests.specs.RequestViews.{action_view}
 use Rattle.requests.specs.Looked.{RequestLooksAt}
 use Rattle.requests.specs.Steps as steps
-use Rattle.requests.specs.Steps.{ListsLoaded, ListsAll, RequestStep, modulepath}
+use Rattle.requests.specs.Steps.{ListsLoaded, ListsAvailable, RequestStep, modulepath}
 use Rattle.modules.specs.declared.done.RequestResults.{RequestResults}
 use Rattle.modules.specs.Parts.{TreeAnswer}
 use Rattle.modules.specs.Messages.{MemoryNumberAmong, memory_numbers}
@@ -81,8 +81,8 @@ returns-in-Avail-clause-done g c =
     let e = g.V.Vars.vars c.args.env.now in
     let view : RequestResults → steps.Done = λ x. done_view x e in
     let answer : TreeAnswer g.T.Tree.agrees g.T.Tree.failures g.T.Tree.failed c.args.tree.now c.avail.new.tree view c.avail.result
-    (λ files listings. ListsAll (request_context_of c.args.settings files listings) e (map (λ (s : String Global). string_bytes s) c.deref-in-Avail.result.now))
-    (λ files listings. ListingLooksAt (HasResult c.args.settings.limits) files listings (modulepath e))
+    (λ files listings. ListsAvailable (request_context_of c.args.settings files listings) e (map (λ (s : String Global). string_bytes s) c.deref-in-Avail.result.now))
+    (λ files listings. ListingLooksAt (HasResult c.args.settings.limits) files listings (map (λ (s : String Global). string_bytes s) c.deref-in-Avail.result.now) (modulepath e))
     = record { reads = c.avail.ensures.reads; over_tree = c.avail.ensures.over_tree; failed_at = c.avail.ensures.failed } in
     answers_of c.args.action.now (actions.Avail c.in-Avail.texts) c.in-Avail.is view c.avail.result
     (λ (action : Action) files listings. RequestStep (request_context_of c.args.settings files listings) e (action_view action))

@@ -4,5 +4,5 @@ use Rattle.search.proofs.names.names_in.Given as goal
 
 abbrev pub invariant-loop-entry : goal.invariant-loop-entry
 invariant-loop-entry l =
-    names_in (option_map (λ f. f.now) l.prefix) (map string_bytes l.entries)
-    ≡ map string_bytes l.names.items ++ names_in (option_map (λ f. f.now) l.prefix) (map string_bytes (drop l.entry-index l.entries))
+    names_in (map string_bytes l.texts) (option_map (λ f. f.now) l.prefix) (map string_bytes l.entries)
+    ≡ map string_bytes l.names.items ++ names_in (map string_bytes l.texts) (option_map (λ f. f.now) l.prefix) (map string_bytes (drop l.entry-index l.entries))

@@ -13,6 +13,7 @@ returns-clause-known g c files listings h =
 
 pub invariant_of-self : goal.invariant_of-self
 invariant_of-self g c = record {
+  opened = c.args.self.now.opened;
   answered =
       answered_after (g.S.System.answers c.args.self.now.system) c.args.self.now.known c.insert.new.self c.args.path.now
       (string_bytes c.in_ok-key.key) c.args.known c.insert.result c.in_ok-key.ensures.ok c.insert.ensures.updates

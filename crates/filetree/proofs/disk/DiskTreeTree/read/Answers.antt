@@ -9,8 +9,8 @@ use Rattle.filetree.proofs.CachedAnswers.{of_some}
 use Rattle.filetree.proofs.WasThere.{file_known}
 use Rattle.filetree.proofs.disk.DiskTreeTree.read.Goals as goal
 
-pub load_rest-loaded-requires : goal.load_rest-loaded-requires
-load_rest-loaded-requires g c =
+pub load_rest-loaded-requires-clause-was : goal.load_rest-loaded-requires-clause-was
+load_rest-loaded-requires-clause-was g c =
     let tree = c.args.self.now in
     let had : get_by_text tree.known c.args.path.now ≡ Some (File c.in-Some-File.prefix) = sym c.get.ensures.value ∙ (ap option_copied c.in-Some-File.is ∙ ap Some c.in-Some-File.field-0-is) in
     file_known (g.S.System.answers tree.system) tree.known c.args.path.now c.in-Some-File.prefix had tree.answered

@@ -15,6 +15,6 @@ invariant-loop-name g l = record {
   walked : InEachPair (g.T.Tree.agrees l.tree) (λ files folders. (more : List listed.ListingEntry)
       × (map listing_entry_view l.listing_entries.items ≡ map listing_entry_view l.fn.listing_entries.items ++ more)
       × AreListingEntries (g.D.DefaultFiles.results l.self.default_files.now) files folders l.self.dir.now
-      (IsInside files folders l.self.dir.now (names_in (option_map (λ f. f.now) l.prefix) (map string_bytes l.entries.items)) (map string_bytes (take l.name-index l.name-items))) more);
+      (IsInside files folders (map string_bytes l.self.texts.now) l.self.dir.now (names_in (map string_bytes l.self.texts.now) (option_map (λ f. f.now) l.prefix) (map string_bytes l.entries.items)) (map string_bytes (take l.name-index l.name-items))) more);
   unfailed : g.T.Tree.failed l.tree ≡ g.T.Tree.failed l.initial.tree;
 }

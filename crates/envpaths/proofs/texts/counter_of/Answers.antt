@@ -1,5 +1,5 @@
 use Rattle.envpaths.proofs.CounterLemmas.{not_begun, parsed, not_parsed}
-use Rattle.envpaths.proofs.counters.counter_of.Goals as goal
+use Rattle.envpaths.proofs.texts.counter_of.Goals as goal
 
 pub returns-then-not-begins_as_counter : goal.returns-then-not-begins_as_counter
 returns-then-not-begins_as_counter c = not_begun c.args.text.now c.begins_as_counter.result c.begins_as_counter.ensures c.if-not-begins_as_counter.true

@@ -1,4 +1,4 @@
-use Rattle.filetree.proofs.disk.DiskTree.see_unknown.Goals as goal
+use Rattle.filetree.proofs.disk.DiskTree.answer_start.Goals as goal
 
 pub returns-in_ok-begins-in-Ok-clause-nothing : goal.returns-in_ok-begins-in-Ok-clause-nothing
 returns-in_ok-begins-in-Ok-clause-nothing g c e files listings h =

@@ -1,5 +1,5 @@
 use Rattle.std.proofs.Common.{◌-◌, ◌^◌, vec_len}
-use Rattle.processinput.proofs.process.copy_entry.Given as goal
+use Rattle.processinput.proofs.process.copy_given.Given as goal
 
 abbrev pub invariant-loop-length : goal.invariant-loop-length
 invariant-loop-length g l = Unit {0}

@@ -1,5 +1,0 @@
-use Rattle.std.proofs.Common.{◌≡◌, map, take, string_bytes, vec_items}
-use Rattle.filetree.proofs.memory.copy_names.Given as goal
-
-abbrev pub invariant-loop-name : goal.invariant-loop-name
-invariant-loop-name l = map string_bytes (vec_items l.copy) ≡ map string_bytes (take l.name-index (vec_items l.names))
