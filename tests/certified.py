@@ -1,14 +1,16 @@
 """Sessions of certified modules, tried by the built program in a real shell: the law of sites.
 
 Random trees of modulefiles, of which each uses variables as it likes, and of which some ask, undo nothing or are
-refused; a random environment that agrees with the certificate of the site (`standings.py` says which modules are
-certified, and which starts agree); and random lists of loads, unloads, switches and purges, in which each accepted load
-is of a certified module and each unload of one that the session loaded. After each command the exported variables of the
-shell are those that a model makes (`sentence.py`, `runs.py`), in which what is loaded stands over the start as its file
-means; and after the last one `env -0` writes what it wrote at the start.
+refused; a random environment that agrees with some of what the certified modules of the site use (`standings.py` says
+which these are, and which starts agree); and random lists of loads, unloads, switches and purges, in which each accepted
+load is of a certified module with whose uses the start agrees, and each unload of one that the session loaded. Between
+them changes by hand, by the uses of the modules that are live then (`hands.py`): so a variable that none of them uses is
+changed freely, and the start by which the next load is judged is what the changes have made of it. After each command and
+each change the exported variables of the shell are those that a model makes (`sentence.py`, `runs.py`), in which what is
+loaded stands over the start as its file means; and after the last one `env -0` writes what it wrote at the start.
 
-The program `modaudit` has to say the same of each site: how its modules stand, in which order, their certificate, and that
-the start agrees with it.
+The program `modaudit` has to say the same of each site: how its modules stand, in which order, their certificate, and
+where the start doesn't agree with it.
 
 The model alone is run too, and besides with clauses of the definition left out, each of which has to lose a start or what
 is loaded.
@@ -18,11 +20,11 @@ import json
 import subprocess
 
 import pytest
-from hypothesis import Phase, find, given, reject, settings
+from hypothesis import Phase, find, given, settings
 from hypothesis import strategies as st
 
 from tests import runs as model
-from tests import sentence, standings
+from tests import hands, sentence, standings
 from tests.harness import same, true
 from tests.properties import SPELLINGS, examples, several
 from tests.sentence import Lost
@@ -117,53 +119,29 @@ def sites(draw, shell, dirs):
 
 CONFLICTS = st.sampled_from([[], ["c"], ["m/10", "d"], ["k"]])
 OLD = (*model.OLD, "m/1", "n")
-ODD_SHARES, ODD_STACKS = [None] * 12 + ["", "::", "x:2", "/opt/b:02:/opt/b:3"], [None] * 27 + ["no stack", "x&1", ""]
-
-
-@st.composite
-def anything(draw, name, shell, dirs):
-    """A variable that no certified module uses has whatever it may have."""
-    if name == MODULEPATH:
-        return {name: ":".join(draw(st.lists(st.sampled_from([*dirs, *dirs, "", "/none"]), min_size=1, max_size=5)))}
-    words = sentence.startable(shell)
-    found = {
-        name: draw(st.sampled_from([None] * len(words) + [*words])),
-        model.SHARE + name: draw(st.sampled_from(ODD_SHARES)),
-        model.STACK + name: draw(st.sampled_from(ODD_STACKS)),
-    }
-    return {key: value for key, value in found.items() if value is not None}
 
 
 @st.composite
 def starts(draw, site, shell):
-    """An environment that agrees with the certificate. Its MODULEPATH may lead elsewhere too."""
+    """An environment that agrees with a use of most variables of the certificate. Its MODULEPATH may lead elsewhere too."""
     env = {"HOME": "/home/x y", "OTHER": draw(st.sampled_from(sentence.startable(shell))), "__MODULES_ELSE": "x"}
     entries = draw(model.old_entries(OLD, CONFLICTS, sentence.GROUPS))
     model.write_loaded(env, entries)
     owners = tuple(entry[0] for entry in entries)
     for name in [*sentence.variables(shell), MODULEPATH]:
         its = [use for used, use in site.uses if used == name]
-        if not its:
-            env.update(draw(anything(name, shell, site.tree.dirs)))
-            continue
-        found = draw(sentence.held(name, draw(st.sampled_from(its)), owners, shell, site.tree.dirs))
-        env.update(fitting(env, name, its, [found, *({name: use[1]} for use in its if use[0] == "fixed" and use[1]), {}]))
+        if its and draw(st.integers(0, 3)):
+            env.update(draw(sentence.held(name, draw(st.sampled_from(its)), owners, shell, site.tree.dirs)))
+        else:
+            env.update(draw(hands.anything(name, shell, site.tree.dirs)))
     return sentence.in_a_shell(env, shell)
-
-
-def fitting(env, name, its, ways):
-    """The first of these that agrees with all uses of a variable."""
-    for found in ways:
-        if all(standings.agrees_with_use({**env, **found}, name, use) for use in its):
-            return found
-    return reject()
 
 
 # Sessions.
 
 
-class Session(sentence.Session):
-    """A session over a site: it loads what is certified, and unloads what it has loaded."""
+class Session(hands.ByHand):
+    """A session over a site: it loads what is certified and agreed with, and unloads what it has loaded."""
 
     def __init__(self, site, *given):
         super().__init__(*given)
@@ -173,20 +151,30 @@ class Session(sentence.Session):
     def __repr__(self):
         return f"{super().__repr__()}, the site of {self.site.modulepath}"
 
+    @property
+    def ways(self):
+        """How the live modules use variables."""
+        return truly(standings.uses_by, [self.places[place] for place in self.live()])
+
+    def live_modules(self):
+        return [(one.name, one.path, one.records) for one in (self.places[place] for place in self.live())]
+
     def is_fit(self, before, step):
         mine = {(name, path) for name, path, *_ in model.loaded_in(before)[len(self.old) :]}
         for kind, *place in step.moves:
-            if tuple(place) not in (self.places if kind == "load" else mine):
+            if not (self.may_be_loaded(tuple(place)) if kind == "load" else tuple(place) in mine):
                 return False
             mine.add(tuple(place))
         return True
 
+    def may_be_loaded(self, place):
+        return place in self.places and standings.may_be_loaded(self.places[place], self.start)
+
     def stands(self, words):
-        live = [self.places[place] for place in self.live()]
-        uses = truly(standings.uses_by, live) if live else {}
+        uses, live = self.ways, self.live_modules()
         if not model.in_order(uses, self.env):
             raise Lost(f"the environment isn't in order after {words}")
-        if not model.stands(uses, self.start, [(one.name, one.path, one.records) for one in live], self.env):
+        if not model.stands(uses, self.start, live, self.env):
             raise Lost(f"what is loaded doesn't stand after {words}")
         if not live and self.env != self.start:
             raise Lost(f"the start is lost after {words}")
@@ -202,14 +190,16 @@ def truly(function, *arguments):
 
 
 @st.composite
-def sessions(draw, shell, top, folders=("one", "two", "three", "four")):
+def sessions(draw, shell, top, product="", folders=("one", "two", "three", "four")):
     site = draw(sites(shell, tuple(f"{top}/tree/{name}" for name in folders)))
     start = {**draw(starts(site, shell)), "PWD": top}
     sure = sorted({module.name for module in site.certified})
     sure += [name.rpartition("/")[0] or name for name in sure]
     names = st.sampled_from(sure * 12 + site.tree.names() + sentence.ODD_NAMES)
-    words = draw(several(sentence.commands(names, not model.loaded_in(start)), 32))
-    return Session(site, shell, site.tree, start, words, draw(sentence.ENDS))
+    commands = sentence.commands(names, not model.loaded_in(start))
+    changes = hands.hands(dict(site.uses), sentence.variables(shell))
+    words = draw(several(st.one_of(commands, commands, changes), 40))
+    return Session(site, product, shell, site.tree, start, words, draw(sentence.ENDS))
 
 
 # The program that judges sites.
@@ -272,13 +262,13 @@ def audited(program, session):
 
 
 def begun(session):
-    """A session whose start agrees with the certificate."""
-    true(standings.agrees(session.start, session.site.uses), "the start agrees with the certificate")
+    """A session whose start has its loaded list in order."""
+    true(model.in_order({}, session.start), "the loaded list of the start is in order")
     return session
 
 
-def tried(programs, top, shell, data):
-    session = begun(data.draw(sessions(shell, sentence.emptied(top))))
+def tried(programs, product, top, shell, data):
+    session = begun(data.draw(sessions(shell, sentence.emptied(top), product)))
     session.tree.write()
     audited(programs["modaudit"], session)
     sentence.follows(programs["modulecmd"], session, str(top))
@@ -291,15 +281,15 @@ def programs(built):
 
 @examples(300)
 @given(data=st.data())
-def test_sessions_in_sh(programs, tmp_path, data):
-    tried(programs, tmp_path / "top", "sh", data)
+def test_sessions_in_sh(programs, product, tmp_path, data):
+    tried(programs, product, tmp_path / "top", "sh", data)
 
 
 @pytest.mark.parametrize("shell", ["tcsh", "fish"])
 @examples(40)
 @given(data=st.data())
-def test_sessions_in_other_shells(programs, tmp_path, shell, data):
-    tried(programs, tmp_path / "top", shell, data)
+def test_sessions_in_other_shells(programs, product, tmp_path, shell, data):
+    tried(programs, product, tmp_path / "top", shell, data)
 
 
 # The model alone.
@@ -322,6 +312,64 @@ def loss_of(session):
 @pytest.mark.parametrize("clause", standings.CLAUSES)
 def test_each_clause_is_needed(clause, monkeypatch, note):
     monkeypatch.setattr(standings, "WITHOUT", clause)
-    dense = sessions("sh", "/t", ("one",))
+    dense = sessions("sh", "/t", folders=("one",))
     found = find(dense, loss_of, settings=settings(max_examples=MOST_SITES, phases=[Phase.generate]))
     note(f"without it {loss_of(found)}")
+
+
+# Which of those that clash are certified.
+
+
+
+def site_module(name, *records):
+    return SiteModule(name, f"/m/{name}", list(records))
+
+
+LIB = [site_module(f"lib/{number:03}", ("prepend-path", ":", "PYTHONPATH", ["/x"])) for number in range(200)]
+LEGACY = site_module("legacy/1", ("setenv", "PYTHONPATH", "/y"))
+GCC = [site_module(f"gcc/{number}", ("conflict", ["gcc"]), ("setenv", "CC", "gcc")) for number in range(9, 14)]
+AOCC = site_module("aocc/1", ("setenv", "CC", "clang"))
+CROWDS = [(LIB, LEGACY), (GCC, AOCC)]
+
+
+def choice_of(modules):
+    """What is wrong of the choice among modules that clash, or none."""
+    sure = standings.certified(modules)
+    others = [module for module in standings.in_step(modules) if module not in sure]
+    if any(standings.clashes_of(one, other) for one in sure for other in sure):
+        return "two certified modules clash"
+    if not all(any(standings.clashes_of(module, other) for other in sure) for module in others):
+        return "one more could be certified"
+    turned = standings.certified(modules[::-1])
+    return None if sorted(map(id, turned)) == sorted(map(id, sure)) else "the order of the files makes a difference"
+
+
+def crowd_lost(crowd, odd):
+    """Whether the one that clashes with a crowd is certified in its place, wherever it is listed."""
+    return any(odd in standings.certified(modules) for modules in ([odd, *crowd], [*crowd, odd]))
+
+
+def choice_lost():
+    """What the model says wrongly of crowds, or none."""
+    if any(crowd_lost(*crowd) for crowd in CROWDS):
+        return "the odd one is certified in place of many"
+    two = [site_module(name, ("setenv", "X", name)) for name in ("b/1", "a/1")]
+    return choice_of(two)
+
+
+@examples(300)
+@given(sites("sh", ("/t/one", "/t/two")))
+def test_as_many_as_can_be_are_certified(site):
+    same(choice_of(site.modules), None, "what is wrong of the choice")
+
+
+def test_those_that_most_get_on_with_stay():
+    same(choice_lost(), None, "what is lost")
+    same([len(standings.certified([*crowd, odd])) for crowd, odd in CROWDS], [200, 5], "how many are certified")
+
+
+@pytest.mark.parametrize("clause", standings.CHOICES)
+def test_each_rule_of_the_choice_is_needed(clause, monkeypatch, note):
+    monkeypatch.setattr(standings, "WITHOUT", clause)
+    true(choice_lost(), "something is lost")
+    note(f"without it {choice_lost()}")

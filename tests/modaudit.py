@@ -134,8 +134,8 @@ ROWS = {
     "two delimiters": (
         {"/m/a/1": "append-path V b\n", "/m/b/1": "append-path -d , V c\n"},
         [
-            ("a/1", "clashes", "V: path with ':' here, path with ',' in b/1 (/m/b/1)"),
-            ("b/1", "clashes", "V: path with ',' here, path with ':' in a/1 (/m/a/1)"),
+            ("a/1", "certified", ""),
+            ("b/1", "clashes", "V: path with ',' here, path with ':' in a/1 (/m/a/1); used so by 1"),
         ],
     ),
     "one delimiter": (
@@ -148,7 +148,7 @@ ROWS = {
     ),
     "a clash without a conflict": (
         {"/m/a/1": "setenv V x\n", "/m/b/1": "setenv V y\n"},
-        [("a/1", "clashes", "V: set here, set in b/1 (/m/b/1)"), ("b/1", "clashes", "V: set here, set in a/1 (/m/a/1)")],
+        [("a/1", "certified", ""), ("b/1", "clashes", "V: set here, set in a/1 (/m/a/1); used so by 2")],
     ),
     "a conflict of the first": (
         {"/m/a/1": "conflict b\nsetenv V x\n", "/m/b/1": "setenv V y\n"},
@@ -165,15 +165,15 @@ ROWS = {
     "a conflict with the letters of a name": (
         {"/m/ab/1": "setenv V x\n", "/m/c/1": "conflict a\nsetenv V y\n", "/m/d/1": "conflict ab\nsetenv W y\n"},
         [
-            ("ab/1", "clashes", "V: set here, set in c/1 (/m/c/1)"),
-            ("c/1", "clashes", "V: set here, set in ab/1 (/m/ab/1)"),
+            ("ab/1", "certified", ""),
+            ("c/1", "clashes", "V: set here, set in ab/1 (/m/ab/1); used so by 2"),
             ("d/1", "certified", ""),
         ],
         ["# c/1 (/m/c/1): conflict names no module: 'a'"],
     ),
     "two versions of one module": (
         {"/m/a/1": "setenv V x\n", "/m/a/2": "setenv V y\n"},
-        [("a/1", "clashes", "V: set here, set in a/2 (/m/a/2)"), ("a/2", "clashes", "V: set here, set in a/1 (/m/a/1)")],
+        [("a/1", "certified", ""), ("a/2", "clashes", "V: set here, set in a/1 (/m/a/1); used so by 2")],
     ),
     "two versions in conflict": (
         {"/m/a/1": "conflict a\nsetenv V x\n", "/m/a/2": "setenv V y\n"},
@@ -191,44 +191,46 @@ ROWS = {
     "two unset values": (
         {"/m/a/1": "conflict b\nunsetenv V x\n", "/m/b/1": "unsetenv V y\n"},
         [
-            ("a/1", "clashes", "V: unset of 'x' here, unset of 'y' in b/1 (/m/b/1)"),
-            ("b/1", "clashes", "V: unset of 'y' here, unset of 'x' in a/1 (/m/a/1)"),
+            ("a/1", "certified", ""),
+            ("b/1", "clashes", "V: unset of 'y' here, unset of 'x' in a/1 (/m/a/1); used so by 1"),
         ],
+        ["# environment: V isn't 'x'"],
     ),
     "unset here and set there": (
         {"/m/a/1": "conflict b\nunsetenv V x\n", "/m/b/1": "setenv V y\n"},
         [
-            ("a/1", "clashes", "V: unset of 'x' here, set in b/1 (/m/b/1)"),
-            ("b/1", "clashes", "V: set here, unset of 'x' in a/1 (/m/a/1)"),
+            ("a/1", "certified", ""),
+            ("b/1", "clashes", "V: set here, unset of 'x' in a/1 (/m/a/1); used so by 1"),
         ],
+        ["# environment: V isn't 'x'"],
     ),
     "a path and a stack": (
         {"/m/a/1": "append-path V b\n", "/m/b/1": "pushenv V c\n"},
         [
-            ("a/1", "clashes", "V: path with ':' here, stack in b/1 (/m/b/1)"),
-            ("b/1", "clashes", "V: stack here, path with ':' in a/1 (/m/a/1)"),
+            ("a/1", "certified", ""),
+            ("b/1", "clashes", "V: stack here, path with ':' in a/1 (/m/a/1); used so by 1"),
         ],
     ),
     "two variables of three modules": (
         {"/m/a/1": "setenv V x\nsetenv W x\n", "/m/b/1": "setenv W y\n", "/m/c/1": "append-path V d\n"},
         [
-            ("a/1", "clashes", "V: set here, path with ':' in c/1 (/m/c/1)"),
-            ("b/1", "clashes", "W: set here, set in a/1 (/m/a/1)"),
-            ("c/1", "clashes", "V: path with ':' here, set in a/1 (/m/a/1)"),
+            ("a/1", "clashes", "V: set here, path with ':' in c/1 (/m/c/1); used so by 1"),
+            ("b/1", "certified", ""),
+            ("c/1", "certified", ""),
         ],
     ),
     "one conflict among three modules": (
         {"/m/a/1": "conflict b\nsetenv V x\n", "/m/b/1": "setenv V y\n", "/m/b/2": "append-path V z\n"},
         [
             ("a/1", "certified", ""),
-            ("b/1", "clashes", "V: set here, path with ':' in b/2 (/m/b/2)"),
-            ("b/2", "clashes", "V: path with ':' here, set in b/1 (/m/b/1)"),
+            ("b/1", "clashes", "V: set here, path with ':' in b/2 (/m/b/2); used so by 1"),
+            ("b/2", "certified", ""),
         ],
     ),
     # Directories.
     "a directory that only a module adds": (
         {"/m/a/1": "append-path MODULEPATH /n\nsetenv V x\n", "/n/b/1": "setenv V y\n"},
-        [("a/1", "clashes", "V: set here, set in b/1 (/n/b/1)"), ("b/1", "clashes", "V: set here, set in a/1 (/m/a/1)")],
+        [("a/1", "certified", ""), ("b/1", "clashes", "V: set here, set in a/1 (/m/a/1); used so by 2")],
     ),
     "a directory that a module adds which isn't plain": (
         {"/m/a/1": "append-path MODULEPATH /n\nunsetenv W\n", "/n/b/1": "setenv V y\n"},
@@ -295,9 +297,9 @@ def test_what_is_lost_stands_so(folder, row):
 def test_two_files_of_one_name(folder):
     files = {"/m/a/1": "setenv V x\n", "/n/a/1": "unsetenv V y\n"}
     lines = [
-        "a/1\tclashes\tV: set here, unset of 'y' in a/1 (/n/a/1)\t/m/a/1",
-        "a/1\tclashes\tV: unset of 'y' here, set in a/1 (/m/a/1)\t/n/a/1",
-        "# 0 certified of 2",
+        "a/1\tcertified\t\t/m/a/1",
+        "a/1\tclashes\tV: unset of 'y' here, set in a/1 (/m/a/1); used so by 1\t/n/a/1",
+        "# 1 certified of 2",
     ]
     Site(folder, files, "/m:/n").says(lines)
     lines = ["a/1\tcertified\t\t/m/a/1", "a/1\tcertified\t\t/n/a/1", "# 2 certified of 2"]
@@ -452,6 +454,17 @@ def test_each_control_character(folder):
     same(json.loads(folder.run("--json", directory).stdout)["modules"][0]["path"], f"{directory}/a/1", "the document")
 
 
+def test_remarks_come_once(folder):
+    """A default file by which two directories are refused, a name that two conflicts have, and a prereq that stands twice."""
+    files = {"/m/a/b/1": "conflict y x y\nconflict x\nprereq p q\nprereq q p\nprereq p q\n", "/m/a/b/.modulerc": "nope\n"}
+    lines = []
+    for name in ("a/b/1", "b/1"):
+        lines += [f"# {name} (/m/a/b/1): conflict names no module: '{text}'" for text in "yx"]
+        lines += [f"# {name} (/m/a/b/1): prereq names no module: {names}" for names in ("'p' 'q'", "'q' 'p'")]
+    found = ["a/b/1\tcertified\t\t/m/a/b/1", "b/1\tcertified\t\t/m/a/b/1", "# 2 certified of 2", "# bad default file: /m/a/b/.modulerc"]
+    Site(folder, files, "/m:/m/a").says([*found, *lines])
+
+
 def test_the_document_says_the_same(folder):
     files = {
         "/m/a/1": "setenv V x\nunsetenv W y\nappend-path -d , P /b\npushenv S z\nconflict q\n",
@@ -478,22 +491,17 @@ def test_the_document_says_the_same(folder):
                 "uses": [{"use": "set"}, {"use": "stack"}],
                 "other": {"name": "f/1", "path": f"{there}/f/1"},
             },
-            {
-                "name": "f/1",
-                "standing": "clashes",
-                "variable": "E",
-                "uses": [{"use": "stack"}, {"use": "set"}],
-                "other": {"name": "e/1", "path": f"{there}/e/1"},
-            },
+            {"name": "f/1", "standing": "certified"},
             {"name": "g/1", "standing": "refused", "refusal": 'invalid command name "nope" (line 2)'},
         ],
-        "certified": 1,
+        "certified": 2,
         "count": 7,
         "certificate": [
             {"variable": "V", "use": "set"},
             {"variable": "W", "use": "unset", "value": "y"},
             {"variable": "P", "use": "path", "delimiter": ","},
             {"variable": "S", "use": "stack"},
+            {"variable": "E", "use": "stack"},
         ],
         "bad_default_files": [f"{there}/a/.version"],
         "unknown_names": [
@@ -509,7 +517,7 @@ def test_the_document_says_the_same(folder):
         module["path"] = f"{there}/{module['name']}"
     same(found, wanted, "the document")
     site = Site(folder, files, V="1")
-    quiet = {**wanted, "modules": wanted["modules"][1:]}
+    quiet = {**wanted, "modules": [module for module in wanted["modules"] if module["standing"] != "certified"]}
     same(site.document("--quiet"), quiet, "the quiet document")
     done = site.run("--quiet", "--json")
     same((done.returncode, done.stderr), (1, b""), "the status")
@@ -678,18 +686,32 @@ def test_a_site_of_two_thousand_modules(folder):
     folder.module("p0/own", "setenv P1_ROOT x\n")
     done = folder.run("--quiet")
     lines = done.stdout.decode().splitlines()
-    same(lines[-1], "# 1996 certified of 2001", "one that sets the variable of four others")
-    same({line.split("\t")[1] for line in lines[:-1]}, {"clashes"}, "how these stand")
-    same(len(lines), 6, "the lines")
+    same(lines[-1], "# 2000 certified of 2001", "one that sets the variable of four others")
+    same([line.split("\t")[:2] for line in lines[:-1]], [["p0/own", "clashes"]], "who stands aside")
+    same("used so by 5" in lines[0], True, "how many set it")
 
 
 def test_a_family_of_two_thousand_versions(folder):
-    """All set one variable: none clashes where they exclude each other, and each does where they don't."""
-    for conflict, certified_ones in (("conflict m\n", 2000), ("", 0)):
+    """All set one variable: none clashes where they exclude each other, and all but one do where they don't."""
+    for conflict, certified_ones in (("conflict m\n", 2000), ("", 1)):
         for number in range(2000):
             folder.module(f"m/{number}", f"{conflict}setenv V x\nprepend-path P /p\n")
         lines = folder.run().stdout.decode().splitlines()
         same((len(lines), lines[-1]), (2001, f"# {certified_ones} certified of 2000"), f"what is said with {conflict!r}")
+
+
+def test_those_that_most_get_on_with_stay(folder):
+    """One sets what 200 use as a path: it stands aside, whatever its name is."""
+    for number in range(200):
+        folder.module(f"lib/{number:03}", "prepend-path PYTHONPATH /x\n")
+    reason = "PYTHONPATH: set here, path with ':' in lib/000 (/m/lib/000); used so by 200"
+    for name in ("a/1", "z/1"):
+        folder.module(name, "setenv PYTHONPATH /y\n")
+    lines = [line.split("\t") for line in folder.run("--quiet").stdout.decode().splitlines()]
+    there = os.fsdecode(folder.modules)
+    same([line[:2] for line in lines[:-1]], [["a/1", "clashes"], ["z/1", "clashes"]], "who stands aside")
+    same({line[2].replace(f"({there}", "(/m") for line in lines[:-1]}, {reason}, "why")
+    same(lines[-1], ["# 200 certified of 202"], "how many are certified")
 
 
 def test_twice_as_many_modules_cost_twice_as_much(folder, note):

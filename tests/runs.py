@@ -8,11 +8,14 @@ module is live. Then
 
 - the same with wrong definitions, each of which has to lose a law;
 - for each premise, runs that break it alone: some of them have to lose the start.
+
+Which changes may be made by hand, and what they make of the start, stands here too; `hands.py` tries it.
 """
 
 import functools
 import itertools
 import operator
+import re
 
 import pytest
 from hypothesis import Phase, find, given, settings
@@ -30,6 +33,22 @@ LISTS = (NAMES, FILES, CONFLICTS, PREREQS)
 # What edits get wrong, in the runs that have to lose a law. What is in order is judged rightly in them too.
 WRONG = ""
 EDITING = False
+
+# Which rule of changes by hand is left out, in the runs that have to lose what is loaded or the start.
+WITHOUT = ""
+
+IN_ORDER = "texts in order"
+STILL_THERE = "elements of live modules there"
+NO_STACK = "a pushed variable untouched while it has a stack"
+NOT_SET = "set variables untouched"
+NOT_OWN = "the tool's own variables untouched"
+HAND_RULES = (IN_ORDER, STILL_THERE, NO_STACK, NOT_SET, NOT_OWN)
+
+# What changes by hand get wrong in the start, in the runs that have to lose a law.
+COUNTERS_LEFT = "counters that live modules have raised left as they are"
+OLD_TAKEN = "an element of the start taken for one of a module"
+LIVE_LEFT = "elements of live modules left in the start"
+WRONG_HANDS = (COUNTERS_LEFT, OLD_TAKEN, LIVE_LEFT)
 
 
 def is_wrong(how):
@@ -261,6 +280,20 @@ def unload_record(env, owner, record):
         drop(env, words[1], words[0], words[2])
 
 
+def undone_as(record):
+    """A record as its unload sees it, or none where that does nothing."""
+    kind = record[0]
+    if kind in ("setenv", "pushenv"):
+        return record[:2]
+    if kind in ("prepend-path", "append-path"):
+        return ("path", *record[1:])
+    return record if kind == "unsetenv" and record[2] is not None else None
+
+
+def undo_alike(records, others):
+    return [it for it in map(undone_as, records) if it] == [it for it in map(undone_as, others) if it]
+
+
 def moved(env, kind, module):
     """The environment that a load or an unload makes, or a refusal."""
     global EDITING
@@ -351,15 +384,21 @@ def is_start(ways, env):
     return in_order(ways, env) and all(w[0] != "fixed" or env.get(n) == w[1] for n, w in ways.items())
 
 
-def path_stands(start, env, name, delim, live):
-    old, old_counters = path_in(start, name, delim)
-    new, counters = path_in(env, name, delim)
+def adds_of(live, name):
+    """How often the live modules add each element that they add to a path."""
     adds = {}
     for module in live:
         for r in module[2]:
             if r[0] in ("prepend-path", "append-path") and r[2] == name:
                 for x in r[3]:
                     adds[x] = adds.get(x, 0) + 1
+    return adds
+
+
+def path_stands(start, env, name, delim, live):
+    old, old_counters = path_in(start, name, delim)
+    new, counters = path_in(env, name, delim)
+    adds = adds_of(live, name)
     if [x for x in new if x in old] != old or set(new) != set(old) | set(adds):
         return False
     return all(counters[x] == old_counters.get(x, 0) + adds.get(x, 0) for x in counters)
@@ -405,6 +444,73 @@ def stands(ways, start, live, env):
             if env.get(name) != value:
                 return False
     return all(env.get(n) == start.get(n) for n in set(env) | set(start) if n not in free)
+
+
+def lost_at(ways, start, live, env):
+    """The law that is lost at a moment with these live modules, or none. Where a rule of changes by hand is left out, no
+    order is asked: what stands over the start has to be lost, or that."""
+    try:
+        lost = None if WITHOUT or in_order(ways, env) else "in order"
+        lost = lost or (None if stands(ways, start, live, env) else "standing")
+    except Refused:
+        lost = "standing"
+    if not live and env != start:
+        lost = "the start" if lost is None else lost + " and the start"
+    return lost
+
+
+# Changes by hand: a variable is given a value, or is unset (none).
+
+
+def is_own(name):
+    """The variable holds the tool's own state: the loaded list, or the counters or the stack of another variable."""
+    others = [name.removeprefix(prefix) for prefix in (SHARE, STACK) if name.startswith(prefix)]
+    return name in LISTS or any(map(is_editable, others))
+
+
+def is_editable(name):
+    """Modulefiles may edit the variable."""
+    is_protected = name in (NAMES, FILES) or name.startswith("__MODULES_")
+    return not is_protected and re.fullmatch("[A-Za-z_][A-Za-z0-9_]*", name) is not None
+
+
+def by_hand(env, name, value):
+    """The environment after the change."""
+    new = dict(env)
+    put(new, name, value)
+    return new
+
+
+def may_change(ways, live, env, name, value):
+    """Hands may make the change while these modules are live."""
+    way = ways.get(name, ("none",))
+    if is_own(name):
+        return WITHOUT == NOT_OWN
+    if way[0] == "fixed":
+        return WITHOUT == NOT_SET
+    if way[0] == "stack":
+        return STACK + name not in env or WITHOUT == NO_STACK
+    if way[0] != "path":
+        return True
+    new = by_hand(env, name, value)
+    there, _ = path_in(new, name, way[1])
+    is_whole = adds_of(live, name).keys() <= set(there) or WITHOUT == STILL_THERE
+    return is_whole and (in_order({name: way}, new) or WITHOUT == IN_ORDER)
+
+
+def start_after(ways, start, live, env, name, value):
+    """The start in which the same was done without the live modules: of a path there is what they alone haven't added,
+    and each counter is less by what they have."""
+    way = ways.get(name, ("none",))
+    if way[0] != "path" or is_own(name):
+        return by_hand(start, name, value)
+    adds, (old, _) = adds_of(live, name), path_in(start, name, way[1])
+    there, counters = path_in(by_hand(env, name, value), name, way[1])
+    kept = [x for x in there if x not in adds or (x in old and WRONG != OLD_TAKEN) or WRONG == LIVE_LEFT]
+    less = {} if WRONG == COUNTERS_LEFT else adds
+    new = dict(start)
+    write_path(new, name, way[1], kept, {x: counters[x] - less.get(x, 0) for x in kept})
+    return new
 
 
 # Random starts, modules and runs.
@@ -522,6 +628,23 @@ def starts(draw, ways):
     return env
 
 
+# What an unload doesn't look at.
+UNSEEN = st.sampled_from([("unsetenv", "A", None), ("remove-path", ":", "B", ["a"]), ("conflict", ["c"]), ("prereq", ["k/9"])])
+
+
+@st.composite
+def alike(draw, records):
+    """Records that undo the same: other values set and pushed, other ends of paths, and more or less of what is unseen."""
+    found = draw(st.lists(UNSEEN, max_size=1))
+    for record in filter(undone_as, records):
+        if record[0] in ("setenv", "pushenv"):
+            record = (*record[:2], draw(st.sampled_from(VALUES)))
+        if record[0] in ("prepend-path", "append-path"):
+            record = (draw(st.sampled_from(["prepend-path", "append-path"])), *record[1:])
+        found += [record, *draw(st.lists(UNSEEN, max_size=1))]
+    return found
+
+
 MOVES = several(st.sampled_from([(kind, name) for kind in ("load", "load", "unload") for name in NEW]), 28)
 
 
@@ -533,7 +656,12 @@ def random_runs(draw):
     lines = st.lists(st.one_of(*(records(name, way) for name, way in ways.items()), needs(("c", "d/1"))), max_size=4)
     modules = {name: (name, f"/m/{name}", draw(lines)) for name in NEW}
     moves = draw(MOVES) + [("unload", name) for name in draw(st.permutations(NEW))]
-    return ways, start, [(kind, modules[name]) for kind, name in moves]
+    return ways, start, [(kind, draw(unload_of(modules[name])) if kind == "unload" else modules[name]) for kind, name in moves]
+
+
+def unload_of(module):
+    """The module with other records for its unload, half of the time."""
+    return st.one_of(st.just(module), st.builds(lambda records: (*module[:2], records), alike(module[2])))
 
 
 def run(ways, start, moves):
@@ -542,21 +670,16 @@ def run(ways, start, moves):
     for kind, module in moves:
         if kind == "load" and not is_fit(ways, live, module):
             continue
-        if kind == "unload" and module not in live:
+        old = [m for m in live if m[0] == module[0]]
+        if kind == "unload" and not (old and undo_alike(module[2], old[0][2])):
             continue
         try:
             env = moved(env, kind, module)
         except Refused:
             continue
         accepted += 1
-        live = live + [module] if kind == "load" else [m for m in live if m != module]
-        try:
-            lost = None if in_order(ways, env) else "in order"
-            lost = lost or (None if stands(ways, start, live, env) else "standing")
-        except Refused:
-            lost = "standing"
-        if not live and env != start:
-            lost = "the start" if lost is None else lost + " and the start"
+        live = live + [module] if kind == "load" else [m for m in live if m not in old]
+        lost = lost_at(ways, start, live, env)
         if lost:
             return lost, accepted
     return ("an unload was refused", accepted) if live else (None, accepted)
@@ -632,7 +755,7 @@ def premises(ways, start, moves):
     if not in_order({}, start):
         broken.add("list in order")
     for kind, module in moves:
-        for record in module[2]:
+        for record in module[2] if kind == "load" else ():
             if record[0] == "remove-path" or (record[0] == "unsetenv" and record[2] is None):
                 broken.add("kinds")
             elif not suits(ways, record):
@@ -645,8 +768,8 @@ def premises(ways, start, moves):
             old = [m for m in live if m[0] == module[0]]
             if not old:
                 broken.add("new modules")
-            elif old[0][2] != module[2]:
-                broken.add("the same records")
+            elif not undo_alike(module[2], old[0][2]):
+                broken.add("undone alike")
             live = [m for m in live if m[0] != module[0]]
     return broken
 
@@ -666,7 +789,9 @@ def worked_examples():
     return [
         ("unsetenv without a value", "kinds", {}, {"A": "x"}, there_and_back(module(M1, ("unsetenv", "A", None)))),
         ("remove-path", "kinds", path, {"P": "/a:/b"}, there_and_back(module(M1, ("remove-path", ":", "P", ["/a"])))),
-        ("other records at the unload", "the same records", path, {"P": "/a"}, [("load", add_b), ("unload", module(M1))]),
+        ("other records at the unload", "undone alike", path, {"P": "/a"}, [("load", add_b), ("unload", module(M1))]),
+        ("another value unset", "undone alike", {"A": ("fixed", "C")}, {"A": "C"}, [("load", module(M1, ("unsetenv", "A", "C"))), ("unload", module(M1, ("unsetenv", "A", "D")))]),
+        ("another delimiter", "undone alike", path, {"P": "/a"}, [("load", add_b), ("unload", module(M1, ("prepend-path", ";", "P", ["/b"])))]),
         ("a set of a variable with a value", "value at the start", {"A": ("fixed", None)}, {"A": "x"}, there_and_back(set_a)),
         ("an unset with another value", "value at the start", {"A": ("fixed", "C")}, {"A": "de"}, there_and_back(module(M1, ("unsetenv", "A", "C")))),
         ("set and pushed", "one way", stack, {}, crossed(module(M2, ("setenv", "C", "y")), push_x)),

@@ -177,6 +177,10 @@ class Tree:
                 text = named if is_version else f"module-version {folder}/{version} default"
                 file.write(f"#%Module\n{text}\n")
 
+    def is_there(self, directory):
+        """The directory has files."""
+        return any(path.startswith(f"{directory}/") for path in [*self.modules, *self.defaults])
+
     def found(self, modulepath, name):
         """The name and the path of a module, or none."""
         for directory in modulepath.split(":"):
@@ -414,16 +418,26 @@ def commands(draw, names, may_purge):
     return [word, *(draw(names) for _ in range(count))]
 
 
+def directories(top):
+    return tuple(f"{top}/tree/{name}" for name in ("one", "two", "three"))
+
+
 @st.composite
-def sessions(draw, shell, top):
-    dirs = tuple(f"{top}/tree/{name}" for name in ("one", "two", "three"))
-    ways_of = {name: draw(ways(shell)) for name in variables(shell)} | {"MODULEPATH": ("path", ":")}
+def grounds(draw, shell, top, ways_of):
+    """A tree and a start, whose modules use variables in these ways, and strategies of commands over them."""
+    dirs = directories(top)
     kinds = [QUIET, *(records(name, way, dirs) for name, way in ways_of.items()), model.needs(NEEDED)]
     tree = draw(trees(dirs, st.tuples(places(dirs), st.one_of(*kinds), SPELLINGS)))
     start = {**draw(starts(ways_of, dirs, shell)), "PWD": top}
     names = st.sampled_from(tree.names() * 2 + ODD_NAMES)
-    words = draw(several(commands(names, not model.loaded_in(start)), 28))
-    return Reversible(ways_of, shell, tree, start, words, draw(ENDS))
+    return tree, start, commands(names, not model.loaded_in(start))
+
+
+@st.composite
+def sessions(draw, shell, top):
+    ways_of = {name: draw(ways(shell)) for name in variables(shell)} | {"MODULEPATH": ("path", ":")}
+    tree, start, its_commands = draw(grounds(shell, top, ways_of))
+    return Reversible(ways_of, shell, tree, start, draw(several(its_commands, 28)), draw(ENDS))
 
 
 def is_apart(tree, modules):
@@ -435,19 +449,28 @@ def is_apart(tree, modules):
 
 class Session:
     """A tree, a start, and commands, with what each that is taken has to do. The bits of the ends say which of the modules
-    that are left are unloaded one by one."""
+    that are left are unloaded one by one. What it begins with stays the start, but for changes by hand."""
 
     def __init__(self, shell, tree, start, words, ends):
         self.shell = shell
         self.tree = tree
-        self.start = self.env = start
+        self.begun = self.start = self.env = start
         self.words = words
         self.ends = ends
         self.old = model.loaded_in(start)
         self.commands = []
 
     def __repr__(self):
-        return f"{self.words} from {self.start} with {self.tree}"
+        return f"{self.words} from {self.begun} with {self.tree}"
+
+    def opening(self):
+        """The lines of the shell before the first command."""
+        return []
+
+    def line(self, words, program, top, at):
+        """How the shell runs a command, keeps what it says and its status, and evaluates its text."""
+        call = " ".join(quoted(self.shell, one) for one in [program, self.shell, *words])
+        return LINES[self.shell].format(call=call, top=top, at=at)
 
     def follow(self):
         for words in self.words:
@@ -501,10 +524,13 @@ class Reversible(Session):
         """The modules that are loaded stay apart."""
         return is_apart(self.tree, {*step.loads(), *self.live()})
 
+    def live_modules(self):
+        return [(name, path, self.tree.modules[path].records) for name, path in self.live()]
+
     def stands(self, words):
-        live = [(name, path, self.tree.modules[path].records) for name, path in self.live()]
-        if not model.in_order(self.ways, self.env) or not model.stands(self.ways, self.start, live, self.env):
-            raise Lost(f"the model loses its order at {words}")
+        lost = model.lost_at(self.ways, self.start, self.live_modules(), self.env)
+        if lost:
+            raise Lost(f"lost at {words}: {lost}")
 
 
 # The shell.
@@ -517,7 +543,6 @@ def quoted(shell, text):
     return "'" + (text.replace("!", "'\\!'") if shell == "tcsh" else text) + "'"
 
 
-# How a shell runs a command, keeps what it says and its status, and evaluates its text.
 LINES = {
     "sh": 'text=$({call} 2> {top}/err.{at}); echo $? > {top}/status.{at}; eval "$text"',
     "tcsh": '( {call} > {top}/text ) >& {top}/err.{at}\necho $status > {top}/status.{at}\neval "`cat {top}/text`"',
@@ -526,12 +551,11 @@ LINES = {
 }
 
 
-def script(shell, program, commands, top):
+def script(run, program, top):
     """A session: each command's text is evaluated, and behind each stand the exported variables."""
-    lines = [f"{ENV} -0 > {top}/env.0"]
-    for at, (words, _, _, _) in enumerate(commands, 1):
-        call = " ".join(quoted(shell, one) for one in [program, shell, *words])
-        lines.append(LINES[shell].format(call=call, top=top, at=at))
+    lines = [*run.opening(), f"{ENV} -0 > {top}/env.0"]
+    for at, (words, _, _, _) in enumerate(run.commands, 1):
+        lines.append(run.line(words, program, top, at))
         lines.append(f"{ENV} -0 > {top}/env.{at}")
     return "\n".join(lines) + "\n"
 
@@ -553,7 +577,7 @@ def own_entries(run, found):
     """What a shell of another family sets of its own at its start."""
     if run.shell == "sh":
         return []
-    names = {name.encode() for name in run.start}
+    names = {name.encode() for name in run.begun}
     return [entry for entry in found if entry and entry.split(b"=", 1)[0] not in names]
 
 
@@ -565,10 +589,10 @@ def lost(run, program, top):
     """What the program does otherwise than the model, or none."""
     path = os.path.join(top, "session")
     with open(path, "w") as file:
-        file.write(script(run.shell, program, run.commands, top))
+        file.write(script(run, program, top))
     done = subprocess.run(
         [*SHELLS[run.shell], path],
-        env=run.start,
+        env=run.begun,
         cwd=top,
         stdin=subprocess.DEVNULL,
         capture_output=True,
@@ -578,8 +602,8 @@ def lost(run, program, top):
     if done.stderr or done.returncode != 0:
         return f"the shell ended with status {done.returncode} and said {done.stderr}"
     own = own_entries(run, entries(read(top, "env.0")))
-    if entries(read(top, "env.0")) != wanted_entries(run.start, own):
-        return f"the shell's start: {difference(entries(read(top, 'env.0')), wanted_entries(run.start, own))}"
+    if entries(read(top, "env.0")) != wanted_entries(run.begun, own):
+        return f"the shell's start: {difference(entries(read(top, 'env.0')), wanted_entries(run.begun, own))}"
     for at, (words, env, said, status) in enumerate(run.commands, 1):
         what = f"command {at}, {words}"
         if read(top, f"status.{at}") != b"%d\n" % status or read(top, f"err.{at}") != said.encode():
@@ -587,7 +611,7 @@ def lost(run, program, top):
             return f"{what}: {found}, wanted {status}, {said!r}"
         if entries(read(top, f"env.{at}")) != wanted_entries(env, own):
             return f"{what}: {difference(entries(read(top, f'env.{at}')), wanted_entries(env, own))}"
-    if entries(read(top, f"env.{len(run.commands)}")) != entries(read(top, "env.0")):
+    if entries(read(top, f"env.{len(run.commands)}")) != wanted_entries(run.start, own):
         return "the last unload doesn't leave the start"
     return None
 

@@ -22,7 +22,15 @@ CLAUSES = (
     "that versions of one name may be loaded at once",
     "that names match by their parts",
     "plainness",
+    "that the start agrees with what is loaded",
 )
+
+# Of the choice among modules that clash, each with what it is for.
+CHOICES = {
+    "the rivals": "those that most get on with stay",
+    "the versions that exclude one another": "those that most get on with stay",
+    "the names": "the order of the files makes no difference",
+}
 
 
 def is_without(clause):
@@ -123,6 +131,52 @@ def clashes_of(one, other):
     return [it for it in pairs if not (is_fine or go_together(*it[1:])) or not agree_at_start(*it[1:])]
 
 
+# Which of the modules in step are certified, where some clash.
+
+
+def first_part(name):
+    return name.partition("/")[0]
+
+
+def are_exclusive_versions(one, other):
+    """Versions of one module, of which the first excludes the others."""
+    if is_without("the versions that exclude one another"):
+        return False
+    part = first_part(one.name)
+    return part in conflict_names(one) and part == first_part(other.name)
+
+
+def rivals(module, modules):
+    """How many uses there are of its variables by these modules that don't go together with its own."""
+    if is_without("the rivals"):
+        return 0
+    others = [other for other in modules if not are_exclusive_versions(module, other)]
+    uses = [use for other in others for use in dict.fromkeys(uses_of(other))]
+    pairs = [(own, its) for name, own in dict.fromkeys(uses_of(module)) for theirs, its in uses if name == theirs]
+    return sum(not go_together(*pair) for pair in pairs)
+
+
+def in_rank(modules):
+    """The order in which modules are certified."""
+    places = {module: (module.name.encode(), module.path.encode()) for module in modules}
+    if is_without("the names"):
+        places = dict.fromkeys(modules, ())
+    return sorted(modules, key=lambda module: (rivals(module, modules), places[module]))
+
+
+def in_step(modules):
+    return [module for module in modules if is_plain(module) and not steps_out(module)]
+
+
+def certified(modules):
+    """In their rank, each of the modules in step that clashes with no certified one before it."""
+    sure = []
+    for module in in_rank(in_step(modules)):
+        if not any(clashes_of(module, other) for other in sure):
+            sure.append(module)
+    return [module for module in modules if module in sure]
+
+
 # A site.
 
 
@@ -158,12 +212,7 @@ def standing_of(module, modules):
         return "one-way"
     if steps_out(module):
         return "out-of-step"
-    others = [other for other in modules if is_plain(other) and not steps_out(other)]
-    return "clashes" if any(clashes_of(module, other) for other in others) else "certified"
-
-
-def certified(modules):
-    return [module for module in modules if standing_of(module, modules) == "certified"]
+    return "certified" if module in certified(modules) else "clashes"
 
 
 def certificate(modules):
@@ -183,6 +232,11 @@ def agrees_with_use(env, name, use):
 
 def agrees(env, uses):
     return model.in_order({}, env) and all(agrees_with_use(env, name, use) for name, use in uses)
+
+
+def may_be_loaded(module, start):
+    """The start agrees with what a module uses."""
+    return is_without("that the start agrees with what is loaded") or agrees(start, uses_of(module))
 
 
 def uses_by(live):

@@ -1,13 +1,12 @@
--- Commands one after another, by the law of one command.
-use Rattle.std.proofs.Common.{◌≡◌, List, [], ◌∷◌, ◌++◌, Result, Ok, Err, refl, sym, subst}
+-- Commands one after another, with changes by hand between them, by the law of one command.
+use Rattle.std.proofs.Common.{◌≡◌, List, [], ◌∷◌, ◌++◌, map, Result, Ok, Err, refl, sym, ap, subst}
 use Rattle.envvars.specs.Texts.{Text}
 use Rattle.envvars.specs.Environment.{Environment}
 use Rattle.filetree.specs.Agreement.{Files, Listings}
-use Rattle.modulefile.specs.Moves.{Module, Move, Loads, Unloads}
+use Rattle.modulefile.specs.Moves.{Module, Move}
 use Rattle.shelltext.specs.Reading.{OneEffect, DifferenceMakes, SaysDifference}
 use Rattle.reversal.specs.VariableUses.{VariableUse}
-use Rattle.reversal.specs.Starts.{IsStart}
-use Rattle.reversal.specs.Runs.{live_after, without_live, AreReversibleTogether}
+use Rattle.reversal.specs.Runs.{live_after}
 use Rattle.reversal.specs.Laws.{Holds, RunsReturn}
 use Rattle.requests.specs.Laws as requests
 use Rattle.requests.specs.Reasons.{RequestReason}
@@ -16,26 +15,14 @@ use Rattle.requests.specs.Returning.{AreNew, AreReversibleBeside}
 use Rattle.requests.specs.Steps.{Done, RequestStep, request_context_in}
 use Rattle.modulecmd.specs.Command.{CommandResult, CommandHasResult, standard, with_shell}
 use Rattle.modulecmd.specs.Output.{ReturnsToStart}
-use Rattle.modulecmd.specs.Runs.{PrintedCommand, ShellsHold, moves_in, ShellsReturn}
+use Rattle.handchanges.specs.HandChanges.{start_after}
+use Rattle.handchanges.specs.Events.{act, moves_of, EventsReachWhile}
+use Rattle.handchanges.specs.Laws.{OneChangeHolds}
+use Rattle.handchanges.proofs.EventLemmas.{new_kept, all_kept}
+use Rattle.handchanges.proofs.Sessions.{Stands, stands_at_start, Coming, acts_keep}
+use Rattle.modulecmd.specs.Runs.{PrintedCommand, ShellsHold, moves_in, ShellsReturn, command_moves, CommandMakes}
+use Rattle.modulecmd.specs.Runs.{ShellsAndHandsReturn, CommandsAreEvents, CommandAfterChange}
 use Rattle.modulecmd.proofs.CommandLemmas.{returns_to_start}
-
--- ---- moves, cut in two
-
-pub new_front : (start : Environment) (ms ns : List Move) → AreNew start (ms ++ ns) → AreNew start ms × AreNew start ns
-new_front start [] ns h = (tt, h)
-new_front start (m ∷ ms) ns h = let p = new_front start ms ns h.1 in ((h.0, p.0), p.1)
-
-fitting_front : (uses : Text → VariableUse) (live : List Module) (ms ns : List Move)
-    → AreReversibleBeside uses live (ms ++ ns) → AreReversibleBeside uses live ms
-    × AreReversibleBeside uses (live_after live ms) ns
-fitting_front uses live [] ns h = (tt, h)
-fitting_front uses live (Loads m ∷ ms) ns h = let p = fitting_front uses (m ∷ live) ms ns h.1 in ((h.0, p.0), p.1)
-fitting_front uses live (Unloads m ∷ ms) ns h = let p = fitting_front uses (without_live m.name live) ms ns h.1 in ((h.0, p.0), p.1)
-
-pub live_together : (live : List Module) (ms ns : List Move) → live_after live (ms ++ ns) ≡ live_after (live_after live ms) ns
-live_together live [] ns = refl
-live_together live (Loads m ∷ ms) ns = live_together (m ∷ live) ms ns
-live_together live (Unloads m ∷ ms) ns = live_together (without_live m.name live) ms ns
 
 -- ---- one command
 
@@ -54,20 +41,61 @@ command_back : requests.CommandsReturn → OneEffect → DifferenceMakes → (ar
 command_back returns one makes arguments e files listings f text (Err reason, is, h) says = absurd (let q : Ok f ≡ Err reason = h in cc)
 command_back returns one makes arguments e files listings f text (Ok r, is, (step, h, same)) says = step_back returns one makes e files listings r f text step h same says
 
--- ---- all of them
+-- ---- all of them, with changes by hand between them
 
-each : requests.CommandsReturn → OneEffect → DifferenceMakes → (uses : Text → VariableUse) (files : Files) (listings : Listings) (start : Environment) → IsStart uses start
-    → (cs : List PrintedCommand) (live : List Module) (e last : Environment) → Holds uses start live e → AreReversibleTogether uses live → ShellsHold files listings e cs last
-    → AreNew start (moves_in cs) → AreReversibleBeside uses live (moves_in cs) → Holds uses start (live_after live (moves_in cs)) last
-each returns one makes uses files listings start begin [] live e last holds fit is news fits = subst (Holds uses start live) (sym is) holds
-each returns one makes uses files listings start begin (c ∷ cs) live e last holds fit (does, says, next, made, after) news fits =
-    let ms = c.effect.1.moves in
-    let n = new_front start ms (moves_in cs) news in
-    let f = fitting_front uses live ms (moves_in cs) fits in
-    let h = command_back returns one makes c.arguments e files listings c.effect c.text does says uses start next live begin holds.order holds.start_with_live fit n.0 f.0 made in
-    subst (λ l. Holds uses start l last) (sym (live_together live ms (moves_in cs)))
-    (each returns one makes uses files listings start begin cs (live_after live ms) next last h.0 h.1 after n.1 f.1)
+command_stands : requests.CommandsReturn → OneEffect → DifferenceMakes → (uses : Text → VariableUse) (files : Files) (listings : Listings) (live : List Module)
+    (start e next : Environment) (c : PrintedCommand) → Stands uses live start e → Coming uses live start (command_moves c) → CommandMakes files listings c e next
+    → Stands uses (live_after live (command_moves c)) start next
+command_stands returns one makes uses files listings live start e next c stands coming (does, says, made) =
+    let h = command_back returns one makes c.arguments e files listings c.effect c.text does says uses start next live stands.0 stands.1.order
+    stands.1.start_with_live stands.2 coming.0 coming.1 made in
+    (stands.0, h.0, h.1)
 
-pub commands_return : RunsReturn → requests.CommandsReturn → OneEffect → DifferenceMakes → ShellsReturn
-commands_return runs returns one makes uses files listings start last cs begin holds news fits =
-    each returns one makes uses files listings start begin cs [] start last (runs uses start start [] begin tt refl) tt holds news fits
+pub shells_and_hands_return : RunsReturn → requests.CommandsReturn → OneEffect → DifferenceMakes → OneChangeHolds → ShellsAndHandsReturn
+shells_and_hands_return runs returns one makes change uses files listings start last_start last events begins reach news fits =
+    let p = all_kept command_moves (CommandMakes files listings) (λ live. uses) (λ b a. Unit {0}) (Stands uses) (Coming uses)
+    (acts_keep change command_moves (CommandMakes files listings) uses (command_stands returns one makes uses files listings))
+    events [] start start last_start last (stands_at_start runs uses start begins) (news, fits) reach in
+    (p.0, p.1, p.2)
+
+-- ---- commands alone
+
+-- each of the commands is allowed by the start
+abbrev pub AllAllowed : (Environment → PrintedCommand → Type 0) → Environment → List PrintedCommand → Type 0
+AllAllowed Allows start [] = Unit {0}
+AllAllowed Allows start (c ∷ cs) = Allows start c × AllAllowed Allows start cs
+
+pub alone : (uses_while : List Module → Text → VariableUse) (Allows : Environment → PrintedCommand → Type 0) (files : Files) (listings : Listings) (start : Environment)
+    (cs : List PrintedCommand) (live : List Module) (e last : Environment) → AllAllowed Allows start cs → ShellsHold files listings e cs last
+    → EventsReachWhile command_moves (CommandMakes files listings) uses_while Allows live start e (map act cs) start last
+alone uses_while Allows files listings start [] live e last all h = (refl, h)
+alone uses_while Allows files listings start (c ∷ cs) live e last all (does, says, next, made, after) =
+    (all.0, (next, (does, says, made), alone uses_while Allows files listings start cs (live_after live (command_moves c)) next last all.1 after))
+
+nothing_asked : (start : Environment) (cs : List PrintedCommand) → AllAllowed (λ b a. Unit {0}) start cs
+nothing_asked start [] = tt
+nothing_asked start (c ∷ cs) = (tt, nothing_asked start cs)
+
+pub same_moves : (cs : List PrintedCommand) → moves_of command_moves (map act cs) ≡ moves_in cs
+same_moves [] = refl
+same_moves (c ∷ cs) = ap (λ (ms : List Move). command_moves c ++ ms) (same_moves cs)
+
+pub commands_are_events : CommandsAreEvents
+commands_are_events uses files listings start last cs h = (alone (λ live. uses) (λ b a. Unit {0}) files listings start cs [] start last (nothing_asked start cs) h, same_moves cs)
+
+pub commands_return : RunsReturn → requests.CommandsReturn → OneEffect → DifferenceMakes → OneChangeHolds → ShellsReturn
+commands_return runs returns one makes change uses files listings start last cs begins holds news fits =
+    let q : moves_of command_moves (map act cs) ≡ moves_in cs = same_moves cs in
+    subst (λ (ms : List Move). Holds uses start (live_after [] ms) last) q
+    (shells_and_hands_return runs returns one makes change uses files listings start start last (map act cs) begins
+    (alone (λ live. uses) (λ b a. Unit {0}) files listings start cs [] start last (nothing_asked start cs) holds)
+    (subst (AreNew start) (sym q) news) (subst (AreReversibleBeside uses []) (sym q) fits)).1
+
+-- ---- one command after a change by hand
+
+pub command_after_change : OneChangeHolds → CommandAfterChange
+command_after_change change uses start e next live c effect text begins order over fit may back news fits made =
+    let p = change uses start e live c begins order over may in
+    let q = back uses (start_after uses live start e c) next live p.begins p.holds.order p.holds.start_with_live fit
+    (new_kept start (start_after uses live start e c) effect.1.moves p.loaded news) fits made in
+    (p.begins, q.0, q.1)

@@ -1,5 +1,5 @@
--- Commands of certified modules one after another, by the law of one command.
-use Rattle.std.proofs.Common.{◌≡◌, List, [], ◌∷◌, ◌++◌, Result, Ok, Err, sym, subst}
+-- Commands of certified modules one after another, with changes by hand between them, by the law of one command.
+use Rattle.std.proofs.Common.{◌≡◌, List, [], ◌∷◌, ◌++◌, map, Result, Ok, Err, refl, sym, subst}
 use Rattle.envvars.specs.Texts.{Text}
 use Rattle.envvars.specs.Environment.{Environment}
 use Rattle.filetree.specs.Agreement.{Files, Listings}
@@ -12,19 +12,18 @@ use Rattle.requests.specs.Requests.{Request}
 use Rattle.requests.specs.Returning.{AreNew}
 use Rattle.requests.specs.Steps.{Done, RequestStep, request_context_in}
 use Rattle.sitecertificate.specs.RecordUses.{uses_by}
-use Rattle.sitecertificate.specs.Certificates.{certified, certificate, AgreesWith}
-use Rattle.sitecertificate.specs.Laws.{AreCertifiedTogether}
+use Rattle.sitecertificate.specs.Certificates.{certified}
+use Rattle.sitecertificate.specs.Laws.{AreLayered, NoneIsLayered}
 use Rattle.sitelaws.specs.Sites.{site_of, ArePlainModules}
-use Rattle.sitelaws.specs.Laws.{LoadsAreOf, SiteSessionsReturn, SiteCommandsReturn}
+use Rattle.sitelaws.specs.Laws.{LoadsAreOf, SiteCommandsReturn}
 use Rattle.modulecmd.specs.Command.{CommandResult, CommandHasResult, standard, with_shell}
-use Rattle.modulecmd.specs.Runs.{PrintedCommand, ShellsHold, moves_in}
-use Rattle.modulecmd.specs.Sites.{SiteShellsReturn}
-use Rattle.modulecmd.proofs.RunLemmas.{new_front, live_together}
-
-loads_front : (ms : List Module) (moves more : List Move) → LoadsAreOf ms (moves ++ more) → LoadsAreOf ms moves × LoadsAreOf ms more
-loads_front ms [] more h = (tt, h)
-loads_front ms (Loads m ∷ moves) more h = let p = loads_front ms moves more h.1 in ((h.0, p.0), p.1)
-loads_front ms (Unloads m ∷ moves) more h = loads_front ms moves more h
+use Rattle.handchanges.specs.HandChanges.{start_after}
+use Rattle.handchanges.specs.Events.{act, moves_of}
+use Rattle.handchanges.specs.Laws.{OneChangeHolds}
+use Rattle.handchanges.proofs.EventLemmas.{new_parts, new_kept, Keep, all_kept}
+use Rattle.modulecmd.specs.Runs.{PrintedCommand, moves_in, command_moves, CommandMakes}
+use Rattle.modulecmd.specs.Sites.{CommandLoads, SiteShellsReturn, SiteShellsAndHandsReturn, SiteCommandsAreEvents}
+use Rattle.modulecmd.proofs.RunLemmas.{AllAllowed, alone, same_moves}
 
 -- ---- one command
 
@@ -41,27 +40,66 @@ step_of : (arguments : List Text) (e : Environment) (files : Files) (listings : 
 step_of arguments e files listings f (Err reason, is, h) = absurd (let q : Ok f ≡ Err reason = h in cc)
 step_of arguments e files listings f (Ok r, is, (step, h, same)) = (r, step_at e files listings r f step h same)
 
--- ---- all of them
+-- ---- all of them, with changes by hand between them
 
-abbrev Stands : List Module → Environment → List Module → Environment → Type 0
-Stands ms start live e = Holds (uses_by live) start live e × AreCertifiedTogether ms live
+abbrev Stands : List Module → List Module → Environment → Environment → Type 0
+Stands ms live start e = AreLayered ms start live e × (live ≡ [] → e ≡ start)
 
-each : SiteCommandsReturn → OneEffect → DifferenceMakes → (judged_in : Environment) (files : Files) (listings : Listings) (ms : List Module) (start : Environment)
-    → ArePlainModules (site_of standard judged_in files listings) ms → AgreesWith (certificate ms) start
-    → (cs : List PrintedCommand) (live : List Module) (e last : Environment) → Stands ms start live e → ShellsHold files listings e cs last
-    → AreNew start (moves_in cs) → LoadsAreOf (certified ms) (moves_in cs) → Stands ms start (live_after live (moves_in cs)) last
-each returns one makes judged_in files listings ms start plain agrees [] live e last stands is news loads = subst (Stands ms start live) (sym is) stands
-each returns one makes judged_in files listings ms start plain agrees (c ∷ cs) live e last stands (does, says, next, made, after) news loads =
-    let moves = c.effect.1.moves in
-    let n = new_front start moves (moves_in cs) news in
-    let l = loads_front (certified ms) moves (moves_in cs) loads in
+abbrev Coming : List Module → Environment → List Move → Type 0
+Coming live start moves = AreNew start moves
+
+command_stands : SiteCommandsReturn → OneEffect → DifferenceMakes → (judged_in : Environment) (files : Files) (listings : Listings) (ms : List Module)
+    → ArePlainModules (site_of standard judged_in files listings) ms → (live : List Module) (start e next : Environment) (c : PrintedCommand) → AreLayered ms start live e
+    → AreNew start (command_moves c) → CommandLoads (certified ms) start c → CommandMakes files listings c e next → Stands ms (live_after live (command_moves c)) start next
+command_stands returns one makes judged_in files listings ms plain live start e next c layered news loads (does, says, made) =
     let r = step_of c.arguments e files listings c.effect does in
-    let h = returns (site_of standard judged_in files listings) ms r.0.0 start e live r.0.1 c.effect.1 plain agrees stands.1 stands.0.order stands.0.start_with_live r.1 n.0 l.0 in
+    let h = returns (site_of standard judged_in files listings) ms r.0.0 start e live r.0.1 c.effect.1 plain layered r.1 news loads in
     let same : c.effect.1.env ≡ next = one c.effect.0 c.text e c.effect.1.env next (makes c.effect.0 c.text e c.effect.1.env says) made in
-    subst (λ (x : List Module). Stands ms start x last) (sym (live_together live moves (moves_in cs)))
-    (each returns one makes judged_in files listings ms start plain agrees cs (live_after live moves) next last (subst (Stands ms start (live_after live moves)) same h) after n.1 l.1)
+    subst (Stands ms (live_after live (command_moves c)) start) same h
 
-pub site_shells_return : SiteSessionsReturn → SiteCommandsReturn → OneEffect → DifferenceMakes → SiteShellsReturn
-site_shells_return sessions returns one makes judged_in files listings ms start last cs plain agrees holds news loads =
-    let begin = sessions (site_of standard judged_in files listings) ms plain start [] [] [] agrees tt tt tt in
-    (each returns one makes judged_in files listings ms start plain agrees cs [] start last (begin, tt) holds news loads).0
+keep : SiteCommandsReturn → OneEffect → DifferenceMakes → OneChangeHolds → (judged_in : Environment) (files : Files) (listings : Listings) (ms : List Module)
+    → ArePlainModules (site_of standard judged_in files listings) ms
+    → Keep command_moves (CommandMakes files listings) uses_by (CommandLoads (certified ms)) (Stands ms) Coming
+keep returns one makes change judged_in files listings ms plain = record {
+  by_act = λ live start e next c more stands coming loads made.
+      let n = new_parts start (command_moves c) more coming in
+      (command_stands returns one makes judged_in files listings ms plain live start e next c stands.0 n.0 loads made, n.1);
+  by_change = λ live start e c more stands coming may.
+      let s = stands.0 in
+      let p = change (uses_by live) start e live c s.begins s.order s.start_with_live may in (
+        (record { together = s.together; begins = p.begins; order = p.holds.order; start_with_live = p.holds.start_with_live }, p.holds.returned),
+        new_kept start (start_after (uses_by live) live start e c) more p.loaded coming,
+      );
+}
+
+pub site_shells_and_hands_return : NoneIsLayered → SiteCommandsReturn → OneEffect → DifferenceMakes → OneChangeHolds → SiteShellsAndHandsReturn
+site_shells_and_hands_return begins returns one makes change judged_in files listings ms start last_start last events plain order reach news =
+    all_kept command_moves (CommandMakes files listings) uses_by (CommandLoads (certified ms)) (Stands ms) Coming
+    (keep returns one makes change judged_in files listings ms plain) events [] start start last_start last (begins ms start order, (λ n. refl)) news reach
+
+-- ---- commands alone
+
+loads_parts : (ms : List Module) (start : Environment) (moves more : List Move) → LoadsAreOf ms start (moves ++ more) → LoadsAreOf ms start moves × LoadsAreOf ms start more
+loads_parts ms start [] more h = (tt, h)
+loads_parts ms start (Loads m ∷ moves) more h = let p = loads_parts ms start moves more h.1 in ((h.0, p.0), p.1)
+loads_parts ms start (Unloads m ∷ moves) more h = loads_parts ms start moves more h
+
+all_load : (ms : List Module) (start : Environment) (cs : List PrintedCommand) → LoadsAreOf ms start (moves_in cs) → AllAllowed (CommandLoads ms) start cs
+all_load ms start [] h = tt
+all_load ms start (c ∷ cs) h = let p = loads_parts ms start (command_moves c) (moves_in cs) h in (p.0, all_load ms start cs p.1)
+
+pub site_commands_are_events : SiteCommandsAreEvents
+site_commands_are_events files listings certain start last cs h loads =
+    alone uses_by (CommandLoads certain) files listings start cs [] start last (all_load certain start cs loads) h
+
+pub site_shells_return : NoneIsLayered → SiteCommandsReturn → OneEffect → DifferenceMakes → OneChangeHolds → SiteShellsReturn
+site_shells_return begins returns one makes change judged_in files listings ms start last cs plain order holds news loads =
+    let q : moves_of command_moves (map act cs) ≡ moves_in cs = same_moves cs in
+    subst (λ (moves : List Move). Holds (uses_by (live_after [] moves)) start (live_after [] moves) last) q
+    (held (live_after [] (moves_of command_moves (map act cs)))
+    (site_shells_and_hands_return begins returns one makes change judged_in files listings ms start start last (map act cs) plain order
+    (site_commands_are_events files listings (certified ms) start last cs holds loads)
+    (subst (AreNew start) (sym q) news)))
+  where
+    held : (live : List Module) → Stands ms live start last → Holds (uses_by live) start live last
+    held live s = record { order = s.0.order; start_with_live = s.0.start_with_live; returned = s.1 }

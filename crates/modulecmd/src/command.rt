@@ -91,14 +91,14 @@ fn answer_of<T: Tree>(
 /// makes of the environment what the step makes of it.
 ///
 /// The environment may be in order, and be a start in order with live modules layered on it that are reversible and
-/// apart. Then so it is after the command, if this unloads no module of the start and unloads each other with the
-/// records of its load; and with no module live it is the start.
+/// apart. Then so it is after the command, if this unloads no module of the start and unloads each other by records
+/// that undo what those of its load undo; and with no module live it is the start.
 ///
 /// A refused command writes nothing but the line that says why, to standard error. It is refused as the arguments or
 /// the step are, or for want of memory, by 43 where the device failed in this call, at a path that the request looks
-/// at, or by 62 where the changes have no text in the shell. Where a write to standard error fails (64), the first part of the messages and the report is
-/// there, not all, and nothing has gone to standard output; where one to standard output fails, the first part of the
-/// text is there, not all. Then the line that says so follows on standard error.
+/// at, or by 62 where the changes have no text in the shell. Where a write to standard error fails (64), the first part
+/// of the messages and the report is there, not all, and nothing has gone to standard output; where one to standard
+/// output fails, the first part of the text is there, not all. Then the line that says so follows on standard error.
 pub fn run_command<T: Tree, W: Write, E: Write>(
     alloc: Global,
     args: &[String],

@@ -1,7 +1,7 @@
 //! Laws of commands. Each is a function that does nothing: its contract is the law.
 ghost use Rattle.modulecmd.specs.Command.{OneCommand};
-ghost use Rattle.modulecmd.specs.Runs.{ShellsReturn};
-ghost use Rattle.modulecmd.specs.Sites.{SiteShellsReturn};
+ghost use Rattle.modulecmd.specs.Runs.{ShellsReturn, ShellsAndHandsReturn, CommandsAreEvents, CommandAfterChange};
+ghost use Rattle.modulecmd.specs.Sites.{SiteShellsReturn, SiteShellsAndHandsReturn, SiteCommandsAreEvents};
 
 /// A command has one effect at most, or one reason. So where the definitions refuse it by a number, no call accepts it,
 /// and a refusal that isn't want of memory or a failed device has that number.
@@ -22,15 +22,55 @@ pub fn commands_return()
     requests::command_returns();
     shelltext::laws::one_effect();
     shelltext::laws::difference_makes();
+    handchanges::laws::one_change();
 }
 
-/// The same for commands whose loads are of certified modules of a site, from a start that agrees with its certificate:
-/// nothing is asked of records, of their kinds, or of how the modules go together.
+/// The same with changes by hand between the commands: what hands have changed stays. A change is of one variable, and
+/// by the use that modules make of it: of one that they don't use, anything; of a path, as long as it is in order with
+/// its counters and has the elements that live modules have added; of one that they push on, while it has no stack;
+/// none of one that they set or unset, nor of the tool's own. With no module live the shell holds what the same changes have made
+/// of the start (`returned`). Commands alone are such a session (`alone`).
+pub fn commands_and_hands_return()
+    ensures returned { ShellsAndHandsReturn }
+    ensures alone { CommandsAreEvents }
+{
+    reversal::laws::runs();
+    requests::command_returns();
+    shelltext::laws::one_effect();
+    shelltext::laws::difference_makes();
+    handchanges::laws::one_change();
+}
+
+/// What the clause of one command promises holds after a change by hand too, over what the same change makes of the
+/// start.
+pub fn command_after_change()
+    ensures { CommandAfterChange }
+{
+    handchanges::laws::one_change();
+}
+
+/// The same for commands whose loads are of certified modules of a site with whose uses the start agrees: nothing is
+/// asked of records, of their kinds, of how the modules go together, or of what modules use that no command loads.
 pub fn site_commands_return()
     ensures { SiteShellsReturn }
 {
-    sitelaws::laws::sessions_return();
+    sitecertificate::laws::steps();
     sitelaws::laws::command_returns();
     shelltext::laws::one_effect();
     shelltext::laws::difference_makes();
+    handchanges::laws::one_change();
+}
+
+/// The same with changes by hand between the commands, by the uses of the modules that are live then: a variable that
+/// none of them uses may be changed freely, but for the tool's own. At each load the start, as changes have made it
+/// until then, agrees with what the module uses (`returned`). Commands alone are such a session (`alone`).
+pub fn site_commands_and_hands_return()
+    ensures returned { SiteShellsAndHandsReturn }
+    ensures alone { SiteCommandsAreEvents }
+{
+    sitecertificate::laws::steps();
+    sitelaws::laws::command_returns();
+    shelltext::laws::one_effect();
+    shelltext::laws::difference_makes();
+    handchanges::laws::one_change();
 }

@@ -1,5 +1,5 @@
 //! A whole command: the words of a command line in, the text for a shell and the messages out (module(1)).
-//! Takes memory; reads the tree and input and writes to the writers that it is given; one call asks the process.
+//! Takes memory; reads the tree and input and writes to the writers that it is given; hands on what asks the process.
 //! `modulecmd` is `run_command`, but answers the status of the process.
 #![tactic(auto)]
 
@@ -21,7 +21,10 @@ pub use envpaths::{End, add_path, drop_path};
 pub use envstacks::{pop_value, push_value};
 pub use envvars::{Change, Env, EnvFault, changes};
 pub use filetree::{DiskTree, MemoryTree, SeenPath, Tree, TreeFault};
-pub use laws::{commands_return, one_command, site_commands_return};
+pub use laws::{
+    command_after_change, commands_and_hands_return, commands_return, one_command,
+    site_commands_and_hands_return, site_commands_return,
+};
 pub use lookup::{Found, Listing, available, locate};
 pub use modulefile::RecordFault;
 pub use modulename::version_order;

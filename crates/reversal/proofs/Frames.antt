@@ -16,7 +16,7 @@ use Rattle.envstate.specs.Frames.{EditsVariable, IsVariableUnchanged, AreLoadedU
 use Rattle.envstate.proofs.RoleLemmas.{no_reason_against}
 use Rattle.envstate.proofs.FrameLemmas.{add_edits, drop_edits, push_edits, pop_edits, set_edits, path_edits_variable}
 use Rattle.envstate.proofs.FrameLemmas.{stack_edits_variable, keeps_other, keeps_loaded, rest_stays}
-use Rattle.modulefile.specs.Records.{Record, Set, Unset, Push, Front, Back, Remove, Conflict, Prereq, Whatis}
+use Rattle.modulefile.specs.Records.{Record, Set, Unset, Push, Front, Back, Remove}
 use Rattle.modulefile.specs.Records.{variable_of}
 use Rattle.modulefile.specs.Judgments.{RecordReason, bad_edit, value_reason, values_of, record_reason}
 use Rattle.modulefile.specs.Effects.{Mode, load, unload, display, whatis, loaded_by, unloaded_by, edited, edit_outcome}
@@ -39,11 +39,11 @@ permitted_ok (Some x) r new h = absurd (cc)
 pub effect_edits : (mode : Mode) (owner : Text) (r : Record) (old new : Environment) → effect mode owner r old ≡ Ok new → (record_reason r ≡ None) × (edited mode owner r old ≡ Ok new)
 effect_edits mode owner r old new h = permitted_ok (record_reason r) (edited mode owner r old) new h
 
-mapped_none : (o : Option EnvReason) → option_map bad_edit o ≡ None → o ≡ None
+pub mapped_none : (o : Option EnvReason) → option_map bad_edit o ≡ None → o ≡ None
 mapped_none None h = refl
 mapped_none (Some x) h = absurd (cc)
 
-first_none : (o p : Option EnvReason) → option_or o p ≡ None → o ≡ None
+pub first_none : (o p : Option EnvReason) → option_or o p ≡ None → o ≡ None
 first_none None p h = refl
 first_none (Some x) p h = absurd (cc)
 
@@ -67,9 +67,7 @@ touched_loaded owner (Push v x) old new n h = (stack_edits_variable old new v (p
 touched_loaded owner (Front d v xs) old new n h = (path_edits_variable old new v (add_edits old new v d xs ends.Front h)).0
 touched_loaded owner (Back d v xs) old new n h = (path_edits_variable old new v (add_edits old new v d xs ends.Back h)).0
 touched_loaded owner (Remove d v xs) old new n h = (path_edits_variable old new v (drop_edits old new v d xs h)).0
-touched_loaded owner (Conflict x) old new n h = same_accepted old new h
-touched_loaded owner (Prereq x) old new n h = same_accepted old new h
-touched_loaded owner (Whatis x) old new n h = same_accepted old new h
+touched_loaded owner r old new n h = same_accepted old new h
 
 pub touched_unloaded : (owner : Text) (r : Record) (old new : Environment) → is_reversible r ≡ true → record_reason r ≡ None → unloaded_by owner r old ≡ Ok new → Touched (variable_of r) old new
 touched_unloaded owner (Set v x) old new s n h = set_touched v None old new (plain_editable v (x ∷ []) n) h
@@ -79,9 +77,7 @@ touched_unloaded owner (Push v x) old new s n h = (stack_edits_variable old new 
 touched_unloaded owner (Front d v xs) old new s n h = (path_edits_variable old new v (drop_edits old new v d xs h)).0
 touched_unloaded owner (Back d v xs) old new s n h = (path_edits_variable old new v (drop_edits old new v d xs h)).0
 touched_unloaded owner (Remove d v xs) old new s n h = absurd (false≢true s)
-touched_unloaded owner (Conflict x) old new s n h = same_accepted old new h
-touched_unloaded owner (Prereq x) old new s n h = same_accepted old new h
-touched_unloaded owner (Whatis x) old new s n h = same_accepted old new h
+touched_unloaded owner r old new s n h = same_accepted old new h
 
 -- loading or unloading
 pub data Side : Mode → Type 0 where
@@ -121,9 +117,7 @@ list_unloaded owner (Unset v (Some x)) old new n h = (kept_loaded (Some v) old n
 list_unloaded owner (Push v x) old new n h = (kept_loaded (Some v) old new (touched_unloaded owner (Push v x) old new refl n h)).list
 list_unloaded owner (Front d v xs) old new n h = (kept_loaded (Some v) old new (touched_unloaded owner (Front d v xs) old new refl n h)).list
 list_unloaded owner (Back d v xs) old new n h = (kept_loaded (Some v) old new (touched_unloaded owner (Back d v xs) old new refl n h)).list
-list_unloaded owner (Conflict x) old new n h = ap loaded_in (same_accepted old new h)
-list_unloaded owner (Prereq x) old new n h = ap loaded_in (same_accepted old new h)
-list_unloaded owner (Whatis x) old new n h = ap loaded_in (same_accepted old new h)
+list_unloaded owner r old new n h = ap loaded_in (same_accepted old new h)
 
 list_kept : (mode : Mode) (owner : Text) (r : Record) (old new : Environment) → record_reason r ≡ None → edited mode owner r old ≡ Ok new → loaded_in new ≡ loaded_in old
 list_kept load owner r old new n h = (kept_loaded (variable_of r) old new (touched_loaded owner r old new n h)).list

@@ -28,7 +28,7 @@ use Rattle.envloaded.specs.LoadedTexts.{names_variable, files_variable, conflict
 use Rattle.envloaded.specs.Loaded.{Entry, names_of, names_text, files_text, conflicts_text, prereqs_text, entries_in}
 use Rattle.envloaded.specs.Loaded.{loaded_in, with_loaded, can_be_added, with_conflicts_once, without_entry, added_to}
 use Rattle.envloaded.specs.Loaded.{added_loaded, dropped_from, dropped_loaded}
-use Rattle.modulefile.specs.Records.{Record, Set, Unset, Push, Front, Back, Remove, Conflict, Prereq, Whatis}
+use Rattle.modulefile.specs.Records.{Record, Set, Unset, Push, Front, Back, Remove}
 use Rattle.modulefile.specs.Judgments.{RecordReason, record_reason}
 use Rattle.modulefile.specs.Effects.{Mode, load, unload, display, whatis, edited, edit_outcome, permitted, effect}
 use Rattle.modulefile.specs.Effects.{effects, and_then}
@@ -229,9 +229,7 @@ edited_corresponds load owner (Push var value) h = pushed_corresponds h var owne
 edited_corresponds load owner (Front delim var xs) h = added_corresponds h var delim xs ends.Front
 edited_corresponds load owner (Back delim var xs) h = added_corresponds h var delim xs ends.Back
 edited_corresponds load owner (Remove delim var xs) h = dropped_corresponds h var delim xs
-edited_corresponds load owner (Conflict xs) h = refl
-edited_corresponds load owner (Prereq xs) h = refl
-edited_corresponds load owner (Whatis x) h = refl
+edited_corresponds load owner r h = refl
 edited_corresponds unload owner (Set var value) h = refl
 edited_corresponds unload owner (Unset var None) h = refl
 edited_corresponds unload owner (Unset var (Some value)) h = refl
@@ -239,9 +237,7 @@ edited_corresponds unload owner (Push var value) h = popped_corresponds h var ow
 edited_corresponds unload owner (Front delim var xs) h = dropped_corresponds h var delim xs
 edited_corresponds unload owner (Back delim var xs) h = dropped_corresponds h var delim xs
 edited_corresponds unload owner (Remove delim var xs) h = refl
-edited_corresponds unload owner (Conflict xs) h = refl
-edited_corresponds unload owner (Prereq xs) h = refl
-edited_corresponds unload owner (Whatis x) h = refl
+edited_corresponds unload owner r h = refl
 edited_corresponds display owner r h = refl
 edited_corresponds whatis owner r h = refl
 

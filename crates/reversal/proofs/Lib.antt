@@ -2,6 +2,7 @@ mod ModuleEntries
 pub mod Frames
 mod Uses
 mod Loads
+mod Alike
 mod OneVariable
 mod OneStack
 mod LiveModules
@@ -9,6 +10,6 @@ mod Steps
 mod WholeRuns
 mod Requests
 mod Losses
-mod Histories
-mod Lost
+pub mod Histories
+pub mod Lost
 pub mod Parts

@@ -20,9 +20,10 @@ use Rattle.envloaded.specs.Loaded.{conflicts_text, prereqs_text, with_loaded}
 use Rattle.modulefile.specs.Records.{Record, Set, Unset, Back, Remove}
 use Rattle.modulefile.specs.Moves.{Module, Move, Loads, Unloads}
 use Rattle.reversal.specs.VariableUses.{VariableUse, Untouched, Fixed, Pathed, Stacked}
+use Rattle.reversal.specs.Undone.{undo_of}
 use Rattle.reversal.specs.Starts.{IsStart}
 use Rattle.reversal.specs.Runs.{live_after}
-use Rattle.reversal.specs.Examples.{of_kind, follows_use, apart, alive, unchanged, HasPart, OtherParts, only_use, Lose}
+use Rattle.reversal.specs.Examples.{of_kind, follows_use, apart, alive, undoes_alike, HasPart, OtherParts, only_use, Lose}
 use Rattle.reversal.specs.Examples.{first_module, second_module, variable, there_and_back, crossed, add_front}
 use Rattle.reversal.specs.Examples.{push_value, EmptyPath, CounterOfNone, BottomAlone, HiddenValue, OtherEscapes}
 use Rattle.reversal.specs.Examples.{OwnerNotLoaded, ValueBeforeSet, OtherValue, EmptyLists, NeedsOfNone, ConflictTwice}
@@ -32,14 +33,14 @@ use Rattle.reversal.specs.Examples.{SetByTwo}
 use Rattle.reversal.proofs.OneVariable.{by_test}
 use Rattle.reversal.proofs.Histories.{History, env, seen, lookup_seen, path_at, path_seen, played, played_leads}
 
-abbrev end_of : List Move → History → History
+abbrev pub end_of : List Move → History → History
 end_of ms h = unwrap_or (played ms h) []
 
 same : (o : Option Text) → same_value o o ≡ true
 same None = refl
 same (Some x) = bytes_eq-same x
 
-differ : (a b : Option Text) → same_value a b ≡ false → a ≢ b
+pub differ : (a b : Option Text) → same_value a b ≡ false → a ≢ b
 differ a b d e = false≢true (sym d ∙ ap (same_value a) (sym e) ∙ same a)
 
 -- a run that is played to its end, and a variable that isn't as it was
@@ -83,7 +84,7 @@ listed h xs l = record { entries = xs; list = l.each; written = all }
         ∙ rewritten (env h) prereqs_variable (prereqs_text xs) (lookup_seen h prereqs_variable ∙ l.prereqs)
 
 -- no module is loaded, or a/1
-nothing_listed : (h : History) → seen h names_variable ≡ None → seen h files_variable ≡ None → seen h conflicts_variable ≡ None → seen h prereqs_variable ≡ None → AreLoadedInOrder (env h)
+pub nothing_listed : (h : History) → seen h names_variable ≡ None → seen h files_variable ≡ None → seen h conflicts_variable ≡ None → seen h prereqs_variable ≡ None → AreLoadedInOrder (env h)
 nothing_listed h n f c p = listed h [] (record { each = record { each = refl; names = refl; conflicts = refl }; names = n; files = f; conflicts = c; prereqs = p })
 
 abbrev a1 : List Entry
@@ -94,7 +95,7 @@ a1_listed h n f c p = listed h a1 (record { each = record { each = refl; names =
 
 -- a start, by its one variable
 
-abbrev AtStart : VariableUse → Environment → Text → Type 0
+abbrev pub AtStart : VariableUse → Environment → Text → Type 0
 AtStart Untouched e name = Unit {0}
 AtStart (Fixed value) e name = lookup e name ≡ value
 AtStart (Pathed delim) e name = IsPathInOrder e name delim
@@ -106,7 +107,7 @@ this_way name v variable_use other t q = rw t at q
 no_way : (name v : Text) (variable_use other : VariableUse) → bytes_eq v name ≡ false → only_use name variable_use v ≡ other → Untouched ≡ other
 no_way name v variable_use other t q = rw t at q
 
-start_at : (name : Text) (variable_use : VariableUse) (e : Environment) → AreLoadedInOrder e → AtStart variable_use e name → IsStart (only_use name variable_use) e
+pub start_at : (name : Text) (variable_use : VariableUse) (e : Environment) → AreLoadedInOrder e → AtStart variable_use e name → IsStart (only_use name variable_use) e
 start_at name variable_use e l a = record {
   order = record {
     loaded = l;
@@ -122,7 +123,7 @@ start_at name variable_use e l a = record {
       (λ t. let z = no_way name v variable_use (Fixed value) t q in absurd cc);
 }
 
-path_ordered : (h : History) (name : Text) (delim : ℕ)
+pub path_ordered : (h : History) (name : Text) (delim : ℕ)
     → seen h name ≡ elements_text delim (path_at h name delim).elements
     → seen h (share_name name) ≡ pairs_text (path_at h name delim) → IsPathInOrder (env h) name delim
 path_ordered h name delim e c = record {
@@ -134,7 +135,7 @@ pub empty_path : EmptyPath
 empty_path =
     let h : History = (codes "V", Some ([])) ∷ [] in
     record {
-      reversible = (record { suits = ((refl, refl), tt); sets_apart = λ v s. refl }, (record { loaded = _; found = refl; records = refl }, tt));
+      reversible = (record { suits = ((refl, refl), tt); sets_apart = λ v s. refl }, (record { loaded = _; found = refl; alike = refl }, tt));
       listed = nothing_listed h refl refl refl refl;
       lose = lose _ h (codes "V") refl refl refl;
     }
@@ -143,7 +144,7 @@ pub counter_of_none : CounterOfNone
 counter_of_none =
     let h : History = (codes "V", Some (codes "/b")) ∷ (codes "__MODULES_SHARE_V", Some (codes "/z:3")) ∷ [] in
     record {
-      reversible = (record { suits = ((refl, refl), tt); sets_apart = λ v s. refl }, (record { loaded = _; found = refl; records = refl }, tt));
+      reversible = (record { suits = ((refl, refl), tt); sets_apart = λ v s. refl }, (record { loaded = _; found = refl; alike = refl }, tt));
       listed = nothing_listed h refl refl refl refl;
       lose = lose _ h (codes "__MODULES_SHARE_V") refl refl refl;
     }
@@ -152,7 +153,7 @@ pub bottom_alone : BottomAlone
 bottom_alone =
     let h : History = (codes "V", Some (codes "y")) ∷ (codes "__MODULES_PUSHENV_V", Some (codes "&y")) ∷ [] in
     record {
-      reversible = (record { suits = ((refl, refl), tt); sets_apart = λ v s. refl }, (record { loaded = _; found = refl; records = refl }, tt));
+      reversible = (record { suits = ((refl, refl), tt); sets_apart = λ v s. refl }, (record { loaded = _; found = refl; alike = refl }, tt));
       listed = nothing_listed h refl refl refl refl;
       lose = lose _ h (codes "__MODULES_PUSHENV_V") refl refl refl;
     }
@@ -162,7 +163,7 @@ hidden_value =
     let h : History = (codes "LOADEDMODULES", Some (codes "a/1")) ∷ (codes "_LMFILES_", Some (codes "/m/a/1")) ∷
     (codes "V", Some (codes "z")) ∷ (codes "__MODULES_PUSHENV_V", Some (codes "a/1&y")) ∷ [] in
     record {
-      reversible = (record { suits = ((refl, refl), tt); sets_apart = λ v s. refl }, (record { loaded = _; found = refl; records = refl }, tt));
+      reversible = (record { suits = ((refl, refl), tt); sets_apart = λ v s. refl }, (record { loaded = _; found = refl; alike = refl }, tt));
       listed = a1_listed h refl refl refl refl;
       lose = lose _ h (codes "V") refl refl refl;
     }
@@ -172,7 +173,7 @@ other_escapes =
     let h : History = (codes "LOADEDMODULES", Some (codes "a/1")) ∷ (codes "_LMFILES_", Some (codes "/m/a/1")) ∷
     (codes "V", Some (codes "\\y")) ∷ (codes "__MODULES_PUSHENV_V", Some (codes "a/1&\\y")) ∷ [] in
     record {
-      reversible = (record { suits = ((refl, refl), tt); sets_apart = λ v s. refl }, (record { loaded = _; found = refl; records = refl }, tt));
+      reversible = (record { suits = ((refl, refl), tt); sets_apart = λ v s. refl }, (record { loaded = _; found = refl; alike = refl }, tt));
       listed = a1_listed h refl refl refl refl;
       lose = lose _ h (codes "__MODULES_PUSHENV_V") refl refl refl;
     }
@@ -181,7 +182,7 @@ pub owner_not_loaded : OwnerNotLoaded
 owner_not_loaded =
     let h : History = (codes "V", Some (codes "y")) ∷ (codes "__MODULES_PUSHENV_V", Some (codes "m/1&y")) ∷ [] in
     record {
-      reversible = (record { suits = ((refl, refl), tt); sets_apart = λ v s. refl }, (record { loaded = _; found = refl; records = refl }, tt));
+      reversible = (record { suits = ((refl, refl), tt); sets_apart = λ v s. refl }, (record { loaded = _; found = refl; alike = refl }, tt));
       listed = nothing_listed h refl refl refl refl;
       lose = lose _ h (codes "V") refl refl refl;
     }
@@ -190,7 +191,7 @@ pub value_before_set : ValueBeforeSet
 value_before_set =
     let h : History = (codes "V", Some (codes "y")) ∷ [] in
     record {
-      reversible = (record { suits = ((refl, refl), tt); sets_apart = λ v s. refl }, (record { loaded = _; found = refl; records = refl }, tt));
+      reversible = (record { suits = ((refl, refl), tt); sets_apart = λ v s. refl }, (record { loaded = _; found = refl; alike = refl }, tt));
       listed = nothing_listed h refl refl refl refl;
       lose = lose _ h (codes "V") refl refl refl;
     }
@@ -199,7 +200,7 @@ pub other_value : OtherValue
 other_value =
     let h : History = (codes "V", Some (codes "y")) ∷ [] in
     record {
-      reversible = (record { suits = ((refl, refl), tt); sets_apart = λ v s. refl }, (record { loaded = _; found = refl; records = refl }, tt));
+      reversible = (record { suits = ((refl, refl), tt); sets_apart = λ v s. refl }, (record { loaded = _; found = refl; alike = refl }, tt));
       listed = nothing_listed h refl refl refl refl;
       lose = lose _ h (codes "V") refl refl refl;
     }
@@ -207,74 +208,74 @@ other_value =
 pub empty_lists : EmptyLists
 empty_lists =
     let h : History = (codes "LOADEDMODULES", Some ([])) ∷ (codes "_LMFILES_", Some ([])) ∷ [] in
-    record { reversible = (record { suits = tt; sets_apart = λ v s. refl }, (record { loaded = _; found = refl; records = refl }, tt)); lose = lose _ h (codes "LOADEDMODULES") refl refl refl }
+    record { reversible = (record { suits = tt; sets_apart = λ v s. refl }, (record { loaded = _; found = refl; alike = refl }, tt)); lose = lose _ h (codes "LOADEDMODULES") refl refl refl }
 
 pub needs_of_none : NeedsOfNone
 needs_of_none =
     let h : History = (codes "__MODULES_LMPREREQ", Some (codes "z/1&k")) ∷ [] in
-    record { reversible = (record { suits = tt; sets_apart = λ v s. refl }, (record { loaded = _; found = refl; records = refl }, tt)); lose = lose _ h (codes "__MODULES_LMPREREQ") refl refl refl }
+    record { reversible = (record { suits = tt; sets_apart = λ v s. refl }, (record { loaded = _; found = refl; alike = refl }, tt)); lose = lose _ h (codes "__MODULES_LMPREREQ") refl refl refl }
 
 pub conflict_twice : ConflictTwice
 conflict_twice =
     let h : History = (codes "LOADEDMODULES", Some (codes "a/1")) ∷ (codes "_LMFILES_", Some (codes "/m/a/1")) ∷ (codes "__MODULES_LMCONFLICT", Some (codes "a/1&k&k")) ∷ [] in
-    record { reversible = (record { suits = tt; sets_apart = λ v s. refl }, (record { loaded = _; found = refl; records = refl }, tt)); lose = lose _ h (codes "__MODULES_LMCONFLICT") refl refl refl }
+    record { reversible = (record { suits = tt; sets_apart = λ v s. refl }, (record { loaded = _; found = refl; alike = refl }, tt)); lose = lose _ h (codes "__MODULES_LMCONFLICT") refl refl refl }
 
 pub ill_spelled : IllSpelled
 ill_spelled =
     let h : History = (codes "LOADEDMODULES", Some (codes "a/1")) ∷ (codes "_LMFILES_", Some (codes "/m/a/1")) ∷ (codes "__MODULES_LMPREREQ", Some (codes "a/1&k|.l")) ∷ [] in
-    record { reversible = (record { suits = tt; sets_apart = λ v s. refl }, (record { loaded = _; found = refl; records = refl }, tt)); lose = lose _ h (codes "__MODULES_LMPREREQ") refl refl refl }
+    record { reversible = (record { suits = tt; sets_apart = λ v s. refl }, (record { loaded = _; found = refl; alike = refl }, tt)); lose = lose _ h (codes "__MODULES_LMPREREQ") refl refl refl }
 
 pub empty_group : EmptyGroup
 empty_group =
     let h : History = (codes "LOADEDMODULES", Some (codes "a/1")) ∷ (codes "_LMFILES_", Some (codes "/m/a/1")) ∷ (codes "__MODULES_LMPREREQ", Some (codes "a/1&k&")) ∷ [] in
-    record { reversible = (record { suits = tt; sets_apart = λ v s. refl }, (record { loaded = _; found = refl; records = refl }, tt)); lose = lose _ h (codes "__MODULES_LMPREREQ") refl refl refl }
+    record { reversible = (record { suits = tt; sets_apart = λ v s. refl }, (record { loaded = _; found = refl; alike = refl }, tt)); lose = lose _ h (codes "__MODULES_LMPREREQ") refl refl refl }
 
 -- every part but one
 but_kind : (uses : Text → VariableUse) (ms : List Move) → HasPart follows_use uses [] ms → HasPart apart uses [] ms
-    → HasPart alive uses [] ms → HasPart unchanged uses [] ms → OtherParts of_kind uses ms
+    → HasPart alive uses [] ms → HasPart undoes_alike uses [] ms → OtherParts of_kind uses ms
 but_kind uses ms w a l u of_kind n = absurd (n refl)
 but_kind uses ms w a l u follows_use n = w
 but_kind uses ms w a l u apart n = a
 but_kind uses ms w a l u alive n = l
-but_kind uses ms w a l u unchanged n = u
+but_kind uses ms w a l u undoes_alike n = u
 
 but_way : (uses : Text → VariableUse) (ms : List Move) → HasPart of_kind uses [] ms → HasPart apart uses [] ms
-    → HasPart alive uses [] ms → HasPart unchanged uses [] ms → OtherParts follows_use uses ms
+    → HasPart alive uses [] ms → HasPart undoes_alike uses [] ms → OtherParts follows_use uses ms
 but_way uses ms k a l u of_kind n = k
 but_way uses ms k a l u follows_use n = absurd (n refl)
 but_way uses ms k a l u apart n = a
 but_way uses ms k a l u alive n = l
-but_way uses ms k a l u unchanged n = u
+but_way uses ms k a l u undoes_alike n = u
 
 but_apart : (uses : Text → VariableUse) (ms : List Move) → HasPart of_kind uses [] ms → HasPart follows_use uses [] ms
-    → HasPart alive uses [] ms → HasPart unchanged uses [] ms → OtherParts apart uses ms
+    → HasPart alive uses [] ms → HasPart undoes_alike uses [] ms → OtherParts apart uses ms
 but_apart uses ms k w l u of_kind n = k
 but_apart uses ms k w l u follows_use n = w
 but_apart uses ms k w l u apart n = absurd (n refl)
 but_apart uses ms k w l u alive n = l
-but_apart uses ms k w l u unchanged n = u
+but_apart uses ms k w l u undoes_alike n = u
 
 but_alive : (uses : Text → VariableUse) (ms : List Move) → HasPart of_kind uses [] ms → HasPart follows_use uses [] ms
-    → HasPart apart uses [] ms → HasPart unchanged uses [] ms → OtherParts alive uses ms
+    → HasPart apart uses [] ms → HasPart undoes_alike uses [] ms → OtherParts alive uses ms
 but_alive uses ms k w a u of_kind n = k
 but_alive uses ms k w a u follows_use n = w
 but_alive uses ms k w a u apart n = a
 but_alive uses ms k w a u alive n = absurd (n refl)
-but_alive uses ms k w a u unchanged n = u
+but_alive uses ms k w a u undoes_alike n = u
 
-but_unchanged : (uses : Text → VariableUse) (ms : List Move) → HasPart of_kind uses [] ms
+but_alike : (uses : Text → VariableUse) (ms : List Move) → HasPart of_kind uses [] ms
     → HasPart follows_use uses [] ms → HasPart apart uses [] ms → HasPart alive uses [] ms
-    → OtherParts unchanged uses ms
-but_unchanged uses ms k w a l of_kind n = k
-but_unchanged uses ms k w a l follows_use n = w
-but_unchanged uses ms k w a l apart n = a
-but_unchanged uses ms k w a l alive n = l
-but_unchanged uses ms k w a l unchanged n = absurd (n refl)
+    → OtherParts undoes_alike uses ms
+but_alike uses ms k w a l of_kind n = k
+but_alike uses ms k w a l follows_use n = w
+but_alike uses ms k w a l apart n = a
+but_alike uses ms k w a l alive n = l
+but_alike uses ms k w a l undoes_alike n = absurd (n refl)
 
--- the records of a module that is found
-abbrev records_in : Option Module → List Record
-records_in None = []
-records_in (Some m) = m.records
+-- what the records of a module that is found undo
+abbrev undo_in : Option Module → List Record
+undo_in None = []
+undo_in (Some m) = undo_of m.records
 
 nothing_found : (loaded : Module) → ◌≡◌ {A = Option Module} None (Some loaded) → ⊥
 nothing_found loaded h = absurd cc
@@ -285,7 +286,7 @@ unset_without_value =
     record {
       begins = start_at variable Untouched (env h) (nothing_listed h refl refl refl refl) tt;
       others = but_kind (only_use variable Untouched) (there_and_back (Unset variable None)) ((tt, tt), (tt, tt))
-          ((λ v s. refl), (tt, tt)) (tt, ((_, refl), tt)) (tt, ((λ loaded f. ap records_in f), tt));
+          ((λ v s. refl), (tt, tt)) (tt, ((_, refl), tt)) (tt, ((λ loaded f. ap undo_in f), tt));
       lose = lose _ h (codes "V") refl refl refl;
     }
 
@@ -296,7 +297,7 @@ element_removed =
       begins = start_at variable (Pathed colon) (env h) (nothing_listed h refl refl refl refl) (path_ordered h variable colon refl refl);
       others = but_kind (only_use variable (Pathed colon)) (there_and_back (Remove colon variable (codes "/a" ∷ [])))
           ((tt, tt), (tt, tt)) ((λ v s. refl), (tt, tt)) (tt, ((_, refl), tt))
-          (tt, ((λ loaded f. ap records_in f), tt));
+          (tt, ((λ loaded f. ap undo_in f), tt));
       lose = lose _ h (codes "V") refl refl refl;
     }
 
@@ -305,7 +306,7 @@ other_records =
     let h : History = (codes "V", Some (codes "/b")) ∷ [] in
     record {
       begins = start_at variable (Pathed colon) (env h) (nothing_listed h refl refl refl refl) (path_ordered h variable colon refl refl);
-      others = but_unchanged (only_use variable (Pathed colon))
+      others = but_alike (only_use variable (Pathed colon))
           (Loads (first_module (add_front ∷ [])) ∷ Unloads (first_module []) ∷ []) (refl, (tt, tt))
           ((refl, tt), (tt, tt)) ((λ v s. refl), (tt, tt)) (tt, ((_, refl), tt));
       lose = lose _ h (codes "V") refl refl refl;
@@ -326,8 +327,8 @@ start_unloaded =
 crossed_alive : (uses : Text → VariableUse) (r s : Record) → HasPart alive uses [] (crossed r s)
 crossed_alive uses r s = (tt, (tt, ((_, refl), ((_, refl), tt))))
 
-crossed_unchanged : (uses : Text → VariableUse) (r s : Record) → HasPart unchanged uses [] (crossed r s)
-crossed_unchanged uses r s = (tt, (tt, ((λ loaded f. ap records_in f), ((λ loaded f. ap records_in f), tt))))
+crossed_alike : (uses : Text → VariableUse) (r s : Record) → HasPart undoes_alike uses [] (crossed r s)
+crossed_alike uses r s = (tt, (tt, ((λ loaded f. ap undo_in f), ((λ loaded f. ap undo_in f), tt))))
 
 pub set_and_pushed : SetAndPushed
 set_and_pushed =
@@ -337,7 +338,7 @@ set_and_pushed =
         begins = start_at variable (Fixed None) (env h) (nothing_listed h refl refl refl refl) (lookup_seen h variable);
         others = but_way (only_use variable (Fixed None)) (crossed (Set variable (codes "y")) push_value)
             (refl, (refl, (tt, (tt, tt)))) ((λ v s. refl), ((λ v s. absurd (false≢true s)), (tt, (tt, tt))))
-            (crossed_alive (λ v. Untouched) _ _) (crossed_unchanged (λ v. Untouched) _ _);
+            (crossed_alive (λ v. Untouched) _ _) (crossed_alike (λ v. Untouched) _ _);
         lose = lose _ h (codes "V") refl refl refl;
       };
       in_other = start_at variable Stacked (env h) (nothing_listed h refl refl refl refl) (lookup_seen h (stack_name variable));
@@ -354,7 +355,7 @@ unset_and_pushed =
         others = but_way (only_use variable (Fixed (Some (codes "y"))))
             (crossed (Unset variable (Some (codes "y"))) push_value) (refl, (refl, (tt, (tt, tt))))
             ((λ v s. refl), ((λ v s. absurd (false≢true s)), (tt, (tt, tt)))) (crossed_alive (λ v. Untouched) _ _)
-            (crossed_unchanged (λ v. Untouched) _ _);
+            (crossed_alike (λ v. Untouched) _ _);
         lose = lose _ h (codes "V") refl refl refl;
       };
       in_other = start_at variable Stacked (env h) (nothing_listed h refl refl refl refl) (lookup_seen h (stack_name variable));
@@ -370,7 +371,7 @@ added_and_pushed =
         begins = start_at variable (Pathed colon) (env h) (nothing_listed h refl refl refl refl) (path_ordered h variable colon refl refl);
         others = but_way (only_use variable (Pathed colon)) (crossed add_front push_value)
             (refl, (refl, (tt, (tt, tt)))) ((λ v s. refl), ((λ v s. refl), (tt, (tt, tt))))
-            (crossed_alive (λ v. Untouched) _ _) (crossed_unchanged (λ v. Untouched) _ _);
+            (crossed_alive (λ v. Untouched) _ _) (crossed_alike (λ v. Untouched) _ _);
         lose = lose _ h (codes "V") refl refl refl;
       };
       in_other = start_at variable Stacked (env h) (nothing_listed h refl refl refl refl) (lookup_seen h (stack_name variable));
@@ -387,7 +388,7 @@ two_delimiters =
         others = but_way (only_use variable (Pathed colon))
             (crossed (Back colon variable (codes "b" ∷ [])) (Back 59 variable (codes "c" ∷ [])))
             (refl, (refl, (tt, (tt, tt)))) ((λ v s. refl), ((λ v s. refl), (tt, (tt, tt))))
-            (crossed_alive (λ v. Untouched) _ _) (crossed_unchanged (λ v. Untouched) _ _);
+            (crossed_alive (λ v. Untouched) _ _) (crossed_alike (λ v. Untouched) _ _);
         lose = lose _ h (codes "V") refl refl refl;
       };
       in_other = start_at variable (Pathed 59) (env h) (nothing_listed h refl refl refl refl) (path_ordered h variable 59 refl refl);
@@ -402,7 +403,7 @@ pub set_by_two_falls : SetByTwo
 set_by_two_falls = record {
   begins = start_at variable (Fixed None) (env []) (nothing_listed [] refl refl refl refl) (lookup_seen [] variable);
   others = but_apart (only_use variable (Fixed None)) set_by_two (refl, (refl, (tt, tt)))
-      ((refl, tt), ((refl, tt), (tt, tt))) (tt, (tt, ((_, refl), tt))) (tt, (tt, ((λ loaded f. ap records_in f), tt)));
+      ((refl, tt), ((refl, tt), (tt, tt))) (tt, (tt, ((_, refl), tt))) (tt, (tt, ((λ loaded f. ap undo_in f), tt)));
   end = env (end_of set_by_two []);
   reach = played_leads set_by_two [] (end_of set_by_two []) refl;
   differs = λ s. differ (seen (end_of set_by_two []) variable) (Some (codes "y")) refl (sym (lookup_seen (end_of set_by_two []) variable) ∙ (s.variables variable refl).value);

@@ -1,7 +1,7 @@
 -- One variable through the records of one load or unload.
 use Rattle.std.proofs.Common.{◌≡◌, ℕ, ◌+◌, ◌-◌, Bool, true, false, List, [], ◌∷◌, refl, sym, ◌∙◌, subst, arith, Option}
 use Rattle.std.proofs.Common.{Some, None, Ok}
-use Rattle.std.specs.Prelude.{bytes_eq, count_by, unwrap_or}
+use Rattle.std.specs.Prelude.{bytes_eq, count_by, is_some, unwrap_or}
 use Rattle.std.specs.Option.{option_or}
 use Rattle.envvars.specs.Texts.{Text}
 use Rattle.envvars.specs.Names.{share_name, stack_name}
@@ -102,6 +102,12 @@ unload_fixed uses owner w k r b old new x h s f e v = by_test (is_named w (varia
     (value_set b old new w x k f (sym (u.unloads owner old) ∙ (effect_edits unload owner r old new e).1) v))
     (λ t. subst (λ (o : Option (Option Text)). HasValue b new w (pick o x k)) (sym (set_by_none w r t))
     (value_kept b old new w x (one_keeps unload unloads uses owner w r old new s f e t) v))
+
+pub same_pick : {A B : Type 0} (p q : Option A) (x y : B) → is_some p ≡ is_some q → pick p x y ≡ pick q x y
+same_pick None None x y h = refl
+same_pick (Some a) (Some b) x y h = refl
+same_pick None (Some b) x y h = absurd cc
+same_pick (Some a) None x y h = absurd cc
 
 or_pick : (p q : Option (Option Text)) (x k : Option Text) → pick (option_or p q) x k ≡ pick p (pick q x k) k
 or_pick None q x k = refl

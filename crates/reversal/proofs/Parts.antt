@@ -7,7 +7,7 @@ use Rattle.modulefile.specs.Records.{Record}
 use Rattle.modulefile.specs.Moves.{Module, Move, Loads, Unloads}
 use Rattle.reversal.specs.VariableUses.{VariableUse, AllFollowUses, AllSuit, is_reversible}
 use Rattle.reversal.specs.Runs.{without_live, AreReversible}
-use Rattle.reversal.specs.Examples.{Part, of_kind, follows_use, apart, alive, unchanged, HasPart, PartsAreAll}
+use Rattle.reversal.specs.Examples.{Part, of_kind, follows_use, apart, alive, undoes_alike, HasPart, PartsAreAll}
 
 -- records that each suit in kind and in use
 pub all_suit : (uses : Text → VariableUse) (rs : List Record) → list_all is_reversible rs ≡ true → AllFollowUses uses rs → AllSuit uses rs
@@ -21,7 +21,7 @@ all_parts uses live (Loads m ∷ ms) h = (
   all_parts uses (m ∷ live) ms (λ part. (h part).1),
 )
 all_parts uses live (Unloads m ∷ ms) h = (
-  record { loaded = (h alive).0.0; found = (h alive).0.1; records = (h unchanged).0 (h alive).0.0 (h alive).0.1 },
+  record { loaded = (h alive).0.0; found = (h alive).0.1; alike = (h undoes_alike).0 (h alive).0.0 (h alive).0.1 },
   all_parts uses (without_live m.name live) ms (λ part. (h part).1),
 )
 

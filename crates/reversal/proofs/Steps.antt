@@ -1,5 +1,6 @@
 -- What one move keeps.
-use Rattle.std.proofs.Common.{◌≡◌, ◌+◌, true, false, List, [], ◌∷◌, refl, sym, ap, ◌∙◌, subst, Option, Some, None, Ok}
+use Rattle.std.proofs.Common.{◌≡◌, ◌+◌, true, false, List, [], ◌∷◌, refl, sym, ap, ◌∙◌, subst, Option, Some, None, Result}
+use Rattle.std.proofs.Common.{ℕ, Ok}
 use Rattle.std.specs.Prelude.{bytes_eq, is_some, unwrap_or}
 use Rattle.std.specs.List.{list_all}
 use Rattle.std.specs.Option.{option_or}
@@ -12,7 +13,7 @@ use Rattle.envvars.specs.Environment.{Environment, lookup}
 use Rattle.envvars.proofs.TextLemmas.{same_text, bytes_eq-same}
 use Rattle.envvars.proofs.EditLemmas.{both_true}
 use Rattle.envstacks.specs.Stacks.{OwnedValue, StackState, is_owner, holds}
-use Rattle.envstacks.specs.StackRuns.{IsOwnedStart, start_with_pushes}
+use Rattle.envstacks.specs.StackRuns.{IsOwnedStart, other_pushes, start_with_pushes}
 use Rattle.envstacks.specs.StackVariables.{stack_in, is_loaded_owner, IsStackInOrder}
 use Rattle.envstacks.proofs.StackInOrder.{order_of_fewer}
 use Rattle.envloaded.specs.Loaded.{Entry, names_of, loaded_in, AreLoadedInOrder}
@@ -25,15 +26,18 @@ use Rattle.envstate.specs.EnvLaws.{AreSound}
 use Rattle.envstate.proofs.FrameLemmas.{add_edits_loaded, drop_edits_loaded, loaded_keeps, loaded_rest_stays}
 use Rattle.envstate.proofs.StateLemmas.{start_of, standing_absent, names_dropped, list_in_order, dropped_list}
 use Rattle.modulefile.specs.Records.{Record, variable_of}
+use Rattle.modulefile.specs.Judgments.{RecordReason}
 use Rattle.modulefile.specs.Effects.{Mode, load, unload, effect, effects}
 use Rattle.modulefile.specs.Moves.{Module, Loads, Unloads, entry_of, moved, Fits}
 use Rattle.reversal.specs.VariableUses.{VariableUse, Untouched, Fixed, Pathed, Stacked, AllSuit}
 use Rattle.reversal.specs.Live.{last_set, live_set, adds, live_adds, last_push, with_push, live_pushes, entries_over}
+use Rattle.reversal.specs.Undone.{undo_of, UndoAlike}
 use Rattle.reversal.specs.Starts.{IsStart, HasValue, IsPermutation}
 use Rattle.reversal.specs.Runs.{live_named, without_live, IsReversibleAndApart, AreReversibleTogether}
 use Rattle.reversal.proofs.Frames.{Side, loads, unloads, touched, kept_loaded, kept_rest}
 use Rattle.reversal.proofs.Loads.{parts, load_parts, unload_parts}
-use Rattle.reversal.proofs.OneVariable.{by_test, pick, value_kept, all_untouched, loads_fixed, unloads_fixed, or_unwrap}
+use Rattle.reversal.proofs.Alike.{done_by_left, left_suit, left_adds, left_sets, left_pushes}
+use Rattle.reversal.proofs.OneVariable.{by_test, pick, same_pick, value_kept, all_untouched, loads_fixed, unloads_fixed, or_unwrap}
 use Rattle.reversal.proofs.OneVariable.{PathAt, path_kept, path_same, loads_path, unloads_path}
 use Rattle.reversal.proofs.OneStack.{more_loaded, StackAt, stack_kept, Pusher, loads_push, unloads_push, popped}
 use Rattle.reversal.proofs.ModuleEntries.{added_entry}
@@ -186,13 +190,25 @@ kept_load uses b xs live m old new g k fit fits h =
 
 -- an unload
 
+-- an unload is by the name and the records alone
+pub unloaded_with : Environment → Text → List Record → Result Environment RecordReason
+unloaded_with e name records = moved (Unloads (record { name = name; path = []; records = records })) e
+
+pub same_unload : (m : Module) (n : Text) (e : Environment) → n ≡ m.name → unloaded_with e n m.records ≡ moved (Unloads m) e
+unfolding unloaded_with
+same_unload m n e h = ap (λ (t : Text). unloaded_with e t m.records) h
+
 held_unload : (uses : Text → VariableUse) (b : Environment) (xs : List Entry) (live : List Module) (m : Module)
     (old mid : Environment) (w : Text) (y : VariableUse) → uses w ≡ y → Begun uses b xs → is_editable w ≡ true
-    → live_named m.name live ≡ Some m → AreReversibleTogether uses live → AreSound (entries_over xs live) → effects unload m.name m.records old ≡ Ok mid
+    → live_named m.name live ≡ Some m → AreReversibleTogether uses live → AreSound (entries_over xs live) → effects unload m.name (undo_of m.records) old ≡ Ok mid
     → Held y b w (names_of (entries_over xs live)) live old → Held y b w (names_of (entries_over xs (without_live m.name live))) (without_live m.name live) mid
-held_unload uses b xs live m old mid w Untouched q g f l fit sound e h = all_untouched unload unloads uses m.name w m.records b old mid (lookup b w) q (suits_of uses m.name live m l fit) f e h
+held_unload uses b xs live m old mid w Untouched q g f l fit sound e h = all_untouched unload unloads uses m.name w (undo_of m.records) b old mid (lookup b w) q (left_suit uses m.records (suits_of uses m.name live m l fit)) f e h
 held_unload uses b xs live m old mid w (Fixed k) q g f l fit sound e h =
-    go (last_set w m.records) refl (unloads_fixed uses m.name w k m.records b old mid (unwrap_or (live_set w live) (lookup b w)) q (suits_of uses m.name live m l fit) f e h)
+    let s = suits_of uses m.name live m l fit in
+    let before = unwrap_or (live_set w live) (lookup b w) in
+    go (last_set w m.records) refl
+    (subst (HasValue b mid w) (same_pick (last_set w (undo_of m.records)) (last_set w m.records) before k (left_sets uses w m.records s))
+    (unloads_fixed uses m.name w k (undo_of m.records) b old mid before q (left_suit uses m.records s) f e h))
   where
     go : (o : Option (Option Text)) → last_set w m.records ≡ o
         → HasValue b mid w (pick (last_set w m.records) (unwrap_or (live_set w live) (lookup b w)) k)
@@ -206,14 +222,17 @@ held_unload uses b xs live m old mid w (Fixed k) q g f l fit sound e h =
         subst (λ (z : Option (Option Text)). HasValue b mid w (unwrap_or z (lookup b w))) (sym none_left)
         (subst (HasValue b mid w) (sym (g.start.fixed w k f q)) v2)
 held_unload uses b xs live m old mid w (Pathed d) q g f l fit sound e h =
-    unloads_path uses m.name w d m.records b old mid (live_adds w (without_live m.name live)) q (suits_of uses m.name live m l fit) f e
-    (path_same b old w d (live_adds w live) (λ x. adds w x m.records + live_adds w (without_live m.name live) x) (λ x. adds_less w x m.name live m l) h)
+    unloads_path uses m.name w d (undo_of m.records) b old mid (live_adds w (without_live m.name live)) q (left_suit uses m.records (suits_of uses m.name live m l fit)) f e
+    (path_same b old w d (live_adds w live) (λ x. adds w x (undo_of m.records) + live_adds w (without_live m.name live) x)
+    (λ x. adds_less w x m.name live m l ∙ ap (λ (n : ℕ). n + live_adds w (without_live m.name live) x) (sym (left_adds w x m.records))) h)
 held_unload uses b xs live m old mid w Stacked q g f l fit sound e h =
     let apart = apart_of xs live sound.once in
     let absent = apart_named m.name xs live m l apart in
     let distinct = apart_distinct xs live apart in
     let p = pusher uses b xs w m.name (names_of (entries_over xs live)) h.base g f q h.found sound.names (named_there m.name xs live m l) absent in
-    let after = unloads_push uses m.name w m.records b old mid (names_of (entries_over xs live)) h.base h.pushes q (suits_of uses m.name live m l fit) f p e h.at_ in
+    let after_left = unloads_push uses m.name w (undo_of m.records) b old mid (names_of (entries_over xs live)) h.base h.pushes q (left_suit uses m.records (suits_of uses m.name live m l fit)) f p e h.at_ in
+    let after : StackAt b mid w (names_of (entries_over xs live)) h.base (popped m.name (last_push w m.records) h.pushes) = subst (StackAt b mid w (names_of (entries_over xs live)) h.base)
+    (same_pick (last_push w (undo_of m.records)) (last_push w m.records) h.pushes (other_pushes m.name h.pushes) (left_pushes w m.records)) after_left in
     let order : IsPermutation (popped m.name (last_push w m.records) h.pushes) (live_pushes w (without_live m.name live)) = order_popped m.name w live m h.pushes l distinct h.order in
     let left : without m.name (names_of (entries_over xs live)) ≡ names_of (entries_over xs (without_live m.name live)) =
     sym (names_dropped (entries_over xs live) m.name) ∙ ap names_of (entries_less m.name xs live absent distinct) in
@@ -233,12 +252,16 @@ held_unload uses b xs live m old mid w Stacked q g f l fit sound e h =
       };
     }
 
+-- of a live module, by records that undo what those of its load undo
 pub kept_unload : (uses : Text → VariableUse) (b : Environment) (xs : List Entry) (live : List Module) (m : Module)
-    (old new : Environment) → Begun uses b xs → Kept uses b xs live old → live_named m.name live ≡ Some m
-    → moved (Unloads m) old ≡ Ok new → Kept uses b xs (without_live m.name live) new
-kept_unload uses b xs live m old new g k l h =
-    let p = unload_parts m old new h in
-    let t = all_through unload unloads uses m.name m.records old p.mid (suits_of uses m.name live m l k.fit) p.effects in
+    (rs : List Record) (old new : Environment) → Begun uses b xs → Kept uses b xs live old
+    → live_named m.name live ≡ Some m → UndoAlike rs m.records → unloaded_with old m.name rs ≡ Ok new
+    → Kept uses b xs (without_live m.name live) new
+unfolding unloaded_with
+kept_unload uses b xs live m rs old new g k l a h =
+    let p = unload_parts (record { name = m.name; path = []; records = rs }) old new h in
+    let done : effects unload m.name (undo_of m.records) old ≡ Ok p.mid = subst (λ (us : List Record). effects unload m.name us old ≡ Ok p.mid) a (done_by_left m.name rs old p.mid p.effects) in
+    let t = all_through unload unloads uses m.name (undo_of m.records) old p.mid (left_suit uses m.records (suits_of uses m.name live m l k.fit)) done in
     let sound : AreSound (entries_over xs live) = sound_of old (entries_over xs live) k.loaded k.list in
     let apart = apart_of xs live sound.once in
     let less = entries_less m.name xs live (apart_named m.name xs live m l apart) (apart_distinct xs live apart) in
@@ -247,7 +270,7 @@ kept_unload uses b xs live m old new g k l h =
       loaded = drop_keeps_order p.mid new m.name (t.loaded.order k.loaded) p.entry;
       list = dropped_list p.mid new m.name (entries_over xs live) (t.loaded.list ∙ k.list) p.entry ∙ ap (λ (z : List Entry). Some z) less;
       held = λ w f. held_kept (uses w) b w (names_of (entries_over xs (without_live m.name live))) (without_live m.name live) p.mid new (loaded_keeps p.mid new w only f)
-          (held_unload uses b xs live m old p.mid w (uses w) refl g f l k.fit sound p.effects (k.held w f));
+          (held_unload uses b xs live m old p.mid w (uses w) refl g f l k.fit sound done (k.held w f));
       others = λ q e. loaded_rest_stays p.mid new q only e ∙ t.rest q e ∙ k.others q e;
       fit = fit_less uses m.name live k.fit;
     }

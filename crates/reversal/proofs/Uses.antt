@@ -9,7 +9,7 @@ use Rattle.envpaths.specs.PathVariables.{added_path, dropped_path}
 use Rattle.envpaths.specs.declared.adding.End.{End}
 use Rattle.envpaths.specs.declared.adding.End.TheVariants as ends
 use Rattle.envstacks.specs.StackVariables.{pushed_value, popped_value}
-use Rattle.modulefile.specs.Records.{Record, Set, Unset, Push, Front, Back, Remove, Conflict, Prereq, Whatis}
+use Rattle.modulefile.specs.Records.{Record, Set, Unset, Push, Front, Back, Remove}
 use Rattle.modulefile.specs.Records.{variable_of}
 use Rattle.modulefile.specs.Effects.{loaded_by, unloaded_by}
 use Rattle.reversal.specs.VariableUses.{VariableUse, Untouched, Fixed, Pathed, Stacked, Suits}
@@ -31,9 +31,7 @@ unnamed uses w (Push v x) h s e = wrong uses w v Stacked Untouched h s.1 e (λ z
 unnamed uses w (Front d v xs) h s e = wrong uses w v (Pathed d) Untouched h s.1 e (λ z. cc)
 unnamed uses w (Back d v xs) h s e = wrong uses w v (Pathed d) Untouched h s.1 e (λ z. cc)
 unnamed uses w (Remove d v xs) h s e = false≢true s.0
-unnamed uses w (Conflict x) h s e = false≢true e
-unnamed uses w (Prereq x) h s e = false≢true e
-unnamed uses w (Whatis x) h s e = false≢true e
+unnamed uses w r h s e = false≢true e
 
 pub record UsesFixed (w : Text) (k : Option Text) (r : Record) : Type 0 where
   pub value : Option Text
@@ -71,9 +69,7 @@ uses_fixed uses w k (Push v x) h s e = wrong uses w v Stacked (Fixed k) h s.1 e 
 uses_fixed uses w k (Front d v xs) h s e = wrong uses w v (Pathed d) (Fixed k) h s.1 e (λ z. cc)
 uses_fixed uses w k (Back d v xs) h s e = wrong uses w v (Pathed d) (Fixed k) h s.1 e (λ z. cc)
 uses_fixed uses w k (Remove d v xs) h s e = absurd (false≢true s.0)
-uses_fixed uses w k (Conflict x) h s e = absurd (false≢true e)
-uses_fixed uses w k (Prereq x) h s e = absurd (false≢true e)
-uses_fixed uses w k (Whatis x) h s e = absurd (false≢true e)
+uses_fixed uses w k r h s e = absurd (false≢true e)
 
 pub record UsesPath (w : Text) (d : ℕ) (r : Record) : Type 0 where
   pub elements : List Text
@@ -117,9 +113,7 @@ uses_path uses w d (Back a v xs) h s e =
       by = λ x. ap (λ (b : Bool). cond b (count_by (bytes_eq x) xs) 0) e;
     }
 uses_path uses w d (Remove a v xs) h s e = absurd (false≢true s.0)
-uses_path uses w d (Conflict x) h s e = absurd (false≢true e)
-uses_path uses w d (Prereq x) h s e = absurd (false≢true e)
-uses_path uses w d (Whatis x) h s e = absurd (false≢true e)
+uses_path uses w d r h s e = absurd (false≢true e)
 
 pub record UsesStack (w : Text) (r : Record) : Type 0 where
   pub value : Text
@@ -142,9 +136,7 @@ uses_stack uses w (Push v x) h s e =
 uses_stack uses w (Front d v xs) h s e = wrong uses w v (Pathed d) Stacked h s.1 e (λ z. cc)
 uses_stack uses w (Back d v xs) h s e = wrong uses w v (Pathed d) Stacked h s.1 e (λ z. cc)
 uses_stack uses w (Remove d v xs) h s e = absurd (false≢true s.0)
-uses_stack uses w (Conflict x) h s e = absurd (false≢true e)
-uses_stack uses w (Prereq x) h s e = absurd (false≢true e)
-uses_stack uses w (Whatis x) h s e = absurd (false≢true e)
+uses_stack uses w r h s e = absurd (false≢true e)
 
 -- a record that doesn't name the variable does nothing to it
 

@@ -29,7 +29,7 @@ use Rattle.reversal.specs.Runs.{live_named, live_after, without_live, Undoes, Ar
 use Rattle.reversal.specs.Laws.{Holds, RunsReturn, EachMoveHolds, MovesPreserve}
 use Rattle.reversal.proofs.OneVariable.{by_test, path_state}
 use Rattle.reversal.proofs.LiveModules.{order_refl, order_none}
-use Rattle.reversal.proofs.Steps.{Kept, Held, Begun, kept_load, kept_unload}
+use Rattle.reversal.proofs.Steps.{Kept, Held, Begun, same_unload, kept_load, kept_unload}
 
 begun : (uses : Text → VariableUse) (b : Environment) → IsStart uses b → (xs : List Entry) × Begun uses b xs
 begun uses b s = let p = list_in_order b s.order.loaded in (p.0, record { start = s; list = p.1; sound = p.2 })
@@ -151,7 +151,7 @@ holds_of uses b e xs live g k = record {
   returned = λ h. back uses b e xs g (subst (λ (l : List Module). Kept uses b xs l e) h k);
 }
 
--- An unload is by the name and the records alone: so it is that of the live module.
+-- An unload is by the name and the records alone: so it is one of the live module.
 
 same_named : (n : Text) (live : List Module) (m : Module) → live_named n live ≡ Some m → m.name ≡ n
 same_named n [] m h = absurd (none-some m h)
@@ -159,19 +159,12 @@ same_named n (k ∷ live) m h = by_test (bytes_eq n k.name) _
     (λ t. let q : k ≡ m = same_Some k m (rw t at h) in ap (λ (y : Module). y.name) (sym q) ∙ sym (same_text n k.name t))
     (λ t. same_named n live m (rw t at h))
 
-unloaded_with : Environment → Text → List Record → Result Environment RecordReason
-unloaded_with e name records = moved (Unloads (record { name = name; path = []; records = records })) e
-
-same_unload : (m k : Module) (e : Environment) → k.name ≡ m.name → m.records ≡ k.records → moved (Unloads k) e ≡ moved (Unloads m) e
-unfolding unloaded_with
-same_unload m k e h r = ap (λ (n : Text). unloaded_with e n k.records) h ∙ ap (unloaded_with e m.name) (sym r)
-
 kept_undone : (uses : Text → VariableUse) (b : Environment) (xs : List Entry) (live : List Module) (m : Module) (old new : Environment) → Begun uses b xs → Kept uses b xs live old → Undoes live m
     → moved (Unloads m) old ≡ Ok new → Kept uses b xs (without_live m.name live) new
 kept_undone uses b xs live m old new g k u h =
     let n : u.loaded.name ≡ m.name = same_named m.name live u.loaded u.found in
     subst (λ (t : Text). Kept uses b xs (without_live t live) new) n
-    (kept_unload uses b xs live u.loaded old new g k (ap (λ (t : Text). live_named t live) n ∙ u.found) (same_unload m u.loaded old n u.records ∙ h))
+    (kept_unload uses b xs live u.loaded m.records old new g k (ap (λ (t : Text). live_named t live) n ∙ u.found) u.alike (same_unload m u.loaded.name old n ∙ h))
 
 -- runs
 

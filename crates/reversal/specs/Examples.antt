@@ -11,6 +11,7 @@ use Rattle.modulefile.specs.Moves.{Module, Move, Loads, Unloads, MovesReach}
 use Rattle.reversal.specs.VariableUses.{VariableUse, Untouched, Fixed, Pathed, Stacked, is_reversible, AllFollowUses}
 use Rattle.reversal.specs.VariableUses.{AllSuit}
 use Rattle.reversal.specs.Live.{last_set, live_set}
+use Rattle.reversal.specs.Undone.{UndoAlike}
 use Rattle.reversal.specs.Starts.{IsStart, IsStartWith}
 use Rattle.reversal.specs.Runs.{live_named, without_live, live_after, AreReversible}
 
@@ -51,8 +52,8 @@ pub data Part : Type 0 where
   apart : Part
   -- A module that is unloaded is live;
   alive : Part
-  -- and it has the records of its load.
-  unchanged : Part
+  -- and its records undo what those of its load undo.
+  undoes_alike : Part
 
 -- what a part means for a load, and for an unload, while these modules are live
 abbrev pub OfLoad : Part → (Text → VariableUse) → List Module → Module → Type 0
@@ -60,14 +61,15 @@ OfLoad of_kind uses live m = list_all is_reversible m.records ≡ true
 OfLoad follows_use uses live m = AllFollowUses uses m.records
 OfLoad apart uses live m = (v : Text) → is_some (last_set v m.records) ≡ true → live_set v live ≡ None
 OfLoad alive uses live m = Unit {0}
-OfLoad unchanged uses live m = Unit {0}
+OfLoad undoes_alike uses live m = Unit {0}
 
 abbrev pub OfUnload : Part → List Module → Module → Type 0
 OfUnload of_kind live m = Unit {0}
 OfUnload follows_use live m = Unit {0}
 OfUnload apart live m = Unit {0}
 OfUnload alive live m = (loaded : Module) × (live_named m.name live ≡ Some loaded)
-OfUnload unchanged live m = (loaded : Module) → live_named m.name live ≡ Some loaded → m.records ≡ loaded.records
+OfUnload undoes_alike live m = (loaded : Module) → live_named m.name live ≡ Some loaded
+    → UndoAlike m.records loaded.records
 
 -- the part holds for each move
 abbrev pub HasPart : Part → (Text → VariableUse) → List Module → List Move → Type 0
@@ -213,10 +215,10 @@ ElementRemoved =
     LoseIrreversible of_kind (only_use variable (Pathed colon)) (held ((variable, codes "/a:/b") ∷ []))
     (there_and_back (Remove colon variable (codes "/a" ∷ [])))
 
--- Other records at the unload than at the load.
+-- Records at the unload that undo something else than those of the load.
 abbrev pub OtherRecords : Type 0
 OtherRecords =
-    LoseIrreversible unchanged (only_use variable (Pathed colon)) (held ((variable, codes "/b") ∷ []))
+    LoseIrreversible undoes_alike (only_use variable (Pathed colon)) (held ((variable, codes "/b") ∷ []))
     (Loads (first_module (add_front ∷ [])) ∷ Unloads (first_module []) ∷ [])
 
 -- A module of the start is unloaded.

@@ -1,12 +1,16 @@
 -- The laws of unloads that undo loads (own).
-use Rattle.std.specs.Prelude.{◌≡◌, List, [], ◌∷◌, ◌++◌, Some, Ok}
+use Rattle.std.specs.Prelude.{◌≡◌, true, List, [], ◌∷◌, ◌++◌, Some, Ok}
+use Rattle.std.specs.List.{list_all}
 use Rattle.envvars.specs.Texts.{Text}
 use Rattle.envvars.specs.Environment.{Environment}
 use Rattle.envloaded.specs.Loaded.{Entry, loaded_in}
 use Rattle.envstate.specs.Frames.{OnlyAmong, loaded_names}
-use Rattle.modulefile.specs.Effects.{load, effects}
+use Rattle.modulefile.specs.Records.{Record}
+use Rattle.modulefile.specs.Judgments.{is_allowed}
+use Rattle.modulefile.specs.Effects.{load, unload, effects}
 use Rattle.modulefile.specs.Moves.{Module, Move, Loads, entry_of, moved, MovesReach}
 use Rattle.reversal.specs.VariableUses.{VariableUse}
+use Rattle.reversal.specs.Undone.{UndoAlike}
 use Rattle.reversal.specs.Starts.{IsInOrder, IsStart, IsStartWith}
 use Rattle.reversal.specs.Requests.{RequestOutcome, all_moves, RequestsReach}
 use Rattle.reversal.specs.Runs.{live_after, AreReversibleTogether, AreReversible}
@@ -58,3 +62,10 @@ pub record IsLoad (m : Module) (old new : Environment) : Type 0 where
 -- an accepted load has this effect
 abbrev pub LoadsAreExact : Type 0
 LoadsAreExact = (m : Module) (old new : Environment) → moved (Loads m) old ≡ Ok new → IsLoad m old new
+
+-- Where records undo alike, what an accepted unload by the ones makes, an unload by the others makes as well: it is
+-- accepted if nothing forbids any of these.
+abbrev pub UnloadsAreAlike : Type 0
+UnloadsAreAlike =
+    (owner : Text) (rs ss : List Record) (old new : Environment) → UndoAlike rs ss → list_all is_allowed ss ≡ true
+    → effects unload owner rs old ≡ Ok new → effects unload owner ss old ≡ Ok new

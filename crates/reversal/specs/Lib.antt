@@ -1,5 +1,6 @@
 pub mod VariableUses
 pub mod Live
+pub mod Undone
 pub mod Starts
 pub mod Runs
 pub mod Requests

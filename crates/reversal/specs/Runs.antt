@@ -4,6 +4,7 @@ use Rattle.envvars.specs.Texts.{Text}
 use Rattle.modulefile.specs.Moves.{Module, Move, Loads, Unloads}
 use Rattle.reversal.specs.VariableUses.{VariableUse, AllSuit}
 use Rattle.reversal.specs.Live.{last_set, live_set}
+use Rattle.reversal.specs.Undone.{UndoAlike}
 
 -- the live module of this name
 abbrev pub live_named : Text → List Module → Option Module
@@ -32,14 +33,14 @@ abbrev pub AreReversibleTogether : (Text → VariableUse) → List Module → Ty
 AreReversibleTogether uses [] = Unit {0}
 AreReversibleTogether uses (m ∷ live) = IsReversibleAndApart uses live m × AreReversibleTogether uses live
 
--- The unloaded module is live, and these are the records of its load.
+-- The unloaded module is live, and its records undo what those of its load undo.
 pub record Undoes (live : List Module) (m : Module) : Type 0 where
   pub loaded : Module
   pub found : live_named m.name live ≡ Some loaded
-  pub records : m.records ≡ loaded.records
+  pub alike : UndoAlike m.records loaded.records
 
--- Each load is of a module that is reversible and apart from the live ones. Each unload is of a live module, with the
--- records of its load: so no module of the start is unloaded.
+-- Each load is of a module that is reversible and apart from the live ones. Each unload is of a live module, by
+-- records that undo what those of its load undo: so no module of the start is unloaded.
 abbrev pub AreReversible : (Text → VariableUse) → List Module → List Move → Type 0
 AreReversible uses live [] = Unit {0}
 AreReversible uses live (Loads m ∷ ms) = IsReversibleAndApart uses live m × AreReversible uses (m ∷ live) ms

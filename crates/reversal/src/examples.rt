@@ -29,7 +29,7 @@ pub fn lists()
 {}
 
 /// From a start, where the moves have every other part of the premises: records of a kind that unloading doesn't undo,
-/// other records at the unload than at the load, and an unload of a module of the start.
+/// records at the unload that undo something else than those of the load, and an unload of a module of the start.
 pub fn kinds()
     ensures unset_without_value { UnsetWithoutValue }
     ensures element_removed { ElementRemoved }

@@ -1,5 +1,6 @@
 //! Laws of unloads that undo loads. Each function does nothing: its contract is the law.
 ghost use Rattle.reversal.specs.Laws.{RunsReturn, EachMoveHolds, RequestsReturn, MovesPreserve, LoadsAreExact};
+ghost use Rattle.reversal.specs.Laws.{UnloadsAreAlike};
 ghost use Rattle.reversal.specs.Losses.{SetLosesValue, UnsetLosesValue, UnsetGivesAnother};
 
 /// After accepted loads and unloads of new modules that are reversible and apart, in whatever order, from a start in
@@ -26,6 +27,12 @@ pub fn steps()
 /// An accepted load makes the effects of its records and the new entry, and nothing else.
 pub fn loads()
     ensures { LoadsAreExact }
+{}
+
+/// Of records that undo alike, whatever values are set or pushed, at whatever end of a path elements are added, and
+/// whatever conflicts, needs and descriptions there are, unloads make the same of an environment.
+pub fn unloads()
+    ensures { UnloadsAreAlike }
 {}
 
 /// Why a variable that records set has to be unset at the start, one that they unset with a value has to have that

@@ -1,39 +1,36 @@
 -- The parts of an audit, by the evaluations of a walk over a site, are an audit of the site.
 use Rattle.std.proofs.Common.{◌≡◌, List, map, filter, ap, sym, ◌∙◌, subst}
-use Rattle.std.specs.Prelude.{filter_map, flat_map}
+use Rattle.std.specs.Prelude.{flat_map}
 use Rattle.envvars.specs.Texts.{Text, texts_in}
 use Rattle.modulefile.specs.Laws as files
 use Rattle.modulefile.specs.Moves.{Module}
 use Rattle.sitecertificate.specs.RecordUses.{UsedVariable, IsAmong, used_by_modules, is_in_step}
 use Rattle.sitecertificate.specs.Certificates.{certified, certificate}
-use Rattle.sitecertificate.specs.Laws.{CertifiedAreExact}
 use Rattle.sitecertificate.specs.UseViews.{used_view}
-use Rattle.sitelaws.specs.Sites.{Site, file_of, AreModulesIn, Evaluated, plain_of, AreEvaluated}
+use Rattle.sitelaws.specs.Sites.{Site, SiteModule, file_of, Evaluated, AreEvaluated}
 use Rattle.sitelaws.specs.Laws.{ModulesFound, PlainModulesFound, AuditsHold}
 use Rattle.sitecertificate.specs.ClashAnswers.{AreAnswers, without_clashes}
 use Rattle.sitecertificate.specs.EachOnce.{each_once}
-use Rattle.sitecertificate.proofs.OnceLemmas.{in_once}
+use Rattle.sitecertificate.proofs.CertifiedOnes as ones
+use Rattle.sitecertificate.proofs.OnceLemmas.{in_once, of_once}
 use Rattle.siteaudit.specs.declared.walk.Evaluation.{Evaluation}
 use Rattle.siteaudit.specs.Walks.{IsWalk, AreEvaluations}
 use Rattle.siteaudit.specs.declared.auditing.AuditedModule.{AuditedModule}
-use Rattle.siteaudit.specs.Audits.{audited_file, AllStand, certified_files}
+use Rattle.siteaudit.specs.Audits.{audited_file, plain_among, AllStand, certified_files}
 use Rattle.siteaudit.specs.Findings.{Shown, judged_of, steps_in, settled, AreStandings}
+use Rattle.siteaudit.specs.Folders.{AreBadDefaultFiles}
 use Rattle.siteaudit.specs.Parts.{PartsAreAudits}
 use Rattle.siteaudit.proofs.AmongLemmas.{among_map}
 use Rattle.siteaudit.proofs.Settled.{IsJudging, steps_are, certified_are, all_stand, files_are, certified_files_are}
-use Rattle.siteaudit.proofs.Unknown.{of_all, in_all}
-use Rattle.siteaudit.proofs.BadFiles.{of_folder, to_folder}
+use Rattle.siteaudit.proofs.Evaluations.{same_files}
+use Rattle.siteaudit.proofs.Unknown.{mentioned_alike}
 
 -- what the laws say
 pub record Laws : Type 0 where
   pub one : files.OneOutcome
-  pub exact : CertifiedAreExact
   pub modules : ModulesFound
   pub plain : PlainModulesFound
   pub audits : AuditsHold
-
-abbrev plain_in : List Evaluated → List Module
-plain_in outs = filter_map plain_of outs
 
 -- all modules of the site are evaluated
 evaluated_all : Laws → (site : Site) (dirs : List Text) (outs : List Evaluated) → IsWalk site dirs outs → AreEvaluated site outs
@@ -48,18 +45,18 @@ record AreJudgedRight (site : Site) (ms : List Module) (outs : List Evaluated) (
 
 judged_right : Laws → (site : Site) (es : List Evaluation) (outs : List Evaluated) (modules : List AuditedModule)
     (uses : List UsedVariable) → AreEvaluated site outs → AreEvaluations es outs → AreStandings es modules uses
-    → AreJudgedRight site (plain_in outs) outs modules uses
+    → AreJudgedRight site (plain_among outs) outs modules uses
 judged_right laws site es outs modules uses all h s =
     let shown : List Shown = s.by_themselves.shown in
-    let ms : List Module = plain_in outs in
+    let ms : List Module = plain_among outs in
     let h' : AreEvaluations (map (λ (k : Shown). k.0) shown) outs = subst (λ (l : List Evaluation). AreEvaluations l outs) (sym s.by_themselves.evaluated) h in
     let steps : flat_map steps_in shown ≡ filter is_in_step ms = steps_are shown outs h' s.by_themselves.right in
     let step : s.in_step ≡ filter is_in_step ms = s.by_themselves.steps ∙ steps in
     let answers : AreAnswers (filter is_in_step ms) (filter is_in_step ms) s.answers = subst (λ (l : List Module). AreAnswers l l s.answers) step s.answered in
     let shown_answers : AreAnswers (filter is_in_step ms) (flat_map steps_in shown) s.answers = subst (λ (l : List Module). AreAnswers (filter is_in_step ms) l s.answers) (sym steps) answers in
-    let judging : IsJudging site ms = record { exact = laws.exact; all = laws.plain site outs all } in
+    let judging : IsJudging site ms = record { all = laws.plain site outs all } in
     let settled_is : modules ≡ settled (map judged_of shown) s.answers = s.settled ∙ ap (λ js. settled js s.answers) s.by_themselves.kept in
-    let sure : without_clashes (filter is_in_step ms) s.answers ≡ certified ms = certified_are laws.exact ms s.answers answers in
+    let sure : without_clashes (filter is_in_step ms) s.answers ≡ certified ms = certified_are ms s.answers answers in
     record {
       files = ap (map audited_file) settled_is ∙ files_are shown outs s.answers h';
       standing = subst (AllStand site ms) (sym settled_is)
@@ -79,31 +76,30 @@ parts_are_audits laws site walk found (outs, w, h) parts =
     let es : List Evaluation = walk.evaluations.items in
     let dirs : List Text = texts_in walk.directories in
     let all = evaluated_all laws site dirs outs w in
-    let ms : List Module = plain_in outs in
+    let ms : List Module = plain_among outs in
     let right = judged_right laws site es outs found.modules.items (map used_view found.certificate.items) all h parts.standings in (
       record {
-        plain = ms;
-        plain_modules = laws.plain site outs all;
         dirs = dirs;
-        directories = w.directories;
-        modules = subst (AreModulesIn site dirs) (sym right.files) w.modules;
+        outcomes = outs;
+        walk = w;
+        plain_modules = laws.plain site outs all;
+        modules = right.files;
         standing = right.standing;
         certificate = right.uses;
-        bad_default_files = λ path. (
-          (λ a. let b = (parts.bad_default_files path).0 a in of_folder site es outs path all h b.0 b.1 b.2),
-          (λ b. (parts.bad_default_files path).1 (to_folder site es outs path all h b)),
-        );
-        unknown_names = λ mention. (
-          (λ a. of_all laws.one site es outs mention all h (subst (IsAmong mention) parts.unknown_names a)),
-          (λ u. subst (IsAmong mention) (sym parts.unknown_names) (in_all laws.one site es outs mention all h u)),
-        );
+        bad_default_files = subst (λ (l : List SiteModule). AreBadDefaultFiles site.limits site.files site.listings l (texts_in found.bad_default_files)) (same_files es outs h)
+            parts.bad_default_files;
+        unknown = parts.unknown_names ∙ mentioned_alike es outs h;
         agrees = parts.agrees;
         disagreements = parts.disagreements;
       },
       record {
         certain = certified ms;
         exact = sym right.certain;
-        holds = laws.audits site ms (certified ms) (map used_view found.certificate.items) (laws.plain site outs all) (λ m a. (laws.exact ms m).0 a)
-            (λ p a. subst (IsAmong p) (sym right.uses) (in_once p (certificate ms) a));
+        records = λ m a. (((laws.plain site outs all) m).0 ((ones.is_certified ms m a).listed)).records;
+        uses = λ p. (
+          (λ a. subst (IsAmong p) (sym right.uses) (in_once p (certificate ms) a)),
+          (λ a. of_once p (certificate ms) (subst (IsAmong p) right.uses a)),
+        );
+        holds = laws.audits site ms (certified ms) (laws.plain site outs all) (λ m a. ones.is_certified ms m a);
       },
     )

@@ -1,5 +1,5 @@
 -- The evaluations of the code and the outcomes that they stand for: the same modules, in the same order.
-use Rattle.std.proofs.Common.{◌≡◌, inl, inr, false, List, [], ◌∷◌, Result, refl, ap, sym, ◌∙◌, subst}
+use Rattle.std.proofs.Common.{◌≡◌, inl, inr, false, List, [], ◌∷◌, map, Result, refl, ap, sym, ◌∙◌, subst}
 use Rattle.filetree.specs.Modulefiles.{modulefile}
 use Rattle.filetree.specs.Relations.{IsOne}
 use Rattle.filetree.proofs.OneOutcome.{one_is, one_then}
@@ -31,6 +31,13 @@ one_outcome one site m =
 
 pub same_file : (e : Evaluation) (o : Evaluated) → IsEvaluation e o → o.0 ≡ evaluated_file e
 same_file e o h = λ i. record { name = h.name i; path = h.path i }
+
+pub same_files : (es : List Evaluation) (outs : List Evaluated) → AreEvaluations es outs → map evaluated_file es ≡ map (λ (o : Evaluated). o.0) outs
+same_files [] [] h = refl
+same_files [] (o ∷ outs) h = absurd h
+same_files (e ∷ es) [] h = absurd h
+same_files (e ∷ es) (o ∷ outs) h =
+    ap (λ (m : SiteModule). m ∷ map evaluated_file es) (sym (same_file e o h.0)) ∙ ap (λ (ms : List SiteModule). o.0 ∷ ms) (same_files es outs h.1)
 
 pub record Matched (e : Evaluation) (outs : List Evaluated) : Type 0 where
   pub out : Evaluated

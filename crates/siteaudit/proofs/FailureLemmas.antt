@@ -19,7 +19,7 @@ use Rattle.modules.specs.Answers.{cause_of, is_failure, is_of_device}
 use Rattle.modules.specs.declared.refusal.Refusal.{Refusal}
 use Rattle.modules.proofs.FailureLemmas.{unfailed}
 use Rattle.sitelaws.specs.Sites.{Site, AreNamesBelow, module_below}
-use Rattle.siteaudit.specs.LookedAtWalk.{DirectoryLooksAt}
+use Rattle.siteaudit.specs.WalkLooked.{DirectoryLooksAt}
 use Rattle.siteaudit.specs.WalkParts.{ComesTo, is_given_up}
 use Rattle.siteaudit.proofs.AmongSites.{among_at, in_map}
 
@@ -55,14 +55,14 @@ only_one false h = h
 
 -- the listing of a MODULEPATH of one directory
 pub of_one_directory : (results : Text → Text → Option DefaultFileResult → Type 0) (files : Files) (listings : Listings) (dir at : Text) → directories dir ≡ dir ∷ []
-    → ListingLooksAt results files listings dir at → LooksForListing results files listings dir at
+    → ListingLooksAt results files listings [] dir at → LooksForListing results files listings [] dir at
 of_one_directory results files listings dir at alone (d, among, looks) =
     let one = only_one (bytes_eq d dir) (subst (λ (ds : List Text). list_any (bytes_eq d) ds ≡ true) alone among) in
-    subst (λ (x : Text). LooksForListing results files listings x at) ((bytes_eq-Decides d dir).0 one) looks
+    subst (λ (x : Text). LooksForListing results files listings [] x at) ((bytes_eq-Decides d dir).0 one) looks
 
 -- the file of a module is among the paths for the listing of its directory
 pub of_its_directory : (site : Site) (dir : Text) (xs : List ListingEntry) (i : ℕ) (x : ListingEntry) (at : Text) → i < length xs → x ≡ get_or xs i x → AreNamesBelow site dir (map name_of xs)
     → at ≡ (module_below dir (name_of x)).path → DirectoryLooksAt site dir at
 of_its_directory site dir xs i x at l e names path =
     let below = (names.exact (name_of x)).0 (in_map name_of x xs (among_at xs i x l e)) in
-    inr (inl (name_of x, record { spelled = below.spelled; reaches = below.reaches }, path))
+    inr (inl (name_of x, record { spelled = below.spelled; reaches = below.reaches }, refl, path))

@@ -139,25 +139,6 @@ inserted_folder eq same ks new k e folder =
     go false h = subst (λ (l : List FolderText). IsAmong folder l ↔ (IsAmong folder (map folder_view ks) ⊎ (folder ≡ folder_view k))) (sym (map-append folder_view ks (k ∷ [])))
         (among_one folder (folder_view k) (map folder_view ks))
 
--- the folder of one module more
-pub added_folder : (ks new : List Folder) (k : Folder) (name path : Text)
-    → ((folder : FolderText) → IsAmong folder (map folder_view new) ↔
-    (IsAmong folder (map folder_view ks) ⊎ (folder ≡ folder_view k)))
-    → ((folder : FolderText) → (Some (folder_view k) ≡ Some folder) ↔ HoldsModule folder name path)
-    → (folder : FolderText) → IsAmong folder (map folder_view new) ↔ (IsAmong folder (map folder_view ks) ⊎ HoldsModule folder name path)
-added_folder ks new k name path h w folder = (
-  (λ a. by_cases ((h folder).0 a) (λ b. inl b) (λ e. inr ((w folder).0 (ap (λ (t : FolderText). Some t) (sym e))))),
-  (λ a. (h folder).1 (by_cases a (λ b. inl b) (λ m. inr (sym (some_folder (folder_view k) folder ((w folder).1 m)))))),
-)
-
--- no folder is added
-pub added_none : (ks : List Folder) (name path : Text) → ((folder : FolderText) → HoldsModule folder name path → None ≡ Some folder)
-    → (folder : FolderText) → IsAmong folder (map folder_view ks) ↔ (IsAmong folder (map folder_view ks) ⊎ HoldsModule folder name path)
-added_none ks name path w folder = (
-  (λ a. inl a),
-  (λ a. by_cases a (λ b. b) (λ m. absurd (no_folder folder (w folder m)))),
-)
-
 -- the folders of one module more
 pub folders_more : (old new : List Folder) (modules : List Evaluation) (i : ℕ) (m : Evaluation) → i < length modules → m ≡ get_or modules i m
     → ((folder : FolderText) → IsAmong folder (map folder_view old) ↔ HoldsOneOf (take i modules) folder)
@@ -177,15 +158,6 @@ same_view a b h =
     let n : string_bytes a.name ≡ string_bytes b.name = same_text (string_bytes a.name) (string_bytes b.name) p.1 in
     λ i. (d i, n i)
 
--- all modules
-pub folders_whole : (folders : List Folder) (ks : List Folder) (modules : List Evaluation) (i : ℕ) → length modules ≤ i
-    → ((folder : FolderText) → IsAmong folder (map folder_view ks) ↔ HoldsOneOf (take i modules) folder)
-    → folders ≡ ks → (folder : FolderText) → IsAmong folder (map folder_view folders) ↔ HoldsOneOf modules folder
-folders_whole folders ks modules i l h e folder =
-    let all : take i modules ≡ modules = take_all i modules l in
-    subst (λ (fs : List Folder). IsAmong folder (map folder_view fs) ↔ HoldsOneOf modules folder) (sym e)
-    (subst (λ (ms : List Evaluation). IsAmong folder (map folder_view ks) ↔ HoldsOneOf ms folder) all (h folder))
-
 -- the folder that is found of a module
 pub found_folder : (name path dir front : Text) → path ≡ path_of dir name → IsInFolder name front → (f : FolderText) → f ≡ (dir, front)
     → (folder : FolderText) → (Some f ≡ Some folder) ↔ HoldsModule folder name path
@@ -193,44 +165,3 @@ found_folder name path dir front e i f same folder = (
   (λ s. subst (λ (t : FolderText). HoldsModule t name path) (sym same ∙ some_folder f folder s) (e, i)),
   (λ h. ap (λ (t : FolderText). Some t) (same ∙ holds_one name path dir front e i folder h)),
 )
-
--- ---- bad default files
-
--- the path of one folder more, if it has one
-bad_turn : (IsBad : FolderText → Text → Type 0) (fs : List FolderText) (f : FolderText) (old : List Text) (answer : Option Text) (path : Text) → ((answer ≡ Some path) ↔ IsBad f path)
-    → (IsAmong path old ↔ ((k : FolderText) × IsAmong k fs × IsBad k path)) → IsAmong path (old ++ option_to_list answer) ↔ ((k : FolderText) × IsAmong k (fs ++ f ∷ []) × IsBad k path)
-bad_turn IsBad fs f old answer path is before = (
-  (λ a. by_cases (among_either path old (option_to_list answer) a)
-      (λ b. let k = before.0 b in (k.0, among_left k.0 fs (f ∷ []) k.1, k.2))
-      (λ b. (f, among_right f fs (f ∷ []) (inl refl), is.0 (of_option answer b)))),
-  (λ k. by_cases ((among_one k.0 f fs).0 k.1)
-      (λ b. among_left path old (option_to_list answer) (before.1 (k.0, b, k.2)))
-      (λ same. among_right path old (option_to_list answer) (to_option answer (is.1 (subst (λ (t : FolderText). IsBad t path) same k.2))))),
-)
-  where
-    of_option : (o : Option Text) → IsAmong path (option_to_list o) → o ≡ Some path
-    of_option None b = absurd b
-    of_option (Some p) (inl e) = ap (λ (t : Text). Some t) (sym e)
-    of_option (Some p) (inr b) = absurd b
-
-    to_option : (o : Option Text) → o ≡ Some path → IsAmong path (option_to_list o)
-    to_option o e = subst (λ (x : Option Text). IsAmong path (option_to_list x)) (sym e) (inl refl)
-
-pub bad_more : (IsBad : FolderText → Text → Type 0) (folders : List Folder) (i : ℕ) (folder : Folder)
-    (old new : List Text) (answer : Option Text) (path : Text) → i < length folders → folder ≡ get_or folders i folder
-    → ((answer ≡ Some path) ↔ IsBad (folder_view folder) path) → new ≡ old ++ option_to_list answer
-    → (IsAmong path old ↔ ((k : FolderText) × IsAmong k (map folder_view (take i folders)) × IsBad k path))
-    → IsAmong path new ↔ ((k : FolderText) × IsAmong k (map folder_view (take (i + 1) folders)) × IsBad k path)
-bad_more IsBad folders i folder old new answer path l e is pushed before =
-    let turned = bad_turn IsBad (map folder_view (take i folders)) (folder_view folder) old answer path is before in
-    let fs : map folder_view (take (i + 1) folders) ≡ map folder_view (take i folders) ++ folder_view folder ∷ [] =
-    ap (map folder_view) (taken folders i folder l e) ∙ map-append folder_view (take i folders) (folder ∷ []) in
-    subst (λ (ks : List FolderText). IsAmong path new ↔ ((k : FolderText) × IsAmong k ks × IsBad k path)) (sym fs)
-    (subst (λ (ps : List Text). IsAmong path ps ↔ ((k : FolderText) × IsAmong k (map folder_view (take i folders) ++ folder_view folder ∷ []) × IsBad k path)) (sym pushed) turned)
-
-pub bad_whole : (IsBad : FolderText → Text → Type 0) (folders : List Folder) (i : ℕ) (paths : List Text) (path : Text) → length folders ≤ i
-    → (IsAmong path paths ↔ ((k : FolderText) × IsAmong k (map folder_view (take i folders)) × IsBad k path))
-    → IsAmong path paths ↔ ((k : FolderText) × IsAmong k (map folder_view folders) × IsBad k path)
-bad_whole IsBad folders i paths path l h =
-    let all : take i folders ≡ folders = take_all i folders l in
-    subst (λ (fs : List Folder). IsAmong path paths ↔ ((k : FolderText) × IsAmong k (map folder_view fs) × IsBad k path)) all h

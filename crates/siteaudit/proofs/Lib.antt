@@ -11,7 +11,9 @@ mod JudgedLemmas
 mod StandingLemmas
 mod Evaluations
 mod Settled
+mod OnceEach
 mod Unknown
 mod BadFiles
+mod BadDefaults
 mod Looked
 mod Audited

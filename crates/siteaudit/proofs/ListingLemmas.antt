@@ -16,19 +16,19 @@ names_seen [] = refl
 names_seen (x ∷ xs) = ap (λ (l : List Text). name_of x ∷ l) (names_seen xs)
 
 module _ (results : Text → Text → Option DefaultFileResult → Type 0) (files : Files) (listings : Listings) (dir : Text) where
-  no_more : (xs : List DirectoryListing) (x : DirectoryListing) → AreListings results files listings [] (map listing_view (xs ++ x ∷ [])) → ⊥
+  no_more : (xs : List DirectoryListing) (x : DirectoryListing) → AreListings results files listings [] [] (map listing_view (xs ++ x ∷ [])) → ⊥
   no_more [] x h = h
   no_more (y ∷ xs) x h = h
 
   only_one : (xs : List DirectoryListing) (x : DirectoryListing)
-      → AreListings results files listings (dir ∷ []) (map listing_view (xs ++ x ∷ []))
-      → IsListing results files listings dir (listing_view x).1
+      → AreListings results files listings [] (dir ∷ []) (map listing_view (xs ++ x ∷ []))
+      → IsListing results files listings [] dir (listing_view x).1
   only_one [] x h = h.1
   only_one (y ∷ xs) x h = absurd (no_more xs x h.2)
 
   -- where there is one directory, the last listing is its own
-  pub last_listing : (dirs : List Text) (all xs : List DirectoryListing) (x : DirectoryListing) → dirs ≡ dir ∷ [] → all ≡ xs ++ x ∷ [] → AreListings results files listings dirs (map listing_view all)
-      → IsListing results files listings dir (listing_view x).1
+  pub last_listing : (dirs : List Text) (all xs : List DirectoryListing) (x : DirectoryListing) → dirs ≡ dir ∷ [] → all ≡ xs ++ x ∷ [] → AreListings results files listings [] dirs (map listing_view all)
+      → IsListing results files listings [] dir (listing_view x).1
   last_listing dirs all xs x one parts h =
-      only_one xs x (subst (λ (ls : List DirectoryListing). AreListings results files listings (dir ∷ []) (map listing_view ls)) parts
-      (subst (λ (ds : List Text). AreListings results files listings ds (map listing_view all)) one h))
+      only_one xs x (subst (λ (ls : List DirectoryListing). AreListings results files listings [] (dir ∷ []) (map listing_view ls)) parts
+      (subst (λ (ds : List Text). AreListings results files listings [] ds (map listing_view all)) one h))

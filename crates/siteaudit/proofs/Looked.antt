@@ -1,5 +1,5 @@
 -- Where the searches for the folders of evaluated modules look.
-use Rattle.std.proofs.Common.{map, inr}
+use Rattle.std.proofs.Common.{map, refl, inr}
 use Rattle.envvars.specs.Texts.{Text}
 use Rattle.sitelaws.specs.Sites.{Site, Evaluated, AreEvaluated}
 use Rattle.sitelaws.specs.Laws.{ModulesFound}
@@ -19,6 +19,6 @@ of_folders found site walk at (outs, w, h) (folder, holds, searched) =
       dir = folder.0;
       folder = folder.1;
       directory = there.0;
-      module_there = (holds.2.1.version, holds.2.1.single, there.1);
+      module_there = (holds.2.1.version, holds.2.1.single, (there.1, refl));
       searched = searched;
     })

@@ -18,15 +18,16 @@ use Rattle.requests.specs.Reasons.{RequestReason}
 use Rattle.requests.specs.Verdicts.{plain, asked, one_way}
 use Rattle.modules.specs.declared.refusal.Refusal.{Refusal}
 use Rattle.sitecertificate.specs.RecordUses.{UsedVariable, used_by, IsAmong, modulepath, same_use, use_alike}
-use Rattle.sitecertificate.specs.RecordUses.{are_in_step, is_in_step, IsInStep}
-use Rattle.sitecertificate.specs.Certificates.{is_other, IsCertified, clashes_among, certified}
-use Rattle.sitecertificate.specs.Laws.{CertifiedAreExact}
+use Rattle.sitecertificate.specs.RecordUses.{are_in_step, is_in_step}
+use Rattle.sitecertificate.specs.Certificates.{certified}
 use Rattle.sitecertificate.proofs.UsedLemmas.{by_test, by_cases}
-use Rattle.sitecertificate.proofs.Exact.{all_each, filtered, in_filter}
+use Rattle.sitecertificate.proofs.Exact.{all_each, in_step}
+use Rattle.sitecertificate.proofs.CertifiedOnes as ones
+use Rattle.sitecertificate.proofs.Answered.{answered_none, answers_are}
 use Rattle.sitelaws.specs.Sites.{Site, SiteModule, file_of, with_records, EvaluatesTo, HasPlainRecords, IsOfSite}
 use Rattle.sitelaws.specs.Sites.{ArePlainModules, Evaluated, plain_by, plain_of}
 use Rattle.sitelaws.specs.Standings.{IsUsedTwice}
-use Rattle.sitecertificate.specs.ClashAnswers.{IsAnswer, AreAnswers, without_clashes}
+use Rattle.sitecertificate.specs.ClashAnswers.{AreAnswers, without_clashes}
 use Rattle.sitecertificate.specs.declared.answers.Clash.{Clash}
 use Rattle.siteaudit.specs.Walks.{IsOutcome, AreEvaluations}
 use Rattle.siteaudit.specs.declared.standing.Standing.{Standing}
@@ -62,32 +63,6 @@ no_step : (m : SiteModule) (rs : List Record) (v : Text) (x y : VariableUse) →
 no_step m rs v x y twice = by_test (is_in_step (with_records m rs)) _
     (λ t. absurd (twice_not rs v x y twice (and_parts (list_all is_reversible rs) (are_in_step (used_by rs)) t).1))
     (λ f. f)
-
-not_other : (m : Module) → is_other m m ≡ false
-not_other m = rw (bytes_eq-same m.name, bytes_eq-same m.path) refl
-
-is_certain : List Module → Module → Bool
-is_certain ms m = is_in_step m && not (clashes_among ms m)
-
--- a module alone is certified where the test finds it in step, and only there
-in_step : CertifiedAreExact → (m : Module) → is_in_step m ≡ true → IsInStep m
-in_step exact m t =
-    let alone : clashes_among (m ∷ []) m ≡ false = rw (t, not_other m) refl in
-    let certain : (is_in_step m && not (clashes_among (m ∷ []) m)) ≡ true = and_from (is_in_step m) (not (clashes_among (m ∷ []) m)) t (ap not alone) in
-    ((exact (m ∷ []) m).0 (in_filter (λ n. is_in_step n && not (clashes_among (m ∷ []) n)) (m ∷ []) m (inl refl) certain)).in_step
-
-other_itself : (m n : Module) → n ≡ m → is_other m n ≡ true → ⊥
-other_itself m n e h = false≢true (sym (not_other m) ∙ (ap (is_other m) (sym e) ∙ h))
-
-step_test : CertifiedAreExact → (m : Module) → IsInStep m → is_in_step m ≡ true
-step_test exact m s =
-    let alone : IsCertified (m ∷ []) m = record {
-      listed = inl refl;
-      in_step = s;
-      no_clash = λ n v x y a k o c. by_cases a (λ e. other_itself m n e o) (λ no. no);
-    } in
-    let f = filtered (λ n. is_in_step n && not (clashes_among (m ∷ []) n)) (m ∷ []) m ((exact (m ∷ []) m).1 alone) in
-    (and_parts (is_in_step m) (not (clashes_among (m ∷ []) m)) f.1).0
 
 -- ---- which modules are plain and in step
 
@@ -141,68 +116,13 @@ steps_are ((e, finding) ∷ shown) ((m, out) ∷ outs) (one, more) (right, rest)
 
 -- what the premises say of the plain modules of the site
 pub record IsJudging (site : Site) (ms : List Module) : Type 0 where
-  pub exact : CertifiedAreExact
   pub all : ArePlainModules site ms
 
 abbrev in_step_of : List Module → List Module
 in_step_of ms = filter is_in_step ms
 
--- a module in step that clashes with none is certified
-certain : CertifiedAreExact → (ms : List Module) (m : Module) → IsAmong m ms → is_in_step m ≡ true → IsAnswer (in_step_of ms) m None → IsCertified ms m
-certain exact ms m a t none = record {
-  listed = a;
-  in_step = in_step exact m t;
-  no_clash = λ n v x y b s o c. none n v x y (in_filter is_in_step ms n b (step_test exact n s)) o c;
-}
-
--- and one that clashes is not
-clashing : CertifiedAreExact → (ms : List Module) (m : Module) (clash : Clash) → IsAnswer (in_step_of ms) m (Some clash) → IsCertified ms m → ⊥
-clashing exact ms m clash c k =
-    let f = filtered is_in_step ms c.other c.listed in
-    k.no_clash c.other _ _ _ f.0 (in_step exact c.other f.1) c.another c.clash
-
-abbrev certain_test : List Module → Module → Bool
-certain_test ms m = is_in_step m && not (clashes_among ms m)
-
-tests_true : CertifiedAreExact → (ms : List Module) (m : Module) → IsCertified ms m → certain_test ms m ≡ true
-tests_true exact ms m k = (filtered (certain_test ms) ms m ((exact ms m).1 k)).1
-
-tests_false : CertifiedAreExact → (ms : List Module) (m : Module) → IsAmong m ms → (IsCertified ms m → ⊥) → certain_test ms m ≡ false
-tests_false exact ms m a uncertain = by_test (certain_test ms m) _
-    (λ t. absurd (uncertain ((exact ms m).0 (in_filter (certain_test ms) ms m a t))))
-    (λ f. f)
-
-out_of_step : (ms : List Module) (m : Module) → is_in_step m ≡ false → certain_test ms m ≡ false
-out_of_step ms m f = rw f refl
-
--- A module in step with its answer, before the others.
-unclashed_first : CertifiedAreExact → (all ms : List Module) (m : Module) (answers : List (Option Clash))
-    → IsAmong m all → is_in_step m ≡ true → AreAnswers (in_step_of all) (m ∷ in_step_of ms) answers
-    → ((left : List (Option Clash)) → AreAnswers (in_step_of all) (in_step_of ms) left → without_clashes (in_step_of ms) left ≡ filter (certain_test all) ms)
-    → without_clashes (in_step_of (m ∷ ms)) answers ≡ filter (certain_test all) (m ∷ ms)
-unclashed_first exact all ms m [] a t h rest = absurd h
-unclashed_first exact all ms m (None ∷ answers) a t h rest =
-    let p : certain_test all m ≡ true = tests_true exact all m (certain exact all m a t h.0) in
-    ap (λ (l : List Module). without_clashes l (None ∷ answers)) (sym (kept_step m ms t))
-    ∙ (ap (λ (l : List Module). m ∷ l) (rest answers h.1) ∙ sym (ap (λ (b : Bool). cond b (m ∷ filter (certain_test all) ms) (filter (certain_test all) ms)) p))
-unclashed_first exact all ms m (Some clash ∷ answers) a t h rest =
-    let p : certain_test all m ≡ false = tests_false exact all m a (clashing exact all m clash h.0) in
-    ap (λ (l : List Module). without_clashes l (Some clash ∷ answers)) (sym (kept_step m ms t))
-    ∙ (rest answers h.1 ∙ sym (ap (λ (b : Bool). cond b (m ∷ filter (certain_test all) ms) (filter (certain_test all) ms)) p))
-
--- The modules whose answers are that they clash with none are the certified ones.
-unclashed : CertifiedAreExact → (all ms : List Module) (answers : List (Option Clash)) → ((m : Module) → IsAmong m ms → IsAmong m all) → AreAnswers (in_step_of all) (in_step_of ms) answers
-    → without_clashes (in_step_of ms) answers ≡ filter (certain_test all) ms
-unclashed exact all [] answers within h = refl
-unclashed exact all (m ∷ ms) answers within h = by_test (is_in_step m) _
-    (λ t. unclashed_first exact all ms m answers (within m (inl refl)) t (subst (λ (l : List Module). AreAnswers (in_step_of all) l answers) (sym (kept_step m ms t)) h)
-    (λ left k. unclashed exact all ms left (λ n a. within n (inr a)) k))
-    (λ f. ap (λ (l : List Module). without_clashes l answers) (sym (left_step m ms f))
-    ∙ (unclashed exact all ms answers (λ n a. within n (inr a)) (subst (λ (l : List Module). AreAnswers (in_step_of all) l answers) (sym (left_step m ms f)) h)
-    ∙ sym (ap (λ (b : Bool). cond b (m ∷ filter (certain_test all) ms) (filter (certain_test all) ms)) (out_of_step all m f))))
-
-pub certified_are : CertifiedAreExact → (ms : List Module) (answers : List (Option Clash)) → AreAnswers (in_step_of ms) (in_step_of ms) answers → without_clashes (in_step_of ms) answers ≡ certified ms
-certified_are exact ms answers h = unclashed exact ms ms answers (λ m a. a) h
+pub certified_are : (ms : List Module) (answers : List (Option Clash)) → AreAnswers (in_step_of ms) (in_step_of ms) answers → without_clashes (in_step_of ms) answers ≡ certified ms
+certified_are ms answers h = answers_are (in_step_of ms) (in_step_of ms) answers (λ m a. a) h
 
 -- ---- standings
 
@@ -220,24 +140,18 @@ answered : (site : Site) (ms : List Module) (m : SiteModule) (rs : List Record) 
 answered site ms m rs [] more j p o t h = absurd h
 answered site ms m rs (None ∷ answers) more j p o t h =
     let n : Module = with_records m rs in
-    (rs, p, certain j.exact ms n ((j.all n).1 (record { of_site = o; records = p })) t h.0)
+    (rs, p, answered_none ms n ((j.all n).1 (record { of_site = o; records = p })) (in_step n t) h.0)
 answered site ms m rs (Some clash ∷ answers) more j p o t h =
     let n : Module = with_records m rs in
-    let c = h.0 in
-    let f = filtered is_in_step ms c.other c.listed in (
+    let c = h.0.0 in (
       c.other,
       c.name,
       c.path,
+      h.0.1,
       (
         rs,
         p,
-        record {
-          in_step = in_step j.exact n t;
-          listed = f.0;
-          other_in_step = in_step j.exact c.other f.1;
-          another = c.another;
-          clash = c.clash;
-        },
+        record { in_step = in_step n t; certain = ones.is_certified ms c.other c.listed; another = c.another; clash = c.clash },
       ),
     )
 

@@ -1,31 +1,30 @@
 -- What an audit of a site finds (own).
-use Rattle.std.specs.Prelude.{◌≡◌, ◌↔◌, Bool, true, false, List, [], ◌∷◌, map, filter, Ok, Err, string_bytes}
+use Rattle.std.specs.Prelude.{◌≡◌, ◌↔◌, Bool, true, false, not, ◌&&◌, List, [], ◌∷◌, ◌++◌, map, filter, flat_map}
+use Rattle.std.specs.Prelude.{filter_map, Ok, Err, bytes_eq, string_bytes}
+use Rattle.std.specs.List.{list_any}
+use Rattle.indexmap.specs.IndexSet.{insert_all}
 use Rattle.modulename.specs.ModuleName.{means}
 use Rattle.envvars.specs.Texts.{Text, texts_in}
+use Rattle.envvars.specs.Fields.{without_repeats}
 use Rattle.filetree.specs.Causes.{because}
-use Rattle.filetree.specs.Modulefiles.{path_of}
-use Rattle.lookup.specs.DefaultFileResults.{HasResult}
-use Rattle.search.specs.Single.{is_single}
-use Rattle.search.specs.Reasons.{bad_default}
-use Rattle.search.specs.Found.{Found}
-use Rattle.search.specs.Listed.{IsBelow}
-use Rattle.modulefile.specs.Files.{Ran}
 use Rattle.modulefile.specs.RecordViews.{record_view}
 use Rattle.modulefile.specs.Records.{Record, conflict_names, prereq_groups}
 use Rattle.modulefile.specs.Moves.{Module}
 use Rattle.requests.specs.Reasons.{RequestReason}
 use Rattle.modules.specs.Answers.{cause_of}
-use Rattle.sitecertificate.specs.RecordUses.{IsAmong}
+use Rattle.sitecertificate.specs.RecordUses.{UsedVariable, used_by_modules, IsAmong, is_in_step}
+use Rattle.sitecertificate.specs.Ranks.{users_alike}
 use Rattle.sitecertificate.specs.Certificates.{certificate, AgreesWith}
 use Rattle.sitecertificate.specs.UseViews.{use_view, used_view}
-use Rattle.sitecertificate.specs.Disagreements.{Disagreement, IsDisagreement}
+use Rattle.sitecertificate.specs.Disagreements.{AreDisagreements}
 use Rattle.sitecertificate.specs.DisagreementViews.{disagreement_view}
-use Rattle.sitelaws.specs.Sites.{Site, SiteModule, file_of, EvaluatesTo, IsDirectory, IsOfSite, ArePlainModules}
-use Rattle.sitelaws.specs.Sites.{AreDirectories, AreModulesIn}
+use Rattle.sitecertificate.specs.EachOnce.{each_once}
+use Rattle.sitelaws.specs.Sites.{Site, SiteModule, Evaluated, file_of, plain_of, HasPlainRecords, ArePlainModules}
 use Rattle.sitelaws.specs.Standings as standings
 use Rattle.sitelaws.specs.Standings.{HasStanding}
 use Rattle.sitelaws.specs.Laws.{CertificateHolds}
-use Rattle.sitecertificate.specs.EachOnce.{each_once}
+use Rattle.siteaudit.specs.Walks.{IsWalk}
+use Rattle.siteaudit.specs.Folders.{AreBadDefaultFiles}
 use Rattle.siteaudit.specs.declared.standing.Standing.{Standing}
 use Rattle.siteaudit.specs.declared.standing.Standing.TheVariants.{Certified, Asks, OneWay, OutOfStep, Clashes, Refused}
 use Rattle.siteaudit.specs.declared.auditing.AuditedModule.{AuditedModule}
@@ -35,7 +34,8 @@ use Rattle.siteaudit.specs.declared.auditing.SiteAudit.{SiteAudit}
 -- ---- standings
 
 -- A module of a site, whose plain modules are these, stands as the code says. The other module of a clash has the name
--- and the path that are given, and a refusal has its reason. The words of a question are of no clause.
+-- and the path that are given, and so many of those in step use the variable as it does; a refusal has its reason. The
+-- words of a question are of no clause.
 abbrev pub StandsAs : Site → List Module → SiteModule → Standing → Type 0
 StandsAs site ms m Certified = HasStanding site ms m standings.Certified
 StandsAs site ms m (Asks question) = HasStanding site ms m standings.Asks
@@ -44,6 +44,7 @@ StandsAs site ms m (OutOfStep variable one other) =
     HasStanding site ms m (standings.OutOfStep (string_bytes variable) (use_view one) (use_view other))
 StandsAs site ms m (Clashes clash) =
     (other : Module) × (other.name ≡ string_bytes clash.other_name) × (other.path ≡ string_bytes clash.other_path)
+    × (clash.alike ≡ users_alike (filter is_in_step ms) (string_bytes clash.variable) (use_view clash.theirs))
     × HasStanding site ms m
     (standings.Clashes (string_bytes clash.variable) (use_view clash.own) (use_view clash.theirs) other)
 StandsAs site ms m (Refused refusal) =
@@ -71,22 +72,9 @@ is_certified (Refused refusal) = false
 abbrev pub certified_files : List AuditedModule → List SiteModule
 certified_files ms = map audited_file (filter (λ m. is_certified m.standing) ms)
 
--- ---- default files
-
--- A folder of a directory of the site has a module in it, and a fault in its default file at this path, so that the
--- search for the folder is refused.
-pub record IsBadDefaultFile (site : Site) (path : Text) : Type 0 where
-  pub dir : Text
-  pub folder : Text
-  pub version : Text
-  pub directory : IsDirectory site dir
-  pub module_there : IsBelow site.files site.listings dir (path_of folder version)
-  pub in_folder : is_single version ≡ true
-  pub refused : Found (HasResult site.limits) site.files site.listings dir folder (Err (bad_default path))
-
 -- ---- names
 
--- names that a module has in a record: in a `prereq`, or else in a `conflict`
+-- names that a module has in a record: all of a `prereq`, or else one of a `conflict`
 pub record Mention : Type 0 where
   pub by : SiteModule
   pub is_prereq : Bool
@@ -101,44 +89,80 @@ mention_of found =
       names = texts_in found.names;
     }
 
--- The records mention the names: those of one `prereq` together, and each of those of a `conflict` by itself.
-abbrev pub AreMentioned : List Record → Bool → List Text → Type 0
-AreMentioned rs true names = IsAmong names (prereq_groups rs)
-AreMentioned rs false names = (name : Text) × IsAmong name (conflict_names rs) × (names ≡ name ∷ [])
+-- the name means one of these modules
+abbrev pub means_one : List Evaluated → Text → Bool
+means_one outcomes name = list_any (λ outcome. means name outcome.0.name) outcomes
 
--- A module of the site mentions the names in the records that its evaluation leaves, and none of them means a module of
--- the site.
-pub record IsUnknown (site : Site) (mention : Mention) : Type 0 where
-  pub of_site : IsOfSite site mention.by
-  pub ran : Ran
-  pub evaluated : EvaluatesTo site mention.by (Ok ran)
-  pub mentioned : AreMentioned ran.records mention.is_prereq mention.names
-  pub unknown : (name : Text) (m : SiteModule) → IsAmong name mention.names → IsOfSite site m
-      → means name m.name ≡ false
+-- the names in the conflicts of records that aren't known, each once
+abbrev pub unknown_conflicts : (Text → Bool) → List Record → List Text
+unknown_conflicts known rs = without_repeats (filter (λ name. not (known name)) (conflict_names rs))
+
+-- they are the same names in the same order
+abbrev pub same_names : List Text → List Text → Bool
+same_names [] [] = true
+same_names [] (y ∷ ys) = false
+same_names (x ∷ xs) [] = false
+same_names (x ∷ xs) (y ∷ ys) = bytes_eq x y && same_names xs ys
+
+-- the prereqs of records of which no name is known, each once
+abbrev pub unknown_prereqs : (Text → Bool) → List Record → List (List Text)
+unknown_prereqs known rs =
+    insert_all same_names [] (filter (λ names. not (list_any known names)) (prereq_groups rs))
+
+-- the module has the name in a conflict
+abbrev pub conflict_mention : SiteModule → Text → Mention
+conflict_mention m name = record { by = m; is_prereq = false; names = name ∷ [] }
+
+-- it has the names in a prereq
+abbrev pub prereq_mention : SiteModule → List Text → Mention
+prereq_mention m names = record { by = m; is_prereq = true; names = names }
+
+-- what a module with these records mentions that isn't known: of its conflicts, and then of its prereqs
+abbrev pub unknown_in : (Text → Bool) → SiteModule → List Record → List Mention
+unknown_in known m rs =
+    map (conflict_mention m) (unknown_conflicts known rs) ++ map (prereq_mention m) (unknown_prereqs known rs)
+
+-- the same of an evaluated module
+abbrev pub unknown_of : (Text → Bool) → Evaluated → List Mention
+unknown_of known (m, Ok ran) = unknown_in known m ran.records
+unknown_of known (m, Err reason) = []
+
+-- what these modules mention in turn that means none of them
+abbrev pub unknown_names : List Evaluated → List Mention
+unknown_names outcomes = flat_map (unknown_of (means_one outcomes)) outcomes
 
 -- ---- the whole
 
--- What was found is an audit of the site. It has each module in each directory, in their order, with how it stands; the
--- certificate of its certified modules, each use once; each bad default file; the names that mean no module; and where
--- the environment at hand doesn't agree with the certificate, and why.
-pub record IsAudit (site : Site) (found : SiteAudit) : Type 0 where
-  pub plain : List Module
-  pub plain_modules : ArePlainModules site plain
-  pub dirs : List Text
-  pub directories : AreDirectories site dirs
-  pub modules : AreModulesIn site dirs (map audited_file found.modules.items)
-  pub standing : AllStand site plain found.modules.items
-  pub certificate : map used_view found.certificate.items ≡ each_once (certificate plain)
-  pub bad_default_files : (path : Text) → IsAmong path (texts_in found.bad_default_files) ↔ IsBadDefaultFile site path
-  pub unknown_names : (mention : Mention) → IsAmong mention (map mention_of found.unknown_names.items)
-      ↔ IsUnknown site mention
-  pub agrees : (found.disagreements.items ≡ []) ↔ AgreesWith (map used_view found.certificate.items) site.env
-  pub disagreements : (d : Disagreement) → IsAmong d (map disagreement_view found.disagreements.items)
-      ↔ IsDisagreement (map used_view found.certificate.items) site.env d
+-- the plain ones of some evaluated modules, in their order
+abbrev pub plain_among : List Evaluated → List Module
+plain_among outcomes = filter_map plain_of outcomes
 
--- What the certificate that was found promises of the site: these modules are those that stand as certified, and
--- sessions that load no others return to a start that agrees with it.
+-- What was found is an audit of the site: a walk over it has these directories and these outcomes. It has each module of
+-- the walk, in its order, with how it stands; the certificate of its plain modules, each use once; the bad default
+-- files of the modules in turn, each once; the names that mean no module; and the reasons for which the environment at
+-- hand doesn't agree with the certificate, use after use.
+pub record IsAudit (site : Site) (found : SiteAudit) : Type 0 where
+  pub dirs : List Text
+  pub outcomes : List Evaluated
+  pub walk : IsWalk site dirs outcomes
+  pub plain_modules : ArePlainModules site (plain_among outcomes)
+  pub modules : map audited_file found.modules.items ≡ map (λ outcome. outcome.0) outcomes
+  pub standing : AllStand site (plain_among outcomes) found.modules.items
+  pub certificate : map used_view found.certificate.items ≡ each_once (certificate (plain_among outcomes))
+  pub bad_default_files : AreBadDefaultFiles site.limits site.files site.listings (map (λ outcome. outcome.0) outcomes)
+      (texts_in found.bad_default_files)
+  pub unknown : map mention_of found.unknown_names.items ≡ unknown_names outcomes
+  pub agrees : (found.disagreements.items ≡ []) ↔ AgreesWith (map used_view found.certificate.items) site.env
+  pub disagreements : AreDisagreements (map used_view found.certificate.items) site.env
+      (map disagreement_view found.disagreements.items)
+
+-- What the certificate that was found promises of the site. These modules, with the records of their evaluations, are
+-- those that stand as certified, and the certificate is what they use. Sessions that load only those of them with whose
+-- uses the start agrees return to it: of the others nothing is asked.
 pub record CertificateStands (site : Site) (found : SiteAudit) : Type 0 where
   pub certain : List Module
   pub exact : map file_of certain ≡ certified_files found.modules.items
-  pub holds : CertificateHolds site certain (map used_view found.certificate.items)
+  pub records : (m : Module) → IsAmong m certain → HasPlainRecords site (file_of m) m.records
+  pub uses : (p : UsedVariable) → IsAmong p (used_by_modules certain)
+      ↔ IsAmong p (map used_view found.certificate.items)
+  pub holds : CertificateHolds site certain

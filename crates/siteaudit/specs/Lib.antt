@@ -1,9 +1,9 @@
 pub mod Walks
-pub mod LookedAtWalk
-pub mod WalkParts
+pub mod WalkLooked
 pub mod Audits
 pub mod Looked
--- for this crate's own contracts alone
+-- for the contracts of private functions
+pub mod WalkParts
 pub mod Findings
 pub mod Mentions
 pub mod Folders

@@ -1,19 +1,19 @@
 -- Where an audit of a site looks (own): the paths of the files and directories that it reads or lists on its way. No
 -- failure of the device at another path can end it.
-use Rattle.std.specs.Prelude.{◌⊎◌}
+use Rattle.std.specs.Prelude.{◌⊎◌, []}
 use Rattle.envvars.specs.Texts.{Text}
 use Rattle.lookup.specs.DefaultFileResults.{HasResult}
-use Rattle.search.specs.Looked.{HasModule, LooksAt}
+use Rattle.search.specs.Looked.{HasSelected, LooksAt}
 use Rattle.sitelaws.specs.Sites.{Site, IsDirectory}
-use Rattle.siteaudit.specs.LookedAtWalk.{WalkLooksAt}
-pub use Rattle.siteaudit.specs.LookedAtWalk.{is_failure}
+use Rattle.siteaudit.specs.WalkLooked.{WalkLooksAt}
+pub use Rattle.siteaudit.specs.WalkLooked.{is_failure}
 
 -- the search for a folder of a directory of the site, in which a module stands, looks at this path
 pub record FolderLooksAt (site : Site) (at : Text) : Type 0 where
   pub dir : Text
   pub folder : Text
   pub directory : IsDirectory site dir
-  pub module_there : HasModule site.files site.listings dir folder
+  pub module_there : HasSelected site.files site.listings [] dir folder
   pub searched : LooksAt (HasResult site.limits) site.files site.listings dir folder at
 
 -- An audit of the site looks at this path: the walk does, or the search for a folder, by which a fault in its default

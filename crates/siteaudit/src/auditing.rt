@@ -69,7 +69,6 @@ fn parts_are_audits()
     ensures { PartsAreAudits }
 {
     modulefile::files();
-    sitecertificate::laws::certified();
     sitelaws::laws::walks();
     sitelaws::laws::sessions_return();
 }
@@ -110,10 +109,11 @@ fn audit_evaluations<T: Tree>(
 /// once; the environment doesn't change.
 ///
 /// What is found is an audit of the site (`exact`). Its certificate stands (`holds`): a session that begins in an
-/// environment that agrees with it, and loads modules alone that stand as certified, returns to its start.
+/// environment whose loaded list is in order, and loads only modules that stand as certified and with whose uses this
+/// environment agrees, returns to its start.
 ///
-/// Errors: loaded lists that don't fit together (35); a device that failed in this call, at a path that the audit looks at
-/// (43); want of memory (11, 31, 41); more than `MAX_DIRECTORIES` directories.
+/// Errors: loaded lists that don't fit together (35); a device that failed in this call, at a path that the audit looks
+/// at (43); want of memory (11, 31, 41); more than `MAX_DIRECTORIES` directories.
 pub fn audit<T: Tree, P: WalkProgress>(
     alloc: Global,
     env: &Env,

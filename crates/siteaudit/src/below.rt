@@ -5,7 +5,7 @@ ghost use Rattle.filetree.specs.Modulefiles.{directories};
 ghost use Rattle.modules.specs.Answers.{is_failure};
 ghost use Rattle.search.specs.ListingEntries.{name_of};
 ghost use Rattle.sitelaws.specs.Sites.{site_of, AreNamesBelow};
-ghost use Rattle.siteaudit.specs.LookedAtWalk.{DirectoryLooksAt};
+ghost use Rattle.siteaudit.specs.WalkLooked.{DirectoryLooksAt};
 ghost use Rattle.siteaudit.specs.WalkParts.{HasLoaded, AreEvaluationsBelow, GivesUp};
 
 use crate::files::{SiteSettings, evaluate_module};

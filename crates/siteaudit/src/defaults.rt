@@ -1,5 +1,5 @@
 //! Folders of a site whose default files have a fault, so that a search for the folder is refused.
-ghost use Rattle.std.specs.Prelude.{◌≡◌, ◌↔◌, ◌⊎◌, ◌<◌, ◌++◌, option_to_list, Some, map, IfOk, IfErr, OnOk};
+ghost use Rattle.std.specs.Prelude.{◌≡◌, ◌↔◌, ◌⊎◌, ◌<◌, true, option_to_list, Some, map, IfOk, IfErr, OnOk};
 ghost use Rattle.std.specs.Prelude.{string_bytes};
 ghost use Rattle.std.specs.Option.{option_map};
 ghost use Rattle.envvars.specs.Texts.{texts_in};
@@ -7,8 +7,11 @@ ghost use Rattle.filetree.specs.Agreement.{FailsWhere, InEachPair, ReadsOn};
 ghost use Rattle.filetree.specs.Causes.{Applies};
 ghost use Rattle.modules.specs.Answers.{cause_of, is_failure};
 ghost use Rattle.sitecertificate.specs.RecordUses.{IsAmong};
-ghost use Rattle.siteaudit.specs.Folders.{FolderText, folder_view, HoldsModule, HoldsOneOf, IsBadAnswer, AreBadIn};
-ghost use Rattle.siteaudit.specs.Folders.{AreBadAmong, SearchLooksAt, SearchesLookAt, EvaluatedLookAt};
+ghost use Rattle.sitelaws.specs.DirectorySets.{with_directories};
+ghost use Rattle.siteaudit.specs.Findings.{evaluated_file};
+ghost use Rattle.siteaudit.specs.Folders.{FolderText, folder_view, HoldsModule, IsBadAnswer, AreBadDefaultFiles};
+ghost use Rattle.siteaudit.specs.Folders.{AddsBadAnswer, AddsNewAnswer, AddsBadDefault, AddsFolder};
+ghost use Rattle.siteaudit.specs.Folders.{SearchLooksAt, ModuleLooksAt, EvaluatedLookAt};
 
 use crate::folders::{directory_of, folder_of};
 use crate::walk::Evaluation;
@@ -17,6 +20,7 @@ use indexmap::IndexSet;
 use lookup::EvaluatedDefaultFiles;
 use modules::Refusal;
 use search::{FindFault, locate, one_found};
+use sitelaws::directory_set::{Directories, in_order};
 use std::alloc::{AllocError, Global};
 use tclrules::Limits;
 
@@ -46,32 +50,20 @@ fn folder_with(alloc: Global, module: &Evaluation) -> Result<Option<Folder>, All
     }))
 }
 
-/// Adds the folder in which an evaluated module is, if it is in one.
-fn add_folder(
-    alloc: Global,
-    module: &Evaluation,
-    folders: &mut IndexSet<Folder>,
-) -> Result<(), AllocError>
-    ensures { OnOk result ((folder : FolderText) → IsAmong folder (map folder_view folders.new.keys)
-        ↔ (IsAmong folder (map folder_view folders.old.keys)
-        ⊎ HoldsModule folder (string_bytes module.now.name) (string_bytes module.now.path))) }
+/// Whether the folder is among these.
+fn is_among(folders: &IndexSet<Folder>, folder: &Folder) -> bool
+    ensures { result ≡ true → IsAmong (folder_view folder.now) (map folder_view folders.now.keys) }
 {
-    if let Some(folder) = folder_with(alloc, module)? {
-        let _ = folders.insert(folder)?;
-    }
-    Ok(())
+    folders.contains(folder)
 }
 
-/// The folders in which the evaluated modules are, each once.
-fn folders_of(alloc: Global, evaluations: &[Evaluation]) -> Result<Vec<Folder>, AllocError>
-    ensures { IfOk result (λ folders. (folder : FolderText) → IsAmong folder (map folder_view folders.items)
-        ↔ HoldsOneOf evaluations.now folder) }
+/// Adds a folder, unless it is there.
+fn add_folder(folders: &mut IndexSet<Folder>, folder: Folder) -> Result<(), AllocError>
+    ensures { OnOk result ((other : FolderText) → IsAmong other (map folder_view folders.new.keys)
+        ↔ (IsAmong other (map folder_view folders.old.keys) ⊎ (other ≡ folder_view folder))) }
 {
-    let mut folders = IndexSet::new(alloc);
-    for module in evaluations {
-        add_folder(alloc, module, &mut folders)?;
-    }
-    folders.into_iter().collect(alloc)
+    let _ = folders.insert(folder)?;
+    Ok(())
 }
 
 /// The path of the default file of a folder that has a fault; `None` where the search for the folder isn't refused by
@@ -109,40 +101,95 @@ fn bad_default_file<T: Tree>(
     }
 }
 
-/// Adds the path that was found, if one was.
-fn push_found(paths: &mut Vec<String>, found: Option<String>) -> Result<(), AllocError>
-    ensures { OnOk result (texts_in paths.new ≡ texts_in paths.old ++ option_to_list (option_map string_bytes found)) }
+/// Adds the path that was found, if one was, unless it is there.
+fn push_found(paths: &mut Directories, found: Option<String>) -> Result<(), AllocError>
+    ensures { OnOk result (map string_bytes paths.new.keys
+        ≡ with_directories (map string_bytes paths.old.keys) (option_to_list (option_map string_bytes found))) }
 {
     if let Some(path) = found {
-        paths.push(path)?;
+        let _ = paths.insert(path)?;
     }
     Ok(())
 }
 
-/// The paths of the default files of these folders that have a fault.
-fn bad_in_folders<T: Tree>(
+/// Adds the path of the default file of a folder, where that has a fault.
+fn judge_folder<T: Tree>(
     alloc: Global,
     tree: &mut T,
     limits: Limits,
-    folders: &[Folder],
-) -> Result<Vec<String>, Refusal>
+    folder: &Folder,
+    paths: &mut Directories,
+) -> Result<(), Refusal>
     ensures reads { ReadsOn T.agrees T.failures tree.old tree.new }
-    ensures answer { IfOk result (λ paths. InEachPair (T.agrees tree.new) (λ files listings.
-        AreBadIn limits files listings (map folder_view folders.now) (texts_in paths))) }
+    ensures answer { OnOk result (InEachPair (T.agrees tree.new) (λ files listings.
+        AddsBadAnswer limits files listings (folder_view folder.now)
+        (map string_bytes paths.old.keys) (map string_bytes paths.new.keys))) }
     ensures cause { IfErr result (λ refusal.
         Applies (cause_of refusal) (T.failures tree.old < T.failures tree.new) (λ reason. ⊥)) }
     ensures failed { FailsWhere is_failure T.agrees T.failed tree.old tree.new result (λ files listings.
-        SearchesLookAt limits files listings (map folder_view folders.now)) }
+        SearchLooksAt limits files listings (folder_view folder.now)) }
 {
-    let mut paths = Vec::new(alloc);
-    for folder in folders {
-        let found = bad_default_file(alloc, tree, limits, folder)?;
-        push_found(&mut paths, found)?;
-    }
-    Ok(paths)
+    let found = bad_default_file(alloc, tree, limits, folder)?;
+    push_found(paths, found)?;
+    Ok(())
 }
 
-/// The paths of the default files that have a fault, of the folders in which the evaluated modules are.
+/// The same, unless the folder is one of those that were judged before; it is one of them then.
+fn judge_new<T: Tree>(
+    alloc: Global,
+    tree: &mut T,
+    limits: Limits,
+    folder: Folder,
+    folders: &mut IndexSet<Folder>,
+    paths: &mut Directories,
+) -> Result<(), Refusal>
+    ensures reads { ReadsOn T.agrees T.failures tree.old tree.new }
+    ensures folders { OnOk result ((other : FolderText) → IsAmong other (map folder_view folders.new.keys)
+        ↔ (IsAmong other (map folder_view folders.old.keys) ⊎ (other ≡ folder_view folder))) }
+    ensures answer { OnOk result (InEachPair (T.agrees tree.new) (λ files listings.
+        AddsNewAnswer limits files listings (map folder_view folders.old.keys) (folder_view folder)
+        (map string_bytes paths.old.keys) (map string_bytes paths.new.keys))) }
+    ensures cause { IfErr result (λ refusal.
+        Applies (cause_of refusal) (T.failures tree.old < T.failures tree.new) (λ reason. ⊥)) }
+    ensures failed { FailsWhere is_failure T.agrees T.failed tree.old tree.new result (λ files listings.
+        SearchLooksAt limits files listings (folder_view folder)) }
+{
+    if is_among(folders, &folder) {
+        return Ok(());
+    }
+    judge_folder(alloc, tree, limits, &folder, paths)?;
+    add_folder(folders, folder)?;
+    Ok(())
+}
+
+/// The same of the folder in which an evaluated module is, if it is in one.
+fn judge_module<T: Tree>(
+    alloc: Global,
+    tree: &mut T,
+    limits: Limits,
+    module: &Evaluation,
+    folders: &mut IndexSet<Folder>,
+    paths: &mut Directories,
+) -> Result<(), Refusal>
+    ensures reads { ReadsOn T.agrees T.failures tree.old tree.new }
+    ensures folders { OnOk result (AddsFolder (map folder_view folders.old.keys) (evaluated_file module.now)
+        (map folder_view folders.new.keys)) }
+    ensures answer { OnOk result (InEachPair (T.agrees tree.new) (λ files listings.
+        AddsBadDefault limits files listings (map folder_view folders.old.keys) (evaluated_file module.now)
+        (map string_bytes paths.old.keys) (map string_bytes paths.new.keys))) }
+    ensures cause { IfErr result (λ refusal.
+        Applies (cause_of refusal) (T.failures tree.old < T.failures tree.new) (λ reason. ⊥)) }
+    ensures failed { FailsWhere is_failure T.agrees T.failed tree.old tree.new result (λ files listings.
+        ModuleLooksAt limits files listings (evaluated_file module.now)) }
+{
+    match folder_with(alloc, module)? {
+        None => Ok(()),
+        Some(folder) => judge_new(alloc, tree, limits, folder, folders, paths),
+    }
+}
+
+/// The paths of the default files that have a fault, of the folders in which the evaluated modules are: in the order of
+/// the modules, each once.
 pub(crate) fn bad_default_files<T: Tree>(
     alloc: Global,
     tree: &mut T,
@@ -151,12 +198,16 @@ pub(crate) fn bad_default_files<T: Tree>(
 ) -> Result<Vec<String>, Refusal>
     ensures reads { ReadsOn T.agrees T.failures tree.old tree.new }
     ensures answer { IfOk result (λ paths. InEachPair (T.agrees tree.new) (λ files listings.
-        AreBadAmong limits files listings evaluations.now (texts_in paths))) }
+        AreBadDefaultFiles limits files listings (map evaluated_file evaluations.now) (texts_in paths))) }
     ensures cause { IfErr result (λ refusal.
         Applies (cause_of refusal) (T.failures tree.old < T.failures tree.new) (λ reason. ⊥)) }
     ensures failed { FailsWhere is_failure T.agrees T.failed tree.old tree.new result (λ files listings.
         EvaluatedLookAt limits files listings evaluations.now) }
 {
-    let folders = folders_of(alloc, evaluations)?;
-    bad_in_folders(alloc, tree, limits, folders.as_slice())
+    let mut folders = IndexSet::new(alloc);
+    let mut paths = IndexSet::new(alloc);
+    for module in evaluations {
+        judge_module(alloc, tree, limits, module, &mut folders, &mut paths)?;
+    }
+    Ok(in_order(alloc, paths)?)
 }

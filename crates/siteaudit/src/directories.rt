@@ -10,7 +10,7 @@ use crate::plain::is_plain;
 use crate::walk::Evaluation;
 use modulefile::{PathEdit, Record};
 use modulerun::FileRun;
-use sitelaws::directories::{Directories, push_directories};
+use sitelaws::directory_set::{Directories, push_directories};
 use std::alloc::{AllocError, Global};
 
 /// Adds the directories in each of these texts.

@@ -1,7 +1,7 @@
 //! The audit of a whole site: its walk, how each module stands, the certificate of those without a judgement, remarks.
 //! Takes memory, reads the files and directories (`Tree`) that it is given, and says how far it has come.
-//! Clauses: `reads` and `failed` say what the tree was asked; `listed`, `evaluated` and `walked` what is found by each pair
-//! that agrees with it; and `cause` why a call gives no answer.
+//! Clauses: `reads` and `failed` say what the tree was asked; `listed`, `evaluated` and `walked` what is found by each
+//! pair that agrees with it; and `cause` why a call gives no answer.
 #![tactic(auto)]
 
 mod auditing;

@@ -2,12 +2,16 @@
 ghost use Rattle.std.specs.Prelude.{◌≡◌, ◌||◌, ◌∷◌, [], ◌++◌, Bool, true, false, not, flat_map, map, string_bytes};
 ghost use Rattle.std.specs.Prelude.{IfOk, OnOk};
 ghost use Rattle.std.specs.List.{list_any};
+ghost use Rattle.indexmap.specs.IndexSet.{insert_all};
 ghost use Rattle.modulename.specs.ModuleName.{means};
-ghost use Rattle.envvars.specs.Texts.{Text};
+ghost use Rattle.envvars.specs.Texts.{Text, texts_in};
 ghost use Rattle.modulefile.specs.RecordViews.{record_view};
-ghost use Rattle.siteaudit.specs.Audits.{mention_of};
+ghost use Rattle.modulefile.specs.Records.{prereq_groups};
+ghost use Rattle.sitelaws.specs.DirectorySets.{with_directories};
+ghost use Rattle.siteaudit.specs.Audits as spec;
+ghost use Rattle.siteaudit.specs.Audits.{mention_of, conflict_mention, prereq_mention, unknown_in};
 ghost use Rattle.siteaudit.specs.Findings.{evaluated_file};
-ghost use Rattle.siteaudit.specs.Mentions.{is_known, known_in, unknown_by, unknown_in, unknown_of};
+ghost use Rattle.siteaudit.specs.Mentions.{is_known, known_in, unknown_among, unknown_groups, unknown_after};
 
 use crate::auditing::UnknownNames;
 use crate::folders::folder_of;
@@ -15,6 +19,7 @@ use crate::walk::Evaluation;
 use indexmap::IndexSet;
 use message::texts::copies;
 use modulefile::Record;
+use sitelaws::directory_set::{Directories, in_order};
 use std::alloc::{AllocError, Global};
 use std::slice;
 
@@ -60,6 +65,124 @@ fn has_meaning(meaning: &IndexSet<String>, names: &[String]) -> bool
     names.iter().any(|name| is_meaning(meaning, name.as_str()))
 }
 
+/// Adds a name, unless it means a module or is there.
+fn add_unknown(
+    alloc: Global,
+    meaning: &IndexSet<String>,
+    name: &str,
+    unknown: &mut Directories,
+) -> Result<(), AllocError>
+    ensures { OnOk result (map string_bytes unknown.new.keys ≡ with_directories (map string_bytes unknown.old.keys)
+        (unknown_among (known_in meaning.now.keys) (name.now ∷ []))) }
+{
+    if !is_meaning(meaning, name) {
+        let _ = unknown.insert(String::from_str(alloc, name)?)?;
+    }
+    Ok(())
+}
+
+/// Adds those of the names that mean no module and aren't there.
+fn add_all_unknown(
+    alloc: Global,
+    meaning: &IndexSet<String>,
+    names: &[String],
+    unknown: &mut Directories,
+) -> Result<(), AllocError>
+    ensures { OnOk result (map string_bytes unknown.new.keys ≡ with_directories (map string_bytes unknown.old.keys)
+        (unknown_among (known_in meaning.now.keys) (map string_bytes names.now))) }
+{
+    for name in names {
+        add_unknown(alloc, meaning, name.as_str(), unknown)?;
+    }
+    Ok(())
+}
+
+/// The names in the conflicts of records that mean no module, each once.
+fn unknown_conflicts(
+    alloc: Global,
+    meaning: &IndexSet<String>,
+    records: &[Record],
+) -> Result<Directories, AllocError>
+    ensures { IfOk result (λ unknown. map string_bytes unknown.keys
+        ≡ spec.unknown_conflicts (known_in meaning.now.keys) (map record_view records.now)) }
+{
+    let mut unknown = IndexSet::new(alloc);
+    for recorded in records {
+        add_all_unknown(alloc, meaning, recorded.conflicts(), &mut unknown)?;
+    }
+    Ok(unknown)
+}
+
+/// Whether both have the same names in the same order.
+fn same_names(one: &[String], other: &[String]) -> bool
+    ensures { result ≡ spec.same_names (map string_bytes one.now) (map string_bytes other.now) }
+{
+    if one.len() != other.len() {
+        return false;
+    }
+    for (name, another) in one.iter().zip(other) {
+        if name.as_str() != another.as_str() {
+            return false;
+        }
+    }
+    true
+}
+
+/// Whether the names are among these.
+fn is_there(all: &[Vec<String>], names: &[String]) -> bool
+    ensures { result ≡ list_any (spec.same_names (map string_bytes names.now)) (map texts_in all.now) }
+{
+    all.iter().any(|other| same_names(names, other.as_slice()))
+}
+
+/// Adds names, unless one of them means a module or the same are there.
+fn add_group(
+    alloc: Global,
+    meaning: &IndexSet<String>,
+    names: &[String],
+    unknown: &mut Vec<Vec<String>>,
+) -> Result<(), AllocError>
+    ensures { OnOk result (map texts_in unknown.new.items ≡ insert_all spec.same_names (map texts_in unknown.old.items)
+        (unknown_groups (known_in meaning.now.keys) (map string_bytes names.now ∷ []))) }
+{
+    if !has_meaning(meaning, names) && !is_there(unknown.as_slice(), names) {
+        unknown.push(copies(alloc, names)?)?;
+    }
+    Ok(())
+}
+
+/// Adds the names of a record that is a prereq.
+fn add_prereq(
+    alloc: Global,
+    meaning: &IndexSet<String>,
+    recorded: &Record,
+    unknown: &mut Vec<Vec<String>>,
+) -> Result<(), AllocError>
+    ensures { OnOk result (map texts_in unknown.new.items ≡ insert_all spec.same_names (map texts_in unknown.old.items)
+        (unknown_groups (known_in meaning.now.keys) (prereq_groups (record_view recorded.now ∷ [])))) }
+{
+    match recorded.prereqs() {
+        Some(names) => add_group(alloc, meaning, names, unknown),
+        None => Ok(()),
+    }
+}
+
+/// The names of each prereq among records of which none means a module, each once.
+fn unknown_prereqs(
+    alloc: Global,
+    meaning: &IndexSet<String>,
+    records: &[Record],
+) -> Result<Vec<Vec<String>>, AllocError>
+    ensures { IfOk result (λ unknown. map texts_in unknown.items
+        ≡ spec.unknown_prereqs (known_in meaning.now.keys) (map record_view records.now)) }
+{
+    let mut unknown = Vec::new(alloc);
+    for recorded in records {
+        add_prereq(alloc, meaning, recorded, &mut unknown)?;
+    }
+    Ok(unknown)
+}
+
 /// The names that a module has in a record, copied.
 fn mention(
     alloc: Global,
@@ -78,67 +201,36 @@ fn mention(
     })
 }
 
-/// Adds the names that a module has in a record, where none of them means a module.
-fn judge_names(
+/// Adds each of the names, as one in a conflict of the module.
+fn push_conflicts(
     alloc: Global,
-    meaning: &IndexSet<String>,
-    module: &Evaluation,
-    is_prereq: bool,
-    names: &[String],
-    unknown: &mut Vec<UnknownNames>,
-) -> Result<(), AllocError>
-    ensures { OnOk result (map mention_of unknown.new.items ≡ map mention_of unknown.old.items
-        ++ unknown_by (known_in meaning.now.keys) (evaluated_file module.now) is_prereq
-        (map string_bytes names.now)) }
-{
-    if !has_meaning(meaning, names) {
-        unknown.push(mention(alloc, module, is_prereq, names)?)?;
-    }
-    Ok(())
-}
-
-/// Adds each name that a module has in a conflict, where it means no module.
-fn judge_conflict(
-    alloc: Global,
-    meaning: &IndexSet<String>,
     module: &Evaluation,
     names: &[String],
-    unknown: &mut Vec<UnknownNames>,
+    found: &mut Vec<UnknownNames>,
 ) -> Result<(), AllocError>
-    ensures { OnOk result (map mention_of unknown.new.items ≡ map mention_of unknown.old.items
-        ++ flat_map (λ name. unknown_by (known_in meaning.now.keys)
-        (evaluated_file module.now) false (name ∷ [])) (map string_bytes names.now)) }
+    ensures { OnOk result (map mention_of found.new.items ≡ map mention_of found.old.items
+        ++ map (conflict_mention (evaluated_file module.now)) (map string_bytes names.now)) }
 {
     for name in names {
-        judge_names(
-            alloc,
-            meaning,
-            module,
-            false,
-            slice::from_ref(name),
-            unknown,
-        )?;
+        found.push(mention(alloc, module, false, slice::from_ref(name))?)?;
     }
     Ok(())
 }
 
-/// Adds what a record of a module mentions that means no module.
-fn judge_record(
+/// Adds each of these, as the names in a prereq of the module.
+fn push_prereqs(
     alloc: Global,
-    meaning: &IndexSet<String>,
     module: &Evaluation,
-    recorded: &Record,
-    unknown: &mut Vec<UnknownNames>,
+    groups: &[Vec<String>],
+    found: &mut Vec<UnknownNames>,
 ) -> Result<(), AllocError>
-    ensures { OnOk result (map mention_of unknown.new.items ≡ map mention_of unknown.old.items
-        ++ unknown_in (known_in meaning.now.keys) (evaluated_file module.now)
-        (record_view recorded.now)) }
+    ensures { OnOk result (map mention_of found.new.items ≡ map mention_of found.old.items
+        ++ map (prereq_mention (evaluated_file module.now)) (map texts_in groups.now)) }
 {
-    judge_conflict(alloc, meaning, module, recorded.conflicts(), unknown)?;
-    match recorded.prereqs() {
-        Some(names) => judge_names(alloc, meaning, module, true, names, unknown),
-        None => Ok(()),
+    for names in groups {
+        found.push(mention(alloc, module, true, names.as_slice())?)?;
     }
+    Ok(())
 }
 
 /// Adds what the records of a module mention that means no module.
@@ -147,16 +239,15 @@ fn judge_module(
     meaning: &IndexSet<String>,
     module: &Evaluation,
     records: &[Record],
-    unknown: &mut Vec<UnknownNames>,
+    found: &mut Vec<UnknownNames>,
 ) -> Result<(), AllocError>
-    ensures { OnOk result (map mention_of unknown.new.items ≡ map mention_of unknown.old.items
-        ++ flat_map (unknown_in (known_in meaning.now.keys) (evaluated_file module.now))
-        (map record_view records.now)) }
+    ensures { OnOk result (map mention_of found.new.items ≡ map mention_of found.old.items
+        ++ unknown_in (known_in meaning.now.keys) (evaluated_file module.now) (map record_view records.now)) }
 {
-    for recorded in records {
-        judge_record(alloc, meaning, module, recorded, unknown)?;
-    }
-    Ok(())
+    let conflicts = in_order(alloc, unknown_conflicts(alloc, meaning, records)?)?;
+    let prereqs = unknown_prereqs(alloc, meaning, records)?;
+    push_conflicts(alloc, module, conflicts.as_slice(), found)?;
+    push_prereqs(alloc, module, prereqs.as_slice(), found)
 }
 
 /// Adds what an evaluated module mentions that means no module.
@@ -164,13 +255,13 @@ fn judge_evaluation(
     alloc: Global,
     meaning: &IndexSet<String>,
     module: &Evaluation,
-    unknown: &mut Vec<UnknownNames>,
+    found: &mut Vec<UnknownNames>,
 ) -> Result<(), AllocError>
-    ensures { OnOk result (map mention_of unknown.new.items ≡ map mention_of unknown.old.items
-        ++ unknown_of (known_in meaning.now.keys) module.now) }
+    ensures { OnOk result (map mention_of found.new.items ≡ map mention_of found.old.items
+        ++ unknown_after (known_in meaning.now.keys) module.now) }
 {
     match &module.outcome {
-        Ok(ran) => judge_module(alloc, meaning, module, ran.records.as_slice(), unknown),
+        Ok(ran) => judge_module(alloc, meaning, module, ran.records.as_slice(), found),
         Err(_) => Ok(()),
     }
 }
@@ -181,14 +272,14 @@ fn judge_evaluations(
     meaning: &IndexSet<String>,
     evaluations: &[Evaluation],
 ) -> Result<Vec<UnknownNames>, AllocError>
-    ensures { IfOk result (λ unknown. map mention_of unknown.items
-        ≡ flat_map (unknown_of (known_in meaning.now.keys)) evaluations.now) }
+    ensures { IfOk result (λ found. map mention_of found.items
+        ≡ flat_map (unknown_after (known_in meaning.now.keys)) evaluations.now) }
 {
-    let mut unknown = Vec::new(alloc);
+    let mut found = Vec::new(alloc);
     for module in evaluations {
-        judge_evaluation(alloc, meaning, module, &mut unknown)?;
+        judge_evaluation(alloc, meaning, module, &mut found)?;
     }
-    Ok(unknown)
+    Ok(found)
 }
 
 /// The names in conflicts and prereqs of which none means one of the modules.
@@ -196,8 +287,8 @@ pub(crate) fn unknown_names(
     alloc: Global,
     evaluations: &[Evaluation],
 ) -> Result<Vec<UnknownNames>, AllocError>
-    ensures { IfOk result (λ unknown. map mention_of unknown.items
-        ≡ flat_map (unknown_of (is_known evaluations.now)) evaluations.now) }
+    ensures { IfOk result (λ found. map mention_of found.items
+        ≡ flat_map (unknown_after (is_known evaluations.now)) evaluations.now) }
 {
     let meaning = meaning_names(alloc, evaluations)?;
     judge_evaluations(alloc, &meaning, evaluations)

@@ -33,7 +33,7 @@ pub enum Standing {
         one: VariableUse,
         other: VariableUse,
     },
-    /// It is plain and in step, and clashes with another such module in a variable.
+    /// It is plain and in step, and clashes with a certified module in a variable.
     Clashes(Clash),
     /// Its evaluation is refused.
     Refused(Refusal),

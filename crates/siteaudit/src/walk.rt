@@ -5,7 +5,7 @@ ghost use Rattle.filetree.specs.Modulefiles.{directories};
 ghost use Rattle.modules.specs.Answers as steps;
 ghost use Rattle.requests.specs.Steps.{modulepath as modulepath_of};
 ghost use Rattle.sitelaws.specs.Sites.{site_of};
-ghost use Rattle.siteaudit.specs.LookedAtWalk.{DirectoryLooksAt, WalkLooksAt, is_failure};
+ghost use Rattle.siteaudit.specs.WalkLooked.{DirectoryLooksAt, WalkLooksAt, is_failure};
 ghost use Rattle.siteaudit.specs.Walks.{IsWalkAnswer, HasCause};
 ghost use Rattle.siteaudit.specs.WalkParts.{HasLoaded, GivesUp, GoesThrough};
 
@@ -19,7 +19,7 @@ use filetree::Tree;
 use indexmap::IndexSet;
 use modulerun::FileRun;
 use modules::Refusal;
-use sitelaws::directories::{Directories, directory_at, in_order, push_directories};
+use sitelaws::directory_set::{Directories, directory_at, in_order, push_directories};
 use std::alloc::Global;
 use tclrules::Limits;
 

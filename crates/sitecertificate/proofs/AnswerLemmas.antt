@@ -12,8 +12,7 @@ use Rattle.envvars.proofs.EditLemmas.{both_true, and_both}
 use Rattle.modulefile.specs.Moves.{Module}
 use Rattle.reversal.specs.VariableUses.{VariableUse}
 use Rattle.sitecertificate.specs.RecordUses.{UsedVariable, used_by, IsAmong}
-use Rattle.sitecertificate.specs.Clashes.{exclude, uses_clash}
-use Rattle.sitecertificate.specs.Certificates.{is_other}
+use Rattle.sitecertificate.specs.Clashes.{is_other, exclude, uses_clash, do_clash}
 use Rattle.sitecertificate.specs.UseViews.{use_view, used_view}
 use Rattle.sitecertificate.specs.declared.uses.UsedVariable as code
 use Rattle.sitecertificate.proofs.UsedLemmas.{by_test, by_cases, among_left, among_right, among_either}
@@ -21,7 +20,10 @@ use Rattle.sitecertificate.specs.declared.answers.Clash.{Clash}
 use Rattle.sitecertificate.specs.Users.{ModuleUse, Enters, EntersAll, AreUsersOf, do_users_clash, uses_of_module}
 use Rattle.sitecertificate.specs.Users.{uses_of_modules}
 use Rattle.sitecertificate.specs.ClashAnswers.{IsClashBetween, IsClashOf, ClashesWithNone, IsAnswer, AreAnswers}
+use Rattle.sitecertificate.specs.EachOnce.{each_once}
 use Rattle.sitecertificate.proofs.Members.{fails_each}
+use Rattle.sitecertificate.proofs.OnceLemmas.{in_once, of_once}
+use Rattle.sitecertificate.proofs.Exact.{to_clashes}
 use Rattle.sitecertificate.proofs.TableLemmas.{use_of, some_clash}
 
 -- members of lists that are made of others
@@ -31,17 +33,17 @@ among_map f [] x h = absurd h
 among_map f (y ∷ xs) x (inl e) = inl (ap f e)
 among_map f (y ∷ xs) x (inr h) = inr (among_map f xs x h)
 
-among_mapped : {X Y : Type 0} (f : X → Y) (xs : List X) (y : Y) → IsAmong y (map f xs) → (x : X) × IsAmong x xs × (y ≡ f x)
+pub among_mapped : {X Y : Type 0} (f : X → Y) (xs : List X) (y : Y) → IsAmong y (map f xs) → (x : X) × IsAmong x xs × (y ≡ f x)
 among_mapped f [] y h = absurd h
 among_mapped f (x ∷ xs) y (inl e) = (x, inl refl, e)
 among_mapped f (x ∷ xs) y (inr h) = let r = among_mapped f xs y h in (r.0, inr r.1, r.2)
 
-among_of : {X Y : Type 0} (f : X → List Y) (xs : List X) (x : X) (y : Y) → IsAmong x xs → IsAmong y (f x) → IsAmong y (flat_map f xs)
+pub among_of : {X Y : Type 0} (f : X → List Y) (xs : List X) (x : X) (y : Y) → IsAmong x xs → IsAmong y (f x) → IsAmong y (flat_map f xs)
 among_of f [] x y h k = absurd h
 among_of f (z ∷ xs) x y (inl e) k = among_left y (f z) (flat_map f xs) (subst (λ w. IsAmong y (f w)) e k)
 among_of f (z ∷ xs) x y (inr h) k = among_right y (f z) (flat_map f xs) (among_of f xs x y h k)
 
-among_some : {X Y : Type 0} (f : X → List Y) (xs : List X) (y : Y) → IsAmong y (flat_map f xs) → (x : X) × IsAmong x xs × IsAmong y (f x)
+pub among_some : {X Y : Type 0} (f : X → List Y) (xs : List X) (y : Y) → IsAmong y (flat_map f xs) → (x : X) × IsAmong x xs × IsAmong y (f x)
 among_some f [] y h = absurd h
 among_some f (x ∷ xs) y h = by_cases (among_either y (f x) (flat_map f xs) h) (λ a. (x, inl refl, a)) (λ b. let r = among_some f xs y b in (r.0, inr r.1, r.2))
 
@@ -50,7 +52,7 @@ at_place [] i x l e = absurd (omega arith)
 at_place (y ∷ xs) zero x l e = inl e
 at_place (y ∷ xs) (suc i) x l e = inr (at_place xs i x (omega arith) e)
 
-map_more : {X Y : Type 0} (f : X → Y) (xs : List X) (i : ℕ) (x : X) → i < length xs → x ≡ get_or xs i x → map f (take (i + 1) xs) ≡ map f (take i xs) ++ f x ∷ []
+pub map_more : {X Y : Type 0} (f : X → Y) (xs : List X) (i : ℕ) (x : X) → i < length xs → x ≡ get_or xs i x → map f (take (i + 1) xs) ≡ map f (take i xs) ++ f x ∷ []
 map_more f xs i x l e = ap (map f) (take_more xs i x l ∙ ap (λ y. take i xs ++ y ∷ []) (sym e)) ∙ map-append f (take i xs) (x ∷ [])
 
 map_through : {X Y Z : Type 0} (f : Y → Z) (g : X → Y) (xs : List X) → map (λ x. f (g x)) xs ≡ map f (map g xs)
@@ -60,7 +62,7 @@ map_through {X} {Y} {Z} f g (x ∷ xs) = ap (λ (l : List Z). f (g x) ∷ l) (ma
 -- what a module uses, as the code has computed it
 
 abbrev pub IsExact : Module → List code.UsedVariable → Type 0
-IsExact m ps = map used_view ps ≡ used_by m.records
+IsExact m ps = map used_view ps ≡ each_once (used_by m.records)
 
 uses_exact : (m : Module) (ps : List code.UsedVariable) → IsExact m ps → map (use_of m) ps ≡ uses_of_module m
 uses_exact m ps e = map_through (λ (p : UsedVariable). record { owner = m; used = p }) used_view ps ∙ ap (map (λ (p : UsedVariable). record { owner = m; used = p })) e
@@ -113,7 +115,7 @@ enters_turn old mid new m ps i p l is h k =
 pub no_users : (users : Text → List ModuleUse) → ((v : Text) → users v ≡ []) → AreUsersOf users []
 no_users users none = record { complete = λ x h. absurd h; sound = λ v x h. absurd (subst (IsAmong x) (none v) h) }
 
-uses_more : {X : Type 0} (view : X → Module) (xs : List X) (i : ℕ) (x : X) → i < length xs → x ≡ get_or xs i x
+pub uses_more : {X : Type 0} (view : X → Module) (xs : List X) (i : ℕ) (x : X) → i < length xs → x ≡ get_or xs i x
     → uses_of_modules (map view (take (i + 1) xs)) ≡ uses_of_modules (map view (take i xs)) ++ uses_of_module (view x)
 uses_more view xs i x l is =
     ap uses_of_modules (map_more view xs i x l is) ∙ (flat_map-append uses_of_module (map view (take i xs)) (view x ∷ [])
@@ -127,8 +129,10 @@ table_turn view old new xs i x l is h k = subst (AreUsersOf new) (sym (uses_more
 
 owner_is : (m : Module) (x : ModuleUse) → IsAmong x (uses_of_module m) → IsAmong x.used (used_by m.records) × (x.owner ≡ m)
 owner_is m x h =
-    let r = among_mapped (λ (p : UsedVariable). record { owner = m; used = p }) (used_by m.records) x h in
-    (subst (λ (p : UsedVariable). IsAmong p (used_by m.records)) (sym (ap (λ (z : ModuleUse). z.used) r.2)) r.1, ap (λ (z : ModuleUse). z.owner) r.2)
+    let r = among_mapped (λ (p : UsedVariable). record { owner = m; used = p }) (each_once (used_by m.records)) x h in (
+      subst (λ (p : UsedVariable). IsAmong p (used_by m.records)) (sym (ap (λ (z : ModuleUse). z.used) r.2)) (of_once r.0 (used_by m.records) r.1),
+      ap (λ (z : ModuleUse). z.owner) r.2,
+    )
 
 owner_listed : (ms : List Module) (y : ModuleUse) → IsAmong y (uses_of_modules ms) → IsAmong y.owner ms × IsAmong y.used (used_by y.owner.records)
 owner_listed ms y h =
@@ -162,13 +166,33 @@ is_clash users m x y c b found ms all =
       path = sym b.path;
     }
 
+-- two users that are found are of two modules that clash
+pub two_clash : (users : Text → List ModuleUse) (m : Module) (x y : ModuleUse) → IsAmong x (uses_of_module m) × IsAmong y (users x.used.0) × (do_users_clash x y ≡ true)
+    → (ms : List Module) → AreUsersOf users (uses_of_modules ms) → (n : Module) × IsAmong n ms × (is_other m n ≡ true) × (do_clash m n ≡ true)
+two_clash users m x y found ms all =
+    let own = owner_is m x found.0 in
+    let s = all.sound x.used.0 y found.1 in
+    let theirs = owner_listed ms y s.0 in
+    let test : (is_other m y.owner && uses_clash (exclude m y.owner) x.used.1 y.used.1) ≡ true
+    = subst (λ (n : Module). (is_other n y.owner && uses_clash (exclude n y.owner) x.used.1 y.used.1) ≡ true) own.1 found.2 in
+    let both = both_true (is_other m y.owner) (uses_clash (exclude m y.owner) x.used.1 y.used.1) test in (
+      y.owner,
+      theirs.0,
+      both.0,
+      to_clashes m y.owner x.used.0 x.used.1 y.used.1 (record {
+        first = own.0;
+        second = subst (λ (v : Text). IsAmong (v, y.used.1) (used_by y.owner.records)) s.1 theirs.1;
+        clash = both.1;
+      }),
+    )
+
 pub clashes_with_none : (users : Text → List ModuleUse) (m : Module) → some_clash users (uses_of_module m) ≡ false
     → (ms : List Module) → AreUsersOf users (uses_of_modules ms) → ClashesWithNone ms m
 clashes_with_none users m h ms all n v x y listed other clash =
     let own : ModuleUse = record { owner = m; used = (v, x) } in
     let theirs : ModuleUse = record { owner = n; used = (v, y) } in
-    let of_own : IsAmong own (uses_of_module m) = among_map (λ (p : UsedVariable). record { owner = m; used = p }) (used_by m.records) (v, x) clash.first in
-    let of_theirs : IsAmong theirs (uses_of_module n) = among_map (λ (p : UsedVariable). record { owner = n; used = p }) (used_by n.records) (v, y) clash.second in
+    let of_own : IsAmong own (uses_of_module m) = among_map (λ (p : UsedVariable). record { owner = m; used = p }) (each_once (used_by m.records)) (v, x) (in_once (v, x) (used_by m.records) clash.first) in
+    let of_theirs : IsAmong theirs (uses_of_module n) = among_map (λ (p : UsedVariable). record { owner = n; used = p }) (each_once (used_by n.records)) (v, y) (in_once (v, y) (used_by n.records) clash.second) in
     let none : list_any (do_users_clash own) (users v) ≡ false = fails_each (λ (z : ModuleUse). list_any (do_users_clash z) (users z.used.0)) (uses_of_module m) own h of_own in
     let apart : do_users_clash own theirs ≡ false = fails_each (do_users_clash own) (users v) theirs none (all.complete theirs (among_of uses_of_module ms n theirs listed of_theirs)) in
     false≢true (sym apart ∙ and_both (is_other m n) (uses_clash (exclude m n) x y) other clash.clash)

@@ -15,8 +15,7 @@ use Rattle.modulefile.specs.Records.{conflict_names}
 use Rattle.modulefile.specs.Moves.{Module}
 use Rattle.reversal.specs.VariableUses.{VariableUse, Untouched, Fixed, Pathed, Stacked}
 use Rattle.sitecertificate.specs.RecordUses.{IsAmong}
-use Rattle.sitecertificate.specs.Clashes.{names_in_conflict, exclude, go_together, uses_clash}
-use Rattle.sitecertificate.specs.Certificates.{is_other}
+use Rattle.sitecertificate.specs.Clashes.{is_other, names_in_conflict, exclude, go_together, uses_clash}
 use Rattle.sitecertificate.specs.Users.{ModuleUse, first_part, do_users_clash, IsClashAmong}
 use Rattle.sitecertificate.proofs.Members.{among_all, none_passes, any_flat}
 

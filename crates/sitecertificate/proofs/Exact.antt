@@ -15,8 +15,6 @@ use Rattle.reversal.specs.VariableUses.{VariableUse, Untouched, Fixed, Pathed, S
 use Rattle.sitecertificate.specs.RecordUses.{UsedVariable, used_by, IsAmong, Uses, modulepath, AreInStep, IsInStep}
 use Rattle.sitecertificate.specs.RecordUses.{same_use, use_alike, are_in_step, is_in_step}
 use Rattle.sitecertificate.specs.Clashes.{exclude, uses_clash, Clash, do_clash}
-use Rattle.sitecertificate.specs.Certificates.{is_other, IsCertified, clashes_among, certified}
-use Rattle.sitecertificate.specs.Laws.{CertifiedAreExact}
 use Rattle.sitecertificate.proofs.UsedLemmas.{by_test, by_cases}
 
 -- tests of lists
@@ -136,24 +134,24 @@ to_steps rs s = each_all (suits_all (used_by rs)) (used_by rs) (λ p a. and_from
     (to_alike p modulepath_colons (λ e. s.modulepath p.1 (subst (λ (w : Text). IsAmong (w, p.1) (used_by rs)) e a)))
     (each_all (use_alike p) (used_by rs) (λ q b. to_alike p q (λ e. s.one_use p.0 p.1 q.1 a (subst (λ (w : Text). IsAmong (w, q.1) (used_by rs)) (sym e) b)))))
 
-in_step : (m : Module) → is_in_step m ≡ true → IsInStep m
+pub in_step : (m : Module) → is_in_step m ≡ true → IsInStep m
 in_step m h = let p = and_parts (list_all is_reversible m.records) (are_in_step (used_by m.records)) h in record { reversible = p.0; in_step = steps m.records p.1 }
 
-to_in_step : (m : Module) → IsInStep m → is_in_step m ≡ true
+pub to_in_step : (m : Module) → IsInStep m → is_in_step m ≡ true
 to_in_step m s = and_from (list_all is_reversible m.records) (are_in_step (used_by m.records)) s.reversible (to_steps m.records s.in_step)
 
 -- modules that clash
 
-record SomeClash (m n : Module) : Type 0 where
-  variable : Text
-  one : VariableUse
-  other : VariableUse
-  clash : Clash m n variable one other
+pub record SomeClash (m n : Module) : Type 0 where
+  pub variable : Text
+  pub one : VariableUse
+  pub other : VariableUse
+  pub clash : Clash m n variable one other
 
 abbrev clash_at : Module → Module → UsedVariable → UsedVariable → Bool
 clash_at m n p q = bytes_eq p.0 q.0 && uses_clash (exclude m n) p.1 q.1
 
-clashes : (m n : Module) → do_clash m n ≡ true → SomeClash m n
+pub clashes : (m n : Module) → do_clash m n ≡ true → SomeClash m n
 clashes m n h =
     let p = any_some (λ p. list_any (clash_at m n p) (used_by n.records)) (used_by m.records) h in
     let q = any_some (clash_at m n p.0) (used_by n.records) p.2 in
@@ -169,39 +167,7 @@ clashes m n h =
       };
     }
 
-to_clashes : (m n : Module) (v : Text) (x y : VariableUse) → Clash m n v x y → do_clash m n ≡ true
+pub to_clashes : (m n : Module) (v : Text) (x y : VariableUse) → Clash m n v x y → do_clash m n ≡ true
 to_clashes m n v x y c =
     some_any (λ p. list_any (clash_at m n p) (used_by n.records)) (used_by m.records) (v, x) c.first
     (some_any (clash_at m n (v, x)) (used_by n.records) (v, y) c.second (and_from (bytes_eq v v) (uses_clash (exclude m n) x y) (bytes_eq-same v) c.clash))
-
--- certified modules
-
-abbrev other_clash : Module → Module → Bool
-other_clash m n = is_in_step n && (is_other m n && do_clash m n)
-
-is_certified : (ms : List Module) (m : Module) → IsAmong m (certified ms) → IsCertified ms m
-is_certified ms m h =
-    let f = filtered (λ k. is_in_step k && not (clashes_among ms k)) ms m h in
-    let p = and_parts (is_in_step m) (not (clashes_among ms m)) f.1 in
-    record {
-      listed = f.0;
-      in_step = in_step m p.0;
-      no_clash = λ n v x y a s o c. false≢true (sym (not-true (clashes_among ms m) p.1) ∙ some_any (other_clash m) ms n a
-          (and_from (is_in_step n) (is_other m n && do_clash m n) (to_in_step n s) (and_from (is_other m n) (do_clash m n) o (to_clashes m n v x y c))));
-    }
-
-pub to_certified : (ms : List Module) (m : Module) → IsCertified ms m → IsAmong m (certified ms)
-to_certified ms m c =
-    in_filter (λ k. is_in_step k && not (clashes_among ms k)) ms m c.listed (and_from (is_in_step m) (not (clashes_among ms m)) (to_in_step m c.in_step)
-    (not_from_false (clashes_among ms m) (false_from_ne_true (clashes_among ms m) none)))
-  where
-    none : clashes_among ms m ≡ true → ⊥
-    none t =
-        let s = any_some (other_clash m) ms t in
-        let p = and_parts (is_in_step s.0) (is_other m s.0 && do_clash m s.0) s.2 in
-        let q = and_parts (is_other m s.0) (do_clash m s.0) p.1 in
-        let k = clashes m s.0 q.1 in
-        c.no_clash s.0 k.variable k.one k.other s.1 (in_step s.0 p.0) q.0 k.clash
-
-pub certified_are_exact : CertifiedAreExact
-certified_are_exact ms m = (is_certified ms m, to_certified ms m)

@@ -3,17 +3,24 @@ pub mod UsedLemmas
 mod RecordLemmas
 mod OneUse
 pub mod Exact
+mod Staying
+pub mod CertifiedOnes
 mod MovedVariables
-mod Moments
+pub mod Moments
 mod Runs
+mod Agreements
 mod Lost
 mod OneModule
 mod Recorded
 mod LoadedOwners
 mod Reported
-mod Members
+pub mod Members
 mod ClashLemmas
 mod ConflictLemmas
 mod TableLemmas
 mod AnswerLemmas
 pub mod OnceLemmas
+mod Taken
+mod TallyLemmas
+mod TakenUsers
+pub mod Answered

@@ -1,5 +1,5 @@
 -- What holds between moves, and what other uses of variables may be taken up or laid down there.
-use Rattle.std.proofs.Common.{◌≡◌, ◌⊎◌, ℕ, true, List, [], refl, sym, ◌∙◌, subst, Option, Some}
+use Rattle.std.proofs.Common.{◌≡◌, ◌⊎◌, ℕ, true, List, [], ◌∷◌, refl, sym, ◌∙◌, subst, Option, Some}
 use Rattle.std.proofs.lemmas.Option.{same_Some}
 use Rattle.envvars.specs.Texts.{Text}
 use Rattle.envvars.specs.Environment.{Environment, lookup}
@@ -14,32 +14,35 @@ use Rattle.reversal.specs.VariableUses.{VariableUse, Untouched, Fixed, Pathed, S
 use Rattle.reversal.specs.Live.{entries_over}
 use Rattle.reversal.specs.Starts.{HasVariable, IsInOrder, IsStart, IsStartWith}
 use Rattle.reversal.specs.Laws.{RunsReturn}
-use Rattle.sitecertificate.specs.RecordUses.{used_by_modules, uses_by}
-use Rattle.sitecertificate.specs.Certificates.{certified, certificate, AgreesWithUse, AgreesWith}
-use Rattle.sitecertificate.specs.Laws.{AreCertifiedTogether}
-use Rattle.sitecertificate.proofs.UsedLemmas.{by_cases, Unused, used_among, user_of, first_or_none}
+use Rattle.sitecertificate.specs.RecordUses.{UsedVariable, used_by, used_by_modules, first_use, uses_by}
+use Rattle.sitecertificate.specs.Certificates.{AgreesWithUse, AgreesWith}
+use Rattle.sitecertificate.specs.Laws.{AgreeingBegins}
+use Rattle.sitecertificate.proofs.UsedLemmas.{by_cases, Unused, among_either, first_or_none}
 use Rattle.sitecertificate.proofs.RecordLemmas.{AreOfKind}
-use Rattle.sitecertificate.proofs.OneUse.{certified_of}
-use Rattle.sitecertificate.proofs.Exact.{to_certified}
 use Rattle.sitecertificate.proofs.MovedVariables.{IsAsIn, path_moved, stack_moved, stack_over, by_any_use, IsUseInOrder}
 use Rattle.sitecertificate.proofs.MovedVariables.{as_before}
 
--- A start that agrees with the certificate is one by the uses of certified modules.
+-- The second uses are the first ones, but for variables that no live module uses.
+abbrev pub AreUsesButForUnused : (Text → VariableUse) → (Text → VariableUse) → List Module → Type 0
+AreUsesButForUnused u w live = (v : Text) → (u v ≡ w v) ⊎ Unused v (used_by_modules live)
 
-agreed : (ms live : List Module) (start : Environment) → AgreesWith (certificate ms) start → AreCertifiedTogether ms live → (v : Text) → AgreesWithUse start v (uses_by live v)
-agreed ms live start a t v = by_cases (first_or_none v (used_by_modules live))
-    (λ f. let p = user_of v (uses_by live v) live f in
-    a.uses v (uses_by live v) (used_among v (uses_by live v) p.user (certified ms) (to_certified ms p.user (certified_of ms live t p.user p.there)) p.uses))
-    (λ (n : Unused v (used_by_modules live)). subst (AgreesWithUse start v) (sym n.untouched) tt)
+-- Starts by uses, as what agrees with each of them.
 
-pub is_start : (ms live : List Module) (start : Environment) → AgreesWith (certificate ms) start → AreCertifiedTogether ms live → IsStart (uses_by live) start
-is_start ms live start a t = record {
+-- a start agrees with how each variable is used that may be edited
+pub agreed : (u : Text → VariableUse) (start : Environment) → IsStart u start → (v : Text) → is_editable v ≡ true → (x : VariableUse) → u v ≡ x → AgreesWithUse start v x
+agreed u start s v f Untouched q = tt
+agreed u start s v f (Fixed value) q = s.fixed v value f q
+agreed u start s v f (Pathed d) q = s.order.paths v d f q
+agreed u start s v f Stacked q = λ xs l. s.order.stacks v xs f q l
+
+pub is_start : (u : Text → VariableUse) (start : Environment) → AreLoadedInOrder start → ((v : Text) → is_editable v ≡ true → AgreesWithUse start v (u v)) → IsStart u start
+is_start u start o a = record {
   order = record {
-    loaded = a.loaded;
-    paths = λ v d f q. path_of v d (subst (AgreesWithUse start v) q (agreed ms live start a t v));
-    stacks = λ v xs f q l. stack_of v xs l (subst (AgreesWithUse start v) q (agreed ms live start a t v));
+    loaded = o;
+    paths = λ v d f q. path_of v d (subst (AgreesWithUse start v) q (a v f));
+    stacks = λ v xs f q l. stack_of v xs l (subst (AgreesWithUse start v) q (a v f));
   };
-  fixed = λ v value f q. value_of v value (subst (AgreesWithUse start v) q (agreed ms live start a t v));
+  fixed = λ v value f q. value_of v value (subst (AgreesWithUse start v) q (a v f));
 }
   where
     path_of : (v : Text) (d : ℕ) → AgreesWithUse start v (Pathed d) → IsPathInOrder start v d
@@ -51,15 +54,36 @@ is_start ms live start a t = record {
     value_of : (v : Text) (value : Option Text) → AgreesWithUse start v (Fixed value) → lookup start v ≡ value
     value_of v value h = h
 
+unused_agrees : (start : Environment) (v : Text) (ps : List UsedVariable) → Unused v ps → AgreesWithUse start v (first_use v ps)
+unused_agrees start v ps n = subst (AgreesWithUse start v) (sym n.untouched) tt
+
+-- a start that agrees with what modules use is one by their uses
+pub agreeing_begins : AgreeingBegins
+agreeing_begins live start a = is_start (uses_by live) start a.loaded
+    (λ v f. by_cases (first_or_none v (used_by_modules live)) (λ h. a.uses v (uses_by live v) h) (unused_agrees start v (used_by_modules live)))
+
+-- so is one by the uses of live modules that agrees with what one more uses
+pub with_newest : (live : List Module) (m : Module) (start : Environment) → AreUsesButForUnused (uses_by live) (uses_by (m ∷ live)) live
+    → IsStart (uses_by live) start → AgreesWith (used_by m.records) start → IsStart (uses_by (m ∷ live)) start
+with_newest live m start same s a = is_start (uses_by (m ∷ live)) start s.order.loaded (λ v f. by_cases (same v)
+    (λ q. agreed (uses_by live) start s v f (uses_by (m ∷ live) v) q)
+    (λ n. by_cases (first_or_none v (used_by_modules (m ∷ live)))
+    (λ h. by_cases (among_either (v, uses_by (m ∷ live) v) (used_by m.records) (used_by_modules live) h)
+    (λ k. a.uses v (uses_by (m ∷ live) v) k)
+    (λ k. absurd (n.none (uses_by (m ∷ live) v) k)))
+    (unused_agrees start v (used_by_modules (m ∷ live)))))
+
+-- and so it is by fewer uses
+pub by_fewer : (u : Text → VariableUse) (live : List Module) (start : Environment) → AreUsesButForUnused u (uses_by live) live → IsStart u start → IsStart (uses_by live) start
+by_fewer u live start same s = is_start (uses_by live) start s.order.loaded (λ v f. by_cases (same v)
+    (λ q. agreed u start s v f (uses_by live v) q)
+    (unused_agrees start v (used_by_modules live)))
+
 -- Between moves the environment is in order, and the start with the live modules layered on it.
 
 pub record IsOver (u : Text → VariableUse) (start : Environment) (live : List Module) (e : Environment) : Type 0 where
   pub order : IsInOrder u e
   pub start_with_live : IsStartWith u start live e
-
--- The second uses are the first ones, but for variables that no live module uses.
-abbrev pub AreUsesButForUnused : (Text → VariableUse) → (Text → VariableUse) → List Module → Type 0
-AreUsesButForUnused u w live = (v : Text) → (u v ≡ w v) ⊎ Unused v (used_by_modules live)
 
 -- the entries of the start, and that they are sound
 record Listed (start : Environment) : Type 0 where

@@ -43,6 +43,13 @@ not_named name xs (m ∷ live) h n a =
     (λ e. ap (λ (z : Module). bytes_eq name z.name) e ∙ or_left (bytes_eq name m.name) (has name (names_of (entries_over xs live))) k)
     (λ b. not_named name xs live (or_right (bytes_eq name m.name) (has name (names_of (entries_over xs live))) k) n b)
 
+pub not_at_start : (name : Text) (xs : List Entry) (live : List Module) → has name (names_of (entries_over xs live)) ≡ false → has name (names_of xs) ≡ false
+not_at_start name xs [] h = h
+not_at_start name xs (m ∷ live) h =
+    let k : (bytes_eq name m.name || has name (names_of (entries_over xs live))) ≡ false = sym
+    (has-push (names_of (entries_over xs live)) m.name name) ∙ ap (has name) (sym (names_over xs m live)) ∙ h in
+    not_at_start name xs live (or_right (bytes_eq name m.name) (has name (names_of (entries_over xs live))) k)
+
 -- a variable as in the start
 
 abbrev pub IsAsIn : Environment → Text → Environment → Type 0

@@ -12,8 +12,8 @@ use Rattle.indexmap.specs.IndexSet.{insert_key, insert_all}
 use Rattle.envvars.proofs.TextLemmas.{same_text, bytes_eq-same}
 use Rattle.modulefile.specs.Moves.{Module}
 use Rattle.sitecertificate.specs.RecordUses.{UsedVariable, used_by, used_by_modules, same_use, IsAmong}
-use Rattle.sitecertificate.proofs.UsedLemmas.{by_test}
-use Rattle.sitecertificate.proofs.Exact.{in_filter, use_same, use_itself}
+use Rattle.sitecertificate.proofs.UsedLemmas.{by_test, by_cases}
+use Rattle.sitecertificate.proofs.Exact.{filtered, in_filter, use_same, use_itself}
 use Rattle.sitecertificate.specs.declared.answers.Clash.{Clash}
 use Rattle.sitecertificate.specs.ClashAnswers.{without_clash, without_clashes}
 use Rattle.sitecertificate.specs.declared.uses.UsedVariable as code
@@ -101,6 +101,43 @@ pub insert_more : (ks ps qs : List UsedVariable) → insert_all same_used ks (ps
 insert_more ks [] qs = refl
 insert_more ks (p ∷ ps) qs = insert_more (insert_key same_used ks p) ps qs
 
+-- ---- uses that stand once already
+
+commuted : (a b : Bool) → (a && b) ≡ (b && a)
+commuted true true = refl
+commuted true false = refl
+commuted false true = refl
+commuted false false = refl
+
+last_decides : (a b : Bool) → (a ≡ true → b ≡ false) → (not a && b) ≡ b
+last_decides true b h = sym (h refl)
+last_decides false b h = refl
+
+once_filtered : (f : UsedVariable → Bool) (ps : List UsedVariable) → each_once (filter f ps) ≡ filter f (each_once ps)
+once_filtered f [] = refl
+once_filtered f (p ∷ ps) = by_test (f p) _
+    (λ t. rw t (ap (λ l. p ∷ filter (λ q. not (same_used p q)) l) (once_filtered f ps)
+    ∙ ap (λ l. p ∷ l) (twice (λ q. not (same_used p q)) f (each_once ps)
+    ∙ (filter_alike (λ q. f q && not (same_used p q)) (λ q. not (same_used p q) && f q) (each_once ps) (λ q. commuted (f q) (not (same_used p q)))
+    ∙ sym (twice f (λ q. not (same_used p q)) (each_once ps))))))
+    (λ e. rw e (once_filtered f ps
+    ∙ (filter_alike f (λ q. not (same_used p q) && f q) (each_once ps) (λ q. sym (last_decides (same_used p q) (f q) (λ t. ap f (sym (used_is p q t)) ∙ e)))
+    ∙ sym (twice f (λ q. not (same_used p q)) (each_once ps)))))
+
+itself_twice : (a : Bool) → (a && a) ≡ a
+itself_twice true = refl
+itself_twice false = refl
+
+once_again : (ps : List UsedVariable) → each_once (each_once ps) ≡ each_once ps
+once_again [] = refl
+once_again (p ∷ ps) =
+    ap (λ l. p ∷ filter (λ q. not (same_used p q)) l) (once_filtered (λ q. not (same_used p q)) (each_once ps) ∙ ap (filter (λ q. not (same_used p q))) (once_again ps))
+    ∙ ap (λ l. p ∷ l) (twice (λ q. not (same_used p q)) (λ q. not (same_used p q)) (each_once ps)
+    ∙ filter_alike (λ q. not (same_used p q) && not (same_used p q)) (λ q. not (same_used p q)) (each_once ps) (λ q. itself_twice (not (same_used p q))))
+
+pub inserted_again : (ks ps : List UsedVariable) → insert_all same_used ks (each_once ps) ≡ insert_all same_used ks ps
+inserted_again ks ps = all_inserted ks (each_once ps) ∙ (ap (λ l. ks ++ filter (is_new ks) l) (once_again ps) ∙ sym (all_inserted ks ps))
+
 -- ---- keys
 
 any_seen : {K : Type 0} (eq : K → K → Bool) (view : K → UsedVariable) → ((a b : K) → eq a b ≡ same_used (view a) (view b)) → (k : K) (ks : List K)
@@ -165,9 +202,14 @@ in_once p (q ∷ ps) (inr a) = by_test (same_used q p) _
     (λ t. inl (sym (used_is q p t)))
     (λ f. inr (in_filter (λ r. not (same_used q r)) (each_once ps) p (in_once p ps a) (ap not f)))
 
+pub of_once : (p : UsedVariable) (ps : List UsedVariable) → IsAmong p (each_once ps) → IsAmong p ps
+of_once p [] a = absurd a
+of_once p (q ∷ ps) (inl e) = inl e
+of_once p (q ∷ ps) (inr a) = inr (of_once p ps (filtered (λ r. not (same_used q r)) (each_once ps) p a).0)
+
 -- ---- one use more, as the code has it
 
-use_keys_same : (a b : UseKey) → UseKeyEq.eq-value.it a b ≡ same_use (key_view a) (key_view b)
+pub use_keys_same : (a b : UseKey) → UseKeyEq.eq-value.it a b ≡ same_use (key_view a) (key_view b)
 use_keys_same keys.Set keys.Set = refl
 use_keys_same keys.Set (keys.Unset y) = refl
 use_keys_same keys.Set (keys.Path y) = refl

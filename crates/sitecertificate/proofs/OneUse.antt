@@ -12,26 +12,14 @@ use Rattle.reversal.specs.Live.{last_set, live_set}
 use Rattle.reversal.specs.Runs.{IsReversibleAndApart, AreReversibleTogether}
 use Rattle.reversal.proofs.Parts.{all_suit}
 use Rattle.sitecertificate.specs.RecordUses.{used_by, used_by_modules, IsAmong, Uses, uses_by}
-use Rattle.sitecertificate.specs.Clashes.{exclude, in_conflict, go_together, agree_at_start}
-use Rattle.sitecertificate.specs.Certificates.{is_other, IsCertified}
+use Rattle.sitecertificate.specs.Clashes.{is_other, exclude, in_conflict, go_together, agree_at_start}
+use Rattle.sitecertificate.specs.Certificates.{IsCertified}
 use Rattle.sitecertificate.specs.Laws.{AreCertifiedTogether}
 use Rattle.sitecertificate.proofs.UsedLemmas.{by_test, by_cases, among_left, among_right, among_either, user_of, Unused}
 use Rattle.sitecertificate.proofs.UsedLemmas.{first_or_none}
+use Rattle.sitecertificate.proofs.Staying.{go_equal}
+use Rattle.sitecertificate.proofs.CertifiedOnes.{certified_apart}
 use Rattle.sitecertificate.proofs.RecordLemmas.{all_follow, AreOfKind, sets_used}
-
--- Uses that go together are one.
-
-go_equal : (x y : VariableUse) → go_together x y ≡ true → x ≡ y
-go_equal Untouched y h = absurd (false≢true h)
-go_equal (Fixed a) y h = absurd (false≢true h)
-go_equal (Pathed d) Untouched h = absurd (false≢true h)
-go_equal (Pathed d) (Fixed a) h = absurd (false≢true h)
-go_equal (Pathed d) (Pathed k) h = ap Pathed (eqb-true d k h)
-go_equal (Pathed d) Stacked h = absurd (false≢true h)
-go_equal Stacked Untouched h = absurd (false≢true h)
-go_equal Stacked (Fixed a) h = absurd (false≢true h)
-go_equal Stacked (Pathed d) h = absurd (false≢true h)
-go_equal Stacked Stacked h = refl
 
 clash_at : (excluded g a : Bool) → excluded ≡ false → g ≡ false → (not (excluded || g) || not a) ≡ true
 clash_at excluded g a e h = rw (e, h) refl
@@ -40,7 +28,7 @@ clash_at excluded g a e h = rw (e, h) refl
 
 together : (ms : List Module) (m n : Module) (v : Text) (x y : VariableUse) → IsCertified ms m → IsCertified ms n
     → exclude m n ≡ false → Uses m.records v x → Uses n.records v y → go_together x y ≡ true
-together ms m n v x y c d e f g = by_test (go_together x y) _ (λ t. t) (λ t. absurd (c.no_clash n v x y d.listed d.in_step other
+together ms m n v x y c d e f g = by_test (go_together x y) _ (λ t. t) (λ t. absurd (certified_apart ms m n v x y c d other
     (record { first = f; second = g; clash = clash_at (exclude m n) (go_together x y) (agree_at_start x y) e t })))
   where
     name : bytes_eq m.name n.name ≡ false

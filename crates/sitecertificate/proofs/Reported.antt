@@ -1,6 +1,7 @@
 -- The reasons that are found, use after use.
 use Rattle.std.proofs.Common.{◌≡◌, Bool, true, false, IsTrue, ◌⊎◌, ◌+◌, ◌<◌, ◌≤◌, ℕ, List, [], ◌∷◌, ◌++◌, map, take}
 use Rattle.std.proofs.Common.{length, get_or, refl, sym, ap, ◌∙◌, subst, inl, inr, Option, Some, None, arith}
+use Rattle.std.proofs.Common.{append-nil, append_assoc}
 use Rattle.std.proofs.Math.Seq.{take-length}
 use Rattle.std.proofs.lemmas.List.{take_more, map-append}
 use Rattle.envvars.specs.Environment.{Environment}
@@ -12,7 +13,8 @@ use Rattle.sitecertificate.specs.UseViews.{used_view}
 use Rattle.sitecertificate.specs.declared.uses.UsedVariable as code
 use Rattle.sitecertificate.proofs.UsedLemmas.{by_cases, among_left, among_right, among_either}
 use Rattle.sitecertificate.specs.Disagreements.{Disagreement, loaded_texts, is_set, has_not_value, path_not_in_order}
-use Rattle.sitecertificate.specs.Disagreements.{stack_not_in_order, IsDisagreement, use_named, IsJudged, IsListJudged}
+use Rattle.sitecertificate.specs.Disagreements.{stack_not_in_order, IsDisagreement, AreReasons, AreDisagreements}
+use Rattle.sitecertificate.specs.Disagreements.{use_named, IsJudged, IsListJudged}
 
 -- what a reason says of the environment, whatever the certificate
 pub record Holds (e : Environment) (d : Disagreement) : Type 0 where
@@ -110,6 +112,36 @@ reports-turn e xs i x ds new l is r j =
     (sym (ap (map used_view) (take_more xs i x l ∙ ap (λ (y : code.UsedVariable). take i xs ++ y ∷ []) (sym is)) ∙ map-append used_view (take i xs) (x ∷ [])))
     (judged e (map used_view (take i xs)) (used_view x) ds new r j)
 
+-- and in their order
+
+reasons_more : (e : Environment) (ps : List UsedVariable) (p : UsedVariable) (ds own : List Disagreement) → AreReasons e ps ds → AreReasons e (p ∷ []) own
+    → AreReasons e (ps ++ p ∷ []) (ds ++ own)
+reasons_more e [] p ds own h k = subst (λ (l : List Disagreement). AreReasons e (p ∷ []) (l ++ own)) (sym h) k
+reasons_more e (q ∷ ps) p ds own (inl (a, h)) k = inl (a, reasons_more e ps p ds own h k)
+reasons_more e (q ∷ ps) p ds own (inr (n, d, rest, named, h, same)) k =
+    inr (n, d, rest ++ own, named, reasons_more e ps p rest own h k, ap (λ (l : List Disagreement). l ++ own) same)
+
+disagree : (e : Environment) (ps : List UsedVariable) (p : UsedVariable) (ds new : List Disagreement) → AreDisagreements ps e ds → IsJudged e p ds new → AreDisagreements (ps ++ p ∷ []) e new
+disagree e ps p ds new (first, rest, list, h, same) (inl (a, kept)) =
+    (first, rest ++ [], list, reasons_more e ps p rest [] h (inl (a, refl)), kept ∙ (same ∙ ap (λ (l : List Disagreement). first ++ l) (sym (append-nil rest))))
+disagree e ps p ds new (first, rest, list, h, same) (inr (n, adds)) = (
+  first,
+  rest ++ adds.reason ∷ [],
+  list,
+  reasons_more e ps p rest (adds.reason ∷ []) h (inr (n, adds.reason, [], adds.named, refl, refl)),
+  adds.added ∙ (ap (λ (l : List Disagreement). l ++ adds.reason ∷ []) same ∙ append_assoc first rest (adds.reason ∷ [])),
+)
+
+pub list_disagrees : (e : Environment) (ds : List Disagreement) → IsListJudged e ds → AreDisagreements [] e ds
+list_disagrees e ds h = (ds, [], h, refl, sym (append-nil ds))
+
+pub disagree-turn : (e : Environment) (xs : List code.UsedVariable) (i : ℕ) (x : code.UsedVariable) (ds new : List Disagreement) → i < length xs → x ≡ get_or xs i x
+    → AreDisagreements (map used_view (take i xs)) e ds → IsJudged e (used_view x) ds new → AreDisagreements (map used_view (take (i + 1) xs)) e new
+disagree-turn e xs i x ds new l is r j =
+    subst (λ (ps : List UsedVariable). AreDisagreements ps e new)
+    (sym (ap (map used_view) (take_more xs i x l ∙ ap (λ (y : code.UsedVariable). take i xs ++ y ∷ []) (sym is)) ∙ map-append used_view (take i xs) (x ∷ [])))
+    (disagree e (map used_view (take i xs)) (used_view x) ds new r j)
+
 -- at the end
 
 empty_agrees : (e : Environment) (ps : List UsedVariable) → Reports e ps [] → AgreesWith ps e
@@ -185,8 +217,14 @@ judged_bad {X} view e p xs ys x b f d named h =
     )
 
 -- at the end of the uses
+
+all_taken : (xs : List code.UsedVariable) (i : ℕ) → length xs ≤ i → i ≤ length xs → take i xs ≡ xs
+all_taken xs i l m = let same : i ≡ length xs = omega arith in ap (λ (n : ℕ). take n xs) same ∙ take-length xs
+
 pub all_reported : (e : Environment) (xs : List code.UsedVariable) (i : ℕ) (ds : List Disagreement) → length xs ≤ i
     → i ≤ length xs → Reports e (map used_view (take i xs)) ds → Reports e (map used_view xs) ds
-all_reported e xs i ds l m r =
-    let same : i ≡ length xs = omega arith in
-    subst (λ (ys : List code.UsedVariable). Reports e (map used_view ys) ds) (ap (λ (n : ℕ). take n xs) same ∙ take-length xs) r
+all_reported e xs i ds l m r = subst (λ (ys : List code.UsedVariable). Reports e (map used_view ys) ds) (all_taken xs i l m) r
+
+pub all_disagree : (e : Environment) (xs : List code.UsedVariable) (i : ℕ) (ds : List Disagreement) → length xs ≤ i
+    → i ≤ length xs → AreDisagreements (map used_view (take i xs)) e ds → AreDisagreements (map used_view xs) e ds
+all_disagree e xs i ds l m r = subst (λ (ys : List code.UsedVariable). AreDisagreements (map used_view ys) e ds) (all_taken xs i l m) r

@@ -1,6 +1,6 @@
 -- The certificate of a list of modules, as those of a whole site (own): which of them are certified, and which starts
--- agree with all of these.
-use Rattle.std.specs.Prelude.{◌≡◌, Bool, true, false, not, ◌&&◌, List, filter, bytes_eq, Some}
+-- agree with what modules use.
+use Rattle.std.specs.Prelude.{◌≡◌, ℕ, zero, suc, Bool, true, false, not, ◌&&◌, List, filter, length, Some}
 use Rattle.std.specs.List.{list_any}
 use Rattle.envvars.specs.Texts.{Text, has}
 use Rattle.envvars.specs.Environment.{Environment, lookup}
@@ -10,26 +10,38 @@ use Rattle.envloaded.specs.Loaded.{Entry, names_of, loaded_in, AreLoadedInOrder}
 use Rattle.modulefile.specs.Moves.{Module}
 use Rattle.reversal.specs.VariableUses.{VariableUse, Untouched, Fixed, Pathed, Stacked}
 use Rattle.sitecertificate.specs.RecordUses.{UsedVariable, used_by_modules, IsAmong, IsInStep, is_in_step}
-use Rattle.sitecertificate.specs.Clashes.{Clash, do_clash}
+use Rattle.sitecertificate.specs.Clashes.{is_other, Clash, do_clash}
+use Rattle.sitecertificate.specs.Ranks.{comes_before}
 
--- They are two modules: their names differ, or the paths of their files.
-abbrev pub is_other : Module → Module → Bool
-is_other m n = not (bytes_eq m.name n.name && bytes_eq m.path n.path)
+-- The first comes before the second in the order of the list, and clashes with it.
+abbrev pub clashes_before : List Module → Module → Module → Bool
+clashes_before ms n m = comes_before ms n m && (is_other m n && do_clash m n)
 
--- A module of the list is certified: it is in step, and clashes with no other one that is.
-pub record IsCertified (ms : List Module) (m : Module) : Type 0 where
+-- A module of the list stays: it clashes with none that stays and comes before it. The number is how far the question
+-- goes back, and no more modules can come before one than there are.
+abbrev pub stays : ℕ → List Module → Module → Bool
+stays zero ms m = true
+stays (suc n) ms m = not (list_any (λ k. stays n ms k && clashes_before ms k m) ms)
+
+-- the modules of the list that stay
+abbrev pub staying : List Module → List Module
+staying ms = filter (stays (length ms) ms) ms
+
+-- the certified modules of the list: those in step that stay
+abbrev pub certified : List Module → List Module
+certified ms = staying (filter is_in_step ms)
+
+-- Beside these modules a module of the list can be certified: it is in step, and clashes with none of them that comes
+-- before it.
+pub record HasPlace (ms certain : List Module) (m : Module) : Type 0 where
   pub listed : IsAmong m ms
   pub in_step : IsInStep m
-  pub no_clash : (n : Module) (v : Text) (x y : VariableUse) → IsAmong n ms → IsInStep n → is_other m n ≡ true
-      → Clash m n v x y → ⊥
+  pub no_clash : (n : Module) (v : Text) (x y : VariableUse) → IsAmong n certain
+      → comes_before (filter is_in_step ms) n m ≡ true → is_other m n ≡ true → Clash m n v x y → ⊥
 
--- The same as tests. A module clashes with another one of the list that is in step.
-abbrev pub clashes_among : List Module → Module → Bool
-clashes_among ms m = list_any (λ n. is_in_step n && (is_other m n && do_clash m n)) ms
-
--- the certified modules of the list
-abbrev pub certified : List Module → List Module
-certified ms = filter (λ m. is_in_step m && not (clashes_among ms m)) ms
+-- A module of the list is certified: it is in step, and clashes with no certified one that comes before it.
+abbrev pub IsCertified : List Module → Module → Type 0
+IsCertified ms m = HasPlace ms (certified ms) m
 
 -- The certificate of the list: what its certified modules use.
 abbrev pub certificate : List Module → List UsedVariable
@@ -44,12 +56,12 @@ AgreesWithUse start v (Pathed delim) = IsPathInOrder start v delim
 AgreesWithUse start v Stacked =
     (entries : List Entry) → loaded_in start ≡ Some entries → IsStackInOrder (names_of entries) start v
 
--- The start agrees with a certificate: its loaded list is in order, and it agrees with each use.
+-- The start agrees with uses, as those of a module or of a whole certificate: its loaded list is in order, and it
+-- agrees with each use.
 pub record AgreesWith (ps : List UsedVariable) (start : Environment) : Type 0 where
   pub loaded : AreLoadedInOrder start
   pub uses : (v : Text) (x : VariableUse) → IsAmong (v, x) ps → AgreesWithUse start v x
 
--- none of these modules is loaded in it, by name
-abbrev pub HasNone : List Module → Environment → Type 0
-HasNone ms start =
-    (entries : List Entry) → loaded_in start ≡ Some entries → list_any (λ m. has m.name (names_of entries)) ms ≡ false
+-- no module of its name is loaded in the environment
+abbrev pub IsNotLoaded : Module → Environment → Type 0
+IsNotLoaded m e = (entries : List Entry) → loaded_in e ≡ Some entries → has m.name (names_of entries) ≡ false

@@ -3,9 +3,11 @@ use Rattle.std.specs.Prelude.{◌≡◌, true, List, [], ◌∷◌, ◌++◌, Op
 use Rattle.envvars.specs.Texts.{Text}
 use Rattle.modulefile.specs.Moves.{Module}
 use Rattle.reversal.specs.VariableUses.{VariableUse}
+use Rattle.sitecertificate.specs.Clashes.{is_other}
 use Rattle.sitecertificate.specs.RecordUses.{IsAmong}
 use Rattle.sitecertificate.specs.Clashes as clashes
-use Rattle.sitecertificate.specs.Certificates.{is_other}
+use Rattle.sitecertificate.specs.Certificates.{staying}
+use Rattle.sitecertificate.specs.Ranks.{users_alike}
 use Rattle.sitecertificate.specs.UseViews.{use_view}
 use Rattle.sitecertificate.specs.Users.{ModuleUse}
 use Rattle.sitecertificate.specs.declared.answers.Clash.{Clash}
@@ -25,10 +27,12 @@ abbrev pub ClashesWithNone : List Module → Module → Type 0
 ClashesWithNone ms m =
     (n : Module) (v : Text) (x y : VariableUse) → IsAmong n ms → is_other m n ≡ true → clashes.Clash m n v x y → ⊥
 
--- what is answered of one module among these
+-- What is answered of one module among these: it clashes with none of those that stay; or with one of them, and so many
+-- use the variable as that does.
 abbrev pub IsAnswer : List Module → Module → Option Clash → Type 0
-IsAnswer ms m None = ClashesWithNone ms m
-IsAnswer ms m (Some c) = IsClashOf ms m c
+IsAnswer ms m None = ClashesWithNone (staying ms) m
+IsAnswer ms m (Some c) =
+    IsClashOf (staying ms) m c × (c.alike ≡ users_alike ms (string_bytes c.variable) (use_view c.theirs))
 
 -- an answer for each of some modules among these, in their order
 abbrev pub AreAnswers : List Module → List Module → List (Option Clash) → Type 0

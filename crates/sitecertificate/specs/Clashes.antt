@@ -10,6 +10,10 @@ use Rattle.modulefile.specs.Moves.{Module}
 use Rattle.reversal.specs.VariableUses.{VariableUse, Fixed, Pathed, Stacked}
 use Rattle.sitecertificate.specs.RecordUses.{used_by, Uses}
 
+-- They are two modules: their names differ, or the paths of their files.
+abbrev pub is_other : Module → Module → Bool
+is_other m n = not (bytes_eq m.name n.name && bytes_eq m.path n.path)
+
 -- a name that the first module is in conflict with means the second
 abbrev pub names_in_conflict : Module → Module → Bool
 names_in_conflict m n = list_any (λ name. means name n.name) (conflict_names m.records)

@@ -19,9 +19,9 @@ use Rattle.sitecertificate.specs.Certificates.{certified, AgreesWithUse, AgreesW
 abbrev pub BothAreCertified : Module → Module → Type 0
 BothAreCertified m n = certified (m ∷ n ∷ []) ≡ m ∷ n ∷ []
 
--- neither of them is
-abbrev pub NeitherIsCertified : Module → Module → Type 0
-NeitherIsCertified m n = certified (m ∷ n ∷ []) ≡ []
+-- the first of them alone is
+abbrev pub FirstIsCertified : Module → Module → Type 0
+FirstIsCertified m n = certified (m ∷ n ∷ []) ≡ m ∷ []
 
 -- the second of them alone is
 abbrev pub SecondIsCertified : Module → Module → Type 0
@@ -61,19 +61,19 @@ OneStack = BothAreCertified (first (push_value ∷ [])) (second (push_value ∷ 
 
 -- Uses that clash. A path with two delimiters.
 abbrev pub TwoDelimiters : Type 0
-TwoDelimiters = NeitherIsCertified (first (add_front ∷ [])) (second (semicolon_path ∷ []))
+TwoDelimiters = FirstIsCertified (first (add_front ∷ [])) (second (semicolon_path ∷ []))
 
 -- A path that is also a stack.
 abbrev pub PathAndStack : Type 0
-PathAndStack = NeitherIsCertified (first (add_front ∷ [])) (second (push_value ∷ []))
+PathAndStack = FirstIsCertified (first (add_front ∷ [])) (second (push_value ∷ []))
 
 -- A variable that both set, to whatever value.
 abbrev pub BothSet : Type 0
-BothSet = NeitherIsCertified (first (sets (codes "x") ∷ [])) (second (sets (codes "x") ∷ []))
+BothSet = FirstIsCertified (first (sets (codes "x") ∷ [])) (second (sets (codes "x") ∷ []))
 
 -- A variable whose one value both unset.
 abbrev pub BothUnset : Type 0
-BothUnset = NeitherIsCertified (first (unsets (codes "x") ∷ [])) (second (unsets (codes "x") ∷ []))
+BothUnset = FirstIsCertified (first (unsets (codes "x") ∷ [])) (second (unsets (codes "x") ∷ []))
 
 -- Other variables clash with none.
 abbrev pub OtherVariable : Type 0
@@ -98,18 +98,18 @@ ConflictByPart =
 -- A conflict with letters that a name begins with, which are no part of it, excludes nothing.
 abbrev pub ConflictByLetters : Type 0
 ConflictByLetters =
-    NeitherIsCertified (first (conflict (codes "n") ∷ sets (codes "x") ∷ []))
+    FirstIsCertified (first (conflict (codes "n") ∷ sets (codes "x") ∷ []))
     (in_directory (codes "/m/") (codes "nn/1") (sets (codes "y") ∷ []))
 
 -- A conflict with another module excludes nothing.
 abbrev pub ConflictWithAnother : Type 0
 ConflictWithAnother =
-    NeitherIsCertified (first (conflict (codes "o") ∷ sets (codes "x") ∷ [])) (second (sets (codes "y") ∷ []))
+    FirstIsCertified (first (conflict (codes "o") ∷ sets (codes "x") ∷ [])) (second (sets (codes "y") ∷ []))
 
 -- Two versions of one module don't exclude each other by that.
 abbrev pub TwoVersions : Type 0
 TwoVersions =
-    NeitherIsCertified (first (sets (codes "x") ∷ []))
+    FirstIsCertified (first (sets (codes "x") ∷ []))
     (in_directory (codes "/m/") (codes "m/2") (sets (codes "y") ∷ []))
 
 -- Two files of one name do.
@@ -129,17 +129,17 @@ ExclusiveDelimiters =
 -- They clash all the same where no start agrees with both: one sets the variable and the other unsets it,
 abbrev pub SetAndUnset : Type 0
 SetAndUnset =
-    NeitherIsCertified (first (conflict (codes "n") ∷ sets (codes "x") ∷ [])) (second (unsets (codes "x") ∷ []))
+    FirstIsCertified (first (conflict (codes "n") ∷ sets (codes "x") ∷ [])) (second (unsets (codes "x") ∷ []))
 
 -- or they unset two values,
 abbrev pub TwoValues : Type 0
 TwoValues =
-    NeitherIsCertified (first (conflict (codes "n") ∷ unsets (codes "x") ∷ [])) (second (unsets (codes "y") ∷ []))
+    FirstIsCertified (first (conflict (codes "n") ∷ unsets (codes "x") ∷ [])) (second (unsets (codes "y") ∷ []))
 
 -- also two files of one name;
 abbrev pub TwoFilesAndValues : Type 0
 TwoFilesAndValues =
-    NeitherIsCertified (first (unsets (codes "x") ∷ []))
+    FirstIsCertified (first (unsets (codes "x") ∷ []))
     (in_directory (codes "/n/") (codes "m/1") (unsets (codes "y") ∷ []))
 
 -- but not where they unset one value.

@@ -1,5 +1,6 @@
 pub mod RecordUses
 pub mod Clashes
+pub mod Ranks
 pub mod Certificates
 pub mod Laws
 pub mod Examples
@@ -8,6 +9,7 @@ pub mod Disagreements
 pub mod DisagreementViews
 pub mod ClashAnswers
 pub mod EachOnce
+pub mod FirstParts
 pub mod Users
 pub mod UserViews
 pub mod Families
@@ -15,3 +17,6 @@ pub mod Tables
 pub mod Conflicts
 pub mod UsingModules
 pub mod UseKeys
+pub mod Tallies
+pub mod Ranked
+pub mod Takes

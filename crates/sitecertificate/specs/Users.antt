@@ -1,28 +1,24 @@
 -- The users of a variable: modules with a use of it, and which of them clash (own).
+pub use Rattle.sitecertificate.specs.FirstParts.{first_part}
 use Rattle.std.specs.Prelude.{◌≡◌, ◌⊎◌, Bool, true, false, ◌&&◌, List, map, flat_map, ◌++◌, bytes_eq, Option, Some}
-use Rattle.std.specs.Prelude.{None, ◌==◌}
-use Rattle.std.specs.List.{list_any, before_first}
-use Rattle.modulename.specs.ModuleName.{slash}
+use Rattle.std.specs.Prelude.{None}
+use Rattle.std.specs.List.{list_any}
 use Rattle.envvars.specs.Texts.{Text}
 use Rattle.modulefile.specs.Moves.{Module}
 use Rattle.sitecertificate.specs.RecordUses.{UsedVariable, used_by, IsAmong}
-use Rattle.sitecertificate.specs.Clashes.{exclude, uses_clash}
-use Rattle.sitecertificate.specs.Certificates.{is_other}
+use Rattle.sitecertificate.specs.EachOnce.{each_once}
+use Rattle.sitecertificate.specs.Clashes.{is_other, exclude, uses_clash}
 
 -- a module, and one of its uses of a variable
 pub record ModuleUse : Type 0 where
   pub owner : Module
   pub used : UsedVariable
 
--- the first part of a name, or the whole name where it has one part
-abbrev pub first_part : Text → Text
-first_part name = before_first (λ b. b == slash) name
-
--- what the module uses
+-- what the module uses, each use once
 abbrev pub uses_of_module : Module → List ModuleUse
-uses_of_module m = map (λ p. record { owner = m; used = p }) (used_by m.records)
+uses_of_module m = map (λ p. record { owner = m; used = p }) (each_once (used_by m.records))
 
--- what the modules use
+-- what the modules use, each of them each use once
 abbrev pub uses_of_modules : List Module → List ModuleUse
 uses_of_modules ms = flat_map uses_of_module ms
 

@@ -9,7 +9,8 @@ ghost use Rattle.sitecertificate.specs.RecordUses.{IsAmong};
 ghost use Rattle.sitecertificate.specs.Certificates.{AgreesWithUse, AgreesWith};
 ghost use Rattle.sitecertificate.specs.UseViews.{used_view};
 ghost use Rattle.sitecertificate.specs.Disagreements as reasons;
-ghost use Rattle.sitecertificate.specs.Disagreements.{IsDisagreement, use_named, IsJudged, IsListJudged};
+ghost use Rattle.sitecertificate.specs.Disagreements.{IsDisagreement, AreDisagreements, use_named, IsJudged};
+ghost use Rattle.sitecertificate.specs.Disagreements.{IsListJudged};
 ghost use Rattle.sitecertificate.specs.DisagreementViews.{disagreement_view};
 
 use crate::disagreement::Disagreement;
@@ -105,6 +106,8 @@ fn judge_uses(
     ensures agrees { IfOk result (λ found. (found.items ≡ []) ↔ AgreesWith (map used_view certificate.now) env.now) }
     ensures named { IfOk result (λ found. (d : reasons.Disagreement) → IsAmong d (map disagreement_view found.items)
         ↔ IsDisagreement (map used_view certificate.now) env.now d) }
+    ensures order { IfOk result (λ found.
+        AreDisagreements (map used_view certificate.now) env.now (map disagreement_view found.items)) }
 {
     let mut found = list;
     for wanted in certificate {
@@ -127,7 +130,8 @@ fn names_in<'a>(
     }
 }
 
-/// Where an environment doesn't agree with a certificate: each variable that doesn't, and why; nothing where it agrees.
+/// Where an environment doesn't agree with a certificate: each variable that doesn't, and why, in the certificate's
+/// order; nothing where it agrees.
 ///
 /// The only error is want of memory.
 pub fn disagreements(
@@ -138,6 +142,8 @@ pub fn disagreements(
     ensures agrees { IfOk result (λ found. (found.items ≡ []) ↔ AgreesWith (map used_view certificate.now) env.now) }
     ensures named { IfOk result (λ found. (d : reasons.Disagreement) → IsAmong d (map disagreement_view found.items)
         ↔ IsDisagreement (map used_view certificate.now) env.now d) }
+    ensures order { IfOk result (λ found.
+        AreDisagreements (map used_view certificate.now) env.now (map disagreement_view found.items)) }
     ensures only { IfErr result (λ e. e ≡ OutOfMemory) }
 {
     let list = loaded_if_consistent(alloc, env)?;

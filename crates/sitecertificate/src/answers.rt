@@ -1,20 +1,27 @@
 //! A clash of each of some modules with another one of them.
-ghost use Rattle.std.specs.Prelude.{◌≡◌, List, map, IfOk};
+ghost use Rattle.std.specs.Prelude.{◌≡◌, List, map, string_bytes, IfOk};
 ghost use Rattle.modulefile.specs.Moves as moves;
 ghost use Rattle.modules.specs.MoveViews.{module_view};
 ghost use Rattle.sitecertificate.specs.RecordUses.{used_by_modules};
-ghost use Rattle.sitecertificate.specs.UseViews.{used_view};
-ghost use Rattle.sitecertificate.specs.ClashAnswers.{IsAnswer, AreAnswers, without_clashes, IsClashBetween};
+ghost use Rattle.sitecertificate.specs.Certificates.{staying};
+ghost use Rattle.sitecertificate.specs.Ranks.{users_alike};
+ghost use Rattle.sitecertificate.specs.UseViews.{use_view, used_view};
+ghost use Rattle.sitecertificate.specs.ClashAnswers.{IsAnswer, AreAnswers, without_clashes};
+ghost use Rattle.sitecertificate.specs.ClashAnswers.{IsClashBetween};
 ghost use Rattle.sitecertificate.specs.EachOnce.{each_once};
 ghost use Rattle.sitecertificate.specs.Users.{AreUsersOf, uses_of_modules};
 ghost use Rattle.sitecertificate.specs.UserViews.{user_view};
 ghost use Rattle.sitecertificate.specs.Tables.{users_at};
+ghost use Rattle.sitecertificate.specs.Tallies.{HasCounts};
 ghost use Rattle.sitecertificate.specs.UsingModules.{module_of};
 
 use crate::conflicts::conflict_names;
+use crate::keys::key_of;
 use crate::module_uses::{UsingModule, using_modules};
 use crate::once::unclashed_uses;
+use crate::ranks::ranks;
 use crate::table::VariableTable;
+use crate::tally::{Counted, Tally};
 use crate::users::ClashingUsers;
 use crate::uses::{UsedVariable, VariableUse};
 use modules::Module;
@@ -33,65 +40,86 @@ pub struct Clash {
     pub other_name: String,
     /// The path of its file.
     pub other_path: String,
+    /// How many of the modules use the variable as the other does.
+    pub alike: usize,
 }
 
 /// The clash between two users of a variable.
-fn clash_between(alloc: Global, users: ClashingUsers<'_>) -> Result<Clash, AllocError>
-    ensures { IfOk result (IsClashBetween (user_view users.entry.own) (user_view users.entry.other)) }
+fn clash_between(
+    alloc: Global,
+    tally: &Tally<'_>,
+    users: ClashingUsers<'_>,
+) -> Result<Clash, AllocError>
+    ensures clash { IfOk result (IsClashBetween (user_view users.entry.own) (user_view users.entry.other)) }
+    ensures alike { IfOk result (λ clash. (ms : List moves.Module) → HasCounts tally.now (uses_of_modules ms)
+        → clash.alike ≡ users_alike ms (string_bytes clash.variable) (use_view clash.theirs)) }
 {
     let ClashingUsers { own, other } = users;
+    let variable = String::from_str(alloc, own.used.variable.as_str())?;
+    let theirs = other.used.used.copy(alloc)?;
+    let alike = tally.count(Counted {
+        variable: variable.as_str(),
+        used: Some(key_of(&theirs)),
+        root: None,
+    });
     Ok(Clash {
-        variable: String::from_str(alloc, own.used.variable.as_str())?,
+        variable,
         other_name: String::from_str(alloc, other.owner.name.as_str())?,
         other_path: String::from_str(alloc, other.owner.path.as_str())?,
         own: own.used.used.copy(alloc)?,
-        theirs: other.used.used.copy(alloc)?,
+        theirs,
+        alike,
     })
 }
 
-/// A clash of one of the modules in a table with another.
+/// A clash of one of the modules with one of those in a table.
 fn clash_of<'a>(
     alloc: Global,
+    tally: &Tally<'a>,
     table: &VariableTable<'a>,
     candidate: &'a UsingModule<'a>,
 ) -> Result<Option<Clash>, AllocError>
-    ensures { IfOk result (λ answer. (ms : List moves.Module)
-        → AreUsersOf (users_at table.now) (uses_of_modules ms) → IsAnswer ms (module_of candidate.entry.now) answer) }
+    ensures { IfOk result (λ answer. (ms : List moves.Module) → HasCounts tally.now (uses_of_modules ms)
+        → AreUsersOf (users_at table.now) (uses_of_modules (staying ms))
+        → IsAnswer ms (module_of candidate.entry.now) answer) }
 {
     let conflicts = conflict_names(alloc, candidate.owner.records.as_slice())?;
     match table.clash_of(candidate, &conflicts) {
-        Some(users) => Ok(Some(clash_between(alloc, users)?)),
+        Some(users) => Ok(Some(clash_between(alloc, tally, users)?)),
         None => Ok(None),
     }
 }
 
-/// A clash of each of the modules in a table with another.
+/// A clash of each of the modules with one of those in a table.
 fn answers<'a>(
     alloc: Global,
+    tally: &Tally<'a>,
     table: &VariableTable<'a>,
     users: &'a [UsingModule<'a>],
 ) -> Result<Vec<Option<Clash>>, AllocError>
-    ensures { IfOk result (λ found. (ms : List moves.Module)
-        → AreUsersOf (users_at table.now) (uses_of_modules ms)
+    ensures { IfOk result (λ found. (ms : List moves.Module) → HasCounts tally.now (uses_of_modules ms)
+        → AreUsersOf (users_at table.now) (uses_of_modules (staying ms))
         → AreAnswers ms (map module_of users.entry.now) found.items) }
 {
     let mut found = Vec::new(alloc);
     for candidate in users {
-        found.push(clash_of(alloc, table, candidate)?)?;
+        found.push(clash_of(alloc, tally, table, candidate)?)?;
     }
     Ok(found)
 }
 
-/// What is found of the clashes of some modules with one another.
+/// What is found of the clashes of some modules with those of them that stay.
 #[derive(Debug, Drop)]
 pub struct FoundClashes {
-    /// For each of the modules, in their order, a clash with another one of them; `None` where it clashes with none.
+    /// For each of the modules, in their order, a clash with one that stays; `None` where it stays itself, since it
+    /// clashes with none of these.
     pub answers: Vec<Option<Clash>>,
     /// What those use that clash with none: each use once, in the order in which they first stand.
     pub unclashed_uses: Vec<UsedVariable>,
 }
 
-/// The clashes of modules with one another, and what those use that have none.
+/// Of modules that clash those that stay, as many as can be: the others have a clash with one of these. What those that
+/// stay use.
 ///
 /// The only error is want of memory.
 pub fn clashes(alloc: Global, modules: &[Module]) -> Result<FoundClashes, AllocError>
@@ -101,8 +129,10 @@ pub fn clashes(alloc: Global, modules: &[Module]) -> Result<FoundClashes, AllocE
         ≡ each_once (used_by_modules (without_clashes (map module_view modules.now) found.answers.items))) }
 {
     let users = using_modules(alloc, modules)?;
-    let table = VariableTable::of(alloc, users.as_slice())?;
-    let answers = answers(alloc, &table, users.as_slice())?;
+    let tally = Tally::of(alloc, users.as_slice())?;
+    let ranks = ranks(alloc, &tally, users.as_slice())?;
+    let table = VariableTable::of_taken(alloc, ranks.as_slice())?;
+    let answers = answers(alloc, &tally, &table, users.as_slice())?;
     let unclashed_uses = unclashed_uses(alloc, users.as_slice(), answers.as_slice())?;
     Ok(FoundClashes {
         answers,

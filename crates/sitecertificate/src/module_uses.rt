@@ -1,10 +1,16 @@
 //! Modules with what they use, computed once for each.
-ghost use Rattle.std.specs.Prelude.{◌≡◌, map, IfOk};
+ghost use Rattle.std.specs.Prelude.{◌≡◌, map, string_bytes, IfOk};
 ghost use Rattle.modulefile.specs.RecordViews.{record_view};
+ghost use Rattle.envvars.specs.Texts.{has};
+ghost use Rattle.modulefile.specs.Records.{conflict_names};
 ghost use Rattle.modules.specs.MoveViews.{module_view};
 ghost use Rattle.sitecertificate.specs.RecordUses as uses;
+ghost use Rattle.sitecertificate.specs.EachOnce.{each_once};
+ghost use Rattle.sitecertificate.specs.FirstParts.{first_part};
 ghost use Rattle.sitecertificate.specs.UseViews.{used_view};
 
+use crate::once::each_once;
+use crate::pairs::excludes_versions;
 use crate::uses::{UsedVariable, used_by};
 use modules::Module;
 use std::alloc::{AllocError, Global};
@@ -14,9 +20,13 @@ use std::alloc::{AllocError, Global};
 pub(crate) struct UsingModule<'a> {
     /// The module.
     pub(crate) owner: &'a Module,
-    /// What its records use.
+    /// What its records use, each use once.
     pub(crate) used: Vec<UsedVariable>,
-    ghost exact: { map used_view used.items ≡ uses.used_by (map record_view owner.now.records.items) },
+    /// Whether it is in conflict with the first part of its own name, and so with all its versions.
+    pub(crate) excludes_versions: bool,
+    ghost exact: { map used_view used.items ≡ each_once (uses.used_by (map record_view owner.now.records.items)) },
+    ghost exclusive: { excludes_versions ≡ has (first_part (string_bytes owner.now.name))
+        (conflict_names (map record_view owner.now.records.items)) },
 }
 
 impl<'a> UsingModule<'a> {
@@ -24,8 +34,13 @@ impl<'a> UsingModule<'a> {
     fn of(alloc: Global, owner: &'a Module) -> Result<UsingModule<'a>, AllocError>
         ensures { IfOk result (λ candidate. candidate.owner.now ≡ owner.entry.now) }
     {
-        let used = used_by(alloc, owner.records.as_slice())?;
-        Ok(UsingModule { owner, used })
+        let records = owner.records.as_slice();
+        let all_used = used_by(alloc, records)?;
+        Ok(UsingModule {
+            owner,
+            used: each_once(alloc, all_used.as_slice())?,
+            excludes_versions: excludes_versions(owner),
+        })
     }
 }
 

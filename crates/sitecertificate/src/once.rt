@@ -85,6 +85,19 @@ impl<'a> UsesOnce<'a> {
     }
 }
 
+/// The uses, each once, in the order in which they first stand.
+pub(crate) fn each_once(
+    alloc: Global,
+    all_used: &[UsedVariable],
+) -> Result<Vec<UsedVariable>, AllocError>
+    ensures { IfOk result (λ found. map used_view found.items ≡ each_once (map used_view all_used.now)) }
+{
+    let mut once = UsesOnce::new(alloc);
+    once.add_all(alloc, all_used)?;
+    let UsesOnce { uses, keys: _ } = once;
+    Ok(uses)
+}
+
 /// What those of the modules use whose answers are that they clash with none, each use once.
 pub(crate) fn unclashed_uses<'a>(
     alloc: Global,

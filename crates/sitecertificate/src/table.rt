@@ -4,14 +4,17 @@ ghost use Rattle.std.specs.Option.{option_map};
 ghost use Rattle.envvars.specs.Texts.{Text, has};
 ghost use Rattle.modulefile.specs.Records.{conflict_names};
 ghost use Rattle.sitecertificate.specs.Users.{Enters, EntersAll, AreUsersOf, IsClashAmong, IsFoundOf, uses_of_module};
+ghost use Rattle.sitecertificate.specs.Takes.{TakesNext};
 ghost use Rattle.sitecertificate.specs.Users.{uses_of_modules};
 ghost use Rattle.sitecertificate.specs.UserViews.{user_view, users_view};
 ghost use Rattle.sitecertificate.specs.Conflicts.{has_name};
 ghost use Rattle.sitecertificate.specs.Tables.{users_at};
 ghost use Rattle.sitecertificate.specs.UsingModules.{module_of};
+ghost use Rattle.sitecertificate.specs.Ranked.{ranked_module, taken};
 
-use crate::conflicts::{Names, Seeker};
+use crate::conflicts::{Names, Seeker, conflict_names};
 use crate::module_uses::UsingModule;
+use crate::ranks::Ranked;
 use crate::users::{ClashingUsers, User};
 use crate::variables::VariableUsers;
 use indexmap::IndexMap;
@@ -70,21 +73,6 @@ impl<'a> VariableTable<'a> {
         Ok(())
     }
 
-    /// The table of what the modules use.
-    pub(crate) fn of(
-        alloc: Global,
-        users: &'a [UsingModule<'a>],
-    ) -> Result<VariableTable<'a>, AllocError>
-        ensures { IfOk result (λ table. AreUsersOf (users_at table)
-            (uses_of_modules (map module_of users.entry.now))) }
-    {
-        let mut table = VariableTable::new(alloc);
-        for candidate in users {
-            table.enter_module(alloc, candidate)?;
-        }
-        Ok(table)
-    }
-
     /// A user of the seeker's variable that clashes with it.
     fn first_clash(&self, seeker: &Seeker<'_>) -> Option<User<'a>>
         ensures { IsClashAmong (user_view seeker.now.user)
@@ -120,5 +108,35 @@ impl<'a> VariableTable<'a> {
             }
         }
         None
+    }
+
+    /// Enters what a module uses, unless it clashes with one of those in the table.
+    fn enter_next(
+        &mut self,
+        alloc: Global,
+        candidate: &'a UsingModule<'a>,
+    ) -> Result<(), AllocError>
+        ensures { OnOk result (TakesNext (users_at self.old) (users_at self.new) (module_of candidate.entry.now)) }
+    {
+        let conflicts = conflict_names(alloc, candidate.owner.records.as_slice())?;
+        match self.clash_of(candidate, &conflicts) {
+            Some(_) => Ok(()),
+            None => self.enter_module(alloc, candidate),
+        }
+    }
+
+    /// The table of what those use that are taken, in the order of the modules: each that clashes with none before it.
+    pub(crate) fn of_taken(
+        alloc: Global,
+        ranks: &[Ranked<'a>],
+    ) -> Result<VariableTable<'a>, AllocError>
+        ensures { IfOk result (λ table. AreUsersOf (users_at table)
+            (uses_of_modules (taken (map ranked_module ranks.now)))) }
+    {
+        let mut table = VariableTable::new(alloc);
+        for ranked in ranks {
+            table.enter_next(alloc, ranked.candidate)?;
+        }
+        Ok(table)
     }
 }

@@ -12,7 +12,7 @@ use Rattle.modules.proofs.FailureLemmas.{unfailed}
 use Rattle.siteaudit.specs.Looked as walks
 use Rattle.siteaudit.specs.declared.fault.WalkFault.{WalkFault}
 use Rattle.siteaudit.specs.declared.fault.WalkFault.TheVariants as faults
-use Rattle.sitecommand.specs.Audits.{IsDirectory, AreDirectories, IsFirstGone, IsNoDirectory, has_colon}
+use Rattle.sitecommand.specs.Audits.{IsDirectory, AreDirectories, IsFirstGone, IsNoDirectory, is_no_element}
 use Rattle.sitecommand.specs.Faults.{is_failure, of_walk}
 use Rattle.sitecommand.specs.Looked.{AreThere, DirectoriesLookAt}
 use Rattle.sitecommand.specs.Steps.{IsGivenUp, NamesNoDirectory, IsDirectoryFault, AreDirectoriesFault}
@@ -51,7 +51,7 @@ fault_of_word agrees failed fault word lacks (inr h) = inr (given_up_in fault �
 
 is_in : (P Q : Files → Listings → Type 0) (dir : Text) → Narrows P Q → IsDirectory P dir → IsDirectory Q dir
 is_in P Q dir n h = record {
-  colonless = h.colonless;
+  is_element = h.is_element;
   listed = λ files listings agreed. h.listed files listings (n files listings agreed);
 }
 
@@ -106,10 +106,10 @@ fault_among before agrees failed all_failed xs i x fault f l e n there (inr h) =
 
 are_there : (agrees : Files → Listings → Type 0) (files : Files) (listings : Listings) (dirs : List Text) → agrees files listings → AreDirectories agrees dirs → AreThere listings dirs
 are_there agrees files listings [] a h = tt
-are_there agrees files listings (dir ∷ dirs) a h = (h.0.colonless, h.0.listed files listings a, are_there agrees files listings dirs a h.1)
+are_there agrees files listings (dir ∷ dirs) a h = (h.0.is_element, h.0.listed files listings a, are_there agrees files listings dirs a h.1)
 
 pub looks_in_turn : (before agrees : Files → Listings → Type 0) (xs : List (String Global)) (i : ℕ) (x : String Global) (at : Text) → i < length xs → x ≡ get_or xs i x → Narrows before agrees
-    → AreDirectories before (map (λ (s : String Global). string_bytes s) (take i xs)) → (at ≡ string_bytes x) × (has_colon (string_bytes x) ≡ false)
+    → AreDirectories before (map (λ (s : String Global). string_bytes s) (take i xs)) → (at ≡ string_bytes x) × (is_no_element (string_bytes x) ≡ false)
     → InEachPair agrees (λ files listings. DirectoriesLookAt listings (map (λ (s : String Global). string_bytes s) xs) at)
 looks_in_turn before agrees xs i x at l e n there h = λ files listings a.
     let so_far = map (λ (s : String Global). string_bytes s) (take i xs) in
@@ -119,7 +119,7 @@ looks_in_turn before agrees xs i x at l e n there h = λ files listings a.
       after = order.0;
       order = order.1;
       there = are_there before files listings so_far (n files listings a) there;
-      colonless = h.1;
+      is_element = h.1;
     })
 
 pub all_there : (before agrees : Files → Listings → Type 0) (dirs : List Text) → Narrows before agrees → AreDirectories before dirs → InEachPair agrees (λ files listings. AreThere listings dirs)

@@ -1,5 +1,5 @@
 -- What the words of a command line ask an audit for (own; the option that ends options is POSIX's).
-use Rattle.std.specs.Prelude.{Bool, true, false, not, ◌||◌, List, [], ◌∷◌, ◌++◌, codes, bytes_eq, flat_map, nat_eq}
+use Rattle.std.specs.Prelude.{Bool, not, ◌||◌, List, [], ◌∷◌, ◌++◌, codes, bytes_eq, flat_map, nat_eq}
 use Rattle.std.specs.Prelude.{if◌then◌else◌, Option, Some, None}
 use Rattle.std.specs.List.{list_all, list_any, starts_with, before_first, after_first}
 use Rattle.envvars.specs.Texts.{Text}

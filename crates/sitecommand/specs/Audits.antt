@@ -1,6 +1,6 @@
 -- What an audit writes to its two writers, and why there is none (own).
 use Rattle.std.specs.Prelude.{◌≡◌, ◌⊎◌, ℕ, Bool, true, false, List, [], ◌∷◌, ◌++◌, codes, Option, Some, None, IsSome}
-use Rattle.std.specs.Prelude.{◌==◌, string_bytes}
+use Rattle.std.specs.Prelude.{◌==◌, ◌||◌, bytes_eq, string_bytes}
 use Rattle.std.specs.declared.alloc.Global.{Global}
 use Rattle.std.specs.declared.string.String.{String}
 use Rattle.std.specs.List.{join_with_byte, list_all, list_any}
@@ -45,19 +45,23 @@ judged_env e (dir ∷ dirs) =
 abbrev pub judged_site : Environment → Wanted → Files → Listings → Site
 judged_site e wanted files listings = site_of standard (judged_env e wanted.directories) files listings
 
--- the text has a colon, so that MODULEPATH can't hold it as one directory
+-- the text has a colon
 abbrev pub has_colon : Text → Bool
 has_colon text = list_any (λ c. c == 58) text
 
+-- MODULEPATH can't hold the text as one directory: it is empty, or has a colon
+abbrev pub is_no_element : Text → Bool
+is_no_element text = bytes_eq text [] || has_colon text
+
 -- A directory is at the path, and MODULEPATH can hold the path.
 pub record IsDirectory (agrees : Files → Listings → Type 0) (dir : Text) : Type 0 where
-  pub colonless : has_colon dir ≡ false
+  pub is_element : is_no_element dir ≡ false
   pub listed : InEachPair agrees (λ files listings. IsSome (listings dir))
 
 -- no directory is there, or MODULEPATH can't hold the path
 abbrev pub IsNoDirectory : (Files → Listings → Type 0) → Text → Type 0
 IsNoDirectory agrees dir =
-    (has_colon dir ≡ true) ⊎ InEachPair agrees (λ files listings. listings dir ≡ None)
+    (is_no_element dir ≡ true) ⊎ InEachPair agrees (λ files listings. listings dir ≡ None)
 
 -- a directory is at each of the paths
 abbrev pub AreDirectories : (Files → Listings → Type 0) → List Text → Type 0

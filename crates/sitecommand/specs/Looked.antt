@@ -6,12 +6,12 @@ use Rattle.envvars.specs.Environment.{Environment}
 use Rattle.filetree.specs.Agreement.{Files, Listings}
 use Rattle.siteaudit.specs.Looked as audits
 use Rattle.sitecommand.specs.Arguments.{Wanted, wanted_of}
-use Rattle.sitecommand.specs.Audits.{has_colon, judged_site}
+use Rattle.sitecommand.specs.Audits.{is_no_element, judged_site}
 
 -- each of the directories is there, and MODULEPATH can hold its path
 abbrev pub AreThere : Listings → List Text → Type 0
 AreThere listings [] = Unit {0}
-AreThere listings (dir ∷ dirs) = (has_colon dir ≡ false) × IsSome (listings dir) × AreThere listings dirs
+AreThere listings (dir ∷ dirs) = (is_no_element dir ≡ false) × IsSome (listings dir) × AreThere listings dirs
 
 -- the path is that of one of these directories, and those before it are there
 pub record DirectoriesLookAt (listings : Listings) (dirs : List Text) (at : Text) : Type 0 where
@@ -19,7 +19,7 @@ pub record DirectoriesLookAt (listings : Listings) (dirs : List Text) (at : Text
   pub after : List Text
   pub order : dirs ≡ before ++ at ∷ after
   pub there : AreThere listings before
-  pub colonless : has_colon at ≡ false
+  pub is_element : is_no_element at ≡ false
 
 -- the paths for what is asked for: those of the directories that are named; and where each of them is there, those at
 -- which the audit of their site looks

@@ -46,16 +46,9 @@ fn options_count(args: &[String]) -> usize
     ensures value { result ≡ position_or_len spec.is_end (map string_bytes args.now) }
     ensures bound { result ≤ length args.now }
 {
-    let mut count = 0;
-    let mut rest = args;
-    while let [word, after @ ..] = rest {
-        if is_end(word.as_str()) {
-            return count;
-        }
-        count += 1;
-        rest = after;
-    }
-    count
+    args.iter()
+        .position(|word| is_end(word))
+        .unwrap_or(args.len())
 }
 
 /// The words before the one that ends the options.
@@ -81,14 +74,7 @@ fn others_in(args: &[String]) -> &[String]
 fn has_word(words: &[String], word: &str) -> bool
     ensures { result ≡ list_any (λ w. bytes_eq w word.now) (map string_bytes words.now) }
 {
-    let mut rest = words;
-    while let [first, after @ ..] = rest {
-        if first.as_str() == word {
-            return true;
-        }
-        rest = after;
-    }
-    false
+    words.iter().any(|other| other.as_str() == word)
 }
 
 /// Which modules the report names, by the options.
@@ -148,14 +134,7 @@ fn push_all(directories: &mut Vec<String>, words: &[String]) -> Result<(), Alloc
 fn are_known(options: &[String]) -> bool
     ensures { result ≡ list_all spec.is_known (map string_bytes options.now) }
 {
-    let mut rest = options;
-    while let [word, after @ ..] = rest {
-        if !is_known(word.as_str()) {
-            return false;
-        }
-        rest = after;
-    }
-    true
+    options.iter().all(|word| is_known(word))
 }
 
 /// What options and further words ask for.

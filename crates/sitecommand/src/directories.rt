@@ -14,11 +14,18 @@ use envvars::fields::{join, slices};
 use filetree::Tree;
 use std::alloc::Global;
 
-/// Whether the text has a colon, so that MODULEPATH can't hold it as one directory.
+/// Whether the text has a colon.
 fn has_colon(dir: &str) -> bool
     ensures { result ≡ spec.has_colon dir.now }
 {
     dir.as_bytes().iter().any(|c| *c == b':')
+}
+
+/// Whether MODULEPATH can't hold the text as one directory: it is empty, or has a colon.
+fn is_no_element(dir: &str) -> bool
+    ensures { result ≡ spec.is_no_element dir.now }
+{
+    dir == "" || has_colon(dir)
 }
 
 /// Whether a directory is at the path, which is listed.
@@ -49,9 +56,9 @@ fn judge_directory<T: Tree>(alloc: Global, tree: &mut T, dir: &str) -> Result<()
     ensures cause { IfErr result (IsDirectoryFault (T.agrees tree.new) (T.failures tree.old < T.failures tree.new)
         dir.now) }
     ensures failed { FailsAt is_failure (T.failed tree.old) (T.failed tree.new) result (λ at.
-        (at ≡ dir.now) × (spec.has_colon dir.now ≡ false)) }
+        (at ≡ dir.now) × (spec.is_no_element dir.now ≡ false)) }
 {
-    if has_colon(dir) {
+    if is_no_element(dir) {
         return Err(no_directory(alloc, dir));
     }
     if !is_listed(tree, dir)? {

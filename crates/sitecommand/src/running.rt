@@ -138,9 +138,9 @@ fn write_report<W: Write, E: Write>(answer: &PreparedAudit, out: &mut W, err: &m
 ///
 /// The arguments are the options `--quiet` and `--json`, and directories, which are the MODULEPATH of the audit; where
 /// there are none, it is that of the environment. A word that begins with `-` and is no such option is refused (56), but
-/// not after the word `--`; after that the first word that names no directory is a fault of its own, before anything of the
-/// site is read. Each file of the site is evaluated once, and the report goes to standard output. A failed device (43)
-/// failed at a path that the audit looks at.
+/// not after the word `--`; after that the first word that names no directory is a fault of its own, before anything of
+/// the site is read. Each file of the site is evaluated once, and the report goes to standard output. A failed device
+/// (43) failed at a path that the audit looks at.
 ///
 /// Where there is a fault before the report is made, nothing is written but the line that says why, to standard error.
 pub fn run_audit<T: Tree, P: WalkProgress, W: Write, E: Write>(

@@ -6,6 +6,8 @@ mod OneStanding
 mod Forbidden
 mod Unloaded
 mod Returned
+mod Editable
+mod ChangesAgree
 mod Walked
 mod PlainOnes
 pub mod DirectorySetLemmas

@@ -19,6 +19,7 @@ use Rattle.requests.specs.Steps.{entries_of, script_at, context_of}
 use Rattle.requests.specs.Verdicts.{Verdict, plain, asked, one_way, verdict_of}
 use Rattle.sitecertificate.specs.RecordUses.{used_by, IsAmong, modulepath, same_use, AreInStep}
 use Rattle.sitecertificate.proofs.Exact.{use_itself}
+use Rattle.sitecertificate.proofs.CertifiedOnes.{certified_apart}
 use Rattle.sitelaws.specs.Sites.{Site, SiteModule, over_site, EvaluatesTo, HasPlainRecords, with_records}
 use Rattle.sitelaws.specs.Standings.{Standing, Certified, Asks, OneWay, OutOfStep, Clashes, Refused, IsUsedTwice}
 use Rattle.sitelaws.specs.Standings.{ClashesWith, HasStanding, standing_word}
@@ -106,7 +107,7 @@ certified_not_clash : files.OneOutcome → (site : Site) (ms : List Module) (m :
     (x y : VariableUse) (n : Module) → HasStanding site ms m Certified → HasStanding site ms m (Clashes v x y n) → ⊥
 certified_not_clash one site ms m v x y n (rs, p, c) (qs, q, k) =
     let w : ClashesWith ms (with_records m rs) v x y n = subst (λ (l : List Record). ClashesWith ms (with_records m l) v x y n) (sym (one_list one site m rs qs p q)) k in
-    c.no_clash n v x y w.listed w.other_in_step w.another w.clash
+    certified_apart ms (with_records m rs) n v x y c w.certain w.another w.clash
 
 twice_not_clash : files.OneOutcome → (site : Site) (ms : List Module) (m : SiteModule) (v w : Text)
     (x y a b : VariableUse) (n : Module) → HasStanding site ms m (OutOfStep v x y)

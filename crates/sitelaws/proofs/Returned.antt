@@ -10,21 +10,21 @@ use Rattle.envstate.proofs.StateLemmas.{list_in_order}
 use Rattle.modulefile.specs.Moves.{Module, Move, Loads, Unloads, Fits, moved, MovesReach}
 use Rattle.modulefile.specs.Files.{Ran}
 use Rattle.reversal.specs.Live.{entries_over}
-use Rattle.reversal.specs.Starts.{IsInOrder, IsStartWith}
+use Rattle.reversal.specs.Starts.{IsStartWith}
 use Rattle.reversal.specs.Requests as moves
+use Rattle.reversal.specs.Undone.{undo_of}
 use Rattle.reversal.specs.Runs.{live_named, without_live, Undoes}
-use Rattle.reversal.specs.Laws.{Holds}
 use Rattle.requests.specs.Requests.{Request}
 use Rattle.requests.specs.Steps.{RequestContext}
 use Rattle.requests.specs.PlainRuns.{HasEvaluatedTo}
 use Rattle.requests.specs.Sessions.{Response, Session, in_shell, env_after, end_environment, outcome_of, session_moves}
 use Rattle.requests.specs.Returning.{IsNew, AreNew}
 use Rattle.requests.specs.Laws.{SessionsReach, StepsReach}
-use Rattle.sitecertificate.specs.RecordUses.{IsAmong, uses_by}
+use Rattle.sitecertificate.specs.RecordUses.{IsAmong, used_by, uses_by}
 use Rattle.sitecertificate.specs.Clashes.{in_conflict, in_conflict_with_entry}
-use Rattle.sitecertificate.specs.Certificates.{IsCertified, certified, certificate, AgreesWith}
-use Rattle.sitecertificate.specs.Laws.{CertifiedAreExact, AreCertified, EntriesHaveConflicts, CertifiedRunsStand}
-use Rattle.sitecertificate.specs.Laws.{AreCertifiedTogether, CertifiedMovesPreserve}
+use Rattle.sitecertificate.specs.Certificates.{IsCertified, certified, AgreesWith}
+use Rattle.sitecertificate.specs.Laws.{CertifiedAreExact, AreCertified, EntriesHaveConflicts, AreLayered}
+use Rattle.sitecertificate.specs.Laws.{AreCertifiedTogether, CertifiedMovesPreserve, NoneIsLayered}
 use Rattle.sitelaws.specs.Sites.{Site, over_site, file_of, ArePlainModules}
 use Rattle.sitelaws.specs.Admitted.{IsAdmitted}
 use Rattle.sitelaws.specs.Laws.{PlainRecordsAreAll, IsOneOf, LoadsAreOf, SiteSessionsReturn, AuditsHold}
@@ -48,11 +48,13 @@ certified_records all site ms m c plain certain name path (ran, left, is) =
 same_parts : (m c : Module) → c.name ≡ m.name → c.path ≡ m.path → c.records ≡ m.records → c ≡ m
 same_parts m c name path records = λ i. record { name = name i; path = path i; records = records i }
 
-loaded_certified : CertifiedAreExact → PlainRecordsAreAll → (site : Site) (ms : List Module) (m : Module)
-    → ArePlainModules site ms → IsOneOf (certified ms) m.name m.path → IsFrom (over_site site) m → IsCertified ms m
-loaded_certified exact all site ms m plain (c, among, name, path) from =
+-- a loaded module is certified, and the start agrees with what it uses
+loaded_certified : CertifiedAreExact → PlainRecordsAreAll → (site : Site) (ms : List Module) (start : Environment) (m : Module)
+    → ArePlainModules site ms → IsOneOf (certified ms) start m.name m.path → IsFrom (over_site site) m → IsCertified ms m × AgreesWith (used_by m.records) start
+loaded_certified exact all site ms start m plain (c, among, name, path, agrees) from =
     let certain : IsCertified ms c = (exact ms c).0 among in
-    subst (IsCertified ms) (same_parts m c name path (sym (certified_records all site ms m c plain certain (sym name) (sym path) from))) certain
+    let same : c ≡ m = same_parts m c name path (sym (certified_records all site ms m c plain certain (sym name) (sym path) from)) in
+    (subst (IsCertified ms) same certain, subst (λ (x : Module). AgreesWith (used_by x.records) start) same agrees)
 
 -- conflicts
 
@@ -78,12 +80,12 @@ live_certified ms [] l t a = absurd a
 live_certified ms (m ∷ live) l t (inl e) = subst (IsCertified ms) (sym e) t.0
 live_certified ms (m ∷ live) l t (inr a) = live_certified ms live l t.2 a
 
-undone : PlainRecordsAreAll → (site : Site) (ms live : List Module) (start old : Environment) (m : Module) → ArePlainModules site ms → AgreesWith (certificate ms) start → AreCertifiedTogether ms live
-    → IsInOrder (uses_by live) old → IsStartWith (uses_by live) start live old → IsFrom (over_site site) m → IsNew start (Unloads m) → Fits (Unloads m) old → Undoes live m
-undone all site ms live start old m plain agrees together order over from new fits =
-    let l = of_live (uses_by live) start old live m agrees.loaded order over new fits in
-    let certain = live_certified ms live l.loaded together (named_among m.name l.loaded live l.found) in
-    record { loaded = l.loaded; found = l.found; records = certified_records all site ms m l.loaded plain certain l.name l.path from }
+undone : PlainRecordsAreAll → (site : Site) (ms live : List Module) (start old : Environment) (m : Module) → ArePlainModules site ms → AreLayered ms start live old
+    → IsFrom (over_site site) m → IsNew start (Unloads m) → Fits (Unloads m) old → Undoes live m
+undone all site ms live start old m plain layered from new fits =
+    let l = of_live (uses_by live) start old live m layered.begins.order.loaded layered.order layered.start_with_live new fits in
+    let certain = live_certified ms live l.loaded layered.together (named_among m.name l.loaded live l.found) in
+    record { loaded = l.loaded; found = l.found; alike = ap undo_of (certified_records all site ms m l.loaded plain certain l.name l.path from) }
 
 -- moves
 
@@ -92,39 +94,39 @@ same_env m old a b h k = let q : Ok b ≡ Ok a = sym k ∙ h in cc
 
 are_certified : CertifiedAreExact → EntriesHaveConflicts → CertifiedMovesPreserve → PlainRecordsAreAll
     → (site : Site) (ms live : List Module) (start old new : Environment) (todo : List Move) → ArePlainModules site ms
-    → AgreesWith (certificate ms) start → AreCertifiedTogether ms live
-    → IsInOrder (uses_by live) old → IsStartWith (uses_by live) start live old → AreNew start todo
-    → LoadsAreOf (certified ms) todo → TracedReach (over_site site) todo old new → MovesReach todo old new
-    → AreCertified ms live todo
-are_certified exact conflicts preserve all site ms live start old new [] plain agrees together order over news loads traces reach = tt
-are_certified exact conflicts preserve all site ms live start old new (Loads m ∷ todo) plain agrees together order over
+    → AreLayered ms start live old → AreNew start todo
+    → LoadsAreOf (certified ms) start todo → TracedReach (over_site site) todo old new → MovesReach todo old new
+    → AreCertified ms start live todo
+are_certified exact conflicts preserve all site ms live start old new [] plain layered news loads traces reach = tt
+are_certified exact conflicts preserve all site ms live start old new (Loads m ∷ todo) plain layered
     news loads ((admitted, from), (other, made, traces)) (fits, (mid, move, reach)) =
-    let first = list_in_order start agrees.loaded in
-    let certain = loaded_certified exact all site ms m plain loads.0 from in
-    let apart = none_in_conflict conflicts site start old live m first.0 first.1 over admitted in
-    let h = preserve ms start old mid live (Loads m ∷ []) agrees together order over (certain, apart, tt) (fits, (mid, move, refl)) in (
-      certain,
+    let first = list_in_order start layered.begins.order.loaded in
+    let certain = loaded_certified exact all site ms start m plain loads.0 from in
+    let apart = none_in_conflict conflicts site start old live m first.0 first.1 layered.start_with_live admitted in
+    let h = preserve ms start old mid live (Loads m ∷ []) layered (certain.0, certain.1, apart, tt) (fits, (mid, move, refl)) in (
+      certain.0,
+      certain.1,
       apart,
-      are_certified exact conflicts preserve all site ms (m ∷ live) start mid new todo plain agrees h.1 h.0.order h.0.start_with_live news.1 loads.1
+      are_certified exact conflicts preserve all site ms (m ∷ live) start mid new todo plain h.0 news.1 loads.1
           (subst (λ (e : Environment). TracedReach (over_site site) todo e new) (same_env (Loads m) old mid other move made) traces) reach,
     )
-are_certified exact conflicts preserve all site ms live start old new (Unloads m ∷ todo) plain agrees together order
-    over news loads ((admitted, from), (other, made, traces)) (fits, (mid, move, reach)) =
-    let u = undone all site ms live start old m plain agrees together order over from news.0 fits in
-    let h = preserve ms start old mid live (Unloads m ∷ []) agrees together order over (u, tt) (fits, (mid, move, refl)) in (
+are_certified exact conflicts preserve all site ms live start old new (Unloads m ∷ todo) plain layered
+    news loads ((admitted, from), (other, made, traces)) (fits, (mid, move, reach)) =
+    let u = undone all site ms live start old m plain layered from news.0 fits in
+    let h = preserve ms start old mid live (Unloads m ∷ []) layered (u, tt) (fits, (mid, move, refl)) in (
       u,
-      are_certified exact conflicts preserve all site ms (without_live m.name live) start mid new todo plain agrees h.1 h.0.order h.0.start_with_live news.1 loads
+      are_certified exact conflicts preserve all site ms (without_live m.name live) start mid new todo plain h.0 news.1 loads
           (subst (λ (e : Environment). TracedReach (over_site site) todo e new) (same_env (Unloads m) old mid other move made) traces) reach,
     )
 
 -- commands
 
 pub site_commands_return : StepsReach → CertifiedAreExact → EntriesHaveConflicts → CertifiedMovesPreserve → PlainRecordsAreAll → SiteCommandsReturn
-site_commands_return leads exact conflicts preserve all site ms shell start e live action d plain agrees together order over done news loads =
+site_commands_return leads exact conflicts preserve all site ms shell start e live action d plain layered done news loads =
     let s = in_shell (over_site site) shell in
     let reach = leads s e action d done in
-    preserve ms start e d.env live d.moves agrees together order over
-    (are_certified exact conflicts preserve all site ms live start e d.env d.moves plain agrees together order over news loads
+    preserve ms start e d.env live d.moves layered
+    (are_certified exact conflicts preserve all site ms live start e d.env d.moves plain layered news loads
     (any_shell (over_site site) shell d.moves e d.env (traced s e action d done)) reach) reach
 
 -- sessions
@@ -149,40 +151,36 @@ front_new : (start : Environment) (ms ns : List Move) → AreNew start (ms ++ ns
 front_new start [] ns h = tt
 front_new start (m ∷ ms) ns h = (h.0, front_new start ms ns h.1)
 
-front_loads : (cs : List Module) (ms ns : List Move) → LoadsAreOf cs (ms ++ ns) → LoadsAreOf cs ms
-front_loads cs [] ns h = tt
-front_loads cs (Loads m ∷ ms) ns h = (h.0, front_loads cs ms ns h.1)
-front_loads cs (Unloads m ∷ ms) ns h = front_loads cs ms ns h
+front_loads : (cs : List Module) (start : Environment) (ms ns : List Move) → LoadsAreOf cs start (ms ++ ns) → LoadsAreOf cs start ms
+front_loads cs start [] ns h = tt
+front_loads cs start (Loads m ∷ ms) ns h = (h.0, front_loads cs start ms ns h.1)
+front_loads cs start (Unloads m ∷ ms) ns h = front_loads cs start ms ns h
 
-at_start : CertifiedRunsStand → (ms : List Module) (start : Environment) → AgreesWith (certificate ms) start → Holds (uses_by []) start [] start
-at_start runs ms start agrees =
-    let h = runs ms start start [] [] agrees tt refl in
-    subst (Holds (uses_by []) start []) h.1 h.3
-
-pub site_sessions_return : SessionsReach → CertifiedAreExact → EntriesHaveConflicts → CertifiedRunsStand → CertifiedMovesPreserve → PlainRecordsAreAll → SiteSessionsReturn
-site_sessions_return leads exact conflicts runs preserve all site ms plain start rs before after agrees session news loads =
+pub site_sessions_return : SessionsReach → CertifiedAreExact → EntriesHaveConflicts → NoneIsLayered → CertifiedMovesPreserve → PlainRecordsAreAll → SiteSessionsReturn
+site_sessions_return leads exact conflicts begins preserve all site ms plain start rs before after order session news loads =
     let f = front_session (over_site site) start rs before after session in
     let todo = session_moves before in
     let end = end_environment start before in
     let reach : MovesReach todo start end = leads (over_site site) start f.0 before f.1 in
     let new : AreNew start todo = front_new start todo (session_moves after) (subst (λ (l : List Move). AreNew start l) (moves_parts before after) news) in
-    let of : LoadsAreOf (certified ms) todo = front_loads (certified ms) todo (session_moves after) (subst (λ (l : List Move). LoadsAreOf (certified ms) l) (moves_parts before after) loads) in
-    let begin = at_start runs ms start agrees in
-    (preserve ms start start end [] todo agrees tt begin.order begin.start_with_live
-    (are_certified exact conflicts preserve all site ms [] start start end todo plain agrees tt begin.order
-    begin.start_with_live new of (session_traced (over_site site) start f.0 before f.1) reach) reach).0
+    let of : LoadsAreOf (certified ms) start todo = front_loads (certified ms) start todo (session_moves after)
+    (subst (λ (l : List Move). LoadsAreOf (certified ms) start l) (moves_parts before after) loads) in
+    let begin = begins ms start order in
+    let h = preserve ms start start end [] todo begin
+    (are_certified exact conflicts preserve all site ms [] start start end todo plain begin
+    new of (session_traced (over_site site) start f.0 before f.1) reach) reach in
+    record { order = h.0.order; start_with_live = h.0.start_with_live; returned = h.1 }
 
--- any certified modules, and more uses
+-- any certified modules
 
-one_certified : CertifiedAreExact → (ms certain : List Module) (name path : Text) → ((m : Module) → IsAmong m certain → IsCertified ms m) → IsOneOf certain name path → IsOneOf (certified ms) name path
-one_certified exact ms certain name path all (m, among, named, at) = (m, (exact ms m).1 (all m among), named, at)
-
-loads_certified : CertifiedAreExact → (ms certain : List Module) (todo : List Move) → ((m : Module) → IsAmong m certain → IsCertified ms m) → LoadsAreOf certain todo → LoadsAreOf (certified ms) todo
-loads_certified exact ms certain [] all h = tt
-loads_certified exact ms certain (Loads m ∷ todo) all h = (one_certified exact ms certain m.name m.path all h.0, loads_certified exact ms certain todo all h.1)
-loads_certified exact ms certain (Unloads m ∷ todo) all h = loads_certified exact ms certain todo all h
+loads_certified : CertifiedAreExact → (ms certain : List Module) (start : Environment) (todo : List Move) → ((m : Module) → IsAmong m certain → IsCertified ms m)
+    → LoadsAreOf certain start todo → LoadsAreOf (certified ms) start todo
+loads_certified exact ms certain start [] all h = tt
+loads_certified exact ms certain start (Loads m ∷ todo) all ((c, among, named, at, agrees), h) =
+    ((c, (exact ms c).1 (all c among), named, at, agrees), loads_certified exact ms certain start todo all h)
+loads_certified exact ms certain start (Unloads m ∷ todo) all h = loads_certified exact ms certain start todo all h
 
 pub audits_hold : CertifiedAreExact → SiteSessionsReturn → AuditsHold
-audits_hold exact returns site ms certain uses plain all some start rs before after agrees session news loads =
-    returns site ms plain start rs before after (record { loaded = agrees.loaded; uses = λ v x a. agrees.uses v x (some (v, x) a) }) session news
-    (loads_certified exact ms certain (session_moves (before ++ after)) all loads)
+audits_hold exact returns site ms certain plain all start rs before after order session news loads =
+    returns site ms plain start rs before after order session news
+    (loads_certified exact ms certain start (session_moves (before ++ after)) all loads)

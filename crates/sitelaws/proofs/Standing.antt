@@ -1,12 +1,12 @@
 -- Each module of a site has a standing: the tests of the certificate find it.
 use Rattle.std.proofs.Common.{◌≡◌, ◌⊎◌, inl, inr, Bool, true, false, cond, not, ◌&&◌, ◌||◌, List, [], ◌∷◌, find, Some}
-use Rattle.std.proofs.Common.{Result, Ok, Err, refl, ap, sym, subst}
+use Rattle.std.proofs.Common.{Result, Ok, Err, refl, ap, sym, ◌∙◌, subst}
 use Rattle.std.specs.Prelude.{bytes_eq}
 use Rattle.std.specs.List.{list_all, list_any}
-use Rattle.std.proofs.lemmas.Bool.{false≢true, and_parts}
+use Rattle.std.proofs.lemmas.Bool.{false≢true, and_parts, and_from}
 use Rattle.envvars.specs.Texts.{Text}
 use Rattle.envvars.specs.Fields.{colon}
-use Rattle.envvars.proofs.TextLemmas.{same_text, bytes_eq-same}
+use Rattle.envvars.proofs.TextLemmas.{same_text}
 use Rattle.filetree.specs.Modulefiles.{modulefile}
 use Rattle.filetree.specs.Relations.{Is, Then}
 use Rattle.modulefile.specs.Effects as modes
@@ -20,11 +20,12 @@ use Rattle.requests.specs.Reasons.{RequestReason, file_refused}
 use Rattle.requests.specs.Steps.{entries_of, script_at, context_of}
 use Rattle.sitecertificate.specs.RecordUses.{UsedVariable, used_by, IsAmong, modulepath, same_use, use_alike}
 use Rattle.sitecertificate.specs.RecordUses.{are_in_step, is_in_step, IsInStep}
-use Rattle.sitecertificate.specs.Clashes.{exclude, uses_clash, do_clash}
-use Rattle.sitecertificate.specs.Certificates.{is_other, clashes_among}
-use Rattle.sitecertificate.specs.Laws.{CertifiedAreExact}
+use Rattle.sitecertificate.specs.Clashes.{is_other, do_clash}
+use Rattle.sitecertificate.specs.Certificates.{certified, IsCertified}
 use Rattle.sitecertificate.proofs.UsedLemmas.{by_test, by_cases}
-use Rattle.sitecertificate.proofs.Exact.{any_some, in_filter}
+use Rattle.sitecertificate.proofs.Exact.{any_some, in_step, clashes, to_clashes}
+use Rattle.sitecertificate.proofs.CertifiedOnes.{is_certified, to_certified, certified_most}
+use Rattle.sitecertificate.proofs.Members.{fails_each}
 use Rattle.sitelaws.specs.Sites.{Site, SiteModule, over_site, EvaluatesTo, HasPlainRecords, IsOfSite, ArePlainModules}
 use Rattle.sitelaws.specs.Sites.{with_records}
 use Rattle.sitelaws.specs.Standings.{Standing, Certified, Asks, OneWay, OutOfStep, Clashes, Refused, IsUsedTwice}
@@ -92,70 +93,51 @@ out_of_step rs h =
     (λ f. used_twice rs p.0 (modulepath, Pathed colon) p.1 (inl refl) f)
     (λ f. let q = some_fails (use_alike p.0) (used_by rs) f in used_twice rs p.0 q.0 p.1 (inr q.1) q.2)
 
-not_other : (m : Module) → is_other m m ≡ false
-not_other m = rw (bytes_eq-same m.name, bytes_eq-same m.path) refl
-
--- a module alone is certified where the test finds it in step
-in_step : CertifiedAreExact → (m : Module) → is_in_step m ≡ true → IsInStep m
-in_step exact m t =
-    let alone : clashes_among (m ∷ []) m ≡ false = rw (t, not_other m) refl in
-    let certain : (is_in_step m && not (clashes_among (m ∷ []) m)) ≡ true = both (is_in_step m) (not (clashes_among (m ∷ []) m)) t (ap not alone) in
-    ((exact (m ∷ []) m).0 (in_filter (λ n. is_in_step n && not (clashes_among (m ∷ []) n)) (m ∷ []) m (inl refl) certain)).in_step
-
 -- a clash that the test finds
 
-clash : CertifiedAreExact → (ms : List Module) (m : Module) → IsInStep m → clashes_among ms m ≡ true → (v : Text) × (x : VariableUse) × (y : VariableUse) × (n : Module) × ClashesWith ms m v x y n
-clash exact ms m s h =
-    let n = any_some (λ n. is_in_step n && (is_other m n && do_clash m n)) ms h in
-    let a = and_parts (is_in_step n.0) (is_other m n.0 && do_clash m n.0) n.2 in
-    let b = and_parts (is_other m n.0) (do_clash m n.0) a.1 in
-    let p = any_some (λ p. list_any (λ q. bytes_eq p.0 q.0 && uses_clash (exclude m n.0) p.1 q.1) (used_by n.0.records)) (used_by m.records) b.1 in
-    let q = any_some (λ q. bytes_eq p.0.0 q.0 && uses_clash (exclude m n.0) p.0.1 q.1) (used_by n.0.records) p.2 in
-    let c = and_parts (bytes_eq p.0.0 q.0.0) (uses_clash (exclude m n.0) p.0.1 q.0.1) q.2 in
-    let name : p.0.0 ≡ q.0.0 = same_text p.0.0 q.0.0 c.0 in (
-      p.0.0,
-      p.0.1,
-      q.0.1,
-      n.0,
-      record {
-        in_step = s;
-        listed = n.1;
-        other_in_step = in_step exact n.0 a.0;
-        another = b.0;
-        clash = record { first = p.1; second = subst (λ (v : Text). IsAmong (v, q.0.1) (used_by n.0.records)) (sym name) q.1; clash = c.1 };
-      },
-    )
+clash : (ms : List Module) (m : Module) → IsInStep m → list_any (λ n. is_other m n && do_clash m n) (certified ms) ≡ true
+    → (v : Text) × (x : VariableUse) × (y : VariableUse) × (n : Module) × ClashesWith ms m v x y n
+clash ms m s h =
+    let n = any_some (λ n. is_other m n && do_clash m n) (certified ms) h in
+    let b = and_parts (is_other m n.0) (do_clash m n.0) n.2 in
+    let k = clashes m n.0 b.1 in
+    (k.variable, k.one, k.other, n.0, record { in_step = s; certain = is_certified ms n.0 n.1; another = b.0; clash = k.clash })
+
+-- and none that it finds
+no_clash : (ms : List Module) (m : Module) → IsAmong m ms → IsInStep m → list_any (λ n. is_other m n && do_clash m n) (certified ms) ≡ false → IsCertified ms m
+no_clash ms m a s h = certified_most ms m a s (λ n v x y c o k. false≢true (sym (fails_each (λ l. is_other m l && do_clash m l) (certified ms) n h (to_certified ms n c))
+    ∙ and_from (is_other m n) (do_clash m n) o (to_clashes m n v x y k)))
 
 -- standings
 
 abbrev Stands : Site → List Module → SiteModule → Type 0
 Stands site ms m = (standing : Standing) × HasStanding site ms m standing
 
-plain_stands : CertifiedAreExact → (site : Site) (ms : List Module) (m : SiteModule) (rs : List Record)
+plain_stands : (site : Site) (ms : List Module) (m : SiteModule) (rs : List Record)
     → ArePlainModules site ms → IsOfSite site m → HasPlainRecords site m rs → list_all is_reversible rs ≡ true
     → Stands site ms m
-plain_stands exact site ms m rs all of_site p reversible =
+plain_stands site ms m rs all of_site p reversible =
     let n : Module = with_records m rs in
     let listed : IsAmong n ms = (all n).1 (record { of_site = of_site; records = p }) in
     by_test (are_in_step (used_by rs)) _
     (λ t. let s : is_in_step n ≡ true = both (list_all is_reversible rs) (are_in_step (used_by rs)) reversible t in
-    by_test (clashes_among ms n) _
-    (λ c. let k = clash exact ms n (in_step exact n s) c in (Clashes k.0 k.1 k.2 k.3, (rs, p, k.4)))
-    (λ c. (Certified, (rs, p, (exact ms n).0 (in_filter (λ k. is_in_step k && not (clashes_among ms k)) ms n listed (both (is_in_step n) (not (clashes_among ms n)) s (ap not c)))))))
+    by_test (list_any (λ k. is_other n k && do_clash n k) (certified ms)) _
+    (λ c. let k = clash ms n (in_step n s) c in (Clashes k.0 k.1 k.2 k.3, (rs, p, k.4)))
+    (λ c. (Certified, (rs, p, no_clash ms n listed (in_step n s) c))))
     (λ f. let k = out_of_step rs f in (OutOfStep k.0 k.1 k.2, (rs, p, k.3)))
 
-accepted_stands : CertifiedAreExact → (site : Site) (ms : List Module) (m : SiteModule) (ran : Ran) → ArePlainModules site ms → IsOfSite site m → EvaluatesTo site m (Ok ran) → Stands site ms m
-accepted_stands exact site ms m ran all of_site h =
+accepted_stands : (site : Site) (ms : List Module) (m : SiteModule) (ran : Ran) → ArePlainModules site ms → IsOfSite site m → EvaluatesTo site m (Ok ran) → Stands site ms m
+accepted_stands site ms m ran all of_site h =
     by_test ran.asked _
     (λ t. (Asks, (ran, h, rw t refl)))
     (λ f. by_test (list_all is_reversible ran.records) _
-    (λ t. plain_stands exact site ms m ran.records all of_site (record { ran = ran; evaluated = h; plain = rw (f, t) refl; records = refl }) t)
+    (λ t. plain_stands site ms m ran.records all of_site (record { ran = ran; evaluated = h; plain = rw (f, t) refl; records = refl }) t)
     (λ g. let r = first_that_fails is_reversible ran.records g in (OneWay r.0, (ran, h, rw (f, g) refl, r.1))))
 
-evaluated_stands : CertifiedAreExact → (site : Site) (ms : List Module) (m : SiteModule) (o : Result Ran RequestReason)
+evaluated_stands : (site : Site) (ms : List Module) (m : SiteModule) (o : Result Ran RequestReason)
     → ArePlainModules site ms → IsOfSite site m → EvaluatesTo site m o → Stands site ms m
-evaluated_stands exact site ms m (Ok ran) all of_site h = accepted_stands exact site ms m ran all of_site h
-evaluated_stands exact site ms m (Err reason) all of_site h = (Refused reason, h)
+evaluated_stands site ms m (Ok ran) all of_site h = accepted_stands site ms m ran all of_site h
+evaluated_stands site ms m (Err reason) all of_site h = (Refused reason, h)
 
-pub each_stands : files.SomeOutcome → CertifiedAreExact → EachStands
-each_stands runs exact site ms m all of_site = let o = some_outcome runs site m in evaluated_stands exact site ms m o.0 all of_site o.1
+pub each_stands : files.SomeOutcome → EachStands
+each_stands runs site ms m all of_site = let o = some_outcome runs site m in evaluated_stands site ms m o.0 all of_site o.1

@@ -41,7 +41,7 @@ pub names_listed : NamesListed
 names_listed site dir listing_entries l =
     record {
       order = l.order;
-      exact = λ name. ((λ a. (l.names name).0 (test_of_among name (names_of listing_entries) a)), (λ b. among_by_test name (names_of listing_entries) ((l.names name).1 b)));
+      exact = λ name. ((λ a. ((l.names name).0 (test_of_among name (names_of listing_entries) a)).0), (λ b. among_by_test name (names_of listing_entries) ((l.names name).1 (b, refl))));
     }
 
 -- a closed list has all directories of the site

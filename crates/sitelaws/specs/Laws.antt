@@ -1,13 +1,14 @@
--- The laws of sites (own): loads are admitted, plain modules have one list of records, and sessions of certified
--- modules return to their start.
-use Rattle.std.specs.Prelude.{◌≡◌, ◌↔◌, List, [], ◌∷◌, ◌++◌, filter_map, Ok}
+-- The laws of sites (own): loads are admitted, plain modules have one list of records, sessions of certified modules
+-- return to their start, and changes by hand keep its agreement with what a module uses.
+use Rattle.std.specs.Prelude.{◌≡◌, ◌↔◌, ℕ, List, [], ◌∷◌, ◌++◌, filter_map, Some, Ok}
 use Rattle.envvars.specs.Texts.{Text}
 use Rattle.envvars.specs.Environment.{Environment}
+use Rattle.envloaded.specs.Loaded.{AreLoadedInOrder}
 use Rattle.shelltext.specs.declared.shell.Shell.{Shell}
 use Rattle.modulefile.specs.Records.{Record}
 use Rattle.modulefile.specs.Moves.{Module, Move, Loads, Unloads}
 use Rattle.modulefile.specs.Files.{Ran}
-use Rattle.reversal.specs.Starts.{IsInOrder, IsStartWith}
+use Rattle.reversal.specs.VariableUses.{VariableUse, Pathed}
 use Rattle.reversal.specs.Runs.{live_after}
 use Rattle.reversal.specs.Laws.{Holds}
 use Rattle.lookup.specs.DefaultFileResults.{HasResult}
@@ -17,12 +18,13 @@ use Rattle.requests.specs.Steps.{RequestContext, Done, RequestStep}
 use Rattle.requests.specs.Sessions.{Response, Session, in_shell, end_environment, session_moves}
 use Rattle.requests.specs.Returning.{AreNew}
 use Rattle.requests.specs.PlainRuns.{HasEvaluatedTo}
-use Rattle.sitecertificate.specs.RecordUses.{UsedVariable, IsAmong, uses_by}
-use Rattle.sitecertificate.specs.Certificates.{IsCertified, certified, certificate, AgreesWith}
-use Rattle.sitecertificate.specs.Laws.{AreCertifiedTogether}
-use Rattle.sitelaws.specs.Sites.{Site, SiteModule, over_site, HasPlainRecords, IsDirectory, IsOfSite, with_records}
+use Rattle.handchanges.specs.HandChanges.{HandChange, MayChange, IsHandChange, start_after}
+use Rattle.sitecertificate.specs.RecordUses.{used_by, IsAmong, Uses, uses_by}
+use Rattle.sitecertificate.specs.Certificates.{IsCertified, certified, AgreesWith}
+use Rattle.sitecertificate.specs.Laws.{AreLayered}
+use Rattle.sitelaws.specs.Sites.{Site, SiteModule, over_site, HasPlainRecords, IsDirectory, IsOfSite, file_of}
 use Rattle.sitelaws.specs.Sites.{ArePlainModules, IsClosed, AreDirectories, AreNamesBelow, AreModulesIn, Evaluated}
-use Rattle.sitelaws.specs.Sites.{plain_of, AreEvaluated}
+use Rattle.sitelaws.specs.Sites.{plain_of, with_records, AreEvaluated}
 use Rattle.sitelaws.specs.Standings.{Standing, Certified, standing_word, HasStanding}
 use Rattle.sitelaws.specs.Admitted.{AdmittedMovesReach}
 
@@ -42,7 +44,7 @@ SessionsAreAdmitted =
 abbrev pub NamesListed : Type 0
 NamesListed =
     (site : Site) (dir : Text) (entries : List ListingEntry)
-    → IsListing (HasResult site.limits) site.files site.listings dir entries → AreNamesBelow site dir (names_of entries)
+    → IsListing (HasResult site.limits) site.files site.listings [] dir entries → AreNamesBelow site dir (names_of entries)
 
 -- A closed list of directories of the site has all of them.
 abbrev pub DirectoriesFound : Type 0
@@ -90,52 +92,62 @@ OneStanding =
     → HasStanding site ms m t
     → standing_word s ≡ standing_word t
 
--- one of the modules has this name and this file
-abbrev pub IsOneOf : List Module → Text → Text → Type 0
-IsOneOf ms name path = (m : Module) × IsAmong m ms × (m.name ≡ name) × (m.path ≡ path)
+-- One of the modules has this name and this file, and the start agrees with what it uses.
+abbrev pub IsOneOf : List Module → Environment → Text → Text → Type 0
+IsOneOf ms start name path =
+    (m : Module) × IsAmong m ms × (m.name ≡ name) × (m.path ≡ path) × AgreesWith (used_by m.records) start
 
--- Each load is of one of the modules, by its name and its file. Nothing is asked of its records.
-abbrev pub LoadsAreOf : List Module → List Move → Type 0
-LoadsAreOf ms [] = Unit {0}
-LoadsAreOf ms (Loads m ∷ moves) = IsOneOf ms m.name m.path × LoadsAreOf ms moves
-LoadsAreOf ms (Unloads m ∷ moves) = LoadsAreOf ms moves
+-- Each load is of one of the modules, by its name and its file, with whose uses the start agrees. Nothing is asked of
+-- the records of the load.
+abbrev pub LoadsAreOf : List Module → Environment → List Move → Type 0
+LoadsAreOf ms start [] = Unit {0}
+LoadsAreOf ms start (Loads m ∷ moves) = IsOneOf ms start m.name m.path × LoadsAreOf ms start moves
+LoadsAreOf ms start (Unloads m ∷ moves) = LoadsAreOf ms start moves
 
--- What a certificate promises of a site, for these modules and these uses of variables. A start agrees with the uses.
--- In a session over the files, the directories and the limits of the site, in whatever shells, each accepted load is of
--- one of the modules, and no module that is loaded at the start is unloaded. Then each environment of the session is in
--- order and is the start with the live modules layered on it; with none it is the start.
-abbrev pub CertificateHolds : Site → List Module → List UsedVariable → Type 0
-CertificateHolds site certain uses =
+-- What a certificate promises of a site, for these modules. In a session over the files, the directories and the limits
+-- of the site, in whatever shells, from a start whose loaded list is in order, each accepted load is of one of the
+-- modules with whose uses the start agrees, and no module that is loaded at the start is unloaded. Then each
+-- environment of the session is in order and is the start with the live modules layered on it; with none it is the
+-- start.
+abbrev pub CertificateHolds : Site → List Module → Type 0
+CertificateHolds site certain =
     (start : Environment) (rs : List Request) (before after : List Response)
-    → AgreesWith uses start → Session (over_site site) start rs (before ++ after)
-    → AreNew start (session_moves (before ++ after)) → LoadsAreOf certain (session_moves (before ++ after))
+    → AreLoadedInOrder start → Session (over_site site) start rs (before ++ after)
+    → AreNew start (session_moves (before ++ after)) → LoadsAreOf certain start (session_moves (before ++ after))
     → Holds (uses_by (live_after [] (session_moves before))) start (live_after [] (session_moves before))
     (end_environment start before)
 
--- The theorem of sites: so it is for the certified modules among the plain ones of a site, and their certificate.
--- Nothing is asked of the records of loads and unloads, of their kinds, or of how the modules go together.
+-- The theorem of sites: so it is for the certified modules among the plain ones of a site. Nothing is asked of the
+-- records of loads and unloads, of their kinds, or of how the modules go together, and nothing of what modules use that
+-- the session doesn't load.
 abbrev pub SiteSessionsReturn : Type 0
-SiteSessionsReturn =
-    (site : Site) (ms : List Module) → ArePlainModules site ms → CertificateHolds site (certified ms) (certificate ms)
+SiteSessionsReturn = (site : Site) (ms : List Module) → ArePlainModules site ms → CertificateHolds site (certified ms)
 
--- The same for any modules that are certified, and any uses among which are those of the certificate: in whatever order
--- an audit has them.
+-- The same for any modules that are certified: in whatever order an audit has them.
 abbrev pub AuditsHold : Type 0
 AuditsHold =
-    (site : Site) (ms certain : List Module) (uses : List UsedVariable) → ArePlainModules site ms
-    → ((m : Module) → IsAmong m certain → IsCertified ms m)
-    → ((p : UsedVariable) → IsAmong p (certificate ms) → IsAmong p uses) → CertificateHolds site certain uses
+    (site : Site) (ms certain : List Module) → ArePlainModules site ms
+    → ((m : Module) → IsAmong m certain → IsCertified ms m) → CertificateHolds site certain
 
 -- One command, in whatever shell, which knows no history: it begins in an environment in order that is such a start
 -- with certified modules layered on it.
 abbrev pub SiteCommandsReturn : Type 0
 SiteCommandsReturn =
     (site : Site) (ms : List Module) (shell : Shell) (start e : Environment) (live : List Module)
-    (action : RequestedAction)
-    (d : Done)
-    → ArePlainModules site ms → AgreesWith (certificate ms) start → AreCertifiedTogether ms live
-    → IsInOrder (uses_by live) e → IsStartWith (uses_by live) start live e
+    (action : RequestedAction) (d : Done)
+    → ArePlainModules site ms → AreLayered ms start live e
     → RequestStep (in_shell (over_site site) shell) e action (Ok d) → AreNew start d.moves
-    → LoadsAreOf (certified ms) d.moves
-    → Holds (uses_by (live_after live d.moves)) start (live_after live d.moves) d.env
-    × AreCertifiedTogether ms (live_after live d.moves)
+    → LoadsAreOf (certified ms) start d.moves
+    → AreLayered ms start (live_after live d.moves) d.env × (live_after live d.moves ≡ [] → d.env ≡ start)
+
+-- A change by hand keeps the agreement of the start with what a plain module uses, so that the module may be loaded
+-- after the change if it might before: each way in which the module uses the changed variable allows the change, and it
+-- parts a path as live modules do. So a change of a variable that the module doesn't use keeps it.
+abbrev pub ChangesAgree : Type 0
+ChangesAgree =
+    (site : Site) (ms live : List Module) (start e : Environment) (m : Module) (c : HandChange)
+    → HasPlainRecords site (file_of m) m.records → AgreesWith (used_by m.records) start → AreLayered ms start live e
+    → IsHandChange (uses_by live) live e c
+    → ((x : VariableUse) → Uses m.records c.variable x → MayChange (Some x) live e c)
+    → ((d g : ℕ) → uses_by live c.variable ≡ Pathed d → Uses m.records c.variable (Pathed g) → g ≡ d)
+    → AgreesWith (used_by m.records) (start_after (uses_by live) live start e c)

@@ -9,8 +9,8 @@ use Rattle.reversal.specs.VariableUses.{VariableUse, Pathed, is_reversible}
 use Rattle.requests.specs.Reasons.{RequestReason}
 use Rattle.requests.specs.Verdicts.{asked, one_way, verdict_of}
 use Rattle.sitecertificate.specs.RecordUses.{IsAmong, used_by, same_use, modulepath, IsInStep}
-use Rattle.sitecertificate.specs.Clashes.{Clash}
-use Rattle.sitecertificate.specs.Certificates.{is_other, IsCertified}
+use Rattle.sitecertificate.specs.Clashes.{is_other, Clash}
+use Rattle.sitecertificate.specs.Certificates.{IsCertified}
 use Rattle.sitelaws.specs.Sites.{Site, SiteModule, EvaluatesTo, HasPlainRecords, with_records}
 
 pub data Standing : Type 0 where
@@ -23,7 +23,7 @@ pub data Standing : Type 0 where
   -- it is plain, and uses the variable in these two ways; or the variable is MODULEPATH, and the second way is that of
   -- a path with colons
   OutOfStep : (variable : Text) (one other : VariableUse) → Standing
-  -- it is plain and in step, and clashes with another such module in the variable, by its own use and that of the other
+  -- it is plain and in step, and clashes with a certified module in the variable, by its own use and that of the other
   Clashes : (variable : Text) (own theirs : VariableUse) (other : Module) → Standing
   -- its evaluation is refused
   Refused : RequestReason → Standing
@@ -47,11 +47,10 @@ pub record IsUsedTwice (rs : List Record) (v : Text) (x y : VariableUse) : Type 
   pub second : IsAmong (v, y) ((modulepath, Pathed colon) ∷ used_by rs)
   pub differ : same_use x y ≡ false
 
--- The module clashes in the variable with another of these plain modules, where both are in step.
+-- The module, which is in step, clashes in the variable with a certified one of these plain modules.
 pub record ClashesWith (ms : List Module) (m : Module) (v : Text) (x y : VariableUse) (other : Module) : Type 0 where
   pub in_step : IsInStep m
-  pub listed : IsAmong other ms
-  pub other_in_step : IsInStep other
+  pub certain : IsCertified ms other
   pub another : is_other m other ≡ true
   pub clash : Clash m other v x y
 

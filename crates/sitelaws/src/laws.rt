@@ -2,6 +2,7 @@
 ghost use Rattle.sitelaws.specs.Laws.{StepsAreAdmitted, SessionsAreAdmitted, NamesListed, DirectoriesFound};
 ghost use Rattle.sitelaws.specs.Laws.{ModulesFound, PlainModulesFound, PlainRecordsAreAll, EachStands, OneStanding};
 ghost use Rattle.sitelaws.specs.Laws.{CertifiedStand, SiteSessionsReturn, AuditsHold, SiteCommandsReturn};
+ghost use Rattle.sitelaws.specs.Laws.{ChangesAgree};
 
 /// Nothing that was loaded at the moment of an accepted load forbade it: neither a conflict that the loaded list records,
 /// nor a conflict of the module itself, nor a prereq. So it is for requests, and for sessions.
@@ -28,8 +29,8 @@ pub fn plain_records()
     modulefile::plain();
 }
 
-/// Each module of a site stands in one of the six ways, and in no other. It stands as certified exactly where it is one of the certified modules among the
-/// plain ones of the site.
+/// Each module of a site stands in one of the six ways, and in no other. It stands as certified exactly where it is one
+/// of the certified modules among the plain ones of the site.
 pub fn standings()
     ensures each { EachStands }
     ensures one { OneStanding }
@@ -39,11 +40,11 @@ pub fn standings()
     sitecertificate::laws::certified();
 }
 
-/// From a start that agrees with the certificate of a site, in a session over that site whose accepted loads are of
-/// certified modules, and which unloads none that is loaded at the start: each environment is in order, and is the start
-/// with the live modules layered on it; where none is live it is the start, and the maps are equal. There is no premise
-/// about records: conflicts that are judged at each load keep apart what excludes each other. So it is for any modules
-/// that are certified, and any uses among which are those of the certificate.
+/// From a start whose loaded list is in order, in a session over a site whose accepted loads are of certified modules
+/// with whose uses the start agrees, and which unloads none that is loaded at the start: each environment is in order,
+/// and is the start with the live modules layered on it; where none is live it is the start, and the maps are equal.
+/// There is no premise about records: conflicts that are judged at each load keep apart what excludes each other. And of
+/// what modules use that the session doesn't load nothing is asked. So it is for any modules that are certified.
 pub fn sessions_return()
     ensures certificate { SiteSessionsReturn }
     ensures audits { AuditsHold }
@@ -53,7 +54,6 @@ pub fn sessions_return()
     requests::sessions();
     sitecertificate::laws::certified();
     sitecertificate::laws::conflicts();
-    sitecertificate::laws::runs();
     sitecertificate::laws::steps();
 }
 
@@ -67,4 +67,13 @@ pub fn command_returns()
     sitecertificate::laws::certified();
     sitecertificate::laws::conflicts();
     sitecertificate::laws::steps();
+}
+
+/// A change by hand keeps the agreement of the start with what a plain module uses, where each way in which the module
+/// uses the variable allows the change, and it parts a path as live modules do.
+pub fn changes_agree()
+    ensures { ChangesAgree }
+{
+    handchanges::laws::one_change();
+    modulefile::files();
 }

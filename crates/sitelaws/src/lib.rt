@@ -2,6 +2,6 @@
 //! Takes memory for the set of directories that a walk has found, and touches nothing: the rest is definitions and laws.
 #![tactic(auto)]
 
-pub mod directories;
+pub mod directory_set;
 pub mod laws;
 pub mod rows;

@@ -1,7 +1,7 @@
 -- What is said of a module in the report of an audit (own): how it stands in one word, and why; and how texts are
 -- spelled in a line.
 use Rattle.std.specs.Prelude.{ℕ, ◌/◌, ◌%◌, ◌==◌, ◌||◌, nat_lt, Bool, true, not, if◌then◌else◌, List, [], ◌∷◌, ◌++◌}
-use Rattle.std.specs.Prelude.{codes, count_by, flat_map, Some, None, string_bytes}
+use Rattle.std.specs.Prelude.{codes, count_by, decimal, flat_map, Some, None, string_bytes}
 use Rattle.std.specs.Char.{digit_char}
 use Rattle.envvars.specs.Texts.{Text}
 use Rattle.tcllist.specs.Lists.{list_text}
@@ -72,11 +72,12 @@ record_words r = list_text (shown_words (record_view r))
 abbrev pub two_uses : Text → VariableUse → VariableUse → Text
 two_uses variable one other = variable ++ (codes ": " ++ (use_words one ++ (codes ", and " ++ use_words other)))
 
--- the variable of a clash, the module's own use of it, the other's, and the other
+-- the variable of a clash, the module's own use of it, the other's, the other, and how many use it as that does
 abbrev pub clash_words : Clash → Text
 clash_words c =
     string_bytes c.variable ++ (codes ": " ++ (use_words c.own ++ (codes " here, " ++ (use_words c.theirs
-    ++ (codes " in " ++ (string_bytes c.other_name ++ (codes " (" ++ (string_bytes c.other_path ++ codes ")"))))))))
+    ++ (codes " in " ++ (string_bytes c.other_name ++ (codes " (" ++ (string_bytes c.other_path
+    ++ (codes "); used so by " ++ decimal c.alike)))))))))
 
 -- Why a module stands so: of one that asks its first question, of one that is one way the record, of a refused one the
 -- refusal.

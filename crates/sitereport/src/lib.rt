@@ -1,4 +1,4 @@
-//! The report of an audit: a line for each module of a site, and remarks; or the same as one JSON document (RFC 8259).
+//! The report of an audit: lines on the modules of a site, and remarks; or a JSON document (RFC 8259), which has more.
 //! Takes memory and touches nothing else.
 #![tactic(auto)]
 

@@ -61,7 +61,7 @@ fn two_uses(
     format!(in alloc; "{variable}: {one}, and {other}")
 }
 
-/// The variable of a clash, the module's own use of it, the other's, and the other.
+/// The variable of a clash, the module's own use of it, the other's, the other, and how many use it as that does.
 fn clash_words(alloc: Global, clash: &Clash) -> Result<String, AllocError>
     ensures { IfOk result (λ words. string_bytes words ≡ spec.clash_words clash.now) }
 {
@@ -70,7 +70,8 @@ fn clash_words(alloc: Global, clash: &Clash) -> Result<String, AllocError>
     let theirs = use_words(alloc, &clash.theirs)?;
     let name = &clash.other_name;
     let path = &clash.other_path;
-    format!(in alloc; "{variable}: {own} here, {theirs} in {name} ({path})")
+    let alike = clash.alike;
+    format!(in alloc; "{variable}: {own} here, {theirs} in {name} ({path}); used so by {alike}")
 }
 
 /// Why a module stands so. For a certified one it is empty, and for one that asks where there was no memory for its

@@ -3,7 +3,7 @@ use Rattle.std.proofs.lemmas.Result.{err_from_is_err_and}
 use Rattle.filetree.specs.Agreement.{InEachPair}
 use Rattle.filetree.proofs.FailedPaths.{fails_then}
 use Rattle.modules.specs.Answers as steps
-use Rattle.siteaudit.specs.LookedAtWalk.{WalkLooksAt}
+use Rattle.siteaudit.specs.WalkLooked.{WalkLooksAt}
 use Rattle.sitelaws.specs.Sites.{site_of}
 use Rattle.siteaudit.specs.Folders.{EvaluatedLookAt}
 use Rattle.siteaudit.specs.Looked.{AuditLooksAt, is_failure}

@@ -5,7 +5,6 @@ pub returns : goal.returns
 returns c =
     audited.parts_are_audits (record {
       one = c.files.ensures.one;
-      exact = c.certified.ensures;
       modules = c.walks.ensures.modules;
       plain = c.walks.ensures.plain;
       audits = c.sessions_return.ensures.audits;

@@ -9,7 +9,7 @@ use Rattle.modules.specs.Answers.{is_failure}
 use Rattle.sitelaws.specs.Sites.{site_of, AreNamesBelow, module_below}
 use Rattle.siteaudit.specs.declared.walk.Evaluation.{Evaluation}
 use Rattle.siteaudit.specs.WalkParts.{AreEvaluationsOf}
-use Rattle.siteaudit.specs.LookedAtWalk.{DirectoryLooksAt}
+use Rattle.siteaudit.specs.WalkLooked.{DirectoryLooksAt}
 use Rattle.siteaudit.proofs.FailureLemmas.{of_its_directory}
 use Rattle.siteaudit.proofs.WalkLemmas.{none_evaluated, next_evaluated}
 use Rattle.siteaudit.proofs.below.evaluate_below.Goals as goal

@@ -10,7 +10,7 @@ use Rattle.filetree.proofs.FailedPaths.{fails_then}
 use Rattle.modules.specs.Answers.{is_failure, refused_read}
 use Rattle.modules.proofs.FailureLemmas.{read_failure}
 use Rattle.sitelaws.specs.Sites.{site_of, AreNamesBelow}
-use Rattle.siteaudit.specs.LookedAtWalk.{DirectoryLooksAt}
+use Rattle.siteaudit.specs.WalkLooked.{DirectoryLooksAt}
 use Rattle.siteaudit.proofs.FailureLemmas.{of_one_directory}
 use Rattle.siteaudit.proofs.ListingLemmas.{names_seen, last_listing}
 use Rattle.siteaudit.proofs.below.modules_below.Goals as goal
@@ -33,6 +33,6 @@ returns-in_err-listings-clause-failed g c =
     let agrees = g.T.Tree.agrees c.available.new.tree in
     let p = err_from_is_err_and c.from_residual.result c.from_residual.ensures.1 in
     rw (p.1, p.2) (fails_then (is_device fault) (is_failure (refused_read fault)) (g.T.Tree.failed c.args.tree.now) (g.T.Tree.failed c.args.tree.now) (g.T.Tree.failed c.available.new.tree)
-    (λ at. InEachPair agrees (λ files listings. ListingLooksAt (HasResult a.limits) files listings dir at))
+    (λ at. InEachPair agrees (λ files listings. ListingLooksAt (HasResult a.limits) files listings [] dir at))
     (λ at. InEachPair agrees (λ files listings. directories dir ≡ dir ∷ [] → DirectoryLooksAt (site_of a.limits a.env.now files listings) dir at)) refl (read_failure fault)
     (λ at h files listings k alone. of_one_directory (HasResult a.limits) files listings dir at alone (h files listings k)) c.in_err-listings.ensures.failed)

@@ -6,7 +6,7 @@ use Rattle.filetree.specs.Modulefiles.{directories}
 use Rattle.sitelaws.specs.DirectorySets.{with_directories}
 use Rattle.sitelaws.specs.Sites.{site_of}
 use Rattle.siteaudit.specs.declared.walk.Evaluation.{Evaluation}
-use Rattle.siteaudit.specs.LookedAtWalk.{DirectoryLooksAt, WalkLooksAt}
+use Rattle.siteaudit.specs.WalkLooked.{DirectoryLooksAt, WalkLooksAt}
 use Rattle.siteaudit.specs.Walks.{IsWalk, most_directories}
 use Rattle.std.proofs.lemmas.List.{length-map}
 use Rattle.std.proofs.lemmas.Result.{err_from_is_err_and}

@@ -1,5 +1,12 @@
-use Rattle.sitecertificate.proofs.Runs.{moves_preserve}
+use Rattle.sitecertificate.proofs.Moments.{agreeing_begins}
+use Rattle.sitecertificate.proofs.Runs.{moves_preserve, none_is_layered}
 use Rattle.sitecertificate.proofs.laws.steps.Goals as goal
 
-pub returns : goal.returns
-returns c = moves_preserve c.runs.ensures.returned c.steps.ensures
+pub returns-clause-kept : goal.returns-clause-kept
+returns-clause-kept c = moves_preserve c.runs.ensures.returned c.steps.ensures
+
+pub returns-clause-none : goal.returns-clause-none
+returns-clause-none c = none_is_layered c.runs.ensures.returned
+
+pub returns-clause-begins : goal.returns-clause-begins
+returns-clause-begins c = agreeing_begins

@@ -4,7 +4,7 @@ use Rattle.std.proofs.lemmas.Result.{err_from_is_err_and}
 use Rattle.std.specs.declared.alloc.Global.{Global}
 use Rattle.filetree.specs.Agreement.{InEachPair}
 use Rattle.filetree.proofs.FailedPaths.{fails_then}
-use Rattle.sitecommand.specs.Audits.{has_colon}
+use Rattle.sitecommand.specs.Audits.{is_no_element}
 use Rattle.sitecommand.specs.Faults.{is_failure}
 use Rattle.sitecommand.specs.Looked.{DirectoriesLookAt}
 use Rattle.modules.proofs.TreeAnswers.{reads_both}
@@ -44,7 +44,7 @@ returns-in_err-judge_directory-clause-failed g c =
     let agrees = g.T.Tree.agrees c.judge_directory.new.tree in
     let word = string_bytes c.dir-item.result in
     rw (p.1, p.2) (fails_then fails fails (g.T.Tree.failed c.args.tree.now) (g.T.Tree.failed c.loop-dir.tree)
-    (g.T.Tree.failed c.judge_directory.new.tree) (λ at. (at ≡ word) × (has_colon word ≡ false))
+    (g.T.Tree.failed c.judge_directory.new.tree) (λ at. (at ≡ word) × (is_no_element word ≡ false))
     (λ at. InEachPair agrees (λ files listings. DirectoriesLookAt listings (map (λ (s : String Global). string_bytes s) c.args.dirs.now) at)) c.loop-dir.invariant.unfailed refl
     (λ at h. looks_in_turn (g.T.Tree.agrees c.loop-dir.tree) agrees c.args.dirs.now c.loop-dir.dir-index
     c.dir-item.result at c.loop-dir-test.true c.dir-item.is c.in_err-judge_directory.ensures.reads.narrows

@@ -3,4 +3,4 @@ use Rattle.sitelaws.proofs.laws.command_returns.Goals as goal
 
 pub returns : goal.returns
 returns c =
-    site_commands_return c.outcomes.ensures.reach c.certified.ensures c.conflicts.ensures c.steps.ensures c.plain_records.ensures
+    site_commands_return c.outcomes.ensures.reach c.certified.ensures.exact c.conflicts.ensures c.steps.ensures.kept c.plain_records.ensures

@@ -1,0 +1,6 @@
+mod PathChanges
+pub mod OneChange
+pub mod EventLemmas
+pub mod Sessions
+pub mod Exactness
+mod LostChanges

@@ -1,0 +1,5 @@
+pub mod HandChanges
+pub mod Events
+pub mod Laws
+pub mod Exactness
+pub mod Examples

@@ -1,0 +1,14 @@
+use Rattle.std.proofs.Common.{List, [], ◌∷◌, map, ap, ◌∙◌, string_bytes}
+use Rattle.envvars.specs.Texts.{Text}
+use Rattle.sitelaws.specs.DirectorySets.{with_directories}
+use Rattle.sitelaws.proofs.DirectorySetLemmas.{pushed}
+use Rattle.siteaudit.specs.Mentions.{known_in}
+use Rattle.siteaudit.proofs.OnceEach.{unknown_added}
+use Rattle.siteaudit.proofs.names.add_unknown.Goals as goal
+
+pub returns-in_ok-insert : goal.returns-in_ok-insert
+returns-in_ok-insert c =
+    let old = map string_bytes c.args.unknown.now.keys in
+    unknown_added (known_in c.args.meaning.now.keys) old (map string_bytes c.insert.new.self.keys) c.args.name.now c.is_meaning.result c.is_meaning.ensures c.if-not-is_meaning.true
+    (pushed c.args.unknown.now.keys c.insert.new.self.keys c.in_ok-from_str.field-0 c.in_ok-insert.ensures.keys
+    ∙ ap (λ (t : Text). with_directories old (t ∷ [])) c.in_ok-from_str.ensures.ok)

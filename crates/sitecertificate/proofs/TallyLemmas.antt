@@ -1,0 +1,307 @@
+-- Counts of users: one more of them, those that go together with one, and those of other modules.
+use Rattle.std.proofs.Common.{arith, ◌≡◌, ℕ, ◌+◌, ◌-◌, ◌<◌, Bool, true, false, cond, not, ◌&&◌, List, [], ◌∷◌, ◌++◌, map, take}
+use Rattle.std.proofs.Common.{length, get_or, Bor, ◌||◌, refl, sym, ap, ◌∙◌, subst, append_assoc, append-nil, Option, Some, None}
+use Rattle.std.specs.Prelude.{bytes_eq}
+use Rattle.std.specs.List.{count_by, sum_by}
+use Rattle.std.specs.Option.{option_map, option_map_or, option_eq}
+use Rattle.std.proofs.lemmas.Bool.{false≢true, and_parts}
+use Rattle.std.proofs.lemmas.List.Sums.{sum_by-cons, sum_by_push}
+use Rattle.indexmap.specs.IndexMap.{IndexMap, get_by, Updates}
+use Rattle.envvars.specs.Texts.{Text}
+use Rattle.envvars.proofs.TextLemmas.{same_text, bytes_eq-symmetric}
+use Rattle.modulefile.specs.Moves.{Module}
+use Rattle.reversal.specs.VariableUses.{VariableUse}
+use Rattle.sitecertificate.specs.RecordUses.{same_use}
+use Rattle.sitecertificate.specs.Clashes.{go_together}
+use Rattle.sitecertificate.specs.declared.uses.UsedVariable as code
+use Rattle.sitecertificate.specs.Users.{ModuleUse, first_part, uses_of_module, uses_of_modules}
+use Rattle.sitecertificate.proofs.TableLemmas.{use_of}
+use Rattle.sitecertificate.proofs.AnswerLemmas.{map_more, uses_more}
+use Rattle.sitecertificate.specs.Ranks.{is_rival, excludes_versions}
+use Rattle.sitecertificate.specs.UseKeys.{key_view}
+use Rattle.sitecertificate.specs.declared.keys.UseKey.{UseKey}
+use Rattle.sitecertificate.specs.declared.tally.Counted.{Counted as CodeCounted}
+use Rattle.sitecertificate.specs.contracts.tally.CountedPartialEq.TheImpl as CountedEq
+use Rattle.sitecertificate.specs.contracts.keys.UseKeyPartialEq.TheImpl as UseKeyEq
+use Rattle.sitecertificate.specs.declared.tally.Tally.{Tally}
+use Rattle.sitecertificate.specs.Tallies.{Counted, is_counted, counted_view, same_views, same_counted, counted_at, HasCounts, CountsMore}
+use Rattle.sitecertificate.specs.Tallies.{CountsOne, is_of_others}
+use Rattle.sitecertificate.proofs.UsedLemmas.{by_test}
+use Rattle.sitecertificate.proofs.Exact.{use_same, use_itself}
+use Rattle.sitecertificate.proofs.Staying.{go_equal}
+use Rattle.sitecertificate.proofs.OnceLemmas.{use_keys_same}
+
+-- ---- counting
+
+pub count_alike : {X : Type 0} (p q : X → Bool) (xs : List X) → ((x : X) → p x ≡ q x) → count_by p xs ≡ count_by q xs
+count_alike p q [] h = refl
+count_alike p q (x ∷ xs) h =
+    sum_by-cons (λ y. cond (p y) 1 0) x xs
+    ∙ ((λ i. cond (h x i) 1 0 + count_alike p q xs h i) ∙ sym (sum_by-cons (λ y. cond (q y) 1 0) x xs))
+
+parted : (a b : Bool) → (let n : ℕ = cond (a && not b) 1 0 in n) + cond (a && b) 1 0 ≡ cond a 1 0
+parted true true = refl
+parted true false = refl
+parted false b = refl
+
+crossed : (a b c d : ℕ) → (a + b) + (c + d) ≡ (a + c) + (b + d)
+crossed a b c d = omega arith
+
+count_parted : {X : Type 0} (p t : X → Bool) (xs : List X) → count_by (λ x. p x && not (t x)) xs + count_by (λ x. p x && t x) xs ≡ count_by p xs
+count_parted p t [] = refl
+count_parted p t (x ∷ xs) =
+    (λ i. sum_by-cons (λ y. cond (p y && not (t y)) 1 0) x xs i + sum_by-cons (λ y. cond (p y && t y) 1 0) x xs i)
+    ∙ (crossed (cond (p x && not (t x)) 1 0) (count_by (λ y. p y && not (t y)) xs) (cond (p x && t x) 1 0) (count_by (λ y. p y && t y) xs)
+    ∙ ((λ i. parted (p x) (t x) i + count_parted p t xs i) ∙ sym (sum_by-cons (λ y. cond (p y) 1 0) x xs)))
+
+less : (a b c : ℕ) → a + b ≡ c → a ≡ c - b
+less a b c h = omega (arith, h)
+
+pub count_without : {X : Type 0} (p t : X → Bool) (xs : List X) → count_by (λ x. p x && not (t x)) xs ≡ count_by p xs - count_by (λ x. p x && t x) xs
+count_without p t xs = less (count_by (λ x. p x && not (t x)) xs) (count_by (λ x. p x && t x) xs) (count_by p xs) (count_parted p t xs)
+
+-- ---- keys
+
+abbrev pub code_eq : CodeCounted → CodeCounted → Bool
+code_eq = CountedEq.eq-value.it
+
+uses_seen : (a b : Option UseKey) → option_eq UseKeyEq.eq-value.it a b ≡ option_eq same_use (option_map key_view a) (option_map key_view b)
+uses_seen None None = refl
+uses_seen None (Some y) = refl
+uses_seen (Some x) None = refl
+uses_seen (Some x) (Some y) = use_keys_same x y
+
+roots_seen : (a b : Option (Bor Text)) → option_eq (λ x y. bytes_eq x.now y.now) a b ≡ option_eq bytes_eq (option_map (λ r. r.now) a) (option_map (λ r. r.now) b)
+roots_seen None None = refl
+roots_seen None (Some y) = refl
+roots_seen (Some x) None = refl
+roots_seen (Some x) (Some y) = refl
+
+code_same : (c d : CodeCounted) → code_eq c d ≡ same_counted c d
+code_same c d = λ i. bytes_eq c.variable.now d.variable.now && (uses_seen c.used d.used i && roots_seen c.root d.root i)
+
+option_is : {X : Type 0} (eq : X → X → Bool) → ((x y : X) → eq x y ≡ true → x ≡ y) → (a b : Option X) → option_eq eq a b ≡ true → a ≡ b
+option_is eq h None None t = refl
+option_is eq h None (Some y) t = absurd (false≢true t)
+option_is eq h (Some x) None t = absurd (false≢true t)
+option_is eq h (Some x) (Some y) t = ap Some (h x y t)
+
+views_same : (c d : Counted) → same_views c d ≡ true → c ≡ d
+views_same c d h =
+    let p = and_parts (bytes_eq c.variable d.variable) (option_eq same_use c.used d.used && option_eq bytes_eq c.root d.root) h in
+    let q = and_parts (option_eq same_use c.used d.used) (option_eq bytes_eq c.root d.root) p.1 in
+    let v = same_text c.variable d.variable p.0 in
+    let u = option_is same_use use_same c.used d.used q.0 in
+    let r = option_is bytes_eq same_text c.root d.root q.1 in
+    λ i. record { variable = v i; used = u i; root = r i }
+
+-- ---- one more of a kind
+
+abbrev Counts : Type 0 → Type 0
+Counts S = IndexMap CodeCounted ℕ S
+
+abbrev count_of : Option ℕ → ℕ
+count_of o = option_map_or (λ n. n) o 0
+
+abbrev at : {S : Type 0} → Counts S → CodeCounted → ℕ
+at m c = count_of (get_by (same_counted c) m)
+
+pub found_at : {S : Type 0} (m : Counts S) (c : CodeCounted) → get_by (code_eq c) m ≡ get_by (same_counted c) m
+found_at m c = ap (λ (t : CodeCounted → Bool). get_by t m) (λ i d. code_same c d i)
+
+same_at : {S : Type 0} (m : Counts S) (k c : CodeCounted) → same_counted k c ≡ true → at m k ≡ at m c
+same_at m k c h = ap (λ (v : Counted). count_of (get_by (λ d. same_views v (counted_view d)) m)) (views_same (counted_view k) (counted_view c) h)
+
+none_more : (n : ℕ) → n ≡ n + 0
+none_more n = omega arith
+
+pub one_counted : {S : Type 0} (m n : Counts S) (k : CodeCounted) (w : ℕ) → Updates code_eq m n k (Some w) → w ≡ at m k + 1 → (c : CodeCounted) → at n c ≡ at m c + cond (same_counted k c) 1 0
+one_counted m n k w h e c = by_test (same_counted k c) _
+    (λ t. here ∙ (ap (λ (b : Bool). count_of (cond b (Some w) (get_by (code_eq c) m))) (code_same k c ∙ t)
+    ∙ (e ∙ (ap (λ x. x + 1) (same_at m k c t) ∙ ap (λ (b : Bool). at m c + cond b 1 0) (sym t)))))
+    (λ f. here ∙ (ap (λ (b : Bool). count_of (cond b (Some w) (get_by (code_eq c) m))) (code_same k c ∙ f)
+    ∙ (ap count_of (found_at m c) ∙ (none_more (at m c) ∙ ap (λ (b : Bool). at m c + cond b 1 0) (sym f)))))
+  where
+    here : at n c ≡ count_of (cond (code_eq k c) (Some w) (get_by (code_eq c) m))
+    here = ap count_of (sym (found_at n c) ∙ h.0 c)
+
+-- ---- one more user
+
+use_turned : (x y : VariableUse) → same_use x y ≡ same_use y x
+use_turned x y = by_test (same_use x y) _
+    (λ t. let e : x ≡ y = use_same x y t in λ i. same_use (e i) (sym e i))
+    (λ f. by_test (same_use y x) _
+    (λ t. let e : y ≡ x = use_same y x t in λ i. same_use (sym e i) (e i)) (λ g. f ∙ sym g))
+
+abbrev bit : Bool → ℕ
+bit b = cond b 1 0
+
+four : (b n s m t : Bool) → (n && s) ≡ false → (m && t) ≡ false
+    → bit (b && (n && m)) + bit (b && (n && t)) + bit (b && (s && m)) + bit (b && (s && t)) ≡ bit (b && ((n || s) && (m || t)))
+four false n s m t h k = refl
+four true true true m t h k = absurd (false≢true (sym h))
+four true n s true true h k = absurd (false≢true (sym k))
+four true true false true false h k = refl
+four true true false false true h k = refl
+four true true false false false h k = refl
+four true false true true false h k = refl
+four true false true false true h k = refl
+four true false true false false h k = refl
+four true false false true false h k = refl
+four true false false false true h k = refl
+four true false false false false h k = refl
+
+parts : {X : Type 0} (eq : X → X → Bool) → ((x y : X) → eq x y ≡ eq y x) → (y : X) (o : Option X)
+    → ((option_eq eq None o && option_eq eq (Some y) o) ≡ false) × ((option_eq eq None o || option_eq eq (Some y) o) ≡ option_map_or (λ x. eq x y) o true)
+parts eq h y None = (refl, refl)
+parts eq h y (Some x) = (refl, h y x)
+
+abbrev key_at : ModuleUse → Option VariableUse → Option Text → Counted
+key_at u used root = record { variable = u.used.0; used = used; root = root }
+
+four_keys : (u : ModuleUse) (c : Counted)
+    → bit (same_views (key_at u None None) c) + bit (same_views (key_at u None (Some (first_part u.owner.name))) c)
+    + bit (same_views (key_at u (Some u.used.1) None) c) + bit (same_views (key_at u (Some u.used.1) (Some (first_part u.owner.name))) c) ≡ bit (is_counted c u)
+four_keys u c =
+    let p = parts same_use use_turned u.used.1 c.used in
+    let q = parts bytes_eq bytes_eq-symmetric (first_part u.owner.name) c.root in
+    four (bytes_eq u.used.0 c.variable) (option_eq same_use None c.used) (option_eq same_use (Some u.used.1) c.used)
+    (option_eq bytes_eq None c.root) (option_eq bytes_eq (Some (first_part u.owner.name)) c.root) p.0 q.0
+    ∙ (λ i. bit (bytes_eq-symmetric u.used.0 c.variable i && (p.1 i && q.1 i)))
+
+in_one : (n a b c d : ℕ) → (((n + a) + b) + c) + d ≡ n + (a + b + c + d)
+in_one n a b c d = omega arith
+
+-- a tally with one more of each of these four has one more user
+pub four_counted : (a b c d e : Tally) (k l m n : CodeCounted) (u : ModuleUse) → CountsOne a b k → CountsOne b c l → CountsOne c d m → CountsOne d e n
+    → counted_view k ≡ key_at u None None → counted_view l ≡ key_at u None (Some (first_part u.owner.name))
+    → counted_view m ≡ key_at u (Some u.used.1) None → counted_view n ≡ key_at u (Some u.used.1) (Some (first_part u.owner.name))
+    → CountsMore a e (u ∷ [])
+four_counted a b c d e k l m n u h i j o ke le me ne users have key =
+    let view = counted_view key in
+    let first : bit (same_counted k key) ≡ bit (same_views (key_at u None None) view) = ap (λ (v : Counted). bit (same_views v view)) ke in
+    let second : bit (same_counted l key) ≡ bit (same_views (key_at u None (Some (first_part u.owner.name))) view) = ap (λ (v : Counted). bit (same_views v view)) le in
+    let third : bit (same_counted m key) ≡ bit (same_views (key_at u (Some u.used.1) None) view) = ap (λ (v : Counted). bit (same_views v view)) me in
+    let fourth : bit (same_counted n key) ≡ bit (same_views (key_at u (Some u.used.1) (Some (first_part u.owner.name))) view) = ap (λ (v : Counted). bit (same_views v view)) ne in
+    let before : ℕ = count_by (is_counted view) users in
+    o key
+    ∙ (ap (λ x. x + bit (same_counted n key)) (j key ∙ ap (λ x. x + bit (same_counted m key)) (i key ∙ ap (λ x. x + bit (same_counted l key)) (h key ∙ ap (λ x. x + bit (same_counted k key)) (have key))))
+    ∙ (in_one before (bit (same_counted k key)) (bit (same_counted l key)) (bit (same_counted m key)) (bit (same_counted n key))
+    ∙ (ap (λ x. before + x) ((λ z. first z + second z + third z + fourth z) ∙ four_keys u view)
+    ∙ sym (sum_by_push (λ (x : ModuleUse). cond (is_counted view x) 1 0) users u))))
+
+pub more_counted : (a b c : Tally) (xs ys : List ModuleUse) → CountsMore a b xs → CountsMore b c ys → CountsMore a c (xs ++ ys)
+more_counted a b c xs ys h k users have = subst (HasCounts c) (append_assoc users xs ys) (k (users ++ xs) (h users have))
+
+pub none_counted : (a : Tally) → CountsMore a a []
+none_counted a users have = subst (HasCounts a) (sym (append-nil users)) have
+
+-- ---- users of others, and rivals
+
+and_true : (a b : Bool) → (a && (b && true)) ≡ (a && b)
+and_true true true = refl
+and_true true false = refl
+and_true false b = refl
+
+and_turned : (a b r : Bool) → (a && (b && true)) && r ≡ (a && (b && r))
+and_turned true true r = refl
+and_turned true false r = refl
+and_turned false b r = refl
+
+no_others : (b : Bool) → b ≡ (b && not false)
+no_others true = refl
+no_others false = refl
+
+-- nobody is left out
+pub others_all : (x : ModuleUse) (used : Option VariableUse) (us : List ModuleUse) (n : ℕ)
+    → n ≡ count_by (is_counted (record { variable = x.used.0; used = used; root = None })) us → n ≡ count_by (is_of_others x used false) us
+others_all x used us n h = h ∙ count_alike _ _ us (λ y. no_others (is_counted (record { variable = x.used.0; used = used; root = None }) y))
+
+-- those of the same first part are left out
+pub others_without : (x : ModuleUse) (used : Option VariableUse) (us : List ModuleUse) (n m : ℕ)
+    → n ≡ count_by (is_counted (record { variable = x.used.0; used = used; root = None })) us
+    → m ≡ count_by (is_counted (record { variable = x.used.0; used = used; root = Some (first_part x.owner.name) })) us
+    → n - m ≡ count_by (is_of_others x used true) us
+others_without x used us n m h k =
+    let alone = is_counted (record { variable = x.used.0; used = used; root = None }) in
+    let same : ModuleUse → Bool = λ y. bytes_eq (first_part x.owner.name) (first_part y.owner.name) in
+    (λ i. h i - (k ∙ count_alike _ (λ y. alone y && same y) us (λ y. sym (and_turned (bytes_eq x.used.0 y.used.0) (option_map_or (λ z. same_use z y.used.1) used true) (same y)))) i)
+    ∙ sym (count_without alone same us)
+
+go_itself : (x y : VariableUse) → go_together x x ≡ true → go_together x y ≡ same_use x y
+go_itself x y h = by_test (same_use x y) _
+    (λ t. let e : x ≡ y = use_same x y t in ap (go_together x) (sym e) ∙ (h ∙ sym t))
+    (λ f. by_test (go_together x y) _
+    (λ g. absurd (false≢true (sym f ∙ (ap (same_use x) (sym (go_equal x y g)) ∙ use_itself x))))
+    (λ g. g ∙ sym f))
+
+go_alone : (x y : VariableUse) → go_together x x ≡ false → go_together x y ≡ false
+go_alone x y h = by_test (go_together x y) _
+    (λ t. absurd (false≢true (sym h ∙ (ap (go_together x) (go_equal x y t) ∙ t))))
+    (λ f. f)
+
+rival_at : (b g s : Bool) → ((b && (true && true)) && not s) && not g ≡ (b && (not g && not s))
+rival_at true true true = refl
+rival_at true true false = refl
+rival_at true false true = refl
+rival_at true false false = refl
+rival_at false g s = refl
+
+alike_at : (b t s : Bool) → ((b && (t && true)) && not s) ≡ (((b && (true && true)) && not s) && t)
+alike_at true true true = refl
+alike_at true true false = refl
+alike_at true false true = refl
+alike_at true false false = refl
+alike_at false t s = refl
+
+all_rivals : (b g s : Bool) → g ≡ false → ((b && (true && true)) && not s) ≡ (b && (not g && not s))
+all_rivals true g true h = rw h refl
+all_rivals true g false h = rw h refl
+all_rivals false g s h = refl
+
+-- where its use goes together with none
+pub rivals_all : (x : ModuleUse) (us : List ModuleUse) (n : ℕ) → go_together x.used.1 x.used.1 ≡ false
+    → n ≡ count_by (is_of_others x None (excludes_versions x.owner)) us → n ≡ count_by (is_rival x) us
+rivals_all x us n h k = k ∙ count_alike _ _ us (λ y. all_rivals (bytes_eq x.used.0 y.used.0) (go_together x.used.1 y.used.1)
+    (excludes_versions x.owner && bytes_eq (first_part x.owner.name) (first_part y.owner.name)) (go_alone x.used.1 y.used.1 h))
+
+-- where it goes together with the same use
+pub rivals_without : (x : ModuleUse) (us : List ModuleUse) (n m : ℕ) → go_together x.used.1 x.used.1 ≡ true
+    → n ≡ count_by (is_of_others x None (excludes_versions x.owner)) us → m ≡ count_by (is_of_others x (Some x.used.1) (excludes_versions x.owner)) us
+    → n - m ≡ count_by (is_rival x) us
+rivals_without x us n m h k l =
+    let others = is_of_others x None (excludes_versions x.owner) in
+    let same : ModuleUse → Bool = λ y. same_use x.used.1 y.used.1 in
+    let kin : ModuleUse → Bool = λ y. excludes_versions x.owner && bytes_eq (first_part x.owner.name) (first_part y.owner.name) in
+    (λ i. k i - (l ∙ count_alike _ (λ y. others y && same y) us (λ y. alike_at (bytes_eq x.used.0 y.used.0) (same y) (kin y))) i)
+    ∙ (sym (count_without others same us)
+    ∙ count_alike _ _ us (λ y. ap (λ (b : Bool). others y && not b) (sym (go_itself x.used.1 y.used.1 h)) ∙ rival_at (bytes_eq x.used.0 y.used.0) (go_together x.used.1 y.used.1) (kin y)))
+
+-- how many use a variable so
+pub alike_counted : (v : Text) (x : VariableUse) (us : List ModuleUse) (n : ℕ) → n ≡ count_by (is_counted (record { variable = v; used = Some x; root = None })) us
+    → n ≡ count_by (λ u. bytes_eq v u.used.0 && same_use x u.used.1) us
+alike_counted v x us n h = h ∙ count_alike _ _ us (λ u. and_true (bytes_eq v u.used.0) (same_use x u.used.1))
+
+-- ---- as loops want them
+
+pub counted_turn : (old mid new : Tally) (m : Module) (ps : List code.UsedVariable) (i : ℕ) (p : code.UsedVariable) → i < length ps → p ≡ get_or ps i p
+    → CountsMore old mid (map (use_of m) (take i ps)) → CountsMore mid new (use_of m p ∷ []) → CountsMore old new (map (use_of m) (take (i + 1) ps))
+counted_turn old mid new m ps i p l is h k =
+    subst (CountsMore old new) (sym (map_more (use_of m) ps i p l is)) (more_counted old mid new (map (use_of m) (take i ps)) (use_of m p ∷ []) h k)
+
+pub tally_turn : {X : Type 0} (view : X → Module) (old new : Tally) (xs : List X) (i : ℕ) (x : X) → i < length xs → x ≡ get_or xs i x
+    → HasCounts old (uses_of_modules (map view (take i xs))) → CountsMore old new (uses_of_module (view x)) → HasCounts new (uses_of_modules (map view (take (i + 1) xs)))
+tally_turn view old new xs i x l is h k =
+    subst (HasCounts new) (sym (uses_more view xs i x l is)) (k (uses_of_modules (map view (take i xs))) h)
+
+pub sum_turn : (f : ModuleUse → ℕ) (m : Module) (ps : List code.UsedVariable) (i : ℕ) (p : code.UsedVariable) (a b c : ℕ) → i < length ps → p ≡ get_or ps i p
+    → a ≡ sum_by f (map (use_of m) (take i ps)) → b ≡ f (use_of m p) → c ≡ a + b → c ≡ sum_by f (map (use_of m) (take (i + 1) ps))
+sum_turn f m ps i p a b c l is h k e =
+    e ∙ ((λ j. h j + k j) ∙ sym (ap (sum_by f) (map_more (use_of m) ps i p l is) ∙ sum_by_push f (map (use_of m) (take i ps)) (use_of m p)))
+
+-- what the tally says of these users
+pub counted_is : (tally : Tally) (k : CodeCounted) (v : Counted) (us : List ModuleUse) (n : ℕ) → n ≡ counted_at tally k → HasCounts tally us → counted_view k ≡ v → n ≡ count_by (is_counted v) us
+counted_is tally k v us n e have h = e ∙ (have k ∙ ap (λ (x : Counted). count_by (is_counted x) us) h)
+
+pub found_count : {S : Type 0} (m : Counts S) (c : CodeCounted) (n : ℕ) → (let o : Option ℕ = Some n in o) ≡ get_by (code_eq c) m → n ≡ at m c
+found_count m c n e = ap count_of (e ∙ found_at m c)

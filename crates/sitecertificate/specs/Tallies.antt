@@ -1,0 +1,67 @@
+-- Counts of the users of variables, in the code and in the definitions (own).
+use Rattle.std.specs.Prelude.{◌≡◌, ℕ, ◌+◌, Bool, true, not, ◌&&◌, List, ◌++◌, bytes_eq, if◌then◌else◌, Option, None}
+use Rattle.std.specs.List.{count_by}
+use Rattle.std.specs.Option.{option_map, option_map_or, option_eq}
+use Rattle.envvars.specs.Texts.{Text}
+use Rattle.indexmap.specs.IndexMap.{get_by}
+use Rattle.reversal.specs.VariableUses.{VariableUse}
+use Rattle.sitecertificate.specs.RecordUses.{same_use}
+use Rattle.sitecertificate.specs.Users.{ModuleUse, first_part}
+use Rattle.sitecertificate.specs.UseKeys.{key_view}
+use Rattle.sitecertificate.specs.declared.tally.Counted.{Counted as CodeCounted}
+use Rattle.sitecertificate.specs.declared.tally.Tally.{Tally}
+
+-- What is counted: the users of a variable, and of these those alone with one way of using it, or with one first part
+-- of their names.
+pub record Counted : Type 0 where
+  pub variable : Text
+  pub used : Option VariableUse
+  pub root : Option Text
+
+-- the user is one of them
+abbrev pub is_counted : Counted → ModuleUse → Bool
+is_counted c u =
+    bytes_eq c.variable u.used.0
+    && (option_map_or (λ x. same_use x u.used.1) c.used true
+    && option_map_or (λ r. bytes_eq r (first_part u.owner.name)) c.root true)
+
+-- what the code counts
+abbrev pub counted_view : CodeCounted → Counted
+counted_view c =
+    record {
+      variable = c.variable.now;
+      used = option_map key_view c.used;
+      root = option_map (λ r. r.now) c.root;
+    }
+
+-- the same is counted
+abbrev pub same_views : Counted → Counted → Bool
+same_views c d =
+    bytes_eq c.variable d.variable && (option_eq same_use c.used d.used && option_eq bytes_eq c.root d.root)
+
+-- the code counts the same
+abbrev pub same_counted : CodeCounted → CodeCounted → Bool
+same_counted c d = same_views (counted_view c) (counted_view d)
+
+-- how many there are, by a tally
+abbrev pub counted_at : Tally → CodeCounted → ℕ
+counted_at tally c = option_map_or (λ n. n) (get_by (same_counted c) tally.counts) 0
+
+-- the tally has the numbers of these users
+abbrev pub HasCounts : Tally → List ModuleUse → Type 0
+HasCounts tally users = (c : CodeCounted) → counted_at tally c ≡ count_by (is_counted (counted_view c)) users
+
+-- the tally has the numbers of all users of whom another has those, and of these more
+abbrev pub CountsMore : Tally → Tally → List ModuleUse → Type 0
+CountsMore old new more = (users : List ModuleUse) → HasCounts old users → HasCounts new (users ++ more)
+
+-- one more of these
+abbrev pub CountsOne : Tally → Tally → CodeCounted → Type 0
+CountsOne old new k = (c : CodeCounted) → counted_at new c ≡ counted_at old c + (if same_counted k c then 1 else 0)
+
+-- The second uses the variable of the first, in this way where one is given; and where the first part of their names is
+-- excluded, it has another.
+abbrev pub is_of_others : ModuleUse → Option VariableUse → Bool → ModuleUse → Bool
+is_of_others x used excluded y =
+    is_counted (record { variable = x.used.0; used = used; root = None }) y
+    && not (excluded && bytes_eq (first_part x.owner.name) (first_part y.owner.name))

@@ -1,0 +1,174 @@
+//! How many users each variable has, by the ways in which they use it and the first parts of their names.
+ghost use Rattle.std.specs.Prelude.{◌≡◌, ◌+◌, [], ◌∷◌, List, map, IfOk, OnOk};
+ghost use Rattle.std.specs.List.{count_by};
+ghost use Rattle.std.specs.Option.{option_map};
+ghost use Rattle.modulefile.specs.Moves as moves;
+ghost use Rattle.sitecertificate.specs.Users.{ModuleUse, uses_of_module, uses_of_modules};
+ghost use Rattle.sitecertificate.specs.Ranks.{is_rival, rivals, excludes_versions};
+ghost use Rattle.sitecertificate.specs.UserViews.{user_view};
+ghost use Rattle.sitecertificate.specs.UseKeys.{key_view};
+ghost use Rattle.sitecertificate.specs.Tallies.{counted_at, HasCounts, CountsMore, CountsOne, is_of_others};
+ghost use Rattle.sitecertificate.specs.UsingModules.{module_of};
+
+use crate::keys::{UseKey, key_of};
+use crate::module_uses::UsingModule;
+use crate::users::User;
+use crate::uses::go_together;
+use indexmap::IndexMap;
+use std::alloc::{AllocError, Global};
+
+/// What is counted: the users of a variable, and of these those alone with one way of using it, or with one first part
+/// of their names.
+#[derive(Clone, Copy, PartialEq, Eq, Hash)]
+pub(crate) struct Counted<'a> {
+    pub(crate) variable: &'a str,
+    pub(crate) used: Option<UseKey<'a>>,
+    pub(crate) root: Option<&'a str>,
+}
+
+/// The sum. One beyond `usize` would be of more users than memory can hold.
+fn sum_of(one: usize, other: usize) -> Result<usize, AllocError>
+    ensures { IfOk result (λ sum. sum ≡ one + other) }
+{
+    one.checked_add(other).ok_or(AllocError)
+}
+
+/// How many users each variable has.
+#[derive(Drop)]
+pub(crate) struct Tally<'a> {
+    counts: IndexMap<Counted<'a>, usize>,
+}
+
+impl<'a> Tally<'a> {
+    /// The tally of no users.
+    fn new(alloc: Global) -> Tally<'a>
+        ensures { HasCounts result [] }
+    {
+        Tally {
+            counts: IndexMap::new(alloc),
+        }
+    }
+
+    /// How many of these there are.
+    pub(crate) fn count(&self, counted: Counted<'_>) -> usize
+        ensures { result ≡ counted_at self.now counted.entry }
+    {
+        match self.counts.get(&counted) {
+            Some(count) => *count,
+            None => 0,
+        }
+    }
+
+    /// Counts one more of these.
+    fn add(&mut self, counted: Counted<'a>) -> Result<(), AllocError>
+        ensures { OnOk result (CountsOne self.old self.new counted.entry) }
+    {
+        let number = sum_of(self.count(counted), 1)?;
+        self.counts.insert(counted, number)?;
+        Ok(())
+    }
+
+    /// Counts a user.
+    fn enter(&mut self, user: User<'a>) -> Result<(), AllocError>
+        ensures { OnOk result (CountsMore self.old self.new (user_view user.entry ∷ [])) }
+    {
+        let variable = user.variable();
+        let used = Some(key_of(&user.used.used));
+        let root = Some(user.root());
+        self.add(Counted {
+            variable,
+            used: None,
+            root: None,
+        })?;
+        self.add(Counted {
+            variable,
+            used: None,
+            root,
+        })?;
+        self.add(Counted {
+            variable,
+            used,
+            root: None,
+        })?;
+        self.add(Counted {
+            variable,
+            used,
+            root,
+        })?;
+        Ok(())
+    }
+
+    /// Counts what a module uses.
+    fn enter_module(&mut self, candidate: &'a UsingModule<'a>) -> Result<(), AllocError>
+        ensures { OnOk result (CountsMore self.old self.new (uses_of_module (module_of candidate.entry.now))) }
+    {
+        for used in &candidate.used {
+            let owner = candidate.owner;
+            self.enter(User { owner, used })?;
+        }
+        Ok(())
+    }
+
+    /// The tally of what the modules use.
+    pub(crate) fn of(alloc: Global, users: &'a [UsingModule<'a>]) -> Result<Tally<'a>, AllocError>
+        ensures { IfOk result (λ tally. HasCounts tally (uses_of_modules (map module_of users.entry.now))) }
+    {
+        let mut tally = Tally::new(alloc);
+        for candidate in users {
+            tally.enter_module(candidate)?;
+        }
+        Ok(tally)
+    }
+
+    /// How many use the variable of this user, in the way that is given, if one is; where the first part of its name is
+    /// excluded, only those of whom it isn't the first part.
+    fn others<'u>(&self, user: User<'u>, used: Option<UseKey<'u>>, is_excluded: bool) -> usize
+        ensures { (us : List ModuleUse) → HasCounts self.now us → result
+            ≡ count_by (is_of_others (user_view user.entry) (option_map key_view used.entry) is_excluded) us }
+    {
+        let variable = user.variable();
+        let all = self.count(Counted {
+            variable,
+            used,
+            root: None,
+        });
+        if !is_excluded {
+            return all;
+        }
+        let root = Some(user.root());
+        all.saturating_sub(self.count(Counted {
+            variable,
+            used,
+            root,
+        }))
+    }
+
+    /// How many rivals this user has.
+    fn rivals_of(&self, user: User<'_>, is_excluded: bool) -> usize
+        requires { is_excluded ≡ excludes_versions (user_view user).owner }
+        ensures { (us : List ModuleUse) → HasCounts self.now us
+            → result ≡ count_by (is_rival (user_view user.entry)) us }
+    {
+        let used = &user.used.used;
+        let others = self.others(user, None, is_excluded);
+        if !go_together(used, used) {
+            return others;
+        }
+        others.saturating_sub(self.others(user, Some(key_of(used)), is_excluded))
+    }
+
+    /// How many rivals a module has.
+    pub(crate) fn rivals(&self, candidate: &UsingModule<'_>) -> Result<usize, AllocError>
+        ensures { IfOk result (λ number. (ms : List moves.Module) → HasCounts self.now (uses_of_modules ms)
+            → number ≡ rivals ms (module_of candidate.now)) }
+    {
+        let is_excluded = candidate.excludes_versions;
+        let mut number = 0_usize;
+        for used in &candidate.used {
+            let owner = candidate.owner;
+            let rivals = self.rivals_of(User { owner, used }, is_excluded);
+            number = sum_of(number, rivals)?;
+        }
+        Ok(number)
+    }
+}
