@@ -1,0 +1,3 @@
+pub mod ModulePathLemmas
+pub mod WordLemmas
+pub mod ReadAgain

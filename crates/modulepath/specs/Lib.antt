@@ -1,0 +1,6 @@
+pub mod AbsolutePaths
+pub mod ModulePaths
+pub mod Faults
+pub mod Words
+pub mod Edits
+pub mod Laws
