@@ -69,14 +69,26 @@ default:
     set _module_status = $status
     # The whole text is captured first, and evaluated only where the program accepted.
     if ( $_module_status == 0 ) then
+        set _module_loaded = ''
+        if ( $?LOADEDMODULES ) then
+            set _module_loaded = "$LOADEDMODULES"
+        endif
         eval "$_module_text"
+        set _module_now = ''
+        if ( $?LOADEDMODULES ) then
+            set _module_now = "$LOADEDMODULES"
+        endif
+        # What the site does behind a command that changed what is loaded.
+        if ( "x$_module_loaded" != "x$_module_now" && -x "@prefix@/etc/after" ) then
+            ( "@prefix@/etc/after" $_module_words:q < /dev/null >& /dev/null & )
+        endif
     else
         "@prefix@/libexec/suggest" $_module_status $_module_program:q $_module_words:q
     endif
     breaksw
 endsw
 
-unset _module_words _module_way _module_program _module_run _module_text
+unset _module_words _module_way _module_program _module_run _module_text _module_loaded _module_now
 if ( $?_module_backslash_quote ) then
     set backslash_quote
     unset _module_backslash_quote

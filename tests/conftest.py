@@ -1,4 +1,5 @@
-"""What pytest gives the suites: the built programs, folders of modulefiles, and libraries that make calls fail.
+"""What pytest gives the suites: the built programs, folders of modulefiles, the product as it is installed, and libraries
+that make calls fail.
 
     python3 -B -m pytest tests/program.py -k reader
 
@@ -18,7 +19,7 @@ from hypothesis import HealthCheck, settings
 from hypothesis.configuration import set_hypothesis_home_dir
 
 from tests import properties
-from tests.harness import Folder, refuser
+from tests.harness import Folder, installed, refuser
 
 sys.dont_write_bytecode = True
 
@@ -75,6 +76,20 @@ def folder(program):
     made = Folder(program)
     yield made
     made.remove()
+
+
+@pytest.fixture(scope="session")
+def place():
+    """A folder that any user may enter."""
+    with tempfile.TemporaryDirectory(prefix="modulecmd-place-") as path:
+        os.chmod(path, 0o755)
+        yield path
+
+
+@pytest.fixture(scope="session")
+def product(place):
+    """The prefix of the product over the program."""
+    return installed(os.path.join(place, "the program"))
 
 
 @pytest.fixture(scope="session")

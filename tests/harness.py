@@ -9,7 +9,8 @@ import sys
 import tempfile
 
 HERE = os.path.dirname(os.path.abspath(__file__))
-sys.path.append(os.path.join(os.path.dirname(HERE), "tools"))
+TOP = os.path.dirname(HERE)
+sys.path.append(os.path.join(TOP, "tools"))
 
 from link import DYNAMIC  # noqa: E402
 
@@ -103,6 +104,14 @@ def dynamic(program):
     """The program of the same object that is linked dynamically, if it stands beside."""
     beside = f"{program}{DYNAMIC}"
     return beside if os.path.isfile(beside) else program
+
+
+def installed(prefix):
+    """Lays the product out below a prefix, which is given back."""
+    done = subprocess.run(["make", "-s", "install", f"PREFIX={prefix}"], cwd=TOP, capture_output=True, check=False)
+    if done.returncode != 0:
+        raise Failed(f"make install ended with status {done.returncode}:\n{done.stderr.decode(errors='replace')}")
+    return prefix
 
 
 class Folder:

@@ -25,7 +25,7 @@ OF_FAULTS = {"number", "numbered"}
 # What is public for the crates above alone, which CLAIMS omits.
 HELPERS = {
     "envvars": ("escapes", "fields", "table"),
-    "sitelaws": ("directories",),
+    "sitelaws": ("directory_set",),
 }
 
 # A citation of a file of definitions or lemmas; what the prover makes has other homes.
@@ -189,9 +189,9 @@ def check_claims():
 def check_examples():
     """The examples that show what a premise is for are clauses of their functions, and CLAIMS names each of these."""
     shown = [word for _, where in cells(content("docs", "CLAIMS.md"), PREMISES) for word in SPAN.findall(where)]
-    functions = [*functions_in(sources("reversal")["examples"]), *functions_in(sources("reversal")["laws"])]
-    examples = {clause for it in functions_in(sources("reversal")["examples"]) for clause in it.clauses if clause}
-    known = examples | {it.name for it in functions}
+    functions = [it for crate in ("reversal", "handchanges") for it in functions_in(sources(crate)["examples"])]
+    examples = {clause for it in functions for clause in it.clauses if clause}
+    known = examples | {it.name for it in [*functions, *functions_in(sources("reversal")["laws"])]}
     other = (examples - set(shown)) | (set(shown) - known)
     true(not other, f"the examples are those of CLAIMS: {other}")
 

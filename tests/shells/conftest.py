@@ -1,19 +1,18 @@
-"""What pytest gives the suites of shells: each shell, the product installed over the program and over a script that
-stands in for it and prints texts typed by hand, and the shell over both."""
+"""What pytest gives the suites of shells: each shell, the product installed over a script that stands in for the program
+and prints texts typed by hand, and the shell over that and over the program."""
 
 import os
 import shutil
 import subprocess
-import tempfile
 
 import pytest
 
+from tests.harness import installed
 from tests.shells.session import Session, Terminal
 from tests.shells.shells import SHELLS
 from tests.shells.texts import StandIn
 
 HERE = os.path.dirname(os.path.abspath(__file__))
-TOP = os.path.dirname(os.path.dirname(HERE))
 
 
 def pytest_terminal_summary(terminalreporter):
@@ -33,28 +32,6 @@ def shell(request):
         refuse = pytest.fail if request.param.is_needed else pytest.skip
         refuse(f"{request.param.title} is not installed")
     return request.param
-
-
-@pytest.fixture(scope="session")
-def place():
-    """A folder that any user may enter."""
-    with tempfile.TemporaryDirectory(prefix="modulecmd-shells-") as path:
-        os.chmod(path, 0o755)
-        yield path
-
-
-def installed(prefix):
-    """Lays the product out below a prefix, which is given back."""
-    done = subprocess.run(["make", "-s", "install", f"PREFIX={prefix}"], cwd=TOP, capture_output=True, check=False)
-    if done.returncode != 0:
-        pytest.fail(f"make install ended with status {done.returncode}:\n{done.stderr.decode(errors='replace')}")
-    return prefix
-
-
-@pytest.fixture(scope="session")
-def product(place):
-    """The prefix of the product."""
-    return installed(os.path.join(place, "the program"))
 
 
 @pytest.fixture(scope="session")

@@ -13,6 +13,12 @@ from tests.shells.shells import FAMILIES, content, in_sh, in_shells
 HERE = os.path.dirname(os.path.abspath(__file__))
 TOP = os.path.dirname(os.path.dirname(HERE))
 
+# The modulefiles that the pages show.
+SITES = os.path.join(TOP, "tests", "sites")
+EXAMPLES = sorted(
+    os.path.relpath(os.path.join(at, name), SITES) for at, _, names in os.walk(SITES) for name in names
+)
+
 # Every file below the prefix.
 FILES = [
     "bin/modaudit",
@@ -24,7 +30,7 @@ FILES = [
     "completion/tcsh",
     "etc/modulespath",
     "etc/modulespath.example",
-    *(f"init/{name}" for name in sorted([*FAMILIES, "profile.csh", "profile.sh"])),
+    *(f"init/{name}" for name in sorted([*FAMILIES, "profile.csh", "profile.sh", "python.py"])),
     "libexec/changes",
     "libexec/collection.awk",
     "libexec/listing.awk",
@@ -35,6 +41,9 @@ FILES = [
     "libexec/report",
     "libexec/suggest",
     "libexec/usage",
+    "share/doc/SITES.md",
+    "share/doc/USERS.md",
+    *(f"share/examples/{name}" for name in EXAMPLES),
     "share/man/man1/modaudit.1",
     "share/man/man1/modcheck.1",
     "share/man/man1/module.1",
@@ -152,6 +161,14 @@ def test_install_refuses_a_prefix_that_shells_would_misread(folder):
         done = make("install", f"PREFIX={prefix}", f"DESTDIR={folder.path.decode()}/no")
         true(done.returncode != 0, f"the prefix {prefix} is refused")
     same(os.path.exists(folder.path + b"/no"), False, "nothing is laid out")
+
+
+def test_the_installed_pages_name_the_prefix(product):
+    for name in FILES:
+        if name.startswith(("share/man", "share/doc")):
+            text = content(os.path.join(product, name)).decode()
+            true("PREFIX" not in text and "/opt/modulecmd" not in text, f"{name} has another prefix")
+            true(product in text or name.startswith("share/man"), f"{name} names the prefix")
 
 
 def test_the_usage_tells_what_the_program_does(folder):

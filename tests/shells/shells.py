@@ -165,8 +165,8 @@ def without_own(written):
 
 
 # What users may have set before the init file is sourced.
-ODD_SPLITTING = "IFS='o1/= '"
-ODD_ALIASES = ["alias module='echo alias' ml='echo alias'", "cd /"]
+ODD_SPLITTING = "IFS='o1/= 023'"
+ODD_ALIASES = ["test() { echo function; }", "alias module='echo alias' ml='echo alias'", "cd /"]
 ODD_SH = ["set -euf", ODD_SPLITTING, *ODD_ALIASES]
 ODD_KSH = ["set -euf -o pipefail", ODD_SPLITTING, *ODD_ALIASES]
 ODD_BASH = ["shopt -s expand_aliases nullglob failglob nocasematch extglob", *ODD_KSH]

@@ -2,6 +2,7 @@
 
 import os
 import shutil
+import time
 
 import pytest
 
@@ -316,6 +317,85 @@ def test_takes_its_init_file_from_the_one_for_etc_profile_d(scripted, shell):
     loads_behind(scripted, f"{shell.says.source} '{link}'")
     name = {"bash as sh": "bash", "tcsh as csh": "tcsh"}.get(shell.title, shell.init)
     same(scripted.stand_in.words(), [[name, "load", "foo/1.0"]], "the words")
+
+
+@in_shells(lambda it: it.family == "sh" and not it.title.startswith("bash"))
+def test_takes_its_own_init_file_where_another_shell_has_exported_its_version(scripted, shell):
+    scripted.starts_with(BASH_VERSION="5.2.15(1)-release", **({} if shell.title == "zsh" else {"ZSH_VERSION": "5.9"}))
+    scripted.will_load()
+    lines = [f"{shell.says.source} '{scripted.prefix}/init/profile.sh'", "module load foo/1.0"]
+    shell.keeps(scripted.folder, scripted.env, lines, None)
+    same(scripted.stand_in.words(), [[shell.init, "load", "foo/1.0"]], "the words")
+
+
+@in_shells(lambda it: it.family == "fish")
+def test_refuses_a_text_that_read_doesn_t_take_whole(scripted):
+    scripted.will_load()
+    lines = ["set -g fish_read_limit 4", "show", "module load foo/1.0", "status", "show"]
+    kept, done = scripted.run(lines)
+    same(done.stderr, b"ERROR: fish doesn't read the whole text (fish_read_limit)\n", "what is said")
+    same(kept.statuses, ["1"], "the status")
+    same_environment(kept.shown[1], kept.shown[0], "the environment after")
+
+
+@pytest.fixture
+def after(scripted):
+    """The site has a program that is run behind commands. It writes its words to a file, whose path is given, and fails."""
+    written = os.path.join(scripted.folder.path, b"written").decode()
+    place = os.path.join(scripted.prefix, "etc", "after")
+    with open(place, "w") as file:
+        file.write(f"#!/bin/sh\necho hook; echo hook >&2; printf '%s,' \"$@\" >> '{written}'; exit 3\n")
+    os.chmod(place, 0o755)
+    yield written
+    os.remove(place)
+
+
+def test_runs_the_site_s_program_behind_each_command_that_changed_what_is_loaded(scripted, shell, after):
+    scripted.will_load()
+    scripted.will_refuse()
+    scripted.will_answer(0)
+    scripted.will_unload()
+    lines = ["show", "module load foo/1.0", "status", "sleep 0.2", shell.may_fail("module load nope/1")]
+    lines += ["module load foo/1.0", "module unload foo", "show"]
+    kept = scripted.keeps(lines, err=REFUSAL)
+    same(kept.statuses, ["0"], "the status")
+    same_environment(kept.shown[1], kept.shown[0], "the environment after")
+    wanted, until = f"{shell.init},load,foo/1.0,{shell.init},unload,foo,".encode(), time.monotonic() + 10
+    while content(after) != wanted and time.monotonic() < until:
+        time.sleep(0.02)
+    same(content(after), wanted, "what the program was given")
+
+
+@pytest.fixture
+def initial(real):
+    """Writes the collection of the site, which is taken away."""
+    place = os.path.join(real.prefix, "etc", "initial")
+
+    def write(text):
+        with open(place, "w") as file:
+            file.write(text)
+
+    yield write
+    os.remove(place)
+
+
+def test_loads_the_site_s_collection_where_nothing_was_ever_loaded(real, shell, initial):
+    real.sets({"FOO": "on"})
+    initial("module load foo/1.0\n")
+    (shown,) = real.keeps(["show"]).shown
+    same((shown[b"FOO"], shown[b"LOADEDMODULES"]), (b"on", b"foo/1.0"), "what a login has")
+    real.starts_with(LOADEDMODULES="bar/1", _LMFILES_="/m/bar/1")
+    (shown,) = real.keeps(["show"]).shown
+    same((shown.get(b"FOO"), shown[b"LOADEDMODULES"]), (None, b"bar/1"), "what a child shell has")
+    real.starts_with(LOADEDMODULES="", _LMFILES_="")
+    (shown,) = real.keeps(["show"]).shown
+    same((shown.get(b"FOO"), shown[b"LOADEDMODULES"]), (None, b""), "what is there where the list is set and empty")
+    for name in (b"LOADEDMODULES", b"_LMFILES_"):
+        del real.env[name]
+    initial("module load foo/1.0\nmodule load nope\n")
+    kept, done = real.run(["show", "module load foo/1.0", "show"])
+    same(done.stderr, b"ERROR: Unable to locate a modulefile for 'nope'\n", "what is said")
+    same([it.get(b"FOO") for it in kept.shown], [None, b"on"], "what a start and a load behind it have")
 
 
 @in_bash
