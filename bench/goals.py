@@ -6,7 +6,8 @@ Instructions are those of the whole process, counted by callgrind: no other work
 says what a file, an entry, a variable, a turn or a byte more takes: the difference to a load of one module, divided by
 their number. Times are processor time, as a multiple of that of a program that does the least: it reads one file, or
 for `avail` it lists the files, reads their first bytes and prints their names (floor.c). Both run in the same
-environment.
+environment. Calls of the system are counted by strace; a goal whose title begins so is about them. A share is that of
+the instructions of another case.
 
 In `avail` the kit sets a limit: each file is looked at before it is opened, both by its whole path, and for each path
 the kit zeroes and copies 4,096 bytes. So what is asked of it is asked of the instructions beyond the kit's own, and of
@@ -20,6 +21,7 @@ import subprocess
 import sys
 import tempfile
 
+from calls import system_calls
 from instructions import instructions
 from tools import Tool
 
@@ -29,6 +31,7 @@ NAMES = 20
 ENTRIES = 2_000
 VARIABLES = 5_000
 FILES = 2_000
+MORE_FILES = 20_000
 FILES_OF_FOLDER = 5
 TURNS = 33_000
 BYTES = 200_000
@@ -39,6 +42,9 @@ BYTES = 200_000
 CALL_BY_PATH = 4_111 + 420
 OPENING = 580
 KIT_OF_FILE = (2 + 1 / FILES_OF_FOLDER) * CALL_BY_PATH + OPENING
+
+# What each case is beside, where something is by each.
+FIRST = "load 1"
 
 # The rounds of a time: the least of them counts.
 ROUNDS = 40
@@ -72,10 +78,16 @@ class Case:
 
 class Goal:
     """What is asked of a case: its instructions, in all or by each, and its time where one is asked. Of `kit` of the
-    instructions nothing is asked: they are the kit's own."""
+    instructions nothing is asked: they are the kit's own. Where something else is counted, `counter` does that."""
 
-    def __init__(self, title, most, by_each=None, times=None, kit=0):
+    def __init__(self, title, most, by_each=None, times=None, kit=0, case=None, counter=instructions, share_of=None):
         self.title, self.most, self.by_each, self.times, self.kit = title, most, by_each, times, kit
+        self.case, self.counter, self.share_of = case or title, counter, share_of
+
+
+def of_calls(case, most, by_each=None):
+    """What is asked of the calls of the system of a case: that a file is opened once, and not looked at before."""
+    return Goal(f"system calls of {case}", most, by_each=by_each, case=case, counter=system_calls)
 
 
 GOALS = [
@@ -86,9 +98,14 @@ GOALS = [
     Goal("load 1, PATH of 2,000 entries", 300, by_each="entry", times=1.15),
     Goal("load 1, 5,000 variables", 1_000, by_each="variable", times=1.2),
     Goal("avail, 2,000 files", 6_000, by_each="file", times=1.3, kit=KIT_OF_FILE),
+    Goal("avail TEXT, 20,000 files", 6_500_000),
+    Goal("avail TEXT as a share of avail", 0.02, case="avail TEXT, 20,000 files", share_of="avail, 20,000 files"),
     Goal("a loop of 33,000 turns", 1_200, by_each="turn"),
     Goal("parsing 200,000 bytes", 50, by_each="byte"),
     Goal("parsing 1,000,000 bytes", 50, by_each="byte"),
+    of_calls("load 1", 25),
+    of_calls("avail, 2,000 files", 3.8, by_each="file"),
+    of_calls("avail TEXT, 20,000 files", 99),
 ]
 
 
@@ -105,23 +122,39 @@ def parsed(size):
     return "return\n" + "".join(LINES.format(1000 + turn) for turn in range(size // len(line)))
 
 
+def write_files(folder, name, count):
+    """Writes so many files, and gives the path of their folder."""
+    for number in range(count):
+        path = f"name{number // FILES_OF_FOLDER}/{number % FILES_OF_FOLDER}.0"
+        write(os.path.join(folder, name), path, f"setenv NAME {number}\n")
+    return os.path.join(folder, name)
+
+
+def cases_of_avail(env, folder):
+    """One folder of the last of these has a name that begins with the text, and one of its files."""
+    many = {**env, "MODULEPATH": write_files(folder, "many", FILES)}
+    more = {**env, "MODULEPATH": write_files(folder, "more", MORE_FILES)}
+    return [
+        Case("avail, 2,000 files", ["avail"], many, FILES, ("floor of the kit", "floor")),
+        Case("avail, 20,000 files", ["avail"], more, MORE_FILES),
+        Case("avail TEXT, 20,000 files", ["avail", "name777/3"], more),
+    ]
+
+
 def cases(program, folder):
-    """The cases of the goals, by their titles."""
-    few, many = os.path.join(folder, "few"), os.path.join(folder, "many")
+    """The cases of the goals."""
+    few = os.path.join(folder, "few")
     write(few, "m/1.0", "setenv M on\nprepend-path PATH /opt/m/bin\n")
     for number in range(NAMES):
         write(few, f"p{number}/1.0", PACKAGE.format(f"p{number}", f"P{number}"))
     write(few, "loop/1.0", f"set i 0\nwhile {{$i < {TURNS}}} {{incr i}}\nsetenv TURNS $i\n")
     for size in (BYTES, 5 * BYTES):
         write(few, f"parsed/{size}", parsed(size))
-    for number in range(FILES):
-        write(many, f"name{number // FILES_OF_FOLDER}/{number % FILES_OF_FOLDER}.0", f"setenv NAME {number}\n")
     env = {"MODULEPATH": few, "PATH": "/usr/bin:/bin", "HOME": folder, "LANG": "C.UTF-8"}
     packages = [f"p{number}/1.0" for number in range(NAMES)]
     tool = Tool("modulecmd", [program, "bash"])
     entries = "/usr/bin:/bin:" + ":".join(f"/opt/entry{number}/bin" for number in range(ENTRIES))
     variables = {f"VARIABLE_{number}": f"value {number}" for number in range(VARIABLES)}
-    listed = {**env, "MODULEPATH": many}
     return [
         Case("load 1", ["load", "m/1.0"], env),
         Case("unload 1", ["unload", "m/1.0"], tool.run(["load", "m/1.0"], env)),
@@ -129,7 +162,7 @@ def cases(program, folder):
         Case("purge 20", ["purge"], tool.run(["load", *packages], env)),
         Case("load 1, PATH of 2,000 entries", ["load", "m/1.0"], {**env, "PATH": entries}, ENTRIES),
         Case("load 1, 5,000 variables", ["load", "m/1.0"], {**env, **variables}, VARIABLES),
-        Case("avail, 2,000 files", ["avail"], listed, FILES, ("floor of the kit", "floor")),
+        *cases_of_avail(env, folder),
         Case("a loop of 33,000 turns", ["load", "loop/1.0"], env, TURNS),
         Case("parsing 200,000 bytes", ["load", f"parsed/{BYTES}"], env, BYTES),
         Case("parsing 1,000,000 bytes", ["load", f"parsed/{5 * BYTES}"], env, 5 * BYTES),
@@ -137,16 +170,25 @@ def cases(program, folder):
 
 
 def counts(program, folder, titles):
-    """The instructions of the cases with these titles: in all, or by each, as their goals ask."""
-    goals = {goal.title: goal for goal in GOALS}
-    found, first = {}, None
-    for case in cases(program, folder):
-        if case.title in titles or first is None:
-            spent = instructions(folder, [program, "sh", *case.words], case.env)
-            first = spent if first is None else first
-            by_each = goals[case.title].by_each
-            found[case.title] = (spent - first) / case.more if by_each else spent
-    return found
+    """What the goals with these titles count: in all, by each, or as a share."""
+    made = {case.title: case for case in cases(program, folder)}
+    spent = {}
+
+    def counted(counter, title):
+        if (counter, title) not in spent:
+            case = made[title]
+            spent[counter, title] = counter(folder, [program, "sh", *case.words], case.env)
+        return spent[counter, title]
+
+    def found(goal):
+        count = counted(goal.counter, goal.case)
+        if goal.share_of:
+            return count / counted(goal.counter, goal.share_of)
+        if goal.by_each:
+            return (count - counted(goal.counter, FIRST)) / made[goal.case].more
+        return count
+
+    return {goal.title: found(goal) for goal in GOALS if goal.title in titles}
 
 
 def least_time(command, env):
@@ -188,17 +230,22 @@ def multiples(program, folder):
     return times
 
 
+def written(count):
+    """A count; a small one with its fraction."""
+    return f"{count:,.0f}" if count >= 20 or count == int(count) else f"{count:.3f}"
+
+
 def print_goal(goal, spent, times):
     """Prints the line of a goal; where the kit has a part of it, a second line with that part and the other time."""
     time, *others = times or [None]
     ours = spent - goal.kit
     met = ours <= goal.most and (time is None or time <= goal.times)
-    by = f"by {goal.by_each}" if goal.by_each else "in all"
+    by = f"by {goal.by_each}" if goal.by_each else "" if goal.share_of else "in all"
     beside = f"{time:6.2f}{goal.times:7.2f}" if time else f"{'':13}"
-    print(f"{goal.title:34}{ours:14,.0f}{goal.most:12,}  {by:12}{beside}  {'met' if met else 'not met'}")
+    print(f"{goal.title:38}{written(ours):>14}{goal.most:12,}  {by:12}{beside}  {'met' if met else 'not met'}")
     if goal.kit:
         plain = "".join(f"{other:6.2f}" for other in others)
-        print(f"{f'  and the kit, of {spent:,.0f}':34}{goal.kit:14,.0f}{'':14}{'':12}{plain}  without the kit's calls")
+        print(f"{f'  and the kit, of {spent:,.0f}':38}{goal.kit:14,.0f}{'':14}{'':12}{plain}  without the kit's calls")
 
 
 def print_goals(program):
@@ -209,7 +256,7 @@ def print_goals(program):
         times = multiples(program, folder)
     finally:
         shutil.rmtree(folder)
-    print(f"\n{'':34}{'instructions':>14}{'asked':>12}  {'':12}{'times':>6}{'asked':>7}")
+    print(f"\n{'':38}{'instructions':>14}{'asked':>12}  {'':12}{'times':>6}{'asked':>7}")
     for goal in GOALS:
         print_goal(goal, found[goal.title], times.get(goal.title))
 

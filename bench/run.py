@@ -3,12 +3,13 @@
     run.py PROGRAM
 
 prints a table of ratios, all of one run: each number says how many times the processor time of the native program a
-command takes. The commands of a row take turns, and the least time of each counts. Behind it stand the instructions
-of a load, counted by callgrind, where something grows, and what the start of the process is of them.
+command takes. The commands of a row take turns, and the least time of each counts. Behind it stand the calls of the
+system that they make, the times of some where each call of a file system is slow, the instructions of a load, counted
+by callgrind, where something grows, what a further one costs, and what the start of the process is of them.
 
-    run.py PROGRAM instructions | times | start
+    run.py PROGRAM times | calls | slow | instructions | growth | start
 
-prints one of the three. What is asked of some of these cases is in goals.py, and is printed last.
+prints one of them. What is asked of some of these cases is in goals.py, and is printed last.
 """
 
 import os
@@ -17,7 +18,9 @@ import subprocess
 import sys
 import tempfile
 
+from calls import Login, print_calls, print_slow
 from goals import print_goals
+from growth import print_growth
 from instructions import print_instructions
 from start import print_start
 from tools import HOW_TO_INSTALL, Null, find_tools
@@ -31,6 +34,10 @@ ENOUGH = 3.0
 TURNS = 33_000
 ENTRIES = 2_000
 VARIABLES = 5_000
+
+# A row of each table, and one that shells do by the tools' functions.
+EVERY = ("times", "calls", "slow")
+LOGIN = ("calls", "slow", "login")
 
 
 def write(path, text):
@@ -47,13 +54,15 @@ def tree(folder, names, versions):
 
 
 class Row:
-    """A command, and where it starts: the variables, and the modules that are loaded before, one by one."""
+    """A command, and where it starts: the variables, and the modules that are loaded before, one by one. Its parts are
+    the tables in which it has a line."""
 
-    def __init__(self, title, words, env, before=()):
+    def __init__(self, title, words, env, before=(), parts=("times", "calls")):
         self.title = title
         self.words = words
         self.env = env
         self.before = before
+        self.parts = parts
 
 
 def rows(folder):
@@ -79,12 +88,17 @@ def rows(folder):
         Row("unload 1 of 20", ["unload", "m7/1.0"], env("few"), twenty),
         Row("purge 20", ["purge"], env("few"), twenty),
         Row("list 20", ["list"], env("few"), twenty),
-        Row("avail, 2,000 files", ["avail"], env("2000")),
-        Row("avail, 20,000 files", ["avail"], env("20000")),
+        Row("avail, 2,000 files", ["avail"], env("2000"), parts=EVERY),
+        Row("avail, 20,000 files", ["avail"], env("20000"), parts=("times",)),
+        Row("avail name77/, 2,000 files", ["avail", "name77/"], env("2000"), parts=EVERY),
+        Row("avail name77, 2,000 files", ["avail", "name77"], env("2000"), parts=EVERY),
+        Row("avail name777, 20,000 files", ["avail", "name777"], env("20000"), parts=("times",)),
         Row("load 1 of 20,000 files", ["load", "name2000/3.0"], env("20000")),
+        Row("load name7, 2,000 files", ["load", "name7"], env("2000"), parts=EVERY),
         Row(f"load, a Tcl loop of {TURNS:,} turns", ["load", "loop/1.0"], env("few")),
         Row(f"load 1, PATH of {ENTRIES:,} entries", ["load", "m0/1.0"], env("few", PATH=entries)),
         Row(f"load 1, {VARIABLES:,} variables", ["load", "m0/1.0"], env("few", **many)),
+        Row("login, a restore of 10", ["restore"], env("few"), parts=LOGIN),
     ]
 
 
@@ -123,12 +137,23 @@ def print_times(tools, folder):
     others = tools[1:]
     print("Processor time, as a multiple of that of a native program that reads one file (its own in milliseconds):\n")
     print(f"{'':36}{'null':>10}" + "".join(f"{tool.title:>28}" for tool in others))
-    for row in rows(folder):
+    for row in with_part(rows(folder), "times"):
         least = measured(tools, row, folder)
         null = least[tools[0]]
         cells = [f"{least[tool] / null:,.1f}" if tool in least else tool.cannot for tool in others]
         print(f"{row.title:36}{null * 1000:8.2f}ms" + "".join(f"{cell:>28}" for cell in cells), flush=True)
     print(HOW_TO_INSTALL)
+
+
+def with_part(rows, part):
+    return [row for row in rows if part in row.parts]
+
+
+def print_traced(program, folder, part, printed):
+    """Prints a table that strace makes."""
+    tools = find_tools(program)
+    logins = [Login(tool, folder) for tool in tools]
+    printed(folder, [(row, logins if "login" in row.parts else tools) for row in with_part(rows(folder), part)])
 
 
 def main():
@@ -140,8 +165,14 @@ def main():
         subprocess.run(["rustc", "-O", "-o", null, os.path.join(HERE, "null.rs")], check=True)
         if part in ("", "times"):
             print_times([Null(null), *find_tools(program)], folder)
+        if part in ("", "calls"):
+            print_traced(program, folder, "calls", print_calls)
+        if part in ("", "slow"):
+            print_traced(program, folder, "slow", print_slow)
         if part in ("", "instructions"):
             print_instructions(folder, null, program)
+        if part in ("", "growth"):
+            print_growth(folder, program)
         if part in ("", "start"):
             print_start(folder, null, program)
         if part == "":

@@ -5,23 +5,10 @@ the system's loader brings the C library to it, as it does for the native progra
 """
 
 import os
-import re
-import subprocess
 import sys
 
+from calls import system_calls
 from instructions import environment, instructions, module
-
-# What stands in front of a line of strace that isn't a call.
-NO_CALL = re.compile(r"^\d+ +(\+\+\+|---)")
-
-
-def system_calls(folder, command, env):
-    """How many calls of the system a command makes."""
-    traced = os.path.join(folder, "traced")
-    words = ["strace", "-f", "-o", traced, *command]
-    subprocess.run(words, env=env, stdin=subprocess.DEVNULL, capture_output=True, check=True)
-    with open(traced, encoding="utf-8", errors="replace") as lines:
-        return sum(not NO_CALL.match(line) for line in lines)
 
 
 def page_faults(command, env):

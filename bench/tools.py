@@ -38,9 +38,13 @@ class Tool:
 
     cannot = "fails"
 
-    def __init__(self, title, words):
+    # Where it keeps something for later commands, once it has a home.
+    home = None
+
+    def __init__(self, title, words, init=None):
         self.title = title
         self.words = words
+        self.init = init
         self.starts = {}
 
     def command(self, row):
@@ -69,10 +73,33 @@ class Tool:
         entries = [os.fsdecode(entry).split("=", 1) for entry in done.stdout.split(b"\0") if entry]
         return {entry[0]: entry[1] for entry in entries if entry[0] not in ("_", "PWD", "OLDPWD", "SHLVL")}
 
+    def init_file(self, folder):
+        """The init file for bash: our own as it is installed below the folder, that of another with the paths where
+        that stands. None where there is none."""
+        if self.init is None:
+            return installed(self.words[0], os.path.join(folder, "product"))
+        top = self.words[0].partition("/usr/")[0]
+        if not os.path.isfile(top + self.init):
+            return None
+        with open(top + self.init, encoding="utf-8") as file:
+            text = file.read()
+        path = os.path.join(folder, self.title.replace(" ", "-"))
+        with open(path, "w", encoding="utf-8") as file:
+            file.write(text.replace("/usr/share/", f"{top}/usr/share/").replace("/usr/lib/", f"{top}/usr/lib/"))
+        return path
+
     def accepted(self, out):
         """Environment Modules says a refusal in the text."""
         with open(out, "rb") as file:
             return not file.read().rstrip().endswith(b"test 1;")
+
+
+def installed(program, prefix):
+    """The init file for bash of the product, laid out below a prefix. None where it can't be."""
+    programs = [os.path.join(os.path.dirname(program), name) for name in ("modulecmd", "modcheck", "modaudit")]
+    words = ["sh", os.path.join(os.path.dirname(HERE), "tools", "product.sh"), "install", "", prefix, *programs]
+    done = subprocess.run(words, stdin=subprocess.DEVNULL, capture_output=True, check=False)
+    return os.path.join(prefix, "init", "bash") if done.returncode == 0 else None
 
 
 def version(words, env=None):
@@ -101,11 +128,13 @@ def find_tools(program):
         os.path.join(UNPACKED, "environment-modules/usr/lib/*/modulecmd.tcl"),
     )
     if modules:
-        found.append(Tool("Environment Modules" + version([modules, "bash", "--version"]), [modules, "bash"]))
+        title = "Environment Modules" + version([modules, "bash", "--version"])
+        found.append(Tool(title, [modules, "bash"], "/usr/share/modules/init/bash"))
     lmod = first(
         "/usr/share/lmod/*/libexec/lmod",
         os.path.join(UNPACKED, "lmod/usr/share/lmod/[0-9]*/libexec/lmod"),
     )
     if lmod:
-        found.append(Tool("Lmod" + version([lmod, "bash", "--version"], {"PATH": "/usr/bin:/bin"}), [lmod, "bash"]))
+        title = "Lmod" + version([lmod, "bash", "--version"], {"PATH": "/usr/bin:/bin"})
+        found.append(Tool(title, [lmod, "bash"], "/usr/share/lmod/lmod/init/bash"))
     return found

@@ -71,67 +71,67 @@ ROWS = {
     # Clashes of modules that may be loaded at once: an unload takes what another has set.
     "a variable that both set": Row(
         {"a/1": "setenv V x\n", "b/1": "setenv V y\n"},
-        ["clashes", "clashes"],
+        ["certified", "clashes"],
         ["load a", "load b", "unload a"],
         {"V": None, "LOADEDMODULES": "b/1", "_LMFILES_": "/m/b/1"},
     ),
     "two versions of one module": Row(
         {"a/1": "setenv V x\n", "a/2": "setenv V y\n"},
-        ["clashes", "clashes"],
+        ["certified", "clashes"],
         ["load a/1", "load a/2", "unload a/1"],
         {"V": None, "LOADEDMODULES": "a/2", "_LMFILES_": "/m/a/2"},
     ),
     "a variable that both unset": Row(
         {"a/1": "unsetenv V x\n", "b/1": "unsetenv V x\n"},
-        ["clashes", "clashes"],
+        ["certified", "clashes"],
         ["load a", "load b", "unload a"],
         {"LOADEDMODULES": "b/1", "_LMFILES_": "/m/b/1"},
         {"V": "x"},
     ),
     "a conflict with the letters of a name": Row(
         {"a/1": "conflict b\nsetenv V x\n", "bb/1": "setenv V y\n"},
-        ["clashes", "clashes"],
+        ["certified", "clashes"],
         ["load a", "load bb", "unload a"],
         {"V": None, "LOADEDMODULES": "bb/1", "_LMFILES_": "/m/bb/1"},
     ),
     # Clashes of such modules: the start is lost.
     "two delimiters": Row(
         {"a/1": "append-path V b\n", "b/1": "append-path -d , V c\n"},
-        ["clashes", "clashes"],
+        ["certified", "clashes"],
         ["load a", "load b", "unload a", "unload b"],
         {"V": "a:b"},
         {"V": "a"},
     ),
     "a path that is also a stack": Row(
         {"a/1": "append-path V b\n", "b/1": "pushenv V y\n"},
-        ["clashes", "clashes"],
+        ["certified", "clashes"],
         ["load a", "load b", "unload a", "unload b"],
         {"V": "a:b"},
         {"V": "a"},
     ),
     "a variable that is set, and pushed by another": Row(
         {"a/1": "setenv V x\n", "b/1": "pushenv V y\n"},
-        ["clashes", "clashes"],
+        ["clashes", "certified"],
         ["load a", "load b", "unload a", "unload b"],
         {"V": "x"},
     ),
     # Clashes of modules that exclude each other: of two starts each agrees with one of them, and loses by the other.
     "set here and unset there": Row(
         {"a/1": "conflict b\nsetenv V x\n", "b/1": "unsetenv V y\n"},
-        ["clashes", "clashes"],
+        ["certified", "clashes"],
         ["load b", "unload b"],
         {"V": "y"},
     ),
     "unset here and set there": Row(
         {"a/1": "conflict b\nsetenv V x\n", "b/1": "unsetenv V y\n"},
-        ["clashes", "clashes"],
+        ["certified", "clashes"],
         ["load a", "unload a"],
         {"V": None},
         {"V": "y"},
     ),
     "two values that are unset": Row(
         {"a/1": "conflict b\nunsetenv V x\n", "b/1": "unsetenv V y\n"},
-        ["clashes", "clashes"],
+        ["certified", "clashes"],
         ["load b", "unload b"],
         {"V": "y"},
         {"V": "x"},
@@ -206,4 +206,4 @@ def test_modules_stand_as_the_row_says(row):
 
 def test_each_standing_has_a_row():
     standing = {word for row in ROWS.values() for word in row.stand}
-    same(sorted(standing), ["clashes", "one-way", "out-of-step", "refused"], "the standings of the rows")
+    same(sorted(standing), ["certified", "clashes", "one-way", "out-of-step", "refused"], "the standings of the rows")

@@ -34,10 +34,13 @@ UTILITIES = """awk basename cat chmod cmp cp cut date dirname env grep head id l
     rmdir sed sort stty tail tee test touch tr uname uniq wc""".split()
 DATA = ("/usr/share/fish/*.fish", "/usr/share/fish/functions", "/usr/lib/*/zsh")
 FOLDERS = """usr/bin usr/lib usr/lib64 dev tmp root opt modules/foo etc/zsh etc/fish/conf.d var/lib/dpkg/info
-    var/lib/dpkg/updates""".split()
+    var/lib/dpkg/updates var/log""".split()
 
 # Folders that other packages have, so that dpkg doesn't remove them.
-OF_OTHERS = ("etc/profile.d", "etc/csh/cshrc.d", "usr/share/fish/vendor_conf.d", "usr/share/doc", "usr/share/man/man1")
+OF_OTHERS = (
+    "etc/profile.d", "etc/csh/cshrc.d", "etc/alternatives", "usr/share/fish/vendor_conf.d", "usr/share/doc",
+    "usr/share/man/man1",
+)  # fmt: skip
 LIBRARY = re.compile(r"(/\S+) \(0x")
 
 # The programs of the product, and files without which an install fails: of each kind one, the first and the last.
@@ -45,7 +48,7 @@ PROGRAMS = ("modulecmd", "modcheck", "modaudit")
 NEEDED = ("VERSION", "init/sh", "init/zsh", "libexec/ml.csh", "libexec/report", "man/module.1", "etc/modulespath", "bin/modaudit")
 
 # The utilities that install.sh and the init files take.
-FEW = "cat chmod cmp dirname mkdir mv rm rmdir sed sh".split()
+FEW = "cat chmod cmp dirname env mkdir mv rm rmdir sed sh".split()
 
 # What shells read at a login: Debian's, without what the owner of this machine added.
 PROFILE = """PATH=/usr/bin:/bin
@@ -62,6 +65,11 @@ if (-e $dir && `/bin/ls $dir` != "") then
     source $FILE;
   end;
 endif
+"""
+
+RED_HAT_S_CSHRC = """foreach i ( /etc/profile.d/*.csh )
+    source $i
+end
 """
 
 # What dpkg knows of a package that is installed.
@@ -165,6 +173,9 @@ class Packages:
     def archive(self, version):
         return os.path.join(self.room, f"modulecmd-{version}-x86_64-linux.tar.gz")
 
+    def rpm(self, version):
+        return os.path.join(self.room, f"modulecmd-{version}-1.x86_64.rpm")
+
     def debian(self, version):
         return os.path.join(self.room, f"modulecmd_{version}_amd64.deb")
 
@@ -245,10 +256,17 @@ class Machine:
 
     def dpkg(self, *words, status=0):
         """Has dpkg do something with the machine's packages, and with none of those outside. Gives what it said."""
-        command = ["dpkg", f"--root={self.root}", f"--log={self.root}/var/log", *words]
+        command = ["dpkg", f"--root={self.root}", f"--log={self.root}/var/log/dpkg.log", *words]
         _, err, found = run(command, env={**os.environ, "LC_ALL": "C"})
         same(found, status, f"dpkg {' '.join(words)}: {err}")
         return err
+
+    def rpm(self, *words):
+        """Has rpm do something with the machine's packages, of which it knows no other. It says only what it saves."""
+        command = ["rpm", "--force-debian", f"--root={self.root}", "--nodeps", *words]
+        out, err, status = run(command, env={**os.environ, "LC_ALL": "C"})
+        said = [line for line in err.splitlines() if not line.endswith(".rpmsave")]
+        same((out, said, status), ("", [], 0), f"rpm {' '.join(words)}")
 
     def log_in(self, *shells):
         for shell in shells:
@@ -278,6 +296,23 @@ class Machine:
             finally:
                 self.dpkg("-P", "modulecmd")
 
+    @contextlib.contextmanager
+    def has_rpm(self, package):
+        """A package of rpm's is installed within, beside the program for alternatives, and erased at the end."""
+        for place in ("/usr/sbin", "/var/lib/dpkg/alternatives"):
+            os.makedirs(self.root + place, exist_ok=True)
+        copy("/usr/bin/update-alternatives", self.root)
+        os.symlink("../bin/update-alternatives", f"{self.root}/usr/sbin/update-alternatives")
+        try:
+            with self.is_as_before():
+                self.rpm("-i", package)
+                try:
+                    yield
+                finally:
+                    self.rpm("-e", "modulecmd")
+        finally:
+            os.remove(f"{self.root}/usr/sbin/update-alternatives")
+
 
 @pytest.fixture(scope="module")
 def room():
@@ -299,15 +334,37 @@ def machine(room):
 # What some cases take.
 HAS_DPKG = shutil.which("dpkg") is not None and shutil.which("dpkg-deb") is not None
 needs_root = pytest.mark.skipif(os.geteuid() != 0, reason="it takes root")
+HAS_RPM = all(map(shutil.which, ("rpm", "rpmbuild", "rpmlint", "update-alternatives")))
+
 needs_dpkg = pytest.mark.skipif(not HAS_DPKG, reason="it takes dpkg")
 needs_lintian = pytest.mark.skipif(not shutil.which("lintian"), reason="it takes lintian")
+needs_rpm = pytest.mark.skipif(not HAS_RPM, reason="it takes rpm, rpmbuild, rpmlint and update-alternatives")
 
 
 def test_the_same_tree_gives_the_same_packages(folder, packages):
     place = folder.path.decode()
     make(place, packages.version)
-    for path in (packages.archive(packages.version), *[packages.debian(packages.version)] * HAS_DPKG):
+    version = packages.version
+    others = [*[packages.debian(version)] * HAS_DPKG, *[packages.rpm(version)] * HAS_RPM]
+    for path in (packages.archive(version), *others):
         true(read(path) == read(os.path.join(place, os.path.basename(path))), f"{os.path.basename(path)} is the same")
+    goes_well(["sha256sum", "--check", "--quiet", "SHA256SUMS"], cwd=place)
+
+
+def test_the_programs_are_linked_again_by_what_comes_along(folder, packages):
+    """By the commands of the page, in a copy of its folder: each program, but for the symbols that packages leave out."""
+    place = os.path.join(folder.path.decode(), "LICENSES")
+    with packages.unpacked(packages.version) as archive:
+        shutil.copytree(os.path.join(archive, "LICENSES"), place)
+        page = read(os.path.join(place, "README")).decode()
+        commands = re.findall(r"^    (cc .*)$", page, re.MULTILINE)
+        same(len(commands), len(PROGRAMS), "the commands")
+        for command, name in zip(commands, PROGRAMS):
+            goes_well(command.split(), cwd=place)
+            goes_well(["strip", name], cwd=place)
+            true(read(os.path.join(place, name)) == read(os.path.join(archive, "bin", name)), f"{name} is the same")
+    for name in re.search(r"folders here: (.*);", page)[1].split(", "):
+        true(os.listdir(os.path.join(place, name)), f"the licence of {name} is there")
 
 
 def test_an_archive_is_installed_by_a_shell_and_few_utilities(folder, packages):
@@ -321,7 +378,8 @@ def test_an_archive_is_installed_by_a_shell_and_few_utilities(folder, packages):
     line = f". '{prefix}/init/sh'; module load foo; echo $FOO; module unload foo; echo ${{FOO-gone}}"
     with packages.unpacked(packages.version) as archive:
         install = ["/bin/sh", os.path.join(archive, "install.sh")]
-        goes_well([*install, prefix], env=env)
+        said = goes_well([*install, prefix], env=env)
+        true("\na module is loaded and unloaded in: sh\n" in said, f"in which shells a load is tried: {said}")
         same(goes_well(["/bin/sh", "-c", line], env=env), "on\ngone\n", "a load and an unload")
         write(own, "/site\n")
         goes_well([*install, prefix], env=env)
@@ -329,6 +387,16 @@ def test_an_archive_is_installed_by_a_shell_and_few_utilities(folder, packages):
         goes_well([*install, "--uninstall", prefix], env=env)
     left = [os.path.join(at, name) for at, _, names in os.walk(prefix) for name in names]
     same(left, [own], "what uninstalling leaves")
+
+
+def test_an_install_says_in_which_shells_a_load_went_wrong(folder, packages):
+    prefix = os.path.join(folder.path.decode(), "prefix")
+    with packages.unpacked(packages.version) as archive:
+        write(os.path.join(archive, "init/fish"), "echo broken\n")
+        out, err, status = install(archive, prefix)
+    true("fish" not in out.split("in:")[1].split("\n")[0].split(), f"the shells in which it went well: {out}")
+    true(err.startswith("fish with ") and "broken" in err, f"what is said of fish: {err}")
+    same(status, 1, f"the status, where is said: {err}")
 
 
 def test_an_install_under_a_closed_umask_is_open_to_all(folder, packages):
@@ -513,6 +581,42 @@ def test_debian_s_package_is_refused_beside_others_of_its_kind(packages, machine
             said = machine.dpkg("-i", packages.debian(packages.version), status=1)
             true(f"modulecmd conflicts with {other}" in said, f"beside {other}: {said}")
     machine.write("/var/lib/dpkg/status", "")
+
+
+@needs_rpm
+def test_rpmlint_finds_no_errors(packages):
+    rules = os.path.join(TOP, "package", "rpmlintrc")
+    out, err, status = run(["rpmlint", "--rpmlintrc", rules, packages.rpm(packages.version)])
+    true(status == 0 and " 0 errors" in out, f"rpmlint: {out}{err}")
+
+
+@needs_root
+@needs_rpm
+def test_shells_log_in_by_the_rpm(packages, machine):
+    with machine.has_rpm(packages.rpm(packages.version)):
+        machine.write("/etc/csh.cshrc", RED_HAT_S_CSHRC)
+        machine.write("/etc/zsh/zshrc", f". {DEBIAN}/init/zsh\n")
+        machine.log_in(*LOGINS)
+        machine.write("/etc/csh.cshrc", CSHRC)
+        os.remove(f"{machine.root}/etc/zsh/zshrc")
+
+
+@needs_root
+@needs_rpm
+def test_an_upgrade_of_the_rpm_keeps_the_site_s_file_and_erasing_it_saves_that(packages, machine):
+    saved = f"{machine.root}{OWN}.rpmsave"
+    with machine.has_rpm(packages.rpm(packages.version)):
+        machine.write(OWN, "# ours\n/modules\n")
+        machine.rpm("-U", packages.rpm(packages.later))
+        same(read(machine.root + OWN), b"# ours\n/modules\n", "the site's file")
+        out, err, status = machine.run(["bash", "--login", "-c", "module --version"])
+        true(packages.later in out, f"the later version: found {(out, err, status)}")
+        machine.log_in("sh", "bash", "fish")
+        machine.rpm("-e", "modulecmd")
+        same(read(saved), b"# ours\n/modules\n", "what erasing leaves of the site's file")
+        os.remove(saved)
+        os.rmdir(os.path.dirname(saved))
+        machine.rpm("-i", packages.rpm(packages.version))
 
 
 @contextlib.contextmanager

@@ -182,7 +182,7 @@ def test_the_commands_of_the_page_for_sites(folder, install):
     shutil.copytree(os.path.join(HERE, "sites"), os.fsdecode(folder.modules), dirs_exist_ok=True)
     for name, text in MORE.items():
         folder.module(name, text)
-    _, lists, compare, compares, checks = blocks(content("docs", "SITES.md"), "sh")
+    _, lists, compare, compares, checks, _ = blocks(content("docs", "SITES.md"), "sh")
     for name, text in (("compare", compare), ("other", OTHER.replace("PROGRAM", f"{home}/modulecmd/bin/modulecmd"))):
         with open(os.path.join(home, name), "w") as file:
             file.write(text)
@@ -208,6 +208,6 @@ def test_the_commands_of_the_page_for_sites(folder, install):
 
 
 def test_the_pages_are_no_longer_than_they_may_be():
-    for names, most in ((("README.md",), 9_000), (("docs", "SITES.md"), 12_000), (("docs", "USERS.md"), 4_000)):
+    for names, most in ((("README.md",), 9_000), (("docs", "SITES.md"), 14_000), (("docs", "USERS.md"), 4_000)):
         length = len(content(*names).encode())
         true(length <= most, f"{names} has {length} bytes, of {most}")

@@ -54,7 +54,10 @@ need_for() {
             need busybox busybox
             need mandoc mandoc
             need valgrind valgrind
+            need strace strace
             need shellcheck shellcheck
+            need rpm rpmbuild
+            need rpmlint rpmlint
             need tcl tclsh
             ;;
         bench)

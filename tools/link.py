@@ -16,6 +16,9 @@ PRODUCT = ("modulecmd", "modcheck", "modaudit")
 # What stands behind the name of the dynamically linked program.
 DYNAMIC = "-dynamic"
 
+# How the system's compiler links statically.
+FLAGS = ("-static", "-Wl,--gc-sections", "-Wl,-z,relro,-z,now,-z,noexecstack")
+
 # The kind of an ELF segment that names a loader.
 PT_INTERP = 3
 
@@ -47,8 +50,7 @@ def link_statically(kit, made, program):
     """Links an object by the system's compiler and C library, and gives what is in the way, or nothing."""
     if not shutil.which("cc"):
         return "there is no cc"
-    flags = ["-static", "-Wl,--gc-sections", "-Wl,-z,relro,-z,now,-z,noexecstack"]
-    words = ["cc", *flags, "-o", program, made, *libraries(kit)]
+    words = ["cc", *FLAGS, "-o", program, made, *libraries(kit)]
     done = subprocess.run(words, stdin=subprocess.DEVNULL, capture_output=True, text=True, check=False)
     if done.returncode:
         return (done.stderr.strip().splitlines() or ["cc failed"])[-1]

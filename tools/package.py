@@ -2,9 +2,10 @@
 
     package.py [FOLDER [VERSION]]
 
-leaves two files in the folder (build/dist): modulecmd-VERSION-x86_64-linux.tar.gz, whose install.sh lays the product out
-below any prefix, and modulecmd_VERSION_amd64.deb, where there is a dpkg-deb. The same tree gives the same bytes: names
-are sorted, owners are root, and times are SOURCE_DATE_EPOCH, or the last commit's, or VERSION's.
+leaves in the folder (build/dist): modulecmd-VERSION-x86_64-linux.tar.gz, whose install.sh lays the product out below any
+prefix; modulecmd_VERSION_amd64.deb, where there is a dpkg-deb; modulecmd-VERSION-1.x86_64.rpm, where there is an
+rpmbuild; and SHA256SUMS of these. The same tree gives the same bytes: names are sorted, owners are root, and times are
+SOURCE_DATE_EPOCH, or the last commit's, or VERSION's.
 """
 
 import gzip
@@ -18,13 +19,15 @@ import tarfile
 import tempfile
 from email.utils import formatdate
 
+import licences
 import link
+import rpm_package
 
 TOP = os.path.dirname(os.path.dirname(os.path.abspath(__file__)))
 
 # What `tools/product.sh` reads, and what the archive has to be read.
-FOLDERS = ("init", "libexec", "completion", "man", "etc", "docs")
-FILES = ("tools/product.sh", "VERSION", "README.md", "CHANGELOG.md", "SECURITY.md")
+FOLDERS = ("init", "libexec", "completion", "man", "etc", "docs", "tests/sites")
+FILES = ("tools/product.sh", "VERSION", "README.md", "CHANGELOG.md", "SECURITY.md", "LICENSE")
 LEFT_OUT = shutil.ignore_patterns(".*", "*~")
 
 # Debian's layout: where the product stands, and the links by which shells and users find it.
@@ -147,7 +150,8 @@ def lay_out(room, version, seconds):
         shutil.copy(os.path.join(TOP, file), os.path.join(folder, file))
     shutil.copy(os.path.join(TOP, "package", "install.sh"), folder)
     write(os.path.join(folder, "VERSION"), f"{version}\n")
-    write(os.path.join(folder, "COPYRIGHT"), read("package/copyright").replace("@version@", version))
+    write(os.path.join(folder, "COPYRIGHT"), copyright_text(version))
+    licences.lay_out(TOP, folder)
     strip_programs(os.path.join(folder, "bin"))
     settle(folder, seconds)
     return folder
@@ -175,6 +179,8 @@ def move_to_debian_s_places(root):
     os.replace(f"{here}/etc/modulespath", f"{root}/etc/modulecmd/modulespath")
     os.replace(f"{here}/etc/modulespath.example", f"{root}{DOC}/examples/modulespath")
     os.rmdir(f"{here}/etc")
+    shutil.copytree(f"{here}/share/examples", f"{root}{DOC}/examples/modulefiles")
+    shutil.rmtree(f"{here}/share/examples")
     for name in below(f"{here}/share/man"):
         page = f"{here}/share/man/{name}"
         if os.path.isfile(page):
@@ -189,13 +195,16 @@ def move_to_debian_s_places(root):
         os.symlink(aim, root + place)
 
 
-def add_documents(root, version, seconds, who):
+def add_documents(folder, root, version, seconds, who):
     """Adds what Debian wants to be read of each package."""
     doc = root + DOC
-    write(f"{doc}/copyright", read("package/copyright").replace("@version@", version))
+    write(f"{doc}/copyright", copyright_text(version))
     write(f"{doc}/README.Debian", read("package/README.Debian"))
     for name in ["README.md", "CHANGELOG.md", "SECURITY.md", *sorted(f"docs/{it}" for it in os.listdir(f"{TOP}/docs"))]:
-        pack(os.path.join(TOP, name), f"{doc}/{os.path.basename(name)}.gz")
+        own = f"{root}{PREFIX}/share/doc/{os.path.basename(name)}"
+        pack(own if os.path.exists(own) else os.path.join(TOP, name), f"{doc}/{os.path.basename(name)}.gz")
+    shutil.rmtree(f"{root}{PREFIX}/share/doc")
+    shutil.copytree(f"{folder}/LICENSES", f"{root}{PREFIX}/LICENSES")
     text = CHANGELOG.format(version=version, doc=DOC, maintainer=who, date=formatdate(seconds))
     write(f"{root}/changelog", text)
     pack(f"{root}/changelog", f"{doc}/changelog.gz")
@@ -222,13 +231,34 @@ def make_debian(folder, into, version, seconds):
     install = ["sh", "tools/product.sh", "install", root, PREFIX, *(f"bin/{name}" for name in link.PRODUCT)]
     subprocess.run(install, cwd=folder, stdout=subprocess.DEVNULL, check=True)
     move_to_debian_s_places(root)
-    add_documents(root, version, seconds, maintainer())
+    add_documents(folder, root, version, seconds, maintainer())
     add_control(root, version, maintainer())
     settle(root, seconds)
     path = os.path.join(into, f"modulecmd_{version}_amd64.deb")
     words = ["dpkg-deb", "--root-owner-group", "-Zxz", "--build", root, path]
     env = {**os.environ, "SOURCE_DATE_EPOCH": str(seconds)}
     subprocess.run(words, env=env, stdout=subprocess.DEVNULL, check=True)
+    return path
+
+
+def copyright_text(version):
+    """Whose the files of the packages are. The text of their own licence stands below the first line of LICENSE."""
+    _, _, text = read("LICENSE").partition("\n\n")
+    return read("package/copyright").replace("@version@", version).replace("@licence@", text)
+
+
+def licence():
+    """The SPDX identifier of the product's licence: that of its own files, and of the C library that its programs hold."""
+    return f"{read('LICENSE').splitlines()[0]} AND LGPL-2.1-or-later"
+
+
+def write_sums(into, made):
+    """Writes the checksums of the packages, and gives the path."""
+    path = os.path.join(into, "SHA256SUMS")
+    with open(path, "w", encoding="ascii") as out:
+        for package in sorted(made, key=os.path.basename):
+            with open(package, "rb") as file:
+                out.write(f"{hashlib.sha256(file.read()).hexdigest()}  {os.path.basename(package)}\n")
     return path
 
 
@@ -246,6 +276,11 @@ def main(words):
             made.append(make_debian(folder, into, version, seconds))
         else:
             print("there is no dpkg-deb: Debian's package isn't made")
+        if shutil.which("rpmbuild"):
+            made.append(rpm_package.make(folder, into, version, licence(), maintainer(), seconds, settle))
+        else:
+            print("there is no rpmbuild: the RPM isn't made")
+    made.append(write_sums(into, made))
     for path in made:
         print(f"made {os.path.relpath(path)}")
     return 0

@@ -42,13 +42,22 @@ cd -- "$(dirname -- "$0")/.."
 
 # The files that are put in place with the prefix, and those that can be run.
 files='init/sh init/bash init/ksh init/zsh init/csh init/tcsh init/fish init/profile.sh
-    init/profile.csh libexec/module.csh libexec/ml.csh libexec/collection.awk libexec/listing.awk
+    init/profile.csh init/python.py libexec/module.csh libexec/ml.csh libexec/collection.awk libexec/listing.awk
     completion/bash completion/_module completion/fish completion/tcsh
     share/man/man1/module.1 share/man/man1/modcheck.1 share/man/man1/modaudit.1 share/man/man5/modulefile.5
-    etc/modulespath.example'
+    share/doc/USERS.md share/doc/SITES.md etc/modulespath.example'
+examples='clang/17 gcc/13.2.0 greeting/1 hdf5/1.14 openmpi/4.1.6 plugins/2.3 profile/1 python/3.11.6 solver/2024
+    toolbox/5.0 workdir/1'
+for file in $examples; do
+    files="$files share/examples/$file"
+done
 runs='libexec/usage libexec/modulespath libexec/names libexec/report libexec/changes libexec/suggest'
 programs='bin/modulecmd bin/modcheck bin/modaudit'
-folders='bin init libexec completion etc share/man/man1 share/man/man5 share/man share'
+folders='bin init libexec completion etc share/man/man1 share/man/man5 share/man share/doc'
+for file in $examples; do
+    folders="$folders share/examples/${file%/*}"
+done
+folders="$folders share/examples share"
 
 # The folders that an install has made, inner ones first, and the files that it has begun, a line each.
 new_folders=
@@ -94,7 +103,18 @@ fill() {
             set -- init/sh init/zsh
             ;;
         init/tcsh) set -- init/csh init/tcsh ;;
-        share/man/*) set -- "man/$name" ;;
+        share/man/*)
+            sed -e "s|PREFIX|$prefix|g" -e "s|@prefix@|$prefix|g" -e "s|^\.Os\$|.Os modulecmd $version|" -- "man/$name"
+            return
+            ;;
+        share/doc/*)
+            sed -e "s|/opt/modulecmd|$prefix|g" -- "docs/$name"
+            return
+            ;;
+        share/examples/*)
+            cat -- "tests/sites/${1#share/examples/}"
+            return
+            ;;
         etc/modulespath.example) set -- etc/modulespath ;;
     esac
     sed -e "$zsh" -e "s|@prefix@|$prefix|g" -e "s|@shell@|$name|g" -e "s|@version@|$version|g" -- "$@"
