@@ -1,8 +1,10 @@
 //! What accepted commands of modulefiles leave on record.
-ghost use Rattle.std.specs.Prelude.{◌≡◌, map, string_bytes};
+ghost use Rattle.std.specs.Prelude.{◌≡◌, ℕ, List, map, string_bytes};
 ghost use Rattle.std.specs.Option.{option_map};
+ghost use Rattle.envvars.specs.Texts.{Text};
 ghost use Rattle.modulefile.specs.Records.{conflicts_of, prereqs_of, description_of};
-ghost use Rattle.modulefile.specs.RecordViews.{record_view};
+ghost use Rattle.modulefile.specs.RecordViews.{edit_record, record_view};
+ghost use Rattle.modulefile.specs.Reports.{path_words, shown_words};
 
 use crate::delimiter::Delimiter;
 
@@ -28,6 +30,20 @@ pub enum PathEdit {
     Back,
     /// `remove-path`
     Remove,
+}
+
+impl PathEdit {
+    /// The name of the command, with which `show` writes such a record (modulefile(5)).
+    pub fn command(self) -> &'static str
+        ensures { (delim : ℕ) (var : Text) (elements : List Text)
+            → shown_words (edit_record self delim var elements) ≡ path_words result.now delim var elements }
+    {
+        match self {
+            PathEdit::Front => "prepend-path",
+            PathEdit::Back => "append-path",
+            PathEdit::Remove => "remove-path",
+        }
+    }
 }
 
 /// What an accepted command leaves on record: what it does, whatever the mode.

@@ -6,7 +6,7 @@ ghost use Rattle.modulefile.specs.Reports.{path_words, shown_words, show_text};
 
 use crate::lines::push_line;
 use envvars::fields::{join, slices};
-use modulefile::{Delimiter, PathEdit, Record};
+use modulefile::{Delimiter, Record};
 use std::alloc::{AllocError, Global};
 use tcllist::write_list;
 
@@ -85,11 +85,7 @@ fn record_text(alloc: Global, recorded: &Record) -> Result<String, AllocError>
             delim,
             var,
             elements,
-        } => match edit {
-            PathEdit::Front => path_text(alloc, "prepend-path", *delim, var, elements.as_slice()),
-            PathEdit::Back => path_text(alloc, "append-path", *delim, var, elements.as_slice()),
-            PathEdit::Remove => path_text(alloc, "remove-path", *delim, var, elements.as_slice()),
-        },
+        } => path_text(alloc, edit.command(), *delim, var, elements.as_slice()),
         Record::Conflict(names) => names_text(alloc, "conflict", names.as_slice()),
         Record::Prereq(names) => names_text(alloc, "prereq", names.as_slice()),
         Record::Whatis(text) => write_list(alloc, &["module-whatis", text]),

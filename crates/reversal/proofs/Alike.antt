@@ -9,7 +9,7 @@ use Rattle.envvars.specs.Texts.{Text}
 use Rattle.envvars.specs.Names.{name_reason}
 use Rattle.envvars.specs.Environment.{Environment}
 use Rattle.envvars.proofs.EditLemmas.{both_true}
-use Rattle.modulefile.specs.Records.{Record, Set, Unset, Push, Front, Back, Remove, Conflict, Prereq, Whatis}
+use Rattle.modulefile.specs.Records.{Record, Set, Unset, Push, Front, Back}
 use Rattle.modulefile.specs.Judgments.{RecordReason, bad_edit, value_reason, record_reason, is_allowed}
 use Rattle.modulefile.specs.Effects.{unload, unloaded_by, edit_outcome, permitted, effect, effects}
 use Rattle.modulefile.proofs.Effected.{parts, whole}
@@ -40,15 +40,11 @@ by_name v xs h =
 
 left_of : (owner : Text) (r : Record) (old new : Environment) → record_reason r ≡ None → unloaded_by owner r old ≡ Ok new → DoneBy owner (undone_as r) old new
 left_of owner (Set v x) old new n h = had owner (Set v []) old new (by_name v (x ∷ []) n) h
-left_of owner (Unset v None) old new n h = same_accepted old new h
 left_of owner (Unset v (Some x)) old new n h = had owner (Unset v (Some x)) old new n h
 left_of owner (Push v x) old new n h = had owner (Push v []) old new (by_name v (x ∷ []) n) h
 left_of owner (Front d v xs) old new n h = had owner (Front d v xs) old new n h
 left_of owner (Back d v xs) old new n h = had owner (Front d v xs) old new n h
-left_of owner (Remove d v xs) old new n h = same_accepted old new h
-left_of owner (Conflict names) old new n h = same_accepted old new h
-left_of owner (Prereq names) old new n h = same_accepted old new h
-left_of owner (Whatis text) old new n h = same_accepted old new h
+left_of owner r old new n h = same_accepted old new h
 
 step : (owner : Text) (o : Option Record) (us : List Record) (old mid new : Environment) → DoneBy owner o old mid
     → effects unload owner us mid ≡ Ok new → effects unload owner (cons_option o us) old ≡ Ok new
@@ -67,15 +63,11 @@ done_by_left owner (r ∷ rs) old new h =
 
 from_left : (owner : Text) (r : Record) (old new : Environment) → record_reason r ≡ None → DoneBy owner (undone_as r) old new → effect unload owner r old ≡ Ok new
 from_left owner (Set v x) old new n h = had owner (Set v x) old new n (effect_edits unload owner (Set v []) old new h).1
-from_left owner (Unset v None) old new n h = had owner (Unset v None) old new n (ap accepted (sym h))
 from_left owner (Unset v (Some x)) old new n h = h
 from_left owner (Push v x) old new n h = had owner (Push v x) old new n (effect_edits unload owner (Push v []) old new h).1
 from_left owner (Front d v xs) old new n h = h
 from_left owner (Back d v xs) old new n h = had owner (Back d v xs) old new n (effect_edits unload owner (Front d v xs) old new h).1
-from_left owner (Remove d v xs) old new n h = had owner (Remove d v xs) old new n (ap accepted (sym h))
-from_left owner (Conflict names) old new n h = had owner (Conflict names) old new n (ap accepted (sym h))
-from_left owner (Prereq names) old new n h = had owner (Prereq names) old new n (ap accepted (sym h))
-from_left owner (Whatis text) old new n h = had owner (Whatis text) old new n (ap accepted (sym h))
+from_left owner r old new n h = had owner r old new n (ap accepted (sym h))
 
 first_done : (owner : Text) (o : Option Record) (us : List Record) (old new : Environment)
     → effects unload owner (cons_option o us) old ≡ Ok new
@@ -100,28 +92,20 @@ unloads_are_alike owner rs ss old new alike allowed h =
 pub left_suit : (uses : Text → VariableUse) (rs : List Record) → AllSuit uses rs → AllSuit uses (undo_of rs)
 left_suit uses [] s = tt
 left_suit uses (Set v x ∷ rs) s = (s.0, left_suit uses rs s.1)
-left_suit uses (Unset v None ∷ rs) s = left_suit uses rs s.1
 left_suit uses (Unset v (Some x) ∷ rs) s = (s.0, left_suit uses rs s.1)
 left_suit uses (Push v x ∷ rs) s = (s.0, left_suit uses rs s.1)
 left_suit uses (Front d v xs ∷ rs) s = (s.0, left_suit uses rs s.1)
 left_suit uses (Back d v xs ∷ rs) s = (s.0, left_suit uses rs s.1)
-left_suit uses (Remove d v xs ∷ rs) s = left_suit uses rs s.1
-left_suit uses (Conflict names ∷ rs) s = left_suit uses rs s.1
-left_suit uses (Prereq names ∷ rs) s = left_suit uses rs s.1
-left_suit uses (Whatis text ∷ rs) s = left_suit uses rs s.1
+left_suit uses (r ∷ rs) s = left_suit uses rs s.1
 
 pub left_adds : (w x : Text) (rs : List Record) → adds w x (undo_of rs) ≡ adds w x rs
 left_adds w x [] = refl
 left_adds w x (Set v y ∷ rs) = let i = left_adds w x rs in omega (arith, i)
-left_adds w x (Unset v None ∷ rs) = let i = left_adds w x rs in omega (arith, i)
 left_adds w x (Unset v (Some y) ∷ rs) = let i = left_adds w x rs in omega (arith, i)
 left_adds w x (Push v y ∷ rs) = let i = left_adds w x rs in omega (arith, i)
 left_adds w x (Front d v xs ∷ rs) = ap (λ (n : ℕ). adds_by w x (Front d v xs) + n) (left_adds w x rs)
 left_adds w x (Back d v xs ∷ rs) = ap (λ (n : ℕ). adds_by w x (Front d v xs) + n) (left_adds w x rs)
-left_adds w x (Remove d v xs ∷ rs) = let i = left_adds w x rs in omega (arith, i)
-left_adds w x (Conflict names ∷ rs) = let i = left_adds w x rs in omega (arith, i)
-left_adds w x (Prereq names ∷ rs) = let i = left_adds w x rs in omega (arith, i)
-left_adds w x (Whatis text ∷ rs) = let i = left_adds w x rs in omega (arith, i)
+left_adds w x (r ∷ rs) = let i = left_adds w x rs in omega (arith, i)
 
 or_some : {T : Type 0} (a b c d : Option T) → is_some a ≡ is_some b → is_some c ≡ is_some d → is_some (option_or a c) ≡ is_some (option_or b d)
 or_some None None c d h k = k
@@ -145,20 +129,13 @@ left_sets uses w (Unset v (Some x) ∷ rs) s = or_some (last_set w (undo_of rs))
 left_sets uses w (Push v x ∷ rs) s = or_some (last_set w (undo_of rs)) (last_set w rs) None None (left_sets uses w rs s.1) refl
 left_sets uses w (Front d v xs ∷ rs) s = or_some (last_set w (undo_of rs)) (last_set w rs) None None (left_sets uses w rs s.1) refl
 left_sets uses w (Back d v xs ∷ rs) s = or_some (last_set w (undo_of rs)) (last_set w rs) None None (left_sets uses w rs s.1) refl
-left_sets uses w (Remove d v xs ∷ rs) s = or_none (last_set w (undo_of rs)) (last_set w rs) (left_sets uses w rs s.1)
-left_sets uses w (Conflict names ∷ rs) s = or_none (last_set w (undo_of rs)) (last_set w rs) (left_sets uses w rs s.1)
-left_sets uses w (Prereq names ∷ rs) s = or_none (last_set w (undo_of rs)) (last_set w rs) (left_sets uses w rs s.1)
-left_sets uses w (Whatis text ∷ rs) s = or_none (last_set w (undo_of rs)) (last_set w rs) (left_sets uses w rs s.1)
+left_sets uses w (r ∷ rs) s = or_none (last_set w (undo_of rs)) (last_set w rs) (left_sets uses w rs s.1)
 
 pub left_pushes : (w : Text) (rs : List Record) → is_some (last_push w (undo_of rs)) ≡ is_some (last_push w rs)
 left_pushes w [] = refl
 left_pushes w (Set v x ∷ rs) = or_some (last_push w (undo_of rs)) (last_push w rs) None None (left_pushes w rs) refl
-left_pushes w (Unset v None ∷ rs) = or_none (last_push w (undo_of rs)) (last_push w rs) (left_pushes w rs)
 left_pushes w (Unset v (Some x) ∷ rs) = or_some (last_push w (undo_of rs)) (last_push w rs) None None (left_pushes w rs) refl
 left_pushes w (Push v x ∷ rs) = or_some (last_push w (undo_of rs)) (last_push w rs) _ _ (left_pushes w rs) (given (bytes_eq w v) [] x)
 left_pushes w (Front d v xs ∷ rs) = or_some (last_push w (undo_of rs)) (last_push w rs) None None (left_pushes w rs) refl
 left_pushes w (Back d v xs ∷ rs) = or_some (last_push w (undo_of rs)) (last_push w rs) None None (left_pushes w rs) refl
-left_pushes w (Remove d v xs ∷ rs) = or_none (last_push w (undo_of rs)) (last_push w rs) (left_pushes w rs)
-left_pushes w (Conflict names ∷ rs) = or_none (last_push w (undo_of rs)) (last_push w rs) (left_pushes w rs)
-left_pushes w (Prereq names ∷ rs) = or_none (last_push w (undo_of rs)) (last_push w rs) (left_pushes w rs)
-left_pushes w (Whatis text ∷ rs) = or_none (last_push w (undo_of rs)) (last_push w rs) (left_pushes w rs)
+left_pushes w (r ∷ rs) = or_none (last_push w (undo_of rs)) (last_push w rs) (left_pushes w rs)

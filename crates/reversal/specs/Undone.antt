@@ -1,20 +1,16 @@
 -- What an unload looks at of the records of a module (own; by what modulefile(5) says of each command in unloads).
 use Rattle.std.specs.Prelude.{◌≡◌, List, [], filter_map, Option, Some, None}
-use Rattle.modulefile.specs.Records.{Record, Set, Unset, Push, Front, Back, Remove, Conflict, Prereq, Whatis}
+use Rattle.modulefile.specs.Records.{Record, Set, Unset, Push, Front, Back}
 
 -- A record as its unload sees it: a variable set or pushed, of whatever value; elements added to a path, at whatever
 -- end. There is none where an unload does nothing.
 abbrev pub undone_as : Record → Option Record
 undone_as (Set var value) = Some (Set var [])
-undone_as (Unset var None) = None
 undone_as (Unset var (Some value)) = Some (Unset var (Some value))
 undone_as (Push var value) = Some (Push var [])
 undone_as (Front delim var xs) = Some (Front delim var xs)
 undone_as (Back delim var xs) = Some (Front delim var xs)
-undone_as (Remove delim var xs) = None
-undone_as (Conflict names) = None
-undone_as (Prereq names) = None
-undone_as (Whatis text) = None
+undone_as r = None
 
 -- those of several, in their order
 abbrev pub undo_of : List Record → List Record

@@ -1,7 +1,7 @@
 -- How loads and unloads use variables, and the records that unloading undoes (own).
 use Rattle.std.specs.Prelude.{◌≡◌, ℕ, Bool, true, false, List, [], ◌∷◌, Option, Some, None}
 use Rattle.envvars.specs.Texts.{Text}
-use Rattle.modulefile.specs.Records.{Record, Set, Unset, Push, Front, Back, Remove, Conflict, Prereq, Whatis}
+use Rattle.modulefile.specs.Records.{Record, Set, Unset, Push, Front, Back, Remove}
 
 -- How a variable is used: each has one use.
 pub data VariableUse : Type 0 where
@@ -14,31 +14,20 @@ pub data VariableUse : Type 0 where
   -- a stack of pushed values
   Stacked : VariableUse
 
--- the kinds of records that unloading undoes
+-- The kinds of records that unloading undoes are all but two.
 abbrev pub is_reversible : Record → Bool
-is_reversible (Set var value) = true
 is_reversible (Unset var None) = false
-is_reversible (Unset var (Some value)) = true
-is_reversible (Push var value) = true
-is_reversible (Front delim var xs) = true
-is_reversible (Back delim var xs) = true
 is_reversible (Remove delim var xs) = false
-is_reversible (Conflict names) = true
-is_reversible (Prereq names) = true
-is_reversible (Whatis text) = true
+is_reversible r = true
 
 -- The record follows the use of the variable that it names. Of the kinds that are not undone nothing is asked here.
 abbrev pub FollowsUse : (Text → VariableUse) → Record → Type 0
 FollowsUse uses (Set var value) = uses var ≡ Fixed None
-FollowsUse uses (Unset var None) = Unit {0}
 FollowsUse uses (Unset var (Some value)) = uses var ≡ Fixed (Some value)
 FollowsUse uses (Push var value) = uses var ≡ Stacked
 FollowsUse uses (Front delim var xs) = uses var ≡ Pathed delim
 FollowsUse uses (Back delim var xs) = uses var ≡ Pathed delim
-FollowsUse uses (Remove delim var xs) = Unit {0}
-FollowsUse uses (Conflict names) = Unit {0}
-FollowsUse uses (Prereq names) = Unit {0}
-FollowsUse uses (Whatis text) = Unit {0}
+FollowsUse uses r = Unit {0}
 
 -- Each record uses its variable as the variable is used by all modules.
 abbrev pub AllFollowUses : (Text → VariableUse) → List Record → Type 0
