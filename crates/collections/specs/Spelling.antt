@@ -21,7 +21,7 @@ escape b = if is_plain b then b ∷ [] else 92 ∷ (if b == 10 then 110 else b) 
 abbrev pub braced : Text → Text
 braced word = 123 ∷ (word ++ 125 ∷ [])
 
--- a word as it is, in braces, or with backslashes, whichever comes first of those that are read again
+-- A word is written as it is where all its bytes may be; else in braces where they keep it; else with backslashes.
 abbrev pub spelled : Text → Text
 spelled word =
     if list_all is_plain word then word

@@ -1,5 +1,5 @@
 pub mod Continuations
--- for the contracts of private functions
-pub mod Increments
 pub mod CommandTexts
 pub mod Completions
+-- for the contracts of private functions
+pub mod Increments

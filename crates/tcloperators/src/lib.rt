@@ -1,5 +1,5 @@
 //! The operators of expressions (expr(n)) on values, truth values, and the fault of a value.
-//! Takes memory and touches nothing else. Hands on the numbers and lists that values are read as.
+//! Takes memory and touches nothing else.
 #![tactic(auto)]
 
 mod fault;

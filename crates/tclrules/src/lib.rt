@@ -1,5 +1,5 @@
 //! What a Tcl script evaluates to, as rules (Tcl(n) and the page of each command) with their laws; the trait of hosts.
-//! Touches nothing: definitions and theorems, the trait, and the limits. Hands on what tclvalue computes.
+//! Touches nothing: definitions and theorems, the trait, the limits, and how an evaluation ends.
 #![tactic(auto)]
 
 mod host;
