@@ -1,4 +1,4 @@
-//! Worked examples of the environment: answers what lines ask about variables, processes, disks and texts for shells.
+//! Worked examples of the environment: answers lines on variables, MODULEPATH, collections, disks and texts for shells.
 //! Touches standard input and output, its own arguments and environment, and files and directories of the disk.
 //! Nothing stands above it; the files `stdin` and `stdout` of this crate are these lines and their answers.
 //!
@@ -21,6 +21,11 @@
 //! where it is unset. Each line is shown after `> `, and then the text, or after `!` the number and the text of the
 //! fault.
 //!
+//! `directories` asks what `use` and `unuse` make of MODULEPATH: `prepend`, `append` or `unuse`, the working directory,
+//! MODULEPATH, and directories; `-` is none of the first two. `collections` asks what a text keeps (`read TEXT`), its
+//! directories behind `+`, and for the text of directories and modules (`save DIRECTORIES MODULES`, with commas between,
+//! `-` for none). Each line is shown after `> `, and a fault behind `!`.
+//!
 //! `names` takes the public names that no call of these lines has: each fault of the environment, with its number.
 //!
 //! After a mark, which is `^` in the calls and a backslash elsewhere, `n`, `t` and `s` mean a newline, a tab and a
@@ -28,8 +33,10 @@
 //! times x, and every other character means itself.
 #![tactic(auto)]
 
+mod directories;
 mod disks;
 mod edits;
+mod kept;
 mod names;
 mod printing;
 mod processes;
@@ -47,6 +54,8 @@ fn answer_about(rt: &HostRuntime, subject: &str, lines: &[String]) -> io::Result
         "variables" => variables::answer(rt, lines),
         "system" => system_lines::answer(rt, lines),
         "shells" => printing::answer(rt, lines),
+        "directories" => directories::answer(rt, lines),
+        "collections" => kept::answer(rt, lines),
         "names" => names::answer(rt),
         _ => println!(rt; "no such lines: {subject}"),
     }
