@@ -5,7 +5,6 @@ use Rattle.std.proofs.lemmas.List.{map_push}
 use Rattle.envvars.specs.Texts.{Text}
 use Rattle.envvars.specs.Environment.{Environment}
 use Rattle.envvars.specs.Changes.{NewValue, applied}
-use Rattle.modulefile.specs.Records as records
 use Rattle.modulefile.specs.Effects as effects
 use Rattle.modulefile.specs.Effects.{effect, effects}
 use Rattle.modulefile.proofs.Bound.{bind_ok}

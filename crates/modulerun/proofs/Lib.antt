@@ -4,3 +4,4 @@ pub mod ListLemmas
 pub mod ReplyLemmas
 pub mod RunLemmas
 pub mod DraftLemmas
+pub mod BatchLemmas

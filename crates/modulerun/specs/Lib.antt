@@ -1,6 +1,7 @@
 pub mod Running
 pub mod RecordAnswers
 pub mod Journals
+pub mod Batches
 pub mod Hosting
 pub mod Messages
 pub mod Refusals

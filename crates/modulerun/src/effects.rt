@@ -5,9 +5,9 @@ ghost use Rattle.std.specs.Option.{option_map};
 ghost use Rattle.envvars.specs.Reasons.{Edits};
 ghost use Rattle.envpaths.specs.PathVariables.{is_element, path_reason, added_path, dropped_path};
 ghost use Rattle.modulefile.specs.Judgments.{bad_edit, value_reason, values_of, names_reason, record_reason};
-ghost use Rattle.modulefile.specs.Effects.{loaded_by, unloaded_by, edited, effect};
+ghost use Rattle.modulefile.specs.Effects.{loaded_by, unloaded_by, edited};
 ghost use Rattle.modulefile.specs.RecordViews.{record_view, mode_view};
-ghost use Rattle.modulerun.specs.RecordAnswers.{IsJudged, IsEdited};
+ghost use Rattle.modulerun.specs.RecordAnswers.{IsJudged};
 
 use envpaths::{End, add_path, drop_path, is_element};
 use envstacks::{pop_value, push_value};
@@ -69,7 +69,7 @@ fn judge_names(alloc: Global, names: &[String]) -> Result<(), RecordFault>
 }
 
 /// Refuses a record that no environment would take.
-fn judge(alloc: Global, recorded: &Record) -> Result<(), RecordFault>
+pub(crate) fn judge(alloc: Global, recorded: &Record) -> Result<(), RecordFault>
     ensures { IsJudged result (record_reason (record_view recorded.now)) }
 {
     match recorded {
@@ -182,7 +182,7 @@ fn unload<V: Vars>(
 }
 
 /// Edits the environment as a file with this record does in the mode: only loads and unloads change it.
-fn edit<V: Vars>(
+pub(crate) fn edit<V: Vars>(
     alloc: Global,
     mode: Mode,
     owner: &str,
@@ -199,26 +199,4 @@ fn edit<V: Vars>(
         Mode::Display => Ok(()),
         Mode::Whatis => Ok(()),
     }
-}
-
-/// Makes the effect of a record of a module, in a mode: the record is judged in every mode, and then loading or
-/// unloading edits the environment.
-///
-/// It is refused, in this order, by `BadVariable` (32), `Protected` (33) and `BadValue` (37), or by `BadModuleName`
-/// (44) of the first name that is ill spelled, in every mode, and then by `CounterFull` (34) or `BadStack` (36); or by
-/// `OutOfMemory`. The environment is then as it was.
-pub(crate) fn effect<V: Vars>(
-    alloc: Global,
-    mode: Mode,
-    owner: &str,
-    recorded: &Record,
-    env: &mut V,
-) -> Result<(), RecordFault>
-    ensures edits { IsEdited result (V.vars env.old) (V.vars env.new)
-        (effect (mode_view mode) owner.now (record_view recorded.now) (V.vars env.old)) }
-    ensures base { V.base env.new ≡ V.base env.old }
-{
-    judge(alloc, recorded)?;
-    edit(alloc, mode, owner, recorded, env)?;
-    Ok(())
 }

@@ -12,8 +12,8 @@ ghost use Rattle.modulerun.specs.RecordAnswers.{IsEdited};
 ghost use Rattle.modulerun.specs.Journals.{environment_so_far, journal_state, words_in, AddsCommand};
 
 use crate::accepted::AcceptedCommand;
-use crate::effects::effect;
-use envvars::{Change, EnvFault, Vars, WorkingCopy};
+use crate::batched_vars::BatchedVars;
+use envvars::{Change, EnvFault, Vars};
 use modulefile::{Mode, Record, RecordFault};
 use std::alloc::{AllocError, Global};
 use std::marker::Model;
@@ -26,7 +26,7 @@ pub(crate) struct Journal<'a, V: Vars> {
     mode: Mode,
     module_name: &'a str,
     entries: Vec<AcceptedCommand>,
-    working: WorkingCopy<'a, V>,
+    working: BatchedVars<'a, V>,
 }
 
 // By hand: `derive(Drop)` would ask for `V: Drop`, and the variables are borrowed.
@@ -73,23 +73,22 @@ fn remembered(alloc: Global, words: &[String]) -> Result<Vec<Snapshot<String>>, 
     Ok(remembered)
 }
 
-/// Adds an entry, where its record has its effect on `env`. Else neither changes.
+/// Adds an entry, where its record has its effect on `working`. Else neither changes.
 fn add_entry<V: Vars>(
-    alloc: Global,
     mode: Mode,
     module_name: &str,
     entry: AcceptedCommand,
     entries: &mut Vec<AcceptedCommand>,
-    env: &mut V,
+    working: &mut BatchedVars<'_, V>,
 ) -> Result<(), RecordFault>
     ensures ok { OnOk result (entries.new.items ≡ entries.old.items ++ entry ∷ []) }
     ensures err { OnErr result (entries.new.items ≡ entries.old.items) }
-    ensures edits { IsEdited result (V.vars env.old) (V.vars env.new)
-        (effect (mode_view mode) module_name.now (record_view entry.recorded) (V.vars env.old)) }
-    ensures base { V.base env.new ≡ V.base env.old }
+    ensures edits { IsEdited result working.old.new working.new.new
+        (effect (mode_view mode) module_name.now (record_view entry.recorded) working.old.new) }
+    ensures base { working.new.old ≡ working.old.old }
 {
     entries.reserve(1)?;
-    effect(alloc, mode, module_name, &entry.recorded, env)?;
+    working.make_effect(mode, module_name, &entry.recorded)?;
     entries.push_reserved(entry);
     Ok(())
 }
@@ -119,7 +118,7 @@ impl<'a, V: Vars> Journal<'a, V> {
             mode,
             module_name,
             entries: Vec::new(alloc),
-            working: WorkingCopy::over_vars(alloc, before),
+            working: BatchedVars::over(alloc, before),
         }
     }
 
@@ -138,10 +137,11 @@ impl<'a, V: Vars> Journal<'a, V> {
     }
 
     /// The value of a variable, as the file finds it.
-    pub(crate) fn get(&self, name: &str) -> Option<&str>
-        ensures { option_map (λ x. x.now) result ≡ lookup (environment_so_far self.now) name.now }
+    pub(crate) fn value(&mut self, name: &str) -> Result<Option<String>, AllocError>
+        ensures value { IfOk result (λ v. option_map string_bytes v ≡ lookup (environment_so_far self.old) name.now) }
+        ensures same { self.new ≡ self.old }
     {
-        self.working.get(name)
+        self.working.value(name)
     }
 
     /// Adds an accepted command by its words and its record, where the record has its effect. Else nothing changes.
@@ -155,7 +155,6 @@ impl<'a, V: Vars> Journal<'a, V> {
     {
         let words = remembered(self.alloc, words)?;
         add_entry(
-            self.alloc,
             self.mode,
             self.module_name,
             AcceptedCommand { words, recorded },

@@ -3,6 +3,8 @@
 #![tactic(auto)]
 
 mod accepted;
+mod batch;
+mod batched_vars;
 mod command_refusal;
 mod context;
 mod effects;

@@ -179,16 +179,18 @@ impl<'a, V: Vars> Runner<'a, V> {
     }
 
     /// The value of a variable, or else the default; in the mode `display` the variable itself, as `$VAR`.
-    fn value_shown(&self, var: &str, default: &str) -> Result<String, AllocError>
-        ensures { IfOk result (λ t. string_bytes t
-            ≡ value_shown (mode_view self.now.journal.mode) (environment_so_far self.now.journal) var.now default.now) }
+    fn value_shown(&mut self, var: &str, default: &str) -> Result<String, AllocError>
+        ensures value { IfOk result (λ t. string_bytes t
+            ≡ value_shown (mode_view self.old.journal.mode) (environment_so_far self.old.journal) var.now default.now) }
+        ensures trace { trace_of self.new ≡ trace_of self.old }
+        ensures same { context_of self.new ≡ context_of self.old }
     {
         match self.journal.mode() {
             Mode::Display => format!(in self.alloc; "${var}"),
-            Mode::Load | Mode::Unload | Mode::Whatis => String::from_str(
-                self.alloc,
-                self.journal.get(var).unwrap_or(default),
-            ),
+            Mode::Load | Mode::Unload | Mode::Whatis => match self.journal.value(var)? {
+                Some(value) => Ok(value),
+                None => String::from_str(self.alloc, default),
+            },
         }
     }
 
@@ -386,9 +388,6 @@ impl<'a, V: Vars> Host for Runner<'a, V> {
     fn read_env(&mut self, name: &str) -> Result<Option<String>, AllocError> {
         self.asked = true;
         self.note_variable(name);
-        match self.journal.get(name) {
-            None => Ok(None),
-            Some(value) => Ok(Some(String::from_str(self.alloc, value)?)),
-        }
+        self.journal.value(name)
     }
 }
