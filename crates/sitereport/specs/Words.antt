@@ -2,7 +2,8 @@
 -- spelled in a line. Which characters end a line or turn its direction: Unicode Standard Annex 14, class BK, and
 -- Annex 9, the property Bidi_Control.
 use Rattle.std.specs.Prelude.{ℕ, ◌/◌, ◌%◌, ◌==◌, ◌||◌, ◌&&◌, nat_lt, Bool, true, not, if◌then◌else◌, List, [], ◌∷◌}
-use Rattle.std.specs.Prelude.{◌++◌, bytes_eq, chars, codes, count_by, decimal, encode_utf8, flat_map, Some, None, string_bytes}
+use Rattle.std.specs.Prelude.{◌++◌, bytes_eq, chars, codes, count_by, decimal, encode_utf8, flat_map, Some, None}
+use Rattle.std.specs.Prelude.{string_bytes}
 use Rattle.std.specs.Char.{digit_char}
 use Rattle.envvars.specs.Texts.{Text}
 use Rattle.tcllist.specs.Lists.{list_text}

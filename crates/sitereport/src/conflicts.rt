@@ -1,6 +1,5 @@
 //! The names in conflicts that mean no module of the site: a line for each of them, with how many files have it.
-ghost use Rattle.std.specs.Prelude.{◌≡◌, ◌+◌, ◌++◌, [], bytes_eq, decimal, flat_map, if◌then◌else◌, IfOk, OnOk, string_bytes};
-ghost use Rattle.std.specs.List.{count_by};
+ghost use Rattle.std.specs.Prelude.{◌≡◌, ◌+◌, ◌++◌, [], flat_map, if◌then◌else◌, IfOk, OnOk, string_bytes};
 ghost use Rattle.envvars.specs.Texts.{slice_texts, texts_in};
 ghost use Rattle.sitereport.specs.Counts.{CountsOne, HasCounts, counted_at};
 ghost use Rattle.sitereport.specs.Remarks as spec;

@@ -113,8 +113,8 @@ fn push_sums(
     push_sum(alloc, report, "refused", modules)
 }
 
-/// The report of an audit as lines: one for each module that it names, one that says how many modules are certified, one
-/// for each other standing that says how many stand so, and the remarks. It fails for want of memory alone.
+/// The report of an audit as lines: one for each module that it names, one that says how many modules are certified,
+/// one for each other standing that says how many stand so, and the remarks. It fails for want of memory alone.
 pub fn line_report(
     alloc: Global,
     selection: Selection,
