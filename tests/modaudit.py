@@ -169,7 +169,7 @@ ROWS = {
             ("c/1", "clashes", "V: set here, set in ab/1 (/m/ab/1); used so by 2"),
             ("d/1", "certified", ""),
         ],
-        ["# c/1 (/m/c/1): conflict names no module: 'a'"],
+        ["# conflict names no module: 'a' (in 1 file)"],
     ),
     "two versions of one module": (
         {"/m/a/1": "setenv V x\n", "/m/a/2": "setenv V y\n"},
@@ -258,10 +258,18 @@ def place_of(name, files):
     return next(path for path in files if path.split("/", 2)[2] == name)
 
 
+# The standings of which a report has the sums, in its order (modaudit(1), How modules stand).
+OTHERS = ("asks", "one-way", "out-of-step", "clashes", "refused")
+
+
+def counts_of(words):
+    """How many modules are certified, and how many stand otherwise."""
+    return [f"# {words.count('certified')} certified of {len(words)}", *[f"# {words.count(it)} {it}" for it in OTHERS if it in words]]
+
+
 def lines_of(files, rows, remarks=()):
     lines = ["\t".join([name, word, reason, place_of(name, files)]) for name, word, reason in rows]
-    sure = sum(word == "certified" for _, word, _ in rows)
-    return [*lines, f"# {sure} certified of {len(rows)}", *remarks]
+    return [*lines, *counts_of([word for _, word, _ in rows]), *remarks]
 
 
 each_row = pytest.mark.parametrize("files, rows, remarks", [(*row, ())[:3] for row in ROWS.values()], ids=ROWS)
@@ -300,6 +308,7 @@ def test_two_files_of_one_name(folder):
         "a/1\tcertified\t\t/m/a/1",
         "a/1\tclashes\tV: unset of 'y' here, set in a/1 (/m/a/1); used so by 1\t/n/a/1",
         "# 1 certified of 2",
+        "# 1 clashes",
     ]
     Site(folder, files, "/m:/n").says(lines)
     lines = ["a/1\tcertified\t\t/m/a/1", "a/1\tcertified\t\t/n/a/1", "# 2 certified of 2"]
@@ -324,11 +333,13 @@ def test_remarks_on_default_files_and_names(folder):
         "c/1\tasks\tgetenv HOME\t/m/c/1",
         "d/1\trefused\tinvalid command name \"nope\" (line 3)\t/m/d/1",
         "# 2 certified of 4",
+        "# 1 asks",
+        "# 1 refused",
         "# bad default file: /m/a/.version",
-        "# b/1 (/m/b/1): conflict names no module: 'z'",
+        "# conflict names no module: 'z' (in 1 file)",
+        "# conflict names no module: 'c/2' (in 1 file)",
+        "# conflict names no module: 'w' (in 1 file)",
         "# b/1 (/m/b/1): prereq names no module: 'y' 'x'",
-        "# c/1 (/m/c/1): conflict names no module: 'c/2'",
-        "# c/1 (/m/c/1): conflict names no module: 'w'",
     ]
     files["/m/c/1"] = files["/m/c/1"].replace(" {}", "")
     Site(folder, files).says(lines, status=1)
@@ -343,6 +354,7 @@ def test_remarks_on_the_environment_at_hand(folder):
         "a/1\tcertified\t\t/m/a/1",
         'b/1\trefused\tinvalid command name "nope" (line 3)\t/m/b/1',
         "# 1 certified of 2",
+        "# 1 refused",
     ]
     bad = [
         "# environment: V is set",
@@ -410,7 +422,7 @@ STARTS = [
 @pytest.mark.parametrize("text, variables, reasons", STARTS, ids=[f"{text} over {start}" for text, start, _ in STARTS])
 def test_starts_that_agree_and_that_do_not(folder, text, variables, reasons):
     remarks = [f"# environment: {reason}" for reason in reasons]
-    names = ["# a/1 (/m/a/1): conflict names no module: 'z'"] if text == "conflict z" else []
+    names = ["# conflict names no module: 'z' (in 1 file)"] if text == "conflict z" else []
     site = Site(folder, {"/m/a/1": text + "\n"}, **variables)
     site.says(["a/1\tcertified\t\t/m/a/1", "# 1 certified of 1", *names, *remarks])
 
@@ -419,7 +431,7 @@ def test_starts_that_no_module_can_be_evaluated_over(folder):
     """A text that is no stack refuses the modules that push onto it; one that is no list of modules, the whole audit."""
     for text in ("x&1:x&0", "1", ""):
         site = Site(folder, {"/m/a/1": "pushenv V z\n", "/m/b/1": "setenv W z\n"}, V="1", __MODULES_PUSHENV_V=text, **LOADED)
-        site.says(["a/1\trefused\tBad stack of 'V'\t/m/a/1", "b/1\tcertified\t\t/m/b/1", "# 1 certified of 2"])
+        site.says(["a/1\trefused\tBad stack of 'V'\t/m/a/1", "b/1\tcertified\t\t/m/b/1", "# 1 certified of 2", "# 1 refused"])
         site.clear()
     twice = {"LOADEDMODULES": "x:x", "_LMFILES_": "/o/x:/o/x"}
     Site(folder, {"/m/a/1": "setenv V x\n"}, **twice).refuses("Loaded modules are inconsistent")
@@ -435,7 +447,7 @@ def test_control_characters_in_paths_and_reasons(folder):
         file.write('#%Module\nerror "x\\ny\\tz\\\\ \\r"\n')
     done = folder.run(directory)
     path = os.path.join(os.fsdecode(folder.path), "a\\tb\\nc\\\\d\\x01\\x7f\u00e9")
-    wanted = f"a/1\trefused\tx\\ny\\tz\\\\ \\x0d (line 2)\t{path}/a/1\n# 0 certified of 1\n"
+    wanted = f"a/1\trefused\tx\\ny\\tz\\\\ \\x0d (line 2)\t{path}/a/1\n# 0 certified of 1\n# 1 refused\n"
     same((done.stdout.decode(), done.stderr, done.returncode), (wanted, b"", 1), "what is said")
     found = json.loads(folder.run("--json", directory).stdout)["modules"][0]
     same((found["path"], found["refusal"]), (f"{directory}/a/1", "x\ny\tz\\ \r (line 2)"), "the document")
@@ -454,12 +466,51 @@ def test_each_control_character(folder):
     same(json.loads(folder.run("--json", directory).stdout)["modules"][0]["path"], f"{directory}/a/1", "the document")
 
 
+def test_marks_in_names(folder):
+    """Control characters beyond ASCII, and what breaks a line or turns its direction (Unicode, UAX 9 and UAX 14)."""
+    marks = [*range(0x80, 0xA0), 0x61C, 0x200E, 0x200F, *range(0x2028, 0x202F), *range(0x2066, 0x206A)]
+    others = "\u00a0\u061b\u061d\u200d\u2010\u2027\u202f\u2065\u206a\uffff\U0010ffff"
+    spelled = "".join(f"\\x{mark:02x}" if mark < 256 else f"\\u{mark:04x}" for mark in marks)
+    directory = os.path.join(os.fsdecode(folder.path), others + "".join(map(chr, marks)))
+    write(folder, os.path.join(directory, "a", "1"), "")
+    done = folder.run(directory)
+    path = os.path.join(os.fsdecode(folder.path), others + spelled)
+    wanted = f"a/1\tcertified\t\t{path}/a/1\n# 1 certified of 1\n"
+    same((done.stdout.decode(), done.stderr, done.returncode), (wanted, b"", 0), "what is said")
+
+
+def test_names_in_conflicts_of_many_files(folder):
+    """A remark a name, with how many files have it; a prereq that can't be met is of one module."""
+    files = {f"/m/a/{number}": "conflict pgi cray\nconflict pgi\n" for number in range(3)}
+    files["/m/b/1"] = "conflict nvhpc cray a\nprereq pgi\n"
+    lines = [f"a/{number}\tcertified\t\t/m/a/{number}" for number in range(3)]
+    lines += ["b/1\tcertified\t\t/m/b/1", "# 4 certified of 4"]
+    names = {"pgi": "3 files", "cray": "4 files", "nvhpc": "1 file"}
+    lines += [f"# conflict names no module: '{name}' (in {count})" for name, count in names.items()]
+    Site(folder, files).says([*lines, "# b/1 (/m/b/1): prereq names no module: 'pgi'"])
+
+
+def test_sums_by_standing(folder):
+    files = {
+        "/m/a/1": "getenv HOME\n",
+        "/m/a/2": "getenv HOME\n",
+        "/m/b/1": "unsetenv V\n",
+        "/m/c/1": "setenv V x\npushenv V y\n",
+        "/m/d/1": "setenv W x\n",
+        "/m/d/2": "setenv W y\n",
+        "/m/e/1": "nope\n",
+    }
+    lines = ["# 1 certified of 7", "# 2 asks", "# 1 one-way", "# 1 out-of-step", "# 1 clashes", "# 1 refused"]
+    done = Site(folder, files).run("--quiet")
+    same([line for line in done.stdout.decode().splitlines() if line.startswith("#")], lines, "the sums")
+
+
 def test_remarks_come_once(folder):
-    """A default file by which two directories are refused, a name that two conflicts have, and a prereq that stands twice."""
+    """A default file by which two directories are refused, names that two files have in conflicts, and a prereq that
+    stands twice."""
     files = {"/m/a/b/1": "conflict y x y\nconflict x\nprereq p q\nprereq q p\nprereq p q\n", "/m/a/b/.modulerc": "nope\n"}
-    lines = []
+    lines = [f"# conflict names no module: '{text}' (in 2 files)" for text in "yx"]
     for name in ("a/b/1", "b/1"):
-        lines += [f"# {name} (/m/a/b/1): conflict names no module: '{text}'" for text in "yx"]
         lines += [f"# {name} (/m/a/b/1): prereq names no module: {names}" for names in ("'p' 'q'", "'q' 'p'")]
     found = ["a/b/1\tcertified\t\t/m/a/b/1", "b/1\tcertified\t\t/m/a/b/1", "# 2 certified of 2", "# bad default file: /m/a/b/.modulerc"]
     Site(folder, files, "/m:/m/a").says([*found, *lines])
@@ -490,6 +541,7 @@ def test_the_document_says_the_same(folder):
                 "variable": "E",
                 "uses": [{"use": "set"}, {"use": "stack"}],
                 "other": {"name": "f/1", "path": f"{there}/f/1"},
+                "alike": 1,
             },
             {"name": "f/1", "standing": "certified"},
             {"name": "g/1", "standing": "refused", "refusal": 'invalid command name "nope" (line 2)'},
@@ -686,18 +738,18 @@ def test_a_site_of_two_thousand_modules(folder):
     folder.module("p0/own", "setenv P1_ROOT x\n")
     done = folder.run("--quiet")
     lines = done.stdout.decode().splitlines()
-    same(lines[-1], "# 2000 certified of 2001", "one that sets the variable of four others")
-    same([line.split("\t")[:2] for line in lines[:-1]], [["p0/own", "clashes"]], "who stands aside")
+    same(lines[1:], ["# 2000 certified of 2001", "# 1 clashes"], "one that sets the variable of four others")
+    same(lines[0].split("\t")[:2], ["p0/own", "clashes"], "who stands aside")
     same("used so by 5" in lines[0], True, "how many set it")
 
 
 def test_a_family_of_two_thousand_versions(folder):
     """All set one variable: none clashes where they exclude each other, and all but one do where they don't."""
-    for conflict, certified_ones in (("conflict m\n", 2000), ("", 1)):
+    for conflict, counts in (("conflict m\n", ["# 2000 certified of 2000"]), ("", ["# 1 certified of 2000", "# 1999 clashes"])):
         for number in range(2000):
             folder.module(f"m/{number}", f"{conflict}setenv V x\nprepend-path P /p\n")
         lines = folder.run().stdout.decode().splitlines()
-        same((len(lines), lines[-1]), (2001, f"# {certified_ones} certified of 2000"), f"what is said with {conflict!r}")
+        same(lines[2000:], counts, f"what is said with {conflict!r}")
 
 
 def test_those_that_most_get_on_with_stay(folder):
@@ -709,9 +761,9 @@ def test_those_that_most_get_on_with_stay(folder):
         folder.module(name, "setenv PYTHONPATH /y\n")
     lines = [line.split("\t") for line in folder.run("--quiet").stdout.decode().splitlines()]
     there = os.fsdecode(folder.modules)
-    same([line[:2] for line in lines[:-1]], [["a/1", "clashes"], ["z/1", "clashes"]], "who stands aside")
-    same({line[2].replace(f"({there}", "(/m") for line in lines[:-1]}, {reason}, "why")
-    same(lines[-1], ["# 200 certified of 202"], "how many are certified")
+    same([line[:2] for line in lines[:-2]], [["a/1", "clashes"], ["z/1", "clashes"]], "who stands aside")
+    same({line[2].replace(f"({there}", "(/m") for line in lines[:-2]}, {reason}, "why")
+    same(lines[-2:], [["# 200 certified of 202"], ["# 2 clashes"]], "how many are certified")
 
 
 def test_twice_as_many_modules_cost_twice_as_much(folder, note):

@@ -1,2 +1,4 @@
+pub mod CountLemmas
+pub mod FieldLemmas
 pub mod TextLemmas
 pub mod TokenLemmas

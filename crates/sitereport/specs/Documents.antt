@@ -94,7 +94,8 @@ standing_fields (Asks (Some question)) = (codes "question", text_value question)
 standing_fields (OneWay first) = (codes "record", string (record_words first)) ∷ []
 standing_fields (OutOfStep variable one other) = two_uses_fields variable one other
 standing_fields (Clashes c) =
-    two_uses_fields c.variable c.own c.theirs ++ (codes "other", place_value c.other_name c.other_path) ∷ []
+    two_uses_fields c.variable c.own c.theirs
+    ++ (codes "other", place_value c.other_name c.other_path) ∷ (codes "alike", number (decimal c.alike)) ∷ []
 standing_fields (Refused refusal) = (codes "refusal", string (message_of refusal)) ∷ []
 
 -- a module, how it stands in one word, and why

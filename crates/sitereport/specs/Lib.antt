@@ -3,4 +3,5 @@ pub mod Words
 pub mod Remarks
 pub mod Reports
 pub mod Documents
+pub mod Counts
 pub mod Tokens

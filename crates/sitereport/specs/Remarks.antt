@@ -1,9 +1,11 @@
 -- The remarks in the report of an audit (own): each is a line that begins with `# `.
-use Rattle.std.specs.Prelude.{if◌then◌else◌, ◌∷◌, ◌++◌, codes, flat_map, map, List, string_bytes}
+use Rattle.std.specs.Prelude.{ℕ, ◌==◌, if◌then◌else◌, [], ◌∷◌, ◌++◌, bytes_eq, codes, decimal, flat_map, map}
+use Rattle.std.specs.Prelude.{List, string_bytes}
+use Rattle.std.specs.List.{count_by}
 use Rattle.std.specs.declared.alloc.Global.{Global}
 use Rattle.std.specs.declared.string.String.{String}
 use Rattle.envvars.specs.Fields.{without_repeats}
-use Rattle.envvars.specs.Texts.{Text}
+use Rattle.envvars.specs.Texts.{Text, texts_in}
 use Rattle.modulefile.specs.declared.delimiter.Delimiter.{Delimiter}
 use Rattle.sitecertificate.specs.declared.disagreement.Disagreement.{Disagreement}
 use Rattle.sitecertificate.specs.declared.disagreement.Disagreement.TheVariants.{LoadedTexts, IsSet, HasNotValue}
@@ -31,11 +33,37 @@ quoted_name name = quoted (string_bytes name)
 abbrev pub command_of : UnknownNames → Text
 command_of u = if u.is_prereq then codes "prereq" else codes "conflict"
 
--- the line of a command whose names mean no module of the site
+-- the line of a module with a command whose names mean no module of the site
 unfoldable pub unknown_line : UnknownNames → Text
 unknown_line u =
     codes "# " ++ (spelled (string_bytes u.name) ++ (codes " (" ++ (spelled (string_bytes u.path) ++ (codes "): "
     ++ (command_of u ++ (codes " names no module:" ++ (flat_map quoted_name u.names.items ++ codes "\n")))))))
+
+-- the line of a module with such a prereq; else nothing
+abbrev pub prereq_line : UnknownNames → Text
+prereq_line u = if u.is_prereq then unknown_line u else []
+
+-- the names of the conflicts, in their order, as often as they stand there: each is once a module
+abbrev pub conflict_names : List UnknownNames → List Text
+conflict_names us = flat_map (λ u. if u.is_prereq then [] else texts_in u.names) us
+
+-- so many files
+abbrev pub files_words : ℕ → Text
+files_words n = decimal n ++ (if n == 1 then codes " file" else codes " files")
+
+-- the line of a name in conflicts that means no module of the site, and how many files have it
+unfoldable pub conflict_line : ℕ → Text → Text
+conflict_line n name =
+    codes "# conflict names no module:" ++ (quoted name ++ (codes " (in " ++ (files_words n ++ codes ")\n")))
+
+-- a line for each of the names, in the order in which they first stand
+abbrev pub conflict_lines_of : List Text → Text
+conflict_lines_of names =
+    flat_map (λ name. conflict_line (count_by (bytes_eq name) names) name) (without_repeats names)
+
+-- the same of the conflicts among these commands
+abbrev pub conflict_lines : List UnknownNames → Text
+conflict_lines us = conflict_lines_of (conflict_names us)
 
 -- a delimiter in quotes
 abbrev pub delimiter : Delimiter → Text

@@ -1,11 +1,11 @@
 -- The report of an audit as lines (own).
-use Rattle.std.specs.Prelude.{if◌then◌else◌, List, [], ◌++◌, codes, decimal, flat_map, length, string_bytes}
+use Rattle.std.specs.Prelude.{ℕ, ◌==◌, if◌then◌else◌, List, [], ◌++◌, codes, decimal, flat_map, length, string_bytes}
 use Rattle.envvars.specs.Texts.{Text}
 use Rattle.siteaudit.specs.declared.auditing.AuditedModule.{AuditedModule}
 use Rattle.siteaudit.specs.declared.auditing.SiteAudit.{SiteAudit}
 use Rattle.sitereport.specs.declared.selection.Selection.{Selection}
-use Rattle.sitereport.specs.Words.{spelled, standing_word, reason, is_named, certified_count}
-use Rattle.sitereport.specs.Remarks.{bad_file_line, unknown_line, environment_lines}
+use Rattle.sitereport.specs.Words.{spelled, standing_word, reason, is_named, certified_count, standing_count}
+use Rattle.sitereport.specs.Remarks.{bad_file_line, conflict_lines, prereq_line, environment_lines}
 
 -- the line of a module: its name, its standing in one word, the reason and its path, parted by tabs
 unfoldable pub module_line : AuditedModule → Text
@@ -23,9 +23,24 @@ count_line modules =
     codes "# " ++ (decimal (certified_count modules) ++
     (codes " certified of " ++ (decimal (length modules) ++ codes "\n")))
 
--- The whole report: the modules that it names, the count, and the remarks.
+-- so many modules stand as the word says; nothing where none does
+abbrev pub number_line : ℕ → Text → Text
+number_line n word = if n == 0 then [] else codes "# " ++ (decimal n ++ (codes " " ++ (word ++ codes "\n")))
+
+-- how many of the modules do
+unfoldable pub sum_line : Text → List AuditedModule → Text
+sum_line word modules = number_line (standing_count word modules) word
+
+-- the same of each standing but certified
+abbrev pub sum_lines : List AuditedModule → Text
+sum_lines modules =
+    sum_line (codes "asks") modules ++ (sum_line (codes "one-way") modules ++ (sum_line (codes "out-of-step") modules
+    ++ (sum_line (codes "clashes") modules ++ sum_line (codes "refused") modules)))
+
+-- The whole report: the modules that it names, the count, the sums of those that aren't certified, and the remarks.
 abbrev pub report_of : Selection → SiteAudit → Text
 report_of selection found =
     flat_map (named_line selection) found.modules.items ++ (count_line found.modules.items
-    ++ (flat_map bad_file_line found.bad_default_files.items ++ (flat_map unknown_line found.unknown_names.items
-    ++ environment_lines found.disagreements.items)))
+    ++ (sum_lines found.modules.items ++ (flat_map bad_file_line found.bad_default_files.items
+    ++ (conflict_lines found.unknown_names.items ++ (flat_map prereq_line found.unknown_names.items
+    ++ environment_lines found.disagreements.items)))))

@@ -1,7 +1,9 @@
 -- What is said of a module in the report of an audit (own): how it stands in one word, and why; and how texts are
--- spelled in a line.
-use Rattle.std.specs.Prelude.{ℕ, ◌/◌, ◌%◌, ◌==◌, ◌||◌, nat_lt, Bool, true, not, if◌then◌else◌, List, [], ◌∷◌, ◌++◌}
-use Rattle.std.specs.Prelude.{codes, count_by, decimal, flat_map, Some, None, string_bytes}
+-- spelled in a line. Which characters end a line or turn its direction: Unicode Standard Annex 14, class BK, and
+-- Annex 9, the property Bidi_Control.
+use Rattle.std.specs.Prelude.{ℕ, ◌/◌, ◌%◌, ◌==◌, ◌||◌, ◌&&◌, nat_lt, Bool, true, not, if◌then◌else◌, List, [], ◌∷◌}
+use Rattle.std.specs.Prelude.{◌++◌, bytes_eq, chars, codes, count_by, decimal, encode_utf8, flat_map, Some, None}
+use Rattle.std.specs.Prelude.{string_bytes}
 use Rattle.std.specs.Char.{digit_char}
 use Rattle.envvars.specs.Texts.{Text}
 use Rattle.tcllist.specs.Lists.{list_text}
@@ -21,19 +23,37 @@ use Rattle.sitereport.specs.declared.selection.Selection.TheVariants.{Each, NotC
 
 -- ---- fields
 
--- the escape of a character by its two hexadecimal digits
+-- the escape of a control character by its two hexadecimal digits
 abbrev pub hex_escape : ℕ → Text
-hex_escape b = codes "\\x" ++ digit_char (b / 16) ∷ digit_char (b % 16) ∷ []
+hex_escape c = codes "\\x" ++ digit_char (c / 16) ∷ digit_char (c % 16) ∷ []
 
--- a byte of a field: a control character or a backslash by its escape, and else as it is
-abbrev pub spelled_byte : ℕ → Text
-spelled_byte b =
-    if b == 92 then codes "\\\\" else if b == 9 then codes "\\t" else if b == 10 then codes "\\n"
-    else if nat_lt b 32 || (b == 127) then hex_escape b else b ∷ []
+-- the escape of a mark by its four hexadecimal digits
+abbrev pub mark_escape : ℕ → Text
+mark_escape c =
+    codes "\\u" ++ digit_char (c / 4096) ∷ digit_char (c / 256 % 16) ∷ digit_char (c / 16 % 16) ∷ digit_char (c % 16)
+    ∷ []
+
+-- the character is one of those from the first to the last
+abbrev pub is_from_to : ℕ → ℕ → ℕ → Bool
+is_from_to first last c = not (nat_lt c first) && not (nat_lt last c)
+
+-- a control character
+abbrev pub is_control : ℕ → Bool
+is_control c = nat_lt c 32 || is_from_to 127 159 c
+
+-- a mark that ends a line or a paragraph, or says in which direction a text is written
+abbrev pub is_mark : ℕ → Bool
+is_mark c = (c == 0x61c) || (is_from_to 0x200e 0x200f c || (is_from_to 0x2028 0x202e c || is_from_to 0x2066 0x2069 c))
+
+-- a character of a field: a control character, such a mark or a backslash by its escape, and else as it is
+abbrev pub spelled_char : ℕ → Text
+spelled_char c =
+    if c == 92 then codes "\\\\" else if c == 9 then codes "\\t" else if c == 10 then codes "\\n"
+    else if is_control c then hex_escape c else if is_mark c then mark_escape c else encode_utf8 c
 
 -- a text as a field of a line
 abbrev pub spelled : Text → Text
-spelled text = flat_map spelled_byte text
+spelled text = flat_map spelled_char (chars text)
 
 -- ---- standings
 
@@ -54,6 +74,10 @@ standing_word (OneWay first) = codes "one-way"
 standing_word (OutOfStep variable one other) = codes "out-of-step"
 standing_word (Clashes clash) = codes "clashes"
 standing_word (Refused refusal) = codes "refused"
+
+-- how many of the modules stand so, by the word for it
+abbrev pub standing_count : Text → List AuditedModule → ℕ
+standing_count word modules = count_by (λ m. bytes_eq (standing_word m.standing) word) modules
 
 -- ---- reasons
 

@@ -1,5 +1,6 @@
 //! The report of an audit as one JSON document, written a token at a time.
 ghost use Rattle.std.specs.Prelude.{◌≡◌, [], ◌∷◌, ◌++◌, codes, decimal, flat_map, length, OnOk, IfOk, string_bytes};
+ghost use Rattle.json.specs.Json.{number};
 ghost use Rattle.json.specs.Token.{key, string};
 ghost use Rattle.json.specs.Tree.{json_tokens};
 ghost use Rattle.sitereport.specs.Documents as spec;
@@ -45,6 +46,16 @@ fn write_other(writer: &mut Writer, clash: &Clash) -> Result<(), AllocError>
     writer.end_object()
 }
 
+/// Writes how many modules use the variable of a clash as the other does, as a member.
+fn write_alike(writer: &mut Writer, clash: &Clash) -> Result<(), AllocError>
+    ensures { OnOk result (AddsTokens writer.old writer.new
+        (field_tokens (codes "alike", number (decimal clash.now.alike)))) }
+{
+    let alike = clash.alike as u64;
+    writer.key("alike")?;
+    writer.u64(alike)
+}
+
 /// Writes why a module stands so, as members.
 fn write_standing(alloc: Global, writer: &mut Writer, standing: &Standing) -> Result<(), AllocError>
     ensures { OnOk result (AddsTokens writer.old writer.new (fields_tokens (spec.standing_fields standing.now))) }
@@ -63,7 +74,8 @@ fn write_standing(alloc: Global, writer: &mut Writer, standing: &Standing) -> Re
         } => write_two_uses(alloc, writer, variable, one, other),
         Standing::Clashes(clash) => {
             write_two_uses(alloc, writer, &clash.variable, &clash.own, &clash.theirs)?;
-            write_other(writer, clash)
+            write_other(writer, clash)?;
+            write_alike(writer, clash)
         }
         Standing::Refused(refusal) => {
             let text = format!(in alloc; "{refusal}")?;

@@ -2,6 +2,7 @@
 //! Takes memory and touches nothing else.
 #![tactic(auto)]
 
+mod conflicts;
 mod document;
 mod fields;
 mod remarks;

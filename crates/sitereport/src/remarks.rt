@@ -39,7 +39,7 @@ fn push_names(report: &mut Vec<u8>, names: &[String]) -> Result<(), AllocError>
 }
 
 /// Adds a name in quotes after a blank.
-fn push_name(report: &mut Vec<u8>, name: &str) -> Result<(), AllocError>
+pub(crate) fn push_name(report: &mut Vec<u8>, name: &str) -> Result<(), AllocError>
     ensures { OnOk result (report.new.items ≡ report.old.items ++ spec.quoted name.now) }
 {
     push_text(report, " '")?;
@@ -73,15 +73,25 @@ fn push_unknown(report: &mut Vec<u8>, unknown: &UnknownNames) -> Result<(), Allo
     push_text(report, "\n")
 }
 
-/// Adds a line for each command whose names mean no module of the site.
-pub(crate) fn push_unknowns(
+/// Adds that line of a prereq, and nothing of a conflict.
+fn push_prereq(report: &mut Vec<u8>, unknown: &UnknownNames) -> Result<(), AllocError>
+    ensures { OnOk result (report.new.items ≡ report.old.items ++ spec.prereq_line unknown.now) }
+{
+    if unknown.is_prereq {
+        push_unknown(report, unknown)?;
+    }
+    Ok(())
+}
+
+/// Adds a line for each prereq whose names mean no module of the site.
+pub(crate) fn push_prereqs(
     report: &mut Vec<u8>,
     unknowns: &[UnknownNames],
 ) -> Result<(), AllocError>
-    ensures { OnOk result (report.new.items ≡ report.old.items ++ flat_map spec.unknown_line unknowns.now) }
+    ensures { OnOk result (report.new.items ≡ report.old.items ++ flat_map spec.prereq_line unknowns.now) }
 {
     for unknown in unknowns {
-        push_unknown(report, unknown)?;
+        push_prereq(report, unknown)?;
     }
     Ok(())
 }

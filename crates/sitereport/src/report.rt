@@ -2,9 +2,10 @@
 ghost use Rattle.std.specs.Prelude.{◌≡◌, ◌++◌, OnOk, IfOk, flat_map};
 ghost use Rattle.sitereport.specs.Reports as spec;
 
+use crate::conflicts::push_conflicts;
 use crate::fields::{push_field, push_text};
-use crate::remarks::{push_bad_files, push_disagreements, push_unknowns};
-use crate::selection::{Selection, certified_count};
+use crate::remarks::{push_bad_files, push_disagreements, push_prereqs};
+use crate::selection::{Selection, certified_count, standing_count};
 use crate::words::{reason, standing_word};
 use siteaudit::{AuditedModule, SiteAudit};
 use std::alloc::{AllocError, Global};
@@ -69,8 +70,51 @@ fn push_count(
     push_text(report, line.as_str())
 }
 
-/// The report of an audit as lines: one for each module that it names, one that says how many modules are certified, and
-/// the remarks. It fails for want of memory alone.
+/// Adds the line that says that so many modules stand as the word says, if any does.
+fn push_number(
+    alloc: Global,
+    report: &mut Vec<u8>,
+    count: usize,
+    word: &str,
+) -> Result<(), AllocError>
+    ensures { OnOk result (report.new.items ≡ report.old.items ++ spec.number_line count word.now) }
+{
+    if count == 0 {
+        return Ok(());
+    }
+    let line = format!(in alloc; "# {count} {word}\n")?;
+    push_text(report, line.as_str())
+}
+
+/// Adds the line that says how many of the modules stand as the word says, if any does.
+fn push_sum(
+    alloc: Global,
+    report: &mut Vec<u8>,
+    word: &str,
+    modules: &[AuditedModule],
+) -> Result<(), AllocError>
+    ensures { OnOk result (report.new.items ≡ report.old.items ++ spec.sum_line word.now modules.now) }
+{
+    push_number(alloc, report, standing_count(word, modules), word)
+}
+
+/// Adds such a line for each standing but certified.
+fn push_sums(
+    alloc: Global,
+    report: &mut Vec<u8>,
+    modules: &[AuditedModule],
+) -> Result<(), AllocError>
+    ensures { OnOk result (report.new.items ≡ report.old.items ++ spec.sum_lines modules.now) }
+{
+    push_sum(alloc, report, "asks", modules)?;
+    push_sum(alloc, report, "one-way", modules)?;
+    push_sum(alloc, report, "out-of-step", modules)?;
+    push_sum(alloc, report, "clashes", modules)?;
+    push_sum(alloc, report, "refused", modules)
+}
+
+/// The report of an audit as lines: one for each module that it names, one that says how many modules are certified,
+/// one for each other standing that says how many stand so, and the remarks. It fails for want of memory alone.
 pub fn line_report(
     alloc: Global,
     selection: Selection,
@@ -81,8 +125,10 @@ pub fn line_report(
     let mut report = Vec::new(alloc);
     push_modules(alloc, &mut report, selection, found.modules.as_slice())?;
     push_count(alloc, &mut report, found.modules.as_slice())?;
+    push_sums(alloc, &mut report, found.modules.as_slice())?;
     push_bad_files(&mut report, found.bad_default_files.as_slice())?;
-    push_unknowns(&mut report, found.unknown_names.as_slice())?;
+    push_conflicts(alloc, &mut report, found.unknown_names.as_slice())?;
+    push_prereqs(&mut report, found.unknown_names.as_slice())?;
     push_disagreements(alloc, &mut report, found.disagreements.as_slice())?;
     Ok(report)
 }

@@ -1,8 +1,9 @@
 //! Which modules a report names, and how many of them are certified.
-ghost use Rattle.std.specs.Prelude.{◌≡◌, ◌≤◌, count_by, length};
+ghost use Rattle.std.specs.Prelude.{◌≡◌, ◌≤◌, length};
 ghost use Rattle.siteaudit.specs.Audits.{is_certified};
 ghost use Rattle.sitereport.specs.Words as spec;
 
+use crate::words::standing_word;
 use siteaudit::{AuditedModule, Standing};
 
 /// Which modules a report names. It counts all of them in either case.
@@ -48,6 +49,20 @@ pub(crate) fn certified_count(modules: &[AuditedModule]) -> usize
     let mut count = 0;
     for module in modules {
         if is_certified(&module.standing) {
+            count += 1;
+        }
+    }
+    count
+}
+
+/// How many of the modules stand so, by the word for it.
+pub(crate) fn standing_count(word: &str, modules: &[AuditedModule]) -> usize
+    ensures value { result ≡ spec.standing_count word.now modules.now }
+    ensures bound { result ≤ length modules.now }
+{
+    let mut count = 0;
+    for module in modules {
+        if standing_word(&module.standing) == word {
             count += 1;
         }
     }

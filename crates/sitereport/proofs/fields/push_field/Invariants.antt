@@ -1,6 +1,12 @@
-use Rattle.std.proofs.Common.{◌≡◌, ◌++◌, take}
+use Rattle.std.proofs.Common.{◌≡◌, ◌++◌}
+use Rattle.std.specs.Prelude.{IsUtf8}
+use Rattle.std.specs.Str.Iter.{chars_rest}
 use Rattle.sitereport.specs.Words.{spelled}
 use Rattle.sitereport.proofs.fields.push_field.Given as goal
 
-abbrev pub invariant-loop-byte : goal.invariant-loop-byte
-invariant-loop-byte l = l.report.items ≡ l.initial.report.items ++ spelled (take l.byte-index l.byte-items)
+-- what is written, and then what is left as it will be spelled, is the whole text
+abbrev pub invariant-loop-c : goal.invariant-loop-c
+invariant-loop-c l = record {
+  utf8 : IsUtf8 (chars_rest l.c-iterator);
+  spelled : l.report.items ++ spelled (chars_rest l.c-iterator) ≡ l.fn.report.items ++ spelled l.fn.text;
+}
