@@ -51,6 +51,7 @@ SUITES = (
     "losses.py",
     "modcheck.py",
     "modaudit.py",
+    "site.py",
     "plain.py",
     "memory.py",
     "numbers.py",
