@@ -1,0 +1,5 @@
+pub mod Faults
+pub mod Options
+pub mod Answers
+pub mod Outputs
+pub mod Views

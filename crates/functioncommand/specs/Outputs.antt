@@ -1,0 +1,59 @@
+-- What a command of the function prints, with its status (module(1)).
+use Rattle.std.specs.Prelude.{◌≡◌, ℕ, Bool, true, false, List, [], ◌∷◌, ◌++◌, string_bytes, Result, Ok, Err}
+use Rattle.message.specs.Messages.{Text}
+use Rattle.envvars.specs.Environment.{Environment}
+use Rattle.envvars.specs.Changes.{AreChanges, NewValue}
+use Rattle.shelltext.specs.declared.shell.Shell.{Shell}
+use Rattle.shelltext.specs.declared.print.PrintFault.TheVariants as prints
+use Rattle.shelltext.specs.Printing as printing
+use Rattle.shelltext.specs.Printing.{IsUnsayable}
+use Rattle.shelltext.specs.Reading.{SaysDifference}
+use Rattle.subcommands.specs.Subcommands.{name_of}
+use Rattle.subcommands.specs.declared.table.Subcommand.{Subcommand}
+use Rattle.functioncommand.specs.Answers.{Answer, makes, subcommand_is, truth}
+use Rattle.functioncommand.specs.Faults.{FunctionReason, HasReason}
+use Rattle.functioncommand.specs.Faults as faults
+use Rattle.functioncommand.specs.declared.output_fault.OutputFault.{OutputFault}
+use Rattle.functioncommand.specs.declared.output_fault.OutputFault.TheVariants as outputs
+use Rattle.functioncommand.specs.declared.output.FunctionOutput.{FunctionOutput}
+
+-- the name of a subcommand, and a newline
+abbrev pub name_line : Subcommand → Text
+name_line subcommand = name_of subcommand ++ 10 ∷ []
+
+-- the status of yes or no
+abbrev pub status_of : Bool → ℕ
+status_of true = 0
+status_of false = 1
+
+-- What is printed of an answer, with the status: the text by which the shell makes of the environment exactly the one
+-- that it is to have; or a name; or nothing.
+abbrev pub IsOutput : Shell → Answer → Text → ℕ → Type 0
+IsOutput shell (makes old new) text status = SaysDifference shell text old new × (status ≡ 0)
+IsOutput shell (subcommand_is subcommand) text status = (text ≡ name_line subcommand) × (status ≡ 0)
+IsOutput shell (truth b) text status = (text ≡ []) × (status ≡ status_of b)
+
+-- the answer is an environment, and the shell has no text for the changes, first for those of this variable
+abbrev pub LacksText : Result (Shell × Answer) FunctionReason → Text → Type 0
+LacksText outcome name =
+    (shell : Shell) × (old : Environment) × (new : Environment) × (changes : List NewValue)
+    × (outcome ≡ Ok (shell, makes old new)) × AreChanges old new changes × IsUnsayable shell changes name
+
+-- the cause of a fault: it is a reason why there is no answer, or the answer has no text, or memory ran out
+abbrev pub IsCaused : Result (Shell × Answer) FunctionReason → OutputFault → Type 0
+IsCaused outcome (outputs.Refused fault) = HasReason fault outcome
+IsCaused outcome (outputs.Unprinted prints.OutOfMemory) = Unit {0}
+IsCaused outcome (outputs.Unprinted (prints.NotSayable name)) = LacksText outcome (string_bytes name)
+
+-- The output is that of the command's answer, or the fault has its cause.
+abbrev pub GivesOutput : Result FunctionOutput OutputFault → Result (Shell × Answer) FunctionReason
+    → Type 0
+GivesOutput (Ok output) outcome =
+    (shell : Shell) × (answer : Answer) × (outcome ≡ Ok (shell, answer))
+    × IsOutput shell answer (string_bytes output.text) output.status
+GivesOutput (Err fault) outcome = IsCaused outcome fault
+
+-- what stands behind `ERROR: `
+abbrev pub message_of : OutputFault → Text
+message_of (outputs.Refused fault) = faults.message_of fault
+message_of (outputs.Unprinted fault) = (printing.refusal_of fault).text

@@ -1,0 +1,18 @@
+//! A command of the function `module`: its words in, the text for a shell or a status out (module(1)).
+//! Takes memory; reads the environment and the working directory that it is given. It writes nothing.
+#![tactic(auto)]
+
+mod answer;
+mod command;
+mod edits;
+mod fault;
+mod loaded;
+mod notice;
+mod options;
+mod output;
+mod output_fault;
+
+pub use fault::FunctionFault;
+pub use notice::DirectoryNotice;
+pub use output::{FunctionOutput, function_output};
+pub use output_fault::OutputFault;

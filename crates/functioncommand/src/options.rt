@@ -1,0 +1,60 @@
+//! The options of `use` and `unuse`, and the words behind them.
+ghost use Rattle.std.specs.Prelude.{map, string_bytes};
+ghost use Rattle.message.specs.Answers.{Gives};
+ghost use Rattle.functioncommand.specs.Faults.{reason_of};
+ghost use Rattle.functioncommand.specs.Options as spec;
+ghost use Rattle.functioncommand.specs.Views.{texts_of, end_view};
+
+use crate::fault::FunctionFault;
+use envpaths::End;
+
+/// The words, where there are some.
+fn some_words<'a>(words: &'a [String]) -> Result<&'a [String], FunctionFault<'a>>
+    ensures { Gives reason_of texts_of result (spec.some_words (map string_bytes words.entry.now)) }
+{
+    match words {
+        [] => Err(FunctionFault::BadArguments),
+        [_, ..] => Ok(words),
+    }
+}
+
+/// The words of `use` behind its options, and the end at which they are put: options stand first, the last of them
+/// counts, and `--` ends them.
+pub(crate) fn words_to_use<'a>(
+    end: End,
+    words: &'a [String],
+) -> Result<(End, &'a [String]), FunctionFault<'a>>
+    ensures { Gives reason_of end_view result (spec.words_to_use end (map string_bytes words.entry.now)) }
+{
+    let [word, rest @ ..] = words else {
+        return Err(FunctionFault::BadArguments);
+    };
+    match word.as_str() {
+        "--" => Ok((end, some_words(rest)?)),
+        "-a" | "--append" => words_to_use(End::Back, rest),
+        "-p" | "--prepend" => words_to_use(End::Front, rest),
+        other => {
+            if other.starts_with('-') {
+                return Err(FunctionFault::NoOption(other));
+            }
+            Ok((end, words))
+        }
+    }
+}
+
+/// The words of `unuse`, which has no option; `--` may stand before them.
+pub(crate) fn words_to_unuse<'a>(words: &'a [String]) -> Result<&'a [String], FunctionFault<'a>>
+    ensures { Gives reason_of texts_of result (spec.words_to_unuse (map string_bytes words.entry.now)) }
+{
+    let [word, rest @ ..] = words else {
+        return Err(FunctionFault::BadArguments);
+    };
+    let word = word.as_str();
+    if word == "--" {
+        return some_words(rest);
+    }
+    if word.starts_with('-') {
+        return Err(FunctionFault::NoOption(word));
+    }
+    Ok(words)
+}

@@ -1,0 +1,46 @@
+//! The program `module SHELL SUBCOMMAND [WORD...]`: what the function `module` adds to the program's own commands.
+//! Touches its arguments, its environment, its working directory and the standard streams, and looks for directories.
+//! Nothing stands above it; it has no clause, so it has little code.
+#![tactic(auto)]
+
+mod given;
+mod missing;
+
+use functioncommand::{FunctionOutput, function_output};
+use given::Given;
+use message::{Message, RefusalKind};
+use missing::MissingDirectories;
+use std::io::Write;
+use std::process::ExitCode;
+
+/// Says why there is no output, and with which status the program ends.
+fn refused(rt: &HostRuntime, message: Message) -> ExitCode {
+    let _ = eprintln!(rt; "ERROR: {message}");
+    ExitCode::from(1)
+}
+
+/// Prints an output, and ends with its status.
+fn print(rt: &HostRuntime, output: &FunctionOutput) -> ExitCode {
+    if rt.stdout().write_all(output.text.as_bytes()).is_err() {
+        return refused(rt, RefusalKind::WriteFailed.plain().message);
+    }
+    ExitCode::from(output.status)
+}
+
+/// Does the command of the process's arguments, and ends with its status.
+fn main(rt: HostRuntime) -> ExitCode {
+    let given = match Given::read(&rt) {
+        Ok(given) => given,
+        Err(refusal) => return refused(&rt, refusal.message),
+    };
+    let working = match &given.working {
+        Some(place) => Some(place.as_str()),
+        None => None,
+    };
+    let mut missing = MissingDirectories { rt: &rt };
+    let arguments = given.arguments.as_slice();
+    match function_output(rt.alloc(), arguments, &given.env, working, &mut missing) {
+        Ok(output) => print(&rt, &output),
+        Err(fault) => refused(&rt, fault.message()),
+    }
+}

@@ -1,0 +1,5 @@
+pub mod Subcommands
+pub mod Views
+pub mod Nearness
+pub mod Meanings
+pub mod Faults
