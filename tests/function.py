@@ -1,0 +1,208 @@
+"""What the program `module` answers of the commands that the function adds: `use`, `unuse`, `is-loaded`, and which
+subcommand a word means. Each row is typed by hand from module(1).
+"""
+
+import os
+import subprocess
+
+import pytest
+
+from tests.harness import SECONDS, dynamic, evaluated, refuser, refuses_each, same
+
+LOADED = {"LOADEDMODULES": "gcc/12.3:mpi/4", "_LMFILES_": "/m/gcc/12.3:/m/mpi/4"}
+NOT_THERE = "There is no directory '{}' yet.\n"
+
+# The words behind the shell, MODULEPATH, and the MODULEPATH that the shell has afterwards, None where it is unset. {} is
+# the folder in which the command runs, with the directories a and b.
+EDITS = [
+    (["use", "{}/a"], None, "{}/a"),
+    (["use", "a", "b"], "/x", "{}/a:{}/b:/x"),
+    (["use", "a", "./a/../b", "a"], "/x", "{}/a:{}/b:/x"),
+    (["use", "-a", "a"], "/x:/y", "/x:/y:{}/a"),
+    (["use", "--append", "a", "b"], None, "{}/a:{}/b"),
+    (["use", "-a", "-p", "a"], "/x", "{}/a:/x"),
+    (["use", "--", "a"], "/x", "{}/a:/x"),
+    (["use", "a"], "/x:{}/b/../a/:/y", "{}/a:/x:/y"),
+    (["use", "-a", "a"], "{}//a::/x", "/x:{}/a"),
+    (["use", "a"], "", "{}/a"),
+    (["unuse", "a"], "{}/a", None),
+    (["unuse", "a"], "/x:{}/a/.:/y", "/x:/y"),
+    (["unuse", "/x", "b"], "/x:{}/b:/y:/x/", "/y"),
+    (["unuse", "/z"], "/x:/y", "/x:/y"),
+    (["unuse", "--", "/x"], "/x", None),
+    (["us", "a"], None, "{}/a"),
+]
+
+# The words behind the shell, and what is refused.
+REFUSED = [
+    (["use", "--nope", "a"], "'--nope' is no option here"),
+    (["use"], "Bad arguments"),
+    (["unuse"], "Bad arguments"),
+    (["unuse", "-a", "a"], "'-a' is no option here"),
+    (["use", ""], "Bad value of 'MODULEPATH': a directory without a name"),
+    (["use", "/a:b"], "Bad value of 'MODULEPATH': '/a:b' has a colon"),
+    (["use", "/" + 100_000 * "x"], "Bad value of 'MODULEPATH': it is too long"),
+    (["laod", "gcc"], "Unknown subcommand: did you mean 'load'?"),
+    (["spider"], "Unknown subcommand 'spider'"),
+    (["sa", "x"], "Several subcommands begin with 'sa'"),
+    (["--force", "use"], "'--force' is no option here"),
+    (["load", "gcc"], "This program doesn't do 'load'"),
+    ([], "Bad arguments"),
+    (["subcommand"], "Bad arguments"),
+    (["subcommand", "spider"], "Unknown subcommand 'spider'"),
+]
+
+# A word, and the subcommand that it means.
+WORDS = [
+    ("av", "avail"),
+    ("avail", "avail"),
+    ("li", "list"),
+    ("sw", "switch"),
+    ("swap", "switch"),
+    ("del", "unload"),
+    ("rm", "unload"),
+    ("add", "load"),
+    ("disp", "show"),
+    ("ap", "keyword"),
+    ("save", "save"),
+    ("savel", "savelist"),
+    ("-V", "--version"),
+    ("-h", "help"),
+]
+
+# The words behind `is-loaded`, the variables, and the status.
+STATUSES = [
+    (["gcc"], LOADED, 0),
+    (["gcc/12.3"], LOADED, 0),
+    (["gcc/12"], LOADED, 1),
+    (["icc", "mpi"], LOADED, 0),
+    (["icc"], LOADED, 1),
+    ([], LOADED, 0),
+    ([], {}, 1),
+    (["gcc"], {}, 1),
+]
+
+
+@pytest.fixture(scope="session")
+def program(built):
+    return built("module")
+
+
+@pytest.fixture
+def place(tmp_path):
+    """A folder with the directories a and b, in which the commands run."""
+    for name in ("a", "b"):
+        (tmp_path / name).mkdir()
+    return str(tmp_path)
+
+
+def run(program, words, env=None, cwd=None):
+    return subprocess.run(
+        [program, *words], env=env or {}, cwd=cwd, capture_output=True, text=True, timeout=SECONDS, check=False
+    )
+
+
+def outcome(done):
+    return done.returncode, done.stdout, done.stderr
+
+
+def with_path(text, place):
+    return {} if text is None else {"MODULEPATH": text.format(place)}
+
+
+@pytest.mark.parametrize("words, before, after", EDITS)
+def test_use_and_unuse(program, place, words, before, after):
+    env = with_path(before, place)
+    done = run(program, ["sh", *(word.format(place) for word in words)], env, place)
+    same((done.returncode, done.stderr), (0, ""), "status and standard error")
+    encoded = {name.encode(): value.encode() for name, value in env.items()}
+    wanted = {name.encode(): value.encode() for name, value in with_path(after, place).items()}
+    same(evaluated(done.stdout.encode(), encoded), wanted, "the variables of sh")
+
+
+@pytest.mark.parametrize(
+    "shell, used, unused",
+    [
+        ("bash", "MODULEPATH='/x'; export MODULEPATH;\n", "unset MODULEPATH;\n"),
+        ("csh", "setenv MODULEPATH '/x';\n", "unsetenv MODULEPATH;\n"),
+        ("fish", "set -xg MODULEPATH '/x';\n", "set -e MODULEPATH;\n"),
+    ],
+)
+def test_shells(program, shell, used, unused):
+    same(outcome(run(program, [shell, "use", "/x"])), (0, used, NOT_THERE.format("/x")), "use")
+    same(outcome(run(program, [shell, "unuse", "/x"], {"MODULEPATH": "/x"})), (0, unused, ""), "unuse")
+
+
+@pytest.mark.parametrize("words, said", REFUSED)
+def test_refusals(program, place, words, said):
+    done = run(program, ["sh", *words], {"MODULEPATH": "/x"}, place)
+    same(outcome(done), (1, "", f"ERROR: {said}\n"), "what is refused")
+
+
+def test_a_shell_that_is_none(program):
+    same(outcome(run(program, ["nosh", "use", "/x"])), (1, "", "ERROR: Unknown shell 'nosh'\n"), "another shell")
+    same(outcome(run(program, [])), (1, "", "ERROR: Bad arguments\n"), "no shell")
+
+
+@pytest.mark.parametrize("word, subcommand", WORDS)
+def test_words(program, word, subcommand):
+    same(outcome(run(program, ["sh", "subcommand", word])), (0, f"{subcommand}\n", ""), word)
+
+
+@pytest.mark.parametrize("names, env, status", STATUSES)
+def test_is_loaded(program, names, env, status):
+    same(outcome(run(program, ["sh", "is-loaded", *names], env)), (status, "", ""), f"{names} of {env}")
+
+
+def test_loaded_lists_that_contradict_one_another(program):
+    done = run(program, ["sh", "is-loaded", "gcc"], {"LOADEDMODULES": "gcc/12.3"})
+    same((done.returncode, done.stdout, done.stderr.startswith("ERROR: ")), (1, "", True), "lists")
+
+
+def test_the_working_directory(program, place):
+    """It has the shell's name where that is one, and else the system's; where it is gone, relative words are refused."""
+    link = os.path.join(place, "link")
+    os.symlink(os.path.join(place, "a"), link)
+    inner = os.path.join(place, "a", "in")
+    os.mkdir(inner)
+    for named, wanted in ((link, f"{link}/in"), (place, inner), ("link", inner), (f"{link}/../a", inner)):
+        done = run(program, ["sh", "use", "in"], {"PWD": named}, link)
+        same(outcome(done), (0, f"MODULEPATH='{wanted}'; export MODULEPATH;\n", ""), f"PWD is {named}")
+    # The folder is gone before the program begins.
+    gone = os.path.join(place, "gone")
+    os.mkdir(gone)
+    command = 'rmdir "$PWD" && exec "$0" "$@"'
+    for word, wanted in (
+        ("in", (1, "", "ERROR: There is no working directory for 'in'\n")),
+        (inner, (0, f"MODULEPATH='{inner}'; export MODULEPATH;\n", "")),
+    ):
+        os.makedirs(gone, exist_ok=True)
+        words = ["/bin/sh", "-c", command, program, "sh", "use", word]
+        done = subprocess.run(words, cwd=gone, env={}, capture_output=True, text=True, timeout=SECONDS, check=False)
+        same(outcome(done), wanted, word)
+
+
+def test_bytes_that_are_no_text(program):
+    done = run(program, [b"sh", b"use", b"/\xff"])
+    same(outcome(done), (1, "", "ERROR: Bad arguments\n"), "a word")
+    done = run(program, ["sh", "use", "/x"], {"MODULEPATH": b"/\xff"})
+    same(outcome(done), (1, "", "ERROR: Bad value of 'MODULEPATH'\n"), "MODULEPATH")
+
+
+def test_a_full_device(program):
+    with open("/dev/full", "wb") as full:
+        words = [program, "sh", "use", "/"]
+        done = subprocess.run(words, env={}, stdout=full, stderr=subprocess.PIPE, timeout=SECONDS, check=False)
+    same((done.returncode, done.stderr), (1, b"ERROR: Writing failed\n"), "a device that is full")
+
+
+def test_memory(program, tmp_path):
+    """Each growth that is refused ends it with its reason alone."""
+    shim = refuser(os.fsencode(tmp_path))
+    env = {b"MODULEPATH": b"/x:/y", **{name.encode(): value.encode() for name, value in LOADED.items()}}
+    for words in (["use", "/"], ["unuse", "/x"], ["is-loaded", "mpi"], ["subcommand", "laod"]):
+
+        def asked(more, words=words):
+            return outcome(run(dynamic(program), ["sh", *words], {**env, **more}))
+
+        refuses_each(shim, asked, (1, "", "ERROR: Out of memory\n").__eq__, words)
