@@ -107,13 +107,13 @@ def outcome(done):
 
 
 def with_path(text, place):
-    return {} if text is None else {"MODULEPATH": text.format(place)}
+    return {} if text is None else {"MODULEPATH": text.replace("{}", place)}
 
 
 @pytest.mark.parametrize("words, before, after", EDITS)
 def test_use_and_unuse(program, place, words, before, after):
     env = with_path(before, place)
-    done = run(program, ["sh", *(word.format(place) for word in words)], env, place)
+    done = run(program, ["sh", *(word.replace("{}", place) for word in words)], env, place)
     same((done.returncode, done.stderr), (0, ""), "status and standard error")
     encoded = {name.encode(): value.encode() for name, value in env.items()}
     wanted = {name.encode(): value.encode() for name, value in with_path(after, place).items()}

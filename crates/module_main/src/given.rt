@@ -3,6 +3,7 @@
 use message::{NumberedMessage, RefusalKind};
 use processinput::{arguments, environment_block};
 use std::env::VarError;
+use std::io::ErrorKind;
 use std::os::unix::fs::MetadataExt;
 use std::{env, fs};
 
@@ -22,41 +23,58 @@ impl Given {
     ///
     /// Errors: want of memory (31); a MODULEPATH that isn't UTF-8 (37); such an argument (56).
     pub fn read(rt: &HostRuntime) -> Result<Given, NumberedMessage<'static>> {
-        let Ok(arguments) = arguments(rt) else {
-            return Err(RefusalKind::BadArguments.plain());
+        let arguments = match arguments(rt) {
+            Ok(arguments) => arguments,
+            Err(fault) => return Err(fault.numbered()),
         };
         let Ok(block) = environment_block(rt) else {
-            return Err(RefusalKind::MemoryForRequest.plain());
+            return Err(want_of_memory());
         };
         let Ok(env) = envvars::Env::from_block(rt.alloc(), block) else {
-            return Err(RefusalKind::MemoryForRequest.plain());
+            return Err(want_of_memory());
         };
-        // Its variable would be taken for one that is unset.
-        if let Err(VarError::NotUnicode) = env::var(rt, "MODULEPATH") {
-            return Err(RefusalKind::BadValue.naming("MODULEPATH"));
-        }
+        judge_modulepath(rt)?;
         Ok(Given {
             arguments,
             env,
-            working: working_directory(rt),
+            working: working_directory(rt)?,
         })
     }
 }
 
+/// Want of memory, as a refusal.
+fn want_of_memory() -> NumberedMessage<'static> {
+    RefusalKind::MemoryForRequest.plain()
+}
+
+/// Refuses a MODULEPATH that isn't UTF-8, which would be taken for one that is unset.
+fn judge_modulepath(rt: &HostRuntime) -> Result<(), NumberedMessage<'static>> {
+    match env::var(rt, "MODULEPATH") {
+        Ok(_) | Err(VarError::NotPresent) => Ok(()),
+        Err(VarError::NotUnicode) => Err(RefusalKind::BadValue.naming("MODULEPATH")),
+        Err(VarError::OutOfMemory) => Err(want_of_memory()),
+    }
+}
+
 /// The working directory by the name that the shell has for it, where that is one, or by the system's.
-fn working_directory(rt: &HostRuntime) -> Option<String> {
-    let Ok(place) = env::current_dir(rt) else {
-        return None;
+fn working_directory(rt: &HostRuntime) -> Result<Option<String>, NumberedMessage<'static>> {
+    let place = match env::current_dir(rt) {
+        Ok(place) => place,
+        Err(fault) => return without_place(fault.kind()),
     };
     match env::var(rt, "PWD") {
-        Ok(name) => {
-            if is_here(rt, name.as_str()) {
-                return Some(name);
-            }
-        }
-        Err(_) => {}
+        Ok(name) if is_here(rt, name.as_str()) => Ok(Some(name)),
+        Err(VarError::OutOfMemory) => Err(want_of_memory()),
+        Ok(_) | Err(VarError::NotPresent | VarError::NotUnicode) => Ok(Some(place.into_string())),
     }
-    Some(place.into_string())
+}
+
+/// What is taken for the working directory where the system tells none.
+fn without_place(kind: ErrorKind) -> Result<Option<String>, NumberedMessage<'static>> {
+    match kind {
+        ErrorKind::OutOfMemory => Err(want_of_memory()),
+        _ => Ok(None),
+    }
 }
 
 /// Whether this is an absolute path, without points for parts, of the working directory.
