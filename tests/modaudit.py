@@ -27,6 +27,7 @@ from tests.worked import FOLDER, real, write
 
 TOP = os.path.dirname(HERE)
 ERROR = "ERROR: {}\n"
+USAGE = "Usage: modaudit [--quiet] [--json] [DIR...]"
 WRITING_FAILED = ERROR.format("Writing failed").encode()
 
 # How many directories a site may have (modaudit(1), Too many directories).
@@ -592,16 +593,36 @@ def test_directories_in_place_of_modulepath(folder):
     site.says([lines[2]], at[0], "--quiet", "--", at[1])
     site.says(["c/1\tcertified\t\t/o/c/1", "# 1 certified of 1"])
     site.says(["c/1\tcertified\t\t/o/c/1", "# 1 certified of 1"], "--")
-    site.env[b"MODULEPATH"] = b""
-    site.says(["# 0 certified of 0"])
+    for text in (b"", b":", b"::"):
+        site.env[b"MODULEPATH"] = text
+        site.refuses("MODULEPATH has no directory")
+        site.says(["a/1\tcertified\t\t/m/a/1", "# 1 certified of 1"], at[0])
     del site.env[b"MODULEPATH"]
-    site.says(["# 0 certified of 0"])
+    site.refuses("MODULEPATH has no directory")
+    site.refuses("MODULEPATH has no directory", "--quiet", "--json", "--")
+
+
+def test_help(folder):
+    """It stands among the options, and nothing else is done, whatever else stands there."""
+    site = Site(folder, {"/m/a/1": "nope\n"}, LOADEDMODULES="x")
+    for words in (("--help",), ("--quiet", "--help"), ("/none", "--help", "--json"), ("--nope", "--help", "--")):
+        done = site.run(*words)
+        same((done.stderr, done.returncode), (b"", 0), f"standard error and status of {words}")
+        lines = done.stdout.decode().splitlines()
+        same(lines[0], USAGE, f"what {words} writes first")
+        true(all(option in lines[1] for option in ("--quiet", "--json")), f"what {words} writes then: {lines[1:]}")
+        same(len(lines), 2, "how many lines")
+    site.refuses("Not a directory: '--help'", "--", "--help")
+    with open("/dev/full", "wb", buffering=0) as full:
+        done = site.run("--help", stdout=full)
+        same((done.stderr, done.returncode), (WRITING_FAILED, 2), "a standard output that takes nothing")
 
 
 def test_arguments_that_are_refused(folder):
     site = Site(folder, {"/m/a/1": ""})
-    for words in (("-",), ("--nope",), ("-q",), ("/m", "--nope"), ("--quiet=1",), (b"\xff",), ("--help",)):
-        site.refuses("Bad arguments", *words)
+    for words in (("-",), ("--nope",), ("-q",), ("/m", "--nope"), ("--quiet=1",), ("--help=1",), ("-h",)):
+        site.refuses(f"Bad arguments\n{USAGE}", *words)
+    site.refuses("Bad arguments", b"\xff")
     here = os.fsdecode(folder.path)
     for word in (f"{here}/nope", f"{here}/m/a/1", f"{here}/m:{here}/m", "", "nope"):
         site.refuses(f"Not a directory: '{word}'", word)
@@ -626,7 +647,7 @@ def test_faults_of_a_whole_audit(folder):
 def test_faults_in_their_order(folder):
     site = Site(folder, {"/m/a/1": ""}, LOADEDMODULES="x")
     m, gone, none = (os.fsdecode(real(folder, f"/m{end}")) for end in ("", "/gone", "/none"))
-    site.refuses("Bad arguments", gone, "--nope")
+    site.refuses(f"Bad arguments\n{USAGE}", gone, "--nope")
     site.refuses(f"Not a directory: '{gone}'", m, gone, none)
     site.refuses("Loaded modules are inconsistent", m)
     del site.env[b"LOADEDMODULES"]
@@ -839,7 +860,7 @@ def on_a_terminal(folder, *words, env=None):
 def test_a_line_of_progress_on_a_terminal(folder):
     folder.module("a/1", "")
     same(on_a_terminal(folder), (b"", 0), "an audit that takes no second")
-    same(on_a_terminal(folder, "--nope"), (b"ERROR: Bad arguments\r\n", 2), "a fault")
+    same(on_a_terminal(folder, "--nope"), (f"ERROR: Bad arguments\r\n{USAGE}\r\n".encode(), 2), "a fault")
     busy = "for {set i 0} {$i < 20000} {incr i} {set x $i}\n"
     count = 0
     while count < 400:

@@ -6,18 +6,20 @@ use Rattle.std.specs.declared.alloc.Global.{Global}
 use Rattle.requests.specs.Reasons.{RequestReason}
 use Rattle.modules.specs.Answers.{cause_of}
 use Rattle.envvars.specs.Texts.{Text}
+use Rattle.envvars.specs.Environment.{Environment}
 use Rattle.filetree.specs.Agreement.{FailsIf, Files, Listings, InEachPair, Narrows}
 use Rattle.filetree.specs.Causes.{Cause, Applies, memory, device, because}
 use Rattle.modules.proofs.FailureLemmas.{unfailed}
 use Rattle.siteaudit.specs.Looked as walks
 use Rattle.siteaudit.specs.declared.fault.WalkFault.{WalkFault}
 use Rattle.siteaudit.specs.declared.fault.WalkFault.TheVariants as faults
-use Rattle.sitecommand.specs.Audits.{IsDirectory, AreDirectories, IsFirstGone, IsNoDirectory, is_no_element}
+use Rattle.sitecommand.specs.Arguments.{Wanted}
+use Rattle.sitecommand.specs.Audits.{IsDirectory, AreDirectories, IsFirstGone, IsNoDirectory, is_no_element, judged_env}
 use Rattle.sitecommand.specs.Faults.{is_failure, of_walk}
 use Rattle.sitecommand.specs.Looked.{AreThere, DirectoriesLookAt}
-use Rattle.sitecommand.specs.Steps.{IsGivenUp, NamesNoDirectory, IsDirectoryFault, AreDirectoriesFault}
+use Rattle.sitecommand.specs.Steps.{IsGivenUp, NamesNoDirectory, IsDirectoryFault, AreDirectoriesFault, IsModulepathFault, IsWantedFault}
 use Rattle.sitecommand.specs.declared.audit_fault.AuditFault.{AuditFault}
-use Rattle.sitecommand.specs.declared.audit_fault.AuditFault.TheVariants.{Refused, TooManyDirectories, NotADirectory}
+use Rattle.sitecommand.specs.declared.audit_fault.AuditFault.TheVariants.{Refused, BadArguments, EmptyModulepath, TooManyDirectories, NotADirectory}
 use Rattle.sitecommand.specs.declared.audit_fault.AuditFault.TheVariants.{WriteFailed}
 
 -- what failed in a later part failed in the whole
@@ -37,6 +39,8 @@ applies_in (because r) P Q Is f h = h
 
 pub given_up_in : (fault : AuditFault) (P Q : Type 0) → (P → Q) → IsGivenUp P fault → IsGivenUp Q fault
 given_up_in (Refused refusal) P Q f h = applies_in (cause_of refusal) P Q (λ (reason : RequestReason). ⊥) f h
+given_up_in BadArguments P Q f h = h
+given_up_in EmptyModulepath P Q f h = h
 given_up_in TooManyDirectories P Q f h = h
 given_up_in (NotADirectory dir) P Q f h = h
 given_up_in WriteFailed P Q f h = h
@@ -128,6 +132,8 @@ all_there before agrees dirs n there = λ files listings a. are_there before fil
 -- what is given up without a tree is no failure of the device
 pub unfailed_without : (fault : AuditFault) (before now : List ℕ → Bool) (W : List ℕ → Type 0) → IsGivenUp ⊥ fault → now ≡ before → FailsIf (is_failure fault) before now W
 unfailed_without (Refused refusal) before now W h same = unfailed refusal (λ reason. ⊥) before now W h same
+unfailed_without BadArguments before now W h same = absurd h
+unfailed_without EmptyModulepath before now W h same = absurd h
 unfailed_without TooManyDirectories before now W h same = absurd h
 unfailed_without (NotADirectory dir) before now W h same = absurd h
 unfailed_without WriteFailed before now W h same = absurd h
@@ -140,3 +146,14 @@ names_unfailed fault word before now W (inr h) same = unfailed_without fault bef
 pub walked_failure : (fault : WalkFault) → walks.is_failure fault ≡ is_failure (of_walk fault)
 walked_failure (faults.Refused refusal) = refl
 walked_failure faults.TooManyDirectories = refl
+
+-- a MODULEPATH without a directory
+pub modulepath_unfailed : (e : Environment) (fault : AuditFault) (before now : List ℕ → Bool) (W : List ℕ → Type 0) → IsModulepathFault e fault → now ≡ before → FailsIf (is_failure fault) before now W
+modulepath_unfailed e fault before now W (inl d) same = subst (λ (f : AuditFault). FailsIf (is_failure f) before now W) (sym d.0) same
+modulepath_unfailed e fault before now W (inr h) same = unfailed_without fault before now W h same
+
+-- the fault of one, among those of what is asked for
+pub modulepath_wanted : (agrees : Files → Listings → Type 0) (failed : Type 0) (e : Environment) (wanted : Wanted) (fault : AuditFault) → AreDirectories agrees wanted.directories
+    → IsModulepathFault (judged_env e wanted.directories) fault → IsWantedFault agrees failed e wanted fault
+modulepath_wanted agrees failed e wanted fault there (inl d) = inr (inl (d.0, there, d.1))
+modulepath_wanted agrees failed e wanted fault there (inr h) = inl (inr (given_up_in fault ⊥ failed (λ (x : ⊥). absurd x) h))

@@ -52,6 +52,10 @@ wanted_by options others =
       directories = directories_in options ++ others;
     }
 
+-- The arguments ask how the program is called: `--help` is among the options, whatever else is there.
+abbrev pub asks_help : List Text → Bool
+asks_help words = list_any (λ word. bytes_eq word (codes "--help")) (before_first is_end words)
+
 -- What the arguments ask for; none where an option isn't known.
 abbrev pub wanted_of : List Text → Option Wanted
 wanted_of words =

@@ -1,6 +1,6 @@
 -- What an audit writes to its two writers, and why there is none (own).
 use Rattle.std.specs.Prelude.{◌≡◌, ◌⊎◌, ℕ, Bool, true, false, List, [], ◌∷◌, ◌++◌, codes, Option, Some, None, IsSome}
-use Rattle.std.specs.Prelude.{◌==◌, ◌||◌, bytes_eq, string_bytes}
+use Rattle.std.specs.Prelude.{◌==◌, ◌||◌, bytes_eq, length, not, string_bytes}
 use Rattle.std.specs.declared.alloc.Global.{Global}
 use Rattle.std.specs.declared.string.String.{String}
 use Rattle.std.specs.List.{join_with_byte, list_all, list_any}
@@ -9,9 +9,10 @@ use Rattle.envvars.specs.Texts.{Text}
 use Rattle.envvars.specs.Environment.{Environment, with_value}
 use Rattle.filetree.specs.Agreement.{Files, Listings, InEachPair}
 use Rattle.filetree.specs.Causes.{Applies}
+use Rattle.filetree.specs.Modulefiles.{directories}
+use Rattle.requests.specs.Steps.{modulepath}
 use Rattle.modules.specs.Answers.{cause_of}
 use Rattle.modules.specs.declared.refusal.Refusal.{Refusal}
-use Rattle.modules.specs.declared.refusal.Refusal.TheVariants.{BadArguments}
 use Rattle.sitelaws.specs.Sites.{Site, site_of}
 use Rattle.siteaudit.specs.Walks.{HasCause}
 use Rattle.siteaudit.specs.declared.fault.WalkFault.{WalkFault}
@@ -21,15 +22,17 @@ use Rattle.sitereport.specs.Documents.{document_text}
 use Rattle.sitereport.specs.Reports.{report_of}
 use Rattle.modulecmd.specs.Command.{standard}
 use Rattle.modulecmd.specs.Writing.{AppendsPart}
-use Rattle.sitecommand.specs.Arguments.{Wanted, wanted_of}
-use Rattle.sitecommand.specs.Faults.{is_failure, line_of, of_walk}
+use Rattle.sitecommand.specs.Arguments.{Wanted, asks_help, wanted_of}
+use Rattle.sitecommand.specs.Faults.{is_failure, line_of, of_walk, usage}
 use Rattle.sitecommand.specs.declared.arguments.Format.{Format}
 use Rattle.sitecommand.specs.declared.arguments.Format.TheVariants.{Lines, Document}
 use Rattle.sitecommand.specs.declared.audit_exit.AuditExit.{AuditExit}
-use Rattle.sitecommand.specs.declared.audit_exit.AuditExit.TheVariants.{AllCertified, SomeNotCertified, Reported}
-use Rattle.sitecommand.specs.declared.audit_exit.AuditExit.TheVariants.{CutShort}
+use Rattle.sitecommand.specs.declared.audit_exit.AuditExit.TheVariants.{AllCertified, SomeNotCertified, Helped}
+use Rattle.sitecommand.specs.declared.audit_exit.AuditExit.TheVariants.{Reported, CutShort}
 use Rattle.sitecommand.specs.declared.audit_fault.AuditFault.{AuditFault}
-use Rattle.sitecommand.specs.declared.audit_fault.AuditFault.TheVariants.{Refused, NotADirectory, WriteFailed}
+use Rattle.sitecommand.specs.declared.audit_fault.AuditFault.TheVariants.{Refused, BadArguments, NotADirectory}
+use Rattle.sitecommand.specs.declared.audit_fault.AuditFault.TheVariants.{EmptyModulepath}
+use Rattle.sitecommand.specs.declared.audit_fault.AuditFault.TheVariants.{WriteFailed}
 
 -- ---- what is judged
 
@@ -40,6 +43,10 @@ judged_env e [] = e
 judged_env e (dir ∷ dirs) =
     with_value (with_value e (codes "__MODULES_SHARE_MODULEPATH") None) (codes "MODULEPATH")
     (Some (join_with_byte 58 (dir ∷ dirs)))
+
+-- the MODULEPATH of the environment has a directory
+abbrev pub has_directory : Environment → Bool
+has_directory e = not (length (directories (modulepath e)) == 0)
 
 -- the site that is judged, over these maps
 abbrev pub judged_site : Environment → Wanted → Files → Listings → Site
@@ -76,12 +83,13 @@ pub record IsFirstGone (agrees : Files → Listings → Type 0) (dirs : List Tex
   pub there : AreDirectories agrees before
   pub gone : IsNoDirectory agrees dir
 
--- The site that the arguments name was audited: each of their directories is there, what was found is an audit, and its
--- certificate holds.
+-- The site that the arguments name was audited: each of their directories is there, the MODULEPATH of the audit has
+-- one, what was found is an audit, and its certificate holds.
 pub record IsAudited (agrees : Files → Listings → Type 0) (e : Environment) (arguments : List Text) (wanted : Wanted)
     (found : SiteAudit) : Type 0 where
   pub asked : wanted_of arguments ≡ Some wanted
   pub directories : AreDirectories agrees wanted.directories
+  pub begins : has_directory (judged_env e wanted.directories) ≡ true
   pub exact : InEachPair agrees (λ files listings. IsAudit (judged_site e wanted files listings) found)
   pub holds : InEachPair agrees (λ files listings. CertificateStands (judged_site e wanted files listings) found)
 
@@ -104,6 +112,7 @@ all_certified found = list_all (λ m. is_certified m.standing) found.modules.ite
 abbrev pub WritesFault : AuditExit → Option Text → Option Text → AuditFault → Type 0
 WritesFault AllCertified err err' fault = ⊥
 WritesFault SomeNotCertified err err' fault = ⊥
+WritesFault Helped err err' fault = ⊥
 WritesFault Reported err err' fault = Appends err err' (line_of fault)
 WritesFault CutShort err err' fault = AppendsPart err err' (line_of fault)
 
@@ -115,17 +124,30 @@ WritesAudit AllCertified all text out out' err err' = (all ≡ true) × Appends 
 WritesAudit SomeNotCertified all text out out' err err' = (all ≡ false) × Appends out out' text × Keeps err err'
 WritesAudit exit all text out out' err err' = AppendsPart out out' text × WritesFault exit err err' WriteFailed
 
+-- how the program is called, and what its options do
+abbrev pub help_text : Text
+help_text = usage ++ codes "\n--quiet leaves certified modules out; --json writes a document\n"
+
+-- What is written of a text of help: that text on standard output, and nothing on standard error; or where a write
+-- failed, a first part of it, and the line that says so.
+abbrev pub WritesHelp : AuditExit → Text → Option Text → Option Text → Option Text → Option Text → Type 0
+WritesHelp Helped text out out' err err' = Appends out out' text × Keeps err err'
+WritesHelp exit text out out' err err' = AppendsPart out out' text × WritesFault exit err err' WriteFailed
+
 -- ---- why there is none
 
 -- The cause of a fault, in the order in which all but the last are looked for: an option isn't known; a word names no
--- directory, and it is the first; each of them is there, and the walk over the site has a cause. At any time memory is
--- wanting, or the device has failed.
+-- directory, and it is the first; each of them is there, and the MODULEPATH of the audit has no directory, or the walk
+-- over the site has a cause. At any time memory is wanting, or the device has failed.
 pub data IsAuditFault (agrees : Files → Listings → Type 0) (failed : Type 0) (e : Environment) (arguments : List Text)
     : AuditFault → Type 0 where
-  unknown_option : wanted_of arguments ≡ None → IsAuditFault agrees failed e arguments (Refused BadArguments)
+  unknown_option : wanted_of arguments ≡ None → IsAuditFault agrees failed e arguments BadArguments
   no_directory : (wanted : Wanted) (dir : String Global) → wanted_of arguments ≡ Some wanted
       → IsFirstGone agrees wanted.directories (string_bytes dir)
       → IsAuditFault agrees failed e arguments (NotADirectory dir)
+  empty_modulepath : (wanted : Wanted) → wanted_of arguments ≡ Some wanted
+      → AreDirectories agrees wanted.directories → has_directory (judged_env e wanted.directories) ≡ false
+      → IsAuditFault agrees failed e arguments EmptyModulepath
   no_walk : (wanted : Wanted) (fault : WalkFault) → wanted_of arguments ≡ Some wanted
       → AreDirectories agrees wanted.directories → HasCause agrees failed standard (judged_env e wanted.directories)
       fault
@@ -135,17 +157,25 @@ pub data IsAuditFault (agrees : Files → Listings → Type 0) (failed : Type 0)
 
 -- What an audit writes, by how it ended: its report; or nothing on standard output, and the line that says why there is
 -- none on standard error. Fails says where the device failed, by whether the audit ended so.
-abbrev pub EndsAudit : AuditExit → (Files → Listings → Type 0) → Type 0 → (Bool → Type 0) → Environment → List Text
+abbrev pub EndsJudged : AuditExit → (Files → Listings → Type 0) → Type 0 → (Bool → Type 0) → Environment → List Text
     → Option Text → Option Text → Option Text → Option Text → Type 0
-EndsAudit exit agrees failed Fails e arguments out out' err err' =
+EndsJudged exit agrees failed Fails e arguments out out' err err' =
     ((wanted : Wanted) × (found : SiteAudit) × IsAudited agrees e arguments wanted found × Fails false
     × WritesAudit exit (all_certified found) (report_text wanted found) out out' err err')
     ⊎ ((fault : AuditFault) × IsAuditFault agrees failed e arguments fault × Fails (is_failure fault) × Keeps out out'
     × WritesFault exit err err' fault)
 
+-- The same, or where the arguments ask for help, that alone: then nothing is read.
+abbrev pub EndsAudit : AuditExit → (Files → Listings → Type 0) → Type 0 → (Bool → Type 0) → Environment → List Text
+    → Option Text → Option Text → Option Text → Option Text → Type 0
+EndsAudit exit agrees failed Fails e arguments out out' err err' =
+    ((asks_help arguments ≡ true) × Fails false × WritesHelp exit help_text out out' err err')
+    ⊎ ((asks_help arguments ≡ false) × EndsJudged exit agrees failed Fails e arguments out out' err err')
+
 -- the status of the process
 abbrev pub status_of : AuditExit → ℕ
 status_of AllCertified = 0
 status_of SomeNotCertified = 1
+status_of Helped = 0
 status_of Reported = 2
 status_of CutShort = 2

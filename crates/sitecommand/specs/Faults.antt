@@ -1,5 +1,5 @@
 -- Why there is no audit: the texts of the faults, and the line on standard error (own).
-use Rattle.std.specs.Prelude.{Bool, false, [], codes, string_bytes}
+use Rattle.std.specs.Prelude.{Bool, false, [], ◌++◌, codes, string_bytes}
 use Rattle.message.specs.Messages.{Text, quoting}
 use Rattle.message.specs.Refusals.{text_about}
 use Rattle.message.specs.declared.refusals.RefusalKind.TheVariants as kinds
@@ -9,12 +9,19 @@ use Rattle.siteaudit.specs.declared.fault.WalkFault.{WalkFault}
 use Rattle.siteaudit.specs.declared.fault.WalkFault.TheVariants as walks
 use Rattle.modulecmd.specs.Lines.{error_line}
 use Rattle.sitecommand.specs.declared.audit_fault.AuditFault.{AuditFault}
-use Rattle.sitecommand.specs.declared.audit_fault.AuditFault.TheVariants.{Refused, TooManyDirectories, NotADirectory}
+use Rattle.sitecommand.specs.declared.audit_fault.AuditFault.TheVariants.{Refused, BadArguments, EmptyModulepath}
+use Rattle.sitecommand.specs.declared.audit_fault.AuditFault.TheVariants.{TooManyDirectories, NotADirectory}
 use Rattle.sitecommand.specs.declared.audit_fault.AuditFault.TheVariants.{WriteFailed}
 
--- the text of each fault
+-- how the program is called
+abbrev pub usage : Text
+usage = codes "Usage: modaudit [--quiet] [--json] [DIR...]"
+
+-- the text of each fault: that of bad arguments has a second line, which says how the program is called
 abbrev pub message_of : AuditFault → Text
 message_of (Refused refusal) = refusals.message_of refusal
+message_of BadArguments = codes "Bad arguments\n" ++ usage
+message_of EmptyModulepath = codes "MODULEPATH has no directory"
 message_of TooManyDirectories = codes "Too many directories"
 message_of (NotADirectory dir) = quoting (codes "Not a directory: '") (string_bytes dir)
 message_of WriteFailed = text_about kinds.WriteFailed []
@@ -31,6 +38,8 @@ of_walk walks.TooManyDirectories = TooManyDirectories
 -- the fault is by 43
 abbrev pub is_failure : AuditFault → Bool
 is_failure (Refused refusal) = steps.is_failure refusal
+is_failure BadArguments = false
+is_failure EmptyModulepath = false
 is_failure TooManyDirectories = false
 is_failure (NotADirectory dir) = false
 is_failure WriteFailed = false

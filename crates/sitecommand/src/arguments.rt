@@ -131,6 +131,13 @@ fn push_all(directories: &mut Vec<String>, words: &[String]) -> Result<(), Alloc
     Ok(())
 }
 
+/// Whether the arguments ask how the program is called.
+pub(crate) fn asks_help(args: &[String]) -> bool
+    ensures { result ≡ spec.asks_help (map string_bytes args.now) }
+{
+    has_word(options_in(args), "--help")
+}
+
 fn are_known(options: &[String]) -> bool
     ensures { result ≡ list_all spec.is_known (map string_bytes options.now) }
 {

@@ -9,6 +9,8 @@ pub enum AuditExit {
     AllCertified,
     /// A module isn't certified, and the report is written.
     SomeNotCertified,
+    /// The arguments ask how the program is called, and that is written.
+    Helped,
     /// There is no audit, or a write failed, and the line that says why is written.
     Reported,
     /// The same, but the first part of that line is written, not all: writing it failed.
@@ -16,13 +18,13 @@ pub enum AuditExit {
 }
 
 impl AuditExit {
-    /// The status of the process: 0 where each module is certified, 1 where one isn't, and 2 where there is no audit or
-    /// its report isn't written.
+    /// The status of the process: 0 where each module is certified or help is asked for, 1 where one isn't, and 2 where
+    /// there is no audit or its report isn't written.
     pub fn status(self) -> u8
         ensures { result ≡ status_of self }
     {
         match self {
-            AuditExit::AllCertified => 0,
+            AuditExit::AllCertified | AuditExit::Helped => 0,
             AuditExit::SomeNotCertified => 1,
             AuditExit::Reported | AuditExit::CutShort => 2,
         }

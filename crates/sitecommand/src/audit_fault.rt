@@ -22,11 +22,18 @@ use std::fmt;
 use std::fmt::Display;
 use std::io::Write;
 
+/// What is said of bad arguments, with a line on how the program is called.
+const BAD_ARGUMENTS: &str = "Bad arguments\nUsage: modaudit [--quiet] [--json] [DIR...]";
+
 /// Why there is no audit. Its `Display` is what follows `ERROR: ` on standard error.
 #[derive(Debug, Drop)]
 pub enum AuditFault {
-    /// The arguments are bad (56), the loaded lists don't fit together (35), the device failed (43), or memory ran out.
+    /// The loaded lists don't fit together (35), the device failed (43), or memory ran out.
     Refused(Refusal),
+    /// 56: an option isn't known. A second line says how the program is called.
+    BadArguments,
+    /// No directory is named, and MODULEPATH has none.
+    EmptyModulepath,
     /// The site has too many directories.
     TooManyDirectories,
     /// This word of the arguments names no directory.
@@ -42,6 +49,8 @@ impl AuditFault {
     {
         match self {
             AuditFault::Refused(refusal) => refusal.numbered().message,
+            AuditFault::BadArguments => Message::of_text(BAD_ARGUMENTS),
+            AuditFault::EmptyModulepath => Message::of_text("MODULEPATH has no directory"),
             AuditFault::TooManyDirectories => Message::of_text("Too many directories"),
             AuditFault::NotADirectory(dir) => Message::quoting("Not a directory: '", dir.as_str()),
             AuditFault::WriteFailed => RefusalKind::WriteFailed.plain().message,
@@ -102,8 +111,8 @@ impl<T: Drop> From<AllocFailed<T>> for AuditFault {
     }
 }
 
-/// Writes the line that says why there is no audit, without taking memory. It is tried once: a write that fails ends it.
-/// Then the first part of the line is written, not all.
+/// Writes the line that says why there is no audit, without taking memory. It is tried once: a write that fails ends
+/// it. Then the first part of the line is written, not all.
 pub fn write_fault<E: Write>(fault: &AuditFault, err: &mut E) -> Result<(), WriteFault>
     ensures whole { OnOk result (Appends (E.contents err.old) (E.contents err.new) (line_of fault.now)) }
     ensures cut { OnErr result (AppendsPart (E.contents err.old) (E.contents err.new) (line_of fault.now)) }

@@ -1,18 +1,19 @@
 //! The directories of the command line: whether each is there, and the environment that has them as its MODULEPATH.
-ghost use Rattle.std.specs.Prelude.{◌≡◌, ◌<◌, false, map, IfOk, IfErr, OnOk, string_bytes};
+ghost use Rattle.std.specs.Prelude.{◌≡◌, ◌<◌, true, false, map, IfOk, IfErr, OnOk, string_bytes};
 ghost use Rattle.filetree.specs.Agreement.{FailsAt, FailsWhere, ReadsOn};
 ghost use Rattle.sitecommand.specs.Audits as spec;
-ghost use Rattle.sitecommand.specs.Audits.{IsDirectory, AreDirectories};
+ghost use Rattle.sitecommand.specs.Audits.{IsDirectory, AreDirectories, has_directory};
 ghost use Rattle.sitecommand.specs.Faults.{is_failure};
 ghost use Rattle.sitecommand.specs.Looked.{DirectoriesLookAt};
 ghost use Rattle.sitecommand.specs.Steps.{IsGivenUp, IsListing, NamesNoDirectory, IsDirectoryFault};
-ghost use Rattle.sitecommand.specs.Steps.{AreDirectoriesFault};
+ghost use Rattle.sitecommand.specs.Steps.{AreDirectoriesFault, IsModulepathFault};
 
 use crate::audit_fault::AuditFault;
 use envvars::Env;
 use envvars::fields::{join, slices};
 use filetree::Tree;
-use std::alloc::Global;
+use search::directories;
+use std::alloc::{AllocError, Global};
 
 /// Whether the text has a colon.
 fn has_colon(dir: &str) -> bool
@@ -101,4 +102,26 @@ pub(crate) fn judged_env(alloc: Global, env: Env, dirs: &[String]) -> Result<Env
     judged.unset("__MODULES_SHARE_MODULEPATH");
     judged.set("MODULEPATH", text.as_str())?;
     Ok(judged)
+}
+
+/// Whether the MODULEPATH of an environment has a directory.
+fn has_directory(alloc: Global, env: &Env) -> Result<bool, AllocError>
+    ensures { IfOk result (λ has. has ≡ has_directory env.now) }
+{
+    match env.get("MODULEPATH") {
+        None => Ok(false),
+        Some(text) => Ok(!directories(alloc, text)?.is_empty()),
+    }
+}
+
+/// Whether there is a site: the MODULEPATH that is judged has a directory.
+pub(crate) fn judge_modulepath(alloc: Global, env: &Env) -> Result<(), AuditFault>
+    ensures begins { OnOk result (has_directory env.now ≡ true) }
+    ensures cause { IfErr result (IsModulepathFault env.now) }
+{
+    if has_directory(alloc, env)? {
+        Ok(())
+    } else {
+        Err(AuditFault::EmptyModulepath)
+    }
 }

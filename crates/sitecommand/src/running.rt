@@ -5,19 +5,18 @@ ghost use Rattle.filetree.specs.Agreement.{FailsIf, FailsWhere, InEachPair, Read
 ghost use Rattle.siteaudit.specs.Audits.{is_certified};
 ghost use Rattle.sitecommand.specs.ArgumentViews.{wanted_view};
 ghost use Rattle.sitecommand.specs.Audits as spec;
-ghost use Rattle.sitecommand.specs.Audits.{EndsAudit, IsAuditFault, WritesAudit, WritesFault};
+ghost use Rattle.sitecommand.specs.Audits.{EndsAudit, EndsJudged, IsAuditFault, WritesAudit, WritesFault, WritesHelp};
 ghost use Rattle.sitecommand.specs.Faults.{is_failure};
 ghost use Rattle.sitecommand.specs.Looked.{AuditCommandLooksAt, WantedLooksAt};
 ghost use Rattle.sitecommand.specs.Steps.{IsPrepared, IsPreparedAudit, IsWantedFault};
 
-use crate::arguments::{AuditArguments, Format, wanted_of};
+use crate::arguments::{AuditArguments, Format, asks_help, wanted_of};
 use crate::audit_exit::AuditExit;
 use crate::audit_fault::{AuditFault, write_fault};
-use crate::directories::{judge_directories, judged_env};
+use crate::directories::{judge_directories, judge_modulepath, judged_env};
 use envvars::Env;
 use filetree::Tree;
 use modulecmd::write_bytes;
-use modules::Refusal;
 use siteaudit::{AuditedModule, SiteAudit, Standing, WalkProgress, audit};
 use sitereport::{json_report, line_report};
 use std::alloc::{AllocError, Global};
@@ -30,6 +29,10 @@ const STANDARD: Limits = Limits {
     depth: 200,
     value_bytes: 1_048_576,
 };
+
+/// How the program is called, and what its options do.
+const HELP: &str =
+    "Usage: modaudit [--quiet] [--json] [DIR...]\n--quiet leaves certified modules out; --json writes a document\n";
 
 /// What an audit is to write, and whether each module is certified.
 #[derive(Drop)]
@@ -79,6 +82,7 @@ fn audit_wanted<T: Tree, P: WalkProgress>(
 {
     judge_directories(alloc, tree, wanted.directories.as_slice())?;
     let judged = judged_env(alloc, env, wanted.directories.as_slice())?;
+    judge_modulepath(alloc, &judged)?;
     let found = audit(alloc, &judged, tree, STANDARD, progress)?;
     let report = report_of(alloc, wanted, &found)?;
     Ok(PreparedAudit {
@@ -103,7 +107,7 @@ fn answer_of<T: Tree, P: WalkProgress>(
         (AuditCommandLooksAt env (map string_bytes args.now)) }
 {
     match wanted_of(alloc, args)? {
-        None => Err(AuditFault::Refused(Refusal::BadArguments)),
+        None => Err(AuditFault::BadArguments),
         Some(wanted) => audit_wanted(alloc, &wanted, env, tree, progress),
     }
 }
@@ -134,13 +138,51 @@ fn write_report<W: Write, E: Write>(answer: &PreparedAudit, out: &mut W, err: &m
     }
 }
 
+/// Writes a text of help. After a failed write the line that says so is tried once.
+fn write_help<W: Write, E: Write>(text: &str, out: &mut W, err: &mut E) -> AuditExit
+    ensures { WritesHelp result text.now
+        (W.contents out.old) (W.contents out.new) (E.contents err.old) (E.contents err.new) }
+{
+    if write_bytes(out, text.as_bytes()).is_err() {
+        return report_fault(&AuditFault::WriteFailed, err);
+    }
+    AuditExit::Helped
+}
+
+/// Audits the site that the arguments ask for, writes what is to be written, and answers how it ended.
+fn run_judged<T: Tree, P: WalkProgress, W: Write, E: Write>(
+    alloc: Global,
+    args: &[String],
+    env: Env,
+    tree: &mut T,
+    progress: &mut P,
+    out: &mut W,
+    err: &mut E,
+) -> AuditExit
+    ensures reads { ReadsOn T.agrees T.failures tree.old tree.new }
+    ensures ended { EndsJudged result (T.agrees tree.new) (T.failures tree.old < T.failures tree.new)
+        (λ fails. FailsIf fails (T.failed tree.old) (T.failed tree.new) (λ at.
+        InEachPair (T.agrees tree.new) (λ files listings.
+        AuditCommandLooksAt env (map string_bytes args.now) files listings at))) env (map string_bytes args.now)
+        (W.contents out.old) (W.contents out.new) (E.contents err.old) (E.contents err.new) }
+{
+    let answer = answer_of(alloc, args, env, tree, progress);
+    // Nothing is under way any more, and the streams are free for what is written.
+    progress.evaluated(0, 0);
+    match answer {
+        Ok(answer) => write_report(&answer, out, err),
+        Err(fault) => report_fault(&fault, err),
+    }
+}
+
 /// Audits a site over an environment and a tree of modulefiles, and answers how it ended.
 ///
 /// The arguments are the options `--quiet` and `--json`, and directories, which are the MODULEPATH of the audit; where
-/// there are none, it is that of the environment. A word that begins with `-` and is no such option is refused (56), but
+/// there are none, it is that of the environment. Where `--help` is among the options, standard output says how the
+/// program is called, and nothing else is done. A word that begins with `-` and is no such option is refused (56), but
 /// not after the word `--`; after that the first word that names no directory is a fault of its own, before anything of
-/// the site is read. Each file of the site is evaluated once, and the report goes to standard output. A failed device
-/// (43) failed at a path that the audit looks at.
+/// the site is read, and so is a MODULEPATH without a directory. Each file of the site is evaluated once, and the report
+/// goes to standard output. A failed device (43) failed at a path that the audit looks at.
 ///
 /// Where there is a fault before the report is made, nothing is written but the line that says why, to standard error.
 pub fn run_audit<T: Tree, P: WalkProgress, W: Write, E: Write>(
@@ -155,15 +197,12 @@ pub fn run_audit<T: Tree, P: WalkProgress, W: Write, E: Write>(
     ensures reads { ReadsOn T.agrees T.failures tree.old tree.new }
     ensures ended { EndsAudit result (T.agrees tree.new) (T.failures tree.old < T.failures tree.new)
         (λ fails. FailsIf fails (T.failed tree.old) (T.failed tree.new) (λ at.
-        InEachPair (T.agrees tree.new) (λ files listings. AuditCommandLooksAt env (map string_bytes args.now) files listings at)))
-        env (map string_bytes args.now)
+        InEachPair (T.agrees tree.new) (λ files listings.
+        AuditCommandLooksAt env (map string_bytes args.now) files listings at))) env (map string_bytes args.now)
         (W.contents out.old) (W.contents out.new) (E.contents err.old) (E.contents err.new) }
 {
-    let answer = answer_of(alloc, args, env, tree, progress);
-    // Nothing is under way any more, and the streams are free for what is written.
-    progress.evaluated(0, 0);
-    match answer {
-        Ok(answer) => write_report(&answer, out, err),
-        Err(fault) => report_fault(&fault, err),
+    if asks_help(args) {
+        return write_help(HELP, out, err);
     }
+    run_judged(alloc, args, env, tree, progress, out, err)
 }
