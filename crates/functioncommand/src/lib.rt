@@ -1,5 +1,5 @@
 //! A command of the function `module`: its words in, the text for a shell or a status out (module(1)).
-//! Takes memory; reads the environment and the working directory that it is given. It writes nothing.
+//! Takes memory; reads the environment and the working directory, and tells the notice, that it is given.
 #![tactic(auto)]
 
 mod answer;

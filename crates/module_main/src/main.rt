@@ -1,4 +1,4 @@
-//! The program `module SHELL SUBCOMMAND [WORD...]`: what the function `module` adds to the program's own commands.
+//! The program `module SHELL SUBCOMMAND [WORD...]`: `use`, `unuse`, `is-loaded`, and which subcommand a word means.
 //! Touches its arguments, its environment, its working directory and the standard streams, and looks for directories.
 //! Nothing stands above it; it has no clause, so it has little code.
 #![tactic(auto)]
