@@ -1,0 +1,12 @@
+pub mod FormViews
+pub mod Forms
+pub mod GuardViews
+pub mod Guards
+pub mod Notes
+pub mod PieceViews
+pub mod Pieces
+pub mod Places
+pub mod TranslationViews
+pub mod Translations
+pub mod Words
+pub mod Writing

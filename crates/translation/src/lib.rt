@@ -1,0 +1,15 @@
+//! Modulefiles translated into the profile: what is written for a command that the profile says in another way.
+//! Takes memory and touches nothing else.
+#![tactic(auto)]
+
+mod forms;
+mod guards;
+mod notes;
+mod pieces;
+mod places;
+mod translate;
+mod words;
+mod writing;
+
+pub use notes::{Note, Outcome};
+pub use translate::{Translation, translate};
