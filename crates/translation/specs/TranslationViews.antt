@@ -7,7 +7,7 @@ use Rattle.translation.specs.Pieces.{pieces}
 use Rattle.translation.specs.Translations.{written_for_all, notes_on_all}
 use Rattle.translation.specs.declared.notes.Note.{Note}
 use Rattle.translation.specs.declared.notes.Outcome.{Outcome}
-use Rattle.translation.specs.declared.translate.Translation.{Translation}
+use Rattle.translation.specs.declared.translating.Translation.{Translation}
 
 abbrev pub note_view : Note → notes.Note
 note_view n = record { line = n.line; said = n.said.now; outcome = n.outcome }

@@ -107,7 +107,10 @@ fn is_message(line: &[u8]) -> bool
 }
 
 /// The modules that the words of a command need, where they ask for nothing else; no words need none.
-fn needs_of_words<'a>(alloc: Global, words: &[&'a [u8]]) -> Result<Option<Vec<&'a [u8]>>, AllocError>
+fn needs_of_words<'a>(
+    alloc: Global,
+    words: &[&'a [u8]],
+) -> Result<Option<Vec<&'a [u8]>>, AllocError>
     ensures { IfOk result (λ needs. option_map (λ n. texts n.items) needs ≡ spec.needs_of_words (texts words.now)) }
 {
     let mut needs = Vec::new(alloc);
@@ -144,7 +147,10 @@ fn lines_of(alloc: Global, body: &[u8]) -> Result<Vec<&[u8]>, AllocError>
 }
 
 /// The modules that lines of a body need, where they ask for nothing else.
-fn needs_of_lines<'a>(alloc: Global, lines: &[&'a [u8]]) -> Result<Option<Vec<&'a [u8]>>, AllocError>
+fn needs_of_lines<'a>(
+    alloc: Global,
+    lines: &[&'a [u8]],
+) -> Result<Option<Vec<&'a [u8]>>, AllocError>
     ensures { IfOk result (λ needs. option_map (λ n. texts n.items) needs ≡ spec.needs_of_lines (texts lines.now)) }
 {
     let mut needs = Vec::new(alloc);

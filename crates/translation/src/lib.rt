@@ -7,9 +7,9 @@ mod guards;
 mod notes;
 mod pieces;
 mod places;
-mod translate;
+mod translating;
 mod words;
 mod writing;
 
 pub use notes::{Note, Outcome};
-pub use translate::{Translation, translate};
+pub use translating::{Translation, translate};

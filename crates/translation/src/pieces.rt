@@ -41,7 +41,7 @@ fn split_within(text: &[u8], length: usize) -> (&[u8], &[u8])
 }
 
 /// The pieces of a text whose commands begin at these offsets.
-pub(crate) fn pieces<'a>(
+pub(crate) fn pieces_of<'a>(
     alloc: Global,
     text: &'a [u8],
     starts: &[usize],

@@ -14,7 +14,7 @@ ghost use Rattle.translation.specs.TranslationViews.{notes_view, note, AddsChang
 use crate::forms::form_of;
 use crate::guards::{Guard, guard_at, needs_of_guard};
 use crate::notes::{Note, Outcome, left_in};
-use crate::pieces::{Piece, pieces, starts};
+use crate::pieces::{Piece, pieces_of, starts};
 use crate::places::{Mark, place};
 use crate::words::plain_words;
 use crate::writing::{push_form, push_needs};
@@ -177,7 +177,7 @@ fn translated_script<'a>(
 {
     let text = text.as_bytes();
     let starts = starts(alloc, script)?;
-    let pieces = pieces(alloc, text, starts.as_slice())?;
+    let pieces = pieces_of(alloc, text, starts.as_slice())?;
     translated(alloc, text, pieces.as_slice(), left_out)
 }
 
@@ -201,12 +201,4 @@ pub fn translate<'a>(
         Ok(translation) => Ok(translation),
         Err(_) => Err(TextFault::OutOfMemory),
     }
-}
-
-#[test]
-fn try_it(rt: HostRuntime) {
-    let text = "#%Module\nmodule load a/1 b/2\nset x 1\nif { ![ is-loaded gcc/12 ] } {\n    module load gcc/12\n}\nmodule use -a /x /y; depends-on c\n";
-    let t = translate(rt.alloc(), text, &["module", "exec"]).unwrap();
-    let s = str::from_utf8(t.text.as_slice()).unwrap();
-    println!(rt; "{s}").unwrap();
 }
