@@ -7,9 +7,11 @@ mod guards;
 mod notes;
 mod pieces;
 mod places;
+mod report_lines;
 mod translating;
 mod words;
 mod writing;
 
 pub use notes::{Note, Outcome};
+pub use report_lines::report;
 pub use translating::{Translation, translate};

@@ -1,5 +1,5 @@
 //! The words of a command that is written with plain characters alone.
-ghost use Rattle.std.specs.Prelude.{◌≡◌, map, IfOk};
+ghost use Rattle.std.specs.Prelude.{◌≡◌, filter, IfOk};
 ghost use Rattle.std.specs.List.{list_all};
 ghost use Rattle.std.specs.Option.{option_map};
 ghost use Rattle.translation.specs.Words as spec;
@@ -29,6 +29,19 @@ fn parts_of(alloc: Global, line: &[u8]) -> Result<Vec<&[u8]>, AllocError>
     line.split(|byte| is_blank(*byte)).collect(alloc)
 }
 
+/// Those of the parts that aren't empty.
+fn words_among<'a>(alloc: Global, parts: &[&'a [u8]]) -> Result<Vec<&'a [u8]>, AllocError>
+    ensures { IfOk result (λ words. texts words.items ≡ filter spec.is_word (texts parts.now)) }
+{
+    let mut words = Vec::new(alloc);
+    for part in parts {
+        if !part.is_empty() {
+            words.push(*part)?;
+        }
+    }
+    Ok(words)
+}
+
 /// The words of a line that has no character with a meaning of its own.
 pub(crate) fn plain_words(alloc: Global, line: &[u8]) -> Result<Option<Vec<&[u8]>>, AllocError>
     ensures { IfOk result (λ words. option_map (λ w. texts w.items) words ≡ spec.plain_words line.now) }
@@ -36,11 +49,6 @@ pub(crate) fn plain_words(alloc: Global, line: &[u8]) -> Result<Option<Vec<&[u8]
     if !is_plain_line(line) {
         return Ok(None);
     }
-    let mut words = Vec::new(alloc);
-    for part in parts_of(alloc, line)? {
-        if !part.is_empty() {
-            words.push(part)?;
-        }
-    }
-    Ok(Some(words))
+    let parts = parts_of(alloc, line)?;
+    Ok(Some(words_among(alloc, parts.as_slice())?))
 }
