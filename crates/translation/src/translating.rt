@@ -109,7 +109,7 @@ impl<'a> Translation<'a> {
     ) -> Result<(), AllocError>
         ensures text { OnOk result (self.new.text.items ≡ self.old.text.items) }
         ensures notes { OnOk result (notes_view self.new.notes.items ≡ notes_view self.old.notes.items
-            ++ (note (spec.line_at text.now piece.start) said.now outcome ∷ [])) }
+            ++ (note (spec.line_at text.now piece.entry.start) said.now outcome ∷ [])) }
     {
         let line = line_at(text, piece.start);
         self.notes.push(Note {
@@ -128,9 +128,9 @@ impl<'a> Translation<'a> {
         piece: Piece<'a>,
         left_out: &[&str],
     ) -> Result<(), AllocError>
-        ensures text { OnOk result (self.new.text.items ≡ self.old.text.items ++ spec.written_for (piece_view piece)) }
+        ensures text { OnOk result (self.new.text.items ≡ self.old.text.items ++ spec.written_for (piece_view piece.entry)) }
         ensures notes { OnOk result (notes_view self.new.notes.items
-            ≡ notes_view self.old.notes.items ++ spec.notes_on (texts left_out.now) text.now (piece_view piece)) }
+            ≡ notes_view self.old.notes.items ++ spec.notes_on (texts left_out.now) text.now (piece_view piece.entry)) }
     {
         if push_change(alloc, &mut self.text, piece.text)? {
             let end = place(piece.text, Mark::End);

@@ -77,7 +77,7 @@ pub(crate) fn push_form(
     indentation: &[u8],
     form: Form,
 ) -> Result<(), AllocError>
-    ensures { OnOk result (text.new.items ≡ text.old.items ++ spec.written indentation.now (form_view form)) }
+    ensures { OnOk result (text.new.items ≡ text.old.items ++ spec.written indentation.now (form_view form.entry)) }
 {
     match form {
         Form::Each(names) => push_needs(text, indentation, names),
