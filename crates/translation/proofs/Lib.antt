@@ -1,2 +1,4 @@
+pub mod Adding
+pub mod Mapped
 pub mod Trees
 pub mod Turns

@@ -33,6 +33,15 @@ needs_turn lines i d done needs all l e h =
     sym (needs_joined done needs (needs_of_lines (texts (drop (i + 1) lines))))
     ∙ (sym (ap (needs_on done) (needs_at lines i d (Some needs) l e)) ∙ h)
 
+pub needs_extended : (lines : List (Bor Text)) (i : ℕ) (d : Bor Text) (old new slice others : List (Bor Text)) → i < length lines
+    → Some (texts others) ≡ needs_of_line (get_or lines i d).now → new ≡ old ++ slice → slice ≡ others
+    → needs_on (texts old) (needs_of_lines (texts (drop i lines))) ≡ needs_of_lines (texts lines)
+    → needs_on (texts new) (needs_of_lines (texts (drop (i + 1) lines))) ≡ needs_of_lines (texts lines)
+needs_extended lines i d old new slice others l e n s h =
+    ap (λ (done : List Text). needs_on done (needs_of_lines (texts (drop (i + 1) lines))))
+    (ap texts n ∙ (map-append (λ (x : Bor Text). x.now) old slice ∙ ap (λ (xs : List (Bor Text)). texts old ++ texts xs) s))
+    ∙ needs_turn lines i d (texts old) (texts others) (needs_of_lines (texts lines)) l (sym e) h
+
 pub needs_stop : (lines : List (Bor Text)) (i : ℕ) (d : Bor Text) (done : List Text) (all : Option (List Text)) → i < length lines
     → needs_of_line (get_or lines i d).now ≡ None → needs_on done (needs_of_lines (texts (drop i lines))) ≡ all → None ≡ all
 needs_stop lines i d done all l e h = sym (ap (needs_on done) (needs_at lines i d None l e)) ∙ h

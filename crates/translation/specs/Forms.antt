@@ -4,6 +4,7 @@ use Rattle.std.specs.Prelude.{ℕ, List, [], ◌∷◌, Bool, true, false, not, 
 use Rattle.std.specs.Prelude.{if◌then◌else◌, Option, Some, None}
 use Rattle.std.specs.List.{list_all}
 use Rattle.tclchars.specs.Classes as classes
+use Rattle.tclchars.specs.Classes.{begins_in}
 use Rattle.tclchars.specs.Runs.{Text}
 
 -- that each or one of these modules is loaded; that these directories are searched first or last
@@ -21,13 +22,11 @@ is_in_name b = classes.is_name b || b == 46 || b == 43 || b == 45 || b == 47
 
 -- a name of a module as most are: of such bytes, the first a letter, a digit or `_`
 abbrev pub is_name : Text → Bool
-is_name [] = false
-is_name (b ∷ bs) = classes.is_name b && list_all is_in_name (b ∷ bs)
+is_name word = begins_in classes.is_name word && list_all is_in_name word
 
 -- an absolute directory without a colon
 abbrev pub is_directory : Text → Bool
-is_directory [] = false
-is_directory (b ∷ bs) = b == 47 && list_all (λ c. not (c == 58)) (b ∷ bs)
+is_directory word = begins_in (λ b. b == 47) word && list_all (λ c. not (c == 58)) word
 
 abbrev pub is_empty : List Text → Bool
 is_empty [] = true

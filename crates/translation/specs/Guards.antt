@@ -98,21 +98,31 @@ needs_of_lines (line ∷ lines) =
 abbrev pub without_blanks : Text → Text
 without_blanks text = filter (λ b. not (is_blank b)) text
 
--- a condition that has no blanks, without the part that asks for an unload
-abbrev pub without_mode : Text → Text
-without_mode condition =
-    if starts_with nat_eq condition (codes "[module-infomoderemove]||")
-    then drop 25 condition else condition
+-- the text without this front, where it begins so
+abbrev pub without_front : Text → Text → Text
+without_front front text = if starts_with nat_eq text front then drop (length front) text else text
 
 -- `![is-loaded NAME]`
 abbrev pub not_loaded : Text → Text
 not_loaded name = codes "![is-loaded" ++ (name ++ codes "]")
 
--- `[module-info mode load]`, or, of one module, that it isn't loaded, and maybe that it is an unload
+-- the condition that this isn't loaded, maybe behind the one that it is unloaded
+abbrev pub asks_for : Text → Text → Bool
+asks_for condition name =
+    bytes_eq (without_front (codes "[module-infomoderemove]||") condition) (not_loaded name)
+
+abbrev pub asks_for_one : Text → List Text → Bool
+asks_for_one condition [] = false
+asks_for_one condition (name ∷ []) = asks_for condition name
+asks_for_one condition (name ∷ (other ∷ names)) = false
+
+-- `[module-info mode load]`
+abbrev pub is_load_mode : Text → Bool
+is_load_mode condition = bytes_eq condition (codes "[module-infomodeload]")
+
+-- what keeps an `if` from nothing but loading these a second time, or in an unload
 abbrev pub is_guard : Text → List Text → Bool
-is_guard condition (name ∷ []) =
-    bytes_eq condition (codes "[module-infomodeload]") || bytes_eq (without_mode condition) (not_loaded name)
-is_guard condition names = bytes_eq condition (codes "[module-infomodeload]")
+is_guard condition names = is_load_mode condition || asks_for_one condition names
 
 abbrev pub if_guard : Text → List Text → Option (List Text)
 if_guard condition needs =

@@ -1,11 +1,15 @@
 //! What plain commands ask for that the profile says in another way (module(1) and modulefile(5) of Environment
 //! Modules, and Lmod's).
-ghost use Rattle.std.specs.Prelude.{◌≡◌, bytes_eq};
+ghost use Rattle.std.specs.Prelude.{◌≡◌, ◌==◌, bytes_eq};
 ghost use Rattle.std.specs.List.{list_all};
 ghost use Rattle.std.specs.Option.{option_map};
+ghost use Rattle.tclchars.specs.Classes as classes;
+ghost use Rattle.tclchars.specs.Classes.{begins_in};
 ghost use Rattle.translation.specs.Words.{texts};
 ghost use Rattle.translation.specs.Forms as spec;
 ghost use Rattle.translation.specs.FormViews.{form_view};
+
+use tclchars::is_name as is_name_byte;
 
 /// What a command asks for.
 #[derive(Clone, Copy)]
@@ -24,29 +28,41 @@ pub(crate) enum Form<'w, 'a> {
 fn is_in_name(byte: u8) -> bool
     ensures { result ≡ spec.is_in_name byte }
 {
-    tclchars::is_name(byte) || byte == b'.' || byte == b'+' || byte == b'-' || byte == b'/'
+    is_name_byte(byte) || byte == b'.' || byte == b'+' || byte == b'-' || byte == b'/'
+}
+
+/// Whether the first byte is a letter, a digit or `_`.
+fn begins_name(word: &[u8]) -> bool
+    ensures { result ≡ begins_in classes.is_name word.now }
+{
+    match word {
+        [] => false,
+        [first, ..] => is_name_byte(*first),
+    }
 }
 
 /// Whether the word is a name of a module as most are: letters, digits and `_ . + - /`, the first a letter, digit or `_`.
 fn is_name(word: &[u8]) -> bool
     ensures { result ≡ spec.is_name word.now }
 {
-    let begins = match word {
+    begins_name(word) && word.iter().all(|byte| is_in_name(*byte))
+}
+
+/// Whether the first byte is a slash.
+fn begins_path(word: &[u8]) -> bool
+    ensures { result ≡ begins_in (λ b. b == 47) word.now }
+{
+    match word {
         [] => false,
-        [first, ..] => tclchars::is_name(*first),
-    };
-    begins && word.iter().all(|byte| is_in_name(*byte))
+        [first, ..] => *first == b'/',
+    }
 }
 
 /// Whether the word is an absolute directory, without a colon.
 fn is_directory(word: &[u8]) -> bool
     ensures { result ≡ spec.is_directory word.now }
 {
-    let begins = match word {
-        [] => false,
-        [first, ..] => *first == b'/',
-    };
-    begins && word.iter().all(|byte| *byte != b':')
+    begins_path(word) && word.iter().all(|byte| *byte != b':')
 }
 
 /// Whether each word is a name of a module.

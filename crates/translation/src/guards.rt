@@ -173,14 +173,14 @@ fn without_blanks(alloc: Global, text: &[u8]) -> Result<Vec<u8>, AllocError>
         .collect(alloc)
 }
 
-/// A condition without the part that asks for an unload. It has no blanks.
-fn without_mode(condition: &[u8]) -> &[u8]
-    ensures { result.now ≡ spec.without_mode condition.now }
+/// The text without this front, where it begins so.
+fn without_front<'a>(front: &[u8], text: &'a [u8]) -> &'a [u8]
+    ensures { result.now ≡ spec.without_front front.now text.entry.now }
 {
-    if condition.starts_with(b"[module-infomoderemove]||") {
-        &condition[25..]
+    if text.starts_with(front) {
+        &text[front.len()..]
     } else {
-        condition
+        text
     }
 }
 
@@ -195,18 +195,42 @@ fn not_loaded(alloc: Global, name: &[u8]) -> Result<Vec<u8>, AllocError>
     Ok(text)
 }
 
+/// Whether the condition, which has no blanks, asks for a load.
+fn is_load_mode(condition: &[u8]) -> bool
+    ensures { result ≡ spec.is_load_mode condition.now }
+{
+    condition == b"[module-infomodeload]".as_slice()
+}
+
+/// Whether the condition, which has no blanks, asks that this isn't loaded, or that it is unloaded.
+fn asks_for(alloc: Global, condition: &[u8], name: &[u8]) -> Result<bool, AllocError>
+    ensures { IfOk result (λ b. b ≡ spec.asks_for condition.now name.now) }
+{
+    let expected = not_loaded(alloc, name)?;
+    let found = without_front(b"[module-infomoderemove]||", condition);
+    Ok(found == expected.as_slice())
+}
+
+/// Whether there is one name, and the condition, which has no blanks, asks for it so.
+fn asks_for_one(alloc: Global, condition: &[u8], names: &[&[u8]]) -> Result<bool, AllocError>
+    ensures { IfOk result (λ b. b ≡ spec.asks_for_one condition.now (texts names.now)) }
+{
+    match names {
+        [] => Ok(false),
+        [name] => asks_for(alloc, condition, name),
+        [_, _, ..] => Ok(false),
+    }
+}
+
 /// Whether the condition, which has no blanks, keeps an `if` from nothing but loading these a second time, or in an
 /// unload.
 fn is_guard(alloc: Global, condition: &[u8], names: &[&[u8]]) -> Result<bool, AllocError>
     ensures { IfOk result (λ b. b ≡ spec.is_guard condition.now (texts names.now)) }
 {
-    if condition == b"[module-infomodeload]".as_slice() {
+    if is_load_mode(condition) {
         return Ok(true);
     }
-    match names {
-        [name] => Ok(without_mode(condition) == not_loaded(alloc, name)?.as_slice()),
-        _ => Ok(false),
-    }
+    asks_for_one(alloc, condition, names)
 }
 
 /// The modules that a guard's body needs, where it asks for nothing else, and its condition for nothing but them.

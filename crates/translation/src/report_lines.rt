@@ -19,20 +19,33 @@ impl Outcome {
     }
 }
 
-/// Adds the line of a note on the file of this path.
-fn push_line(report: &mut Vec<u8>, path: &str, note: &Note) -> Result<(), AllocError>
-    ensures { OnOk result (report.new.items ≡ report.old.items ++ spec.line_of path.now (note_view note.now)) }
+/// Adds the place that a note is about.
+fn push_place(report: &mut Vec<u8>, path: &str, line: usize) -> Result<(), AllocError>
+    ensures { OnOk result (report.new.items ≡ report.old.items ++ spec.place_of path.now line) }
 {
     let mut buffer = Buffer::new();
     report.extend_from_slice(path.as_bytes())?;
-    report.push(b':')?;
-    report.extend_from_slice(buffer.format(note.line).as_bytes())?;
+    report.extend_from_slice(b":")?;
+    report.extend_from_slice(buffer.format(line).as_bytes())
+}
+
+/// Adds what is said there, and the end of the line.
+fn push_said(report: &mut Vec<u8>, note: &Note) -> Result<(), AllocError>
+    ensures { OnOk result (report.new.items ≡ report.old.items ++ spec.said_of (note_view note.now)) }
+{
     report.extend_from_slice(b": ")?;
     report.extend_from_slice(note.outcome.word().as_bytes())?;
     report.extend_from_slice(b": ")?;
     report.extend_from_slice(note.said)?;
-    report.push(b'\n')?;
-    Ok(())
+    report.extend_from_slice(b"\n")
+}
+
+/// Adds the line of a note on the file of this path.
+fn push_line(report: &mut Vec<u8>, path: &str, note: &Note) -> Result<(), AllocError>
+    ensures { OnOk result (report.new.items ≡ report.old.items ++ spec.line_of path.now (note_view note.now)) }
+{
+    push_place(report, path, note.line)?;
+    push_said(report, note)
 }
 
 /// The lines of notes on the file of this path: its path, the line, what became of the command, and which it is.

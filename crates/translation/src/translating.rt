@@ -59,17 +59,25 @@ fn push_guard(alloc: Global, written: &mut Vec<u8>, guard: &Guard) -> Result<boo
     Ok(true)
 }
 
+/// Adds what is written for the guard that the text begins with, and what stands behind it; false where none is.
+fn push_guard_at(alloc: Global, written: &mut Vec<u8>, text: &[u8]) -> Result<bool, AllocError>
+    ensures { AddsChange result written.old.items written.new.items (spec.of_guard text.now) }
+{
+    match guard_at(text) {
+        Some(guard) => push_guard(alloc, written, &guard),
+        None => Ok(false),
+    }
+}
+
 /// Adds what is written for the command that the text begins with, where it is another one; else false.
+#[tactic(auto, using(crate::proofs::Adding::added_first, crate::proofs::Adding::added_second))]
 fn push_change(alloc: Global, written: &mut Vec<u8>, text: &[u8]) -> Result<bool, AllocError>
     ensures { AddsChange result written.old.items written.new.items (spec.change_of text.now) }
 {
     if push_command(alloc, written, text)? {
         return Ok(true);
     }
-    match guard_at(text) {
-        Some(guard) => push_guard(alloc, written, &guard),
-        None => Ok(false),
-    }
+    push_guard_at(alloc, written, text)
 }
 
 /// The bytes before an offset.
@@ -121,6 +129,7 @@ impl<'a> Translation<'a> {
     }
 
     /// Adds a piece of a text, where these names are left out.
+    #[tactic(auto, using(crate::proofs::Adding::not_added))]
     fn add(
         &mut self,
         alloc: Global,
