@@ -1,13 +1,11 @@
 -- What calls add, by cases.
-use Rattle.std.proofs.Common.{◌≡◌, Bool, true, false, refl, Option, Some, None}
+use Rattle.std.proofs.Common.{◌≡◌, ℕ, Bool, true, false, List, ◌++◌, Bor, refl, sym, ap, subst, ◌∙◌, append-nil, Option, Some, None}
 use Rattle.std.specs.Option.{option_map}
-use Rattle.std.specs.Prelude.{option_and_then}
 use Rattle.tclchars.specs.Runs.{Text}
-use Rattle.translation.specs.Guards as guards
-use Rattle.translation.specs.GuardViews.{guard_view}
-use Rattle.translation.specs.Translations.{first_of, of_this_guard}
+use Rattle.translation.specs.Notes as notes
+use Rattle.translation.specs.Notes.{left_in}
+use Rattle.translation.specs.Translations.{first_of, change_of, note_of, note_of_kept}
 use Rattle.translation.specs.TranslationViews.{AddsIf}
-use Rattle.translation.specs.declared.guards.Guard.{Guard}
 
 pub added_first : (old new : Text) (change other : Option Text) → AddsIf old new change true → AddsIf old new (first_of change other) true
 added_first old new (Some text) other h = h
@@ -24,11 +22,11 @@ pub not_added : (old new : Text) (change : Option Text) → AddsIf old new chang
 not_added old new (Some text) h = let never : false ≡ true = h.0 in cc
 not_added old new None h = refl
 
--- of a guard that is there, or isn't
-pub of_found : (guard : Option Guard) (found : Option guards.Guard) (g : Guard) → guard ≡ Some g → option_map guard_view guard ≡ found
-    → option_and_then of_this_guard found ≡ of_this_guard (guard_view g)
-of_found guard found g e h = let k : found ≡ Some (guard_view g) = cc in rw k refl
-
-pub of_none : (guard : Option Guard) (found : Option guards.Guard) → guard ≡ None → option_map guard_view guard ≡ found
-    → option_and_then of_this_guard found ≡ None
-of_none guard found e h = let k : found ≡ None = cc in rw k refl
+-- nothing is said of what is kept and has no name of what is left out
+pub nothing_said : (names : List Text) (line : ℕ) (text old new : Text) (added : Bool) (name : Option (Bor Text)) (said : List notes.Note)
+    → AddsIf old new (change_of text) added → added ≡ false → option_map (λ w. w.now) name ≡ left_in names text → name ≡ None
+    → said ≡ said ++ note_of names line text (change_of text)
+nothing_said names line text old new added name said h e l n =
+    let none : change_of text ≡ None = not_added old new (change_of text) (subst (AddsIf old new (change_of text)) e h) in
+    let left : left_in names text ≡ None = cc in
+    sym (append-nil said) ∙ ap (λ (more : List notes.Note). said ++ more) (sym (ap (note_of names line text) none ∙ ap (note_of_kept line) left))

@@ -26,7 +26,7 @@ is_name word = begins_in classes.is_name word && list_all is_in_name word
 
 -- an absolute directory without a colon
 abbrev pub is_directory : Text → Bool
-is_directory word = begins_in (λ b. b == 47) word && list_all (λ c. not (c == 58)) word
+is_directory word = begins_in (λ b. b == 47) word && list_all (λ b. not (b == 58)) word
 
 abbrev pub is_empty : List Text → Bool
 is_empty [] = true

@@ -1,5 +1,5 @@
 -- What is written for a modulefile, and what is said of its commands (own).
-use Rattle.std.specs.Prelude.{ℕ, ◌+◌, List, [], ◌∷◌, ◌++◌, ◌==◌, take, drop, count_by, flat_map, Option, Some, None}
+use Rattle.std.specs.Prelude.{◌≡◌, ℕ, ◌+◌, List, [], ◌∷◌, ◌++◌, ◌==◌, take, drop, count_by, flat_map, Option, Some, None}
 use Rattle.std.specs.Prelude.{option_and_then}
 use Rattle.std.specs.Option.{option_map}
 use Rattle.tclchars.specs.Bytes.{newline}
@@ -64,3 +64,8 @@ written_for_all ps = flat_map written_for ps
 
 abbrev pub notes_on_all : List Text → Text → List Piece → List Note
 notes_on_all names text ps = flat_map (notes_on names text) ps
+
+-- each of the pieces is written as it is
+abbrev pub AreKept : List Piece → Type 0
+AreKept [] = Unit {0}
+AreKept (p ∷ ps) = (change_of p.text ≡ None) × AreKept ps

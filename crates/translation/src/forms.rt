@@ -1,6 +1,6 @@
 //! What plain commands ask for that the profile says in another way (module(1) and modulefile(5) of Environment
 //! Modules, and Lmod's).
-ghost use Rattle.std.specs.Prelude.{◌≡◌, ◌==◌, bytes_eq};
+ghost use Rattle.std.specs.Prelude.{◌≡◌, ◌==◌, bytes_eq, not};
 ghost use Rattle.std.specs.List.{list_all};
 ghost use Rattle.std.specs.Option.{option_map};
 ghost use Rattle.tclchars.specs.Classes as classes;
@@ -41,11 +41,18 @@ fn begins_name(word: &[u8]) -> bool
     }
 }
 
+/// Whether names of modules are made of each byte.
+fn are_in_name(word: &[u8]) -> bool
+    ensures { result ≡ list_all spec.is_in_name word.now }
+{
+    word.iter().all(|byte| is_in_name(*byte))
+}
+
 /// Whether the word is a name of a module as most are: letters, digits and `_ . + - /`, the first a letter, digit or `_`.
 fn is_name(word: &[u8]) -> bool
     ensures { result ≡ spec.is_name word.now }
 {
-    begins_name(word) && word.iter().all(|byte| is_in_name(*byte))
+    begins_name(word) && are_in_name(word)
 }
 
 /// Whether the first byte is a slash.
@@ -58,11 +65,18 @@ fn begins_path(word: &[u8]) -> bool
     }
 }
 
+/// Whether no byte is a colon.
+fn has_no_colon(word: &[u8]) -> bool
+    ensures { result ≡ list_all (λ b. not (b == 58)) word.now }
+{
+    word.iter().all(|byte| *byte != b':')
+}
+
 /// Whether the word is an absolute directory, without a colon.
 fn is_directory(word: &[u8]) -> bool
     ensures { result ≡ spec.is_directory word.now }
 {
-    begins_path(word) && word.iter().all(|byte| *byte != b':')
+    begins_path(word) && has_no_colon(word)
 }
 
 /// Whether each word is a name of a module.

@@ -4,6 +4,7 @@
 
 mod forms;
 mod guards;
+mod laws;
 mod notes;
 mod pieces;
 mod places;
@@ -12,6 +13,7 @@ mod translating;
 mod words;
 mod writing;
 
+pub use laws::{accounted, pieces_of_text};
 pub use notes::{Note, Outcome};
 pub use report_lines::report;
 pub use translating::{Translation, translate};

@@ -5,5 +5,5 @@ use Rattle.translation.proofs.pieces.starts.Goals as goal
 
 pub returns : goal.returns
 returns c =
-    c.loop-command.invariant ∙ ap (map place_of) (take_all c.loop-command.command-index _ (omega arith))
+    c.loop-command.invariant ∙ ap (map place_of) (take_all c.loop-command.command-index _ (omega (arith, ap length c.deref-command-items.ensures.value)))
     ∙ sym (script_places (λ piece. piece.now) c.args.script.now)
