@@ -4,7 +4,7 @@ use processinput::InputFault;
 use std::alloc::AllocError;
 use std::error::Error;
 use std::fmt;
-use tclchars::TextFault;
+use translation::TranslationFault;
 
 /// Why nothing was translated.
 #[derive(Debug, Drop)]
@@ -23,8 +23,8 @@ pub(crate) enum PortFault {
     Input(InputFault),
     /// The file couldn't be read.
     Tree(TreeFault),
-    /// It is no script.
-    Text(TextFault),
+    /// It isn't translated.
+    Translation(TranslationFault),
 }
 
 impl fmt::Display for PortFault {
@@ -37,7 +37,7 @@ impl fmt::Display for PortFault {
             PortFault::WriteFailed => f.write_str("Writing failed"),
             PortFault::Input(fault) => fault.fmt(f),
             PortFault::Tree(fault) => fault.fmt(f),
-            PortFault::Text(fault) => fault.fmt(f),
+            PortFault::Translation(fault) => fault.fmt(f),
         }
     }
 }
@@ -62,8 +62,8 @@ impl From<TreeFault> for PortFault {
     }
 }
 
-impl From<TextFault> for PortFault {
-    fn from(fault: TextFault) -> PortFault {
-        PortFault::Text(fault)
+impl From<TranslationFault> for PortFault {
+    fn from(fault: TranslationFault) -> PortFault {
+        PortFault::Translation(fault)
     }
 }

@@ -64,7 +64,7 @@ fn port(rt: &HostRuntime) -> Result<u8, PortFault> {
     let translation = translate(rt.alloc(), text.as_str(), &LEFT_OUT)?;
     let report = report(rt.alloc(), name.as_str(), translation.notes.as_slice())?;
     let status = status(translation.notes.as_slice());
-    if rt.stdout().write_all(translation.text.as_slice()).is_err() {
+    if rt.stdout().write_all(translation.text.as_bytes()).is_err() {
         return Err(PortFault::WriteFailed);
     }
     if rt.stderr().write_all(report.as_slice()).is_err() {

@@ -1,4 +1,5 @@
 pub mod Adding
+pub mod Checked
 pub mod Kept
 pub mod Mapped
 pub mod Trees

@@ -10,10 +10,13 @@ mod pieces;
 mod places;
 mod report_lines;
 mod translating;
+mod translation_fault;
+mod translation_text;
 mod words;
 mod writing;
 
 pub use laws::{accounted, pieces_of_text};
 pub use notes::{Note, Outcome};
 pub use report_lines::report;
-pub use translating::{Translation, translate};
+pub use translation_fault::TranslationFault;
+pub use translation_text::{Translation, translate};

@@ -1,15 +1,13 @@
 //! A modulefile translated, piece by piece.
 ghost use Rattle.std.specs.Prelude.{◌≡◌, ◌==◌, [], ◌∷◌, ◌++◌, ◌≤◌, map, take, count_by, length, IfOk, IfErr, OnOk};
 ghost use Rattle.tclscript.specs.Faults.{IsTextFault};
-ghost use Rattle.tclscript.specs.Text.{IsWithin};
-ghost use Rattle.tclscript.specs.Tree.{Commands};
 ghost use Rattle.tclscript.specs.View.{script_view};
 ghost use Rattle.translation.specs.Words.{texts};
 ghost use Rattle.translation.specs.GuardViews.{guard_view};
 ghost use Rattle.translation.specs.Pieces.{offsets};
 ghost use Rattle.translation.specs.PieceViews.{piece_view};
 ghost use Rattle.translation.specs.Translations as spec;
-ghost use Rattle.translation.specs.TranslationViews.{notes_view, note, AddsChange, IsTranslation};
+ghost use Rattle.translation.specs.TranslationViews.{notes_view, note, AddsChange, HasTranslation, IsTranslation};
 
 use crate::forms::form_of;
 use crate::guards::{Guard, guard_at, needs_of_guard};
@@ -22,9 +20,9 @@ use std::alloc::{AllocError, Global};
 use tclchars::TextFault;
 use tclscript::{Script, parse_script};
 
-/// What is written for a modulefile, and what is said of its commands.
+/// What is written for a modulefile so far, and what is said of its commands.
 #[derive(Debug, Drop)]
-pub struct Translation<'a> {
+pub(crate) struct Draft<'a> {
     /// What is written.
     pub text: Vec<u8>,
     /// What is said of commands, in their order.
@@ -106,7 +104,7 @@ fn line_at(text: &[u8], offset: usize) -> usize
     1 + newlines(prefix(text, offset))
 }
 
-impl<'a> Translation<'a> {
+impl<'a> Draft<'a> {
     /// Adds a note on the command that a piece of a text begins with.
     fn add_note(
         &mut self,
@@ -159,19 +157,19 @@ fn translated<'a>(
     text: &'a [u8],
     pieces: &[Piece<'a>],
     left_out: &[&str],
-) -> Result<Translation<'a>, AllocError>
+) -> Result<Draft<'a>, AllocError>
     ensures text { IfOk result (λ t. t.text.items ≡ spec.written_for_all (map piece_view pieces.now)) }
     ensures notes { IfOk result (λ t. notes_view t.notes.items
         ≡ spec.notes_on_all (texts left_out.now) text.entry.now (map piece_view pieces.now)) }
 {
-    let mut translation = Translation {
+    let mut draft = Draft {
         text: Vec::new(alloc),
         notes: Vec::new(alloc),
     };
     for piece in pieces {
-        translation.add(alloc, text, *piece, left_out)?;
+        draft.add(alloc, text, *piece, left_out)?;
     }
-    Ok(translation)
+    Ok(draft)
 }
 
 /// The text of a script translated, where these names are left out.
@@ -180,9 +178,9 @@ fn translated_script<'a>(
     text: &'a str,
     script: &Script<&str>,
     left_out: &[&str],
-) -> Result<Translation<'a>, AllocError>
+) -> Result<Draft<'a>, AllocError>
     ensures { IfOk result (λ t. IsTranslation (texts left_out.now) text.entry.now
-        (offsets (script_view (λ piece. piece.now) script.now)) t) }
+        (offsets (script_view (λ piece. piece.now) script.now)) t.text.items (notes_view t.notes.items)) }
 {
     let text = text.as_bytes();
     let starts = starts(alloc, script)?;
@@ -190,24 +188,19 @@ fn translated_script<'a>(
     translated(alloc, text, pieces.as_slice(), left_out)
 }
 
-/// A modulefile translated, where commands of these names are left out.
-///
-/// The errors are those of `parse_script`.
-pub fn translate<'a>(
+/// What is written for a modulefile, and said of it, where commands of these names are left out.
+pub(crate) fn draft_of<'a>(
     alloc: Global,
     text: &'a str,
     left_out: &[&str],
-) -> Result<Translation<'a>, TextFault>
-    // What is written, and said, is what the definitions have for the pieces of the script.
-    ensures found { IfOk result (λ t. (s : Commands) × IsWithin text.entry.now s
-        × IsTranslation (texts left_out.now) text.entry.now (offsets s) t) }
-
-    // A fault is the first of the text, with its offset.
+) -> Result<Draft<'a>, TextFault>
+    ensures found { IfOk result (λ t. HasTranslation (texts left_out.now) text.entry.now t.text.items
+        (notes_view t.notes.items)) }
     ensures fault { IfErr result (IsTextFault text.entry.now) }
 {
     let script = parse_script(alloc, text)?;
     match translated_script(alloc, text, &script, left_out) {
-        Ok(translation) => Ok(translation),
+        Ok(draft) => Ok(draft),
         Err(_) => Err(TextFault::OutOfMemory),
     }
 }

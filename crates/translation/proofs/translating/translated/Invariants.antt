@@ -7,6 +7,6 @@ use Rattle.translation.proofs.translating.translated.Given as goal
 
 abbrev pub invariant-loop-piece : goal.invariant-loop-piece
 invariant-loop-piece l = record {
-  text_is : l.translation.text.items ≡ written_for_all (map piece_view (take l.piece-index l.pieces));
-  notes_are : notes_view l.translation.notes.items ≡ notes_on_all (texts l.left_out) l.text (map piece_view (take l.piece-index l.pieces));
+  text_is : l.draft.text.items ≡ written_for_all (map piece_view (take l.piece-index l.pieces));
+  notes_are : notes_view l.draft.notes.items ≡ notes_on_all (texts l.left_out) l.text (map piece_view (take l.piece-index l.pieces));
 }

@@ -1,6 +1,6 @@
 use Rattle.translation.specs.Words.{texts}
 use Rattle.translation.proofs.Adding.{nothing_said}
-use Rattle.translation.proofs.translating.Translation.add.Goals as goal
+use Rattle.translation.proofs.translating.Draft.add.Goals as goal
 
 pub returns-in-None-clause-notes : goal.returns-in-None-clause-notes
 returns-in-None-clause-notes c =
