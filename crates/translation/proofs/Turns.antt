@@ -1,5 +1,6 @@
 -- Turns of the loops over lines, parts and offsets: what is left, read from here, gives what the whole gives.
-use Rattle.std.proofs.Common.{◌≡◌, ℕ, ◌+◌, ◌-◌, ◌<◌, ◌≤◌, List, [], ◌∷◌, ◌++◌, Bool, true, false, Bor, refl, sym, ap, ◌∙◌, Option, Some, None, get_or, take, drop, length, map, append_assoc, append-nil}
+use Rattle.std.proofs.Common.{◌≡◌, ℕ, ◌+◌, ◌-◌, ◌<◌, ◌≤◌, List, [], ◌∷◌, ◌++◌, Bool, true, false, Bor, refl, sym, ap, ◌∙◌, Option, Some, None}
+use Rattle.std.proofs.Common.{get_or, take, drop, length, append_assoc, append-nil}
 use Rattle.std.proofs.lemmas.List.{drop_more, drop_all, map-append}
 use Rattle.std.specs.Prelude.{option_and_then, if◌then◌else◌}
 use Rattle.std.specs.Option.{option_map}

@@ -48,7 +48,8 @@ fn are_in_name(word: &[u8]) -> bool
     word.iter().all(|byte| is_in_name(*byte))
 }
 
-/// Whether the word is a name of a module as most are: letters, digits and `_ . + - /`, the first a letter, digit or `_`.
+/// Whether the word is a name of a module as most are: letters, digits and `_ . + - /`, the first a letter, a digit or
+/// `_`.
 fn is_name(word: &[u8]) -> bool
     ensures { result ≡ spec.is_name word.now }
 {

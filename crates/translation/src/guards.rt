@@ -238,7 +238,8 @@ pub(crate) fn needs_of_guard<'a>(
     alloc: Global,
     guard: &Guard<'a>,
 ) -> Result<Option<Vec<&'a [u8]>>, AllocError>
-    ensures { IfOk result (λ needs. option_map (λ n. texts n.items) needs ≡ spec.needs_of_guard (guard_view guard.now)) }
+    ensures { IfOk result (λ needs. option_map (λ n. texts n.items) needs
+        ≡ spec.needs_of_guard (guard_view guard.now)) }
 {
     let lines = lines_of(alloc, guard.body)?;
     let Some(needs) = needs_of_lines(alloc, lines.as_slice())? else {

@@ -7,8 +7,8 @@ ghost use Rattle.translation.specs.Translations.{AreKept, change_of, line_at, no
 ghost use Rattle.translation.specs.TranslationViews.{note};
 ghost use Rattle.translation.specs.declared.notes.Outcome.TheVariants.{Translated};
 
-/// The pieces of a text, wherever it is cut, are the text when they are joined. So a text of which each piece is kept is
-/// written byte for byte.
+/// The pieces of a text, wherever it is cut, are the text when they are joined. So a text of which each piece is kept
+/// is written byte for byte.
 pub fn pieces_of_text()
     ensures joined { (text : Text) (starts : List ℕ) → flat_map (λ p. p.text) (pieces 0 text starts) ≡ text }
     ensures unchanged { (text : Text) (starts : List ℕ) → AreKept (pieces 0 text starts)

@@ -137,7 +137,8 @@ impl<'a> Translation<'a> {
         piece: Piece<'a>,
         left_out: &[&str],
     ) -> Result<(), AllocError>
-        ensures text { OnOk result (self.new.text.items ≡ self.old.text.items ++ spec.written_for (piece_view piece.entry)) }
+        ensures text { OnOk result (self.new.text.items
+            ≡ self.old.text.items ++ spec.written_for (piece_view piece.entry)) }
         ensures notes { OnOk result (notes_view self.new.notes.items
             ≡ notes_view self.old.notes.items ++ spec.notes_on (texts left_out.now) text.now (piece_view piece.entry)) }
     {
