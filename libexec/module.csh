@@ -26,10 +26,15 @@ case xremove:
     set _module_words[2] = unload
     breaksw
 case xuse:
-    set _module_way = added
+    set _module_way = path
     if ( $#_module_words == 2 ) set _module_way = report
     breaksw
 case xunuse:
+    set _module_way = path
+    breaksw
+case xis-loaded:
+    set _module_way = status
+    breaksw
 case xsave:
 case xsaverm:
 case xrestore:
@@ -45,7 +50,6 @@ case xkeyword:
 case xapropos:
 case xsavelist:
 case xsaveshow:
-case xis-loaded:
 case xis-avail:
     set _module_way = report
     breaksw
@@ -60,8 +64,13 @@ case report:
     "@prefix@/libexec/report" $_module_words:q
     set _module_status = $status
     breaksw
+case status:
+    "@prefix@/libexec/module" $_module_words:q
+    set _module_status = $status
+    breaksw
 default:
     set _module_program = "@prefix@/bin/modulecmd"
+    if ( $_module_way == path ) set _module_program = "@prefix@/libexec/module"
     if ( $_module_way == added ) set _module_program = "@prefix@/libexec/changes"
     # The words are put in by the shell that runs the command, and the double quotes keep every blank of its text.
     set _module_run = '$_module_program:q $_module_words:q'
