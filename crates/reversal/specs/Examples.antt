@@ -1,4 +1,5 @@
--- Worked examples of what is lost where one premise doesn't hold (own), each over one variable and one or two modules.
+-- Worked examples of what is lost where one premise doesn't hold (own), each over one variable or none,
+-- and one or two modules.
 use Rattle.std.specs.Prelude.{◌≡◌, ◌≢◌, true, List, [], ◌∷◌, bytes_eq, codes, if◌then◌else◌, is_some, Some, None}
 use Rattle.std.specs.FinMap as finite
 use Rattle.std.specs.List.{list_all}
