@@ -61,8 +61,8 @@ def _program(words):
 
 def module(*words):
     """Does what `module` does in a shell, as `module("load", "gcc", "openmpi")`: a list among the words stands for its
-    words. True where the command was accepted; else the environment stays as it was. Reports and refusals are written on
-    standard error, the usage on standard output."""
+    words. True where the command was accepted; else the environment stays as it was. Refusals are written on standard
+    error, and reports too, but on standard output where that is a terminal; the usage is on standard output."""
     words = [str(word) for it in words for word in (it if isinstance(it, (list, tuple)) else [it])] or ["help"]
     if words[0] in ("del", "remove"):
         words[0] = "unload"
