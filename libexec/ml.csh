@@ -7,14 +7,17 @@ if ( $#_module_words == 1 ) set _module_words = ( $_module_words:q list )
 switch ( "x$_module_words[2]" )
 case xadd:
 case xapropos:
+case xav:
 case xavail:
 case xdel:
 case xdisplay:
 case xhelp:
 case x--help:
+case x-h:
 case xis-avail:
 case xis-loaded:
 case xkeyword:
+case xli:
 case xlist:
 case xload:
 case xpurge:
@@ -27,12 +30,14 @@ case xsavelist:
 case xsaverm:
 case xsaveshow:
 case xshow:
+case xsw:
 case xswap:
 case xswitch:
 case xunload:
 case xunuse:
 case xuse:
 case x--version:
+case x-V:
 case xwhatis:
     if ( $?tcsh ) set argv = ( $_module_words:q )
     source "@prefix@/libexec/module.csh"

@@ -102,9 +102,9 @@ class Shell(typing.NamedTuple):
             return f"{self.says.writes_status} > '{folder}/status.{number}'"
         return step
 
-    def run(self, folder, env, lines, prefix, before=()):
+    def run(self, folder, env, lines, prefix, before=(), under=None):
         """Runs the lines behind the init file, and those of `before` in front of it. Gives what was kept, and the
-        run."""
+        run. `under` stands for the command that starts the shell."""
         place = os.path.join(folder.path, b"kept").decode()
         shutil.rmtree(place, ignore_errors=True)
         os.mkdir(place)
@@ -114,7 +114,7 @@ class Shell(typing.NamedTuple):
         with open(script, "w") as file:
             file.write(text)
         done = subprocess.run(
-            [*self.command, script],
+            [*(under or self.command), script],
             env=env,
             cwd=place,
             stdin=subprocess.DEVNULL,
