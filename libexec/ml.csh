@@ -4,7 +4,7 @@
 if ( $?tcsh ) set _module_words = ( $argv:q )
 if ( $#_module_words == 1 ) set _module_words = ( $_module_words:q list )
 
-switch ( "x$_module_words[2]" )
+switch ( x$_module_words[2]:q )
 case xadd:
 case xapropos:
 case xav:
@@ -52,7 +52,7 @@ default:
     shift _module_words
     set _module_status = 0
     foreach _module_word ( $_module_words:q )
-        if ( "$_module_word" =~ -* ) then
+        if ( $_module_word:q =~ -* ) then
             set _module_unload = ( $_module_unload:q "`$_module_cut`" )
             set _module_status = $status
             if ( $_module_status != 0 ) break

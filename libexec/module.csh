@@ -12,7 +12,7 @@ endif
 
 set _module_way = name
 if ( $#_module_words == 1 ) set _module_words = ( $_module_words:q help )
-switch ( "x$_module_words[2]" )
+switch ( x$_module_words[2]:q )
 case xhelp:
 case x--help:
     set _module_way = report
@@ -69,7 +69,7 @@ if ( $_module_way == name ) then
     if ( $_module_status == 0 ) then
         set _module_way = again
         # (a name that is newer than this file)
-        if ( "x$_module_name" == "x$_module_words[2]" ) set _module_way = libexec/module
+        if ( x$_module_name:q == x$_module_words[2]:q ) set _module_way = libexec/module
     endif
 endif
 
@@ -77,7 +77,7 @@ switch ( $_module_way )
 case name:
     breaksw
 case again:
-    set _module_words[2] = "$_module_name"
+    set _module_words[2] = $_module_name:q
     if ( $?tcsh ) set argv = ( $_module_words:q )
     source "@prefix@/libexec/module.csh"
     set _module_status = $status

@@ -9,7 +9,7 @@ import pytest
 
 from tests.harness import same
 from tests.shells.session import LINES, MARKS, ODD_NAME, Session, changed, same_environment
-from tests.shells.shells import content
+from tests.shells.shells import content, in_csh
 from tests.shells.texts import word
 
 NOT_FOUND = "ERROR: Unable to locate a modulefile for '{}'\n"
@@ -125,6 +125,18 @@ def test_uses_and_unuses_under_odd_settings(here, shell):
     before = kept.shown[0]
     for found, path in zip(kept.shown[1:], (f"{place}:{start}", start, f"{start}:{place}")):
         same_environment(found, changed(before, {"MODULEPATH": path}), "the environment")
+
+
+@in_csh
+def test_refuses_a_directory_that_csh_has_no_text_for(here):
+    name = "a\nb"
+    os.mkdir(os.path.join(here.top, name))
+    here.starts_with(WORD=name)
+    steps = [*step("module use $WORD:q"), *step("module unuse $WORD:q")]
+    kept = here.keeps([f"cd {here.top}", "show", *steps], "ERROR: Value of 'MODULEPATH' can't be said in this shell\n")
+    same(kept.statuses, ["1", "0"], "the statuses")
+    for found in kept.shown[1:]:
+        same_environment(found, kept.shown[0], "the environment")
 
 
 # What is typed, and the programs of the product that it starts, which are all that it starts, where foo is loaded.

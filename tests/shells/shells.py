@@ -181,6 +181,7 @@ ODD_ZSH = [
 ODD_CSH = ["set noglob noclobber", "alias module 'echo alias'", "alias ml 'echo alias'", "cd /"]
 ODD_TCSH = ["set backslash_quote", "set anyerror", *ODD_CSH]
 ODD_FISH = ["set -g IFS 'o1/= '", "set -g text 1", "alias module 'echo alias'", "function ml; echo old; end", "cd /"]
+ODD_FISH += ["function count; builtin echo 9; end", "function disown; builtin echo theirs; end"]
 
 PACKAGED = "dpkg-query -W -f '${{Version}}' {}".format
 

@@ -7,7 +7,7 @@ import time
 import pytest
 
 from tests.harness import same, true
-from tests.shells.session import REFUSAL, changed, pages, same_environment
+from tests.shells.session import LINES, ODD_NAME, REFUSAL, changed, pages, same_environment
 from tests.shells.shells import content, in_bash, in_csh, in_shells
 from tests.shells.texts import text
 
@@ -125,6 +125,14 @@ def test_a_word_that_means_no_subcommand_is_refused(scripted, shell):
     same(kept.statuses, ["1"] * len(NO_SUBCOMMANDS), "the statuses")
     same_environment(kept.shown[1], kept.shown[0], "the environment after")
     same(scripted.words(), [], "the commands that the program was given")
+
+
+def test_a_word_of_whatever_bytes_reaches_the_program_of_names(scripted, shell):
+    word = LINES + ODD_NAME
+    scripted.starts_with(WORD=word)
+    typed = shell.says.word.format("WORD")
+    kept = scripted.keeps([f"module {typed} foo", "status"], err=f"ERROR: Unknown subcommand '{word}'\n".encode())
+    same(kept.statuses, ["1"], "the status")
 
 
 @pytest.fixture
