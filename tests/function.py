@@ -198,6 +198,9 @@ def test_bytes_that_are_no_text(program):
     for word in ("use", "unuse"):
         done = run(program, ["sh", word, "/x"], {"MODULEPATH": b"/\xff"})
         same(outcome(done), (1, "", "ERROR: Bad value of 'MODULEPATH'\n"), f"MODULEPATH, by {word}")
+    env = {"MODULEPATH": b"/\xff", **LOADED}
+    same(outcome(run(program, ["sh", "is-loaded", "gcc"], env)), (0, "", ""), "what isn't about MODULEPATH")
+    same(outcome(run(program, ["sh", "subcommand", "li"], env)), (0, "list\n", ""), "what isn't about MODULEPATH")
 
 
 def test_a_full_device(program):
