@@ -35,6 +35,7 @@ FILES = [
     "libexec/collection.awk",
     "libexec/listing.awk",
     "libexec/ml.csh",
+    "libexec/module",
     "libexec/module.csh",
     "libexec/modulespath",
     "libexec/names",
