@@ -12,7 +12,8 @@ use Rattle.envvars.specs.Changes.{NewValue, same_value, applied}
 use Rattle.envvars.proofs.EnvLemmas.{with_value-same}
 use Rattle.envvars.proofs.ChangeLemmas.{applied-with_value}
 use Rattle.envvars.proofs.EditLemmas.{both_true}
-use Rattle.envloaded.specs.Loaded.{Entry, loaded_changes, with_loaded}
+use Rattle.envloaded.specs.LoadedTexts.{names_variable, files_variable, conflicts_variable, prereqs_variable}
+use Rattle.envloaded.specs.Loaded.{Entry, names_text, files_text, conflicts_text, prereqs_text, loaded_changes, with_loaded}
 use Rattle.envloaded.specs.NeededChanges.{is_needed, needed_changes}
 
 abbrev names : List NewValue → List Text
@@ -45,7 +46,7 @@ unnamed e name (c ∷ cs) h =
     at true w k rest = rw (w, k) rest
     at false w k rest = rw w rest
 
-pub needed_alone : (e : Environment) (cs : List NewValue) → are_distinct (names cs) ≡ true → applied (filter (is_needed e) cs) e ≡ applied cs e
+needed_alone : (e : Environment) (cs : List NewValue) → are_distinct (names cs) ≡ true → applied (filter (is_needed e) cs) e ≡ applied cs e
 needed_alone e [] d = refl
 needed_alone e (c ∷ cs) d =
     let both = both_true (not (has c.0 (names cs))) (are_distinct (names cs)) d in
@@ -61,13 +62,25 @@ needed_alone e (c ∷ cs) d =
         let same : with_value e c.0 c.1 ≡ e = ap (with_value e c.0) (k.0 ∙ sym k.1) ∙ with_value-same e c.0 in
         rw w (rest ∙ ap (applied cs) (sym same))
 
-pub needed_written : (e : Environment) (xs : List Entry) → applied (needed_changes e xs) e ≡ with_loaded e xs
-needed_written e xs = needed_alone e (loaded_changes xs) refl
+-- so it is after two others
+needed_later : (e : Environment) (a b : Text) (v w : Option Text) (cs : List NewValue) → has a (names cs) ≡ false → has b (names cs) ≡ false → are_distinct (names cs) ≡ true
+    → applied (filter (is_needed e) cs) (with_value (with_value e a v) b w) ≡ applied cs (with_value (with_value e a v) b w)
+needed_later e a b v w cs ha hb d =
+    applied-with_value (filter (is_needed e) cs) (with_value e a v) b w (unnamed e b cs hb)
+    ∙ ap (λ (x : Environment). with_value x b w)
+    (applied-with_value (filter (is_needed e) cs) e a v (unnamed e a cs ha) ∙ ap (λ (x : Environment). with_value x a v) (needed_alone e cs d)
+    ∙ sym (applied-with_value cs e a v ha))
+    ∙ sym (applied-with_value cs (with_value e a v) b w hb)
 
-pub needed_made : (e : Environment) (cs : List NewValue)
+needed_written : (e : Environment) (xs : List Entry) → applied (needed_changes e xs) e ≡ with_loaded e xs
+needed_written e xs =
+    needed_later e names_variable files_variable (names_text xs) (files_text xs)
+    ((conflicts_variable, conflicts_text xs) ∷ (prereqs_variable, prereqs_text xs) ∷ []) refl refl refl
+
+each_made : (e : Environment) (cs : List NewValue)
     → list_all (λ (c : NewValue). same_value (lookup e c.0) c.1) (filter (is_needed e) cs) ≡ list_all (λ (c : NewValue). same_value (lookup e c.0) c.1) cs
-needed_made e [] = refl
-needed_made e (c ∷ cs) = at (is_needed e c) refl (needed_made e cs)
+each_made e [] = refl
+each_made e (c ∷ cs) = at (is_needed e c) refl (each_made e cs)
   where
     at : (b : Bool) → is_needed e c ≡ b
         → list_all (λ (d : NewValue). same_value (lookup e d.0) d.1) (filter (is_needed e) cs) ≡ list_all (λ (d : NewValue). same_value (lookup e d.0) d.1) cs
@@ -75,26 +88,25 @@ needed_made e (c ∷ cs) = at (is_needed e c) refl (needed_made e cs)
     at true w rest = rw w (ap (λ (b : Bool). same_value (lookup e c.0) c.1 && b) rest)
     at false w rest = let k = has_it e c w in rw (w, k.0, k.1) rest
 
-four : (e : Environment) (a b c d : NewValue)
-    → (((([] ++ filter (is_needed e) (a ∷ [])) ++ filter (is_needed e) (b ∷ [])) ++ filter (is_needed e) (c ∷ [])) ++ filter (is_needed e) (d ∷ [])) ≡ filter (is_needed e) (a ∷ b ∷ c ∷ d ∷ [])
-four e a b c d =
-    ap (λ xs. (xs ++ filter (is_needed e) (c ∷ [])) ++ filter (is_needed e) (d ∷ [])) (sym (filter-append (is_needed e) (a ∷ []) (b ∷ [])))
-    ∙ ap (λ xs. xs ++ filter (is_needed e) (d ∷ [])) (sym (filter-append (is_needed e) (a ∷ b ∷ []) (c ∷ [])))
-    ∙ sym (filter-append (is_needed e) (a ∷ b ∷ c ∷ []) (d ∷ []))
+pub needed_made : (e : Environment) (xs : List Entry)
+    → list_all (λ (c : NewValue). same_value (lookup e c.0) c.1) (needed_changes e xs) ≡ list_all (λ (c : NewValue). same_value (lookup e c.0) c.1) (loaded_changes xs)
+needed_made e xs =
+    ap (λ (b : Bool). same_value (lookup e names_variable) (names_text xs) && (same_value (lookup e files_variable) (files_text xs) && b))
+    (each_made e ((conflicts_variable, conflicts_text xs) ∷ (prereqs_variable, prereqs_text xs) ∷ []))
 
 -- four changes that are pushed one after another, with the values that they have
 pub pushed_four : (e : Environment) (a b c d : Text) (s t u v p q r o : Option Text) (xs ys zs us vs : List NewValue)
-    → xs ≡ [] → ys ≡ xs ++ filter (is_needed e) ((a, s) ∷ []) → zs ≡ ys ++ filter (is_needed e) ((b, t) ∷ []) → us ≡ zs ++ filter (is_needed e) ((c, u) ∷ []) → vs ≡ us ++ filter (is_needed e) ((d, v) ∷ [])
+    → xs ≡ [] → ys ≡ xs ++ (a, s) ∷ [] → zs ≡ ys ++ (b, t) ∷ [] → us ≡ zs ++ filter (is_needed e) ((c, u) ∷ []) → vs ≡ us ++ filter (is_needed e) ((d, v) ∷ [])
     → s ≡ p → t ≡ q → u ≡ r → v ≡ o
-    → vs ≡ filter (is_needed e) ((a, p) ∷ (b, q) ∷ (c, r) ∷ (d, o) ∷ [])
+    → vs ≡ (a, p) ∷ (b, q) ∷ filter (is_needed e) ((c, r) ∷ (d, o) ∷ [])
 pushed_four e a b c d s t u v p q r o xs ys zs us vs hx hy hz hu hv hs ht hw ho =
-    hv ∙ ap (λ l. l ++ filter (is_needed e) ((d, v) ∷ [])) (hu ∙ ap (λ l. l ++ filter (is_needed e) ((c, u) ∷ [])) (hz ∙ ap (λ l. l ++ filter (is_needed e) ((b, t) ∷ []))
-    (hy ∙ ap (λ l. l ++ filter (is_needed e) ((a, s) ∷ [])) hx)))
-    ∙ four e (a, s) (b, t) (c, u) (d, v)
-    ∙ ap (λ m. filter (is_needed e) ((a, m) ∷ (b, t) ∷ (c, u) ∷ (d, v) ∷ [])) hs
-    ∙ ap (λ m. filter (is_needed e) ((a, p) ∷ (b, m) ∷ (c, u) ∷ (d, v) ∷ [])) ht
-    ∙ ap (λ m. filter (is_needed e) ((a, p) ∷ (b, q) ∷ (c, m) ∷ (d, v) ∷ [])) hw
-    ∙ ap (λ m. filter (is_needed e) ((a, p) ∷ (b, q) ∷ (c, r) ∷ (d, m) ∷ [])) ho
+    hv ∙ ap (λ l. l ++ filter (is_needed e) ((d, v) ∷ [])) (hu ∙ ap (λ l. l ++ filter (is_needed e) ((c, u) ∷ [])) (hz ∙ ap (λ l. l ++ (b, t) ∷ [])
+    (hy ∙ ap (λ l. l ++ (a, s) ∷ []) hx)))
+    ∙ ap (λ l. (a, s) ∷ (b, t) ∷ l) (sym (filter-append (is_needed e) ((c, u) ∷ []) ((d, v) ∷ [])))
+    ∙ ap (λ m. (a, m) ∷ (b, t) ∷ filter (is_needed e) ((c, u) ∷ (d, v) ∷ [])) hs
+    ∙ ap (λ m. (a, p) ∷ (b, m) ∷ filter (is_needed e) ((c, u) ∷ (d, v) ∷ [])) ht
+    ∙ ap (λ m. (a, p) ∷ (b, q) ∷ filter (is_needed e) ((c, m) ∷ (d, v) ∷ [])) hw
+    ∙ ap (λ m. (a, p) ∷ (b, q) ∷ filter (is_needed e) ((c, r) ∷ (d, m) ∷ [])) ho
 
 -- what is left to do makes the list written
 pub needed_ok : {E : Type 0} (r : Result (Unit {0}) E) (e new : Environment) (xs : List Entry) (cs : List NewValue) → cs ≡ needed_changes e xs → OnOk r (new ≡ applied cs e) → OnOk r (new ≡ with_loaded e xs)

@@ -186,8 +186,8 @@ pub fn loaded_changes<V: Vars>(
     ensures { IfOk result (λ v. new_values_in v ≡ needed_changes (V.vars env.now) (map entry_view list.now)) }
 {
     let mut changes = Vec::new(alloc);
-    push_needed(alloc, &mut changes, env, NAMES, names_text(alloc, list)?)?;
-    push_needed(alloc, &mut changes, env, FILES, files_text(alloc, list)?)?;
+    push_change(alloc, &mut changes, NAMES, names_text(alloc, list)?)?;
+    push_change(alloc, &mut changes, FILES, files_text(alloc, list)?)?;
     push_needed(
         alloc,
         &mut changes,

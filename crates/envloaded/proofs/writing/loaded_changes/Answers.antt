@@ -14,8 +14,8 @@ returns g c =
     (option_map string_bytes c.in_ok-conflicts_text.field-0) (option_map string_bytes c.in_ok-prereqs_text.field-0)
     (names_text (map entry_view c.args.list.now)) (files_text (map entry_view c.args.list.now))
     (conflicts_text (map entry_view c.args.list.now)) (prereqs_text (map entry_view c.args.list.now))
-    (new_values_in c.new-changes.result) (new_values_in c.push_needed.new.changes) (new_values_in c.push_needed-2.new.changes)
-    (new_values_in c.push_needed-3.new.changes) (new_values_in c.push_needed-4.new.changes)
+    (new_values_in c.new-changes.result) (new_values_in c.push_change.new.changes) (new_values_in c.push_change-2.new.changes)
+    (new_values_in c.push_needed.new.changes) (new_values_in c.push_needed-2.new.changes)
     (ap (map new_value_of) c.new-changes.ensures.items)
-    c.in_ok-push_needed.ensures c.in_ok-push_needed-2.ensures c.in_ok-push_needed-3.ensures c.in_ok-push_needed-4.ensures
+    c.in_ok-push_change.ensures c.in_ok-push_change-2.ensures c.in_ok-push_needed.ensures c.in_ok-push_needed-2.ensures
     c.in_ok-names_text.ensures c.in_ok-files_text.ensures c.in_ok-conflicts_text.ensures c.in_ok-prereqs_text.ensures
