@@ -8,7 +8,6 @@ ghost use Rattle.modulefile.specs.Records.{Set, Push, Conflict, Prereq};
 ghost use Rattle.modulefile.specs.Calls.{no_option, without_option, var_and_value, var_and_optional, with_delimiter};
 ghost use Rattle.modulefile.specs.Calls.{by_next_word, by_same_word, by_option, delimited, elements_of, path_form};
 ghost use Rattle.modulefile.specs.Calls.{some_words, description};
-ghost use Rattle.modulefile.specs.RecordViews.{edit_record};
 ghost use Rattle.modulefile.specs.CallViews.{reason_of, texts_of, call_view, path_words_view};
 
 use crate::call::Call;
@@ -164,7 +163,7 @@ pub(crate) fn path_form(
     edit: PathEdit,
     words: &[String],
 ) -> Result<Call<'static>, CallFault>
-    ensures { Gives reason_of call_view result (path_form (edit_record edit) (map string_bytes words.now)) }
+    ensures { Gives reason_of call_view result (path_form edit (map string_bytes words.now)) }
 {
     let PathWords { delim, words } = delimited(words)?;
     match words {
