@@ -29,7 +29,8 @@ if test "$action" = uninstall; then
     exec sh "$here/tools/product.sh" uninstall "${DESTDIR-}" "$prefix"
 fi
 bin=$here/bin
-sh "$here/tools/product.sh" install "${DESTDIR-}" "$prefix" "$bin/modulecmd" "$bin/modcheck" "$bin/modaudit"
+sh "$here/tools/product.sh" install "${DESTDIR-}" "$prefix" "$bin/modulecmd" "$bin/modcheck" "$bin/modaudit" \
+    "$bin/modport"
 
 # Prints the commands that load a module and unload it again, for an init file: `works` is printed where all is well.
 commands() {

@@ -11,7 +11,7 @@ import struct
 import subprocess
 
 # The programs of the product, by the names that they are installed by.
-PRODUCT = ("modulecmd", "modcheck", "modaudit")
+PRODUCT = ("modulecmd", "modcheck", "modaudit", "modport")
 
 # What stands behind the name of the dynamically linked program.
 DYNAMIC = "-dynamic"
