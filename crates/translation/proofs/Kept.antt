@@ -1,10 +1,9 @@
 -- Pieces that are joined, and kept.
-use Rattle.std.proofs.Common.{◌≡◌, ℕ, ◌-◌, List, [], ◌∷◌, ◌++◌, Option, Some, None, ap, ◌∙◌, append-nil, take, drop, refl}
+use Rattle.std.proofs.Common.{◌≡◌, ℕ, ◌-◌, List, [], ◌∷◌, ◌++◌, Some, None, ap, ◌∙◌, append-nil, take, drop, refl}
 use Rattle.std.proofs.lemmas.List.{take-append-drop}
 use Rattle.std.specs.Prelude.{flat_map}
 use Rattle.tclchars.specs.Runs.{Text}
 use Rattle.translation.specs.Places.{line_of}
-use Rattle.translation.specs.Notes as notes
 use Rattle.tclscript.specs.Tree.{Command, Word}
 use Rattle.translation.specs.Words.{words_in}
 use Rattle.translation.specs.Pieces.{Piece, pieces, pieces_of}

@@ -4,7 +4,7 @@ use Rattle.std.specs.Prelude.{Option, Some, None, option_and_then, Result, Ok, E
 use Rattle.std.specs.Option.{option_map}
 use Rattle.tclchars.specs.Runs.{Text}
 use Rattle.tclchars.specs.declared.fault.TextFault.{TextFault}
-use Rattle.tclscript.specs.Tree.{Command, Part, Parts, no_parts, part, Word, word_of, literal, braced, bracket}
+use Rattle.tclscript.specs.Tree.{Command, Part, Parts, no_parts, part, Word, word_of, literal, bracket}
 use Rattle.tclexpr.specs.Tree as tree
 use Rattle.tclexpr.specs.Tree.{Expr}
 use Rattle.tclexpr.specs.Operands as operands

@@ -1,8 +1,7 @@
 -- Guards (modulefile(5)): an `if` with one body that does nothing but load modules, and with a condition that keeps it
 -- from nothing but loading them a second time, or from loading in an unload. Both go without saying for `prereq`.
-use Rattle.std.specs.Prelude.{List, [], ◌∷◌, ◌++◌, Bool, true, false, not, ◌&&◌, codes, bytes_eq, map}
+use Rattle.std.specs.Prelude.{List, [], ◌∷◌, ◌++◌, Bool, false, not, ◌&&◌, codes, bytes_eq, map}
 use Rattle.std.specs.Prelude.{if◌then◌else◌, Option, Some, None, option_and_then, Result, Ok, Err}
-use Rattle.std.specs.Option.{option_map}
 use Rattle.tclchars.specs.Runs.{Text}
 use Rattle.tclchars.specs.declared.fault.TextFault.{TextFault}
 use Rattle.tclscript.specs.Tree.{Command, Commands, Word}

@@ -1,7 +1,7 @@
 -- What is said of a command that is kept: the first name of what the profile leaves out, at a place where a command can
 -- begin (own). Such a place is behind a newline, a semicolon, an opening brace or an opening bracket, so that a name in
 -- a text can be said that is no command; none that is one is passed over, save in the procedure of a help text.
-use Rattle.std.specs.Prelude.{ℕ, List, [], ◌∷◌, Bool, true, false, ◌||◌, ◌==◌, codes, bytes_eq, nat_eq, take}
+use Rattle.std.specs.Prelude.{ℕ, List, [], ◌∷◌, Bool, false, ◌||◌, ◌==◌, codes, bytes_eq, nat_eq, take}
 use Rattle.std.specs.Prelude.{if◌then◌else◌, Option, Some, None}
 use Rattle.std.specs.List.{list_any, slice_split, starts_with, position_or_len}
 use Rattle.tclchars.specs.Bytes.{is_end, left_brace, left_bracket}

@@ -1,5 +1,5 @@
 -- The words of commands, as trees of scripts have them (Tcl(n)), and those whose value is one text.
-use Rattle.std.specs.Prelude.{List, [], ◌∷◌, ◌++◌, map, true, false, Option, Some, None, option_and_then}
+use Rattle.std.specs.Prelude.{List, [], ◌∷◌, ◌++◌, map, true, false, Option, Some, None}
 use Rattle.std.specs.Option.{option_map}
 use Rattle.std.specs.Borrow.{Bor}
 use Rattle.tclchars.specs.Runs.{Text}

@@ -1,6 +1,6 @@
 -- What is written for a form (modulefile(5)): a command for each module that is needed, as each `prereq` asks for one
 -- of its names; for directories one command, as its first value is searched first.
-use Rattle.std.specs.Prelude.{ℕ, List, [], ◌∷◌, ◌++◌, codes, flat_map}
+use Rattle.std.specs.Prelude.{List, [], ◌∷◌, ◌++◌, codes, flat_map}
 use Rattle.tclchars.specs.Bytes.{space, newline}
 use Rattle.tclchars.specs.Runs.{Text}
 use Rattle.translation.specs.Forms.{Form, each, one, front, back}
