@@ -1,4 +1,4 @@
-# Builds, shows and tests the programs modulecmd, modcheck and modaudit.
+# Builds, shows and tests the programs modulecmd, modcheck, modaudit and module.
 #
 #   make build   proves the crates that the programs stand on, side by side, and leaves them in build/bin, linked
 #                statically by the system's compiler where it is there; JOBS=N says how many processors may be used
@@ -8,7 +8,7 @@
 #                lays out the programs, the init files, completion and the pages below a prefix, and `make uninstall`
 #                takes them away
 #   make package leaves in build/dist an archive with an install.sh for every Linux, Debian's package and an RPM
-#   make demo    installs them below build/demo, and shows loads, a switch, a check and unloads in a POSIX shell
+#   make demo    installs them below build/demo, and shows loads, a switch, a check, unloads and an audit in a POSIX shell
 #   make test    the merge gate `rt ci`, the tests over real folders and real shells, and what each part took; with
 #                ONLY="NAME..." those suites alone, over the programs in build/bin
 #   make bench   a table of ratios beside a native program, Environment Modules and Lmod, and instructions where
@@ -20,7 +20,7 @@ PREFIX ?= /opt/modulecmd
 DESTDIR ?=
 CRATE ?=
 ONLY ?=
-PROGRAMS = build/bin/modulecmd build/bin/modcheck build/bin/modaudit build/bin/modport
+PROGRAMS = build/bin/modulecmd build/bin/modcheck build/bin/modaudit build/bin/modport build/bin/module
 
 .PHONY: build check deps install uninstall package demo test bench clean
 

@@ -16,16 +16,19 @@ import subprocess
 
 _PREFIX = "@prefix@"
 
-# What the file for shells gives to other programs than modulecmd, by their names.
+# The programs by the names of the subcommands that they do.
 _PROGRAMS = {
-    "report": "help --help list avail show display whatis keyword apropos savelist saveshow is-loaded is-avail",
-    "changes": "use unuse save saverm restore reload",
+    "bin/modulecmd": "load add unload rm switch swap purge",
+    "libexec/module": "use unuse is-loaded",
+    "libexec/changes": "save saverm restore reload",
+    "libexec/report": "help --help list avail show display whatis keyword apropos savelist saveshow is-avail",
+    "libexec/usage": "--version",
 }
 
 # What `ml` hands to `module` as it is.
 _SUBCOMMANDS = (
-    "add apropos avail del display help --help is-avail is-loaded keyword list load purge reload remove restore rm save "
-    "savelist saverm saveshow show swap switch unload unuse use --version whatis"
+    "add apropos av avail del display help --help -h is-avail is-loaded keyword li list load purge reload remove restore "
+    "rm save savelist saverm saveshow show sw swap switch unload unuse use --version -V whatis"
 )
 
 # A line of a text for sh: a variable that is assigned and exported, or unset. A value is parts in single quotes, and
@@ -46,34 +49,43 @@ def _changes(text):
         at = line.end()
 
 
+def _run(program, *words):
+    """Runs a program of the product, and gives what it prints and its status."""
+    done = subprocess.run([f"{_PREFIX}/{program}", *words], stdout=subprocess.PIPE, check=False)
+    return done.stdout, done.returncode
+
+
 def _program(words):
-    """The program of a subcommand with its words, where `words` isn't empty."""
-    subcommand = words[0]
-    if subcommand in ("help", "--help", "--version") and len(words) == 1:
-        return [f"{_PREFIX}/libexec/usage", subcommand]
+    """The program that does what these words say, where the first is the name of a subcommand; else nothing."""
     if words == ["use"]:
-        return [f"{_PREFIX}/libexec/report", "sh", "use"]
-    for program, subcommands in _PROGRAMS.items():
-        if subcommand in subcommands.split():
-            return [f"{_PREFIX}/libexec/{program}", "sh", *words]
-    return [f"{_PREFIX}/bin/modulecmd", "sh", *words]
+        return "libexec/report"
+    if words in (["help"], ["--help"]):
+        return "libexec/usage"
+    return next((program for program, names in _PROGRAMS.items() if words[0] in names.split()), None)
 
 
 def module(*words):
     """Does what `module` does in a shell, as `module("load", "gcc", "openmpi")`: a list among the words stands for its
-    words. True where the command was accepted; else the environment stays as it was. Reports and refusals are written on
-    standard error, the usage on standard output."""
+    words. True where the command was accepted; else the environment stays as it was. Refusals are written on standard
+    error, and reports too, but on standard output where that is a terminal; the usage is on standard output."""
     words = [str(word) for it in words for word in (it if isinstance(it, (list, tuple)) else [it])] or ["help"]
-    if words[0] in ("del", "remove"):
-        words[0] = "unload"
-    command = _program(words)
-    if command[0].startswith(f"{_PREFIX}/libexec/") and not command[0].endswith("/changes"):
-        return subprocess.run(command, check=False).returncode == 0
-    done = subprocess.run(command, stdout=subprocess.PIPE, check=False)
-    if done.returncode != 0:
+    program = _program(words)
+    if program is None:
+        # Another name of a subcommand, or a beginning of names.
+        name, status = _run("libexec/module", "sh", "subcommand", words[0])
+        if status != 0:
+            return False
+        words[0] = name.decode().rstrip("\n")
+        program = _program(words) or "libexec/module"
+    if program == "libexec/usage":
+        return subprocess.run([f"{_PREFIX}/{program}", words[0]], check=False).returncode == 0
+    if program == "libexec/report":
+        return subprocess.run([f"{_PREFIX}/{program}", "sh", *words], check=False).returncode == 0
+    text, status = _run(program, "sh", *words)
+    if status != 0:
         return False
     # The whole text is read before anything is changed.
-    for name, value in list(_changes(done.stdout)):
+    for name, value in list(_changes(text)):
         if value is None:
             os.environb.pop(name, None)
         else:
@@ -92,6 +104,6 @@ def ml(*words):
 
 
 if "MODULEPATH" not in os.environ:
-    _directories = subprocess.run([f"{_PREFIX}/libexec/modulespath"], stdout=subprocess.PIPE, check=False).stdout
+    _directories, _ = _run("libexec/modulespath")
     if _directories:
         os.environb[b"MODULEPATH"] = _directories

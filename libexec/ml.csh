@@ -4,17 +4,20 @@
 if ( $?tcsh ) set _module_words = ( $argv:q )
 if ( $#_module_words == 1 ) set _module_words = ( $_module_words:q list )
 
-switch ( "x$_module_words[2]" )
+switch ( x$_module_words[2]:q )
 case xadd:
 case xapropos:
+case xav:
 case xavail:
 case xdel:
 case xdisplay:
 case xhelp:
 case x--help:
+case x-h:
 case xis-avail:
 case xis-loaded:
 case xkeyword:
+case xli:
 case xlist:
 case xload:
 case xpurge:
@@ -27,12 +30,14 @@ case xsavelist:
 case xsaverm:
 case xsaveshow:
 case xshow:
+case xsw:
 case xswap:
 case xswitch:
 case xunload:
 case xunuse:
 case xuse:
 case x--version:
+case x-V:
 case xwhatis:
     if ( $?tcsh ) set argv = ( $_module_words:q )
     source "@prefix@/libexec/module.csh"
@@ -47,7 +52,7 @@ default:
     shift _module_words
     set _module_status = 0
     foreach _module_word ( $_module_words:q )
-        if ( "$_module_word" =~ -* ) then
+        if ( $_module_word:q =~ -* ) then
             set _module_unload = ( $_module_unload:q "`$_module_cut`" )
             set _module_status = $status
             if ( $_module_status != 0 ) break

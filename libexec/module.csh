@@ -10,31 +10,41 @@ if ( $?backslash_quote ) then
     unset backslash_quote
 endif
 
-set _module_way = change
+set _module_way = name
 if ( $#_module_words == 1 ) set _module_words = ( $_module_words:q help )
-switch ( "x$_module_words[2]" )
+switch ( x$_module_words[2]:q )
 case xhelp:
 case x--help:
     set _module_way = report
     if ( $#_module_words == 2 ) set _module_way = usage
     breaksw
 case x--version:
-    if ( $#_module_words == 2 ) set _module_way = usage
+    set _module_way = usage
     breaksw
-case xdel:
-case xremove:
-    set _module_words[2] = unload
+case xload:
+case xadd:
+case xunload:
+case xrm:
+case xswitch:
+case xswap:
+case xpurge:
+    set _module_way = bin/modulecmd
     breaksw
 case xuse:
-    set _module_way = added
+    set _module_way = libexec/module
     if ( $#_module_words == 2 ) set _module_way = report
     breaksw
 case xunuse:
+    set _module_way = libexec/module
+    breaksw
 case xsave:
 case xsaverm:
 case xrestore:
 case xreload:
-    set _module_way = added
+    set _module_way = libexec/changes
+    breaksw
+case xis-loaded:
+    set _module_way = status
     breaksw
 case xlist:
 case xavail:
@@ -45,13 +55,33 @@ case xkeyword:
 case xapropos:
 case xsavelist:
 case xsaveshow:
-case xis-loaded:
 case xis-avail:
     set _module_way = report
     breaksw
 endsw
 
+# Another name of a subcommand, or a beginning of names.
+if ( $_module_way == name ) then
+    set _module_program = "@prefix@/libexec/module"
+    set _module_run = '$_module_program:q $_module_words[1] subcommand $_module_words[2]:q'
+    set _module_name = ( "`$_module_run`" )
+    set _module_status = $status
+    if ( $_module_status == 0 ) then
+        set _module_way = again
+        # (a name that is newer than this file)
+        if ( x$_module_name:q == x$_module_words[2]:q ) set _module_way = libexec/module
+    endif
+endif
+
 switch ( $_module_way )
+case name:
+    breaksw
+case again:
+    set _module_words[2] = $_module_name:q
+    if ( $?tcsh ) set argv = ( $_module_words:q )
+    source "@prefix@/libexec/module.csh"
+    set _module_status = $status
+    breaksw
 case usage:
     "@prefix@/libexec/usage" $_module_words[2]
     set _module_status = $status
@@ -60,9 +90,12 @@ case report:
     "@prefix@/libexec/report" $_module_words:q
     set _module_status = $status
     breaksw
+case status:
+    "@prefix@/libexec/module" $_module_words:q
+    set _module_status = $status
+    breaksw
 default:
-    set _module_program = "@prefix@/bin/modulecmd"
-    if ( $_module_way == added ) set _module_program = "@prefix@/libexec/changes"
+    set _module_program = "@prefix@/$_module_way"
     # The words are put in by the shell that runs the command, and the double quotes keep every blank of its text.
     set _module_run = '$_module_program:q $_module_words:q'
     set _module_text = ( "`$_module_run`" )
@@ -82,13 +115,13 @@ default:
         if ( "x$_module_loaded" != "x$_module_now" && -x "@prefix@/etc/after" ) then
             ( "@prefix@/etc/after" $_module_words:q < /dev/null >& /dev/null & )
         endif
-    else
+    else if ( "$_module_way" == "bin/modulecmd" ) then
         "@prefix@/libexec/suggest" $_module_status $_module_program:q $_module_words:q
     endif
     breaksw
 endsw
 
-unset _module_words _module_way _module_program _module_run _module_text _module_loaded _module_now
+unset _module_words _module_way _module_name _module_program _module_run _module_text _module_loaded _module_now
 if ( $?_module_backslash_quote ) then
     set backslash_quote
     unset _module_backslash_quote

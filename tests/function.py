@@ -30,6 +30,9 @@ EDITS = [
     (["unuse", "/x", "b"], "/x:{}/b:/y:/x/", "/y"),
     (["unuse", "/z"], "/x:/y", "/x:/y"),
     (["unuse", "--", "/x"], "/x", None),
+    (["use", "{}//"], ":{}/::rel:", "{}:rel"),
+    (["unuse", "rel"], ":{}/::rel:", "{}/"),
+    (["use", "/", "//"], "/x", "/:/x"),
     (["us", "a"], None, "{}/a"),
 ]
 
@@ -42,6 +45,7 @@ REFUSED = [
     (["use", ""], "Bad value of 'MODULEPATH': a directory without a name"),
     (["use", "/a:b"], "Bad value of 'MODULEPATH': '/a:b' has a colon"),
     (["use", "/" + 100_000 * "x"], "Bad value of 'MODULEPATH': it is too long"),
+    (["use", *(f"/{'d' * 250}{number}" for number in range(500))], "Bad value of 'MODULEPATH': it is too long"),
     (["laod", "gcc"], "Unknown subcommand: did you mean 'load'?"),
     (["spider"], "Unknown subcommand 'spider'"),
     (["sa", "x"], "Several subcommands begin with 'sa'"),
@@ -133,6 +137,12 @@ def test_shells(program, shell, used, unused):
     same(outcome(run(program, [shell, "unuse", "/x"], {"MODULEPATH": "/x"})), (0, unused, ""), "unuse")
 
 
+def test_a_directory_that_is_not_there_is_said_once(program, place):
+    done = run(program, ["sh", "use", "x", "a", "y", "a/../x/", "./y", "x"], {}, place)
+    said = "".join(NOT_THERE.format(f"{place}/{name}") for name in ("x", "y"))
+    same((done.returncode, done.stderr), (0, said), "status and standard error")
+
+
 @pytest.mark.parametrize("words, said", REFUSED)
 def test_refusals(program, place, words, said):
     done = run(program, ["sh", *words], {"MODULEPATH": "/x"}, place)
@@ -185,8 +195,12 @@ def test_the_working_directory(program, place):
 def test_bytes_that_are_no_text(program):
     done = run(program, [b"sh", b"use", b"/\xff"])
     same(outcome(done), (1, "", "ERROR: Bad arguments\n"), "a word")
-    done = run(program, ["sh", "use", "/x"], {"MODULEPATH": b"/\xff"})
-    same(outcome(done), (1, "", "ERROR: Bad value of 'MODULEPATH'\n"), "MODULEPATH")
+    for word in ("use", "unuse"):
+        done = run(program, ["sh", word, "/x"], {"MODULEPATH": b"/\xff"})
+        same(outcome(done), (1, "", "ERROR: Bad value of 'MODULEPATH'\n"), f"MODULEPATH, by {word}")
+    env = {"MODULEPATH": b"/\xff", **LOADED}
+    same(outcome(run(program, ["sh", "is-loaded", "gcc"], env)), (0, "", ""), "what isn't about MODULEPATH")
+    same(outcome(run(program, ["sh", "subcommand", "li"], env)), (0, "list\n", ""), "what isn't about MODULEPATH")
 
 
 def test_a_full_device(program):

@@ -99,12 +99,15 @@ def test_takes_what_the_function_adds(python, folder):
         said.append([module("load", "foo"), module("save", "one"), module("del", "foo"), "FOO" in os.environ])
         said.append([module("restore", "one"), os.environ["FOO"], module("is-avail", "foo"), module("is-avail", "bar")])
         said.append([ml("-foo", "foo/1.0"), ml("purge")])
-        said.append([module("avail"), module(), module("nope")])
+        said.append([module("us", "/nowhere"), module("unus", "/nowhere"), module("is-l"), module("rem", "nope")])
+        said.append([module("av"), ml("av"), module("-V"), ml("-V"), module("--version", "x"), module("sa", "x")])
+        said.append([module("use", "-x", "/nowhere"), module("avail"), module(), module("nope")])
         keep()
     """
     (before, after), said, done = python.run(script)
     wanted = [True, f"{before['MODULEPATH']}:/nowhere", True, [True, True, True, False], [True, "on", True, False]]
-    same(said, [*wanted, [True, True], [True, True, False]], "what is answered")
+    wanted += [[True, True], [True, True, False, True], [True, True, True, True, True, False]]
+    same(said, [*wanted, [False, True, True, False]], "what is answered")
     same(after, before, "the environment after")
     lines = done.stderr.decode().splitlines()
     same(lines[0], "There is no directory '/nowhere' yet.", "the first line")

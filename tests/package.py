@@ -44,8 +44,8 @@ OF_OTHERS = (
 LIBRARY = re.compile(r"(/\S+) \(0x")
 
 # The programs of the product, and files without which an install fails: of each kind one, the first and the last.
-PROGRAMS = ("modulecmd", "modcheck", "modaudit", "modport")
-NEEDED = ("VERSION", "init/sh", "init/zsh", "libexec/ml.csh", "libexec/report", "man/module.1", "etc/modulespath", "bin/modaudit")
+PROGRAMS = ("modulecmd", "modcheck", "modaudit", "modport", "module")
+NEEDED = ("VERSION", "init/sh", "init/zsh", "libexec/ml.csh", "libexec/report", "man/module.1", "etc/modulespath", "bin/module")
 
 # The utilities that install.sh and the init files take.
 FEW = "cat chmod cmp dirname env mkdir mv rm rmdir sed sh".split()
@@ -488,7 +488,8 @@ def test_relative_paths_begin_where_the_caller_stands(packages):
         words = ["install", "./two", "/p", *(f"{name}/bin/{program}" for program in PROGRAMS)]
         same(run(["sh", f"{name}/tools/product.sh", *words], cwd=near)[1:], ("", 0), "product.sh")
         same(sorted(os.listdir(near)), sorted([name, "one", "two"]), "what is made")
-        same(sorted(os.listdir(f"{near}/one/p/bin")), sorted(PROGRAMS), "the programs")
+        same(sorted(os.listdir(f"{near}/one/p/bin")), ["modaudit", "modcheck", "modulecmd"], "the programs for users")
+        true(os.path.exists(f"{near}/one/p/libexec/module"), "the program that functions run is there")
         same_looks(looks(f"{near}/two"), looks(f"{near}/one"), "what both lay out")
         same_looks(looks(archive), before, "the archive")
         words = ["sh", os.path.join(archive, "install.sh"), "--uninstall", "/p"]

@@ -188,9 +188,9 @@ def move_to_debian_s_places(root):
             pack(page, f"{root}/usr/share/man/{name}.gz")
     shutil.rmtree(f"{here}/share/man")
     # By its name Debian knows a program that is linked statically on purpose, as bash-static.
-    for name in link.PRODUCT:
-        os.replace(f"{here}/bin/{name}", f"{here}/bin/{name}-static")
-        os.symlink(f"{name}-static", f"{here}/bin/{name}")
+    for name, place in link.PRODUCT.items():
+        os.replace(f"{here}/{place}/{name}", f"{here}/{place}/{name}-static")
+        os.symlink(f"{name}-static", f"{here}/{place}/{name}")
     for place, aim in LINKS.items():
         os.makedirs(os.path.dirname(root + place), exist_ok=True)
         os.symlink(aim, root + place)

@@ -53,7 +53,7 @@ for file in $examples; do
     files="$files share/examples/$file"
 done
 runs='libexec/usage libexec/modulespath libexec/names libexec/report libexec/changes libexec/suggest'
-programs='bin/modulecmd bin/modcheck bin/modaudit bin/modport'
+programs='bin/modulecmd bin/modcheck bin/modaudit bin/modport libexec/module'
 folders='bin init libexec completion etc share/man/man1 share/man/man5 share/man share/doc'
 for file in $examples; do
     folders="$folders share/examples/${file%/*}"
@@ -138,10 +138,15 @@ make_files() {
     fi
 }
 
+# Makes a program where it stands among those of the product: by its name it is in one of their folders.
 make_program() {
+    folder=bin
+    case " $programs " in
+        *" libexec/${1##*/} "*) folder=libexec ;;
+    esac
     case $1 in
-        /*) make_file 755 "$top/bin/${1##*/}" cat "$1" ;;
-        *) make_file 755 "$top/bin/${1##*/}" cat "$start/$1" ;;
+        /*) make_file 755 "$top/$folder/${1##*/}" cat "$1" ;;
+        *) make_file 755 "$top/$folder/${1##*/}" cat "$start/$1" ;;
     esac
 }
 

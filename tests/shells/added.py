@@ -2,12 +2,14 @@
 programs that it runs for that are tried by themselves in changes.py, and beside Environment Modules in original.py."""
 
 import os
+import re
+import shutil
 
 import pytest
 
 from tests.harness import same
 from tests.shells.session import LINES, MARKS, ODD_NAME, Session, changed, same_environment
-from tests.shells.shells import content
+from tests.shells.shells import content, in_csh
 from tests.shells.texts import word
 
 NOT_FOUND = "ERROR: Unable to locate a modulefile for '{}'\n"
@@ -74,6 +76,7 @@ def test_uses_and_unuses_directories(here):
         ("module use -a", 1, None),
         ("module unuse a 'b c/' other", 0, f"{start}:{top}/nope"),
         ("module unuse", 1, None),
+        ("module unuse -a nope", 1, None),
         ("ml unuse nope", 0, start),
         (f"ml unuse {start}", 0, None),
         ("module use 'b c'", 0, f"{top}/b c"),
@@ -84,9 +87,10 @@ def test_uses_and_unuses_directories(here):
     said = (
         f"There is no directory '{top}/nope' yet.\n"
         f"ERROR: Bad value of 'MODULEPATH': '{top}/a:b' has a colon\n"
-        "ERROR: 'use' has no option '--nope'\n"
+        "ERROR: '--nope' is no option here\n"
         "ERROR: Bad arguments\n"
         "ERROR: Bad arguments\n"
+        "ERROR: '-a' is no option here\n"
     )
     kept = here.keeps(lines, said)
     same(kept.statuses, [str(status) for _, status, _ in ways], "the statuses")
@@ -95,6 +99,80 @@ def test_uses_and_unuses_directories(here):
         if status == 0:
             wanted = changed(wanted, {"MODULEPATH": path})
         same_environment(found, wanted, f"the environment behind {line}")
+
+
+def test_says_once_of_a_directory_that_it_is_not_there(here):
+    top = here.top
+    os.mkdir(os.path.join(top, "a"))
+    said = "".join(f"There is no directory '{top}/{name}' yet.\n" for name in ("x", "y", "x"))
+    here.keeps([f"cd {top}", "module use x a y ./x a/../y x", "module us x"], said)
+
+
+def test_uses_and_unuses_under_odd_settings(here, shell):
+    """The directories have names as the user's settings could spoil them, and words of ours are the user's, too."""
+    start, name = here.start, "o1/= 'a' $x *"
+    place = f"{here.top}/{name}"
+    os.makedirs(place)
+    ours = ("module", "subcommand", "use", "report", "changes", "directory", "added", "name", "words")
+    here.starts_with(WORD=place, **dict.fromkeys(ours, "/user"))
+    words = [word for word in ours if shell.family == "sh" and word != "module"]
+    theirs = [line for word in words for line in (f"{word}() {{ echo theirs; }}", f"alias {word}='echo theirs'")]
+    typed = shell.says.word.format("WORD")
+    lines = ["show", f"module use {typed}", "show", shell.may_fail("module is-loaded"), f"module unus {typed}", "show"]
+    lines += [shell.may_fail("module use -x"), shell.may_fail("module spider"), f"module us -a {typed}", "show"]
+    err = b"ERROR: '-x' is no option here\nERROR: Unknown subcommand 'spider'\n"
+    kept = Session.keeps(here, [shell.source(here.prefix), *lines], before=[*shell.odd, *theirs], err=err)
+    before = kept.shown[0]
+    for found, path in zip(kept.shown[1:], (f"{place}:{start}", start, f"{start}:{place}")):
+        same_environment(found, changed(before, {"MODULEPATH": path}), "the environment")
+
+
+@in_csh
+def test_refuses_a_directory_that_csh_has_no_text_for(here):
+    name = "a\nb"
+    os.mkdir(os.path.join(here.top, name))
+    here.starts_with(WORD=name)
+    steps = [*step("module use $WORD:q"), *step("module unuse $WORD:q")]
+    kept = here.keeps([f"cd {here.top}", "show", *steps], "ERROR: Value of 'MODULEPATH' can't be said in this shell\n")
+    same(kept.statuses, ["1", "0"], "the statuses")
+    for found in kept.shown[1:]:
+        same_environment(found, kept.shown[0], "the environment")
+
+
+# What is typed, and the programs of the product that it starts, which are all that it starts, where foo is loaded.
+STARTED = {
+    "module load foo": ["bin/modulecmd"],
+    "module use /": ["libexec/module"],
+    "module unuse /": ["libexec/module"],
+    "module use --nope": ["libexec/module"],
+    "module is-loaded": ["libexec/module"],
+    "module is-loaded nope": ["libexec/module"],
+    "module spider": ["libexec/module"],
+    "module rem nope": ["libexec/module", "bin/modulecmd"],
+    "ml unload foo": ["bin/modulecmd"],
+    "ml foo": ["bin/modulecmd"],
+    "module us /": ["libexec/module", "libexec/module"],
+    "module purge": ["bin/modulecmd"],
+}
+
+
+def test_starts_no_program_more_than_a_command_takes(here, shell):
+    if not shutil.which("strace"):
+        pytest.skip("how many programs are started, without strace")
+    here.module("foo/1", "setenv FOO 1\n")
+    calls = os.path.join(here.top, "calls")
+    title, *options = shell.command
+    traced = ["strace", "-f", "-qq", "-e", "signal=none", "-e", "trace=execve", "-o", calls, shutil.which(title), *options]
+    lines = ["/usr/bin/env", *(part for line in STARTED for part in (shell.may_fail(line), "/usr/bin/env"))]
+    Session.run(here, lines, under=traced)
+    found, wanted = [[]], [[], *STARTED.values(), []]
+    for path in re.findall(r'execve\("([^"]*)".* = 0$', content(calls).decode(), re.MULTILINE)[1:]:
+        if path == "/usr/bin/env":
+            found.append([])
+        else:
+            found[-1].append(path.removeprefix(here.prefix + "/"))
+    names = ["the init file", *STARTED, "the end"]
+    same(list(zip(names, found)), list(zip(names, wanted)), "what is started by each command")
 
 
 def test_takes_directories_with_odd_names(here):
@@ -194,7 +272,7 @@ def test_asks_what_is_loaded_and_what_can_be(here):
         ("is-loaded", 1), ("is-loaded foo", 1), ("is-avail foo", 0), ("is-avail foo/1.0", 0), ("is-avail fo", 1),
         ("is-avail sub", 1), ("is-avail sub/bar", 0), ("is-avail nope top", 0), ("is-avail nope", 1),
         ("load foo", 0), ("is-loaded", 0), ("is-loaded foo", 0), ("is-loaded nope foo/1.0", 0), ("is-loaded fo", 1),
-        ("is-loaded foo/", 1), ("is-loaded '*'", 1), ("is-avail", 1),
+        ("is-loaded foo/", 1), ("is-loaded '*'", 1), ("is-avail", 1), ("is-l fo foo", 0), ("is-l nope", 1),
     ]  # fmt: skip
     lines = [text for line, _ in asked for text in (f"module {line}", "status")]
     kept = here.keeps(lines, "ERROR: Bad arguments\n")

@@ -266,7 +266,7 @@ def test_directories_are_quoted_by_the_rules_of_each_shell(here, folder):
         for value in (name, "\n" + name + "\n\n"):
             place = f"{folder.path.decode()}/{value}"
             os.makedirs(place, exist_ok=True)
-            found = here.run(shell, "use", place)
+            found = here.run(shell, "use", place, program="module")
             path = f"{place}:{here.start}"
             if family == "csh" and "\n" in value:
                 wanted = (b"", b"ERROR: Value of 'MODULEPATH' can't be said in this shell\n", 1)
@@ -274,25 +274,8 @@ def test_directories_are_quoted_by_the_rules_of_each_shell(here, folder):
                 wanted = (text(family, {"MODULEPATH": path}), b"", 0)
             same(found, wanted, f"what use writes for {shell}")
         relative = "a\\b:'q:!r\\:'\\s!:\\:!'"
-        found = here.run(shell, "use", "/", env={"MODULEPATH": relative})
+        found = here.run(shell, "use", "/", program="module", env={"MODULEPATH": relative})
         same(found, (text(family, {"MODULEPATH": f"/:{relative}"}), b"", 0), f"what use writes for {shell}")
-
-
-def test_directories_that_no_modulepath_can_hold_are_refused(here):
-    here.refuses(["use", ""], "Bad value of 'MODULEPATH': a directory without a name")
-    here.refuses(["unuse", ""], "Bad value of 'MODULEPATH': a directory without a name")
-    here.refuses(["use", "/a:b"], "Bad value of 'MODULEPATH': '/a:b' has a colon")
-    here.refuses(["use", "/a\udcff"], f"Not UTF-8: '/a\udcff:{here.start}'")
-    long = ["/" + "d" * 250 + str(number) for number in range(500)]
-    here.refuses(["use", *long], "Bad value of 'MODULEPATH': it is too long")
-    odd = {"MODULEPATH": b"/a\xff:/b"}
-    here.refuses(["use", "/c"], "Not UTF-8: '/c:/a\udcff:/b'", env=odd)
-    here.answers(["unuse", "/a\udcff"], out="MODULEPATH='/b'; export MODULEPATH;\n", env=odd)
-    line = "MODULEPATH='{}'; export MODULEPATH;\n".format
-    relative = {"MODULEPATH": f":{here.start}/::rel:"}
-    here.answers(["use", here.start + "//"], out=line(f"{here.start}:rel"), env=relative)
-    here.answers(["unuse", "rel"], out=line(f"{here.start}/"), env=relative)
-    here.answers(["use", "/", "//"], out=line(f"/:{here.start}"))
 
 
 def test_tools_are_found_whatever_path_is(here, folder):

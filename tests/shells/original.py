@@ -2,11 +2,12 @@
 
 import glob
 import os
+import re
 import subprocess
 
 import pytest
 
-from tests.harness import same
+from tests.harness import same, true
 from tests.shells.changes import Changes
 from tests.shells.shells import content, without_own
 
@@ -57,18 +58,59 @@ PLACES = ("/usr/lib/*/modulecmd.tcl", f"{TOP}/build/bench/environment-modules/us
 
 # The programs of ours that do what is added.
 PROGRAMS = {
-    "libexec/report": ("is-loaded", "is-avail", "saveshow"),
-    "libexec/changes": ("use", "unuse", "save", "saverm", "restore", "reload"),
+    "libexec/module": ("use", "unuse", "is-loaded"),
+    "libexec/report": ("is-avail", "saveshow"),
+    "libexec/changes": ("save", "saverm", "restore", "reload"),
 }
 
 
+# The names of subcommands that both have, each with the original's own name for it.
+NAMES = {
+    "load": "load", "add": "load", "unload": "unload", "rm": "unload", "remove": "unload", "del": "unload",
+    "switch": "switch", "swap": "switch", "purge": "purge", "reload": "reload", "list": "list", "avail": "avail",
+    "show": "display", "display": "display", "whatis": "whatis", "keyword": "search", "apropos": "search",
+    "is-loaded": "is-loaded", "is-avail": "is-avail", "use": "use", "unuse": "unuse", "save": "save",
+    "restore": "restore", "savelist": "savelist", "saveshow": "saveshow", "saverm": "saverm", "help": "help",
+}  # fmt: skip
+
+
 @pytest.fixture(scope="session")
-def theirs():
-    """Gives their command of these words."""
+def original():
+    """The path of their program."""
     found = [path for place in PLACES for path in sorted(glob.glob(place))]
     if not found:
         pytest.skip("Environment Modules is neither installed nor unpacked")
-    return lambda words: [found[0], "bash", *words]
+    return found[0]
+
+
+@pytest.fixture(scope="session")
+def theirs(original):
+    """Gives their command of these words."""
+    return lambda words: [original, "bash", *words]
+
+
+def their_meanings(original, words):
+    """What each word means there: their own name of a subcommand, or nothing."""
+    procedure = re.search(r"^proc parseModuleCommandName .*?^}$", content(original).decode(), re.MULTILINE | re.DOTALL)
+    lines = ["proc reportDebug args {}", procedure[0]]
+    lines += [f"puts [lrange [parseModuleCommandName {{{word}}} help] 0 1]" for word in words]
+    done = subprocess.run(["tclsh"], input="\n".join(lines), capture_output=True, text=True, check=True)
+    answers = [line.split() for line in done.stdout.splitlines()]
+    return [name if is_one == "1" else None for name, is_one in answers]
+
+
+def test_a_beginning_means_what_it_means_there(product, original):
+    """Each beginning of a name that means a subcommand there means the same here. Here more of them do: each that only
+    one subcommand has."""
+    words = sorted({name[:length] for name in NAMES for length in range(1, len(name) + 1)})
+    means = os.path.join(product, "libexec", "module")
+    for word, theirs in zip(words, their_meanings(original, words), strict=True):
+        done = subprocess.run([means, "sh", "subcommand", word], env={}, capture_output=True, text=True, check=False)
+        ours = NAMES[done.stdout.rstrip("\n")] if done.returncode == 0 else None
+        subcommands = {name for one, name in NAMES.items() if one.startswith(word)}
+        only = NAMES.get(word) or (subcommands.pop() if len(subcommands) == 1 else None)
+        same(ours, only, f"what {word} means")
+        true(theirs in (None, ours), f"{word} means {theirs} there, and {ours} here")
 
 
 @pytest.fixture

@@ -36,6 +36,7 @@ FILES = [
     "libexec/collection.awk",
     "libexec/listing.awk",
     "libexec/ml.csh",
+    "libexec/module",
     "libexec/module.csh",
     "libexec/modulespath",
     "libexec/names",

@@ -102,9 +102,9 @@ class Shell(typing.NamedTuple):
             return f"{self.says.writes_status} > '{folder}/status.{number}'"
         return step
 
-    def run(self, folder, env, lines, prefix, before=()):
+    def run(self, folder, env, lines, prefix, before=(), under=None):
         """Runs the lines behind the init file, and those of `before` in front of it. Gives what was kept, and the
-        run."""
+        run. `under` stands for the command that starts the shell."""
         place = os.path.join(folder.path, b"kept").decode()
         shutil.rmtree(place, ignore_errors=True)
         os.mkdir(place)
@@ -114,7 +114,7 @@ class Shell(typing.NamedTuple):
         with open(script, "w") as file:
             file.write(text)
         done = subprocess.run(
-            [*self.command, script],
+            [*(under or self.command), script],
             env=env,
             cwd=place,
             stdin=subprocess.DEVNULL,
@@ -181,6 +181,7 @@ ODD_ZSH = [
 ODD_CSH = ["set noglob noclobber", "alias module 'echo alias'", "alias ml 'echo alias'", "cd /"]
 ODD_TCSH = ["set backslash_quote", "set anyerror", *ODD_CSH]
 ODD_FISH = ["set -g IFS 'o1/= '", "set -g text 1", "alias module 'echo alias'", "function ml; echo old; end", "cd /"]
+ODD_FISH += ["function count; builtin echo 9; end", "function disown; builtin echo theirs; end"]
 
 PACKAGED = "dpkg-query -W -f '${{Version}}' {}".format
 

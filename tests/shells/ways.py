@@ -7,7 +7,7 @@ import time
 import pytest
 
 from tests.harness import same, true
-from tests.shells.session import REFUSAL, pages, same_environment
+from tests.shells.session import LINES, ODD_NAME, REFUSAL, changed, pages, same_environment
 from tests.shells.shells import content, in_bash, in_csh, in_shells
 from tests.shells.texts import text
 
@@ -62,11 +62,113 @@ def test_hands_on_the_words_as_they_are(scripted, shell):
     same(scripted.stand_in.words(), [[shell.init, *words] for words in wanted], "the words")
 
 
-def test_takes_del_and_remove_for_unload(scripted, shell):
-    scripted.will_answer(0, 0, 0, 0)
-    scripted.keeps(["module del 'a  *' bar", "module remove foo", "ml del foo", "module load a:del"])
-    wanted = [["unload", "a  *", "bar"], ["unload", "foo"], ["unload", "foo"], ["load", "a:del"]]
-    same(scripted.stand_in.words(), [[shell.init, *words] for words in wanted], "the words")
+# Other names of subcommands and beginnings of names, with words behind them, and what the program is given.
+OTHER_NAMES = {
+    "module del 'a  *' bar": ["unload", "a  *", "bar"],
+    "module remove foo": ["unload", "foo"],
+    "ml del foo": ["unload", "foo"],
+    "module unl foo": ["unload", "foo"],
+    "module rem '$HOME'": ["unload", "$HOME"],
+    "module lo 'c\"d' '`x`'": ["load", 'c"d', "`x`"],
+    "module sw foo 'é;&|'": ["switch", "foo", "é;&|"],
+    "module swa foo": ["swap", "foo"],
+    "ml sw foo": ["switch", "foo"],
+    "module pu": ["purge"],
+    "module li": ["list"],
+    "ml li": ["list"],
+    "module disp 'a  b'": ["show", "a  b"],
+    "module wh foo": ["whatis", "foo"],
+    "module load a:del": ["load", "a:del"],
+}
+
+
+def test_takes_other_names_and_beginnings_of_subcommands(scripted, shell):
+    scripted.will_answer(*[0] * len(OTHER_NAMES))
+    kept = scripted.keeps([part for line in OTHER_NAMES for part in (line, "status")])
+    same(kept.statuses, ["0"] * len(OTHER_NAMES), "the statuses")
+    # The program that says what a word means has one name for each subcommand.
+    wanted = [["switch" if word == "swap" else word for word in words] for words in OTHER_NAMES.values()]
+    same(scripted.words(), wanted, "the words")
+
+
+@with_redirections
+def test_takes_beginnings_of_what_else_it_does(scripted, shell):
+    scripted.stand_in.write("avail", b"said 0\n")
+    path = scripted.folder.path.decode()
+    lines = [f"module av said {shell.says.to_file} '{path}/av'", f"ml av {shell.says.to_pipe} /bin/cat > '{path}/ml'"]
+    lines += [f"module -V > '{path}/version'", f"ml -V | /bin/cat > '{path}/ml-version'"]
+    lines += [f"module -h > '{path}/help'", f"ml -h > '{path}/ml-help'"]
+    scripted.keeps(lines)
+    same((content(f"{path}/av"), content(f"{path}/ml")), (b"said 0\n", b"said 0\n"), "the reports")
+    for name, begins in (("version", b"modulecmd "), ("help", b"usage: module")):
+        true(content(f"{path}/{name}").startswith(begins), name)
+        same(content(f"{path}/ml-{name}"), content(f"{path}/{name}"), f"{name} by ml")
+
+
+# A first word that means no subcommand, and what is said.
+NO_SUBCOMMANDS = {
+    "spider": "Unknown subcommand 'spider'",
+    "avial": "Unknown subcommand: did you mean 'avail'?",
+    "sa": "Several subcommands begin with 'sa'",
+    "--force": "'--force' is no option here",
+    "'a  *'": "Unknown subcommand 'a  *'",
+    "'$x`y`\"z;'": "Unknown subcommand '$x`y`\"z;'",
+    "'[a-z]{b}~|&'": "Unknown subcommand '[a-z]{b}~|&'",
+    "subcommand": "Unknown subcommand 'subcommand'",
+}
+
+
+def test_a_word_that_means_no_subcommand_is_refused(scripted, shell):
+    lines = [line for word in NO_SUBCOMMANDS for line in (f"module {word} 'foo  *' bar", "status")]
+    said = "".join(f"ERROR: {text}\n" for text in NO_SUBCOMMANDS.values())
+    kept = scripted.keeps(["show", *lines, "show"], err=said.encode())
+    same(kept.statuses, ["1"] * len(NO_SUBCOMMANDS), "the statuses")
+    same_environment(kept.shown[1], kept.shown[0], "the environment after")
+    same(scripted.words(), [], "the commands that the program was given")
+
+
+def test_a_word_of_whatever_bytes_reaches_the_program_of_names(scripted, shell):
+    word = LINES + ODD_NAME
+    scripted.starts_with(WORD=word)
+    typed = shell.says.word.format("WORD")
+    kept = scripted.keeps([f"module {typed} foo", "status"], err=f"ERROR: Unknown subcommand '{word}'\n".encode())
+    same(kept.statuses, ["1"], "the status")
+
+
+@pytest.fixture
+def other_program(scripted):
+    """Puts a script in the place of the program `module`, until the case ends."""
+    place = os.path.join(scripted.prefix, "libexec", "module")
+    os.rename(place, place + ".away")
+
+    def write(text):
+        with open(place, "w") as file:
+            file.write("#!/bin/sh\n" + text)
+        os.chmod(place, 0o755)
+
+    yield write
+    os.rename(place + ".away", place)
+
+
+def test_leaves_a_subcommand_that_is_newer_than_it_to_the_program(scripted, shell, other_program):
+    """Shells live longer than an installation."""
+    scripted.folder.file("text", text(shell.family, {"FOO": "on"}).decode())
+    path = os.path.join(scripted.folder.modules, b"text").decode()
+    other_program(f"case $2:$# in subcommand:3) echo newer ;; newer:4) exec /bin/cat '{path}' ;; *) exit 3 ;; esac\n")
+    kept = scripted.keeps(["show", "module newe 'a  *' b", "status", "show", "module newer", "status"])
+    same(kept.statuses, ["0", "3"], "the statuses")
+    same_environment(kept.shown[1], changed(kept.shown[0], {"FOO": "on"}), "the environment after")
+
+
+def test_hands_on_how_the_program_of_names_ended(scripted, shell, other_program):
+    other_program('echo load; kill -9 $$\n')
+    kept, done = scripted.run(["show", "module lo foo", "status", "show"])
+    true(kept.statuses and kept.statuses != ["0"], f"the status of a program that was killed: {kept.statuses}")
+    other_program("echo load; exit 100\n")
+    kept, _ = scripted.run(["show", "module lo foo", "status", "show"])
+    same(kept.statuses, ["100"], "the status of a program that failed")
+    same_environment(kept.shown[1], kept.shown[0], "the environment after")
+    same(scripted.words(), [], "the commands that the program was given")
 
 
 def test_helps_and_says_its_version(scripted):
@@ -150,6 +252,9 @@ COMMANDS = (
     "rm foo", "swap a b", "display foo", "del foo", "remove foo",
 )  # fmt: skip
 
+# Those of which the function says that they are none.
+REFUSED = {"nope": b"ERROR: Unknown subcommand 'nope'\n"}
+
 
 @with_redirections
 def test_lets_every_subcommand_be_redirected_and_piped(scripted, shell):
@@ -165,8 +270,12 @@ def test_lets_every_subcommand_be_redirected_and_piped(scripted, shell):
         for way, line in ways.items():
             path = os.path.join(scripted.folder.path, f"{number}.{way}".encode()).decode()
             lines.append(line.format(command, path))
-            wanted[path] = b"said 0\n" if command == "avail said" else f"said {number} {way}\n".encode()
-            if command != "avail said":
+            if command == "avail said":
+                wanted[path] = b"said 0\n"
+            elif command in REFUSED and way != "short":
+                wanted[path] = REFUSED[command]
+            else:
+                wanted[path] = f"said {number} {way}\n".encode()
                 scripted.stand_in.answer(b"", wanted[path], 1 if number % 2 else 0)
     kept, done = scripted.run(["show", *lines, "show"])
     same((done.stdout, done.stderr), (b"", b""), "what is written elsewhere")
@@ -220,9 +329,11 @@ def test_leaves_nothing_behind(scripted, shell):
     warm = [*looks.lines("first"), "/usr/bin/env true", *looks.lines("first"), shell.may_fail("/usr/bin/env false")]
     # What the files set otherwise on the way.
     settings = ["set backslash_quote"] if shell.title.startswith("tcsh") else []
-    commands = ["ml foo/1.0", shell.may_fail("ml nope/1"), "ml -foo", "module load foo/1.0", "module unload foo"]
+    commands = ["ml foo/1.0", shell.may_fail("ml nope/1"), "ml -foo", "module load foo/1.0", "module rem foo"]
+    commands += ["module use /", "module unu /", shell.may_fail("module is-loaded"), shell.may_fail("module spider")]
     lines = [*settings, *looks.lines("before"), *commands, *looks.lines("after")]
-    scripted.keeps(lines, before=[*warm, *looks.lines("start")], err=REFUSAL)
+    said = REFUSAL + b"ERROR: Unknown subcommand 'spider'\n"
+    scripted.keeps(lines, before=[*warm, *looks.lines("start")], err=said)
     same(looks.new("before", "after"), [], "what a command leaves")
     same(looks.new("after", "before"), [], "what a command takes away")
     names = [name_of(line) for line in looks.new("start", "before")]

@@ -1,9 +1,9 @@
 -- A text of elements that grows by one after another.
 use Rattle.std.proofs.Common.{◌≡◌, ◌<◌, List, [], ◌∷◌, ◌++◌, refl, sym, ap, ◌∙◌, append-nil, append_assoc, length}
-use Rattle.std.proofs.Common.{arith, Option, Some}
+use Rattle.std.proofs.Common.{arith, true, Option, Some}
 use Rattle.std.proofs.lemmas.List.Concat.{flat_map-append}
 use Rattle.envvars.specs.Texts.{Text}
-use Rattle.envvars.specs.Fields.{colon, ampersand, joined, text_of_elements, without_repeats}
+use Rattle.envvars.specs.Fields.{colon, ampersand, are_distinct, joined, text_of_elements, without_repeats}
 use Rattle.envvars.proofs.FieldLemmas.{after_separators, join-cons}
 use Rattle.envloaded.specs.LoadedTexts.{element_of}
 use Rattle.envloaded.specs.ElementTexts.{before_element, with_elements}
@@ -40,3 +40,9 @@ pub few_once : (xs : List Text) → length xs < 2 → xs ≡ without_repeats xs
 few_once [] h = refl
 few_once (x ∷ []) h = refl
 few_once (x ∷ y ∷ xs) h = absurd (omega arith)
+
+-- in a list of one text or none, none is there twice
+pub few_distinct : (xs : List Text) → length xs < 2 → are_distinct xs ≡ true
+few_distinct [] h = refl
+few_distinct (x ∷ []) h = refl
+few_distinct (x ∷ y ∷ xs) h = absurd (omega arith)

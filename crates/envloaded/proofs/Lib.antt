@@ -6,4 +6,5 @@ pub mod LoadedAgain
 pub mod LoadedReadable
 pub mod LoadedEdits
 pub mod LoadedExamples
+pub mod LoadedNeeded
 pub mod LoadedOrder

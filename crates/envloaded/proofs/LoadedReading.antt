@@ -232,6 +232,9 @@ fit_is names files b e = rw (length-slice_texts names, length-slice_texts files,
 pub no_fit : (b : Bool) (x y : Bool) → (b && x) ≡ y → b ≡ false → false ≡ y
 no_fit b x y e h = rw h at e
 
+pub yes_fit : (b x y : Bool) → (b && x) ≡ y → b ≡ true → x ≡ true → true ≡ y
+yes_fit b x y e h k = rw (h, k) at e
+
 pub ok_fit : {E : Type 0} (r : Result Bool E) (b x y : Bool) → (b && x) ≡ y → b ≡ true → IfOk r (λ t. t ≡ x) → IfOk r (λ t. t ≡ y)
 ok_fit (Ok t) b x y e h k = k ∙ (rw h at e)
 ok_fit (Err t) b x y e h k = k

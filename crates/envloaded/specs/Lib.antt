@@ -3,3 +3,4 @@ pub mod ElementTexts
 pub mod Loaded
 pub mod LoadedEntries
 pub mod LoadedLaws
+pub mod NeededChanges

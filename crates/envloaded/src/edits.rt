@@ -19,7 +19,7 @@ fn write<V: Vars>(alloc: Global, env: &mut V, list: &[Loaded]) -> Result<(), Env
     ensures only { IfErr result (λ e. e ≡ OutOfMemory) }
     ensures base { V.base env.new ≡ V.base env.old }
 {
-    let changes = loaded_changes(alloc, list)?;
+    let changes = loaded_changes(alloc, &*env, list)?;
     env.apply(changes)
 }
 

@@ -73,6 +73,9 @@ fn are_consistent(alloc: Global, names: &[&str], files: &[&str]) -> Result<bool,
     if !are_well_spelled(names, files) {
         return Ok(false);
     }
+    if names.len() < 2 {
+        return Ok(true);
+    }
     are_distinct(alloc, names)
 }
 

@@ -25,6 +25,6 @@ pub fn are_loaded_in_order(alloc: Global, env: &Env) -> Result<bool, AllocError>
     let Some(list) = loaded_if_consistent(alloc, env)? else {
         return Ok(false);
     };
-    let changes = loaded_changes(alloc, list.as_slice())?;
+    let changes = loaded_changes(alloc, env, list.as_slice())?;
     Ok(are_made(env, changes.as_slice()))
 }

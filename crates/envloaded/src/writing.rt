@@ -1,22 +1,23 @@
 //! The four texts that the list of loaded modules is written as, and which entries can be written.
-ghost use Rattle.std.specs.Prelude.{◌≡◌, ◌&&◌, ◌++◌, [], ◌∷◌, map, flat_map, string_bytes, OnOk, IfOk};
+ghost use Rattle.std.specs.Prelude.{◌≡◌, ◌&&◌, ◌++◌, [], ◌∷◌, filter, map, flat_map, string_bytes, OnOk, IfOk};
 ghost use Rattle.std.specs.List.{list_all};
 ghost use Rattle.std.specs.Option.{option_map};
 ghost use Rattle.modulename.specs.ModuleName.{is_module_name};
-ghost use Rattle.envvars.specs.Changes.{new_value_of};
+ghost use Rattle.envvars.specs.Changes.{new_values_in};
 ghost use Rattle.envvars.specs.Fields.{ampersand, without_repeats};
 ghost use Rattle.envloaded.specs.LoadedTexts.{element_of, group_text};
 ghost use Rattle.envloaded.specs.ElementTexts.{before_element, with_elements};
 ghost use Rattle.envloaded.specs.Loaded.{names_of, names_text, files_text, conflict_elements, conflicts_text};
-ghost use Rattle.envloaded.specs.Loaded.{prereq_elements, prereqs_text, loaded_changes, is_path, is_group, is_entry};
+ghost use Rattle.envloaded.specs.Loaded.{prereq_elements, prereqs_text, is_path, is_group, is_entry};
 ghost use Rattle.envloaded.specs.Loaded.{can_be_added, with_conflicts_once};
 ghost use Rattle.envloaded.specs.LoadedEntries.{entry_view};
+ghost use Rattle.envloaded.specs.NeededChanges.{is_needed, needed_changes};
 ghost use Rattle.envvars.specs.Texts.{has, slice_texts, texts_in};
 
 use crate::entry::Loaded;
 use crate::list::{CONFLICTS, FILES, NAMES, PREREQS};
 use envvars::fields::{deduplicated, join, owned, slices, text_of_elements};
-use envvars::{Change, push_change};
+use envvars::{Change, Vars, push_change};
 use modulename::is_module_name;
 use std::alloc::{AllocError, Global};
 
@@ -159,15 +160,48 @@ fn prereqs_text(alloc: Global, list: &[Loaded]) -> Result<Option<String>, AllocE
     text_of_elements(alloc, elements.as_slice())
 }
 
-/// The changes of the four variables that write the list.
-pub fn loaded_changes(alloc: Global, list: &[Loaded]) -> Result<Vec<Change>, AllocError>
-    ensures { IfOk result (λ v. map new_value_of v.items ≡ loaded_changes (map entry_view list.now)) }
+/// Appends the change of a variable to a value, or to none. One that is unset and gets none stays as it is.
+fn push_needed<V: Vars>(
+    alloc: Global,
+    changes: &mut Vec<Change>,
+    env: &V,
+    name: &str,
+    value: Option<String>,
+) -> Result<(), AllocError>
+    ensures { OnOk result (new_values_in changes.new ≡ new_values_in changes.old
+        ++ filter (is_needed (V.vars env.now)) ((name.now, option_map string_bytes value) ∷ [])) }
+{
+    if value.is_none() && env.get(name).is_none() {
+        return Ok(());
+    }
+    push_change(alloc, changes, name, value)
+}
+
+/// The changes of the four variables that write the list to these variables.
+pub fn loaded_changes<V: Vars>(
+    alloc: Global,
+    env: &V,
+    list: &[Loaded],
+) -> Result<Vec<Change>, AllocError>
+    ensures { IfOk result (λ v. new_values_in v ≡ needed_changes (V.vars env.now) (map entry_view list.now)) }
 {
     let mut changes = Vec::new(alloc);
     push_change(alloc, &mut changes, NAMES, names_text(alloc, list)?)?;
     push_change(alloc, &mut changes, FILES, files_text(alloc, list)?)?;
-    push_change(alloc, &mut changes, CONFLICTS, conflicts_text(alloc, list)?)?;
-    push_change(alloc, &mut changes, PREREQS, prereqs_text(alloc, list)?)?;
+    push_needed(
+        alloc,
+        &mut changes,
+        env,
+        CONFLICTS,
+        conflicts_text(alloc, list)?,
+    )?;
+    push_needed(
+        alloc,
+        &mut changes,
+        env,
+        PREREQS,
+        prereqs_text(alloc, list)?,
+    )?;
     Ok(changes)
 }
 

@@ -1,6 +1,6 @@
 //! Path variables, as PATH is: a list of elements, and how often each was added, in two variables of an environment.
 //! Takes memory; touches the path variable that a call names and the variable of its counters.
-//! A drop is what remove-path does, and an unload.
+//! A drop is what remove-path does, and an unload of what was added.
 #![tactic(auto)]
 
 mod adding;

@@ -21,7 +21,8 @@ pub struct Given {
 impl Given {
     /// The arguments after the program's name, the environment, and the working directory.
     ///
-    /// Errors: want of memory (31); a MODULEPATH that isn't UTF-8 (37); such an argument (56).
+    /// Errors: want of memory (31); a MODULEPATH that isn't UTF-8, where the command is about it (37); such an argument
+    /// (56).
     pub fn read(rt: &HostRuntime) -> Result<Given, NumberedMessage<'static>> {
         let arguments = match arguments(rt) {
             Ok(arguments) => arguments,
@@ -33,7 +34,9 @@ impl Given {
         let Ok(env) = envvars::Env::from_block(rt.alloc(), block) else {
             return Err(want_of_memory());
         };
-        judge_modulepath(rt)?;
+        if is_about_modulepath(arguments.as_slice()) {
+            judge_modulepath(rt)?;
+        }
         Ok(Given {
             arguments,
             env,
@@ -45,6 +48,14 @@ impl Given {
 /// Want of memory, as a refusal.
 fn want_of_memory() -> NumberedMessage<'static> {
     RefusalKind::MemoryForRequest.plain()
+}
+
+/// Whether a command with these arguments may read or change MODULEPATH.
+fn is_about_modulepath(arguments: &[String]) -> bool {
+    match arguments {
+        [_, word, ..] => word.as_str() != "is-loaded" && word.as_str() != "subcommand",
+        _ => true,
+    }
 }
 
 /// Refuses a MODULEPATH that isn't UTF-8, which would be taken for one that is unset.

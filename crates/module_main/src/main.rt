@@ -37,7 +37,7 @@ fn main(rt: HostRuntime) -> ExitCode {
         Some(place) => Some(place.as_str()),
         None => None,
     };
-    let mut missing = MissingDirectories { rt: &rt };
+    let mut missing = MissingDirectories::new(&rt);
     let arguments = given.arguments.as_slice();
     match function_output(rt.alloc(), arguments, &given.env, working, &mut missing) {
         Ok(output) => print(&rt, &output),

@@ -27,7 +27,8 @@ fn main(rt: HostRuntime) -> ExitCode {
         &mut out,
         &mut err,
     );
-    // The process ends: the system takes back at once what the tree holds.
+    // The process ends: the system takes back at once what these hold.
+    forget(arguments);
     forget(tree);
     ExitCode::from(status)
 }

@@ -24,7 +24,8 @@ use Rattle.tclrules.specs.Names.{unsupported_commands, core_commands}
 use Rattle.tclrules.specs.Forms.{core_form}
 use Rattle.tclrules.specs.Derivation.{LeftOut}
 use Rattle.envvars.specs.Environment.{Environment, with_value}
-use Rattle.modulefile.specs.Records.{Set, Unset, Front, Back, Conflict}
+use Rattle.modulefile.specs.Records.{Set, Unset, Path, Conflict}
+use Rattle.modulefile.specs.declared.records.PathEdit.TheVariants.{Front, Back}
 use Rattle.modulefile.specs.Calls as calls
 use Rattle.modulefile.specs.Answers.{FileContext}
 use Rattle.modulefile.specs.Files.{Ran, FileReason, halted, refused, failed, RunsFile, play}
@@ -98,7 +99,7 @@ file_unset_back e = refl
 pub path_delimiters : (e : Environment) → computed (showing e)
     (file (codes "prepend-path -d {;} Q {a:b;c}\nappend-path --delim=: Q a:b")) 400 ≡ Some
     (Ok (record {
-      records = (Front 59 (codes "Q") (codes "a:b" ∷ codes "c" ∷ []) ∷ Back 58 (codes "Q")
+      records = (Path Front 59 (codes "Q") (codes "a:b" ∷ codes "c" ∷ []) ∷ Path Back 58 (codes "Q")
           (codes "a" ∷ codes "b" ∷ []) ∷ []);
       messages = [];
       asked = false;
@@ -109,7 +110,7 @@ path_delimiters e = refl
 
 pub path_value_behind : (e : Environment) → computed (showing e) (file (codes "prepend-path P -d a")) 400 ≡ Some
     (Ok (record {
-      records = (Front 58 (codes "P") (codes "-d" ∷ codes "a" ∷ []) ∷ []);
+      records = (Path Front 58 (codes "P") (codes "-d" ∷ codes "a" ∷ []) ∷ []);
       messages = [];
       asked = false;
       env

@@ -4,7 +4,7 @@ use Rattle.std.specs.Prelude.{if◌then◌else◌, Option, Some, None, IfSome}
 use Rattle.std.specs.declared.alloc.Global.{Global}
 use Rattle.envvars.specs.Texts.{Text}
 use Rattle.modulefile.specs.Records as records
-use Rattle.modulefile.specs.RecordViews.{edit_record, record_view}
+use Rattle.modulefile.specs.RecordViews.{record_view}
 use Rattle.modulefile.specs.declared.call.InfoField.{InfoField}
 use Rattle.modulefile.specs.declared.call.InfoField.TheVariants as info_fields
 use Rattle.modulefile.specs.declared.call.Call.{Call}
@@ -50,7 +50,7 @@ abbrev pub form_view : Form → Text → List Text → CallForm
 form_view forms.Set name = without_option (var_and_value records.Set)
 form_view forms.Unset name = without_option var_and_optional
 form_view forms.Push name = without_option (var_and_value records.Push)
-form_view (forms.Path edit) name = path_form (edit_record edit)
+form_view (forms.Path edit) name = path_form edit
 form_view forms.Conflict name = without_option (some_words records.Conflict)
 form_view forms.Prereq name = without_option (some_words records.Prereq)
 form_view forms.Whatis name = some_words description

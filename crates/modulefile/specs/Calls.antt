@@ -8,7 +8,9 @@ use Rattle.tclvalue.specs.Indexes.{after_prefix}
 use Rattle.envvars.specs.Texts.{Text}
 use Rattle.envvars.specs.Fields.{colon}
 use Rattle.envpaths.specs.PathTexts.{is_delimiter, split_elements}
-use Rattle.modulefile.specs.Records.{Record, Set, Unset, Push, Front, Back, Remove, Conflict, Prereq, Whatis}
+use Rattle.modulefile.specs.Records.{Record, Set, Unset, Push, Path, Conflict, Prereq, Whatis}
+use Rattle.modulefile.specs.declared.records.PathEdit.{PathEdit}
+use Rattle.modulefile.specs.declared.records.PathEdit.TheVariants.{Front, Back, Remove}
 use Rattle.modulefile.specs.Judgments.{RecordReason}
 use Rattle.modulefile.specs.Results.{◌>>=◌}
 
@@ -97,14 +99,14 @@ abbrev pub elements_of : ℕ → List Text → List Text
 elements_of delim values = flat_map (split_elements delim) values
 
 -- `VAR value...`
-abbrev pub var_and_values : (ℕ → Text → List Text → Record) → ℕ × List Text → CallForm
-var_and_values make (delim, var ∷ value ∷ values) = Ok (adds_record
-    (make delim var (elements_of delim (value ∷ values))))
-var_and_values make (delim, words) = Err bad_arguments
+abbrev pub var_and_values : PathEdit → ℕ × List Text → CallForm
+var_and_values edit (delim, var ∷ value ∷ values) = Ok (adds_record
+    (Path edit delim var (elements_of delim (value ∷ values))))
+var_and_values edit (delim, words) = Err bad_arguments
 
 -- the words of a path command
-abbrev pub path_form : (ℕ → Text → List Text → Record) → List Text → CallForm
-path_form make words = delimited words >>= var_and_values make
+abbrev pub path_form : PathEdit → List Text → CallForm
+path_form edit words = delimited words >>= var_and_values edit
 
 -- at least one word
 abbrev pub some_words : (List Text → Record) → List Text → CallForm

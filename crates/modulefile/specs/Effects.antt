@@ -1,12 +1,15 @@
 -- What the record of a module makes of an environment, by the mode of the evaluation (modulefile(5)).
-use Rattle.std.specs.Prelude.{List, [], ◌∷◌, Option, Some, None, Result, Ok, Err}
+use Rattle.std.specs.Prelude.{ℕ, List, [], ◌∷◌, if◌then◌else◌, Option, Some, None, Result, Ok, Err}
 use Rattle.envvars.specs.Texts.{Text}
 use Rattle.envvars.specs.Environment.{Environment, with_value}
 use Rattle.envvars.specs.Reasons.{EnvReason}
 use Rattle.envpaths.specs.PathVariables.{added_path, dropped_path}
 use Rattle.envpaths.specs.declared.adding.End.TheVariants as ends
 use Rattle.envstacks.specs.StackVariables.{pushed_value, popped_value}
-use Rattle.modulefile.specs.Records.{Record, Set, Unset, Push, Front, Back, Remove, Conflict, Prereq, Whatis}
+use Rattle.modulefile.specs.Records.{Record, Set, Unset, Push, Path, Conflict, Prereq, Whatis}
+use Rattle.modulefile.specs.Records.{adds_elements}
+use Rattle.modulefile.specs.declared.records.PathEdit.{PathEdit}
+use Rattle.modulefile.specs.declared.records.PathEdit.TheVariants.{Front, Back, Remove}
 use Rattle.modulefile.specs.Judgments.{RecordReason, bad_edit, record_reason}
 
 -- what a file is evaluated for
@@ -16,14 +19,18 @@ pub data Mode : Type 0 where
   display : Mode
   whatis : Mode
 
+-- what a path command makes of an environment
+abbrev pub path_edited : PathEdit → ℕ → Text → List Text → Environment → Result Environment EnvReason
+path_edited Front delim var xs e = added_path e var delim xs ends.Front
+path_edited Back delim var xs e = added_path e var delim xs ends.Back
+path_edited Remove delim var xs e = dropped_path e var delim xs
+
 -- Loading does what the command of the record does.
 abbrev pub loaded_by : Text → Record → Environment → Result Environment EnvReason
 loaded_by owner (Set var value) e = Ok (with_value e var (Some value))
 loaded_by owner (Unset var value) e = Ok (with_value e var None)
 loaded_by owner (Push var value) e = pushed_value e var owner value
-loaded_by owner (Front delim var xs) e = added_path e var delim xs ends.Front
-loaded_by owner (Back delim var xs) e = added_path e var delim xs ends.Back
-loaded_by owner (Remove delim var xs) e = dropped_path e var delim xs
+loaded_by owner (Path edit delim var xs) e = path_edited edit delim var xs e
 loaded_by owner (Conflict names) e = Ok e
 loaded_by owner (Prereq names) e = Ok e
 loaded_by owner (Whatis text) e = Ok e
@@ -34,9 +41,7 @@ unloaded_by owner (Set var value) e = Ok (with_value e var None)
 unloaded_by owner (Unset var None) e = Ok e
 unloaded_by owner (Unset var (Some value)) e = Ok (with_value e var (Some value))
 unloaded_by owner (Push var value) e = popped_value e var owner
-unloaded_by owner (Front delim var xs) e = dropped_path e var delim xs
-unloaded_by owner (Back delim var xs) e = dropped_path e var delim xs
-unloaded_by owner (Remove delim var xs) e = Ok e
+unloaded_by owner (Path edit delim var xs) e = if adds_elements edit then dropped_path e var delim xs else Ok e
 unloaded_by owner (Conflict names) e = Ok e
 unloaded_by owner (Prereq names) e = Ok e
 unloaded_by owner (Whatis text) e = Ok e

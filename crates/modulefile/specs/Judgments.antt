@@ -8,7 +8,7 @@ use Rattle.envvars.specs.Texts.{Text}
 use Rattle.envvars.specs.Names.{is_nul_free, name_reason}
 use Rattle.envvars.specs.Reasons.{EnvReason, bad_value}
 use Rattle.envpaths.specs.PathVariables.{path_reason}
-use Rattle.modulefile.specs.Records.{Record, Set, Unset, Push, Front, Back, Remove, Conflict, Prereq, Whatis}
+use Rattle.modulefile.specs.Records.{Record, Set, Unset, Push, Path, Conflict, Prereq, Whatis}
 
 -- why a record has no effect
 pub data RecordReason : Type 0 where
@@ -35,9 +35,7 @@ abbrev pub record_reason : Record → Option RecordReason
 record_reason (Set var value) = option_map bad_edit (value_reason var (value ∷ []))
 record_reason (Unset var value) = option_map bad_edit (value_reason var (values_of value))
 record_reason (Push var value) = option_map bad_edit (value_reason var (value ∷ []))
-record_reason (Front delim var xs) = option_map bad_edit (path_reason var delim xs)
-record_reason (Back delim var xs) = option_map bad_edit (path_reason var delim xs)
-record_reason (Remove delim var xs) = option_map bad_edit (path_reason var delim xs)
+record_reason (Path edit delim var xs) = option_map bad_edit (path_reason var delim xs)
 record_reason (Conflict names) = names_reason names
 record_reason (Prereq names) = names_reason names
 record_reason (Whatis text) = None

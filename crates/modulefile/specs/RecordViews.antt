@@ -1,15 +1,13 @@
 -- What the records of the code and their faults stand for in the definitions (own).
-use Rattle.std.specs.Prelude.{ℕ, List, string_bytes, Option, Some}
+use Rattle.std.specs.Prelude.{string_bytes, Option, Some}
 use Rattle.std.specs.Option.{option_map}
-use Rattle.envvars.specs.Texts.{Text, texts_in}
+use Rattle.envvars.specs.Texts.{texts_in}
 use Rattle.envvars.specs.Reasons.{reason_of}
 use Rattle.modulefile.specs.Records as records
 use Rattle.modulefile.specs.Judgments.{RecordReason, bad_edit, bad_module_name}
 use Rattle.modulefile.specs.Effects as effects
 use Rattle.modulefile.specs.declared.records.Record.{Record}
 use Rattle.modulefile.specs.declared.records.Record.TheVariants as code
-use Rattle.modulefile.specs.declared.records.PathEdit.{PathEdit}
-use Rattle.modulefile.specs.declared.records.PathEdit.TheVariants as edits
 use Rattle.modulefile.specs.declared.records.Mode.{Mode}
 use Rattle.modulefile.specs.declared.records.Mode.TheVariants as modes
 use Rattle.modulefile.specs.declared.record_fault.RecordFault.{RecordFault}
@@ -22,18 +20,12 @@ mode_view modes.Unload = effects.unload
 mode_view modes.Display = effects.display
 mode_view modes.Whatis = effects.whatis
 
--- the record of a path command
-abbrev pub edit_record : PathEdit → ℕ → Text → List Text → records.Record
-edit_record edits.Front delim var xs = records.Front delim var xs
-edit_record edits.Back delim var xs = records.Back delim var xs
-edit_record edits.Remove delim var xs = records.Remove delim var xs
-
 -- a record
 abbrev pub record_view : Record → records.Record
 record_view (code.Set var value) = records.Set (string_bytes var) (string_bytes value)
 record_view (code.Unset var value) = records.Unset (string_bytes var) (option_map string_bytes value)
 record_view (code.Push var value) = records.Push (string_bytes var) (string_bytes value)
-record_view (code.Path edit delim var elements) = edit_record edit delim.character (string_bytes var)
+record_view (code.Path edit delim var elements) = records.Path edit delim.character (string_bytes var)
     (texts_in elements)
 record_view (code.Conflict names) = records.Conflict (texts_in names)
 record_view (code.Prereq names) = records.Prereq (texts_in names)

@@ -1,7 +1,9 @@
 -- What an accepted command of a modulefile leaves on record, one for each command of the table of modulefile(5), in
 -- every mode.
-use Rattle.std.specs.Prelude.{ℕ, List, [], flat_map, filter_map, Option, Some, None}
+use Rattle.std.specs.Prelude.{ℕ, Bool, true, false, List, [], flat_map, filter_map, if◌then◌else◌, Option, Some, None}
 use Rattle.envvars.specs.Texts.{Text}
+use Rattle.modulefile.specs.declared.records.PathEdit.{PathEdit}
+use Rattle.modulefile.specs.declared.records.PathEdit.TheVariants.{Front, Back, Remove}
 
 -- the delimiter of a path is a character
 pub data Record : Type 0 where
@@ -12,9 +14,7 @@ pub data Record : Type 0 where
   -- `pushenv VAR value`
   Push : (var : Text) (value : Text) → Record
   -- `prepend-path`, `append-path` and `remove-path VAR value...`: the values, cut at the delimiter
-  Front : (delim : ℕ) (var : Text) (elements : List Text) → Record
-  Back : (delim : ℕ) (var : Text) (elements : List Text) → Record
-  Remove : (delim : ℕ) (var : Text) (elements : List Text) → Record
+  Path : (edit : PathEdit) (delim : ℕ) (var : Text) (elements : List Text) → Record
   -- `conflict NAME...`
   Conflict : (names : List Text) → Record
   -- `prereq NAME...`, any one of which will do
@@ -27,12 +27,26 @@ abbrev pub variable_of : Record → Option Text
 variable_of (Set var value) = Some var
 variable_of (Unset var value) = Some var
 variable_of (Push var value) = Some var
-variable_of (Front delim var xs) = Some var
-variable_of (Back delim var xs) = Some var
-variable_of (Remove delim var xs) = Some var
+variable_of (Path edit delim var xs) = Some var
 variable_of (Conflict names) = None
 variable_of (Prereq names) = None
 variable_of (Whatis text) = None
+
+-- A path command adds its elements, at the front or at the back, or else it removes them.
+abbrev pub adds_elements : PathEdit → Bool
+adds_elements Front = true
+adds_elements Back = true
+adds_elements Remove = false
+
+-- the path variable that a record adds elements to, and these
+abbrev pub added_elements : Record → Option (Text × List Text)
+added_elements (Set var value) = None
+added_elements (Unset var value) = None
+added_elements (Push var value) = None
+added_elements (Path edit delim var xs) = if adds_elements edit then Some (var, xs) else None
+added_elements (Conflict names) = None
+added_elements (Prereq names) = None
+added_elements (Whatis text) = None
 
 -- the names of a `conflict`; other records have none
 abbrev pub conflicts_of : Record → List Text

@@ -5,8 +5,16 @@ use Rattle.std.specs.List.{join_with_byte}
 use Rattle.tcllist.specs.Lists.{list_text}
 use Rattle.envvars.specs.Texts.{Text}
 use Rattle.envvars.specs.Fields.{colon}
-use Rattle.modulefile.specs.Records.{Record, Set, Unset, Push, Front, Back, Remove, Conflict, Prereq, Whatis}
+use Rattle.modulefile.specs.Records.{Record, Set, Unset, Push, Path, Conflict, Prereq, Whatis}
 use Rattle.modulefile.specs.Records.{whatis_texts}
+use Rattle.modulefile.specs.declared.records.PathEdit.{PathEdit}
+use Rattle.modulefile.specs.declared.records.PathEdit.TheVariants.{Front, Back, Remove}
+
+-- the name of a path command
+abbrev pub path_command : PathEdit → Text
+path_command Front = codes "prepend-path"
+path_command Back = codes "append-path"
+path_command Remove = codes "remove-path"
 
 -- a path command: the option where the delimiter isn't the colon, and the elements as one value
 abbrev pub path_words : Text → ℕ → Text → List Text → List Text
@@ -19,9 +27,7 @@ shown_words (Set var value) = codes "setenv" ∷ var ∷ value ∷ []
 shown_words (Unset var None) = codes "unsetenv" ∷ var ∷ []
 shown_words (Unset var (Some value)) = codes "unsetenv" ∷ var ∷ value ∷ []
 shown_words (Push var value) = codes "pushenv" ∷ var ∷ value ∷ []
-shown_words (Front delim var xs) = path_words (codes "prepend-path") delim var xs
-shown_words (Back delim var xs) = path_words (codes "append-path") delim var xs
-shown_words (Remove delim var xs) = path_words (codes "remove-path") delim var xs
+shown_words (Path edit delim var xs) = path_words (path_command edit) delim var xs
 shown_words (Conflict names) = codes "conflict" ∷ names
 shown_words (Prereq names) = codes "prereq" ∷ names
 shown_words (Whatis text) = codes "module-whatis" ∷ text ∷ []

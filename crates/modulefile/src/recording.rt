@@ -1,21 +1,20 @@
 //! The commands of modulefiles that leave a record (modulefile(5)), read from their words.
-ghost use Rattle.std.specs.Prelude.{◌≡◌, map, string_bytes, IfOk};
+ghost use Rattle.std.specs.Prelude.{◌≡◌, ◌++◌, map, string_bytes, IfOk, OnOk};
 ghost use Rattle.tclchars.specs.Runs.{begins};
 ghost use Rattle.tclvalue.specs.Indexes.{after_prefix};
-ghost use Rattle.envvars.specs.Texts.{texts_in};
+ghost use Rattle.envvars.specs.Texts.{slice_texts, texts_in};
 ghost use Rattle.message.specs.Answers.{Gives};
 ghost use Rattle.modulefile.specs.Records.{Set, Push, Conflict, Prereq};
 ghost use Rattle.modulefile.specs.Calls.{no_option, without_option, var_and_value, var_and_optional, with_delimiter};
 ghost use Rattle.modulefile.specs.Calls.{by_next_word, by_same_word, by_option, delimited, elements_of, path_form};
 ghost use Rattle.modulefile.specs.Calls.{some_words, description};
-ghost use Rattle.modulefile.specs.RecordViews.{edit_record};
 ghost use Rattle.modulefile.specs.CallViews.{reason_of, texts_of, call_view, path_words_view};
 
 use crate::call::Call;
 use crate::call_fault::CallFault;
 use crate::delimiter::Delimiter;
 use crate::records::{PathEdit, Record};
-use envvars::fields::{join, owned, parts, slices};
+use envvars::fields::{join, parts, slices};
 use message::texts::copies;
 use std::alloc::{AllocError, Global};
 
@@ -136,6 +135,16 @@ fn delimited(words: &[String]) -> Result<PathWords<'_>, CallFault>
     }
 }
 
+/// Appends copies of the parts of a value.
+fn push_copies(alloc: Global, elements: &mut Vec<String>, parts: &[&str]) -> Result<(), AllocError>
+    ensures { OnOk result (texts_in elements.new ≡ texts_in elements.old ++ slice_texts parts.now) }
+{
+    for part in parts {
+        elements.push(String::from_str(alloc, part)?)?;
+    }
+    Ok(())
+}
+
 /// The elements of values, which are cut at the delimiter.
 fn elements(alloc: Global, delim: Delimiter, values: &[String]) -> Result<Vec<String>, AllocError>
     ensures { IfOk result (λ v. texts_in v ≡ elements_of delim.character (map string_bytes values.now)) }
@@ -143,9 +152,9 @@ fn elements(alloc: Global, delim: Delimiter, values: &[String]) -> Result<Vec<St
     let mut elements = Vec::new(alloc);
     for value in values {
         let parts = parts(alloc, value.as_str(), delim.character)?;
-        elements.extend_from_slice(parts.as_slice())?;
+        push_copies(alloc, &mut elements, parts.as_slice())?;
     }
-    owned(alloc, elements.as_slice())
+    Ok(elements)
 }
 
 /// Reads the words of a path command, which has one value or more.
@@ -154,7 +163,7 @@ pub(crate) fn path_form(
     edit: PathEdit,
     words: &[String],
 ) -> Result<Call<'static>, CallFault>
-    ensures { Gives reason_of call_view result (path_form (edit_record edit) (map string_bytes words.now)) }
+    ensures { Gives reason_of call_view result (path_form edit (map string_bytes words.now)) }
 {
     let PathWords { delim, words } = delimited(words)?;
     match words {

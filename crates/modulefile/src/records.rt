@@ -1,10 +1,9 @@
 //! What accepted commands of modulefiles leave on record.
-ghost use Rattle.std.specs.Prelude.{◌≡◌, ℕ, List, map, string_bytes};
+ghost use Rattle.std.specs.Prelude.{◌≡◌, map, string_bytes};
 ghost use Rattle.std.specs.Option.{option_map};
-ghost use Rattle.envvars.specs.Texts.{Text};
-ghost use Rattle.modulefile.specs.Records.{conflicts_of, prereqs_of, description_of};
-ghost use Rattle.modulefile.specs.RecordViews.{edit_record, record_view};
-ghost use Rattle.modulefile.specs.Reports.{path_words, shown_words};
+ghost use Rattle.modulefile.specs.Records.{added_elements, conflicts_of, prereqs_of, description_of};
+ghost use Rattle.modulefile.specs.RecordViews.{record_view};
+ghost use Rattle.modulefile.specs.Reports.{path_command};
 
 use crate::delimiter::Delimiter;
 
@@ -35,8 +34,7 @@ pub enum PathEdit {
 impl PathEdit {
     /// The name of the command, with which `show` writes such a record (modulefile(5)).
     pub fn command(self) -> &'static str
-        ensures { (delim : ℕ) (var : Text) (elements : List Text)
-            → shown_words (edit_record self delim var elements) ≡ path_words result.now delim var elements }
+        ensures { result.now ≡ path_command self }
     {
         match self {
             PathEdit::Front => "prepend-path",
@@ -80,6 +78,31 @@ pub enum Record {
 }
 
 impl Record {
+    /// The path variable that a record adds elements to, and these; None where it adds none.
+    pub fn added_elements(&self) -> Option<(&str, &[String])>
+        ensures { option_map (λ added. (added.0.now, map string_bytes added.1.now)) result
+            ≡ added_elements (record_view self.now) }
+    {
+        match self {
+            Record::Path {
+                edit: PathEdit::Front | PathEdit::Back,
+                var,
+                elements,
+                ..
+            } => Some((var.as_str(), elements.as_slice())),
+            Record::Path {
+                edit: PathEdit::Remove,
+                ..
+            }
+            | Record::Set { .. }
+            | Record::Unset { .. }
+            | Record::Push { .. }
+            | Record::Conflict(_)
+            | Record::Prereq(_)
+            | Record::Whatis(_) => None,
+        }
+    }
+
     /// The names of a `conflict`; other records have none.
     pub fn conflicts(&self) -> &[String]
         ensures { map string_bytes result.now ≡ conflicts_of (record_view self.now) }

@@ -2,7 +2,8 @@
 //! `tests/modulefiles.txt`.
 ghost use Rattle.std.specs.Prelude.{◌≡◌, [], ◌∷◌, codes, Some, None};
 ghost use Rattle.tclrules.specs.Derivation.{LeftOut};
-ghost use Rattle.modulefile.specs.Records.{Set, Unset, Front, Back, Conflict, Prereq, Whatis};
+ghost use Rattle.modulefile.specs.Records.{Set, Unset, Path, Conflict, Prereq, Whatis};
+ghost use Rattle.modulefile.specs.declared.records.PathEdit.TheVariants.{Front, Back};
 ghost use Rattle.modulefile.specs.Reports.{show_text, whatis_text};
 ghost use Rattle.modulefile.specs.Rows.{loading, unloading, showing, unchanged, sets, unsets, LeavesRecords};
 ghost use Rattle.modulefile.specs.Rows.{LeavesAsking, LeavesMessages, IsHalted, IsRefusedFor, FailsOnLine};
@@ -22,10 +23,10 @@ pub fn file_rows()
 /// Path commands and their delimiters.
 pub fn path_rows()
     ensures delimiters { LeavesRecords showing (codes "prepend-path -d {;} Q {a:b;c}\nappend-path --delim=: Q a:b")
-        (Front 59 (codes "Q") (codes "a:b" ∷ codes "c" ∷ []) ∷ Back 58 (codes "Q") (codes "a" ∷ codes "b" ∷ [])
+        (Path Front 59 (codes "Q") (codes "a:b" ∷ codes "c" ∷ []) ∷ Path Back 58 (codes "Q") (codes "a" ∷ codes "b" ∷ [])
         ∷ []) unchanged }
     ensures value_after { LeavesRecords showing (codes "prepend-path P -d a")
-        (Front 58 (codes "P") (codes "-d" ∷ codes "a" ∷ []) ∷ []) unchanged }
+        (Path Front 58 (codes "P") (codes "-d" ∷ codes "a" ∷ []) ∷ []) unchanged }
 {}
 
 /// Questions, after which the file has asked.
@@ -56,10 +57,10 @@ pub fn refused_rows()
 /// The reports of `show` and `whatis`, whose words are written as a list of Tcl.
 pub fn report_rows()
     ensures commands { show_text (codes "/m/d/1") (Whatis (codes "A B c")
-        ∷ Back 58 (codes "P") (codes "/a" ∷ codes "/b" ∷ codes "/c" ∷ [])
+        ∷ Path Back 58 (codes "P") (codes "/a" ∷ codes "/b" ∷ codes "/c" ∷ [])
         ∷ Prereq (codes "gcc" ∷ codes "icc" ∷ []) ∷ [])
         ≡ codes "/m/d/1:\nmodule-whatis {A B c}\nappend-path P /a:/b:/c\nprereq gcc icc\n" }
-    ensures delimiter { show_text (codes "/m/dl/1") (Front 59 (codes "Q") (codes "a:b" ∷ codes "c" ∷ []) ∷ [])
+    ensures delimiter { show_text (codes "/m/dl/1") (Path Front 59 (codes "Q") (codes "a:b" ∷ codes "c" ∷ []) ∷ [])
         ≡ codes "/m/dl/1:\nprepend-path --delim {;} Q {a:b;c}\n" }
     ensures unset { show_text (codes "/m/lg/1") (Unset (codes "LANG") (Some (codes "C")) ∷ Unset (codes "X") None ∷ [])
         ≡ codes "/m/lg/1:\nunsetenv LANG C\nunsetenv X\n" }

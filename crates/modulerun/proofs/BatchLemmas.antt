@@ -18,10 +18,11 @@ use Rattle.envpaths.specs.declared.adding.End.{End}
 use Rattle.envpaths.specs.declared.adding.End.TheVariants as ends
 use Rattle.envpaths.proofs.PathBatches.{both_allowed, both_added_allowed, added_once, added_twice, dropped_as, dropped_twice}
 use Rattle.modulefile.specs.Judgments.{bad_edit}
+use Rattle.modulefile.specs.Effects.{path_edited}
 use Rattle.modulefile.specs.declared.records.PathEdit.{PathEdit}
 use Rattle.modulefile.specs.declared.records.PathEdit.TheVariants.{Front, Back, Remove}
 use Rattle.modulerun.specs.declared.batch.PathBatch.{PathBatch}
-use Rattle.modulerun.specs.Batches.{path_edited, in_turn, made_of, with_elements, waiting_in, with_waiting, most_waiting, HasRoomFor}
+use Rattle.modulerun.specs.Batches.{in_turn, made_of, with_elements, waiting_in, with_waiting, most_waiting, HasRoomFor}
 use Rattle.modulerun.specs.Batches.{ElementsCanWait, CanWait, MoreCanWait, WaitAlike}
 
 -- the elements of edits in turn

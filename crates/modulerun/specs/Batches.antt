@@ -6,17 +6,11 @@ use Rattle.envvars.specs.Texts.{Text, texts_in}
 use Rattle.envvars.specs.Environment.{Environment}
 use Rattle.envvars.specs.Reasons.{EnvReason}
 use Rattle.envpaths.specs.Paths.{HasRoom}
-use Rattle.envpaths.specs.PathVariables.{path_in, added_path, dropped_path}
-use Rattle.envpaths.specs.declared.adding.End.TheVariants as ends
+use Rattle.envpaths.specs.PathVariables.{path_in}
+use Rattle.modulefile.specs.Effects.{path_edited}
 use Rattle.modulefile.specs.declared.records.PathEdit.{PathEdit}
 use Rattle.modulefile.specs.declared.records.PathEdit.TheVariants.{Front, Back, Remove}
 use Rattle.modulerun.specs.declared.batch.PathBatch.{PathBatch}
-
--- the environment after an edit of a path variable, or the error
-abbrev pub path_edited : PathEdit → ℕ → Text → List Text → Environment → Result Environment EnvReason
-path_edited Front delim var xs e = added_path e var delim xs ends.Front
-path_edited Back delim var xs e = added_path e var delim xs ends.Back
-path_edited Remove delim var xs e = dropped_path e var delim xs
 
 -- The elements of edits wait in the order of the edits. One edit at the front puts its last element there first.
 abbrev pub in_turn : {A : Type 0} → PathEdit → List A → List A

@@ -6,10 +6,10 @@ ghost use Rattle.envvars.specs.Environment.{Environment};
 ghost use Rattle.envvars.specs.Reasons.{Edits};
 ghost use Rattle.envvars.specs.declared.fault.EnvFault.TheVariants.{OutOfMemory};
 ghost use Rattle.envpaths.specs.PathVariables.{path_reason};
-ghost use Rattle.modulefile.specs.Effects.{edited};
+ghost use Rattle.modulefile.specs.Effects.{path_edited, edited};
 ghost use Rattle.modulefile.specs.Judgments.{bad_edit, record_reason};
 ghost use Rattle.modulefile.specs.RecordViews.{mode_view, record_view};
-ghost use Rattle.modulerun.specs.Batches.{path_edited, in_turn, waiting_in, with_waiting, CanWait};
+ghost use Rattle.modulerun.specs.Batches.{in_turn, waiting_in, with_waiting, CanWait};
 ghost use Rattle.modulerun.specs.Batches.{HasRoomFor, MoreCanWait, NothingWaits, WaitAlike};
 ghost use Rattle.std.specs.Option.{option_map};
 
@@ -61,7 +61,8 @@ pub(crate) fn path_change(mode: Mode, recorded: &Record) -> Option<PathChange<'_
     };
     let edit = match (mode, *edit) {
         (Mode::Load, edit) => edit,
-        (Mode::Unload, PathEdit::Front | PathEdit::Back) => PathEdit::Remove,
+        (Mode::Unload, PathEdit::Front) => PathEdit::Remove,
+        (Mode::Unload, PathEdit::Back) => PathEdit::Remove,
         (Mode::Unload, PathEdit::Remove) | (Mode::Display | Mode::Whatis, _) => return None,
     };
     Some(PathChange {

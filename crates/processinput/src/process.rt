@@ -57,13 +57,12 @@ pub fn arguments<R: Env + AllocGlobal>(rt: &R) -> Result<Vec<String>, InputFault
 /// The system's file is read at once. Where it can't be read, or isn't the list that the process has, the entries are
 /// asked for one by one, in time that grows with the square of their number, so that none is lost.
 pub fn environment_block<R: Env + Files + AllocGlobal>(rt: &R) -> Result<Vec<u8>, AllocError> {
-    let mut room = Vec::new(rt.alloc());
     if let Ok(block) = own_environment(rt) {
-        if is_complete(rt, block.as_slice(), &mut room)? {
+        if is_complete(rt, block.as_slice())? {
             return Ok(block);
         }
     }
-    block_by_entries(rt, &mut room)
+    block_by_entries(rt)
 }
 
 /// The text of the system's file. One that fits is read by one call, without asking whether it ends there.
@@ -80,12 +79,12 @@ fn own_environment<R: Files + AllocGlobal>(rt: &R) -> io::Result<Vec<u8>> {
 }
 
 /// Whether the block has as many entries as the process, the same first one, and NUL at its end.
-fn is_complete<R: Env>(rt: &R, block: &[u8], room: &mut Vec<u8>) -> Result<bool, AllocError> {
+fn is_complete<R: Env + AllocGlobal>(rt: &R, block: &[u8]) -> Result<bool, AllocError> {
     let Some((last, _)) = memchr_iter(0, block).enumerate().last() else {
         return Ok(block.is_empty() && !has_entry(rt, 0));
     };
     let is_whole = block.ends_with(b"\0") && has_entry(rt, last) && !has_entry(rt, last + 1);
-    Ok(is_whole && begins_alike(rt, block, room)?)
+    Ok(is_whole && begins_alike(rt, block)?)
 }
 
 /// Whether the process has more than `i` entries.
@@ -96,23 +95,22 @@ fn has_entry<R: Env>(rt: &R, i: usize) -> bool {
     }
 }
 
-/// Whether the first entry of the process is that of the block.
-fn begins_alike<R: Env>(rt: &R, block: &[u8], room: &mut Vec<u8>) -> Result<bool, AllocError> {
+/// Whether the first entry of the process is that of the block. A longer one has no room.
+fn begins_alike<R: Env + AllocGlobal>(rt: &R, block: &[u8]) -> Result<bool, AllocError> {
     let first = &block[..memchr(0, block).unwrap_or(block.len())];
-    Ok(match copy_given(rt, Given::Entry(0), room)? {
-        Some(length) => &room.as_slice()[..length] == first,
-        None => false,
+    let mut room = Vec::from_elem(rt.alloc(), 0, first.len())?;
+    Ok(match rt.var_at(0, room.as_mut_slice()) {
+        Ok(_) => room.as_slice() == first,
+        Err(_) => false,
     })
 }
 
 /// The block of the environment, made of the entries one by one.
-fn block_by_entries<R: Env + AllocGlobal>(
-    rt: &R,
-    room: &mut Vec<u8>,
-) -> Result<Vec<u8>, AllocError> {
+fn block_by_entries<R: Env + AllocGlobal>(rt: &R) -> Result<Vec<u8>, AllocError> {
+    let mut room = Vec::new(rt.alloc());
     let mut block = Vec::new(rt.alloc());
     for i in 0..usize::MAX {
-        match copy_given(rt, Given::Entry(i), room)? {
+        match copy_given(rt, Given::Entry(i), &mut room)? {
             None => break,
             Some(length) => {
                 block.extend_from_slice(&room.as_slice()[..length])?;

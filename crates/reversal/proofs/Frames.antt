@@ -2,33 +2,23 @@
 use Rattle.std.proofs.Common.{◌≡◌, Bool, true, false, List, [], ◌∷◌, refl, sym, ap, ◌∙◌, subst, Option, Some, None}
 use Rattle.std.proofs.Common.{Result, Ok, Err}
 use Rattle.std.specs.Prelude.{bytes_eq}
-use Rattle.std.specs.Option.{option_map, option_or}
-use Rattle.std.proofs.lemmas.Bool.{false≢true}
 use Rattle.envvars.specs.Texts.{Text}
-use Rattle.envvars.specs.Names.{name_reason}
-use Rattle.envvars.specs.Environment.{Environment, lookup, with_value}
+use Rattle.envvars.specs.Environment.{Environment, lookup}
 use Rattle.envvars.specs.Reasons.{EnvReason}
-use Rattle.envpaths.specs.declared.adding.End.TheVariants as ends
 use Rattle.envloaded.specs.Loaded.{loaded_in}
 use Rattle.envstate.specs.Roles.{role_of, is_editable}
 use Rattle.envstate.specs.Roles.VariableRole.{Other}
 use Rattle.envstate.specs.Frames.{EditsVariable, IsVariableUnchanged, AreLoadedUnchanged}
-use Rattle.envstate.proofs.RoleLemmas.{no_reason_against}
-use Rattle.envstate.proofs.FrameLemmas.{add_edits, drop_edits, push_edits, pop_edits, set_edits, path_edits_variable}
-use Rattle.envstate.proofs.FrameLemmas.{stack_edits_variable, keeps_other, keeps_loaded, rest_stays}
-use Rattle.modulefile.specs.Records.{Record, Set, Unset, Push, Front, Back, Remove}
-use Rattle.modulefile.specs.Records.{variable_of}
-use Rattle.modulefile.specs.Judgments.{RecordReason, bad_edit, value_reason, values_of, record_reason}
-use Rattle.modulefile.specs.Effects.{Mode, load, unload, display, whatis, loaded_by, unloaded_by, edited, edit_outcome}
-use Rattle.modulefile.specs.Effects.{permitted, effect, effects}
+use Rattle.envstate.proofs.FrameLemmas.{drop_edits, pop_edits, path_edits_variable, stack_edits_variable, keeps_other}
+use Rattle.envstate.proofs.FrameLemmas.{keeps_loaded, rest_stays}
+use Rattle.modulefile.specs.Records.{Record, variable_of}
+use Rattle.modulefile.specs.Judgments.{RecordReason, record_reason}
+use Rattle.modulefile.specs.Effects.{Mode, load, unload, display, whatis, unloaded_by, edited, edit_outcome, permitted}
+use Rattle.modulefile.specs.Effects.{effect, effects}
 use Rattle.modulefile.proofs.Effected.{parts}
-use Rattle.reversal.specs.VariableUses.{is_reversible}
-
-abbrev pub accepted : Environment → Result Environment EnvReason
-accepted e = Ok e
-
-pub same_accepted : (d e : Environment) → accepted d ≡ Ok e → e ≡ d
-same_accepted d e h = cc
+use Rattle.reversal.specs.VariableUses.{Untouched, Fixed, Pathed, Stacked, is_reversible, UsedVariable, use_by}
+use Rattle.reversal.proofs.RecordKinds.{accepted, same_accepted, DoesBy, does, named_used, Touched, set_touched}
+use Rattle.reversal.proofs.RecordKinds.{touched_loaded}
 
 permitted_ok : (o : Option RecordReason) (r : Result Environment EnvReason) (new : Environment) → permitted o (edit_outcome r) ≡ Ok new → (o ≡ None) × (r ≡ Ok new)
 permitted_ok None (Ok e) new h = let s : e ≡ new = cc in (refl, ap (λ (t : Environment). accepted t) s)
@@ -39,45 +29,19 @@ permitted_ok (Some x) r new h = absurd (cc)
 pub effect_edits : (mode : Mode) (owner : Text) (r : Record) (old new : Environment) → effect mode owner r old ≡ Ok new → (record_reason r ≡ None) × (edited mode owner r old ≡ Ok new)
 effect_edits mode owner r old new h = permitted_ok (record_reason r) (edited mode owner r old) new h
 
-pub mapped_none : (o : Option EnvReason) → option_map bad_edit o ≡ None → o ≡ None
-mapped_none None h = refl
-mapped_none (Some x) h = absurd (cc)
+-- an unload touches nothing but the variable that the record uses
+edits_used : (owner : Text) (r : Record) (p : UsedVariable) → DoesBy r (Some p) → (old new : Environment) → record_reason r ≡ None → unloaded_by owner r old ≡ Ok new → EditsVariable old new p.0
+edits_used owner r (v, Untouched) d old new n h = absurd d
+edits_used owner r (v, Fixed k) d old new n h = set_touched v k old new (d.reason n) (sym (d.unloads owner old) ∙ h)
+edits_used owner r (v, Pathed a) d old new n h = (path_edits_variable old new v (drop_edits old new v a d.elements (sym (d.unloads owner old) ∙ h))).0
+edits_used owner r (v, Stacked) d old new n h = (stack_edits_variable old new v (pop_edits old new v owner (sym (d.unloads owner old) ∙ h))).0
 
-pub first_none : (o p : Option EnvReason) → option_or o p ≡ None → o ≡ None
-first_none None p h = refl
-first_none (Some x) p h = absurd (cc)
-
-plain_editable : (v : Text) (xs : List Text) → option_map bad_edit (value_reason v xs) ≡ None → is_editable v ≡ true
-plain_editable v xs h = (no_reason_against v).1 (first_none (name_reason v) _ (mapped_none (value_reason v xs) h))
-
--- nothing but the variable, its counters and its stack
-abbrev pub Touched : Option Text → Environment → Environment → Type 0
-Touched None old new = new ≡ old
-Touched (Some v) old new = EditsVariable old new v
-
-set_touched : (v : Text) (x : Option Text) (old new : Environment) → is_editable v ≡ true → accepted (with_value old v x) ≡ Ok new → EditsVariable old new v
-set_touched v x old new h k = subst (λ (t : Environment). EditsVariable old t v)
-    (sym (same_accepted (with_value old v x) new k)) (path_edits_variable old (with_value old v x) v
-    (set_edits old v x h).0).0
-
-pub touched_loaded : (owner : Text) (r : Record) (old new : Environment) → record_reason r ≡ None → loaded_by owner r old ≡ Ok new → Touched (variable_of r) old new
-touched_loaded owner (Set v x) old new n h = set_touched v (Some x) old new (plain_editable v (x ∷ []) n) h
-touched_loaded owner (Unset v x) old new n h = set_touched v None old new (plain_editable v (values_of x) n) h
-touched_loaded owner (Push v x) old new n h = (stack_edits_variable old new v (push_edits old new v owner x h)).0
-touched_loaded owner (Front d v xs) old new n h = (path_edits_variable old new v (add_edits old new v d xs ends.Front h)).0
-touched_loaded owner (Back d v xs) old new n h = (path_edits_variable old new v (add_edits old new v d xs ends.Back h)).0
-touched_loaded owner (Remove d v xs) old new n h = (path_edits_variable old new v (drop_edits old new v d xs h)).0
-touched_loaded owner r old new n h = same_accepted old new h
-
-pub touched_unloaded : (owner : Text) (r : Record) (old new : Environment) → is_reversible r ≡ true → record_reason r ≡ None → unloaded_by owner r old ≡ Ok new → Touched (variable_of r) old new
-touched_unloaded owner (Set v x) old new s n h = set_touched v None old new (plain_editable v (x ∷ []) n) h
-touched_unloaded owner (Unset v None) old new s n h = absurd (false≢true s)
-touched_unloaded owner (Unset v (Some x)) old new s n h = set_touched v (Some x) old new (plain_editable v (values_of (Some x)) n) h
-touched_unloaded owner (Push v x) old new s n h = (stack_edits_variable old new v (pop_edits old new v owner h)).0
-touched_unloaded owner (Front d v xs) old new s n h = (path_edits_variable old new v (drop_edits old new v d xs h)).0
-touched_unloaded owner (Back d v xs) old new s n h = (path_edits_variable old new v (drop_edits old new v d xs h)).0
-touched_unloaded owner (Remove d v xs) old new s n h = absurd (false≢true s)
-touched_unloaded owner r old new s n h = same_accepted old new h
+touched_unloaded : (owner : Text) (r : Record) (o : Option UsedVariable) → DoesBy r o → (old new : Environment) → is_reversible r ≡ true → record_reason r ≡ None
+    → unloaded_by owner r old ≡ Ok new → Touched (variable_of r) old new
+touched_unloaded owner r None d old new s n h =
+    subst (λ (v : Option Text). Touched v old new) (sym (d.nothing s).named) (same_accepted old new (sym (d.unloads owner old) ∙ h))
+touched_unloaded owner r (Some p) d old new s n h =
+    subst (λ (v : Option Text). Touched v old new) (sym (named_used r p d)) (edits_used owner r p d old new n h)
 
 -- loading or unloading
 pub data Side : Mode → Type 0 where
@@ -86,7 +50,7 @@ pub data Side : Mode → Type 0 where
 
 pub touched : (mode : Mode) (side : Side mode) (owner : Text) (r : Record) (old new : Environment) → is_reversible r ≡ true → effect mode owner r old ≡ Ok new → Touched (variable_of r) old new
 touched mode loads owner r old new s h = let p = effect_edits load owner r old new h in touched_loaded owner r old new p.0 p.1
-touched mode unloads owner r old new s h = let p = effect_edits unload owner r old new h in touched_unloaded owner r old new s p.0 p.1
+touched mode unloads owner r old new s h = let p = effect_edits unload owner r old new h in touched_unloaded owner r (use_by r) (does r) old new s p.0 p.1
 
 -- whether it is that variable
 abbrev pub is_named : Text → Option Text → Bool
@@ -109,19 +73,13 @@ kept_rest None old new q t h = ap (λ (e : Environment). lookup e q) t
 kept_rest (Some v) old new q t h = rest_stays old new v q t h
 
 -- a record leaves the loaded list, in every mode
-list_unloaded : (owner : Text) (r : Record) (old new : Environment) → record_reason r ≡ None → unloaded_by owner r old ≡ Ok new → loaded_in new ≡ loaded_in old
-list_unloaded owner (Unset v None) old new n h = ap loaded_in (same_accepted old new h)
-list_unloaded owner (Remove d v xs) old new n h = ap loaded_in (same_accepted old new h)
-list_unloaded owner (Set v x) old new n h = (kept_loaded (Some v) old new (touched_unloaded owner (Set v x) old new refl n h)).list
-list_unloaded owner (Unset v (Some x)) old new n h = (kept_loaded (Some v) old new (touched_unloaded owner (Unset v (Some x)) old new refl n h)).list
-list_unloaded owner (Push v x) old new n h = (kept_loaded (Some v) old new (touched_unloaded owner (Push v x) old new refl n h)).list
-list_unloaded owner (Front d v xs) old new n h = (kept_loaded (Some v) old new (touched_unloaded owner (Front d v xs) old new refl n h)).list
-list_unloaded owner (Back d v xs) old new n h = (kept_loaded (Some v) old new (touched_unloaded owner (Back d v xs) old new refl n h)).list
-list_unloaded owner r old new n h = ap loaded_in (same_accepted old new h)
+list_unloaded : (owner : Text) (r : Record) (o : Option UsedVariable) → DoesBy r o → (old new : Environment) → record_reason r ≡ None → unloaded_by owner r old ≡ Ok new → loaded_in new ≡ loaded_in old
+list_unloaded owner r None d old new n h = ap loaded_in (same_accepted old new (sym (d.unloads owner old) ∙ h))
+list_unloaded owner r (Some p) d old new n h = (kept_loaded (Some p.0) old new (edits_used owner r p d old new n h)).list
 
 list_kept : (mode : Mode) (owner : Text) (r : Record) (old new : Environment) → record_reason r ≡ None → edited mode owner r old ≡ Ok new → loaded_in new ≡ loaded_in old
 list_kept load owner r old new n h = (kept_loaded (variable_of r) old new (touched_loaded owner r old new n h)).list
-list_kept unload owner r old new n h = list_unloaded owner r old new n h
+list_kept unload owner r old new n h = list_unloaded owner r (use_by r) (does r) old new n h
 list_kept display owner r old new n h = ap loaded_in (same_accepted old new h)
 list_kept whatis owner r old new n h = ap loaded_in (same_accepted old new h)
 

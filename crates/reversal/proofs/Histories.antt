@@ -28,10 +28,12 @@ use Rattle.envloaded.specs.LoadedTexts.{names_variable, files_variable, conflict
 use Rattle.envloaded.specs.Loaded.{Entry, names_of, names_text, files_text, conflicts_text, prereqs_text, entries_in}
 use Rattle.envloaded.specs.Loaded.{loaded_in, with_loaded, can_be_added, with_conflicts_once, without_entry, added_to}
 use Rattle.envloaded.specs.Loaded.{added_loaded, dropped_from, dropped_loaded}
-use Rattle.modulefile.specs.Records.{Record, Set, Unset, Push, Front, Back, Remove}
+use Rattle.modulefile.specs.Records.{Record, Set, Unset, Push, Path, adds_elements}
+use Rattle.modulefile.specs.declared.records.PathEdit.{PathEdit}
+use Rattle.modulefile.specs.declared.records.PathEdit.TheVariants.{Front, Back, Remove}
 use Rattle.modulefile.specs.Judgments.{RecordReason, record_reason}
-use Rattle.modulefile.specs.Effects.{Mode, load, unload, display, whatis, edited, edit_outcome, permitted, effect}
-use Rattle.modulefile.specs.Effects.{effects, and_then}
+use Rattle.modulefile.specs.Effects.{Mode, load, unload, path_edited, edited, edit_outcome, permitted, effect, effects}
+use Rattle.modulefile.specs.Effects.{and_then}
 use Rattle.modulefile.specs.Moves.{Move, Loads, Unloads, entry_of, module_of_move, mode_of, entry_moved, moved, Fits}
 use Rattle.modulefile.specs.Moves.{MovesReach}
 
@@ -208,38 +210,45 @@ left_corresponds h name = subst (λ (o : Option (List Entry)). Corresponds (leav
 
 -- records
 
+abbrev pub path_edited_at : PathEdit → ℕ → Text → List Text → History → Option History
+path_edited_at Front delim var xs h = added_at h var delim xs ends.Front
+path_edited_at Back delim var xs h = added_at h var delim xs ends.Back
+path_edited_at Remove delim var xs h = dropped_at h var delim xs
+
+path_corresponds : (edit : PathEdit) (delim : ℕ) (var : Text) (xs : List Text) (h : History) → Corresponds (path_edited_at edit delim var xs h) (path_edited edit delim var xs (env h))
+path_corresponds Front delim var xs h = added_corresponds h var delim xs ends.Front
+path_corresponds Back delim var xs h = added_corresponds h var delim xs ends.Back
+path_corresponds Remove delim var xs h = dropped_corresponds h var delim xs
+
+undone_corresponds : (b : Bool) (delim : ℕ) (var : Text) (xs : List Text) (h : History)
+    → Corresponds (cond b (dropped_at h var delim xs) (Some h)) (cond b (dropped_path (env h) var delim xs) (Ok (env h)))
+undone_corresponds true delim var xs h = dropped_corresponds h var delim xs
+undone_corresponds false delim var xs h = refl
+
+-- Of other kinds no example has a record: what these come to isn't computed.
 abbrev pub edited_at : Mode → Text → Record → History → Option History
 edited_at load owner (Set var value) h = Some ((var, Some value) ∷ h)
 edited_at load owner (Unset var value) h = Some ((var, None) ∷ h)
 edited_at load owner (Push var value) h = pushed_at h var owner value
-edited_at load owner (Front delim var xs) h = added_at h var delim xs ends.Front
-edited_at load owner (Back delim var xs) h = added_at h var delim xs ends.Back
-edited_at load owner (Remove delim var xs) h = dropped_at h var delim xs
+edited_at load owner (Path edit delim var xs) h = path_edited_at edit delim var xs h
 edited_at unload owner (Set var value) h = Some ((var, None) ∷ h)
+edited_at unload owner (Unset var None) h = Some h
 edited_at unload owner (Unset var (Some value)) h = Some ((var, Some value) ∷ h)
 edited_at unload owner (Push var value) h = popped_at h var owner
-edited_at unload owner (Front delim var xs) h = dropped_at h var delim xs
-edited_at unload owner (Back delim var xs) h = dropped_at h var delim xs
-edited_at mode owner r h = Some h
+edited_at unload owner (Path edit delim var xs) h = cond (adds_elements edit) (dropped_at h var delim xs) (Some h)
+edited_at mode owner r h = None
 
 edited_corresponds : (mode : Mode) (owner : Text) (r : Record) (h : History) → Corresponds (edited_at mode owner r h) (edited mode owner r (env h))
 edited_corresponds load owner (Set var value) h = refl
 edited_corresponds load owner (Unset var value) h = refl
 edited_corresponds load owner (Push var value) h = pushed_corresponds h var owner value
-edited_corresponds load owner (Front delim var xs) h = added_corresponds h var delim xs ends.Front
-edited_corresponds load owner (Back delim var xs) h = added_corresponds h var delim xs ends.Back
-edited_corresponds load owner (Remove delim var xs) h = dropped_corresponds h var delim xs
-edited_corresponds load owner r h = refl
+edited_corresponds load owner (Path edit delim var xs) h = path_corresponds edit delim var xs h
 edited_corresponds unload owner (Set var value) h = refl
 edited_corresponds unload owner (Unset var None) h = refl
 edited_corresponds unload owner (Unset var (Some value)) h = refl
 edited_corresponds unload owner (Push var value) h = popped_corresponds h var owner
-edited_corresponds unload owner (Front delim var xs) h = dropped_corresponds h var delim xs
-edited_corresponds unload owner (Back delim var xs) h = dropped_corresponds h var delim xs
-edited_corresponds unload owner (Remove delim var xs) h = refl
-edited_corresponds unload owner r h = refl
-edited_corresponds display owner r h = refl
-edited_corresponds whatis owner r h = refl
+edited_corresponds unload owner (Path edit delim var xs) h = undone_corresponds (adds_elements edit) delim var xs h
+edited_corresponds mode owner r h = tt
 
 -- the same of effects and moves
 abbrev pub Corresponds2 : Option History → Result Environment RecordReason → Type 0

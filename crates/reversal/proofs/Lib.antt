@@ -1,6 +1,7 @@
 mod ModuleEntries
+pub mod RecordKinds
 pub mod Frames
-mod Uses
+pub mod Uses
 mod Loads
 mod Alike
 mod OneVariable

@@ -9,7 +9,7 @@ use Rattle.modulefile.specs.Judgments.{RecordReason}
 use Rattle.modulefile.specs.Effects.{load, unload, effects, edit_outcome, and_then}
 use Rattle.modulefile.specs.Moves.{Module, Loads, Unloads, entry_of, entry_moved, moved}
 use Rattle.reversal.specs.Laws.{IsLoad}
-use Rattle.reversal.proofs.Frames.{accepted}
+use Rattle.reversal.proofs.RecordKinds.{accepted}
 use Rattle.reversal.proofs.ModuleEntries.{added_entry}
 
 abbrev pub Outcome : Type 0

@@ -7,7 +7,8 @@ use Rattle.envvars.proofs.EnvLemmas.{lookup-set}
 use Rattle.modulefile.specs.Records.{Record, Set, Unset}
 use Rattle.modulefile.specs.Effects.{Mode, load, unload, edited, effect, effects}
 use Rattle.reversal.specs.Losses.{SetLosesValue, UnsetLosesValue, UnsetGivesAnother}
-use Rattle.reversal.proofs.Frames.{accepted, same_accepted, effect_edits}
+use Rattle.reversal.proofs.RecordKinds.{accepted, same_accepted}
+use Rattle.reversal.proofs.Frames.{effect_edits}
 use Rattle.reversal.proofs.Loads.{parts}
 
 one_edit : (mode : Mode) (owner : Text) (r : Record) (old new : Environment) → effects mode owner (r ∷ []) old ≡ Ok new → edited mode owner r old ≡ Ok new

@@ -17,7 +17,8 @@ use Rattle.envstacks.specs.StackVariables.{IsStackInOrder}
 use Rattle.envloaded.specs.LoadedTexts.{names_variable, files_variable, conflicts_variable, prereqs_variable}
 use Rattle.envloaded.specs.Loaded.{Entry, IsLoadedList, AreLoadedInOrder, names_of, names_text, files_text}
 use Rattle.envloaded.specs.Loaded.{conflicts_text, prereqs_text, with_loaded}
-use Rattle.modulefile.specs.Records.{Record, Set, Unset, Back, Remove}
+use Rattle.modulefile.specs.Records.{Record, Set, Unset, Path}
+use Rattle.modulefile.specs.declared.records.PathEdit.TheVariants.{Back, Remove}
 use Rattle.modulefile.specs.Moves.{Module, Move, Loads, Unloads}
 use Rattle.reversal.specs.VariableUses.{VariableUse, Untouched, Fixed, Pathed, Stacked}
 use Rattle.reversal.specs.Undone.{undo_of}
@@ -295,7 +296,7 @@ element_removed =
     let h : History = (codes "V", Some (codes "/a:/b")) ∷ [] in
     record {
       begins = start_at variable (Pathed colon) (env h) (nothing_listed h refl refl refl refl) (path_ordered h variable colon refl refl);
-      others = but_kind (only_use variable (Pathed colon)) (there_and_back (Remove colon variable (codes "/a" ∷ [])))
+      others = but_kind (only_use variable (Pathed colon)) (there_and_back (Path Remove colon variable (codes "/a" ∷ [])))
           ((tt, tt), (tt, tt)) ((λ v s. refl), (tt, tt)) (tt, ((_, refl), tt))
           (tt, ((λ loaded f. ap undo_in f), tt));
       lose = lose _ h (codes "V") refl refl refl;
@@ -386,7 +387,7 @@ two_delimiters =
       in_one = record {
         begins = start_at variable (Pathed colon) (env h) (nothing_listed h refl refl refl refl) (path_ordered h variable colon refl refl);
         others = but_way (only_use variable (Pathed colon))
-            (crossed (Back colon variable (codes "b" ∷ [])) (Back 59 variable (codes "c" ∷ [])))
+            (crossed (Path Back colon variable (codes "b" ∷ [])) (Path Back 59 variable (codes "c" ∷ [])))
             (refl, (refl, (tt, (tt, tt)))) ((λ v s. refl), ((λ v s. refl), (tt, (tt, tt))))
             (crossed_alive (λ v. Untouched) _ _) (crossed_alike (λ v. Untouched) _ _);
         lose = lose _ h (codes "V") refl refl refl;

@@ -26,7 +26,7 @@ use Rattle.reversal.specs.VariableUses.{VariableUse, Stacked, Suits, AllSuit}
 use Rattle.reversal.specs.Live.{push_by, last_push, with_push}
 use Rattle.reversal.proofs.Frames.{effect_edits, loads, unloads, is_named}
 use Rattle.reversal.proofs.Loads.{parts}
-use Rattle.reversal.proofs.Uses.{uses_stack, push_by_none}
+use Rattle.reversal.proofs.Uses.{uses_stack, push_by_none, other_used}
 use Rattle.reversal.proofs.OneVariable.{by_test, pick, one_keeps}
 
 -- a stack in order where more modules are loaded
@@ -100,7 +100,7 @@ load_push uses owner w r b old new loaded base o ps h s f m q e p = by_test (is_
     subst (λ (z : Option Text). StackAt b new w loaded base (with_push owner (option_or z o) ps)) (sym u.by)
     (subst (λ (z : List (Text × Text)). StackAt b new w loaded base ((owner, u.value) ∷ z)) (other_with owner o ps q)
     (push_at b old new w owner u.value loaded base (with_push owner o ps) m (sym (u.loads owner old) ∙ (effect_edits load owner r old new e).1) p)))
-    (λ t. subst (λ (z : Option Text). StackAt b new w loaded base (with_push owner (option_or z o) ps)) (sym (push_by_none w r t))
+    (λ t. subst (λ (z : Option Text). StackAt b new w loaded base (with_push owner (option_or z o) ps)) (sym (push_by_none w r (other_used w r t)))
     (stack_kept b old new w loaded base (with_push owner o ps) (one_keeps load loads uses owner w r old new s f e t) p))
 
 or_assoc : (x y z : Option Text) → option_or x (option_or y z) ≡ option_or (option_or x y) z
@@ -137,7 +137,7 @@ unload_push uses owner w r b old new loaded base ps h s f m e p = by_test (is_na
     (λ t. let u = uses_stack uses w r h s t in
     subst (λ (z : Option Text). StackAt b new w loaded base (popped owner z ps)) (sym u.by)
     (pop_at b old new w owner loaded base ps m (sym (u.unloads owner old) ∙ (effect_edits unload owner r old new e).1) p))
-    (λ t. subst (λ (z : Option Text). StackAt b new w loaded base (popped owner z ps)) (sym (push_by_none w r t))
+    (λ t. subst (λ (z : Option Text). StackAt b new w loaded base (popped owner z ps)) (sym (push_by_none w r (other_used w r t)))
     (stack_kept b old new w loaded base ps (one_keeps unload unloads uses owner w r old new s f e t) p))
 
 popped_both : (owner : Text) (x y : Option Text) (ps : List (Text × Text)) → popped owner x (popped owner y ps) ≡ popped owner (option_or x y) ps

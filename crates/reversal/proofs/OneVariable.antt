@@ -22,10 +22,10 @@ use Rattle.modulefile.specs.Effects.{Mode, load, unload, effect, effects}
 use Rattle.reversal.specs.VariableUses.{VariableUse, Untouched, Fixed, Pathed, Suits, AllSuit}
 use Rattle.reversal.specs.Live.{set_by, last_set, adds_by, adds}
 use Rattle.reversal.specs.Starts.{HasValue}
-use Rattle.reversal.proofs.Frames.{accepted, same_accepted, effect_edits, Side, loads, unloads, touched, is_named}
-use Rattle.reversal.proofs.Frames.{kept_variable}
+use Rattle.reversal.proofs.RecordKinds.{accepted, same_accepted}
+use Rattle.reversal.proofs.Frames.{effect_edits, Side, loads, unloads, touched, is_named, kept_variable}
 use Rattle.reversal.proofs.Loads.{parts}
-use Rattle.reversal.proofs.Uses.{unnamed, uses_fixed, uses_path, set_by_none, adds_by_none}
+use Rattle.reversal.proofs.Uses.{unnamed, uses_fixed, uses_path, set_by_none, adds_by_none, other_used}
 
 -- by both results of a test
 pub by_test : (t : Bool) (P : Type 0) → (t ≡ true → P) → (t ≡ false → P) → P
@@ -73,7 +73,7 @@ load_fixed uses owner w k r b old new x h s f e v = by_test (is_named w (variabl
     (λ t. let u = uses_fixed uses w k r h s t in
     subst (λ (o : Option (Option Text)). HasValue b new w (unwrap_or o x)) (sym u.by)
     (value_set b old new w x u.value f (sym (u.loads owner old) ∙ (effect_edits load owner r old new e).1) v))
-    (λ t. subst (λ (o : Option (Option Text)). HasValue b new w (unwrap_or o x)) (sym (set_by_none w r t))
+    (λ t. subst (λ (o : Option (Option Text)). HasValue b new w (unwrap_or o x)) (sym (set_by_none w r s.0 (other_used w r t)))
     (value_kept b old new w x (one_keeps load loads uses owner w r old new s f e t) v))
 
 pub or_unwrap : (p q : Option (Option Text)) (x : Option Text) → unwrap_or (option_or p q) x ≡ unwrap_or p (unwrap_or q x)
@@ -100,7 +100,7 @@ unload_fixed uses owner w k r b old new x h s f e v = by_test (is_named w (varia
     (λ t. let u = uses_fixed uses w k r h s t in
     subst (λ (o : Option (Option Text)). HasValue b new w (pick o x k)) (sym u.by)
     (value_set b old new w x k f (sym (u.unloads owner old) ∙ (effect_edits unload owner r old new e).1) v))
-    (λ t. subst (λ (o : Option (Option Text)). HasValue b new w (pick o x k)) (sym (set_by_none w r t))
+    (λ t. subst (λ (o : Option (Option Text)). HasValue b new w (pick o x k)) (sym (set_by_none w r s.0 (other_used w r t)))
     (value_kept b old new w x (one_keeps unload unloads uses owner w r old new s f e t) v))
 
 pub same_pick : {A B : Type 0} (p q : Option A) (x y : B) → is_some p ≡ is_some q → pick p x y ≡ pick q x y
@@ -155,7 +155,8 @@ load_path uses owner w d r b old new n h s f e p = by_test (is_named w (variable
           (IsPathStartWith-add_all (path_in b w d) (path_in old w d) n u.elements u.end (path_state b w d) p.state);
       stack = (path_edits_variable old new w (add_edits old new w d u.elements u.end a)).1 ∙ p.stack;
     }))
-    (λ t. path_same b new w d n (λ x. adds_by w x r + n x) (λ x. rw (adds_by_none w x r t) (omega arith)) (path_kept b old new w d n (one_keeps load loads uses owner w r old new s f e t) p))
+    (λ t. path_same b new w d n (λ x. adds_by w x r + n x) (λ x. rw (adds_by_none w x r (other_used w r t)) (omega arith))
+    (path_kept b old new w d n (one_keeps load loads uses owner w r old new s f e t) p))
 
 pub loads_path : (uses : Text → VariableUse) (owner w : Text) (d : ℕ) (rs : List Record) (b old new : Environment) (n : Text → ℕ) → uses w ≡ Pathed d → AllSuit uses rs → is_editable w ≡ true
     → effects load owner rs old ≡ Ok new → PathAt b old w d n → PathAt b new w d (λ x. adds w x rs + n x)
@@ -178,7 +179,7 @@ unload_path uses owner w d r b old new n h s f e p = by_test (is_named w (variab
           (IsPathStartWith-drop_all (path_in b w d) (path_in old w d) (λ x. count_by (bytes_eq x) u.elements + n x) u.elements (path_state b w d) p2.state (λ x. omega arith));
       stack = (path_edits_variable old new w (drop_edits old new w d u.elements a)).1 ∙ p.stack;
     }))
-    (λ t. path_same b new w d (λ x. adds_by w x r + n x) n (λ x. rw (adds_by_none w x r t) (omega arith))
+    (λ t. path_same b new w d (λ x. adds_by w x r + n x) n (λ x. rw (adds_by_none w x r (other_used w r t)) (omega arith))
     (path_kept b old new w d (λ x. adds_by w x r + n x) (one_keeps unload unloads uses owner w r old new s f e t)
     p))
 

@@ -1,4 +1,5 @@
--- Worked examples of what is lost where one premise doesn't hold (own), each over one variable and one or two modules.
+-- Worked examples of what is lost where one premise doesn't hold (own), each over one variable or none,
+-- and one or two modules.
 use Rattle.std.specs.Prelude.{◌≡◌, ◌≢◌, true, List, [], ◌∷◌, bytes_eq, codes, if◌then◌else◌, is_some, Some, None}
 use Rattle.std.specs.FinMap as finite
 use Rattle.std.specs.List.{list_all}
@@ -6,7 +7,8 @@ use Rattle.envvars.specs.Texts.{Text}
 use Rattle.envvars.specs.Environment.{Environment, with_value}
 use Rattle.envvars.specs.Fields.{colon}
 use Rattle.envloaded.specs.Loaded.{AreLoadedInOrder}
-use Rattle.modulefile.specs.Records.{Record, Set, Unset, Push, Front, Back, Remove}
+use Rattle.modulefile.specs.Records.{Record, Set, Unset, Push, Path}
+use Rattle.modulefile.specs.declared.records.PathEdit.TheVariants.{Front, Back, Remove}
 use Rattle.modulefile.specs.Moves.{Module, Move, Loads, Unloads, MovesReach}
 use Rattle.reversal.specs.VariableUses.{VariableUse, Untouched, Fixed, Pathed, Stacked, is_reversible, AllFollowUses}
 use Rattle.reversal.specs.VariableUses.{AllSuit}
@@ -125,7 +127,7 @@ abbrev pub without_records : List Move
 without_records = Loads (first_module []) ∷ Unloads (first_module []) ∷ []
 
 abbrev pub add_front : Record
-add_front = Front colon variable (codes "/a" ∷ [])
+add_front = Path Front colon variable (codes "/a" ∷ [])
 
 abbrev pub push_value : Record
 push_value = Push variable (codes "x")
@@ -213,7 +215,7 @@ UnsetWithoutValue =
 abbrev pub ElementRemoved : Type 0
 ElementRemoved =
     LoseIrreversible of_kind (only_use variable (Pathed colon)) (held ((variable, codes "/a:/b") ∷ []))
-    (there_and_back (Remove colon variable (codes "/a" ∷ [])))
+    (there_and_back (Path Remove colon variable (codes "/a" ∷ [])))
 
 -- Records at the unload that undo something else than those of the load.
 abbrev pub OtherRecords : Type 0
@@ -249,7 +251,7 @@ AddedAndPushed =
 abbrev pub TwoDelimiters : Type 0
 TwoDelimiters =
     LoseByTwoUses (Pathed colon) (Pathed 59) (held ((variable, codes "a") ∷ []))
-    (Back colon variable (codes "b" ∷ [])) (Back 59 variable (codes "c" ∷ []))
+    (Path Back colon variable (codes "b" ∷ [])) (Path Back 59 variable (codes "c" ∷ []))
 
 -- Two live modules set one variable, and the first of them is unloaded: the other one's value is gone.
 abbrev pub SetByTwo : Type 0

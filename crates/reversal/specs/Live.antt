@@ -4,7 +4,7 @@ use Rattle.std.specs.Prelude.{ℕ, ◌+◌, List, [], ◌∷◌, ◌++◌, bytes
 use Rattle.std.specs.Option.{option_or}
 use Rattle.envvars.specs.Texts.{Text}
 use Rattle.envloaded.specs.Loaded.{Entry}
-use Rattle.modulefile.specs.Records.{Record, Set, Unset, Push, Front, Back}
+use Rattle.modulefile.specs.Records.{Record, Set, Unset, Push, added_elements}
 use Rattle.modulefile.specs.Moves.{Module, entry_of}
 
 -- What a record sets the variable to, a value or unset; none where it does neither.
@@ -23,11 +23,14 @@ abbrev pub live_set : Text → List Module → Option (Option Text)
 live_set v [] = None
 live_set v (m ∷ live) = option_or (last_set v m.records) (live_set v live)
 
+-- how often the element is among those that are added, if they are added to the variable
+abbrev pub adds_among : Text → Text → Option (Text × List Text) → ℕ
+adds_among v x None = 0
+adds_among v x (Some added) = if bytes_eq v added.0 then count_by (bytes_eq x) added.1 else 0
+
 -- how often a record adds the element to the variable
 abbrev pub adds_by : Text → Text → Record → ℕ
-adds_by v x (Front delim var xs) = if bytes_eq v var then count_by (bytes_eq x) xs else 0
-adds_by v x (Back delim var xs) = if bytes_eq v var then count_by (bytes_eq x) xs else 0
-adds_by v x r = 0
+adds_by v x r = adds_among v x (added_elements r)
 
 -- how often the records do
 abbrev pub adds : Text → Text → List Record → ℕ

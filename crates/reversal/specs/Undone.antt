@@ -1,6 +1,7 @@
 -- What an unload looks at of the records of a module (own; by what modulefile(5) says of each command in unloads).
-use Rattle.std.specs.Prelude.{◌≡◌, List, [], filter_map, Option, Some, None}
-use Rattle.modulefile.specs.Records.{Record, Set, Unset, Push, Front, Back}
+use Rattle.std.specs.Prelude.{◌≡◌, List, [], filter_map, if◌then◌else◌, Option, Some, None}
+use Rattle.modulefile.specs.Records.{Record, Set, Unset, Push, Path, adds_elements}
+use Rattle.modulefile.specs.declared.records.PathEdit.TheVariants.{Front}
 
 -- A record as its unload sees it: a variable set or pushed, of whatever value; elements added to a path, at whatever
 -- end. There is none where an unload does nothing.
@@ -8,8 +9,7 @@ abbrev pub undone_as : Record → Option Record
 undone_as (Set var value) = Some (Set var [])
 undone_as (Unset var (Some value)) = Some (Unset var (Some value))
 undone_as (Push var value) = Some (Push var [])
-undone_as (Front delim var xs) = Some (Front delim var xs)
-undone_as (Back delim var xs) = Some (Front delim var xs)
+undone_as (Path edit delim var xs) = if adds_elements edit then Some (Path Front delim var xs) else None
 undone_as r = None
 
 -- those of several, in their order

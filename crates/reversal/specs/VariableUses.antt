@@ -1,7 +1,7 @@
 -- How loads and unloads use variables, and the records that unloading undoes (own).
-use Rattle.std.specs.Prelude.{◌≡◌, ℕ, Bool, true, false, List, [], ◌∷◌, Option, Some, None}
+use Rattle.std.specs.Prelude.{◌≡◌, ℕ, Bool, true, false, List, [], ◌∷◌, if◌then◌else◌, Option, Some, None}
 use Rattle.envvars.specs.Texts.{Text}
-use Rattle.modulefile.specs.Records.{Record, Set, Unset, Push, Front, Back, Remove}
+use Rattle.modulefile.specs.Records.{Record, Set, Unset, Push, Path, Conflict, Prereq, Whatis, adds_elements}
 
 -- How a variable is used: each has one use.
 pub data VariableUse : Type 0 where
@@ -17,17 +17,34 @@ pub data VariableUse : Type 0 where
 -- The kinds of records that unloading undoes are all but two.
 abbrev pub is_reversible : Record → Bool
 is_reversible (Unset var None) = false
-is_reversible (Remove delim var xs) = false
+is_reversible (Path edit delim var xs) = adds_elements edit
 is_reversible r = true
 
--- The record follows the use of the variable that it names. Of the kinds that are not undone nothing is asked here.
+-- a variable, and a use of it
+abbrev pub UsedVariable : Type 0
+UsedVariable = Text × VariableUse
+
+-- The variable that a record uses, and how: `setenv` sets it, `unsetenv` unsets the value that it gives, and the others
+-- use it as a path with a delimiter, or as a stack. None where the record names no variable, or is of a kind that
+-- unloading doesn't undo.
+abbrev pub use_by : Record → Option UsedVariable
+use_by (Set var value) = Some (var, Fixed None)
+use_by (Unset var None) = None
+use_by (Unset var (Some value)) = Some (var, Fixed (Some value))
+use_by (Push var value) = Some (var, Stacked)
+use_by (Path edit delim var xs) = if adds_elements edit then Some (var, Pathed delim) else None
+use_by (Conflict names) = None
+use_by (Prereq names) = None
+use_by (Whatis text) = None
+
+-- this use of a variable, if it is one, is the use that the variable has
+abbrev pub IsUsedSo : (Text → VariableUse) → Option UsedVariable → Type 0
+IsUsedSo uses None = Unit {0}
+IsUsedSo uses (Some p) = uses p.0 ≡ p.1
+
+-- The record follows the use of the variable that it uses. Of the kinds that are not undone nothing is asked here.
 abbrev pub FollowsUse : (Text → VariableUse) → Record → Type 0
-FollowsUse uses (Set var value) = uses var ≡ Fixed None
-FollowsUse uses (Unset var (Some value)) = uses var ≡ Fixed (Some value)
-FollowsUse uses (Push var value) = uses var ≡ Stacked
-FollowsUse uses (Front delim var xs) = uses var ≡ Pathed delim
-FollowsUse uses (Back delim var xs) = uses var ≡ Pathed delim
-FollowsUse uses r = Unit {0}
+FollowsUse uses r = IsUsedSo uses (use_by r)
 
 -- Each record uses its variable as the variable is used by all modules.
 abbrev pub AllFollowUses : (Text → VariableUse) → List Record → Type 0

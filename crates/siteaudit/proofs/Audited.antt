@@ -4,7 +4,8 @@ use Rattle.std.specs.Prelude.{flat_map}
 use Rattle.envvars.specs.Texts.{Text, texts_in}
 use Rattle.modulefile.specs.Laws as files
 use Rattle.modulefile.specs.Moves.{Module}
-use Rattle.sitecertificate.specs.RecordUses.{UsedVariable, IsAmong, used_by_modules, is_in_step}
+use Rattle.reversal.specs.VariableUses.{UsedVariable}
+use Rattle.sitecertificate.specs.RecordUses.{IsAmong, used_by_modules, is_in_step}
 use Rattle.sitecertificate.specs.Certificates.{certified, certificate}
 use Rattle.sitecertificate.specs.UseViews.{used_view}
 use Rattle.sitelaws.specs.Sites.{Site, SiteModule, file_of, Evaluated, AreEvaluated}

@@ -1,6 +1,6 @@
 -- Directories that are put together, each once, and those of one text.
 use Rattle.std.proofs.Common.{◌≡◌, ◌⊎◌, inl, inr, ℕ, Bool, true, false, cond, not, ◌||◌, ◌==◌, List, [], ◌∷◌, ◌++◌}
-use Rattle.std.proofs.Common.{filter, refl, sym, ap, ◌∙◌, subst, append-nil, append_assoc}
+use Rattle.std.proofs.Common.{filter, refl, sym, ap, ◌∙◌, subst, append-nil, append_assoc, Option, Some, None}
 use Rattle.std.specs.Prelude.{bytes_eq, flat_map}
 use Rattle.std.specs.List.{slice_split, onto_first}
 use Rattle.std.proofs.lemmas.Bool.{false≢true}
@@ -11,9 +11,9 @@ use Rattle.envvars.proofs.TextLemmas.{same_text}
 use Rattle.envvars.proofs.FieldLemmas.{without_repeats-step, without_repeats-start}
 use Rattle.filetree.specs.Modulefiles.{colon, is_empty, directories}
 use Rattle.sitecertificate.specs.RecordUses.{IsAmong, modulepath}
-use Rattle.modulefile.specs.Records.{Record, Front, Back}
+use Rattle.modulefile.specs.Records.{added_elements}
 use Rattle.requests.specs.Steps as requests
-use Rattle.sitelaws.specs.Sites.{Site, IsDirectory, first, added, directories_by}
+use Rattle.sitelaws.specs.Sites.{Site, IsDirectory, first, added, directories_in, directories_by}
 use Rattle.sitelaws.specs.DirectorySets.{with_directories}
 use Rattle.sitecertificate.proofs.UsedLemmas.{by_cases, among_left, among_right}
 use Rattle.sitecertificate.proofs.Exact.{filtered}
@@ -129,12 +129,11 @@ by_name : (d : Text) (elements : List Text) (b : Bool) → IsAmong d (cond b (fl
 by_name d elements true a = let i = of_flat_map directories d elements a in alone_in d i.0 i.2
 by_name d elements false a = absurd a
 
-alone_by : (d : Text) (r : Record) → IsAmong d (directories_by r) → IsAlone d
-alone_by d (Front delim var elements) a = by_name d elements (bytes_eq var modulepath) a
-alone_by d (Back delim var elements) a = by_name d elements (bytes_eq var modulepath) a
-alone_by d r a = absurd a
+alone_by : (d : Text) (o : Option (Text × List Text)) → IsAmong d (directories_in o) → IsAlone d
+alone_by d None a = absurd a
+alone_by d (Some o) a = by_name d o.1 (bytes_eq o.0 modulepath) a
 
 -- so is each directory of a site
 pub is_alone : (site : Site) (d : Text) → IsDirectory site d → IsAlone d
 is_alone site d (first a) = alone_in d (requests.modulepath site.env) a
-is_alone site d (added m rs from there records a) = let i = of_flat_map directories_by d rs a in alone_by d i.0 i.2
+is_alone site d (added m rs from there records a) = let i = of_flat_map directories_by d rs a in alone_by d (added_elements i.0) i.2

@@ -13,11 +13,11 @@ use Rattle.modulerun.specs.declared.run.FileRun as code
 use Rattle.modulerun.specs.Running.{ran_view}
 use Rattle.modulefile.specs.Records.{Record}
 use Rattle.modulefile.specs.Moves.{Module}
-use Rattle.reversal.specs.VariableUses.{VariableUse, Pathed, is_reversible}
+use Rattle.reversal.specs.VariableUses.{VariableUse, Pathed, is_reversible, UsedVariable}
 use Rattle.requests.specs.Reasons.{RequestReason}
 use Rattle.requests.specs.Verdicts.{plain, asked, one_way}
 use Rattle.modules.specs.declared.refusal.Refusal.{Refusal}
-use Rattle.sitecertificate.specs.RecordUses.{UsedVariable, used_by, IsAmong, modulepath, same_use, use_alike}
+use Rattle.sitecertificate.specs.RecordUses.{used_by, IsAmong, modulepath, same_use, use_alike}
 use Rattle.sitecertificate.specs.RecordUses.{are_in_step, is_in_step}
 use Rattle.sitecertificate.specs.Certificates.{certified}
 use Rattle.sitecertificate.proofs.UsedLemmas.{by_test, by_cases}

@@ -9,9 +9,9 @@ use Rattle.std.proofs.lemmas.Iterator.Adapters.{position_from-zero}
 use Rattle.std.proofs.lemmas.List.{map-append}
 use Rattle.envvars.specs.Fields.{colon}
 use Rattle.envvars.proofs.TextLemmas.{same_text}
-use Rattle.reversal.specs.VariableUses.{VariableUse, Pathed}
+use Rattle.reversal.specs.VariableUses.{VariableUse, Pathed, UsedVariable}
 use Rattle.sitecertificate.specs.declared.uses.UsedVariable as code
-use Rattle.sitecertificate.specs.RecordUses.{UsedVariable, IsAmong, modulepath, same_use, use_alike}
+use Rattle.sitecertificate.specs.RecordUses.{IsAmong, modulepath, same_use, use_alike}
 use Rattle.sitecertificate.specs.UseViews.{use_view, used_view}
 use Rattle.sitecertificate.proofs.UsedLemmas.{by_test}
 use Rattle.siteaudit.specs.declared.standing.UnlikeUses.{UnlikeUses}

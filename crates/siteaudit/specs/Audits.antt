@@ -6,13 +6,14 @@ use Rattle.indexmap.specs.IndexSet.{insert_all}
 use Rattle.modulename.specs.ModuleName.{means}
 use Rattle.envvars.specs.Texts.{Text, texts_in}
 use Rattle.envvars.specs.Fields.{without_repeats}
+use Rattle.reversal.specs.VariableUses.{UsedVariable}
 use Rattle.filetree.specs.Causes.{because}
 use Rattle.modulefile.specs.RecordViews.{record_view}
 use Rattle.modulefile.specs.Records.{Record, conflict_names, prereq_groups}
 use Rattle.modulefile.specs.Moves.{Module}
 use Rattle.requests.specs.Reasons.{RequestReason}
 use Rattle.modules.specs.Answers.{cause_of}
-use Rattle.sitecertificate.specs.RecordUses.{UsedVariable, used_by_modules, IsAmong, is_in_step}
+use Rattle.sitecertificate.specs.RecordUses.{used_by_modules, IsAmong, is_in_step}
 use Rattle.sitecertificate.specs.Ranks.{users_alike}
 use Rattle.sitecertificate.specs.Certificates.{certificate, AgreesWith}
 use Rattle.sitecertificate.specs.UseViews.{use_view, used_view}

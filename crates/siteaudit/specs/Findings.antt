@@ -8,10 +8,10 @@ use Rattle.modulefile.specs.RecordViews.{record_view}
 use Rattle.modulerun.specs.declared.run.FileRun.{FileRun}
 use Rattle.modulefile.specs.Records.{Record}
 use Rattle.modulefile.specs.Moves.{Module}
-use Rattle.reversal.specs.VariableUses.{Pathed, is_reversible}
+use Rattle.reversal.specs.VariableUses.{Pathed, is_reversible, UsedVariable}
 use Rattle.modules.specs.MoveViews.{module_view}
 use Rattle.modules.specs.declared.refusal.Refusal.{Refusal}
-use Rattle.sitecertificate.specs.RecordUses.{UsedVariable, used_by, used_by_modules, IsAmong, modulepath, same_use}
+use Rattle.sitecertificate.specs.RecordUses.{used_by, used_by_modules, IsAmong, modulepath, same_use}
 use Rattle.sitecertificate.specs.RecordUses.{are_in_step}
 use Rattle.sitecertificate.specs.UseViews.{use_view}
 use Rattle.sitelaws.specs.Sites.{SiteModule, with_records}

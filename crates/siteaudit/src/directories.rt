@@ -1,5 +1,5 @@
 //! The directories that evaluated modules add to those of a site.
-ghost use Rattle.std.specs.Prelude.{◌≡◌, map, flat_map, Ok, OnOk, string_bytes};
+ghost use Rattle.std.specs.Prelude.{◌≡◌, map, flat_map, Some, Ok, OnOk, string_bytes};
 ghost use Rattle.filetree.specs.Modulefiles.{directories};
 ghost use Rattle.modulefile.specs.RecordViews.{record_view};
 ghost use Rattle.sitelaws.specs.Sites.{directories_in, directories_by, added_directories};
@@ -8,7 +8,7 @@ ghost use Rattle.siteaudit.specs.WalkParts.{directories_after, directories_found
 
 use crate::plain::is_plain;
 use crate::walk::Evaluation;
-use modulefile::{PathEdit, Record};
+use modulefile::Record;
 use modulerun::FileRun;
 use sitelaws::directory_set::{Directories, push_directories};
 use std::alloc::{AllocError, Global};
@@ -32,7 +32,7 @@ fn push_elements(
     elements: &[String],
 ) -> Result<(), AllocError>
     ensures { OnOk result (map string_bytes dirs.new.keys
-        ≡ with_directories (map string_bytes dirs.old.keys) (directories_in variable.now (map string_bytes elements.now))) }
+        ≡ with_directories (map string_bytes dirs.old.keys) (directories_in (Some (variable.now, map string_bytes elements.now)))) }
 {
     if variable == "MODULEPATH" {
         push_each(alloc, dirs, elements)
@@ -46,14 +46,9 @@ fn push_recorded(alloc: Global, dirs: &mut Directories, recorded: &Record) -> Re
     ensures { OnOk result (map string_bytes dirs.new.keys
         ≡ with_directories (map string_bytes dirs.old.keys) (directories_by (record_view recorded.now))) }
 {
-    match recorded {
-        Record::Path {
-            edit: PathEdit::Front | PathEdit::Back,
-            var,
-            elements,
-            ..
-        } => push_elements(alloc, dirs, var.as_str(), elements.as_slice()),
-        _ => Ok(()),
+    match recorded.added_elements() {
+        Some((variable, elements)) => push_elements(alloc, dirs, variable, elements),
+        None => Ok(()),
     }
 }
 

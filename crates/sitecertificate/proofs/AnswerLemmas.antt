@@ -10,8 +10,8 @@ use Rattle.envvars.specs.Texts.{Text}
 use Rattle.envvars.proofs.TextLemmas.{same_text}
 use Rattle.envvars.proofs.EditLemmas.{both_true, and_both}
 use Rattle.modulefile.specs.Moves.{Module}
-use Rattle.reversal.specs.VariableUses.{VariableUse}
-use Rattle.sitecertificate.specs.RecordUses.{UsedVariable, used_by, IsAmong}
+use Rattle.reversal.specs.VariableUses.{VariableUse, UsedVariable}
+use Rattle.sitecertificate.specs.RecordUses.{used_by, IsAmong}
 use Rattle.sitecertificate.specs.Clashes.{is_other, exclude, uses_clash, do_clash}
 use Rattle.sitecertificate.specs.UseViews.{use_view, used_view}
 use Rattle.sitecertificate.specs.declared.uses.UsedVariable as code

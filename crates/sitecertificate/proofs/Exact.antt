@@ -11,8 +11,8 @@ use Rattle.envvars.specs.Fields.{colon}
 use Rattle.envvars.proofs.TextLemmas.{same_text, bytes_eq-same}
 use Rattle.modulefile.specs.Records.{Record}
 use Rattle.modulefile.specs.Moves.{Module}
-use Rattle.reversal.specs.VariableUses.{VariableUse, Untouched, Fixed, Pathed, Stacked, is_reversible}
-use Rattle.sitecertificate.specs.RecordUses.{UsedVariable, used_by, IsAmong, Uses, modulepath, AreInStep, IsInStep}
+use Rattle.reversal.specs.VariableUses.{VariableUse, Untouched, Fixed, Pathed, Stacked, is_reversible, UsedVariable}
+use Rattle.sitecertificate.specs.RecordUses.{used_by, IsAmong, Uses, modulepath, AreInStep, IsInStep}
 use Rattle.sitecertificate.specs.RecordUses.{same_use, use_alike, are_in_step, is_in_step}
 use Rattle.sitecertificate.specs.Clashes.{exclude, uses_clash, Clash, do_clash}
 use Rattle.sitecertificate.proofs.UsedLemmas.{by_test, by_cases}

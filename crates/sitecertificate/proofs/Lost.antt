@@ -5,11 +5,11 @@ use Rattle.std.specs.Prelude.{bytes_eq}
 use Rattle.envvars.specs.Texts.{Text}
 use Rattle.envvars.specs.Environment.{Environment}
 use Rattle.envvars.proofs.TextLemmas.{bytes_eq-same}
-use Rattle.reversal.specs.VariableUses.{VariableUse, Untouched, Fixed, Pathed, Stacked}
+use Rattle.reversal.specs.VariableUses.{VariableUse, Untouched, Fixed, Pathed, Stacked, UsedVariable}
 use Rattle.reversal.specs.Starts.{IsStart}
 use Rattle.reversal.specs.Examples as reversal
 use Rattle.reversal.specs.Examples.{only_use, variable}
-use Rattle.sitecertificate.specs.RecordUses.{UsedVariable, IsAmong}
+use Rattle.sitecertificate.specs.RecordUses.{IsAmong}
 use Rattle.sitecertificate.specs.Certificates.{AgreesWithUse, AgreesWith}
 use Rattle.sitecertificate.specs.Examples.{LoseByDelimiters, LoseByPathAndStack, LoseBySetAndPush, LoseByUnsetAndPush}
 use Rattle.sitecertificate.specs.Examples.{LoseByBothSet, StartsAgree}

@@ -10,11 +10,11 @@ use Rattle.envstate.specs.Roles.{is_editable}
 use Rattle.envstate.specs.EnvLaws.{AreSound}
 use Rattle.envstate.proofs.StateLemmas.{list_in_order}
 use Rattle.modulefile.specs.Moves.{Module}
-use Rattle.reversal.specs.VariableUses.{VariableUse, Untouched, Fixed, Pathed, Stacked}
+use Rattle.reversal.specs.VariableUses.{VariableUse, Untouched, Fixed, Pathed, Stacked, UsedVariable}
 use Rattle.reversal.specs.Live.{entries_over}
 use Rattle.reversal.specs.Starts.{HasVariable, IsInOrder, IsStart, IsStartWith}
 use Rattle.reversal.specs.Laws.{RunsReturn}
-use Rattle.sitecertificate.specs.RecordUses.{UsedVariable, used_by, used_by_modules, first_use, uses_by}
+use Rattle.sitecertificate.specs.RecordUses.{used_by, used_by_modules, first_use, uses_by}
 use Rattle.sitecertificate.specs.Certificates.{AgreesWithUse, AgreesWith}
 use Rattle.sitecertificate.specs.Laws.{AgreeingBegins}
 use Rattle.sitecertificate.proofs.UsedLemmas.{by_cases, Unused, among_either, first_or_none}

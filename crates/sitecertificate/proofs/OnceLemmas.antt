@@ -11,7 +11,8 @@ use Rattle.std.proofs.lemmas.Grind.{flat_map-append}
 use Rattle.indexmap.specs.IndexSet.{insert_key, insert_all}
 use Rattle.envvars.proofs.TextLemmas.{same_text, bytes_eq-same}
 use Rattle.modulefile.specs.Moves.{Module}
-use Rattle.sitecertificate.specs.RecordUses.{UsedVariable, used_by, used_by_modules, same_use, IsAmong}
+use Rattle.reversal.specs.VariableUses.{UsedVariable}
+use Rattle.sitecertificate.specs.RecordUses.{used_by, used_by_modules, same_use, IsAmong}
 use Rattle.sitecertificate.proofs.UsedLemmas.{by_test, by_cases}
 use Rattle.sitecertificate.proofs.Exact.{filtered, in_filter, use_same, use_itself}
 use Rattle.sitecertificate.specs.declared.answers.Clash.{Clash}

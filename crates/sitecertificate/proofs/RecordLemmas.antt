@@ -1,54 +1,47 @@
 -- What records do to a variable, by the uses that they make of it.
-use Rattle.std.proofs.Common.{◌≡◌, Bool, true, false, cond, List, [], ◌∷◌, refl, sym, ap, ◌∙◌, arith, Option, Some}
-use Rattle.std.proofs.Common.{None, inl, inr}
-use Rattle.std.specs.Prelude.{bytes_eq, count_by, is_some}
+use Rattle.std.proofs.Common.{◌≡◌, true, false, List, [], ◌∷◌, refl, sym, ap, ◌∙◌, arith, Option, Some, None, inl, inr}
+use Rattle.std.specs.Prelude.{bytes_eq, is_some}
 use Rattle.std.specs.List.{list_all}
 use Rattle.std.specs.Option.{option_or}
 use Rattle.std.proofs.lemmas.Bool.{false≢true}
 use Rattle.envvars.specs.Texts.{Text}
 use Rattle.envvars.proofs.TextLemmas.{same_text}
 use Rattle.envvars.proofs.EditLemmas.{both_true}
-use Rattle.modulefile.specs.Records.{Record, Set, Unset, Push, Front, Back}
+use Rattle.modulefile.specs.Records.{Record}
 use Rattle.modulefile.specs.Moves.{Module}
-use Rattle.reversal.specs.VariableUses.{VariableUse, Fixed, Pathed, Stacked, is_reversible, FollowsUse, AllFollowUses}
+use Rattle.reversal.specs.VariableUses.{VariableUse, Fixed, is_reversible, IsUsedSo, AllFollowUses, UsedVariable, use_by}
 use Rattle.reversal.specs.Live.{set_by, last_set, live_set, adds_by, adds, live_adds, push_by, last_push, with_push}
 use Rattle.reversal.specs.Live.{live_pushes}
-use Rattle.sitecertificate.specs.RecordUses.{UsedVariable, use_by, used_by, used_by_modules, IsAmong, Uses}
+use Rattle.reversal.proofs.Uses.{IsOther, set_by_none, adds_by_none, push_by_none, set_used}
+use Rattle.sitecertificate.specs.RecordUses.{used_by, used_by_modules, IsAmong, Uses}
 use Rattle.sitecertificate.proofs.UsedLemmas.{by_test, among_left, among_right, used_first, used_later}
 
 -- A record follows uses that are those that it makes.
 
-follows : (u : Text → VariableUse) (r : Record) → ((v : Text) (x : VariableUse) → use_by r ≡ Some (v, x) → u v ≡ x) → FollowsUse u r
-follows u (Set var value) h = h var (Fixed None) refl
-follows u (Unset var (Some value)) h = h var (Fixed (Some value)) refl
-follows u (Push var value) h = h var Stacked refl
-follows u (Front delim var xs) h = h var (Pathed delim) refl
-follows u (Back delim var xs) h = h var (Pathed delim) refl
-follows u r h = tt
+used_so : (u : Text → VariableUse) (o : Option UsedVariable) → ((v : Text) (x : VariableUse) → o ≡ Some (v, x) → u v ≡ x) → IsUsedSo u o
+used_so u None h = tt
+used_so u (Some p) h = h p.0 p.1 refl
 
 pub all_follow : (u : Text → VariableUse) (rs : List Record) → ((v : Text) (x : VariableUse) → Uses rs v x → u v ≡ x) → AllFollowUses u rs
 all_follow u [] h = tt
-all_follow u (r ∷ rs) h = (follows u r (λ v x e. h v x (used_first (v, x) r rs e)), all_follow u rs (λ v x k. h v x (used_later (v, x) r rs k)))
+all_follow u (r ∷ rs) h = (used_so u (use_by r) (λ v x e. h v x (used_first (v, x) r rs e)), all_follow u rs (λ v x k. h v x (used_later (v, x) r rs k)))
 
 -- A record that doesn't use a variable does nothing to it.
 
-at_name : {P : Type 0} (v var : Text) (x : VariableUse) → ((y : VariableUse) → ◌≡◌ {A = Option UsedVariable} (Some (var, x)) (Some (v, y)) → ⊥) → bytes_eq v var ≡ true → P
-at_name v var x h t = absurd (h x (ap (λ (w : Text). Some (w, x)) (sym (same_text v var t))))
+other_use : (v : Text) (o : Option UsedVariable) → ((x : VariableUse) → o ≡ Some (v, x) → ⊥) → IsOther v o
+other_use v None h = tt
+other_use v (Some p) h = by_test (bytes_eq v p.0) _
+    (λ t. absurd (h p.1 (ap (λ (w : Text). Some (w, p.1)) (sym (same_text v p.0 t)))))
+    (λ t. t)
 
 no_set : (v : Text) (r : Record) → is_reversible r ≡ true → ((x : VariableUse) → use_by r ≡ Some (v, x) → ⊥) → set_by v r ≡ None
-no_set v (Set var value) k h = by_test (bytes_eq v var) _ (λ t. at_name v var (Fixed None) h t) (λ t. ap (λ (b : Bool). cond b (Some (Some value)) None) t)
-no_set v (Unset var None) k h = absurd (false≢true k)
-no_set v (Unset var (Some value)) k h = by_test (bytes_eq v var) _ (λ t. at_name v var (Fixed (Some value)) h t) (λ t. ap (λ (b : Bool). cond b (Some None) None) t)
-no_set v r k h = refl
+no_set v r k h = set_by_none v r k (other_use v (use_by r) h)
 
 no_add : (v y : Text) (r : Record) → ((x : VariableUse) → use_by r ≡ Some (v, x) → ⊥) → adds_by v y r ≡ 0
-no_add v y (Front delim var xs) h = by_test (bytes_eq v var) _ (λ t. at_name v var (Pathed delim) h t) (λ t. ap (λ (b : Bool). cond b (count_by (bytes_eq y) xs) 0) t)
-no_add v y (Back delim var xs) h = by_test (bytes_eq v var) _ (λ t. at_name v var (Pathed delim) h t) (λ t. ap (λ (b : Bool). cond b (count_by (bytes_eq y) xs) 0) t)
-no_add v y r h = refl
+no_add v y r h = adds_by_none v y r (other_use v (use_by r) h)
 
 no_push : (v : Text) (r : Record) → ((x : VariableUse) → use_by r ≡ Some (v, x) → ⊥) → push_by v r ≡ None
-no_push v (Push var value) h = by_test (bytes_eq v var) _ (λ t. at_name v var Stacked h t) (λ t. ap (λ (b : Bool). cond b (Some value) None) t)
-no_push v r h = refl
+no_push v r h = push_by_none v r (other_use v (use_by r) h)
 
 -- the same of several records
 
@@ -103,20 +96,6 @@ none_pushes v (m ∷ ms) h =
     ∙ none_pushes v ms (rest_unused v m ms h)
 
 -- What records set or unset they use so.
-
-unset : (b : Bool) (x : Option (Option Text)) → b ≡ false → is_some (cond b x None) ≡ true → ⊥
-unset true x t h = false≢true (sym t)
-unset false x t h = false≢true h
-
-set_used : (v : Text) (r : Record) → is_reversible r ≡ true → is_some (set_by v r) ≡ true → (k : Option Text) × (use_by r ≡ Some (v, Fixed k))
-set_used v (Set var value) k h = by_test (bytes_eq v var) _
-    (λ t. (None, ap (λ (w : Text). Some (w, Fixed None)) (sym (same_text v var t))))
-    (λ t. absurd (unset (bytes_eq v var) (Some (Some value)) t h))
-set_used v (Unset var None) k h = absurd (false≢true k)
-set_used v (Unset var (Some value)) k h = by_test (bytes_eq v var) _
-    (λ t. (Some value, ap (λ (w : Text). Some (w, Fixed (Some value))) (sym (same_text v var t))))
-    (λ t. absurd (unset (bytes_eq v var) (Some None) t h))
-set_used v r k h = absurd (false≢true h)
 
 later_none : (o p : Option (Option Text)) → is_some o ≡ false → is_some (option_or o p) ≡ true → is_some p ≡ true
 later_none None p h k = k

@@ -6,8 +6,8 @@ use Rattle.std.proofs.Math.Seq.{take-length}
 use Rattle.std.proofs.lemmas.List.{take_more, map-append}
 use Rattle.envvars.specs.Environment.{Environment}
 use Rattle.envloaded.specs.Loaded.{AreLoadedInOrder}
-use Rattle.reversal.specs.VariableUses.{Untouched, Fixed, Pathed, Stacked}
-use Rattle.sitecertificate.specs.RecordUses.{UsedVariable, IsAmong}
+use Rattle.reversal.specs.VariableUses.{Untouched, Fixed, Pathed, Stacked, UsedVariable}
+use Rattle.sitecertificate.specs.RecordUses.{IsAmong}
 use Rattle.sitecertificate.specs.Certificates.{AgreesWithUse, AgreesWith}
 use Rattle.sitecertificate.specs.UseViews.{used_view}
 use Rattle.sitecertificate.specs.declared.uses.UsedVariable as code

@@ -5,7 +5,8 @@ use Rattle.std.proofs.lemmas.List.Elements.{filter_map-append}
 use Rattle.std.proofs.lemmas.List.Folds.{list_any-append}
 use Rattle.envvars.specs.Texts.{Text}
 use Rattle.modulefile.specs.Records.{Record, conflicts_of, conflict_names}
-use Rattle.sitecertificate.specs.RecordUses.{use_by, used_by}
+use Rattle.reversal.specs.VariableUses.{use_by}
+use Rattle.sitecertificate.specs.RecordUses.{used_by}
 
 -- what the records of two lists use
 pub used-append : (xs ys : List Record) → used_by (xs ++ ys) ≡ used_by xs ++ used_by ys

@@ -8,8 +8,8 @@ use Rattle.envvars.specs.Texts.{Text}
 use Rattle.envvars.proofs.TextLemmas.{same_text, bytes_eq-same}
 use Rattle.modulefile.specs.Records.{Record}
 use Rattle.modulefile.specs.Moves.{Module}
-use Rattle.reversal.specs.VariableUses.{VariableUse, Untouched}
-use Rattle.sitecertificate.specs.RecordUses.{UsedVariable, use_by, used_by, used_by_modules, IsAmong, Uses, first_use}
+use Rattle.reversal.specs.VariableUses.{VariableUse, Untouched, UsedVariable, use_by}
+use Rattle.sitecertificate.specs.RecordUses.{used_by, used_by_modules, IsAmong, Uses, first_use}
 
 pub by_test : (t : Bool) (P : Type 0) → (t ≡ true → P) → (t ≡ false → P) → P
 by_test true P f g = f refl

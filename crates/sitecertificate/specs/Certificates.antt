@@ -8,8 +8,8 @@ use Rattle.envpaths.specs.PathOrder.{IsPathInOrder}
 use Rattle.envstacks.specs.StackVariables.{IsStackInOrder}
 use Rattle.envloaded.specs.Loaded.{Entry, names_of, loaded_in, AreLoadedInOrder}
 use Rattle.modulefile.specs.Moves.{Module}
-use Rattle.reversal.specs.VariableUses.{VariableUse, Untouched, Fixed, Pathed, Stacked}
-use Rattle.sitecertificate.specs.RecordUses.{UsedVariable, used_by_modules, IsAmong, IsInStep, is_in_step}
+use Rattle.reversal.specs.VariableUses.{VariableUse, Untouched, Fixed, Pathed, Stacked, UsedVariable}
+use Rattle.sitecertificate.specs.RecordUses.{used_by_modules, IsAmong, IsInStep, is_in_step}
 use Rattle.sitecertificate.specs.Clashes.{is_other, Clash, do_clash}
 use Rattle.sitecertificate.specs.Ranks.{comes_before}
 

@@ -5,8 +5,8 @@ use Rattle.envvars.specs.Environment.{Environment, lookup}
 use Rattle.envpaths.specs.PathOrder.{IsPathInOrder}
 use Rattle.envloaded.specs.Loaded.{AreLoadedInOrder}
 use Rattle.modulefile.specs.Moves.{Module}
-use Rattle.reversal.specs.VariableUses.{Fixed, Pathed, Stacked}
-use Rattle.sitecertificate.specs.RecordUses.{UsedVariable, used_by, IsAmong}
+use Rattle.reversal.specs.VariableUses.{Fixed, Pathed, Stacked, UsedVariable}
+use Rattle.sitecertificate.specs.RecordUses.{used_by, IsAmong}
 use Rattle.sitecertificate.specs.Certificates.{AgreesWithUse, IsNotLoaded}
 
 -- Why: the texts of the loaded modules aren't in order; a variable is set that a module sets, or has not the value that

@@ -1,6 +1,7 @@
 -- Uses of variables, each once (own).
 use Rattle.std.specs.Prelude.{Bool, not, ◌&&◌, List, [], ◌∷◌, filter, bytes_eq}
-use Rattle.sitecertificate.specs.RecordUses.{UsedVariable, same_use}
+use Rattle.reversal.specs.VariableUses.{UsedVariable}
+use Rattle.sitecertificate.specs.RecordUses.{same_use}
 
 -- they are one use of one variable
 abbrev pub same_used : UsedVariable → UsedVariable → Bool

@@ -4,7 +4,8 @@ use Rattle.std.specs.Prelude.{◌≡◌, true, List, [], ◌∷◌, ◌++◌, co
 use Rattle.envvars.specs.Texts.{Text}
 use Rattle.envvars.specs.Environment.{Environment, lookup}
 use Rattle.envvars.specs.Fields.{colon}
-use Rattle.modulefile.specs.Records.{Record, Set, Unset, Push, Front, Back, Remove, Conflict}
+use Rattle.modulefile.specs.Records.{Record, Set, Unset, Push, Path, Conflict}
+use Rattle.modulefile.specs.declared.records.PathEdit.TheVariants.{Front, Back, Remove}
 use Rattle.modulefile.specs.Moves.{Module, Move, Loads, Unloads, MovesReach}
 use Rattle.reversal.specs.VariableUses.{VariableUse}
 use Rattle.reversal.specs.Starts.{IsStartWith}
@@ -46,14 +47,14 @@ abbrev pub unsets : Text → Record
 unsets value = Unset variable (Some value)
 
 abbrev pub semicolon_path : Record
-semicolon_path = Back 59 variable (codes "/b" ∷ [])
+semicolon_path = Path Back 59 variable (codes "/b" ∷ [])
 
 abbrev pub conflict : Text → Record
 conflict name = Conflict (name ∷ [])
 
 -- Uses that go together. A path with one delimiter.
 abbrev pub OneDelimiter : Type 0
-OneDelimiter = BothAreCertified (first (add_front ∷ [])) (second (Back colon variable (codes "/b" ∷ []) ∷ []))
+OneDelimiter = BothAreCertified (first (add_front ∷ [])) (second (Path Back colon variable (codes "/b" ∷ []) ∷ []))
 
 -- A stack.
 abbrev pub OneStack : Type 0
@@ -165,18 +166,19 @@ ModulepathPushed = SecondIsCertified (first (Push modulepath (codes "/n") ∷ []
 
 -- or with another delimiter;
 abbrev pub ModulepathParted : Type 0
-ModulepathParted = SecondIsCertified (first (Front 59 modulepath (codes "/n" ∷ []) ∷ [])) (second (push_value ∷ []))
+ModulepathParted =
+    SecondIsCertified (first (Path Front 59 modulepath (codes "/n" ∷ []) ∷ [])) (second (push_value ∷ []))
 
 -- as a path with colons it is in step.
 abbrev pub ModulepathExtended : Type 0
 ModulepathExtended =
-    BothAreCertified (first (Front colon modulepath (codes "/n" ∷ []) ∷ []))
-    (second (Back colon modulepath (codes "/o" ∷ []) ∷ []))
+    BothAreCertified (first (Path Front colon modulepath (codes "/n" ∷ []) ∷ []))
+    (second (Path Back colon modulepath (codes "/o" ∷ []) ∷ []))
 
 -- Nor does any clash with one that has a record of a kind that unloading doesn't undo.
 abbrev pub OneWay : Type 0
 OneWay =
-    SecondIsCertified (first (sets (codes "y") ∷ Remove colon (codes "PATH") (codes "/a" ∷ []) ∷ []))
+    SecondIsCertified (first (sets (codes "y") ∷ Path Remove colon (codes "PATH") (codes "/a" ∷ []) ∷ []))
     (second (sets (codes "x") ∷ []))
 
 -- Why uses clash. The start agrees with all that the modules use, and accepted moves that load and unload them lose it.
@@ -190,7 +192,7 @@ LoseByRecords r s start = LoseTogether (first (r ∷ []) ∷ second (s ∷ []) �
 
 abbrev pub LoseByDelimiters : Type 0
 LoseByDelimiters =
-    LoseByRecords (Back colon variable (codes "b" ∷ [])) (Back 59 variable (codes "c" ∷ []))
+    LoseByRecords (Path Back colon variable (codes "b" ∷ [])) (Path Back 59 variable (codes "c" ∷ []))
     (held ((variable, codes "a") ∷ []))
 
 abbrev pub LoseByPathAndStack : Type 0

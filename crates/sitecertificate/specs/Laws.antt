@@ -10,8 +10,8 @@ use Rattle.reversal.specs.Live.{entries_over}
 use Rattle.reversal.specs.Starts.{IsInOrder, IsStart, IsStartWith}
 use Rattle.reversal.specs.Runs.{without_live, live_after, Undoes}
 use Rattle.reversal.specs.Laws.{Holds}
-use Rattle.reversal.specs.VariableUses.{VariableUse}
-use Rattle.sitecertificate.specs.RecordUses.{UsedVariable, used_by, used_by_modules, IsAmong, IsInStep, uses_by}
+use Rattle.reversal.specs.VariableUses.{VariableUse, UsedVariable}
+use Rattle.sitecertificate.specs.RecordUses.{used_by, used_by_modules, IsAmong, IsInStep, uses_by}
 use Rattle.sitecertificate.specs.Clashes.{is_other, in_conflict, in_conflict_with_entry, exclude, Clash}
 use Rattle.sitecertificate.specs.Certificates.{HasPlace, IsCertified, certified, AgreesWith, IsNotLoaded}
 use Rattle.sitecertificate.specs.Disagreements.{Disagreement, IsDisagreement}

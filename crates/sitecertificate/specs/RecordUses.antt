@@ -1,28 +1,14 @@
 -- How the records of modules use variables (own): each by itself, and those of one module together.
 use Rattle.std.specs.Prelude.{◌≡◌, ◌⊎◌, Bool, true, false, not, ◌&&◌, ◌||◌, ◌==◌, List, [], ◌∷◌, filter_map, flat_map}
-use Rattle.std.specs.Prelude.{bytes_eq, codes, if◌then◌else◌, Option, Some, None}
+use Rattle.std.specs.Prelude.{bytes_eq, codes, if◌then◌else◌}
 use Rattle.std.specs.List.{list_all}
 use Rattle.std.specs.Option.{option_eq}
 use Rattle.envvars.specs.Texts.{Text}
 use Rattle.envvars.specs.Fields.{colon}
-use Rattle.modulefile.specs.Records.{Record, Set, Unset, Push, Front, Back}
+use Rattle.modulefile.specs.Records.{Record}
 use Rattle.modulefile.specs.Moves.{Module}
-use Rattle.reversal.specs.VariableUses.{VariableUse, Untouched, Fixed, Pathed, Stacked, is_reversible}
-
--- a variable, and a use of it
-abbrev pub UsedVariable : Type 0
-UsedVariable = Text × VariableUse
-
--- The variable that a record uses, and how: `setenv` sets it, `unsetenv` unsets the value that it gives, and the others
--- use it as a path with a delimiter, or as a stack. None where the record names no variable, or is of a kind that
--- unloading doesn't undo.
-abbrev pub use_by : Record → Option UsedVariable
-use_by (Set var value) = Some (var, Fixed None)
-use_by (Unset var (Some value)) = Some (var, Fixed (Some value))
-use_by (Push var value) = Some (var, Stacked)
-use_by (Front delim var xs) = Some (var, Pathed delim)
-use_by (Back delim var xs) = Some (var, Pathed delim)
-use_by r = None
+use Rattle.reversal.specs.VariableUses.{VariableUse, Untouched, Fixed, Pathed, Stacked, is_reversible, UsedVariable}
+use Rattle.reversal.specs.VariableUses.{use_by}
 
 -- what the records use
 abbrev pub used_by : List Record → List UsedVariable

@@ -1,7 +1,6 @@
 -- The keys of uses in the code, as the definitions see them (own).
 use Rattle.std.specs.Prelude.{◌≡◌, List, map, Some, None}
-use Rattle.reversal.specs.VariableUses.{VariableUse, Fixed, Pathed, Stacked}
-use Rattle.sitecertificate.specs.RecordUses.{UsedVariable}
+use Rattle.reversal.specs.VariableUses.{VariableUse, Fixed, Pathed, Stacked, UsedVariable}
 use Rattle.sitecertificate.specs.UseViews.{used_view}
 use Rattle.sitecertificate.specs.declared.keys.UseKey.{UseKey}
 use Rattle.sitecertificate.specs.declared.keys.UseKey.TheVariants as keys

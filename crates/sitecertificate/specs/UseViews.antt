@@ -2,7 +2,6 @@
 use Rattle.std.specs.Prelude.{string_bytes}
 use Rattle.std.specs.Option.{option_map}
 use Rattle.reversal.specs.VariableUses as uses
-use Rattle.sitecertificate.specs.RecordUses as pairs
 use Rattle.sitecertificate.specs.declared.uses.VariableUse.{VariableUse}
 use Rattle.sitecertificate.specs.declared.uses.VariableUse.TheVariants as code
 use Rattle.sitecertificate.specs.declared.uses.UsedVariable.{UsedVariable}
@@ -14,5 +13,5 @@ use_view (code.Pathed delim) = uses.Pathed delim.character
 use_view code.Stacked = uses.Stacked
 
 -- a variable with its use
-abbrev pub used_view : UsedVariable → pairs.UsedVariable
+abbrev pub used_view : UsedVariable → uses.UsedVariable
 used_view p = (string_bytes p.variable, use_view p.used)

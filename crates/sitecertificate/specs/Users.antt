@@ -5,7 +5,8 @@ use Rattle.std.specs.Prelude.{None}
 use Rattle.std.specs.List.{list_any}
 use Rattle.envvars.specs.Texts.{Text}
 use Rattle.modulefile.specs.Moves.{Module}
-use Rattle.sitecertificate.specs.RecordUses.{UsedVariable, used_by, IsAmong}
+use Rattle.reversal.specs.VariableUses.{UsedVariable}
+use Rattle.sitecertificate.specs.RecordUses.{used_by, IsAmong}
 use Rattle.sitecertificate.specs.EachOnce.{each_once}
 use Rattle.sitecertificate.specs.Clashes.{is_other, exclude, uses_clash}
 

@@ -1,7 +1,7 @@
 //! What the modules use that clash with no other one, each use once.
 ghost use Rattle.std.specs.Prelude.{◌≡◌, [], List, map, IfOk, OnOk};
 ghost use Rattle.indexmap.specs.IndexSet.{insert_key, insert_all};
-ghost use Rattle.sitecertificate.specs.RecordUses as uses;
+ghost use Rattle.reversal.specs.VariableUses as variable_uses;
 ghost use Rattle.sitecertificate.specs.RecordUses.{used_by_modules};
 ghost use Rattle.sitecertificate.specs.UseViews.{used_view};
 ghost use Rattle.sitecertificate.specs.ClashAnswers.{without_clash, without_clashes};
@@ -48,7 +48,7 @@ impl<'a> UsesOnce<'a> {
 
     /// Adds a use, unless it is there.
     fn add(&mut self, alloc: Global, used: &'a UsedVariable) -> Result<(), AllocError>
-        ensures { OnOk result ((ps : List uses.UsedVariable) → HasUses self.old ps
+        ensures { OnOk result ((ps : List variable_uses.UsedVariable) → HasUses self.old ps
             → HasUses self.new (insert_key same_used ps (used_view used.entry.now))) }
     {
         if self.keys.insert(used_key(used))? {
@@ -59,7 +59,7 @@ impl<'a> UsesOnce<'a> {
 
     /// Adds uses, each unless it is there.
     fn add_all(&mut self, alloc: Global, all_used: &'a [UsedVariable]) -> Result<(), AllocError>
-        ensures { OnOk result ((ps : List uses.UsedVariable) → HasUses self.old ps
+        ensures { OnOk result ((ps : List variable_uses.UsedVariable) → HasUses self.old ps
             → HasUses self.new (insert_all same_used ps (map used_view all_used.entry.now))) }
     {
         for used in all_used {
@@ -75,7 +75,7 @@ impl<'a> UsesOnce<'a> {
         candidate: &'a UsingModule<'a>,
         answer: &Option<Clash>,
     ) -> Result<(), AllocError>
-        ensures { OnOk result ((ps : List uses.UsedVariable) → HasUses self.old ps → HasUses self.new
+        ensures { OnOk result ((ps : List variable_uses.UsedVariable) → HasUses self.old ps → HasUses self.new
             (insert_all same_used ps (used_by_modules (without_clash (module_of candidate.entry.now) answer.now)))) }
     {
         match answer {

@@ -2,6 +2,7 @@
 ghost use Rattle.std.specs.Prelude.{◌≡◌, ◌++◌, [], ◌∷◌, find, map, not, IfOk, OnOk};
 ghost use Rattle.std.specs.Option.{option_map};
 ghost use Rattle.modulefile.specs.RecordViews.{record_view};
+ghost use Rattle.reversal.specs.VariableUses as variable_uses;
 ghost use Rattle.sitecertificate.specs.RecordUses as uses;
 ghost use Rattle.sitecertificate.specs.Clashes as clashes;
 ghost use Rattle.sitecertificate.specs.UseViews.{use_view, used_view};
@@ -58,7 +59,7 @@ fn use_of(alloc: Global, variable: &str, used: VariableUse) -> Result<UsedVariab
 
 /// The variable that a record uses, and how; `None` where it names no variable, or where unloading doesn't undo it.
 fn use_by(alloc: Global, recorded: &Record) -> Result<Option<UsedVariable>, AllocError>
-    ensures { IfOk result (λ found. option_map used_view found ≡ uses.use_by (record_view recorded.now)) }
+    ensures { IfOk result (λ found. option_map used_view found ≡ variable_uses.use_by (record_view recorded.now)) }
 {
     match recorded {
         Record::Set { var, value: _ } => {

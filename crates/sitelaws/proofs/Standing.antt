@@ -14,11 +14,11 @@ use Rattle.modulefile.specs.Records.{Record}
 use Rattle.modulefile.specs.Moves.{Module}
 use Rattle.modulefile.specs.Files.{Ran}
 use Rattle.modulefile.specs.Laws as files
-use Rattle.reversal.specs.VariableUses.{VariableUse, Pathed, is_reversible}
+use Rattle.reversal.specs.VariableUses.{VariableUse, Pathed, is_reversible, UsedVariable}
 use Rattle.requests.specs.Refusals.{refused_as}
 use Rattle.requests.specs.Reasons.{RequestReason, file_refused}
 use Rattle.requests.specs.Steps.{entries_of, script_at, context_of}
-use Rattle.sitecertificate.specs.RecordUses.{UsedVariable, used_by, IsAmong, modulepath, same_use, use_alike}
+use Rattle.sitecertificate.specs.RecordUses.{used_by, IsAmong, modulepath, same_use, use_alike}
 use Rattle.sitecertificate.specs.RecordUses.{are_in_step, is_in_step, IsInStep}
 use Rattle.sitecertificate.specs.Clashes.{is_other, do_clash}
 use Rattle.sitecertificate.specs.Certificates.{certified, IsCertified}

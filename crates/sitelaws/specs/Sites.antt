@@ -10,7 +10,7 @@ use Rattle.shelltext.specs.declared.shell.Shell.TheVariants.{Sh}
 use Rattle.filetree.specs.Agreement.{Files, Listings}
 use Rattle.filetree.specs.Modulefiles.{modulefile, directories, path_of}
 use Rattle.filetree.specs.Relations.{Is, ◌>>◌}
-use Rattle.modulefile.specs.Records.{Record, Front, Back}
+use Rattle.modulefile.specs.Records.{Record, added_elements}
 use Rattle.modulefile.specs.Effects as modes
 use Rattle.modulefile.specs.Moves.{Module}
 use Rattle.modulefile.specs.Files.{Ran, RunsFile}
@@ -72,15 +72,14 @@ pub record HasPlainRecords (site : Site) (m : SiteModule) (rs : List Record) : T
 
 -- ---- directories
 
--- the directories in the elements that are added to a variable, if it is MODULEPATH
-abbrev pub directories_in : Text → List Text → List Text
-directories_in v elements = if bytes_eq v modulepath then flat_map directories elements else []
+-- the directories in the elements that are added to a variable, if any are and it is MODULEPATH
+abbrev pub directories_in : Option (Text × List Text) → List Text
+directories_in None = []
+directories_in (Some added) = if bytes_eq added.0 modulepath then flat_map directories added.1 else []
 
 -- the directories that a record adds to MODULEPATH
 abbrev pub directories_by : Record → List Text
-directories_by (Front delim var elements) = directories_in var elements
-directories_by (Back delim var elements) = directories_in var elements
-directories_by r = []
+directories_by r = directories_in (added_elements r)
 
 -- the directories that records add to it
 abbrev pub added_directories : List Record → List Text

@@ -5,7 +5,8 @@ use Rattle.envvars.specs.Environment.{lookup}
 use Rattle.envvars.specs.Changes.{NewValue, new_value_of, same_value}
 use Rattle.envloaded.specs.declared.entry.Loaded.{Loaded}
 use Rattle.envloaded.specs.LoadedEntries.{entry_view}
-use Rattle.envloaded.specs.Loaded.{loaded_changes}
+use Rattle.envloaded.specs.NeededChanges.{needed_changes}
+use Rattle.envloaded.proofs.LoadedNeeded.{needed_made}
 use Rattle.envloaded.proofs.LoadedOrder.{order_decided, unread_unordered}
 use Rattle.envloaded.proofs.order.are_loaded_in_order.Goals as goal
 
@@ -17,4 +18,5 @@ pub returns : goal.returns
 returns c =
     order_decided c.args.env.now (map entry_view c.in-Some.list.items) c.are_made.result (sym c.in_ok-list.ensures ∙ ap (option_map (λ (v : Vec Loaded Global). map entry_view v.items)) c.in-Some.is)
     (c.are_made.ensures ∙ ap (λ l. list_all (λ (d : NewValue). same_value (lookup c.args.env.now d.0) d.1) (map new_value_of l)) c.as_slice-2.ensures.value
-    ∙ ap (list_all (λ (d : NewValue). same_value (lookup c.args.env.now d.0) d.1)) (c.in_ok-changes.ensures ∙ ap (λ l. loaded_changes (map entry_view l)) c.as_slice.ensures.value))
+    ∙ ap (list_all (λ (d : NewValue). same_value (lookup c.args.env.now d.0) d.1)) (c.in_ok-changes.ensures ∙ ap (λ l. needed_changes c.args.env.now (map entry_view l)) c.as_slice.ensures.value)
+    ∙ needed_made c.args.env.now (map entry_view c.in-Some.list.items))

@@ -1,7 +1,8 @@
 use Rattle.std.proofs.Common.{rules, refl, ◌≡◌, Ok, Some, Option, map, string_bytes, sym, subst}
 use Rattle.std.proofs.lemmas.List.{length-map}
 use Rattle.modulerun.specs.declared.batch.PathBatch.{PathBatch}
-use Rattle.modulerun.specs.Batches.{path_edited, with_waiting, CanWait, MoreCanWait}
+use Rattle.modulefile.specs.Effects.{path_edited}
+use Rattle.modulerun.specs.Batches.{with_waiting, CanWait, MoreCanWait}
 use Rattle.modulerun.proofs.BatchLemmas.{waits_beside}
 use Rattle.modulerun.proofs.batch.waits.Goals as goal
 

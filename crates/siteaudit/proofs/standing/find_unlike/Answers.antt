@@ -1,5 +1,6 @@
 use Rattle.std.proofs.Common.{◌∙◌, sym, not, map}
-use Rattle.sitecertificate.specs.RecordUses.{UsedVariable, use_alike}
+use Rattle.reversal.specs.VariableUses.{UsedVariable}
+use Rattle.sitecertificate.specs.RecordUses.{use_alike}
 use Rattle.sitecertificate.specs.UseViews.{used_view}
 use Rattle.siteaudit.proofs.StandingLemmas.{found_first, found_second}
 use Rattle.siteaudit.proofs.standing.find_unlike.Goals as goal

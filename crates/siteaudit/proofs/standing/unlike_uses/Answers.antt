@@ -1,6 +1,7 @@
 use Rattle.std.proofs.Common.{◌≡◌, ◌∷◌, true, map, List, sym, subst}
 use Rattle.std.specs.List.{list_all}
-use Rattle.sitecertificate.specs.RecordUses.{UsedVariable, IsAmong, use_alike}
+use Rattle.reversal.specs.VariableUses.{UsedVariable}
+use Rattle.sitecertificate.specs.RecordUses.{IsAmong, use_alike}
 use Rattle.sitecertificate.specs.UseViews.{used_view}
 use Rattle.siteaudit.proofs.AmongLemmas.{among_map}
 use Rattle.siteaudit.proofs.StandingLemmas.{found_fails, not_found, are_unlike, item_among, suits_more}

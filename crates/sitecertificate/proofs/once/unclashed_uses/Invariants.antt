@@ -2,7 +2,7 @@ use Rattle.std.proofs.Common.{◌≡◌, List, map}
 use Rattle.std.specs.Iterator.Adapters.{zip_first, zip_second}
 use Rattle.std.specs.Slice.Iter.{iter_rest}
 use Rattle.indexmap.specs.IndexSet.{insert_all}
-use Rattle.sitecertificate.specs.RecordUses.{UsedVariable}
+use Rattle.reversal.specs.VariableUses.{UsedVariable}
 use Rattle.sitecertificate.specs.EachOnce.{same_used, each_once}
 use Rattle.sitecertificate.specs.UseKeys.{HasUses}
 use Rattle.sitecertificate.specs.UsingModules.{module_of}

@@ -1,6 +1,7 @@
 use Rattle.std.proofs.Common.{rules, tests, not}
 use Rattle.std.proofs.lemmas.Iterator.Search.{find_from_yields_List}
 use Rattle.std.proofs.lemmas.Iterator.{YieldsList-from_slice}
+use Rattle.reversal.specs.VariableUses as variable_uses
 use Rattle.sitecertificate.specs.RecordUses as uses
 use Rattle.sitecertificate.specs.declared.uses.UsedVariable.{UsedVariable}
 use Rattle.sitecertificate.specs.UseViews.{used_view}
@@ -9,7 +10,7 @@ use Rattle.sitecertificate.proofs.uses.first_unlike.Goals as goal
 
 pub returns : goal.returns
 returns c =
-    find_seen (λ (x : uses.UsedVariable). not (uses.use_alike (used_view c.args.one.now) x)) used_view c.args.all_used.now c.find.result
+    find_seen (λ (x : variable_uses.UsedVariable). not (uses.use_alike (used_view c.args.one.now) x)) used_view c.args.all_used.now c.find.result
     (find_from_yields_List (λ (x : UsedVariable). not (uses.use_alike (used_view c.args.one.now) (used_view x))) _ _
     c.find.result c.find.ensures.ran (YieldsList-from_slice c.args.all_used.now cc)
     (λ x b q k. search (rules, tests)))

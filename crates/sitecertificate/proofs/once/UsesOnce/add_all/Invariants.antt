@@ -1,6 +1,6 @@
 use Rattle.std.proofs.Common.{List, map, take}
 use Rattle.indexmap.specs.IndexSet.{insert_all}
-use Rattle.sitecertificate.specs.RecordUses.{UsedVariable}
+use Rattle.reversal.specs.VariableUses.{UsedVariable}
 use Rattle.sitecertificate.specs.UseViews.{used_view}
 use Rattle.sitecertificate.specs.EachOnce.{same_used}
 use Rattle.sitecertificate.specs.UseKeys.{HasUses}

@@ -1,7 +1,8 @@
 use Rattle.std.proofs.Common.{List, None, map, sym, ap, ◌∙◌, subst, append-nil}
 use Rattle.std.proofs.lemmas.Result.{on_ok_weaker}
 use Rattle.indexmap.specs.IndexSet.{insert_all}
-use Rattle.sitecertificate.specs.RecordUses.{UsedVariable, used_by, used_by_modules}
+use Rattle.reversal.specs.VariableUses.{UsedVariable}
+use Rattle.sitecertificate.specs.RecordUses.{used_by, used_by_modules}
 use Rattle.sitecertificate.specs.UseViews.{used_view}
 use Rattle.sitecertificate.specs.ClashAnswers.{without_clash}
 use Rattle.sitecertificate.specs.EachOnce.{same_used}
