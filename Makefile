@@ -20,7 +20,7 @@ PREFIX ?= /opt/modulecmd
 DESTDIR ?=
 CRATE ?=
 ONLY ?=
-PROGRAMS = build/bin/modulecmd build/bin/modcheck build/bin/modaudit build/bin/module
+PROGRAMS = build/bin/modulecmd build/bin/modcheck build/bin/modaudit build/bin/modport build/bin/module
 
 .PHONY: build check deps install uninstall package demo test bench clean
 

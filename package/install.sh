@@ -30,7 +30,7 @@ if test "$action" = uninstall; then
 fi
 bin=$here/bin
 sh "$here/tools/product.sh" install "${DESTDIR-}" "$prefix" "$bin/modulecmd" "$bin/modcheck" "$bin/modaudit" \
-    "$bin/module"
+    "$bin/modport" "$bin/module"
 
 # Prints the commands that load a module and unload it again, for an init file: `works` is printed where all is well.
 commands() {

@@ -413,18 +413,18 @@ def test_files_of_easybuild_that_always_load(folder):
     site.refuses("unload XZ", "'module' is left out")
 
 
-def hook_of_the_guide():
-    """The function of docs/SITES.md by which EasyBuild writes other files."""
+def hook_of_the_guide(program):
+    """The function of docs/SITES.md by which EasyBuild writes other files, with this program."""
     with open(os.path.join(TOP, "docs", "SITES.md"), encoding="utf-8") as file:
         block = re.search(r"```python\n(.*?)```", file.read(), re.DOTALL)[1]
     made = {}
-    exec(block, made)  # noqa: S102
+    exec(block.replace("/opt/modulecmd/bin/modport", program), made)  # noqa: S102
     return made["module_write_hook"]
 
 
 def test_files_of_easybuild_through_the_hook_of_the_guide(folder, built):
     site = Site(folder, of="generated/easybuild")
-    hook = hook_of_the_guide()
+    hook = hook_of_the_guide(str(built("modport")))
     bzip2 = "bzip2/1.0.8-GCCcore-12.3.0"
     for name in (CORE, ZLIB_OF_CORE, BINUTILS, bzip2):
         path = os.fsdecode(folder.at(name))

@@ -11,7 +11,7 @@ import struct
 import subprocess
 
 # The programs of the product, by the names that they are installed by, and the folder of each below the prefix.
-PRODUCT = {"modulecmd": "bin", "modcheck": "bin", "modaudit": "bin", "module": "libexec"}
+PRODUCT = {"modulecmd": "bin", "modcheck": "bin", "modaudit": "bin", "modport": "bin", "module": "libexec"}
 
 # What stands behind the name of the dynamically linked program.
 DYNAMIC = "-dynamic"

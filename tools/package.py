@@ -41,6 +41,7 @@ LINKS = {
     "/usr/share/fish/vendor_conf.d/modulecmd.fish": "../../../lib/modulecmd/init/fish",
     "/usr/bin/modaudit": "../lib/modulecmd/bin/modaudit",
     "/usr/bin/modcheck": "../lib/modulecmd/bin/modcheck",
+    "/usr/bin/modport": "../lib/modulecmd/bin/modport",
 }
 CONFFILES = ("/etc/modulecmd/modulespath",)
 

@@ -14,6 +14,7 @@ LINKS = {
     f"{PREFIX}/etc": "/etc/modulecmd",
     "/usr/bin/modaudit": "../lib/modulecmd/bin/modaudit",
     "/usr/bin/modcheck": "../lib/modulecmd/bin/modcheck",
+    "/usr/bin/modport": "../lib/modulecmd/bin/modport",
 }
 
 # How shells find it: by the alternatives of `modules.sh`, which other packages of the kind have too, and which the

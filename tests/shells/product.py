@@ -23,6 +23,7 @@ EXAMPLES = sorted(
 FILES = [
     "bin/modaudit",
     "bin/modcheck",
+    "bin/modport",
     "bin/modulecmd",
     "completion/_module",
     "completion/bash",
@@ -47,6 +48,7 @@ FILES = [
     *(f"share/examples/{name}" for name in EXAMPLES),
     "share/man/man1/modaudit.1",
     "share/man/man1/modcheck.1",
+    "share/man/man1/modport.1",
     "share/man/man1/module.1",
     "share/man/man5/modulefile.5",
 ]
@@ -193,7 +195,7 @@ def test_completion_offers_what_the_program_does():
 
 
 def test_the_pages_are_well_formed():
-    pages = [os.path.join(TOP, "man", name) for name in ("module.1", "modcheck.1", "modaudit.1", "modulefile.5")]
+    pages = [os.path.join(TOP, "man", name) for name in ("module.1", "modcheck.1", "modaudit.1", "modport.1", "modulefile.5")]
     true(shutil.which("mandoc"), "mandoc is installed")
     lint = subprocess.run(["mandoc", "-T", "lint", *pages], capture_output=True, check=False)
     # Whether the other page is installed on this machine is nothing to the page.

@@ -1,0 +1,78 @@
+//! The texts of files and paths.
+
+use crate::fault::PortFault;
+use std::alloc::{AllocError, Global};
+use std::fs;
+use std::fs::Metadata;
+use std::io::{ErrorKind, Write};
+
+/// The first bytes of each modulefile (modulefile(5)).
+const COOKIE: &[u8] = b"#%Module";
+
+/// The path of a name in a directory.
+pub(crate) fn joined(alloc: Global, dir: &str, name: &str) -> Result<String, AllocError> {
+    if dir.ends_with('/') {
+        return Ok(format!(in alloc; "{dir}{name}")?);
+    }
+    Ok(format!(in alloc; "{dir}/{name}")?)
+}
+
+/// The modulefile of these bytes; none where they don't begin as one.
+///
+/// The error: it isn't UTF-8.
+pub(crate) fn modulefile(bytes: Vec<u8>) -> Result<Option<String>, PortFault> {
+    if !bytes.as_slice().starts_with(COOKIE) {
+        return Ok(None);
+    }
+    match String::from_utf8(bytes) {
+        Ok(text) => Ok(Some(text)),
+        Err(_) => Err(PortFault::NotUtf8),
+    }
+}
+
+/// What is at the path, where symbolic links aren't followed.
+///
+/// The error: the system doesn't say.
+pub(crate) fn kind_of(rt: &HostRuntime, path: &str) -> Result<Metadata, PortFault> {
+    match fs::symlink_metadata(rt, path) {
+        Ok(found) => Ok(found),
+        Err(_) => Err(PortFault::Unreadable),
+    }
+}
+
+/// The bytes of the file at the path, which isn't opened where it is of another type.
+///
+/// The errors: no file is there; it can't be read.
+pub(crate) fn read(rt: &HostRuntime, path: &str) -> Result<Vec<u8>, PortFault> {
+    match fs::metadata(rt, path) {
+        Ok(found) if found.is_file() => {}
+        Ok(_) => return Err(PortFault::NoFile),
+        Err(e) if e.kind() == ErrorKind::NotFound => return Err(PortFault::NoFile),
+        Err(_) => return Err(PortFault::Unreadable),
+    }
+    match fs::read(rt, path) {
+        Ok(bytes) => Ok(bytes),
+        Err(_) => Err(PortFault::Unreadable),
+    }
+}
+
+/// Writes a new file, with these permissions. One that fails leaves nothing, and what is there stays.
+///
+/// The error: something is there, or it can't be written.
+pub(crate) fn write_new(
+    rt: &HostRuntime,
+    path: &str,
+    bytes: &[u8],
+    like: &Metadata,
+) -> Result<(), PortFault> {
+    let Ok(mut file) = fs::File::create_new(rt, path) else {
+        return Err(PortFault::Unwritable);
+    };
+    if file.write_all(bytes).is_err()
+        || fs::set_permissions(rt, path, like.permissions()).is_err()
+    {
+        let _ = fs::remove_file(rt, path);
+        return Err(PortFault::Unwritable);
+    }
+    Ok(())
+}

@@ -1,0 +1,245 @@
+//! The files below a directory, translated below another.
+
+use crate::fault::PortFault;
+use crate::left_out::LEFT_OUT;
+use crate::reporting::{fault_line, file_line, note_lines};
+use crate::status::Status;
+use crate::texts::{joined, kind_of, modulefile, read, write_new};
+use filetree::{DiskTree, Tree};
+use std::alloc::AllocError;
+use std::fs;
+use std::fs::{Metadata, Permissions};
+use std::io::Write;
+use std::os::unix::fs::symlink;
+use translation::translate;
+
+/// The most directories that are walked.
+const MOST_DIRECTORIES: usize = 1_000_000;
+
+/// A directory that is still to be walked.
+#[derive(Debug, Drop)]
+struct Folder {
+    /// Its path.
+    from: String,
+    /// The path that it is written to.
+    to: Option<String>,
+}
+
+/// A walk over the files below a directory.
+#[derive(Drop)]
+pub(crate) struct Walk<'r> {
+    rt: &'r HostRuntime,
+    /// Whether each line of the report is JSON.
+    json: bool,
+    /// How far what was read so far is within the profile.
+    status: Status,
+    /// The directories that are still to be walked.
+    folders: Vec<Folder>,
+    /// The directories that were made, with the permissions that they get in the end.
+    made: Vec<(String, Permissions)>,
+}
+
+/// The names in a directory, in their order.
+fn names_in(rt: &HostRuntime, path: &str) -> Result<Vec<String>, PortFault> {
+    let Ok(disk) = rt.clone() else {
+        return Err(PortFault::OutOfMemory);
+    };
+    let Some(mut names) = DiskTree::new(disk).entries(path)? else {
+        return Err(PortFault::NoDirectory);
+    };
+    names.sort()?;
+    Ok(names)
+}
+
+/// Whether a link of this target still leads to the same place of the tree that is written: it is relative, and leads
+/// to nothing above its directory.
+fn stays(target: &str) -> bool {
+    !target.starts_with('/') && target.split('/').all(|part| part != "..")
+}
+
+/// Makes the directory that is written, or takes an empty one.
+fn begin(rt: &HostRuntime, from: &str, to: &str) -> Result<(), PortFault> {
+    if fs::create_dir(rt, to).is_err() && !names_in(rt, to)?.is_empty() {
+        return Err(PortFault::NotEmpty);
+    }
+    let (Ok(from), Ok(to)) = (fs::canonicalize(rt, from), fs::canonicalize(rt, to)) else {
+        return Err(PortFault::Unreadable);
+    };
+    if to.as_path().starts_with(from.as_path()) {
+        return Err(PortFault::Inside);
+    }
+    Ok(())
+}
+
+impl<'r> Walk<'r> {
+    /// Writes a part of the report.
+    fn say(&self, lines: &[u8]) -> Result<(), PortFault> {
+        match self.rt.stdout().write_all(lines) {
+            Ok(()) => Ok(()),
+            Err(_) => Err(PortFault::WriteFailed),
+        }
+    }
+
+    /// Says what is left out of a path.
+    fn leave(&mut self, path: &str, what: &str) -> Result<(), PortFault> {
+        self.status = self.status.and(Status::Left);
+        self.say(file_line(self.rt.alloc(), self.json, path, what)?.as_slice())
+    }
+
+    /// Goes on behind a fault at a path, which is said, unless memory ran out or the report can't be written.
+    fn go_on(&mut self, path: &str, done: Result<(), PortFault>) -> Result<(), PortFault> {
+        match done {
+            Ok(()) => Ok(()),
+            Err(PortFault::OutOfMemory) => Err(PortFault::OutOfMemory),
+            Err(PortFault::WriteFailed) => Err(PortFault::WriteFailed),
+            Err(fault) => {
+                self.status = Status::Refused;
+                let line = fault_line(self.rt.alloc(), path, &fault)?;
+                let _ = self.rt.stderr().write_all(line.as_bytes());
+                Ok(())
+            }
+        }
+    }
+
+    /// Translates a file.
+    fn file(&mut self, from: &str, to: Option<&str>, found: &Metadata) -> Result<(), PortFault> {
+        let alloc = self.rt.alloc();
+        let Some(text) = modulefile(read(self.rt, from)?)? else {
+            return self.say(file_line(alloc, self.json, from, "no modulefile")?.as_slice());
+        };
+        let translation = translate(alloc, text.as_str(), &LEFT_OUT)?;
+        if let Some(to) = to {
+            write_new(self.rt, to, translation.text.as_bytes(), found)?;
+        }
+        let notes = translation.notes.as_slice();
+        self.status = self.status.and(Status::of(notes));
+        self.say(note_lines(alloc, self.json, from, notes)?.as_slice())
+    }
+
+    /// Makes a link again, where it still leads to the same place.
+    fn link(&mut self, from: &str, to: Option<&str>) -> Result<(), PortFault> {
+        let Ok(target) = fs::read_link(self.rt, from) else {
+            return Err(PortFault::Unreadable);
+        };
+        let Some(target) = target.to_str() else {
+            return Err(PortFault::NotUtf8);
+        };
+        if !stays(target) {
+            let what = format!(in self.rt.alloc(); "link to {target}")?;
+            return self.leave(from, what.as_str());
+        }
+        match to {
+            Some(to) if symlink(self.rt, target, to).is_err() => Err(PortFault::Unwritable),
+            _ => Ok(()),
+        }
+    }
+
+    /// Makes a directory, whose files are still to be translated.
+    fn folder(
+        &mut self,
+        from: String,
+        to: Option<String>,
+        found: &Metadata,
+    ) -> Result<(), PortFault> {
+        if let Some(to) = &to {
+            if fs::create_dir(self.rt, to.as_str()).is_err() {
+                return Err(PortFault::Unwritable);
+            }
+            self.made.push((to.clone()?, found.permissions()))?;
+        }
+        self.folders.push(Folder { from, to })?;
+        Ok(())
+    }
+
+    /// Does what is to be done for a path, by what is there.
+    fn entry(&mut self, from: String, to: Option<String>) -> Result<(), PortFault> {
+        let found = kind_of(self.rt, from.as_str())?;
+        let target = match &to {
+            Some(to) => Some(to.as_str()),
+            None => None,
+        };
+        if found.is_dir() {
+            self.folder(from, to, &found)
+        } else if found.is_file() {
+            self.file(from.as_str(), target, &found)
+        } else if found.is_symlink() {
+            self.link(from.as_str(), target)
+        } else {
+            self.leave(from.as_str(), "neither a file nor a directory")
+        }
+    }
+
+    /// Does what is to be done for a name in a directory.
+    fn name(&mut self, folder: &Folder, name: &str) -> Result<(), PortFault> {
+        let alloc = self.rt.alloc();
+        let from = joined(alloc, folder.from.as_str(), name)?;
+        let path = from.clone()?;
+        let to = match &folder.to {
+            Some(to) => Some(joined(alloc, to.as_str(), name)?),
+            None => None,
+        };
+        let done = self.entry(from, to);
+        self.go_on(path.as_str(), done)
+    }
+
+    /// Does what is to be done for the names in a directory.
+    fn names(&mut self, folder: &Folder) -> Result<(), PortFault> {
+        for name in names_in(self.rt, folder.from.as_str())? {
+            self.name(folder, name.as_str())?;
+        }
+        Ok(())
+    }
+
+    /// Walks the directories that are left, and those below them.
+    fn go(&mut self) -> Result<(), PortFault> {
+        for _ in 0..MOST_DIRECTORIES {
+            let Some(folder) = self.folders.pop() else {
+                break;
+            };
+            let done = self.names(&folder);
+            self.go_on(folder.from.as_str(), done)?;
+        }
+        Ok(())
+    }
+
+    /// Gives the directories that were made their permissions, those below others first.
+    fn finish(&mut self) -> Result<(), PortFault> {
+        for _ in 0..self.made.len() {
+            let Some((path, permissions)) = self.made.pop() else {
+                break;
+            };
+            if fs::set_permissions(self.rt, path.as_str(), permissions).is_err() {
+                self.go_on(path.as_str(), Err(PortFault::Unwritable))?;
+            }
+        }
+        Ok(())
+    }
+}
+
+/// Translates the files below a directory, below another where there is one, writes the report to standard output, and
+/// gives the status.
+///
+/// The errors: the directories can't be taken; memory ran out, or the report couldn't be written, in its midst. A fault
+/// at one path is said on standard error.
+pub(crate) fn walk_tree(
+    rt: &HostRuntime,
+    json: bool,
+    from: String,
+    to: Option<String>,
+) -> Result<Status, PortFault> {
+    names_in(rt, from.as_str())?;
+    if let Some(to) = &to {
+        begin(rt, from.as_str(), to.as_str())?;
+    }
+    let mut walk = Walk {
+        rt,
+        json,
+        status: Status::Within,
+        folders: Vec::new(rt.alloc()),
+        made: Vec::new(rt.alloc()),
+    };
+    walk.folders.push(Folder { from, to })?;
+    walk.go()?;
+    walk.finish()?;
+    Ok(walk.status)
+}

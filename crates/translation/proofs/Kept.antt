@@ -1,0 +1,36 @@
+-- Pieces that are joined, and kept.
+use Rattle.std.proofs.Common.{◌≡◌, ℕ, ◌-◌, List, [], ◌∷◌, ◌++◌, Some, None, ap, ◌∙◌, append-nil, take, drop, refl}
+use Rattle.std.proofs.lemmas.List.{take-append-drop}
+use Rattle.std.specs.Prelude.{flat_map}
+use Rattle.tclchars.specs.Runs.{Text}
+use Rattle.translation.specs.Places.{line_of}
+use Rattle.tclscript.specs.Tree.{Command, Word}
+use Rattle.translation.specs.Words.{words_in}
+use Rattle.translation.specs.Pieces.{Piece, pieces, pieces_of}
+use Rattle.translation.specs.Translations.{AreKept, change_of, line_at, note_of, notes_on, or_kept, written_for, written_for_all}
+use Rattle.translation.specs.TranslationViews.{note}
+use Rattle.translation.specs.declared.notes.Outcome.TheVariants.{Translated}
+
+joined_from : (start : ℕ) (words : List Word) (text : Text) (cs : List Command) → flat_map (λ (p : Piece). p.text) (pieces start words text cs) ≡ text
+joined_from start words text [] = append-nil text
+joined_from start words text (c ∷ cs) =
+    ap (λ (t : Text). take (c.offset - start) text ++ t) (joined_from c.offset (words_in c.words) (drop (c.offset - start) text) cs)
+    ∙ take-append-drop (c.offset - start) text
+
+pub joined : (text : Text) (cs : List Command) → flat_map (λ (p : Piece). p.text) (pieces_of text cs) ≡ text
+joined text cs = joined_from 0 [] text cs
+
+pub kept : (p : Piece) → change_of p ≡ None → written_for p ≡ p.text
+kept p e = ap (or_kept p.text) e
+
+all_kept : (ps : List Piece) → AreKept ps → written_for_all ps ≡ flat_map (λ (p : Piece). p.text) ps
+all_kept [] h = refl
+all_kept (p ∷ ps) h =
+    ap (λ (t : Text). t ++ written_for_all ps) (kept p h.0) ∙ ap (λ (t : Text). p.text ++ t) (all_kept ps h.1)
+
+pub unchanged : (text : Text) (cs : List Command) → AreKept (pieces_of text cs) → written_for_all (pieces_of text cs) ≡ text
+unchanged text cs h = all_kept (pieces_of text cs) h ∙ joined text cs
+
+pub noted : (names : List Text) (text change : Text) (p : Piece) → change_of p ≡ Some change
+    → notes_on names text p ≡ note (line_at text p.start) (line_of p.text) Translated ∷ []
+noted names text change p e = ap (note_of names (line_at text p.start) p.text) e

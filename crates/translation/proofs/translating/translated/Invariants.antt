@@ -1,0 +1,12 @@
+use Rattle.std.proofs.Common.{◌≡◌, map, take}
+use Rattle.translation.specs.Words.{texts}
+use Rattle.translation.specs.PieceViews.{piece_view}
+use Rattle.translation.specs.Translations.{written_for_all, notes_on_all}
+use Rattle.translation.specs.TranslationViews.{notes_view}
+use Rattle.translation.proofs.translating.translated.Given as goal
+
+abbrev pub invariant-loop-piece : goal.invariant-loop-piece
+invariant-loop-piece l = record {
+  text_is : l.draft.text.items ≡ written_for_all (map piece_view (take l.piece-index l.pieces));
+  notes_are : notes_view l.draft.notes.items ≡ notes_on_all (texts l.left_out) l.text (map piece_view (take l.piece-index l.pieces));
+}

@@ -1,0 +1,24 @@
+//! Modulefiles translated into the profile: what is written for a command that the profile says in another way.
+//! Takes memory and touches nothing else.
+#![tactic(auto)]
+
+mod conditions;
+mod forms;
+mod guards;
+mod laws;
+mod notes;
+mod pieces;
+mod places;
+mod reading_faults;
+mod report_lines;
+mod translating;
+mod translation_fault;
+mod translation_text;
+mod words;
+mod writing;
+
+pub use laws::{accounted, pieces_of_text};
+pub use notes::{Note, Outcome};
+pub use report_lines::report;
+pub use translation_fault::TranslationFault;
+pub use translation_text::{Translation, translate};

@@ -1,0 +1,228 @@
+//! A modulefile translated, piece by piece.
+ghost use Rattle.std.specs.Prelude.{◌≡◌, ◌==◌, [], ◌∷◌, ◌++◌, ◌≤◌, map, take, count_by, length, IfOk, IfErr, OnOk};
+ghost use Rattle.tclscript.specs.Faults.{IsTextFault};
+ghost use Rattle.tclscript.specs.View.{script_view};
+ghost use Rattle.translation.specs.Words.{texts, commands_in};
+ghost use Rattle.translation.specs.FormViews.{form_view};
+ghost use Rattle.translation.specs.ConditionViews.{guard_view};
+ghost use Rattle.translation.specs.PieceViews.{piece_view};
+ghost use Rattle.translation.specs.Translations as spec;
+ghost use Rattle.translation.specs.TranslationViews.{notes_view, note, AddsChange, HasTranslation, IsTranslation};
+
+use crate::forms::{Form, form_of};
+use crate::guards::{Guard, guard_of};
+use crate::notes::{Note, Outcome, left_in};
+use crate::pieces::{Piece, pieces_of};
+use crate::places::{behind_words, line_of};
+use crate::words::constants;
+use crate::writing::{push_form, push_needs};
+use std::alloc::{AllocError, Global};
+use tclchars::TextFault;
+use tclscript::{Script, parse_script};
+
+/// What is written for a modulefile so far, and what is said of its commands.
+#[derive(Debug, Drop)]
+pub(crate) struct Draft<'a> {
+    /// What is written.
+    pub text: Vec<u8>,
+    /// What is said of commands, in their order.
+    pub notes: Vec<Note<'a>>,
+}
+
+/// Adds what is written for a form of these words, and what stands behind it; false where the text has them not.
+fn push_form_for(
+    written: &mut Vec<u8>,
+    text: &[u8],
+    words: &[&[u8]],
+    form: Form,
+) -> Result<bool, AllocError>
+    ensures { AddsChange result written.old.items written.new.items
+        (spec.of_form (texts words.now) text.now (form_view form.entry)) }
+{
+    let Some(rest) = behind_words(words, text) else {
+        return Ok(false);
+    };
+    push_form(written, b"", form)?;
+    written.extend_from_slice(rest)?;
+    Ok(true)
+}
+
+/// Adds what is written for a command of these words, and what stands behind it; false where they are no form.
+fn push_words(written: &mut Vec<u8>, text: &[u8], words: &[&[u8]]) -> Result<bool, AllocError>
+    ensures { AddsChange result written.old.items written.new.items (spec.of_words text.now (texts words.now)) }
+{
+    match form_of(words) {
+        Some(form) => push_form_for(written, text, words, form),
+        None => Ok(false),
+    }
+}
+
+/// Adds what is written for the command of a piece, and what stands behind it; false where it is no form.
+fn push_command(alloc: Global, written: &mut Vec<u8>, piece: &Piece) -> Result<bool, AllocError>
+    ensures { AddsChange result written.old.items written.new.items (spec.of_command (piece_view piece.now)) }
+{
+    match constants(alloc, piece.words)? {
+        Some(words) => push_words(written, piece.text, words.as_slice()),
+        None => Ok(false),
+    }
+}
+
+/// Adds what is written for a guard, and what stands behind it; false where the text has it not.
+fn push_guard(written: &mut Vec<u8>, text: &[u8], guard: &Guard) -> Result<bool, AllocError>
+    ensures { AddsChange result written.old.items written.new.items
+        (spec.of_this_guard text.now (guard_view guard.now)) }
+{
+    let Some(rest) = behind_words(guard.spelling.as_slice(), text) else {
+        return Ok(false);
+    };
+    push_needs(written, b"", guard.needs.as_slice())?;
+    written.extend_from_slice(rest)?;
+    Ok(true)
+}
+
+/// Adds what is written for the guard of a piece, and what stands behind it; false where it is none.
+fn push_guard_of(alloc: Global, written: &mut Vec<u8>, piece: &Piece) -> Result<bool, AllocError>
+    ensures { AddsChange result written.old.items written.new.items (spec.of_guard (piece_view piece.now)) }
+{
+    match guard_of(alloc, piece.words)? {
+        Some(guard) => push_guard(written, piece.text, &guard),
+        None => Ok(false),
+    }
+}
+
+/// Adds what is written for the command of a piece, where it is another one; else false.
+#[tactic(auto, using(crate::proofs::Adding::added_first, crate::proofs::Adding::added_second))]
+fn push_change(alloc: Global, written: &mut Vec<u8>, piece: &Piece) -> Result<bool, AllocError>
+    ensures { AddsChange result written.old.items written.new.items (spec.change_of (piece_view piece.now)) }
+{
+    if push_command(alloc, written, piece)? {
+        return Ok(true);
+    }
+    push_guard_of(alloc, written, piece)
+}
+
+/// The bytes before an offset.
+fn prefix(text: &[u8], offset: usize) -> &[u8]
+    ensures { result.now ≡ take offset text.now }
+{
+    if offset < text.len() {
+        &text[..offset]
+    } else {
+        text
+    }
+}
+
+/// How many newlines a text has.
+fn newlines(text: &[u8]) -> usize
+    ensures number { result ≡ count_by (λ b. b == 10) text.now }
+    ensures within { result ≤ length text.now }
+{
+    text.iter().filter(|byte| **byte == b'\n').count()
+}
+
+/// The line, from 1, of an offset.
+fn line_at(text: &[u8], offset: usize) -> usize
+    ensures { result ≡ spec.line_at text.now offset }
+{
+    1 + newlines(prefix(text, offset))
+}
+
+impl<'a> Draft<'a> {
+    /// Adds a note on the command that a piece of a text begins with.
+    fn add_note(
+        &mut self,
+        text: &[u8],
+        piece: &Piece<'_, 'a>,
+        said: &'a [u8],
+        outcome: Outcome,
+    ) -> Result<(), AllocError>
+        ensures text { OnOk result (self.new.text.items ≡ self.old.text.items) }
+        ensures notes { OnOk result (notes_view self.new.notes.items ≡ notes_view self.old.notes.items
+            ++ (note (spec.line_at text.now piece.now.start) said.now outcome ∷ [])) }
+    {
+        let line = line_at(text, piece.start);
+        self.notes.push(Note {
+            line,
+            said,
+            outcome,
+        })?;
+        Ok(())
+    }
+
+    /// Adds a piece of a text, where these names are left out.
+    #[tactic(auto, using(crate::proofs::Adding::not_added))]
+    fn add(
+        &mut self,
+        alloc: Global,
+        text: &[u8],
+        piece: &Piece<'_, 'a>,
+        left_out: &[&str],
+    ) -> Result<(), AllocError>
+        ensures text { OnOk result (self.new.text.items
+            ≡ self.old.text.items ++ spec.written_for (piece_view piece.now)) }
+        ensures notes { OnOk result (notes_view self.new.notes.items
+            ≡ notes_view self.old.notes.items ++ spec.notes_on (texts left_out.now) text.now (piece_view piece.now)) }
+    {
+        if push_change(alloc, &mut self.text, piece)? {
+            return self.add_note(text, piece, line_of(piece.text), Outcome::Translated);
+        }
+        self.text.extend_from_slice(piece.text)?;
+        match left_in(alloc, piece.text, left_out)? {
+            Some(name) => self.add_note(text, piece, name, Outcome::Left),
+            None => Ok(()),
+        }
+    }
+}
+
+/// What is written for pieces of a text, and what is said of them.
+fn translated<'a>(
+    alloc: Global,
+    text: &'a [u8],
+    pieces: &[Piece<'_, 'a>],
+    left_out: &[&str],
+) -> Result<Draft<'a>, AllocError>
+    ensures text { IfOk result (λ t. t.text.items ≡ spec.written_for_all (map piece_view pieces.now)) }
+    ensures notes { IfOk result (λ t. notes_view t.notes.items
+        ≡ spec.notes_on_all (texts left_out.now) text.entry.now (map piece_view pieces.now)) }
+{
+    let mut draft = Draft {
+        text: Vec::new(alloc),
+        notes: Vec::new(alloc),
+    };
+    for piece in pieces {
+        draft.add(alloc, text, piece, left_out)?;
+    }
+    Ok(draft)
+}
+
+/// The text of a script translated, where these names are left out.
+fn translated_script<'a>(
+    alloc: Global,
+    text: &'a str,
+    script: &Script<&'a str>,
+    left_out: &[&str],
+) -> Result<Draft<'a>, AllocError>
+    ensures { IfOk result (λ t. IsTranslation (texts left_out.now) text.entry.now
+        (commands_in (script_view (λ piece. piece.now) script.now)) t.text.items (notes_view t.notes.items)) }
+{
+    let text = text.as_bytes();
+    let pieces = pieces_of(alloc, text, script)?;
+    translated(alloc, text, pieces.as_slice(), left_out)
+}
+
+/// What is written for a modulefile, and said of it, where commands of these names are left out.
+pub(crate) fn draft_of<'a>(
+    alloc: Global,
+    text: &'a str,
+    left_out: &[&str],
+) -> Result<Draft<'a>, TextFault>
+    ensures found { IfOk result (λ t. HasTranslation (texts left_out.now) text.entry.now t.text.items
+        (notes_view t.notes.items)) }
+    ensures fault { IfErr result (IsTextFault text.entry.now) }
+{
+    let script = parse_script(alloc, text)?;
+    match translated_script(alloc, text, &script, left_out) {
+        Ok(draft) => Ok(draft),
+        Err(_) => Err(TextFault::OutOfMemory),
+    }
+}

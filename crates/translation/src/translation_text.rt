@@ -1,0 +1,91 @@
+//! A modulefile translated: a script again.
+ghost use Rattle.std.specs.Prelude.{◌≡◌, false, IfOk, IfErr, MatchOption, string_bytes};
+ghost use Rattle.std.specs.Str.{is_utf8};
+ghost use Rattle.tclscript.specs.Faults.{IsTextFault};
+ghost use Rattle.tclscript.specs.Text.{IsWithin};
+ghost use Rattle.tclscript.specs.Tree.{Commands};
+ghost use Rattle.translation.specs.Words.{texts};
+ghost use Rattle.translation.specs.TranslationViews.{notes_view, HasTranslation, IsTranslationFault, IsWrittenFault};
+
+use crate::notes::Note;
+use crate::translating::{Draft, draft_of};
+use crate::translation_fault::TranslationFault;
+use std::alloc::Global;
+use tclchars::TextFault;
+use tclscript::parse_script;
+
+/// What is written for a modulefile, and what is said of its commands.
+#[derive(Debug, Drop)]
+pub struct Translation<'a> {
+    /// What is written.
+    pub text: String,
+    /// What is said of commands, in their order.
+    pub notes: Vec<Note<'a>>,
+}
+
+/// The text of these bytes, where they are UTF-8.
+#[tactic(auto, using(crate::proofs::Checked::no_utf8))]
+fn text_of(bytes: Vec<u8>) -> Option<String>
+    ensures { MatchOption result (is_utf8 bytes.items ≡ false) (λ text. string_bytes text ≡ bytes.items) }
+{
+    match String::from_utf8(bytes) {
+        Ok(text) => Some(text),
+        Err(_) => None,
+    }
+}
+
+/// Judges that the text is a script.
+fn judge_script(alloc: Global, text: &String) -> Result<(), TextFault>
+    ensures found { IfOk result (λ u. (s : Commands) × IsWithin (string_bytes text.now) s) }
+    ensures fault { IfErr result (IsTextFault (string_bytes text.now)) }
+{
+    match parse_script(alloc, text.as_str()) {
+        Ok(_) => Ok(()),
+        Err(fault) => Err(fault),
+    }
+}
+
+/// What is written, where it is a script.
+#[tactic(auto, using(crate::proofs::Checked::fault_of_text))]
+fn judged(alloc: Global, bytes: Vec<u8>) -> Result<String, TranslationFault>
+    ensures same { IfOk result (λ text. string_bytes text ≡ bytes.items) }
+    ensures parses { IfOk result (λ text. (s : Commands) × IsWithin (string_bytes text) s) }
+    ensures fault { IfErr result (IsWrittenFault bytes.items) }
+{
+    let Some(text) = text_of(bytes) else {
+        return Err(TranslationFault::NotUtf8);
+    };
+    match judge_script(alloc, &text) {
+        Ok(()) => Ok(text),
+        Err(fault) => Err(TranslationFault::Written(fault)),
+    }
+}
+
+/// A modulefile translated, where commands of these names are left out.
+///
+/// The errors: `Given`, it is no script; `Written`, `NotUtf8`, what would be written is none.
+#[tactic(auto, using(crate::proofs::Checked::moved, crate::proofs::Checked::fault_of_written))]
+pub fn translate<'a>(
+    alloc: Global,
+    text: &'a str,
+    left_out: &[&str],
+) -> Result<Translation<'a>, TranslationFault>
+    // What is written, and said, is what the definitions have for the pieces of the script.
+    ensures found { IfOk result (λ t. HasTranslation (texts left_out.now) text.entry.now (string_bytes t.text)
+        (notes_view t.notes.items)) }
+
+    // What is written is a script again.
+    ensures parses { IfOk result (λ t. (s : Commands) × IsWithin (string_bytes t.text) s) }
+
+    // A fault has its cause.
+    ensures fault { IfErr result (IsTranslationFault (texts left_out.now) text.entry.now) }
+{
+    let Draft { text, notes } = match draft_of(alloc, text, left_out) {
+        Ok(draft) => draft,
+        Err(fault) => return Err(TranslationFault::Given(fault)),
+    };
+    match judged(alloc, text) {
+        Ok(text) => Ok(Translation { text, notes }),
+        Err(fault) => Err(fault),
+    }
+}

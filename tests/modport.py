@@ -1,0 +1,307 @@
+"""What the built program `modport` writes for modulefiles, and what it says of them.
+
+The rows of modport.txt are typed by hand from modulefile(5) and module(1) of Environment Modules and from the templates
+of EasyBuild and Spack. A row has the lines of a modulefile behind `<`, what is written behind `>`, and what is said of
+each line, which is counted from the cookie; the status is 1 where something is left out, and else 0.
+
+What is written for the files of the two that are below generated is loaded in Environment Modules beside the files as
+they are, where that is there.
+"""
+
+import glob
+import json
+import os
+import pathlib
+import re
+import subprocess
+
+import pytest
+
+from tests.harness import HERE, NOBODY, SECONDS, evaluated, same, true
+
+COOKIE = "#%Module\n"
+ROWS = pathlib.Path(__file__).with_suffix(".txt").read_text().split("\n\n")
+
+# Where Environment Modules is installed, or what the benchmarks unpacked of it.
+TOOLS = (
+    "/usr/lib/*/modulecmd.tcl",
+    "/usr/share/Modules/libexec/modulecmd.tcl",
+    os.path.join(os.path.dirname(HERE), "build/bench/environment-modules/usr/lib/*/modulecmd.tcl"),
+)
+
+# What a tool keeps of its own.
+OWN = re.compile(rb"LOADEDMODULES|_LMFILES_|__MODULES_.*|MODULEPATH|SHLVL")
+
+NEED = re.compile(rb"(?m)^\s*prereq (\S+)")
+SAID = re.compile(r"(\d+: )(translated|left out)(: .*)")
+
+
+@pytest.fixture(scope="session")
+def program(built):
+    return built("modport")
+
+
+def parts(row):
+    """The lines of a row by their marks: a title, the modulefile, what is written and what is said."""
+    lines = row.strip("\n").split("\n")
+    assert lines[0].startswith("# "), row
+    given = [line[2:] for line in lines[1:] if line.startswith("< ")]
+    written = [line[2:] for line in lines[1:] if line.startswith("> ")]
+    said = [line for line in lines[1:] if line[:2] not in ("< ", "> ")]
+    assert all(SAID.fullmatch(line) for line in said), row
+    return lines[0][2:], given, written, said
+
+
+def text(lines):
+    return COOKIE + "".join(line + "\n" for line in lines)
+
+
+@pytest.mark.parametrize("row", ROWS, ids=lambda row: parts(row)[0])
+@pytest.mark.parametrize("source", ["FILE", "--stdin"])
+def test_rows(folder, row, source):
+    _, given, written, said = parts(row)
+    modulefile = text(given).encode()
+    path = source if source == "--stdin" else os.fsdecode(folder.file("m", modulefile))
+    done = folder.run(path, given=modulefile)
+    same(done.stdout.decode(), text(written), "what is written")
+    same(done.stderr.decode(), "".join(f"{path}:{line}\n" for line in said), "what is said")
+    same(done.returncode, int(any("left out" in line for line in said)), "status")
+
+
+@pytest.mark.parametrize("row", ROWS, ids=lambda row: parts(row)[0])
+def test_translated_twice(folder, row):
+    """What is written has nothing more to translate."""
+    _, _, written, _ = parts(row)
+    done = folder.run("--stdin", given=text(written).encode())
+    same(done.stdout.decode(), text(written), "what is written")
+
+
+def test_refused(folder):
+    """Nothing is written where the modulefile isn't there, isn't a script or isn't named."""
+    usage = "Usage: modport [--json] FILE | --stdin | --check FROM | FROM TO"
+    folder.file("latin", b"#%Module\nsetenv X caf\xe9\n")
+    os.mkfifo(folder.at("fifo"))
+    for words, given, said in (
+        (["nothing"], b"", "No such file"),
+        ([folder.at("fifo")], b"", "No such file"),
+        ([folder.modules], b"", "No such file"),
+        ([folder.at("latin")], b"", "Not UTF-8"),
+        (["--stdin"], b"#%Module\nset x {\n", "Missing close-brace at byte 15"),
+        ([], b"", usage),
+        (["--all", "a"], b"", usage),
+        (["--stdin", "a"], b"", usage),
+        (["a", "b", "c"], b"", usage),
+        (["--check"], b"", usage),
+    ):
+        done = folder.run(*words, given=given)
+        same((done.stdout, done.stderr.decode(), done.returncode), (b"", f"ERROR: {said}\n", 2), f"of {words}")
+
+
+# Trees.
+
+
+def tree(folder, files):
+    """Writes files by their names, and gives their folder and the path of another one that isn't there."""
+    for name, content in files.items():
+        folder.file(f"from/{name}", content)
+    return folder.at("from"), folder.at("to")
+
+
+def contents(path):
+    """The files and links below a folder: their bytes, or where they lead."""
+    found = {}
+    for place, _, names in os.walk(path):
+        for name in names:
+            at = os.path.join(place, name)
+            key = os.path.relpath(at, path).decode()
+            if os.path.islink(at):
+                found[key] = os.readlink(at).decode()
+            else:
+                with open(at, "rb") as file:
+                    found[key] = file.read()
+    return found
+
+
+def ends(folder, words, out, err, status):
+    done = folder.run(*words)
+    what = f"of {words}"
+    same(done.stdout.decode(), out, f"standard output {what}")
+    same(done.stderr.decode(), err, f"standard error {what}")
+    same(done.returncode, status, f"status {what}")
+
+
+def test_tree(folder):
+    """Modulefiles, default files and links are written; what is no modulefile is said."""
+    old, new = tree(
+        folder,
+        {
+            "gcc/12": COOKIE + "module load zlib\n",
+            "gcc/.version": "#%Module\nset ModulesVersion 12\n",
+            "zlib/1": COOKIE + "setenv Z 1\n",
+            "zlib/README": "read me\n",
+        },
+    )
+    os.symlink("1", os.path.join(old, b"zlib/new"))
+    at = old.decode()
+    ends(
+        folder,
+        [old, new],
+        f"{at}/zlib/README: left out: no modulefile\n{at}/gcc/12:2: translated: module load zlib\n",
+        "",
+        0,
+    )
+    same(
+        contents(new),
+        {
+            "gcc/12": b"#%Module\nprereq zlib\n",
+            "gcc/.version": b"#%Module\nset ModulesVersion 12\n",
+            "zlib/1": b"#%Module\nsetenv Z 1\n",
+            "zlib/new": "1",
+        },
+        "what is written",
+    )
+
+
+def test_check_writes_nothing(folder):
+    old, new = tree(folder, {"a/1": COOKIE + "module load b\nexec true\n"})
+    lines = f"{old.decode()}/a/1:2: translated: module load b\n{old.decode()}/a/1:3: left out: exec\n"
+    ends(folder, ["--check", old], lines, "", 1)
+    ends(folder, ["--check", old, new], lines, "", 1)
+    true(not os.path.lexists(new), "nothing is written")
+
+
+def test_json(folder):
+    """A line is an object, whatever bytes the names have."""
+    old, _ = tree(folder, {'a/"1\\': COOKIE + "if {![is-loaded b]} {\n\tmodule load b\n}\nexec true\n", "a/x": "x"})
+    done = folder.run("--check", "--json", old)
+    path = os.path.join(old, b"a").decode()
+    same(
+        [json.loads(line) for line in done.stdout.decode().splitlines()],
+        [
+            {"file": path + '/"1\\', "line": 2, "what": "if {![is-loaded b]} {", "why": "translated"},
+            {"file": path + '/"1\\', "line": 5, "what": "exec", "why": "left out"},
+            {"file": path + "/x", "what": "no modulefile", "why": "left out"},
+        ],
+        "the report",
+    )
+    same((done.stderr, done.returncode), (b"", 1), "standard error and status")
+
+
+def test_what_is_there_stays(folder):
+    """A directory with files isn't written to, and neither is one in the tree that is read."""
+    old, new = tree(folder, {"a/1": COOKIE})
+    folder.file("to/kept", "kept\n")
+    ends(folder, [old, new], "", "ERROR: Not an empty directory\n", 2)
+    same(contents(new), {"kept": b"kept\n"}, "what was there")
+    ends(folder, [old, folder.at("to/kept")], "", "ERROR: No such directory\n", 2)
+    ends(folder, [old, os.path.join(old, b"new")], "", "ERROR: In the directory that is read\n", 2)
+    ends(folder, [old, old], "", "ERROR: Not an empty directory\n", 2)
+    ends(folder, [folder.at("nothing"), folder.at("new")], "", "ERROR: No such directory\n", 2)
+    true(not os.path.lexists(folder.at("new")), "nothing is made where nothing is read")
+
+
+def test_an_empty_directory_is_taken(folder):
+    old, new = tree(folder, {"a/1": COOKIE + "setenv A 1\n"})
+    os.mkdir(new)
+    ends(folder, [old, new], "", "", 0)
+    same(contents(new), {"a/1": b"#%Module\nsetenv A 1\n"}, "what is written")
+
+
+def test_goes_on_behind_what_cant_be_done(folder):
+    """A file that isn't translated isn't written, is said, and the others are."""
+    old, new = tree(
+        folder,
+        {
+            "a/1": COOKIE + "set x {\n",
+            "a/2": b"#%Module\nsetenv X caf\xe9\n",
+            "a/3": COOKIE + "module load b\n",
+        },
+    )
+    os.mkfifo(os.path.join(old, b"a/pipe"))
+    os.symlink("/etc/passwd", os.path.join(old, b"a/out"))
+    os.symlink("../../x", os.path.join(old, b"a/up"))
+    at = old.decode() + "/a"
+    ends(
+        folder,
+        [old, new],
+        f"{at}/3:2: translated: module load b\n{at}/out: left out: link to /etc/passwd\n"
+        f"{at}/pipe: left out: neither a file nor a directory\n{at}/up: left out: link to ../../x\n",
+        f"ERROR: {at}/1: Missing close-brace at byte 15\nERROR: {at}/2: Not UTF-8\n",
+        2,
+    )
+    same(contents(new), {"a/3": b"#%Module\nprereq b\n"}, "what is written")
+
+
+def test_unreadable_files_and_permissions(folder):
+    """A file of a group stays one, and one that may not be read is said."""
+    old, new = tree(folder, {"a/1": COOKIE, "b/1": COOKIE + "setenv B 1\n"})
+    os.chmod(os.path.join(old, b"a/1"), 0o000)
+    os.chmod(os.path.join(old, b"b/1"), 0o640)
+    os.chmod(os.path.join(old, b"b"), 0o750)
+    if os.geteuid() == 0:
+        for name in (folder.modules, old, *(os.path.join(old, it) for it in (b"a", b"a/1", b"b", b"b/1"))):
+            os.chown(name, NOBODY, NOBODY)
+    done = folder.run(old, new, user=NOBODY)
+    same(done.stderr.decode(), f"ERROR: {old.decode()}/a/1: Can't be read\n", "standard error")
+    same((done.stdout, done.returncode), (b"", 2), "standard output and status")
+    same(contents(new), {"b/1": b"#%Module\nsetenv B 1\n"}, "what is written")
+    modes = [os.stat(os.path.join(new, it)).st_mode & 0o777 for it in (b"b", b"b/1")]
+    same(modes, [0o750, 0o640], "permissions")
+
+
+# What EasyBuild and Spack write.
+
+
+@pytest.mark.parametrize("name", ["easybuild", "spack"])
+def test_generated(folder, name):
+    """Each file of the two is within the profile once it is translated, and one without needs is the same."""
+    new = folder.at(name)
+    done = folder.run(os.path.join(HERE, "generated", name), new)
+    same((done.stderr, done.returncode), (b"", 0), "standard error and status")
+    true(b": left out: " not in done.stdout, "nothing is left out")
+    for path, text in contents(new).items():
+        with open(os.path.join(HERE, "generated", name, path), "rb") as file:
+            given = file.read()
+        loads = re.search(rb"(?m)^\s*(module load|depends-on)\b", given)
+        true(loads or text == given, f"{path} is written as it was")
+        true(not re.search(rb"(?m)^\s*(module load|depends-on)\b", text), f"{path} loads nothing")
+        for needed in re.findall(rb"(?m)^\s*(?:module load|depends-on) (\S+)", given):
+            true(b"prereq " + needed in text, f"{path} asks for {needed}")
+
+
+@pytest.fixture(scope="session")
+def tool():
+    """Environment Modules."""
+    for pattern in TOOLS:
+        for path in sorted(glob.glob(pattern)):
+            return path
+    return pytest.skip("Environment Modules isn't there")
+
+
+def needed(files, name, found):
+    """The modules that a translated one needs, each behind its own needs, and it."""
+    for other in NEED.findall(files[name]):
+        needed(files, other.decode(), found)
+    if name not in found:
+        found.append(name)
+    return found
+
+
+def made(tool, place, names):
+    """The variables that a tool makes of loads from a folder, but for its own."""
+    env = {b"MODULEPATH": os.fsencode(place), b"PATH": b"/usr/bin:/bin"}
+    words = [tool, "sh", "load", *names]
+    done = subprocess.run(words, env=env, capture_output=True, timeout=SECONDS, check=True)
+    true(b"ERROR" not in done.stderr, f"{words} in {place}: {done.stderr.decode()}")
+    return {name: value for name, value in evaluated(done.stdout, env).items() if not OWN.fullmatch(name)}
+
+
+@pytest.mark.parametrize("name", ["easybuild", "spack"])
+def test_generated_beside_environment_modules(folder, tool, name):
+    """A module that loads what it needs, and its translation behind its needs, make one environment."""
+    old, new = os.path.join(HERE, "generated", name), folder.at(name)
+    folder.run(old, new)
+    files = contents(new)
+    for file in files:
+        names = needed(files, file, [])
+        same(made(tool, os.fsdecode(new), names), made(tool, old, names[-1:]), f"what {file} makes")
