@@ -74,7 +74,7 @@ guard_of_two condition body = option_and_then (guard_of_condition condition) (co
 
 -- Two bodies
 
--- the same names, in the same order
+-- names without the first that is this one, where one is
 abbrev pub without_first : Text → List Text → Option (List Text)
 without_first name [] = None
 without_first name (other ∷ others) = if bytes_eq name other then Some others else None
@@ -83,6 +83,7 @@ abbrev pub holds_of : (List Text → Bool) → Option (List Text) → Bool
 holds_of p None = false
 holds_of p (Some names) = p names
 
+-- the same names, each as often, in any order
 abbrev pub are_same : List Text → List Text → Bool
 are_same [] others = is_empty others
 are_same (name ∷ names) others = holds_of (are_same names) (without_first name others)

@@ -220,7 +220,7 @@ fn without_first<'w, 'a>(name: &[u8], names: &'w [&'a [u8]]) -> Option<&'w [&'a 
     }
 }
 
-/// Whether these are the same names, in the same order.
+/// Whether these are the same names, each as often, in any order.
 fn are_same(names: &[&[u8]], others: &[&[u8]]) -> bool
     ensures { result ≡ spec.are_same (texts names.now) (texts others.now) }
 {
