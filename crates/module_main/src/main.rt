@@ -3,9 +3,11 @@
 //! Nothing stands above it; it has no clause, so it has little code.
 #![tactic(auto)]
 
+mod files;
 mod given;
 mod missing;
 
+use files::do_file_command;
 use functioncommand::{FunctionOutput, function_output};
 use given::Given;
 use message::{Message, RefusalKind};
@@ -33,6 +35,9 @@ fn main(rt: HostRuntime) -> ExitCode {
         Ok(given) => given,
         Err(refusal) => return refused(&rt, refusal.message),
     };
+    if let Some(status) = do_file_command(&rt, &given) {
+        return status;
+    }
     let working = match &given.working {
         Some(place) => Some(place.as_str()),
         None => None,

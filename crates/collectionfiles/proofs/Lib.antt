@@ -1,0 +1,5 @@
+pub mod ChangeLemmas
+pub mod EntryLemmas
+pub mod PathLemmas
+pub mod ReadLemmas
+pub mod SaveLemmas

@@ -1,0 +1,103 @@
+//! The subcommands that are about the files of collections alone: their reports go to standard error.
+
+use crate::given::Given;
+use collectionfiles::{
+    DiskStorage, FileFault, find_collection, list_collections, read_bytes, remove_collection,
+};
+use message::RefusalKind;
+use shelltext::Shell;
+use std::env;
+use std::io::Write;
+use std::process::ExitCode;
+use subcommands::{Subcommand, subcommand_of};
+
+/// What the program's name ends with where a site has it.
+const OWN_NAME: &str = "/libexec/module";
+
+/// The path of the site's own collection, by the program's name.
+fn site_collection(rt: &HostRuntime) -> Option<String> {
+    let name = env::args(rt).ok()?.next()?;
+    let prefix = name.as_str().strip_suffix(OWN_NAME)?;
+    format!(in rt.alloc(); "{prefix}/etc/initial").ok()
+}
+
+/// Why a command is refused.
+enum Refusal {
+    /// Its words don't fit it.
+    BadArguments,
+    /// This is wrong with the files.
+    Files(FileFault),
+}
+
+impl From<FileFault> for Refusal {
+    fn from(fault: FileFault) -> Refusal {
+        Refusal::Files(fault)
+    }
+}
+
+/// Reports the names of the collections.
+fn list(rt: &HostRuntime, given: &Given, words: &[String]) -> Result<(), Refusal> {
+    if !words.is_empty() {
+        return Err(Refusal::BadArguments);
+    }
+    let mut storage = DiskStorage::new(rt);
+    for name in &list_collections(rt.alloc(), &mut storage, &given.env)? {
+        let _ = eprintln!(rt; "{name}");
+    }
+    Ok(())
+}
+
+/// Reports what is in the file of a collection.
+fn show(rt: &HostRuntime, given: &Given, words: &[String]) -> Result<(), Refusal> {
+    let name = match words {
+        [] => "default",
+        [name] => name.as_str(),
+        _ => return Err(Refusal::BadArguments),
+    };
+    let mut storage = DiskStorage::new(rt);
+    let site = site_collection(rt);
+    let path = find_collection(rt.alloc(), &mut storage, &given.env, site.as_deref(), name)?;
+    let bytes = read_bytes(rt.alloc(), &mut storage, path.as_str())?;
+    let _ = eprintln!(rt; "{path}:");
+    let _ = rt.stderr().write_all(bytes.as_slice());
+    Ok(())
+}
+
+/// Removes a collection.
+fn remove(rt: &HostRuntime, given: &Given, words: &[String]) -> Result<(), Refusal> {
+    let [name] = words else {
+        return Err(Refusal::BadArguments);
+    };
+    let mut storage = DiskStorage::new(rt);
+    Ok(remove_collection(rt.alloc(), &mut storage, &given.env, name.as_str())?)
+}
+
+/// Says why a command is refused, and gives the program's status.
+fn end(rt: &HostRuntime, done: Result<(), Refusal>) -> ExitCode {
+    match done {
+        Ok(()) => return ExitCode::SUCCESS,
+        Err(Refusal::BadArguments) => {
+            let message = RefusalKind::BadArguments.plain().message;
+            let _ = eprintln!(rt; "ERROR: {message}");
+        }
+        Err(Refusal::Files(fault)) => {
+            let _ = eprintln!(rt; "ERROR: {fault}");
+        }
+    }
+    ExitCode::from(1)
+}
+
+/// Does the command, where it is about the files of collections alone, and gives the program's status.
+pub fn do_file_command(rt: &HostRuntime, given: &Given) -> Option<ExitCode> {
+    let [shell, word, words @ ..] = given.arguments.as_slice() else {
+        return None;
+    };
+    Shell::named(shell.as_str())?;
+    let done = match subcommand_of(word.as_str()) {
+        Ok(Subcommand::SaveList) => list(rt, given, words),
+        Ok(Subcommand::SaveShow) => show(rt, given, words),
+        Ok(Subcommand::SaveRemove) => remove(rt, given, words),
+        _ => return None,
+    };
+    Some(end(rt, done))
+}
