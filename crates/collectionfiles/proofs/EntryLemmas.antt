@@ -1,10 +1,10 @@
 -- Where links lead, and what is read there after a write.
 use Rattle.std.proofs.Common.{◌≡◌, ℕ, zero, suc, Bool, true, false, refl, sym, ap, ◌∙◌}
-use Rattle.std.specs.Prelude.{bytes_eq, if◌then◌else◌, Option, Some, None}
+use Rattle.std.specs.Prelude.{bytes_eq, if◌then◌else◌, IfOk, Option, Some, None, Result, Ok, Err}
 use Rattle.envvars.specs.Texts.{Text}
 use Rattle.envvars.proofs.TextLemmas.{same_text}
 use Rattle.collectionfiles.specs.Entries.{Entry, Entries, nothing, file, folder, link, other, bytes_at, bytes_at_end}
-use Rattle.collectionfiles.specs.Entries.{bytes_in, end_of, leads, led_on, max_links}
+use Rattle.collectionfiles.specs.Entries.{behind, bytes_in, end_of, leads, led_on, max_links}
 use Rattle.collectionfiles.specs.Calls.{Puts}
 use Rattle.collectionfiles.proofs.ChangeLemmas.{put_there}
 
@@ -40,3 +40,14 @@ pub bytes_written : (path end text : Text) (a b : Entries) → Puts end (file te
 bytes_written path end text a b puts led =
     ap (λ (e : Option Text). bytes_at_end b e) (leads_still max_links end text a b puts path led)
     ∙ ap (λ (x : Entry). bytes_in x) (put_there end (file text) a b puts)
+
+pub map_ok : {A E : Type 0} (r : Result A E) (P Q : A → Type 0) → ((x : A) → P x → Q x) → IfOk r P → IfOk r Q
+map_ok (Ok x) P Q f h = f x h
+map_ok (Err e) P Q f h = tt
+
+-- a path at which a link is leads where the link leads
+pub led_through : (left n : ℕ) (e : Entries) (path target next : Text) → left ≡ suc n → e path ≡ link target
+    → next ≡ behind path target → leads left e path ≡ leads n e next
+led_through left n e path target next more is to =
+    ap (λ (k : ℕ). leads k e path) more
+    ∙ (ap (λ (x : Entry). led_on (λ q. leads n e q) path x) is ∙ ap (λ (q : Text). leads n e q) (sym to))

@@ -1,4 +1,5 @@
 pub mod ChangeLemmas
+pub mod EndLemmas
 pub mod EntryLemmas
 pub mod PathLemmas
 pub mod ReadLemmas

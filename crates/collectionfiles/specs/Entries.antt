@@ -41,6 +41,10 @@ bytes_in other = None
 abbrev pub slash : ℕ
 slash = 47
 
+-- the path of a name in a folder
+abbrev pub in_folder : Text → Text → Text
+in_folder path name = path ++ slash ∷ name
+
 abbrev pub has_slash : Text → Bool
 has_slash path = list_any (λ b. b == slash) path
 

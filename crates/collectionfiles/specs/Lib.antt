@@ -7,3 +7,4 @@ pub mod Found
 pub mod Saves
 pub mod Removes
 pub mod Seen
+pub mod Prepared

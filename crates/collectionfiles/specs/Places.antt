@@ -1,9 +1,9 @@
 -- Where collections lie (module(1), FILES): in the user's folder, in that of Environment Modules, or the site's own.
-use Rattle.std.specs.Prelude.{Bool, false, List, [], ◌∷◌, ◌++◌, codes, bytes_eq, if◌then◌else◌, Option, Some, None, Result, Ok, Err}
+use Rattle.std.specs.Prelude.{Bool, false, [], codes, bytes_eq, if◌then◌else◌, Option, Some, None, Result, Ok, Err}
 use Rattle.std.specs.Option.{option_map}
 use Rattle.envvars.specs.Texts.{Text}
 use Rattle.envvars.specs.Environment.{Environment, lookup}
-use Rattle.collectionfiles.specs.Entries.{Entry, Entries, slash, is_absolute, is_there}
+use Rattle.collectionfiles.specs.Entries.{Entries, in_folder, is_absolute, is_there}
 use Rattle.collectionfiles.specs.Names.{is_collection_name}
 use Rattle.collectionfiles.specs.Faults.{FileReason, no_home, bad_name, missing}
 
@@ -11,10 +11,6 @@ use Rattle.collectionfiles.specs.Faults.{FileReason, no_home, bad_name, missing}
 pub record Folders : Type 0 where
   pub own : Text
   pub others : Option Text
-
--- the path of a name in a folder
-abbrev pub in_folder : Text → Text → Text
-in_folder path name = path ++ slash ∷ name
 
 -- the names of the folders: this program's below the settings and below the home, and that of Environment Modules
 abbrev pub own_name : Text

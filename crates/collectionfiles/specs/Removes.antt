@@ -2,9 +2,9 @@
 use Rattle.std.specs.Prelude.{◌≡◌, IfSome, Option, Result, Ok, Err}
 use Rattle.envvars.specs.Texts.{Text}
 use Rattle.envvars.specs.Environment.{Environment}
-use Rattle.collectionfiles.specs.Entries.{Entry, Entries, nothing, file, folder, link, other}
+use Rattle.collectionfiles.specs.Entries.{Entry, Entries, nothing, file, folder, link, other, in_folder}
 use Rattle.collectionfiles.specs.Calls.{AreSame, Clears}
-use Rattle.collectionfiles.specs.Places.{Folders, elsewhere, folders_for, in_folder, in_folders}
+use Rattle.collectionfiles.specs.Places.{Folders, elsewhere, folders_for, in_folders}
 use Rattle.collectionfiles.specs.Faults.{FileReason, no_file, others, reason_of}
 use Rattle.collectionfiles.specs.declared.fault.FileFault.{FileFault}
 

@@ -5,13 +5,15 @@ use Rattle.envvars.specs.Texts.{Text}
 use Rattle.envvars.specs.Environment.{Environment}
 use Rattle.collections.specs.Lines.{Kept}
 use Rattle.collections.specs.Saved.{IsSaved}
-use Rattle.collectionfiles.specs.Entries.{Entry, Entries, nothing, file, folder, link, other, end_of}
+use Rattle.collectionfiles.specs.Entries.{Entry, Entries, nothing, file, folder, link, other, end_of, in_folder}
 use Rattle.collectionfiles.specs.Calls.{AddsFolders, AreSame, Clears, Makes, Moves, Puts}
-use Rattle.collectionfiles.specs.Places.{folders_for, in_folder, in_folders}
+use Rattle.collectionfiles.specs.Places.{folders_for, in_folders}
 use Rattle.collectionfiles.specs.Faults.{FileReason, no_file, reason_of}
 use Rattle.collectionfiles.specs.Found.{kept_at}
 use Rattle.collectionfiles.specs.declared.fault.FileFault.{FileFault}
 use Rattle.collectionfiles.specs.declared.fault.FileFault.TheVariants as faults
+use Rattle.collectionfiles.specs.declared.storage.CreationFault.{CreationFault}
+use Rattle.collectionfiles.specs.declared.storage.CreationFault.TheVariants as creations
 use Rattle.collectionfiles.specs.declared.unwritten.Unwritten.{Unwritten}
 use Rattle.collectionfiles.specs.declared.unwritten.Unwritten.TheVariants as unwritten
 
@@ -65,6 +67,11 @@ abbrev pub Discards : Text → Unwritten → Entries → Entries → Type 0
 Discards path unwritten.Failed old new = Clears path old new
 Discards path unwritten.Left old new = AreSame old new
 
+-- the same where one was made before this fault
+abbrev pub Undoes : Text → CreationFault → Unwritten → Entries → Entries → Type 0
+Undoes path creations.NotMade left old new = (left ≡ unwritten.Failed) × AreSame old new
+Undoes path creations.Unfinished left old new = Discards path left old new
+
 -- the new file at the path has this text; or it isn't kept
 abbrev pub Compares : Text → Text → Result (Unit {0}) Unwritten → Entries → Entries → Type 0
 Compares path text (Ok u) old new = (old path ≡ file text) × AreSame old new
@@ -85,11 +92,21 @@ abbrev pub Replaces : Text → Text → Text → Result (Unit {0}) Unwritten →
 Replaces path end text (Ok u) old new = Puts end (file text) old new
 Replaces path end text (Err fault) old new = Leaves (left_at path fault) old new
 
+-- the file at the end has this text, and nothing else differs; or what is left
+abbrev pub WritesAt : Text → Text → Result (Unit {0}) FileFault → Entries → Entries → Type 0
+WritesAt end text (Ok u) old new = Puts end (file text) old new
+WritesAt end text (Err fault) old new = (reason_of fault ≡ None) × LeavesBy fault old new
+
 -- the file to which a path leads has this text, and nothing else differs; or there is none, or what is left
 abbrev pub Writes : Text → Text → Result (Unit {0}) FileFault → Entries → Entries → Type 0
 Writes path text (Ok u) old new = (end : Text) × (free_end old path ≡ Ok end) × Puts end (file text) old new
 Writes path text (Err fault) old new =
     IfSome (reason_of fault) (λ reason. free_end old path ≡ Err reason) × LeavesBy fault old new
+
+-- the same, once a folder is made
+abbrev pub WritesInFolder : Text → Text → Result (Unit {0}) FileFault → Entries → Entries → Type 0
+WritesInFolder path text result old new =
+    (middle : Entries) × AddsFolders old middle × Writes path text result middle new
 
 -- the end to which the user's collection of a name leads
 abbrev pub own_end : Entries → Environment → Text → Result Text FileReason

@@ -4,7 +4,7 @@ use crate::storage::{CreationFault, Seen, Storage, StorageFault};
 use std::fs::{Metadata, OpenFile, OpenOptions};
 use std::io::{ErrorKind, Read, Write};
 use std::rt::Files;
-use std::{fs, io};
+use std::{fs, io, str};
 
 /// The files of a disk. Each method asks the system a few times, and keeps nothing.
 ///
@@ -53,6 +53,23 @@ impl<R: Files + AllocGlobal + Drop> DiskStorage<R> {
         Ok(Seen::Other)
     }
 
+    /// The names in a folder, but those that aren't UTF-8.
+    fn names_in(&self, path: &str) -> io::Result<Vec<String>> {
+        let mut slashed = String::from_str(self.system.alloc(), path)?;
+        slashed.push('/')?;
+        let mut text = Vec::new(self.system.alloc());
+        self.system
+            .open_dir(slashed.as_str())?
+            .read_to_end(&mut text)?;
+        let mut names = Vec::new(self.system.alloc());
+        for name in text.as_slice().split(|byte| *byte == 0) {
+            if let Ok(name) = str::from_utf8(name) {
+                names.push(String::from_str(self.system.alloc(), name)?)?;
+            }
+        }
+        Ok(names)
+    }
+
     /// The first bytes of the file at a path, at most so many.
     fn first_bytes(&self, path: &str, most: u64) -> io::Result<Vec<u8>> {
         let file = fs::open(&self.system, path)?;
@@ -84,6 +101,14 @@ impl<R: Files + AllocGlobal + Drop> Storage for DiskStorage<R> {
 
     fn read(&mut self, path: &str, most: usize) -> Result<Vec<u8>, StorageFault> {
         Ok(self.first_bytes(path, most as u64)?)
+    }
+
+    fn names(&mut self, path: &str) -> Result<Vec<String>, StorageFault> {
+        match self.names_in(path) {
+            Ok(names) => Ok(names),
+            Err(fault) if is_absence(&fault) => Ok(Vec::new(self.system.alloc())),
+            Err(fault) => Err(StorageFault::from(fault)),
+        }
     }
 
     fn make_folder(&mut self, path: &str) -> Result<(), StorageFault> {

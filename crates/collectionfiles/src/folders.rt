@@ -2,6 +2,7 @@
 ghost use Rattle.std.specs.Prelude.{◌≡◌, IfOk, string_bytes};
 ghost use Rattle.std.specs.Option.{option_map};
 ghost use Rattle.message.specs.Answers.{Gives};
+ghost use Rattle.collectionfiles.specs.Entries as entry;
 ghost use Rattle.collectionfiles.specs.Places as places;
 ghost use Rattle.collectionfiles.specs.Faults.{reason_of};
 ghost use Rattle.collectionfiles.specs.Seen.{folders_view};
@@ -55,7 +56,7 @@ fn absolute(text: Option<&str>) -> Option<&str>
 /// The folder of Environment Modules in a home.
 fn others_in(alloc: Global, home: Option<&str>) -> Result<Option<String>, AllocError>
     ensures { IfOk result (λ others. option_map string_bytes others
-        ≡ option_map (λ path. places.in_folder path (places.others_name)) (option_map (λ h. h.now) home.entry)) }
+        ≡ option_map (λ path. entry.in_folder path places.others_name) (option_map (λ h. h.now) home.entry)) }
 {
     match home {
         None => Ok(None),

@@ -1,13 +1,12 @@
 //! Paths made of paths.
 ghost use Rattle.std.specs.Prelude.{◌≡◌, IfOk, string_bytes};
 ghost use Rattle.collectionfiles.specs.Entries as spec;
-ghost use Rattle.collectionfiles.specs.Places as places;
 
 use std::alloc::{AllocError, Global};
 
 /// The path of a name in a folder.
 pub(crate) fn in_folder(alloc: Global, folder: &str, name: &str) -> Result<String, AllocError>
-    ensures { IfOk result (λ path. string_bytes path ≡ places.in_folder folder.now name.now) }
+    ensures { IfOk result (λ path. string_bytes path ≡ spec.in_folder folder.now name.now) }
 {
     let mut path = String::from_str(alloc, folder)?;
     path.push('/')?;

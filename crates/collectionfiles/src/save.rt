@@ -1,11 +1,13 @@
 //! Saving a collection: whole, or not at all.
-ghost use Rattle.std.specs.Prelude.{◌≡◌, true, IfErr, IfOk, None, string_bytes};
+ghost use Rattle.std.specs.Prelude.{◌≡◌, true, Err, IfErr, IfOk, IfSome, None, string_bytes};
 ghost use Rattle.message.specs.Answers.{Gives};
 ghost use Rattle.collections.specs.Saved.{IsSaved};
 ghost use Rattle.collections.specs.Views.{kept_view};
 ghost use Rattle.collectionfiles.specs.Entries.{file};
 ghost use Rattle.collectionfiles.specs.Calls.{AddsFolders, Changes, InEach, Narrows};
 ghost use Rattle.collectionfiles.specs.Faults.{reason_of};
+ghost use Rattle.collectionfiles.specs.Places.{folders_for};
+ghost use Rattle.collectionfiles.specs.Prepared.{IsPrepared};
 ghost use Rattle.collectionfiles.specs.Saves as spec;
 
 use crate::fault::FileFault;
@@ -14,7 +16,7 @@ use crate::follow::{End, end_of};
 use crate::paths::{beside, in_folder};
 use crate::storage::{CreationFault, Seen, Storage};
 use crate::unwritten::Unwritten;
-use collections::{Collection, SaveFault, save_text};
+use collections::{Collection, save_text};
 use envvars::Env;
 use std::alloc::{AllocError, Global};
 
@@ -65,6 +67,16 @@ fn discard<S: Storage>(storage: &mut S, path: &str) -> Unwritten
     }
 }
 
+/// Removes the new file at the path, if one was made before this fault.
+fn undo<S: Storage>(storage: &mut S, path: &str, fault: CreationFault) -> Unwritten
+    ensures { Changes (S.agrees storage.old) (S.agrees storage.new) (spec.Undoes path.now fault result) }
+{
+    match fault {
+        CreationFault::NotMade => Unwritten::Failed,
+        CreationFault::Unfinished => discard(storage, path),
+    }
+}
+
 /// Reads the new file at the path again, and removes it if it hasn't this text: where a disk is full, not every write
 /// fails.
 fn compare<S: Storage>(storage: &mut S, path: &str, text: &str) -> Result<(), Unwritten>
@@ -82,8 +94,7 @@ fn add<S: Storage>(storage: &mut S, path: &str, text: &str) -> Result<(), Unwrit
 {
     match storage.create(path, text.as_bytes()) {
         Ok(()) => compare(storage, path, text),
-        Err(CreationFault::Unfinished) => Err(discard(storage, path)),
-        Err(CreationFault::NotMade) => Err(Unwritten::Failed),
+        Err(fault) => Err(undo(storage, path, fault)),
     }
 }
 
@@ -116,7 +127,51 @@ fn new_path(alloc: Global, path: &str, number: u32) -> Result<String, AllocError
     beside(alloc, path, name.as_str())
 }
 
-/// Gives the file to which a path leads this text. The new file beside it is named by the number.
+/// The fault of a file that wasn't put in its place at the end.
+fn fault_of(left: Unwritten, new: String, end: String) -> FileFault
+    ensures reason { reason_of result ≡ None }
+    ensures left { spec.left_by result ≡ spec.left_at (string_bytes new) left }
+{
+    match left {
+        Unwritten::Failed => FileFault::Writing(end),
+        Unwritten::Left => FileFault::Left(new),
+    }
+}
+
+/// Gives the file at the end this text, by way of the new one.
+fn write_by<S: Storage>(
+    storage: &mut S,
+    new: String,
+    end: String,
+    text: &str,
+) -> Result<(), FileFault>
+    ensures { Changes (S.agrees storage.old) (S.agrees storage.new)
+        (spec.WritesAt (string_bytes end) text.now result) }
+{
+    match replace(storage, new.as_str(), end.as_str(), text) {
+        Ok(()) => Ok(()),
+        Err(left) => Err(fault_of(left, new, end)),
+    }
+}
+
+/// Gives the file at the end this text. The new one beside it is named by the number.
+fn write_at<S: Storage>(
+    alloc: Global,
+    storage: &mut S,
+    end: String,
+    text: &str,
+    number: u32,
+) -> Result<(), FileFault>
+    ensures { Changes (S.agrees storage.old) (S.agrees storage.new)
+        (spec.WritesAt (string_bytes end) text.now result) }
+{
+    match new_path(alloc, end.as_str(), number) {
+        Ok(new) => write_by(storage, new, end, text),
+        Err(_) => Err(FileFault::OutOfMemory),
+    }
+}
+
+/// Gives the file to which a path leads this text.
 fn write<S: Storage>(
     alloc: Global,
     storage: &mut S,
@@ -126,12 +181,9 @@ fn write<S: Storage>(
 ) -> Result<(), FileFault>
     ensures { Changes (S.agrees storage.old) (S.agrees storage.new) (spec.Writes path.now text.now result) }
 {
-    let end = free_end(alloc, storage, path)?;
-    let new = new_path(alloc, end.as_str(), number)?;
-    match replace(storage, new.as_str(), end.as_str(), text) {
-        Ok(()) => Ok(()),
-        Err(Unwritten::Failed) => Err(FileFault::Writing(end)),
-        Err(Unwritten::Left) => Err(FileFault::Left(new)),
+    match free_end(alloc, storage, path) {
+        Ok(end) => write_at(alloc, storage, end, text, number),
+        Err(fault) => Err(fault),
     }
 }
 
@@ -142,9 +194,40 @@ fn text_of(alloc: Global, collection: &Collection) -> Result<String, FileFault>
 {
     match save_text(alloc, collection) {
         Ok(text) => Ok(text),
-        Err(SaveFault::OutOfMemory) => Err(FileFault::OutOfMemory),
         Err(fault) => Err(FileFault::Unsaved(fault)),
     }
+}
+
+/// What is to be saved, and where.
+#[derive(Drop)]
+pub(crate) struct Prepared {
+    /// The user's folder.
+    pub(crate) folder: String,
+    /// The path of the name in it.
+    pub(crate) path: String,
+    /// The text.
+    pub(crate) text: String,
+}
+
+/// Finds the path, and makes the text.
+fn prepare(
+    alloc: Global,
+    env: &Env,
+    name: &str,
+    collection: &Collection,
+) -> Result<Prepared, FileFault>
+    ensures ready { IfOk result (IsPrepared env.now name.now (kept_view collection.now)) }
+    ensures fault { IfErr result (λ fault. IfSome (reason_of fault) (λ reason.
+        folders_for env.now name.now ≡ Err reason)) }
+{
+    let folders = folders_for(alloc, env, name)?;
+    let path = in_folder(alloc, folders.own.as_str(), name)?;
+    let text = text_of(alloc, collection)?;
+    Ok(Prepared {
+        folder: folders.own,
+        path,
+        text,
+    })
 }
 
 /// Makes the folder.
@@ -155,6 +238,22 @@ fn make<S: Storage>(alloc: Global, storage: &mut S, folder: &str) -> Result<(), 
     match storage.make_folder(folder) {
         Ok(()) => Ok(()),
         Err(_) => Err(writing(alloc, folder)),
+    }
+}
+
+/// Makes the folder, and gives the file to which the path leads the text.
+fn write_prepared<S: Storage>(
+    alloc: Global,
+    storage: &mut S,
+    prepared: &Prepared,
+    number: u32,
+) -> Result<(), FileFault>
+    ensures { Changes (S.agrees storage.old) (S.agrees storage.new)
+        (spec.WritesInFolder (string_bytes prepared.now.path) (string_bytes prepared.now.text) result) }
+{
+    match make(alloc, storage, prepared.folder.as_str()) {
+        Ok(()) => write(alloc, storage, prepared.path.as_str(), prepared.text.as_str(), number),
+        Err(fault) => Err(fault),
     }
 }
 
@@ -176,9 +275,8 @@ pub fn save_collection<S: Storage>(
     ensures { Changes (S.agrees storage.old) (S.agrees storage.new)
         (spec.Saves env.now name.now (kept_view collection.now) result) }
 {
-    let folders = folders_for(alloc, env, name)?;
-    let path = in_folder(alloc, folders.own.as_str(), name)?;
-    let text = text_of(alloc, collection)?;
-    make(alloc, storage, folders.own.as_str())?;
-    write(alloc, storage, path.as_str(), text.as_str(), number)
+    match prepare(alloc, env, name, collection) {
+        Ok(prepared) => write_prepared(alloc, storage, &prepared, number),
+        Err(fault) => Err(fault),
+    }
 }

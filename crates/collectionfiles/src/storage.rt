@@ -1,6 +1,8 @@
 //! The trait of what keeps files, with the contract of each, and its faults.
-ghost use Rattle.std.specs.Prelude.{◌≡◌, IfOk, string_bytes, take};
-ghost use Rattle.collectionfiles.specs.Entries.{Entries, file};
+ghost use Rattle.std.specs.Prelude.{◌≡◌, true, IfOk, take};
+ghost use Rattle.envvars.specs.Texts.{Text, has, texts_in};
+ghost use Rattle.collectionfiles.specs.Entries.{Entries, file, in_folder, is_there};
+ghost use Rattle.collectionfiles.specs.Names.{is_collection_name};
 ghost use Rattle.collectionfiles.specs.Calls.{AddsFolders, Changes, Clears, Creates, Does, InEach, Moves, Narrows};
 ghost use Rattle.collectionfiles.specs.Seen.{IsSeen};
 ghost use Rattle.collectionfiles.specs.declared.storage.StorageFault.TheVariants.{OutOfMemory};
@@ -82,6 +84,15 @@ pub trait Storage {
         ensures narrows { Narrows (agrees self.old) (agrees self.new) }
         ensures answer { IfOk result (λ bytes. InEach (agrees self.new) (λ entries.
             (all : _) × (entries path.now ≡ file all) × (bytes.items ≡ take most all))) };
+
+    /// The names in the folder at the path, in any order; none where no folder is there. One that isn't UTF-8 isn't told.
+    ///
+    /// It fails where the system does, and for want of memory.
+    fn names(&mut self, path: &str) -> Result<Vec<String>, StorageFault>
+        ensures narrows { Narrows (agrees self.old) (agrees self.new) }
+        ensures answer { IfOk result (λ names. InEach (agrees self.new) (λ entries. (name : Text)
+            → is_collection_name name ≡ true
+            → has name (texts_in names) ≡ is_there (entries (in_folder path.now name)))) };
 
     /// Makes the folder of this path, and those on the way, where they aren't there.
     ///

@@ -1,4 +1,4 @@
-use Rattle.collectionfiles.proofs.SaveLemmas.{added, discarded}
+use Rattle.collectionfiles.proofs.SaveLemmas.{added, undone}
 use Rattle.collectionfiles.proofs.save.add.Goals as goal
 
 pub returns-in-Ok : goal.returns-in-Ok
@@ -7,8 +7,8 @@ returns-in-Ok g c = λ new b.
     let x = c.in-Ok.ensures y.0 y.1 in
     (x.0, x.1, added c.args.path.now c.args.text.now c.compare.result x.0 y.0 new x.2 y.2)
 
-pub returns-in-Err-Unfinished : goal.returns-in-Err-Unfinished
-returns-in-Err-Unfinished g c = λ new b.
-    let y = c.discard.ensures new b in
-    let x = c.in-Err-Unfinished.ensures y.0 y.1 in
-    (x.0, x.1, discarded c.args.path.now c.discard.result x.0 y.0 new x.2 y.2)
+pub returns-in-Err : goal.returns-in-Err
+returns-in-Err g c = λ new b.
+    let y = c.undo.ensures new b in
+    let x = c.in-Err.ensures y.0 y.1 in
+    (x.0, x.1, undone c.args.path.now c.in-Err.fault c.undo.result x.0 y.0 new x.2 y.2)
