@@ -54,6 +54,7 @@ SUITES = (
     "modaudit.py",
     "site.py",
     "function.py",
+    "saving.py",
     "plain.py",
     "memory.py",
     "numbers.py",

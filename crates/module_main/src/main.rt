@@ -1,5 +1,6 @@
-//! The program `module SHELL SUBCOMMAND [WORD...]`: `use`, `unuse`, `is-loaded`, and which subcommand a word means.
-//! Touches its arguments, its environment, its working directory and the standard streams, and looks for directories.
+//! The program `module SHELL SUBCOMMAND [WORD...]`: `use`, `unuse`, `is-loaded`, collections, and what a word means.
+//! Touches its arguments, its environment, its working directory and the standard streams, looks for directories, and
+//! reads and writes the files of collections.
 //! Nothing stands above it; it has no clause, so it has little code.
 #![tactic(auto)]
 
