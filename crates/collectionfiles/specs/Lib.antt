@@ -8,3 +8,4 @@ pub mod Saves
 pub mod Removes
 pub mod Seen
 pub mod Prepared
+pub mod Lists

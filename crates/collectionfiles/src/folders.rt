@@ -27,13 +27,7 @@ fn filled(text: Option<&str>) -> Option<&str>
 {
     match text {
         None => None,
-        Some(text) => {
-            if text.is_empty() {
-                None
-            } else {
-                Some(text)
-            }
-        }
+        Some(text) => { if text.is_empty() { None } else { Some(text) } }
     }
 }
 
@@ -43,13 +37,7 @@ fn absolute(text: Option<&str>) -> Option<&str>
 {
     match text {
         None => None,
-        Some(text) => {
-            if is_absolute(text) {
-                Some(text)
-            } else {
-                None
-            }
-        }
+        Some(text) => { if is_absolute(text) { Some(text) } else { None } }
     }
 }
 

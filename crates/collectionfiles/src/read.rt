@@ -23,10 +23,14 @@ fn file_end<S: Storage>(alloc: Global, storage: &mut S, path: &str) -> Result<St
         (found.file_end entries path.now)) }
 {
     match end_of(alloc, storage, path) {
-        Ok(Some(End {
-            path: end,
-            seen: Seen::File,
-        })) => Ok(end),
+        Ok(
+            Some(
+                End {
+                    path: end,
+                    seen: Seen::File,
+                },
+            ),
+        ) => Ok(end),
         Ok(_) => Err(FileFault::NoFile(String::from_str(alloc, path)?)),
         Err(fault) => Err(reading(alloc, path, fault)),
     }

@@ -37,10 +37,14 @@ fn free_end<S: Storage>(alloc: Global, storage: &mut S, path: &str) -> Result<St
         (spec.free_end entries path.now)) }
 {
     match end_of(alloc, storage, path) {
-        Ok(Some(End {
-            path: end,
-            seen: Seen::Nothing | Seen::File,
-        })) => Ok(end),
+        Ok(
+            Some(
+                End {
+                    path: end,
+                    seen: Seen::Nothing | Seen::File,
+                },
+            ),
+        ) => Ok(end),
         Ok(_) => Err(FileFault::NoFile(String::from_str(alloc, path)?)),
         Err(_) => Err(writing(alloc, path)),
     }
@@ -109,12 +113,7 @@ fn put<S: Storage>(storage: &mut S, path: &str, end: &str) -> Result<(), Unwritt
 }
 
 /// Gives the file at the end this text, by way of a new file at the path.
-fn replace<S: Storage>(
-    storage: &mut S,
-    path: &str,
-    end: &str,
-    text: &str,
-) -> Result<(), Unwritten>
+fn replace<S: Storage>(storage: &mut S, path: &str, end: &str, text: &str) -> Result<(), Unwritten>
     ensures { Changes (S.agrees storage.old) (S.agrees storage.new) (spec.Replaces path.now end.now text.now result) }
 {
     add(storage, path, text)?;
@@ -252,7 +251,13 @@ fn write_prepared<S: Storage>(
         (spec.WritesInFolder (string_bytes prepared.now.path) (string_bytes prepared.now.text) result) }
 {
     match make(alloc, storage, prepared.folder.as_str()) {
-        Ok(()) => write(alloc, storage, prepared.path.as_str(), prepared.text.as_str(), number),
+        Ok(()) => write(
+            alloc,
+            storage,
+            prepared.path.as_str(),
+            prepared.text.as_str(),
+            number,
+        ),
         Err(fault) => Err(fault),
     }
 }

@@ -15,6 +15,12 @@ returns-in-Ok g c = λ new b.
 pub returns-in-Err : goal.returns-in-Err
 returns-in-Err g c = λ new b.
     let x = c.in-Err.ensures new b in
-    let left = c.in-Err.left in
-    (x.0, x.1, (c.fault_of.ensures.reason, leaves_by (string_bytes c.args.new) left c.fault_of.result x.0 new c.fault_of.ensures.left
-    (subst (λ (t : Text). Leaves (left_at t left) x.0 new) c.as_str.ensures.value x.2)))
+    let left = c.in-Err.left in (
+      x.0,
+      x.1,
+      (
+        c.fault_of.ensures.reason,
+        leaves_by (string_bytes c.args.new) left c.fault_of.result x.0 new c.fault_of.ensures.left
+            (subst (λ (t : Text). Leaves (left_at t left) x.0 new) c.as_str.ensures.value x.2),
+      ),
+    )

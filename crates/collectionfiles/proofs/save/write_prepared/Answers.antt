@@ -8,10 +8,16 @@ use Rattle.collectionfiles.proofs.save.write_prepared.Goals as goal
 pub returns-in-Ok : goal.returns-in-Ok
 returns-in-Ok g c = λ new b.
     let y = c.write.ensures new b in
-    let x = c.in-Ok.ensures.made y.0 y.1 in
-    (x.0, x.1, (y.0, x.2,
-    subst (λ (t : Text). Writes (string_bytes c.args.prepared.now.path) t c.write.result y.0 new) c.as_str-in-Ok-2.ensures.value
-    (subst (λ (p : Text). Writes p c.as_str-in-Ok-2.result.now c.write.result y.0 new) c.as_str-in-Ok.ensures.value y.2)))
+    let x = c.in-Ok.ensures.made y.0 y.1 in (
+      x.0,
+      x.1,
+      (
+        y.0,
+        x.2,
+        subst (λ (t : Text). Writes (string_bytes c.args.prepared.now.path) t c.write.result y.0 new) c.as_str-in-Ok-2.ensures.value
+            (subst (λ (p : Text). Writes p c.as_str-in-Ok-2.result.now c.write.result y.0 new) c.as_str-in-Ok.ensures.value y.2),
+      ),
+    )
 
 pub returns-in-Err : goal.returns-in-Err
 returns-in-Err g c = λ new b.
