@@ -3,7 +3,7 @@ use Rattle.std.proofs.Common.{◌≡◌, Bool, true, false, true≢false, refl, 
 use Rattle.std.specs.Prelude.{bytes_eq, if◌then◌else◌}
 use Rattle.envvars.specs.Texts.{Text}
 use Rattle.envvars.proofs.TextLemmas.{same_text, bytes_eq-same}
-use Rattle.collectionfiles.specs.Entries.{Entry, Entries, nothing, file, bytes_in}
+use Rattle.collectionfiles.specs.Entries.{Entry, Entries, nothing, file}
 use Rattle.collectionfiles.specs.Calls.{AreSame, Changes, Clears, Makes, Moves, Narrows, Puts, with_at}
 
 pub changes_then : (A B C : Entries → Type 0) (R S T : Entries → Entries → Type 0) → Changes A B R → Changes B C S

@@ -4,8 +4,8 @@ use Rattle.std.proofs.Common.{◌+◌, ◌<◌, ◌≤◌, length, get_or, drop,
 use Rattle.std.specs.Prelude.{bytes_eq, is_some, Option, Some, None, Result, Ok, Err, OnOk}
 use Rattle.std.specs.List.{list_any}
 use Rattle.envvars.specs.Texts.{Text, has}
-use Rattle.envvars.proofs.TextLemmas.{same_text, bytes_eq-same}
-use Rattle.collectionfiles.specs.Entries.{Entry, Entries, nothing, file, folder, link, other, bytes_at, bytes_at_end}
+use Rattle.envvars.proofs.TextLemmas.{same_text}
+use Rattle.collectionfiles.specs.Entries.{Entry, Entries, nothing, file, folder, link, other, bytes_at_end}
 use Rattle.collectionfiles.specs.Entries.{bytes_in, in_folder, is_there, leads, led_on, max_links}
 use Rattle.collectionfiles.specs.Names.{is_collection_name}
 use Rattle.collectionfiles.specs.Lists.{is_in, leads_to_file}

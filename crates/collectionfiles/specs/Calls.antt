@@ -1,6 +1,6 @@
 -- What calls of a system tell of the entries at paths, and what they do to them (POSIX XSH: lstat, readlink, read,
 -- readdir, mkdir, open with O_EXCL, write, rename, unlink).
-use Rattle.std.specs.Prelude.{◌≡◌, ◌⊎◌, ℕ, Bool, true, List, take, bytes_eq, if◌then◌else◌, Result, Ok, Err}
+use Rattle.std.specs.Prelude.{◌≡◌, ◌⊎◌, bytes_eq, if◌then◌else◌, Result, Ok, Err}
 use Rattle.envvars.specs.Texts.{Text}
 use Rattle.collectionfiles.specs.Entries.{Entry, Entries, nothing, file, folder}
 use Rattle.collectionfiles.specs.declared.storage.StorageFault.{StorageFault}

@@ -1,5 +1,5 @@
 -- What removing does to files (module(1), saverm).
-use Rattle.std.specs.Prelude.{◌≡◌, IfSome, Option, Result, Ok, Err}
+use Rattle.std.specs.Prelude.{◌≡◌, IfSome, Result, Ok, Err}
 use Rattle.envvars.specs.Texts.{Text}
 use Rattle.envvars.specs.Environment.{Environment}
 use Rattle.collectionfiles.specs.Entries.{Entry, Entries, nothing, file, folder, link, other, in_folder}

@@ -1,5 +1,5 @@
 -- What the code has of entries, folders and names, as the definitions have it.
-use Rattle.std.specs.Prelude.{◌≡◌, string_bytes, Option}
+use Rattle.std.specs.Prelude.{◌≡◌, string_bytes}
 use Rattle.std.specs.Option.{option_map}
 use Rattle.envvars.specs.Texts.{Text}
 use Rattle.collectionfiles.specs.Entries.{Entry, nothing, file, folder, link, other}

@@ -1,4 +1,4 @@
-use Rattle.std.proofs.Common.{◌≡◌, ◌+◌, Bool, ◌||◌, ◌&&◌, map, drop, refl, sym, ap, ◌∙◌, string_bytes}
+use Rattle.std.proofs.Common.{◌+◌, Bool, ◌||◌, ◌&&◌, map, drop, refl, sym, ap, ◌∙◌, string_bytes}
 use Rattle.std.specs.Prelude.{bytes_eq}
 use Rattle.std.specs.BTreeSet.{contains_text}
 use Rattle.std.specs.List.{list_any}

@@ -1,4 +1,4 @@
-use Rattle.std.proofs.Common.{◌≡◌, Bool, ◌||◌, List, ap, ◌∙◌, string_bytes, String, Global}
+use Rattle.std.proofs.Common.{Bool, ◌||◌, List, ap, ◌∙◌, string_bytes, String, Global}
 use Rattle.std.specs.Option.{option_map}
 use Rattle.std.specs.BTreeSet.{contains_text}
 use Rattle.envvars.specs.Texts.{Text}

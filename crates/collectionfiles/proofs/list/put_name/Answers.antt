@@ -1,4 +1,4 @@
-use Rattle.std.proofs.Common.{◌≡◌, Bool, true, cond, ◌||◌, sym, ap, ◌∙◌, string_bytes}
+use Rattle.std.proofs.Common.{Bool, true, ◌||◌, ap, ◌∙◌, string_bytes}
 use Rattle.std.specs.Prelude.{bytes_eq}
 use Rattle.std.specs.BTreeSet.{contains_text}
 use Rattle.std.proofs.lemmas.Map.Text.{btree_set_updates_text}

@@ -1,4 +1,4 @@
-use Rattle.std.proofs.Common.{◌≡◌, sym, ◌∙◌, subst, arith, string_bytes, ap}
+use Rattle.std.proofs.Common.{◌≡◌, sym, subst, arith, string_bytes}
 use Rattle.std.specs.Prelude.{IfOk}
 use Rattle.std.proofs.lemmas.Str.Pattern.{NoCharPasses-char}
 use Rattle.envvars.specs.Texts.{Text}

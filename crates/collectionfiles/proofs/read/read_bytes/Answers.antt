@@ -1,4 +1,4 @@
-use Rattle.std.proofs.Common.{◌≡◌, sym, ap, ◌∙◌, subst, string_bytes, vec_items}
+use Rattle.std.proofs.Common.{sym, ap, ◌∙◌, subst, string_bytes, vec_items}
 use Rattle.std.specs.Prelude.{Option}
 use Rattle.message.specs.Answers.{Gives}
 use Rattle.envvars.specs.Texts.{Text}

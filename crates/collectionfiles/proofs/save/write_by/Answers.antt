@@ -1,5 +1,4 @@
-use Rattle.std.proofs.Common.{◌≡◌, sym, ap, ◌∙◌, subst, string_bytes}
-use Rattle.std.specs.Prelude.{Option}
+use Rattle.std.proofs.Common.{subst, string_bytes}
 use Rattle.envvars.specs.Texts.{Text}
 use Rattle.collectionfiles.specs.Entries.{file}
 use Rattle.collectionfiles.specs.Calls.{Puts}
