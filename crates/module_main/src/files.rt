@@ -125,7 +125,7 @@ fn save(rt: &HostRuntime, given: &Given, words: &[String]) -> Result<(), Refusal
     let name = name_in(words)?;
     let kept = collection(rt, given)?;
     let mut storage = DiskStorage::new(rt);
-    let number = process::id(rt);
+    let number = process::id(rt.process());
     let env = &given.env;
     Ok(save_collection(rt.alloc(), &mut storage, env, name, number, &kept)?)
 }
