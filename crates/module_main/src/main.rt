@@ -1,11 +1,14 @@
-//! The program `module SHELL SUBCOMMAND [WORD...]`: `use`, `unuse`, `is-loaded`, and which subcommand a word means.
-//! Touches its arguments, its environment, its working directory and the standard streams, and looks for directories.
+//! The program `module SHELL SUBCOMMAND [WORD...]`: `use`, `unuse`, `is-loaded`, collections, and what a word means.
+//! Touches its arguments, its environment, its working directory and the standard streams, looks for directories, and
+//! reads and writes the files of collections.
 //! Nothing stands above it; it has no clause, so it has little code.
 #![tactic(auto)]
 
+mod files;
 mod given;
 mod missing;
 
+use files::do_file_command;
 use functioncommand::{FunctionOutput, function_output};
 use given::Given;
 use message::{Message, RefusalKind};
@@ -33,6 +36,9 @@ fn main(rt: HostRuntime) -> ExitCode {
         Ok(given) => given,
         Err(refusal) => return refused(&rt, refusal.message),
     };
+    if let Some(status) = do_file_command(&rt, &given) {
+        return status;
+    }
     let working = match &given.working {
         Some(place) => Some(place.as_str()),
         None => None,

@@ -1,0 +1,118 @@
+-- What a save comes to as a whole.
+use Rattle.std.proofs.Common.{◌≡◌, inl, inr, Bool, true, false, refl, sym, ap, ◌∙◌, subst, length}
+use Rattle.std.proofs.lemmas.Bool.{false≢true}
+use Rattle.std.specs.Prelude.{if◌then◌else◌, nat_lt, is_ok, Option, Some, None, Result, Ok, Err, IfSome}
+use Rattle.std.specs.List.{list_any, slice_split}
+use Rattle.std.specs.Prelude.{◌==◌}
+use Rattle.std.specs.Str.{is_utf8}
+use Rattle.envvars.specs.Texts.{Text}
+use Rattle.envvars.specs.Environment.{Environment}
+use Rattle.collections.specs.Lines.{Kept}
+use Rattle.collections.specs.Collections.{CollectionReason, max_length, read, too_long, no_text, something, with_lines, nothing}
+use Rattle.collections.specs.Saved.{IsSaved}
+use Rattle.collectionfiles.specs.Entries.{Entries, bytes_at, end_of, in_folder}
+use Rattle.collectionfiles.specs.Calls.{AddsFolders}
+use Rattle.collectionfiles.specs.Faults.{FileReason, no_collection, no_file, reason_of}
+use Rattle.collectionfiles.specs.Found.{kept_at, kept_in, said_of, short, shown_at}
+use Rattle.collectionfiles.specs.Places.{Folders, folders_for, in_folders}
+use Rattle.collectionfiles.specs.Saves.{Ends, IsNotSaved, Leaves, LeavesBy, Writes, WritesAt, at_free, free_end, is_free}
+use Rattle.collectionfiles.specs.Saves.{left_at, left_by, own_end, own_kept}
+use Rattle.collectionfiles.specs.declared.fault.FileFault.{FileFault}
+use Rattle.collectionfiles.specs.declared.unwritten.Unwritten.{Unwritten}
+use Rattle.collectionfiles.specs.declared.unwritten.Unwritten.TheVariants.{Failed, Left}
+use Rattle.collectionfiles.proofs.EntryLemmas.{bytes_written}
+
+pub leaves_by : (path : Text) (left : Unwritten) (fault : FileFault) (a b : Entries)
+    → left_by fault ≡ left_at path left → Leaves (left_at path left) a b → LeavesBy fault a b
+leaves_by path Failed fault a b e h = inl h
+leaves_by path Left fault a b e h = inr (path, e, h)
+
+-- a fault without a reason has none that is wrong
+pub no_reason : (fault : FileFault) (P : FileReason → Type 0) → reason_of fault ≡ None → IfSome (reason_of fault) P
+no_reason fault P e = subst (λ (o : Option FileReason). IfSome o P) (sym e) tt
+
+-- a write at the end of a path is one of the path
+pub written_at_end : (path end text : Text) (r : Result (Unit {0}) FileFault) (a b : Entries) → free_end a path ≡ Ok end
+    → WritesAt end text r a b → Writes path text r a b
+written_at_end path end text (Ok u) a b e w = (end, e, w)
+written_at_end path end text (Err fault) a b e w = (no_reason fault (λ r. free_end a path ≡ Err r) w.0, w.1)
+
+-- no folder is added
+pub none_added : (a : Entries) → AddsFolders a a
+none_added a = λ p. inl refl
+
+-- a result that is an error by a true test is no value
+no_value : (t : Bool) {A R : Type 0} (r : R) (x : Result A R) (a : A) → (if t then Err r else x) ≡ Ok a → t ≡ false
+no_value true r x a e = absurd (false≢true (ap is_ok e))
+no_value false r x a e = refl
+
+abbrev value_or : Text → Result Text FileReason → Text
+value_or other (Ok x) = x
+value_or other (Err r) = other
+
+free_case : (t : Bool) (path p end : Text) → (if t then Ok p else Err (no_file path)) ≡ Ok end → p ≡ end
+free_case true path p end e = ap (value_or p) e
+free_case false path p end e = absurd (false≢true (ap is_ok e))
+
+-- the end that is free is the one to which the path leads
+free_leads : (path end : Text) (found : Option Text) (entries : Entries) → at_free path found entries ≡ Ok end
+    → found ≡ Some end
+free_leads path end None entries e = absurd (false≢true (ap is_ok e))
+free_leads path end (Some p) entries e = ap (λ (t : Text). Some t) (free_case (is_free (entries p)) path p end e)
+
+reads_back : (entries : Entries) (path text : Text) (kept : Kept) → bytes_at entries path ≡ Some text
+    → is_utf8 text ≡ true → read text ≡ Ok kept → kept_at entries path ≡ Ok kept
+reads_back entries path text kept has utf8 reads =
+    let fits : nat_lt max_length (length text) ≡ false =
+    no_value (nat_lt max_length (length text)) too_long
+    (if list_any (λ b. b == 0) text then Err no_text else something (with_lines (slice_split (λ b. b == 10) text) 1 nothing))
+    kept reads in
+    let shown : shown_at entries path ≡ Ok text =
+    ap (λ (o : Option Text). short path o) has
+    ∙ ap (λ (t : Bool). if t then Err (no_collection path too_long) else Ok text) fits in
+    ap (λ (r : Result Text FileReason). kept_in path r) shown
+    ∙ (ap (λ (t : Bool). if t then said_of path (read text) else Err (no_collection path no_text)) utf8
+    ∙ ap (λ (r : Result Kept CollectionReason). said_of path r) reads)
+
+-- of the user's own path, with the folders that there are
+module _ (env : Environment) (name path : Text) (folders : Folders) (found : folders_for env name ≡ Ok folders)
+    (lies : path ≡ in_folder folders.own name) where
+  own_end_is : (entries : Entries) → own_end entries env name ≡ free_end entries path
+  own_end_is entries =
+      ap (λ (r : Result Folders FileReason). in_folders r (λ f. free_end entries (in_folder f.own name))) found
+      ∙ ap (free_end entries) (sym lies)
+
+  own_kept_is : (entries : Entries) → own_kept entries env name ≡ kept_at entries path
+  own_kept_is entries =
+      ap (λ (r : Result Folders FileReason). in_folders r (λ f. kept_at entries (in_folder f.own name))) found
+      ∙ ap (kept_at entries) (sym lies)
+
+  reason_as : (wrong : Option FileReason) (a : Entries) → IfSome wrong (λ r. free_end a path ≡ Err r)
+      → IfSome wrong (λ r. own_end a env name ≡ Err r)
+  reason_as None a h = tt
+  reason_as (Some r) a h = own_end_is a ∙ h
+
+  pub ended : (text : Text) (kept : Kept) → IsSaved kept text → is_utf8 text ≡ true
+      → (r : Result (Unit {0}) FileFault) (a b : Entries) → Writes path text r a b → Ends env name kept r a b
+  ended text kept saved utf8 (Ok u) a b w = record {
+    end = w.0;
+    text = text;
+    leads = own_end_is a ∙ w.1;
+    saved = saved;
+    puts = w.2;
+    reads =
+        own_kept_is b
+        ∙ reads_back b path text kept (bytes_written path w.0 text a b w.2 (free_leads path w.0 (end_of a path) a w.1)) utf8 saved.read_again;
+  }
+  ended text kept saved utf8 (Err fault) a b w = record { reason = reason_as (reason_of fault) a w.0; left = w.1 }
+
+-- where there are no folders for the name, nothing is saved
+refused_reason : (wrong : Option FileReason) (env : Environment) (name : Text) (a : Entries)
+    → IfSome wrong (λ r. folders_for env name ≡ Err r) → IfSome wrong (λ r. own_end a env name ≡ Err r)
+refused_reason None env name a h = tt
+refused_reason (Some r) env name a h =
+    ap (λ (f : Result Folders FileReason). in_folders f (λ x. free_end a (in_folder x.own name))) h
+
+pub refused : (env : Environment) (name : Text) (fault : FileFault) (a : Entries)
+    → IfSome (reason_of fault) (λ r. folders_for env name ≡ Err r) → IsNotSaved env name fault a a
+refused env name fault a h = record { reason = refused_reason (reason_of fault) env name a h; left = inl (λ p. refl) }

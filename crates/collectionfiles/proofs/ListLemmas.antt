@@ -1,0 +1,105 @@
+-- Names in folders, and in sets.
+use Rattle.std.proofs.Common.{◌≡◌, ℕ, zero, suc, Bool, true, false, cond, ◌||◌, ◌&&◌, List, [], ◌∷◌, refl, sym, ap, ◌∙◌}
+use Rattle.std.proofs.Common.{◌+◌, ◌<◌, ◌≤◌, length, get_or, drop, map, string_bytes, String, Global, arith}
+use Rattle.std.specs.Prelude.{bytes_eq, is_some, Option, Some, None, Result, Ok, Err, OnOk}
+use Rattle.std.specs.List.{list_any}
+use Rattle.envvars.specs.Texts.{Text, has}
+use Rattle.envvars.proofs.TextLemmas.{same_text}
+use Rattle.collectionfiles.specs.Entries.{Entry, Entries, nothing, file, folder, link, other, bytes_at_end}
+use Rattle.collectionfiles.specs.Entries.{bytes_in, in_folder, is_there, leads, led_on, max_links}
+use Rattle.collectionfiles.specs.Names.{is_collection_name}
+use Rattle.collectionfiles.specs.Lists.{is_in, leads_to_file}
+
+pub map_on : {A E : Type 0} (r : Result A E) (P Q : Type 0) → (P → Q) → OnOk r P → OnOk r Q
+map_on (Ok x) P Q f h = f h
+map_on (Err e) P Q f h = tt
+
+pub or_cond : (t c : Bool) → cond t true c ≡ (c || t)
+or_cond true true = refl
+or_cond true false = refl
+or_cond false true = refl
+or_cond false false = refl
+
+pub or_none : (c : Bool) → c ≡ (c || false)
+or_none true = refl
+or_none false = refl
+
+pub or_same : (a b c : Bool) → ((a || b) || c) ≡ (a || (b || c))
+or_same true b c = refl
+or_same false b c = refl
+
+pub and_all : (a : Bool) → (a && true) ≡ a
+and_all true = refl
+and_all false = refl
+
+pub and_none : (a : Bool) → (a && false) ≡ false
+and_none true = refl
+and_none false = refl
+
+or_and : (t a b : Bool) → ((t && b) || (a && b)) ≡ ((t || a) && b)
+or_and true true true = refl
+or_and true true false = refl
+or_and true false true = refl
+or_and true false false = refl
+or_and false a b = refl
+
+at_name : (q n : Text) (is : Text → Bool) (t : Bool) → bytes_eq q n ≡ t → (t && is n) ≡ (t && is q)
+at_name q n is true e = ap is (sym (same_text q n e))
+at_name q n is false e = refl
+
+-- a name that is among them, and for which the test holds
+pub any_is : (q : Text) (is : Text → Bool) (names : List Text)
+    → list_any (λ n. bytes_eq q n && is n) names ≡ (has q names && is q)
+any_is q is [] = refl
+any_is q is (n ∷ names) =
+    ap (λ (b : Bool). b || list_any (λ m. bytes_eq q m && is m) names) (at_name q n is (bytes_eq q n) refl)
+    ∙ (ap (λ (b : Bool). (bytes_eq q n && is q) || b) (any_is q is names) ∙ or_and (bytes_eq q n) (has q names) (is q))
+
+nothing_leads : (n : ℕ) (e : Entries) (p : Text) → e p ≡ nothing → leads n e p ≡ Some p
+nothing_leads zero e p is = ap (λ (x : Entry). led_on (λ q. None) p x) is
+nothing_leads (suc n) e p is = ap (λ (x : Entry). led_on (λ q. leads n e q) p x) is
+
+no_file_there : (e : Entries) (p : Text) → e p ≡ nothing → leads_to_file e p ≡ false
+no_file_there e p is =
+    ap (λ (o : Option Text). is_some (bytes_at_end e o)) (nothing_leads max_links e p is)
+    ∙ ap (λ (x : Entry). is_some (bytes_in x)) is
+
+there_case : (e : Entries) (p : Text) (x : Entry) → e p ≡ x → (is_there x && leads_to_file e p) ≡ leads_to_file e p
+there_case e p nothing is = sym (no_file_there e p is)
+there_case e p (file bytes) is = refl
+there_case e p folder is = refl
+there_case e p (link target) is = refl
+there_case e p other is = refl
+
+listed_case : (e : Entries) (path q : Text) (names : List Text) (t : Bool) → is_collection_name q ≡ t
+    → (is_collection_name q ≡ true → has q names ≡ is_there (e (in_folder path q)))
+    → (has q names && (t && leads_to_file e (in_folder path q))) ≡ (t && leads_to_file e (in_folder path q))
+listed_case e path q names true k h =
+    ap (λ (b : Bool). b && leads_to_file e (in_folder path q)) (h k)
+    ∙ there_case e (in_folder path q) (e (in_folder path q)) refl
+listed_case e path q names false k h = and_none (has q names)
+
+-- by the names in a folder, which of them are those of its collections
+pub listed_is : (e : Entries) (path q : Text) (names : List Text)
+    → (is_collection_name q ≡ true → has q names ≡ is_there (e (in_folder path q)))
+    → list_any (λ n. bytes_eq q n && is_in e path n) names ≡ is_in e path q
+listed_is e path q names h =
+    any_is q (is_in e path) names ∙ listed_case e path q names (is_collection_name q) refl h
+
+-- a test of some of the names from a place on is that of the one there and of those behind
+pub any_at : (p : Text → Bool) (names : List (String Global)) (i : ℕ) (x : String Global) → i < length names
+    → x ≡ get_or names i x
+    → list_any p (map string_bytes (drop i names)) ≡ (p (string_bytes x) || list_any p (map string_bytes (drop (i + 1) names)))
+any_at p [] i x l e = absurd (omega (arith, l))
+any_at p (n ∷ ns) zero x l e = ap (λ (y : String Global). p (string_bytes y) || list_any p (map string_bytes ns)) (sym e)
+any_at p (n ∷ ns) (suc i) x l e =
+    let next : suc (i + 1) ≡ suc i + 1 = omega arith in
+    any_at p ns i x (omega (arith, l)) e
+    ∙ ap (λ (k : ℕ). p (string_bytes x) || list_any p (map string_bytes (drop k (n ∷ ns)))) next
+
+pub any_end : (p : Text → Bool) (names : List (String Global)) (i : ℕ) → length names ≤ i
+    → list_any p (map string_bytes (drop i names)) ≡ false
+any_end p [] zero l = refl
+any_end p [] (suc i) l = refl
+any_end p (n ∷ ns) zero l = absurd (omega (arith, l))
+any_end p (n ∷ ns) (suc i) l = any_end p ns i (omega (arith, l))

@@ -1,0 +1,4 @@
+use Rattle.collectionfiles.proofs.follow.+follow.Given as goal
+
+abbrev pub decreases-follow : goal.decreases-follow
+decreases-follow g l = l.left

@@ -1,0 +1,23 @@
+use Rattle.std.proofs.Common.{◌≡◌, Bool, ◌||◌, ◌&&◌, List, map, ap, ◌∙◌, string_bytes, String, Global}
+use Rattle.std.specs.Prelude.{bytes_eq}
+use Rattle.std.specs.BTreeSet.{contains_text}
+use Rattle.std.specs.List.{list_any}
+use Rattle.envvars.specs.Texts.{Text, texts_in}
+use Rattle.collectionfiles.specs.Calls.{InEach}
+use Rattle.collectionfiles.specs.Lists.{is_in}
+use Rattle.collectionfiles.proofs.ListLemmas.{listed_is, map_on}
+use Rattle.collectionfiles.proofs.list.add_folder.Goals as goal
+
+pub returns-in-Ok-clause-added : goal.returns-in-Ok-clause-added
+returns-in-Ok-clause-added g c =
+    let folder = c.args.folder.now in
+    let old = c.args.found.now in
+    map_on c.add_names.result
+    (InEach (g.S.Storage.agrees c.add_names.new.storage) (λ e. (q : Text) → contains_text c.add_names.new.found q
+    ≡ (contains_text old q || list_any (λ n. bytes_eq q n && is_in e folder n) (map string_bytes c.as_slice.result.now))))
+    (InEach (g.S.Storage.agrees c.add_names.new.storage) (λ e. (q : Text) → contains_text c.add_names.new.found q
+    ≡ (contains_text old q || is_in e folder q)))
+    (λ h e b q. h e b q ∙ ap (λ (t : Bool). contains_text old q || t)
+    (ap (λ (l : List (String Global)). list_any (λ n. bytes_eq q n && is_in e folder n) (map string_bytes l)) c.as_slice.ensures.value
+    ∙ listed_is e folder q (texts_in c.in-Ok.names) (λ k. c.in-Ok.ensures.answer e (c.add_names.ensures.narrows e b) q k)))
+    c.add_names.ensures.added

@@ -1,0 +1,22 @@
+use Rattle.std.proofs.Common.{◌≡◌, Bool, ◌||◌, sym, ap, ◌∙◌, string_bytes, String, Global}
+use Rattle.std.specs.Prelude.{Option}
+use Rattle.std.specs.Option.{option_map}
+use Rattle.std.specs.BTreeSet.{contains_text}
+use Rattle.envvars.specs.Texts.{Text}
+use Rattle.collectionfiles.specs.Calls.{InEach}
+use Rattle.collectionfiles.specs.Lists.{is_in, is_in_some}
+use Rattle.collectionfiles.proofs.ListLemmas.{map_on}
+use Rattle.collectionfiles.proofs.list.add_others.Goals as goal
+
+pub returns-in-Some-clause-added : goal.returns-in-Some-clause-added
+returns-in-Some-clause-added g c =
+    let old = c.args.found.now in
+    map_on c.add_folder.result
+    (InEach (g.S.Storage.agrees c.add_folder.new.storage) (λ e. (q : Text) → contains_text c.add_folder.new.found q
+    ≡ (contains_text old q || is_in e c.as_str.result.now q)))
+    (InEach (g.S.Storage.agrees c.add_folder.new.storage) (λ e. (q : Text) → contains_text c.add_folder.new.found q
+    ≡ (contains_text old q || is_in_some e (option_map string_bytes c.args.folders.now.others) q)))
+    (λ h e b q. h e b q ∙ ap (λ (t : Bool). contains_text old q || t)
+    (ap (λ (x : Text). is_in e x q) c.as_str.ensures.value
+    ∙ ap (λ (o : Option (String Global)). is_in_some e (option_map string_bytes o) q) (sym c.in-Some.is)))
+    c.add_folder.ensures.added

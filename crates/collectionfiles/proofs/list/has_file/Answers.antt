@@ -1,0 +1,11 @@
+use Rattle.std.proofs.Common.{◌≡◌, ◌∙◌, subst}
+use Rattle.std.specs.Prelude.{IfOk}
+use Rattle.envvars.specs.Texts.{Text}
+use Rattle.collectionfiles.specs.Calls.{InEach}
+use Rattle.collectionfiles.specs.Lists.{leads_to_file}
+use Rattle.collectionfiles.proofs.list.has_file.Goals as goal
+
+pub returns-clause-answer : goal.returns-clause-answer
+returns-clause-answer g c =
+    subst (λ (t : Text). IfOk c.leads_to_file.result (λ has. InEach (g.S.Storage.agrees c.leads_to_file.new.storage) (λ e. leads_to_file e t ≡ has)))
+    (c.as_str.ensures.value ∙ c.in_ok-path.ensures) c.leads_to_file.ensures.answer

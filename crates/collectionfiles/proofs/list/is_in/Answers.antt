@@ -1,0 +1,15 @@
+use Rattle.std.proofs.Common.{◌≡◌, Bool, ◌&&◌, sym, ap, ◌∙◌}
+use Rattle.collectionfiles.specs.Calls.{InEach}
+use Rattle.collectionfiles.specs.Entries.{in_folder}
+use Rattle.collectionfiles.specs.Lists.{is_in, leads_to_file}
+use Rattle.collectionfiles.proofs.EntryLemmas.{map_ok}
+use Rattle.collectionfiles.proofs.list.is_in.Goals as goal
+
+pub returns-then-is_collection_name-clause-answer : goal.returns-then-is_collection_name-clause-answer
+returns-then-is_collection_name-clause-answer g c =
+    map_ok c.has_file.result
+    (λ (has : Bool). InEach (g.S.Storage.agrees c.has_file.new.storage) (λ e. leads_to_file e (in_folder c.args.folder.now c.args.name.now) ≡ has))
+    (λ (has : Bool). InEach (g.S.Storage.agrees c.has_file.new.storage) (λ e. is_in e c.args.folder.now c.args.name.now ≡ has))
+    (λ has h e b.
+    ap (λ (t : Bool). t && leads_to_file e (in_folder c.args.folder.now c.args.name.now)) (sym c.is_collection_name.ensures ∙ c.if-is_collection_name.true) ∙ h e b)
+    c.has_file.ensures.answer

@@ -1,0 +1,24 @@
+use Rattle.std.proofs.Common.{string_bytes}
+use Rattle.std.proofs.lemmas.Str.{IsUtf8-string_bytes, is_utf8-from_IsUtf8}
+use Rattle.collections.specs.Views.{kept_view}
+use Rattle.collectionfiles.proofs.EndLemmas.{ended, none_added, refused}
+use Rattle.collectionfiles.proofs.save.save_collection.Goals as goal
+
+pub returns-in-Ok : goal.returns-in-Ok
+returns-in-Ok g c = λ new b.
+    let x = c.write_prepared.ensures new b in
+    let p = c.in-Ok.prepared in
+    let ready = c.in-Ok.ensures.ready in (
+      x.0,
+      x.1,
+      (
+        x.2.0,
+        x.2.1,
+        ended c.args.env.now c.args.name.now (string_bytes p.path) ready.0 ready.1 ready.2 (string_bytes p.text) (kept_view c.args.collection.now) ready.3
+            (is_utf8-from_IsUtf8 (string_bytes p.text) (IsUtf8-string_bytes p.text)) c.write_prepared.result x.2.0 new x.2.2,
+      ),
+    )
+
+pub returns-in-Err : goal.returns-in-Err
+returns-in-Err g c = λ new b.
+    (new, b, (new, none_added new, refused c.args.env.now c.args.name.now c.in-Err.fault new c.in-Err.ensures.fault))

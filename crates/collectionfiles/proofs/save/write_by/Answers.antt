@@ -1,0 +1,25 @@
+use Rattle.std.proofs.Common.{subst, string_bytes}
+use Rattle.envvars.specs.Texts.{Text}
+use Rattle.collectionfiles.specs.Entries.{file}
+use Rattle.collectionfiles.specs.Calls.{Puts}
+use Rattle.collectionfiles.specs.Saves.{Leaves, left_at}
+use Rattle.collectionfiles.proofs.EndLemmas.{leaves_by}
+use Rattle.collectionfiles.proofs.save.write_by.Goals as goal
+
+pub returns-in-Ok : goal.returns-in-Ok
+returns-in-Ok g c = λ new b.
+    let x = c.in-Ok.ensures new b in
+    (x.0, x.1, subst (λ (t : Text). Puts t (file c.args.text.now) x.0 new) c.as_str-2.ensures.value x.2)
+
+pub returns-in-Err : goal.returns-in-Err
+returns-in-Err g c = λ new b.
+    let x = c.in-Err.ensures new b in
+    let left = c.in-Err.left in (
+      x.0,
+      x.1,
+      (
+        c.fault_of.ensures.reason,
+        leaves_by (string_bytes c.args.new) left c.fault_of.result x.0 new c.fault_of.ensures.left
+            (subst (λ (t : Text). Leaves (left_at t left) x.0 new) c.as_str.ensures.value x.2),
+      ),
+    )

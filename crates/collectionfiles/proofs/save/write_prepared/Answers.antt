@@ -1,0 +1,25 @@
+use Rattle.std.proofs.Common.{◌≡◌, refl, inl, subst, string_bytes}
+use Rattle.envvars.specs.Texts.{Text}
+use Rattle.collectionfiles.specs.Saves.{Writes, free_end}
+use Rattle.collectionfiles.proofs.EndLemmas.{no_reason}
+use Rattle.std.specs.Prelude.{Err}
+use Rattle.collectionfiles.proofs.save.write_prepared.Goals as goal
+
+pub returns-in-Ok : goal.returns-in-Ok
+returns-in-Ok g c = λ new b.
+    let y = c.write.ensures new b in
+    let x = c.in-Ok.ensures.made y.0 y.1 in (
+      x.0,
+      x.1,
+      (
+        y.0,
+        x.2,
+        subst (λ (t : Text). Writes (string_bytes c.args.prepared.now.path) t c.write.result y.0 new) c.as_str-in-Ok-2.ensures.value
+            (subst (λ (p : Text). Writes p c.as_str-in-Ok-2.result.now c.write.result y.0 new) c.as_str-in-Ok.ensures.value y.2),
+      ),
+    )
+
+pub returns-in-Err : goal.returns-in-Err
+returns-in-Err g c = λ new b.
+    let x = c.in-Err.ensures.made new b in
+    (x.0, x.1, (new, x.2, (no_reason c.in-Err.fault (λ r. free_end new (string_bytes c.args.prepared.now.path) ≡ Err r) c.in-Err.ensures.fault, inl (λ p. refl))))

@@ -1,0 +1,11 @@
+pub mod Entries
+pub mod Calls
+pub mod Names
+pub mod Places
+pub mod Faults
+pub mod Found
+pub mod Saves
+pub mod Removes
+pub mod Seen
+pub mod Prepared
+pub mod Lists

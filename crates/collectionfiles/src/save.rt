@@ -1,0 +1,287 @@
+//! Saving a collection: whole, or not at all.
+ghost use Rattle.std.specs.Prelude.{◌≡◌, true, Err, IfErr, IfOk, IfSome, None, string_bytes};
+ghost use Rattle.message.specs.Answers.{Gives};
+ghost use Rattle.collections.specs.Saved.{IsSaved};
+ghost use Rattle.collections.specs.Views.{kept_view};
+ghost use Rattle.collectionfiles.specs.Entries.{file};
+ghost use Rattle.collectionfiles.specs.Calls.{AddsFolders, Changes, InEach, Narrows};
+ghost use Rattle.collectionfiles.specs.Faults.{reason_of};
+ghost use Rattle.collectionfiles.specs.Places.{folders_for};
+ghost use Rattle.collectionfiles.specs.Prepared.{IsPrepared};
+ghost use Rattle.collectionfiles.specs.Saves as spec;
+
+use crate::fault::FileFault;
+use crate::find::folders_for;
+use crate::follow::{End, end_of};
+use crate::paths::{beside, in_folder};
+use crate::storage::{CreationFault, Seen, Storage};
+use crate::unwritten::Unwritten;
+use collections::{Collection, save_text};
+use envvars::Env;
+use std::alloc::{AllocError, Global};
+
+/// The fault of what couldn't be written at a path.
+fn writing(alloc: Global, path: &str) -> FileFault
+    ensures { reason_of result ≡ None }
+{
+    match String::from_str(alloc, path) {
+        Ok(path) => FileFault::Writing(path),
+        Err(_) => FileFault::OutOfMemory,
+    }
+}
+
+/// The end to which a path leads, if a file can be there: one is, or nothing.
+fn free_end<S: Storage>(alloc: Global, storage: &mut S, path: &str) -> Result<String, FileFault>
+    ensures narrows { Narrows (S.agrees storage.old) (S.agrees storage.new) }
+    ensures answer { InEach (S.agrees storage.new) (λ entries. Gives reason_of string_bytes result
+        (spec.free_end entries path.now)) }
+{
+    match end_of(alloc, storage, path) {
+        Ok(
+            Some(
+                End {
+                    path: end,
+                    seen: Seen::Nothing | Seen::File,
+                },
+            ),
+        ) => Ok(end),
+        Ok(_) => Err(FileFault::NoFile(String::from_str(alloc, path)?)),
+        Err(_) => Err(writing(alloc, path)),
+    }
+}
+
+/// Whether a file is at the path and has this text.
+fn holds<S: Storage>(storage: &mut S, path: &str, text: &str) -> bool
+    ensures narrows { Narrows (S.agrees storage.old) (S.agrees storage.new) }
+    ensures same { result ≡ true → InEach (S.agrees storage.new) (λ entries. entries path.now ≡ file text.now) }
+{
+    match storage.read(path, text.len() + 1) {
+        Ok(bytes) => bytes.as_slice() == text.as_bytes(),
+        Err(_) => false,
+    }
+}
+
+/// Removes the new file at the path, which isn't put in its place.
+fn discard<S: Storage>(storage: &mut S, path: &str) -> Unwritten
+    ensures { Changes (S.agrees storage.old) (S.agrees storage.new) (spec.Discards path.now result) }
+{
+    match storage.remove(path) {
+        Ok(()) => Unwritten::Failed,
+        Err(_) => Unwritten::Left,
+    }
+}
+
+/// Removes the new file at the path, if one was made before this fault.
+fn undo<S: Storage>(storage: &mut S, path: &str, fault: CreationFault) -> Unwritten
+    ensures { Changes (S.agrees storage.old) (S.agrees storage.new) (spec.Undoes path.now fault result) }
+{
+    match fault {
+        CreationFault::NotMade => Unwritten::Failed,
+        CreationFault::Unfinished => discard(storage, path),
+    }
+}
+
+/// Reads the new file at the path again, and removes it if it hasn't this text: where a disk is full, not every write
+/// fails.
+fn compare<S: Storage>(storage: &mut S, path: &str, text: &str) -> Result<(), Unwritten>
+    ensures { Changes (S.agrees storage.old) (S.agrees storage.new) (spec.Compares path.now text.now result) }
+{
+    if holds(storage, path, text) {
+        return Ok(());
+    }
+    Err(discard(storage, path))
+}
+
+/// Makes a file with this text where nothing was.
+fn add<S: Storage>(storage: &mut S, path: &str, text: &str) -> Result<(), Unwritten>
+    ensures { Changes (S.agrees storage.old) (S.agrees storage.new) (spec.Adds path.now text.now result) }
+{
+    match storage.create(path, text.as_bytes()) {
+        Ok(()) => compare(storage, path, text),
+        Err(fault) => Err(undo(storage, path, fault)),
+    }
+}
+
+/// Puts the new file at the path in its place, or removes it.
+fn put<S: Storage>(storage: &mut S, path: &str, end: &str) -> Result<(), Unwritten>
+    ensures { Changes (S.agrees storage.old) (S.agrees storage.new) (spec.Settles path.now end.now result) }
+{
+    match storage.rename(path, end) {
+        Ok(()) => Ok(()),
+        Err(_) => Err(discard(storage, path)),
+    }
+}
+
+/// Gives the file at the end this text, by way of a new file at the path.
+fn replace<S: Storage>(storage: &mut S, path: &str, end: &str, text: &str) -> Result<(), Unwritten>
+    ensures { Changes (S.agrees storage.old) (S.agrees storage.new) (spec.Replaces path.now end.now text.now result) }
+{
+    add(storage, path, text)?;
+    put(storage, path, end)
+}
+
+/// The path of a new file beside another one, by a number.
+fn new_path(alloc: Global, path: &str, number: u32) -> Result<String, AllocError> {
+    let name = format!(in alloc; ".new.{number}")?;
+    beside(alloc, path, name.as_str())
+}
+
+/// The fault of a file that wasn't put in its place at the end.
+fn fault_of(left: Unwritten, new: String, end: String) -> FileFault
+    ensures reason { reason_of result ≡ None }
+    ensures left { spec.left_by result ≡ spec.left_at (string_bytes new) left }
+{
+    match left {
+        Unwritten::Failed => FileFault::Writing(end),
+        Unwritten::Left => FileFault::Left(new),
+    }
+}
+
+/// Gives the file at the end this text, by way of the new one.
+fn write_by<S: Storage>(
+    storage: &mut S,
+    new: String,
+    end: String,
+    text: &str,
+) -> Result<(), FileFault>
+    ensures { Changes (S.agrees storage.old) (S.agrees storage.new)
+        (spec.WritesAt (string_bytes end) text.now result) }
+{
+    match replace(storage, new.as_str(), end.as_str(), text) {
+        Ok(()) => Ok(()),
+        Err(left) => Err(fault_of(left, new, end)),
+    }
+}
+
+/// Gives the file at the end this text. The new one beside it is named by the number.
+fn write_at<S: Storage>(
+    alloc: Global,
+    storage: &mut S,
+    end: String,
+    text: &str,
+    number: u32,
+) -> Result<(), FileFault>
+    ensures { Changes (S.agrees storage.old) (S.agrees storage.new)
+        (spec.WritesAt (string_bytes end) text.now result) }
+{
+    match new_path(alloc, end.as_str(), number) {
+        Ok(new) => write_by(storage, new, end, text),
+        Err(_) => Err(FileFault::OutOfMemory),
+    }
+}
+
+/// Gives the file to which a path leads this text.
+fn write<S: Storage>(
+    alloc: Global,
+    storage: &mut S,
+    path: &str,
+    text: &str,
+    number: u32,
+) -> Result<(), FileFault>
+    ensures { Changes (S.agrees storage.old) (S.agrees storage.new) (spec.Writes path.now text.now result) }
+{
+    match free_end(alloc, storage, path) {
+        Ok(end) => write_at(alloc, storage, end, text, number),
+        Err(fault) => Err(fault),
+    }
+}
+
+/// The text of a collection, which is read again as it.
+fn text_of(alloc: Global, collection: &Collection) -> Result<String, FileFault>
+    ensures saved { IfOk result (λ text. IsSaved (kept_view collection.now) (string_bytes text)) }
+    ensures fault { IfErr result (λ fault. reason_of fault ≡ None) }
+{
+    match save_text(alloc, collection) {
+        Ok(text) => Ok(text),
+        Err(fault) => Err(FileFault::Unsaved(fault)),
+    }
+}
+
+/// What is to be saved, and where.
+#[derive(Drop)]
+pub(crate) struct Prepared {
+    /// The user's folder.
+    pub(crate) folder: String,
+    /// The path of the name in it.
+    pub(crate) path: String,
+    /// The text.
+    pub(crate) text: String,
+}
+
+/// Finds the path, and makes the text.
+fn prepare(
+    alloc: Global,
+    env: &Env,
+    name: &str,
+    collection: &Collection,
+) -> Result<Prepared, FileFault>
+    ensures ready { IfOk result (IsPrepared env.now name.now (kept_view collection.now)) }
+    ensures fault { IfErr result (λ fault. IfSome (reason_of fault) (λ reason.
+        folders_for env.now name.now ≡ Err reason)) }
+{
+    let folders = folders_for(alloc, env, name)?;
+    let path = in_folder(alloc, folders.own.as_str(), name)?;
+    let text = text_of(alloc, collection)?;
+    Ok(Prepared {
+        folder: folders.own,
+        path,
+        text,
+    })
+}
+
+/// Makes the folder.
+fn make<S: Storage>(alloc: Global, storage: &mut S, folder: &str) -> Result<(), FileFault>
+    ensures made { Changes (S.agrees storage.old) (S.agrees storage.new) AddsFolders }
+    ensures fault { IfErr result (λ fault. reason_of fault ≡ None) }
+{
+    match storage.make_folder(folder) {
+        Ok(()) => Ok(()),
+        Err(_) => Err(writing(alloc, folder)),
+    }
+}
+
+/// Makes the folder, and gives the file to which the path leads the text.
+fn write_prepared<S: Storage>(
+    alloc: Global,
+    storage: &mut S,
+    prepared: &Prepared,
+    number: u32,
+) -> Result<(), FileFault>
+    ensures { Changes (S.agrees storage.old) (S.agrees storage.new)
+        (spec.WritesInFolder (string_bytes prepared.now.path) (string_bytes prepared.now.text) result) }
+{
+    match make(alloc, storage, prepared.folder.as_str()) {
+        Ok(()) => write(
+            alloc,
+            storage,
+            prepared.path.as_str(),
+            prepared.text.as_str(),
+            number,
+        ),
+        Err(fault) => Err(fault),
+    }
+}
+
+/// Saves a collection as the user's of this name: its file, to which links lead on, is given the text by way of a new
+/// file beside it, `.new.` with the number, which should be no other process's. Afterwards it is read as the collection,
+/// and no other file differs; or none differs at all.
+///
+/// The errors: `BadName`, no collection can have this name; `NoHome`, no variable says where it would lie; `Unsaved`, no
+/// file can keep the collection; `NoFile`, a folder, a pipe or too many links are where the file should be; `Writing`,
+/// the system failed, or there is no room; `Left`, the same, and the new file is there; `OutOfMemory`.
+pub fn save_collection<S: Storage>(
+    alloc: Global,
+    storage: &mut S,
+    env: &Env,
+    name: &str,
+    number: u32,
+    collection: &Collection,
+) -> Result<(), FileFault>
+    ensures { Changes (S.agrees storage.old) (S.agrees storage.new)
+        (spec.Saves env.now name.now (kept_view collection.now) result) }
+{
+    match prepare(alloc, env, name, collection) {
+        Ok(prepared) => write_prepared(alloc, storage, &prepared, number),
+        Err(fault) => Err(fault),
+    }
+}

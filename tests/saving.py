@@ -1,0 +1,253 @@
+"""What the program `module` does to the files of collections: `save`, `savelist`, `saveshow` and `saverm`, on a full disk,
+at each call that fails, killed at each call, and with something else where a file should be.
+"""
+
+import os
+import resource
+import shutil
+import signal
+import subprocess
+
+import pytest
+
+from tests.harness import NOBODY, SECONDS, same, true
+
+BY_NOBODY = {"user": NOBODY, "group": NOBODY, "extra_groups": []} if os.geteuid() == 0 else {}
+
+OLD = b"module load old/1\n"
+NEW = b"module use --append /m\nmodule load foo/1\n"
+LOADED = {"MODULEPATH": "/m", "LOADEDMODULES": "foo/1", "_LMFILES_": "/m/foo/1"}
+
+# What a save asks the system to change, or to wait for.
+CHANGES = ("openat", "write", "fsync", "rename", "renameat", "renameat2", "unlink", "unlinkat", "mkdir", "mkdirat")
+
+
+class Saving:
+    """A home, and the program."""
+
+    def __init__(self, program, home):
+        self.program, self.home = program, home
+        self.top = os.path.join(home, ".config", "modulecmd")
+        os.makedirs(self.top)
+        for path in (home, os.path.dirname(self.top), self.top):
+            os.chmod(path, 0o777)
+
+    def path(self, name="c"):
+        return os.path.join(self.top, name)
+
+    def put(self, data=OLD, name="c"):
+        with open(self.path(name), "wb") as file:
+            file.write(data)
+        return self.path(name)
+
+    def run(self, *words, env=(), under=(), **more):
+        given = {"HOME": self.home, "PATH": os.environ["PATH"], **LOADED, **dict(env)}
+        given = {name: value for name, value in given.items() if value is not None}
+        more = {"stdin": subprocess.DEVNULL, "capture_output": True, "timeout": SECONDS, "check": False, **more}
+        done = subprocess.run([*under, self.program, "sh", *words], env=given, cwd=self.home, **more)
+        return done.stdout, done.stderr, done.returncode
+
+    def does(self, *words, err=b"", **more):
+        same(self.run(*words, **more), (b"", err, 0), f"what {words} does")
+
+    def refuses(self, text, *words, **more):
+        same(self.run(*words, **more), (b"", f"ERROR: {text}\n".encode(), 1), f"what {words} is refused with")
+
+    def holds(self, wanted, name="c", names=("c",)):
+        with open(self.path(name), "rb") as file:
+            same(file.read(), wanted, f"the file {name}")
+        same(sorted(os.listdir(self.top)), sorted(names), "the files")
+
+
+@pytest.fixture
+def program(built):
+    return built("module")
+
+
+@pytest.fixture
+def here(program, tmp_path):
+    os.chmod(tmp_path, 0o755)
+    return Saving(program, str(tmp_path / "home"))
+
+
+def limited(size):
+    """Makes files of more bytes fail, as a full disk does."""
+
+    def limit():
+        signal.signal(signal.SIGXFSZ, signal.SIG_IGN)
+        resource.setrlimit(resource.RLIMIT_FSIZE, (size, size))
+
+    return limit
+
+
+def test_a_collection_is_saved_listed_shown_and_removed(here):
+    here.does("save", "c")
+    here.holds(NEW)
+    here.does("savelist", err=b"c\n")
+    here.does("saveshow", "c", err=f"{here.path()}:\n".encode() + NEW)
+    here.does("saverm", "c")
+    here.refuses("There is no collection 'c'", "saveshow", "c")
+    here.refuses("There is no collection 'c'", "saverm", "c")
+    here.does("savelist")
+    same(os.listdir(here.top), [], "the files")
+
+
+def test_a_full_disk_leaves_the_old_file(here):
+    for size in (0, 1, 10, len(NEW) - 1):
+        here.put()
+        here.refuses(f"Writing failed: '{here.path()}'", "save", "c", preexec_fn=limited(size))
+        here.holds(OLD)
+    os.remove(here.path())
+    here.refuses(f"Writing failed: '{here.path()}'", "save", "c", preexec_fn=limited(10))
+    same(os.listdir(here.top), [], "the files")
+
+
+def has_strace():
+    words = ["strace", "-f", "-o", os.devnull, "true"]
+    return bool(shutil.which("strace")) and not subprocess.run(words, capture_output=True, check=False).returncode
+
+
+def calls_of(here, name):
+    """How often a save makes this call."""
+    here.put()
+    log = os.path.join(here.home, "calls")
+    here.run("save", "c", under=["strace", "-f", "-e", f"trace={name}", "-o", log])
+    with open(log, encoding="utf-8") as lines:
+        return sum(f"{name}(" in line for line in lines)
+
+
+def each_call(here):
+    for name in CHANGES:
+        for number in range(1, calls_of(here, name) + 1):
+            yield name, number
+
+
+def test_each_call_that_fails_leaves_the_old_file_or_the_new(here):
+    if not has_strace():
+        pytest.skip("at each call, since strace isn't here or isn't permitted")
+    for name, number in each_call(here):
+        for error in ("ENOSPC", "EDQUOT", "EIO", "EINTR"):
+            here.put()
+            inject = f"inject={name}:error={error}:when={number}"
+            status = here.run("save", "c", under=["strace", "-f", "-e", inject, "-o", os.devnull])[2]
+            with open(here.path(), "rb") as file:
+                found = file.read()
+            true(found == (OLD if status else NEW), f"{name} {number} with {error}: status {status}, found {found!r}")
+            left = [name for name in os.listdir(here.top) if name != "c"]
+            true(not left or name.startswith("unlink"), f"{name} {number} with {error}: {left} is left")
+
+
+def test_a_signal_at_each_call_leaves_the_old_file_or_the_new(here):
+    if not has_strace():
+        pytest.skip("at each call, since strace isn't here or isn't permitted")
+    for name, number in each_call(here):
+        for sent in ("SIGTERM", "SIGINT", "SIGHUP"):
+            here.put()
+            inject = f"inject={name}:signal={sent}:when={number}"
+            here.run("save", "c", under=["strace", "-f", "-e", inject, "-o", os.devnull])
+            with open(here.path(), "rb") as file:
+                found = file.read()
+            true(found in (OLD, NEW), f"{sent} at {name} {number}: found {found!r}")
+            for left in os.listdir(here.top):
+                true(left == "c" or left.startswith(".new."), f"{sent} at {name} {number}: {left} is left")
+                if left != "c":
+                    os.remove(here.path(left))
+
+
+def test_a_folder_that_cannot_be_written_stays(here):
+    here.put()
+    os.chmod(here.top, 0o555)
+    here.refuses(f"Writing failed: '{here.path()}'", "save", "c", **BY_NOBODY)
+    here.refuses(f"Writing failed: '{here.path()}'", "saverm", "c", **BY_NOBODY)
+    here.holds(OLD)
+    os.chmod(here.top, 0o777)
+    shutil.rmtree(os.path.dirname(here.top))
+    os.chmod(here.home, 0o555)
+    here.refuses(f"Writing failed: '{here.top}'", "save", **BY_NOBODY)
+
+
+def test_without_a_home(here):
+    for words in (["save"], ["saveshow"], ["savelist"], ["saverm", "a"]):
+        here.refuses("HOME is not set", *words, env={"HOME": None})
+        here.refuses("HOME is not set", *words, env={"HOME": ""})
+    settings = os.path.join(here.home, "settings")
+    here.does("save", "a", env={"HOME": None, "XDG_CONFIG_HOME": settings})
+    same(os.listdir(os.path.join(settings, "modulecmd")), ["a"], "the files by XDG_CONFIG_HOME")
+    here.does("savelist", err=b"a\n", env={"HOME": None, "XDG_CONFIG_HOME": settings})
+    here.refuses("Writing failed: '/dev/null/.config/modulecmd'", "save", env={"HOME": "/dev/null"})
+    here.refuses("There is no collection 'default'", "saveshow", env={"HOME": "/dev/null"})
+
+
+def test_the_mode_is_that_of_the_umask(here):
+    for mask in (0o022, 0o077):
+        here.does("save", "c", preexec_fn=lambda mask=mask: os.umask(mask))
+        same(os.stat(here.path()).st_mode & 0o777, 0o666 & ~mask, "the mode")
+
+
+def test_a_link_stays_one(here):
+    store = os.path.join(here.home, "dotfiles")
+    os.mkdir(store)
+    with open(os.path.join(store, "file"), "wb") as file:
+        file.write(OLD)
+    os.symlink("../../dotfiles/file", here.path("relative"))
+    os.symlink(os.path.join(store, "file"), here.path("absolute"))
+    os.symlink("absolute", here.path("twice"))
+    os.symlink(os.path.join(store, "nowhere"), here.path("nowhere"))
+    for name, target in (("relative", "file"), ("absolute", "file"), ("twice", "file"), ("nowhere", "nowhere")):
+        here.does("save", name)
+        true(os.path.islink(here.path(name)), f"{name} is still a link")
+        with open(os.path.join(store, target), "rb") as file:
+            same(file.read(), NEW, f"the file that {name} leads to")
+    same(sorted(os.listdir(store)), ["file", "nowhere"], "the files")
+    here.does("saverm", "relative")
+    same(sorted(os.listdir(store)), ["file", "nowhere"], "the files")
+
+
+def test_what_is_no_file_is_refused(here):
+    os.mkdir(here.path("folder"))
+    os.mkfifo(here.path("pipe"))
+    os.symlink("ring", here.path("ring"))
+    os.symlink("/dev/zero", here.path("zero"))
+    names = ["folder", "pipe", "ring", "zero"]
+    for name in names:
+        for subcommand in ("save", "saveshow"):
+            here.refuses(f"No file: '{here.path(name)}'", subcommand, name)
+    for name in ("folder", "pipe"):
+        here.refuses(f"No file: '{here.path(name)}'", "saverm", name)
+    here.does("savelist")
+    same(sorted(os.listdir(here.top)), names, "the files")
+    here.put(b"#" * 65537)
+    here.refuses(f"No collection: '{here.path()}': it has more than 65536 bytes", "saveshow", "c")
+    os.chmod(here.put(), 0)
+    here.refuses(f"Reading failed: '{here.path()}'", "saveshow", "c", **BY_NOBODY)
+
+
+def test_names_are_judged(here):
+    for name in ("", "a/b", "/a", ".a", "..", "-a", "a\nb", "a\t", "a\033b", "a\177"):
+        for subcommand in ("save", "saveshow", "saverm"):
+            here.refuses(f"Bad name of a collection: '{name}'", subcommand, name)
+    for name in ("a b", "it's", '"$HOME" `x` *', "é\\", "~", "a=b"):
+        here.does("save", name)
+        here.does("savelist", err=f"{name}\n".encode())
+        here.does("saverm", name)
+    long = "n" * 300
+    here.refuses(f"Writing failed: '{here.path(long)}'", "save", long)
+    here.refuses(f"There is no collection '{long}'", "saveshow", long)
+    for name in (b".hidden", b"-dash", b"odd\xff", b"tab\t"):
+        with open(os.path.join(os.fsencode(here.top), name), "wb") as file:
+            file.write(OLD)
+    here.does("savelist")
+
+
+def test_those_of_the_original_are_read_and_left(here):
+    folder = os.path.join(here.home, ".module")
+    os.mkdir(folder)
+    for name in ("both", "theirs"):
+        with open(os.path.join(folder, name), "wb") as file:
+            file.write(OLD)
+    here.put(NEW, "both")
+    here.does("savelist", err=b"both\ntheirs\n")
+    here.does("saveshow", "both", err=f"{here.path('both')}:\n".encode() + NEW)
+    here.does("saveshow", "theirs", err=f"{folder}/theirs:\n".encode() + OLD)
+    here.refuses(f"A collection of Environment Modules, which is left to it: '{folder}/theirs'", "saverm", "theirs")
+    same(sorted(os.listdir(folder)), ["both", "theirs"], "their files")
