@@ -100,7 +100,8 @@ module _ (agrees : Files → Listings → Type 0) (shell : Shell) (e : Environme
   answered_wider (Ok a) h = restored_wider agrees shell e First Whole (string_bytes a.text) (texts_in a.messages) wider h
   answered_wider (Err fault) h = tt
 
-  pub unanswered_wider : (failed : Type 0) (result : Result Restored RestoreFault) → IfErr result (IsRestoreFault agrees failed shell e First) → IfErr result (IsRestoreFault agrees failed shell e Whole)
+  pub unanswered_wider : (failed : Type 0) (result : Result Restored RestoreFault) → IfErr result (IsRestoreFault agrees failed shell e First)
+      → IfErr result (IsRestoreFault agrees failed shell e Whole)
   unanswered_wider failed (Ok a) h = tt
   unanswered_wider failed (Err fault) h = fault_wider agrees failed shell e First Whole fault wider h
 

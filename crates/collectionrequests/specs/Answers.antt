@@ -44,7 +44,8 @@ StepLacksText agrees shell e Comes name =
 abbrev pub IsRestoreFault : (Files → Listings → Type 0) → Type 0 → Shell → Environment → StepOutcomes → RestoreFault
     → Type 0
 IsRestoreFault agrees failed shell e Comes (restores.Refused refusal) =
-    Applies (cause_of refusal) failed (λ reason. InEachPair agrees (λ files listings. Comes files listings (Err reason)))
+    Applies (cause_of refusal) failed
+    (λ reason. InEachPair agrees (λ files listings. Comes files listings (Err reason)))
 IsRestoreFault agrees failed shell e Comes (restores.Unprinted prints.OutOfMemory) = Unit {0}
 IsRestoreFault agrees failed shell e Comes (restores.Unprinted (prints.NotSayable name)) =
     StepLacksText agrees shell e Comes (string_bytes name)

@@ -35,8 +35,8 @@ both first second =
       report = first.report ++ second.report;
     }
 
--- The step of a restore: a purge, then a change of MODULEPATH to the directories, and then the load of the modules. Each
--- is accepted, or the reason of the first that isn't is that of the whole.
+-- The step of a restore: a purge, then a change of MODULEPATH to the directories, and then the load of the modules.
+-- Each is accepted, or the reason of the first that isn't is that of the whole.
 abbrev pub RestoreStep : RequestContext → Environment → (directories modules : List Text) → Result Done RequestReason
     → Type 0
 RestoreStep s e directories modules =

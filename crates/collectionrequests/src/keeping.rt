@@ -58,8 +58,8 @@ fn once(alloc: Global, texts: &[String]) -> Result<Vec<String>, AllocError>
 
 /// What `save` keeps of an environment, which doesn't change: the modules that are loaded, in load order, and the
 /// directories of MODULEPATH as it is after a purge, so without what loaded modules have added; each directory once, by
-/// the absolute path that `use` would take it for. The collection may be empty, and `collections::save_text` then has no
-/// text for it. The device failed only at paths that the purge looks at.
+/// the absolute path that `use` would take it for. The collection may be empty, and `collections::save_text` then has
+/// no text for it. The device failed only at paths that the purge looks at.
 ///
 /// Errors: `Refused`, the loaded lists don't fit together (35), the purge is refused, by 43 where the device failed in
 /// this call, or memory ran out; `Path`, a directory is relative and there is no working directory, or its path has a

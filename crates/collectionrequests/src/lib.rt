@@ -1,4 +1,4 @@
-//! Collections as requests: what `restore` and `reload` make of an environment, and what `save` keeps of it (module(1)).
+//! Collections as requests: what `restore` and `reload` make of an environment, what `save` keeps of it (module(1)).
 //! Takes memory; reads the files and directories (`Tree`) that it is given. The environment doesn't change.
 #![tactic(auto)]
 

@@ -79,7 +79,8 @@ fn answer_of(
 /// where there are none), and then its modules are loaded, in order. The environment doesn't change.
 ///
 /// The text says exactly, as the shell reads it, what this makes of the environment. It is all or nothing: where one of
-/// the requests is refused, so is the whole, for that reason. The device failed only at paths that one of them looks at.
+/// the requests is refused, so is the whole, for that reason. The device failed only at paths that one of them looks
+/// at.
 ///
 /// Errors: `Refused`, the purge or the load is refused, by 43 where the device failed in this call, or for want of
 /// memory; `Unprinted`, the changes have no text for the shell (62), or want of memory (61).
@@ -111,8 +112,8 @@ pub fn restore<T: Tree>(
     answer_of(alloc, shell, env, run)
 }
 
-/// Does what `reload` does: unloads all modules, and loads them again, in load order. MODULEPATH is only what these make
-/// of it. All else is as with `restore`; where the loaded lists don't fit together it is refused by 35.
+/// Does what `reload` does: unloads all modules, and loads them again, in load order. MODULEPATH is only what these
+/// make of it. All else is as with `restore`; where the loaded lists don't fit together it is refused by 35.
 pub fn reload<T: Tree>(
     alloc: Global,
     shell: Shell,
