@@ -1,0 +1,2 @@
+pub mod RestoreLemmas
+pub mod KeepLemmas
