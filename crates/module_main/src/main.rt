@@ -4,11 +4,12 @@
 //! Nothing stands above it; it has no clause, so it has little code.
 #![tactic(auto)]
 
-mod files;
+mod collection_commands;
 mod given;
 mod missing;
+mod refusal;
 
-use files::do_file_command;
+use collection_commands::do_collection_command;
 use functioncommand::{FunctionOutput, function_output};
 use given::Given;
 use message::{Message, RefusalKind};
@@ -36,7 +37,7 @@ fn main(rt: HostRuntime) -> ExitCode {
         Ok(given) => given,
         Err(refusal) => return refused(&rt, refusal.message),
     };
-    if let Some(status) = do_file_command(&rt, &given) {
+    if let Some(status) = do_collection_command(&rt, &given) {
         return status;
     }
     let working = match &given.working {

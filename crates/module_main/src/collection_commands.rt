@@ -1,0 +1,161 @@
+//! The subcommands of collections: what is kept, restored, listed, shown and removed. Reports go to standard error.
+
+use crate::given::Given;
+use crate::refusal::Refusal;
+use collectionfiles::{
+    DiskStorage, find_collection, list_collections, read_bytes, read_collection_file,
+    remove_collection, save_collection,
+};
+use collectionrequests::{Restored, collection_of, reload, restore};
+use filetree::DiskTree;
+use shelltext::Shell;
+use std::io::Write;
+use std::process::ExitCode;
+use std::{env, process};
+use subcommands::{Subcommand, subcommand_of};
+use tclrules::Limits;
+
+/// What the program's name ends with where a site has it.
+const OWN_NAME: &str = "/libexec/module";
+
+/// How much every modulefile may use, as with `modulecmd`: commands, evaluations within one another, bytes in a value.
+const STANDARD: Limits = Limits {
+    commands: 100_000,
+    depth: 200,
+    value_bytes: 1_048_576,
+};
+
+/// The path of the site's own collection, by the program's name.
+fn site_collection(rt: &HostRuntime) -> Option<String> {
+    let name = env::args(rt).ok()?.next()?;
+    let prefix = name.as_str().strip_suffix(OWN_NAME)?;
+    format!(in rt.alloc(); "{prefix}/etc/initial").ok()
+}
+
+/// The name of a collection, the first of the words or else `default`.
+fn name_in(words: &[String]) -> Result<&str, Refusal> {
+    match words {
+        [] => Ok("default"),
+        [name] => Ok(name.as_str()),
+        _ => Err(Refusal::BadArguments),
+    }
+}
+
+/// That there are no words.
+fn refuse_words(words: &[String]) -> Result<(), Refusal> {
+    if words.is_empty() {
+        Ok(())
+    } else {
+        Err(Refusal::BadArguments)
+    }
+}
+
+/// Reports the names of the collections.
+fn list(rt: &HostRuntime, given: &Given, words: &[String]) -> Result<(), Refusal> {
+    refuse_words(words)?;
+    let mut storage = DiskStorage::new(rt);
+    for name in &list_collections(rt.alloc(), &mut storage, &given.env)? {
+        let _ = eprintln!(rt; "{name}");
+    }
+    Ok(())
+}
+
+/// Saves what is loaded, and what is searched without it.
+fn save(rt: &HostRuntime, shell: Shell, given: &Given, words: &[String]) -> Result<(), Refusal> {
+    let name = name_in(words)?;
+    let env = &given.env;
+    let working = given.working.as_deref();
+    let mut tree = DiskTree::new(rt);
+    let kept = collection_of(rt.alloc(), shell, env, working, &mut tree, STANDARD)?;
+    let mut storage = DiskStorage::new(rt);
+    let number = process::id(rt.process());
+    Ok(save_collection(rt.alloc(), &mut storage, env, name, number, &kept)?)
+}
+
+/// Reports what is in the file of a collection.
+fn show(rt: &HostRuntime, given: &Given, words: &[String]) -> Result<(), Refusal> {
+    let name = name_in(words)?;
+    let mut storage = DiskStorage::new(rt);
+    let site = site_collection(rt);
+    let path = find_collection(rt.alloc(), &mut storage, &given.env, site.as_deref(), name)?;
+    let bytes = read_bytes(rt.alloc(), &mut storage, path.as_str())?;
+    let _ = eprintln!(rt; "{path}:");
+    let _ = rt.stderr().write_all(bytes.as_slice());
+    Ok(())
+}
+
+/// Removes a collection.
+fn remove(rt: &HostRuntime, given: &Given, words: &[String]) -> Result<(), Refusal> {
+    let [name] = words else {
+        return Err(Refusal::BadArguments);
+    };
+    let mut storage = DiskStorage::new(rt);
+    Ok(remove_collection(rt.alloc(), &mut storage, &given.env, name.as_str())?)
+}
+
+/// Writes the messages of modulefiles, and then the text for the shell.
+fn write(rt: &HostRuntime, restored: &Restored) -> Result<(), Refusal> {
+    for message in &restored.messages {
+        let _ = rt.stderr().write_all(message.as_bytes());
+    }
+    match rt.stdout().write_all(restored.text.as_bytes()) {
+        Ok(()) => Ok(()),
+        Err(_) => Err(Refusal::WriteFailed),
+    }
+}
+
+/// Restores a collection.
+fn restored(
+    rt: &HostRuntime,
+    shell: Shell,
+    given: &Given,
+    words: &[String],
+) -> Result<(), Refusal> {
+    let name = name_in(words)?;
+    let env = &given.env;
+    let site = site_collection(rt);
+    let mut storage = DiskStorage::new(rt);
+    let path = find_collection(rt.alloc(), &mut storage, env, site.as_deref(), name)?;
+    let kept = read_collection_file(rt.alloc(), &mut storage, path.as_str())?;
+    let mut tree = DiskTree::new(rt);
+    write(
+        rt,
+        &restore(rt.alloc(), shell, &kept, env, &mut tree, STANDARD)?,
+    )
+}
+
+/// Unloads all modules and loads them again.
+fn reloaded(
+    rt: &HostRuntime,
+    shell: Shell,
+    given: &Given,
+    words: &[String],
+) -> Result<(), Refusal> {
+    refuse_words(words)?;
+    let mut tree = DiskTree::new(rt);
+    write(
+        rt,
+        &reload(rt.alloc(), shell, &given.env, &mut tree, STANDARD)?,
+    )
+}
+
+/// Does the command, where it is one of collections, and gives the program's status.
+pub fn do_collection_command(rt: &HostRuntime, given: &Given) -> Option<ExitCode> {
+    let [shell, word, words @ ..] = given.arguments.as_slice() else {
+        return None;
+    };
+    let shell = Shell::named(shell.as_str())?;
+    let done = match subcommand_of(word.as_str()) {
+        Ok(Subcommand::Save) => save(rt, shell, given, words),
+        Ok(Subcommand::SaveList) => list(rt, given, words),
+        Ok(Subcommand::SaveShow) => show(rt, given, words),
+        Ok(Subcommand::SaveRemove) => remove(rt, given, words),
+        Ok(Subcommand::Restore) => restored(rt, shell, given, words),
+        Ok(Subcommand::Reload) => reloaded(rt, shell, given, words),
+        _ => return None,
+    };
+    Some(match done {
+        Ok(()) => ExitCode::SUCCESS,
+        Err(refusal) => refusal.tell(rt),
+    })
+}

@@ -1,0 +1,60 @@
+//! Why a command of collections is refused.
+
+use collectionfiles::FileFault;
+use collectionrequests::{KeepFault, RestoreFault};
+use message::RefusalKind;
+use std::fmt;
+use std::process::ExitCode;
+
+/// Why a command of collections is refused. Its `Display` is what stands behind `ERROR: `.
+#[derive(Drop)]
+pub enum Refusal {
+    /// 56: its words don't fit it.
+    BadArguments,
+    /// 64: the text can't be written.
+    WriteFailed,
+    /// Nothing can be kept.
+    Keep(KeepFault),
+    /// The collection can't be restored.
+    Restore(RestoreFault),
+    /// This is wrong with the files.
+    Files(FileFault),
+}
+
+impl From<KeepFault> for Refusal {
+    fn from(fault: KeepFault) -> Refusal {
+        Refusal::Keep(fault)
+    }
+}
+
+impl From<RestoreFault> for Refusal {
+    fn from(fault: RestoreFault) -> Refusal {
+        Refusal::Restore(fault)
+    }
+}
+
+impl From<FileFault> for Refusal {
+    fn from(fault: FileFault) -> Refusal {
+        Refusal::Files(fault)
+    }
+}
+
+impl fmt::Display for Refusal {
+    fn fmt<W: fmt::Write>(&self, f: &mut fmt::Formatter<W>) -> fmt::Result {
+        match self {
+            Refusal::BadArguments => RefusalKind::BadArguments.plain().message.fmt(f),
+            Refusal::WriteFailed => RefusalKind::WriteFailed.plain().message.fmt(f),
+            Refusal::Keep(fault) => fault.fmt(f),
+            Refusal::Restore(fault) => fault.fmt(f),
+            Refusal::Files(fault) => fault.fmt(f),
+        }
+    }
+}
+
+impl Refusal {
+    /// Says it on standard error, and gives the program's status.
+    pub fn tell(&self, rt: &HostRuntime) -> ExitCode {
+        let _ = eprintln!(rt; "ERROR: {self}");
+        ExitCode::from(1)
+    }
+}
