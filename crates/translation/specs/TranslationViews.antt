@@ -34,7 +34,7 @@ AddsChange result old new change = IfOk result (AddsIf old new change)
 
 -- what is written, and said, of a text of these commands, where these names are left out
 pub record IsTranslation
-  (names : List Text) (text : Text) (cs : List Command) (written : Text) (said : List notes.Note) : Type 0 where
+    (names : List Text) (text : Text) (cs : List Command) (written : Text) (said : List notes.Note) : Type 0 where
   pub text_is : written ≡ written_for_all (pieces_of text cs)
   pub notes_are : said ≡ notes_on_all names text (pieces_of text cs)
 
