@@ -1,5 +1,5 @@
 -- What a restore and a reload answer, by the run of their requests.
-use Rattle.std.proofs.Common.{◌≡◌, List, [], string_bytes, Result, Ok, Err, IfOk, IfErr, refl, sym, ap, subst}
+use Rattle.std.proofs.Common.{◌≡◌, List, [], string_bytes, Result, Ok, Err, IfOk, IfErr, inr, refl, sym, ap, subst}
 use Rattle.envvars.specs.Texts.{Text, texts_in}
 use Rattle.envvars.specs.Environment.{Environment}
 use Rattle.envloaded.specs.Loaded.{Entry, names_of}
@@ -10,13 +10,14 @@ use Rattle.shelltext.specs.declared.print.PrintFault.TheVariants as prints
 use Rattle.shelltext.specs.declared.shell.Shell.{Shell}
 use Rattle.tclrules.specs.declared.limits.Limits.{Limits}
 use Rattle.requests.specs.Reasons.{RequestReason}
-use Rattle.requests.specs.Steps.{RequestContext, Done, entries_of, request_context_in}
+use Rattle.requests.specs.Requests.{purge}
+use Rattle.requests.specs.Steps.{RequestContext, RequestStep, Done, entries_of, request_context_in}
 use Rattle.modules.specs.Answers.{cause_of}
 use Rattle.modules.specs.declared.refusal.Refusal.{Refusal}
 use Rattle.modules.proofs.StepLemmas.{stands_as}
 use Rattle.sessions.specs.Rehearsals.{LacksText}
 use Rattle.collectionrequests.specs.Answers.{IsRestored, IsRestoreFault, StepOutcomes}
-use Rattle.collectionrequests.specs.Restores.{ReloadLooksAt, ReloadStep, RestoreLooksAt, RestoreStep}
+use Rattle.collectionrequests.specs.Restores.{LoadStep, LoadStepLooksAt, ReloadLooksAt, ReloadStep, RestoreLooksAt, RestoreStep, both, searching}
 use Rattle.collectionrequests.specs.Views.{IsUnsaid, named, loaded_names}
 use Rattle.collectionrequests.specs.declared.fault.RestoreFault.{RestoreFault}
 use Rattle.collectionrequests.specs.declared.fault.RestoreFault.TheVariants.{Refused, Unprinted}
@@ -27,6 +28,31 @@ pub memory_applies : (c : Cause RequestReason) (failed : Type 0) (P : RequestRea
 memory_applies memory failed P h = tt
 memory_applies device failed P h = absurd (cc)
 memory_applies (because r) failed P h = absurd (cc)
+
+-- ---- the requests, one after the other
+
+-- a purge that is refused
+pub purge_refused : (s : RequestContext) (e : Environment) (directories modules : List Text) (r : RequestReason) → RequestStep s e purge (Err r) → RestoreStep s e directories modules (Err r)
+purge_refused s e directories modules r first = (Err r, first, refl)
+
+module _ (s : RequestContext) (e before : Environment) (directories modules : List Text) (purged : Done) (first : RequestStep s e purge (Ok purged))
+    (searched : before ≡ searching directories purged.env) where
+  -- a load that is refused
+  pub load_refused : (r : RequestReason) → LoadStep s modules before (Err r) → RestoreStep s e directories modules (Err r)
+  load_refused r then =
+      let P : Environment → Type 0 = λ x. LoadStep s modules x (Err r) in
+      (Ok purged, first, (Err r, subst P searched then, refl))
+
+  pub load_done : (loaded : Done) → LoadStep s modules before (Ok loaded) → RestoreStep s e directories modules (Ok (both purged loaded))
+  load_done loaded then =
+      let P : Environment → Type 0 = λ x. LoadStep s modules x (Ok loaded) in
+      (Ok purged, first, (Ok loaded, subst P searched then, refl))
+
+  -- where the load looks
+  pub load_looks : (at : Text) → LoadStepLooksAt s modules before at → RestoreLooksAt s e directories modules at
+  load_looks at then =
+      let P : Environment → Type 0 = λ x. LoadStepLooksAt s modules x at in
+      inr (purged, first, subst P searched then)
 
 -- ---- the answer
 

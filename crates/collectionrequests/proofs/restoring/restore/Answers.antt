@@ -1,4 +1,5 @@
 use Rattle.envvars.specs.Texts.{texts_in}
+use Rattle.filetree.proofs.FailedPaths.{only_if}
 use Rattle.requests.specs.Steps.{request_context_in}
 use Rattle.collectionrequests.specs.Answers.{StepOutcomes}
 use Rattle.collectionrequests.specs.Restores.{RestoreStep}
@@ -19,3 +20,6 @@ returns-clause-refused g c =
     (texts_in c.args.collection.now.directories) (texts_in c.args.collection.now.modules) in
     unanswered (g.T.Tree.agrees c.run_restore.new.tree) c.args.shell c.args.env.now (run_view c.in_ok-run.run') Comes
     (rw (c.as_slice-directories.ensures.value, c.as_slice-modules.ensures.value) at c.in_ok-run.ensures.over_tree) _ c.answer_of.result c.answer_of.ensures.fault
+
+pub returns-in_err-run-clause-failed : goal.returns-in_err-run-clause-failed
+returns-in_err-run-clause-failed g c = only_if _ _ _ _ (rw (c.as_slice-directories.ensures.value, c.as_slice-modules.ensures.value) at c.in_err-run.ensures.failed)
