@@ -1,6 +1,5 @@
 //! The program `module SHELL SUBCOMMAND [WORD...]`: `use`, `unuse`, `is-loaded`, collections, and what a word means.
-//! Touches its arguments, its environment, its working directory and the standard streams, looks for directories, and
-//! reads and writes the files of collections.
+//! Touches its arguments, environment, working directory and standard streams, directories, and files of collections.
 //! Nothing stands above it; it has no clause, so it has little code.
 #![tactic(auto)]
 
