@@ -19,8 +19,7 @@ _PREFIX = "@prefix@"
 # The programs by the names of the subcommands that they do.
 _PROGRAMS = {
     "bin/modulecmd": "load add unload rm switch swap purge",
-    "libexec/module": "use unuse is-loaded",
-    "libexec/changes": "save saverm restore reload",
+    "libexec/module": "use unuse is-loaded save saverm restore reload",
     "libexec/report": "help --help list avail show display whatis keyword apropos savelist saveshow is-avail",
     "libexec/usage": "--version",
 }

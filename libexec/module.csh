@@ -35,13 +35,11 @@ case xuse:
     if ( $#_module_words == 2 ) set _module_way = report
     breaksw
 case xunuse:
-    set _module_way = libexec/module
-    breaksw
 case xsave:
 case xsaverm:
 case xrestore:
 case xreload:
-    set _module_way = libexec/changes
+    set _module_way = libexec/module
     breaksw
 case xis-loaded:
     set _module_way = status

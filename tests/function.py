@@ -195,7 +195,7 @@ def test_the_working_directory(program, place):
 def test_bytes_that_are_no_text(program):
     done = run(program, [b"sh", b"use", b"/\xff"])
     same(outcome(done), (1, "", "ERROR: Bad arguments\n"), "a word")
-    for word in ("use", "unuse"):
+    for word in ("use", "unuse", "save"):
         done = run(program, ["sh", word, "/x"], {"MODULEPATH": b"/\xff"})
         same(outcome(done), (1, "", "ERROR: Bad value of 'MODULEPATH'\n"), f"MODULEPATH, by {word}")
     env = {"MODULEPATH": b"/\xff", **LOADED}

@@ -7,6 +7,7 @@ import resource
 import shutil
 import signal
 import subprocess
+import tempfile
 
 import pytest
 
@@ -15,22 +16,26 @@ from tests.harness import NOBODY, SECONDS, same, true
 BY_NOBODY = {"user": NOBODY, "group": NOBODY, "extra_groups": []} if os.geteuid() == 0 else {}
 
 OLD = b"module load old/1\n"
-NEW = b"module use --append /m\nmodule load foo/1\n"
-LOADED = {"MODULEPATH": "/m", "LOADEDMODULES": "foo/1", "_LMFILES_": "/m/foo/1"}
 
 # What a save asks the system to change, or to wait for.
 CHANGES = ("openat", "write", "fsync", "rename", "renameat", "renameat2", "unlink", "unlinkat", "mkdir", "mkdirat")
 
 
 class Saving:
-    """A home, and the program."""
+    """A home, the program, and a module that is loaded: `new` is what a save writes of it."""
 
-    def __init__(self, program, home):
-        self.program, self.home = program, home
-        self.top = os.path.join(home, ".config", "modulecmd")
+    def __init__(self, program, folder):
+        self.program, self.home = program, os.path.join(folder, "home")
+        self.top = os.path.join(self.home, ".config", "modulecmd")
         os.makedirs(self.top)
-        for path in (home, os.path.dirname(self.top), self.top):
+        for path in (self.home, os.path.dirname(self.top), self.top):
             os.chmod(path, 0o777)
+        modules = os.path.join(folder, "m")
+        os.makedirs(os.path.join(modules, "foo"))
+        with open(os.path.join(modules, "foo/1"), "wb") as file:
+            file.write(b"#%Module\n")
+        self.new = f"module use --append {modules}\nmodule load foo/1\n".encode()
+        self.loaded = {"MODULEPATH": modules, "LOADEDMODULES": "foo/1", "_LMFILES_": f"{modules}/foo/1"}
 
     def path(self, name="c"):
         return os.path.join(self.top, name)
@@ -41,7 +46,7 @@ class Saving:
         return self.path(name)
 
     def run(self, *words, env=(), under=(), **more):
-        given = {"HOME": self.home, "PATH": os.environ["PATH"], **LOADED, **dict(env)}
+        given = {"HOME": self.home, "PATH": os.environ["PATH"], **self.loaded, **dict(env)}
         given = {name: value for name, value in given.items() if value is not None}
         more = {"stdin": subprocess.DEVNULL, "capture_output": True, "timeout": SECONDS, "check": False, **more}
         done = subprocess.run([*under, self.program, "sh", *words], env=given, cwd=self.home, **more)
@@ -65,9 +70,10 @@ def program(built):
 
 
 @pytest.fixture
-def here(program, tmp_path):
-    os.chmod(tmp_path, 0o755)
-    return Saving(program, str(tmp_path / "home"))
+def here(program):
+    with tempfile.TemporaryDirectory(prefix="modulecmd-saving-") as folder:
+        os.chmod(folder, 0o755)
+        yield Saving(program, folder)
 
 
 def limited(size):
@@ -82,9 +88,9 @@ def limited(size):
 
 def test_a_collection_is_saved_listed_shown_and_removed(here):
     here.does("save", "c")
-    here.holds(NEW)
+    here.holds(here.new)
     here.does("savelist", err=b"c\n")
-    here.does("saveshow", "c", err=f"{here.path()}:\n".encode() + NEW)
+    here.does("saveshow", "c", err=f"{here.path()}:\n".encode() + here.new)
     here.does("saverm", "c")
     here.refuses("There is no collection 'c'", "saveshow", "c")
     here.refuses("There is no collection 'c'", "saverm", "c")
@@ -93,7 +99,7 @@ def test_a_collection_is_saved_listed_shown_and_removed(here):
 
 
 def test_a_full_disk_leaves_the_old_file(here):
-    for size in (0, 1, 10, len(NEW) - 1):
+    for size in (0, 1, 10, len(here.new) - 1):
         here.put()
         here.refuses(f"Writing failed: '{here.path()}'", "save", "c", preexec_fn=limited(size))
         here.holds(OLD)
@@ -132,7 +138,8 @@ def test_each_call_that_fails_leaves_the_old_file_or_the_new(here):
             status = here.run("save", "c", under=["strace", "-f", "-e", inject, "-o", os.devnull])[2]
             with open(here.path(), "rb") as file:
                 found = file.read()
-            true(found == (OLD if status else NEW), f"{name} {number} with {error}: status {status}, found {found!r}")
+            wanted = OLD if status else here.new
+            true(found == wanted, f"{name} {number} with {error}: status {status}, found {found!r}")
             left = [name for name in os.listdir(here.top) if name != "c"]
             true(not left or name.startswith("unlink"), f"{name} {number} with {error}: {left} is left")
 
@@ -147,7 +154,7 @@ def test_a_signal_at_each_call_leaves_the_old_file_or_the_new(here):
             here.run("save", "c", under=["strace", "-f", "-e", inject, "-o", os.devnull])
             with open(here.path(), "rb") as file:
                 found = file.read()
-            true(found in (OLD, NEW), f"{sent} at {name} {number}: found {found!r}")
+            true(found in (OLD, here.new), f"{sent} at {name} {number}: found {found!r}")
             for left in os.listdir(here.top):
                 true(left == "c" or left.startswith(".new."), f"{sent} at {name} {number}: {left} is left")
                 if left != "c":
@@ -197,7 +204,7 @@ def test_a_link_stays_one(here):
         here.does("save", name)
         true(os.path.islink(here.path(name)), f"{name} is still a link")
         with open(os.path.join(store, target), "rb") as file:
-            same(file.read(), NEW, f"the file that {name} leads to")
+            same(file.read(), here.new, f"the file that {name} leads to")
     same(sorted(os.listdir(store)), ["file", "nowhere"], "the files")
     here.does("saverm", "relative")
     same(sorted(os.listdir(store)), ["file", "nowhere"], "the files")
@@ -245,9 +252,35 @@ def test_those_of_the_original_are_read_and_left(here):
     for name in ("both", "theirs"):
         with open(os.path.join(folder, name), "wb") as file:
             file.write(OLD)
-    here.put(NEW, "both")
+    here.put(here.new, "both")
     here.does("savelist", err=b"both\ntheirs\n")
-    here.does("saveshow", "both", err=f"{here.path('both')}:\n".encode() + NEW)
+    here.does("saveshow", "both", err=f"{here.path('both')}:\n".encode() + here.new)
     here.does("saveshow", "theirs", err=f"{folder}/theirs:\n".encode() + OLD)
     here.refuses(f"A collection of Environment Modules, which is left to it: '{folder}/theirs'", "saverm", "theirs")
     same(sorted(os.listdir(folder)), ["both", "theirs"], "their files")
+
+
+def test_what_is_not_about_MODULEPATH_takes_one_that_is_no_text(here):
+    """It is read as none, as by `modulecmd`; a save, which would leave it out, is refused (tests/function.py)."""
+    here.put(here.new)
+    env = {"MODULEPATH": b"/\xff"}
+    here.does("savelist", err=b"c\n", env=env)
+    here.does("saveshow", "c", err=f"{here.path()}:\n".encode() + here.new, env=env)
+    out, err, status = here.run("restore", "c", env=env)
+    wanted = f"MODULEPATH='{here.loaded['MODULEPATH']}'; export MODULEPATH;\n".encode()
+    same((out, err, status), (wanted, b"", 0), "what a restore writes")
+    here.does("saverm", "c", env=env)
+
+
+def test_a_report_or_a_message_that_cannot_be_written_is_a_refusal(here):
+    here.put(here.new)
+    with open(here.loaded["_LMFILES_"], "ab") as file:
+        file.write(b"puts stderr said\n")
+    for words in (["savelist"], ["saveshow", "c"], ["restore", "c"], ["reload"]):
+        with open("/dev/full", "wb") as full:
+            out, _, status = here.run(*words, capture_output=False, stdout=subprocess.PIPE, stderr=full)
+        same((out, status), (b"", 1), f"{words} on a full device")
+    with open("/dev/full", "wb") as full:
+        more = {"capture_output": False, "stdout": full, "stderr": subprocess.PIPE}
+        _, err, status = here.run("restore", "c", env={"LOADEDMODULES": "", "_LMFILES_": ""}, **more)
+    same((err, status), (b"said\nERROR: Writing failed\n", 1), "a text on a full device")

@@ -142,6 +142,13 @@ def test_refuses_a_directory_that_csh_has_no_text_for(here):
 # What is typed, and the programs of the product that it starts, which are all that it starts, where foo is loaded.
 STARTED = {
     "module load foo": ["bin/modulecmd"],
+    "module save": ["libexec/module"],
+    "module restore": ["libexec/module"],
+    "module reload": ["libexec/module"],
+    "ml restore default": ["libexec/module"],
+    "module savelist": ["libexec/report", "libexec/module"],
+    "module saverm default": ["libexec/module"],
+    "module restore default": ["libexec/module"],
     "module use /": ["libexec/module"],
     "module unuse /": ["libexec/module"],
     "module use --nope": ["libexec/module"],
@@ -220,6 +227,46 @@ def test_saves_and_restores(here):
         same_environment(found, wanted, "the environment that is restored")
     same(content(file).decode(), shown, "the file")
     same(os.listdir(os.path.dirname(file)), ["default"], "the files")
+
+
+def test_saves_what_is_searched_without_the_loaded_modules(here):
+    """A save, a purge, a restore and a purge give the start back, where loaded modules have added to MODULEPATH."""
+    more = os.path.join(here.top, "more")
+    os.makedirs(os.path.join(more, "in"))
+    with open(os.path.join(more, "in", "1"), "w") as file:
+        file.write(f"#%Module\nsetenv IN 1\nappend-path MODULEPATH {here.start}/last\n")
+    here.module("door/1", f"prepend-path MODULEPATH {more}\n")
+    lines = [*step("module load door"), *step("module load in"), "module save", *step("module purge")]
+    lines += [*step("module restore"), *step("module reload"), *step("module purge")]
+    kept = here.keeps(["show", *lines])
+    same(kept.statuses, ["0"] * 6, "the statuses")
+    before, door, loaded, purged, restored, reloaded, after = kept.shown
+    same(door[b"MODULEPATH"].decode(), f"{more}:{here.start}", "MODULEPATH behind a module")
+    changes = {"IN": "1", "MODULEPATH": f"{more}:{here.start}:{here.start}/last", "LOADEDMODULES": "door/1:in/1"}
+    changes["_LMFILES_"] = f"{here.paths['door/1']}:{more}/in/1"
+    for found in (loaded, restored, reloaded):
+        same_environment(found, changed(before, changes), "the environment with both")
+    for found in (purged, after):
+        same_environment(found, before, "the environment without them")
+    written = content(os.path.join(here.home, ".config/modulecmd/default")).decode()
+    same(written, f"module use --append {here.start}\nmodule load door/1\nmodule load in/1\n", "the file")
+
+
+def test_saves_through_a_link_and_nothing_where_it_is_refused(here):
+    """A link in the place of a collection stays, and the file that it leads to is written."""
+    for name in ("foo/1", "bar/1"):
+        here.module(name, "")
+    link, store = here.collection("default", "module load old\n"), os.path.join(here.top, "store")
+    os.rename(link, store)
+    os.symlink(store, link)
+    lines = ["module load foo", "module save", "status", "module load bar", f"/bin/rm {here.paths['bar/1']}"]
+    lines += [*step("module save"), *step("module restore"), *step("module reload")]
+    kept = here.keeps(["show", *lines], f"ERROR: No file at '{here.paths['bar/1']}'\n" * 3)
+    same(kept.statuses, ["0", "1", "1", "1"], "the statuses")
+    for found in kept.shown[1:]:
+        same_environment(found, changed(kept.shown[0], here.lists("foo/1", "bar/1")), "the environment")
+    same((os.path.islink(link), os.listdir(os.path.dirname(link))), (True, ["default"]), "the link, and what is beside")
+    same(content(store).decode(), f"module use --append {here.start}\nmodule load foo/1\n", "the file")
 
 
 def test_changes_nothing_where_a_restore_or_a_reload_is_refused(here):

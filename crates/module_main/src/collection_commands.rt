@@ -50,12 +50,21 @@ fn refuse_words(words: &[String]) -> Result<(), Refusal> {
     }
 }
 
+/// Writes a part of a report, or a message, to standard error.
+fn report(rt: &HostRuntime, bytes: &[u8]) -> Result<(), Refusal> {
+    match rt.stderr().write_all(bytes) {
+        Ok(()) => Ok(()),
+        Err(_) => Err(Refusal::WriteFailed),
+    }
+}
+
 /// Reports the names of the collections.
 fn list(rt: &HostRuntime, given: &Given, words: &[String]) -> Result<(), Refusal> {
     refuse_words(words)?;
     let mut storage = DiskStorage::new(rt);
     for name in &list_collections(rt.alloc(), &mut storage, &given.env)? {
-        let _ = eprintln!(rt; "{name}");
+        report(rt, name.as_bytes())?;
+        report(rt, b"\n")?;
     }
     Ok(())
 }
@@ -79,9 +88,9 @@ fn show(rt: &HostRuntime, given: &Given, words: &[String]) -> Result<(), Refusal
     let site = site_collection(rt);
     let path = find_collection(rt.alloc(), &mut storage, &given.env, site.as_deref(), name)?;
     let bytes = read_bytes(rt.alloc(), &mut storage, path.as_str())?;
-    let _ = eprintln!(rt; "{path}:");
-    let _ = rt.stderr().write_all(bytes.as_slice());
-    Ok(())
+    report(rt, path.as_bytes())?;
+    report(rt, b":\n")?;
+    report(rt, bytes.as_slice())
 }
 
 /// Removes a collection.
@@ -96,7 +105,7 @@ fn remove(rt: &HostRuntime, given: &Given, words: &[String]) -> Result<(), Refus
 /// Writes the messages of modulefiles, and then the text for the shell.
 fn write(rt: &HostRuntime, restored: &Restored) -> Result<(), Refusal> {
     for message in &restored.messages {
-        let _ = rt.stderr().write_all(message.as_bytes());
+        report(rt, message.as_bytes())?;
     }
     match rt.stdout().write_all(restored.text.as_bytes()) {
         Ok(()) => Ok(()),

@@ -6,6 +6,7 @@ use std::env::VarError;
 use std::io::ErrorKind;
 use std::os::unix::fs::MetadataExt;
 use std::{env, fs};
+use subcommands::{Subcommand, subcommand_of};
 
 /// What the process is given.
 #[derive(Drop)]
@@ -50,11 +51,15 @@ fn want_of_memory() -> NumberedMessage<'static> {
     RefusalKind::MemoryForRequest.plain()
 }
 
-/// Whether a command with these arguments may read or change MODULEPATH.
+/// Whether a command with these arguments edits or keeps the directories of MODULEPATH. What loads and unloads takes it
+/// as `modulecmd` does, which reads a text that isn't UTF-8 as none.
 fn is_about_modulepath(arguments: &[String]) -> bool {
-    match arguments {
-        [_, word, ..] => word.as_str() != "is-loaded" && word.as_str() != "subcommand",
-        _ => true,
+    let [_, word, ..] = arguments else {
+        return false;
+    };
+    match subcommand_of(word.as_str()) {
+        Ok(Subcommand::Use | Subcommand::Unuse | Subcommand::Save) => true,
+        _ => false,
     }
 }
 
