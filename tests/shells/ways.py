@@ -493,8 +493,11 @@ def initial(real):
 def test_loads_the_site_s_collection_where_nothing_was_ever_loaded(real, shell, initial):
     real.sets({"FOO": "on"})
     initial("module load foo/1.0\n")
-    (shown,) = real.keeps(["show"]).shown
-    same((shown[b"FOO"], shown[b"LOADEDMODULES"]), (b"on", b"foo/1.0"), "what a login has")
+    for more in ({}, {"ARGV0": "/odd/name"}):
+        # (by ARGV0 zsh calls programs)
+        real.starts_with(**more)
+        (shown,) = real.keeps(["show"]).shown
+        same((shown[b"FOO"], shown[b"LOADEDMODULES"]), (b"on", b"foo/1.0"), "what a login has")
     real.starts_with(LOADEDMODULES="bar/1", _LMFILES_="/m/bar/1")
     (shown,) = real.keeps(["show"]).shown
     same((shown.get(b"FOO"), shown[b"LOADEDMODULES"]), (None, b"bar/1"), "what a child shell has")
