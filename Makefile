@@ -1,4 +1,4 @@
-# Builds, shows and tests the programs modulecmd, modcheck, modaudit and module.
+# Builds, shows and tests the programs modulecmd, modcheck, modaudit, modport and module.
 #
 #   make build   proves the crates that the programs stand on, side by side, and leaves them in build/bin, linked
 #                statically by the system's compiler where it is there; JOBS=N says how many processors may be used

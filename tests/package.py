@@ -488,7 +488,7 @@ def test_relative_paths_begin_where_the_caller_stands(packages):
         words = ["install", "./two", "/p", *(f"{name}/bin/{program}" for program in PROGRAMS)]
         same(run(["sh", f"{name}/tools/product.sh", *words], cwd=near)[1:], ("", 0), "product.sh")
         same(sorted(os.listdir(near)), sorted([name, "one", "two"]), "what is made")
-        same(sorted(os.listdir(f"{near}/one/p/bin")), ["modaudit", "modcheck", "modulecmd"], "the programs for users")
+        same(sorted(os.listdir(f"{near}/one/p/bin")), ["modaudit", "modcheck", "modport", "modulecmd"], "the programs for users")
         true(os.path.exists(f"{near}/one/p/libexec/module"), "the program that functions run is there")
         same_looks(looks(f"{near}/two"), looks(f"{near}/one"), "what both lay out")
         same_looks(looks(archive), before, "the archive")
