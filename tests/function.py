@@ -220,3 +220,19 @@ def test_memory(program, tmp_path):
             return outcome(run(dynamic(program), ["sh", *words], {**env, **more}))
 
         refuses_each(shim, asked, (1, "", "ERROR: Out of memory\n").__eq__, words)
+
+
+def test_memory_of_collections(program, folder, tmp_path):
+    """A growth that is refused ends a command of collections with a refusal, and nothing is printed for the shell."""
+    shim = refuser(os.fsencode(tmp_path))
+    for name in ("one/1", "two/1"):
+        folder.module(name, f"setenv A_{name[:3]} 1\nprepend-path PATH /opt/bin\n")
+    modules = os.fsdecode(folder.modules)
+    env = {b"HOME": os.fsencode(tmp_path), b"MODULEPATH": os.fsencode(modules), b"PATH": b"/usr/bin"}
+    env |= {b"LOADEDMODULES": b"one/1", b"_LMFILES_": os.fsencode(f"{modules}/one/1"), b"A_one": b"1"}
+    for words in (["save", "c"], ["saveshow", "c"], ["savelist"], ["restore", "c"], ["reload"]):
+
+        def asked(more, words=words):
+            return outcome(run(dynamic(program), ["sh", *words], {**env, **more}))
+
+        refuses_each(shim, asked, lambda it: it[0] == 1 and it[1] == "" and it[2].startswith("ERROR: "), words)
