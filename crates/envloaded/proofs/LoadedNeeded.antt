@@ -109,6 +109,7 @@ pushed_four e a b c d s t u v p q r o xs ys zs us vs hx hy hz hu hv hs ht hw ho 
     ∙ ap (λ m. (a, p) ∷ (b, q) ∷ filter (is_needed e) ((c, r) ∷ (d, m) ∷ [])) ho
 
 -- what is left to do makes the list written
-pub needed_ok : {E : Type 0} (r : Result (Unit {0}) E) (e new : Environment) (xs : List Entry) (cs : List NewValue) → cs ≡ needed_changes e xs → OnOk r (new ≡ applied cs e) → OnOk r (new ≡ with_loaded e xs)
+pub needed_ok : {E : Type 0} (r : Result (Unit {0}) E) (e new : Environment) (xs : List Entry) (cs : List NewValue)
+    → cs ≡ needed_changes e xs → OnOk r (new ≡ applied cs e) → OnOk r (new ≡ with_loaded e xs)
 needed_ok (Ok u) e new xs cs h k = k ∙ ap (λ ys. applied ys e) h ∙ needed_written e xs
 needed_ok (Err fault) e new xs cs h k = k

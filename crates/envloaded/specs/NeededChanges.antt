@@ -9,7 +9,7 @@ use Rattle.envloaded.specs.Loaded.{Entry, names_text, files_text, conflicts_text
 abbrev pub is_needed : Environment → NewValue → Bool
 is_needed e c = is_some c.1 || is_some (lookup e c.0)
 
--- those that write the list: conflicts and prereqs, which few modules have, are left out where they are unset and stay so
+-- those that write the list; conflicts and prereqs are left out where they are unset and stay so
 abbrev pub needed_changes : Environment → List Entry → List NewValue
 needed_changes e entries =
     (names_variable, names_text entries) ∷ (files_variable, files_text entries)

@@ -1,4 +1,4 @@
--- The messages of errors of values that catch(n) catches. The texts are Tcl's, or own where Tcl's has more words.
+-- The messages of errors of values that catch(n) catches. The texts are Tcl's or own.
 use Rattle.std.specs.Prelude.{◌++◌, codes}
 use Rattle.tclchars.specs.Runs.{Text}
 

@@ -1,5 +1,6 @@
 -- Derivations, for any table of rules: which outcome a plan evaluates to. A plan says what is counted, asked and run,
--- and in which order; a table has a plan for each job. The oracle and the limit on commands are used here alone. Own.
+-- and in which order; a table has a plan for each job. The rules leave the oracle and the limit
+-- on commands to these. Own.
 use Rattle.std.specs.Prelude.{◌≡◌, ℕ, ◌+◌, ◌<◌, ◌≤◌, ◌⊎◌, ◌||◌, Bool, true, false, List, Option}
 use Rattle.tclchars.specs.Runs.{Text}
 use Rattle.tclchars.specs.declared.fault.TextFault.{TextFault}
