@@ -18,13 +18,13 @@ ghost use Rattle.collectionrequests.specs.Saves.{Keeps, paths_in};
 
 use crate::fault::KeepFault;
 use crate::loaded::loaded_names;
-use crate::running::{MODULEPATH, change};
+use crate::running::MODULEPATH;
 use collections::Collection;
 use envvars::Env;
 use envvars::fields::{deduplicated, elements, owned, slices};
 use filetree::Tree;
 use modulepath::{ModulePathFault, directories_to_use};
-use modules::{Action, Request};
+use modules::{Action, Request, make_changes};
 use shelltext::Shell;
 use std::alloc::{AllocError, Global};
 use tclrules::Limits;
@@ -85,7 +85,7 @@ pub fn collection_of<T: Tree>(
         shell,
         action: Action::Purge,
     };
-    let _ = change(alloc, &purge, &mut purged, tree, limits)?;
+    let _ = make_changes(alloc, &purge, &mut purged, tree, limits)?;
     let paths = paths_in(alloc, &purged, working)?;
     let directories = once(alloc, paths.as_slice())?;
     Ok(Collection {

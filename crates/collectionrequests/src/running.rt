@@ -2,11 +2,8 @@
 ghost use Rattle.std.specs.Prelude.{◌≡◌, ◌<◌, map, string_bytes, IfErr, OnOk};
 ghost use Rattle.filetree.specs.Agreement.{FailsAt, InEachPair, ReadsOn};
 ghost use Rattle.filetree.specs.Causes.{memory};
-ghost use Rattle.requests.specs.Looked.{RequestLooksAt};
-ghost use Rattle.requests.specs.RequestViews.{action_view};
-ghost use Rattle.requests.specs.Steps.{RequestStep, request_context_in};
+ghost use Rattle.requests.specs.Steps.{request_context_in};
 ghost use Rattle.modules.specs.Answers.{StepAnswersOverTree, cause_of, is_failure};
-ghost use Rattle.modules.specs.Views.{done_view};
 ghost use Rattle.collectionrequests.specs.Restores.{LoadStep, LoadStepLooksAt, RestoreLooksAt, RestoreStep, searching};
 ghost use Rattle.collectionrequests.specs.Views.{loading_view, run_view};
 
@@ -14,7 +11,7 @@ use envvars::fields::{slices, text_of_elements};
 use envvars::{Env, Vars};
 use filetree::Tree;
 use message::texts::copies;
-use modules::{Action, Refusal, Request, RequestChanges, RequestResults, run_changes};
+use modules::{Action, Refusal, Request, RequestResults, make_changes};
 use shelltext::Shell;
 use std::alloc::Global;
 use tclrules::Limits;
@@ -31,29 +28,6 @@ pub(crate) struct RestoreRun {
     pub(crate) unloads: RequestResults,
     /// What the load did besides, where there was one.
     pub(crate) loads: Option<RequestResults>,
-}
-
-/// Runs a request and makes its changes.
-pub(crate) fn change<T: Tree>(
-    alloc: Global,
-    request: &Request,
-    env: &mut Env,
-    tree: &mut T,
-    limits: Limits,
-) -> Result<RequestResults, Refusal>
-    ensures reads { ReadsOn T.agrees T.failures tree.old tree.new }
-    ensures over_tree { StepAnswersOverTree (T.agrees tree.new) (T.failures tree.old < T.failures tree.new)
-        (λ done. done_view done env.new) result
-        (λ files listings. RequestStep (request_context_in limits request.now.shell files listings) env.old
-        (action_view request.now.action)) }
-    ensures failed { FailsAt is_failure (T.failed tree.old) (T.failed tree.new) result (λ at.
-        InEachPair (T.agrees tree.new) (λ files listings.
-        RequestLooksAt (request_context_in limits request.now.shell files listings) env.old
-        (action_view request.now.action) at)) }
-{
-    let RequestChanges { changes, done } = run_changes(alloc, request, env, tree, limits)?;
-    env.apply(changes)?;
-    Ok(done)
 }
 
 /// MODULEPATH becomes these directories; without directories it stays.
@@ -93,7 +67,7 @@ fn load_modules<T: Tree>(
         shell,
         action: Action::Load(copies(alloc, modules)?),
     };
-    Ok(Some(change(alloc, &request, env, tree, limits)?))
+    Ok(Some(make_changes(alloc, &request, env, tree, limits)?))
 }
 
 /// Unloads all modules, has these directories searched, and loads these modules, in a copy of the environment.
@@ -121,7 +95,7 @@ pub(crate) fn run_restore<T: Tree>(
         shell,
         action: Action::Purge,
     };
-    let unloads = change(alloc, &purge, &mut after, tree, limits)?;
+    let unloads = make_changes(alloc, &purge, &mut after, tree, limits)?;
     search_in(alloc, &mut after, directories)?;
     let loads = load_modules(alloc, shell, modules, &mut after, tree, limits)?;
     Ok(RestoreRun {

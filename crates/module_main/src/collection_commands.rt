@@ -8,22 +8,15 @@ use collectionfiles::{
 };
 use collectionrequests::{Restored, collection_of, reload, restore};
 use filetree::DiskTree;
+use modules::STANDARD_LIMITS;
 use shelltext::Shell;
 use std::io::Write;
 use std::process::ExitCode;
 use std::{env, process};
 use subcommands::{Subcommand, subcommand_of};
-use tclrules::Limits;
 
 /// What the program's name ends with where a site has it.
 const OWN_NAME: &str = "/libexec/module";
-
-/// How much every modulefile may use, as with `modulecmd`: commands, evaluations within one another, bytes in a value.
-const STANDARD: Limits = Limits {
-    commands: 100_000,
-    depth: 200,
-    value_bytes: 1_048_576,
-};
 
 /// The path of the site's own collection, by the program's name.
 fn site_collection(rt: &HostRuntime) -> Option<String> {
@@ -75,7 +68,7 @@ fn save(rt: &HostRuntime, shell: Shell, given: &Given, words: &[String]) -> Resu
     let env = &given.env;
     let working = given.working.as_deref();
     let mut tree = DiskTree::new(rt);
-    let kept = collection_of(rt.alloc(), shell, env, working, &mut tree, STANDARD)?;
+    let kept = collection_of(rt.alloc(), shell, env, working, &mut tree, STANDARD_LIMITS)?;
     let mut storage = DiskStorage::new(rt);
     let number = process::id(rt.process());
     Ok(save_collection(rt.alloc(), &mut storage, env, name, number, &kept)?)
@@ -129,7 +122,7 @@ fn restored(
     let mut tree = DiskTree::new(rt);
     write(
         rt,
-        &restore(rt.alloc(), shell, &kept, env, &mut tree, STANDARD)?,
+        &restore(rt.alloc(), shell, &kept, env, &mut tree, STANDARD_LIMITS)?,
     )
 }
 
@@ -144,7 +137,7 @@ fn reloaded(
     let mut tree = DiskTree::new(rt);
     write(
         rt,
-        &reload(rt.alloc(), shell, &given.env, &mut tree, STANDARD)?,
+        &reload(rt.alloc(), shell, &given.env, &mut tree, STANDARD_LIMITS)?,
     )
 }
 

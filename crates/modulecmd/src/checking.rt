@@ -7,13 +7,12 @@ ghost use Rattle.modulecmd.specs.CheckWords.{IsPreparedCheck, exit_of};
 ghost use Rattle.modulecmd.specs.Command.{IsCausedBy};
 ghost use Rattle.modulecmd.specs.declared.checking.CheckExit.{CheckExit};
 
-use crate::command::STANDARD;
 use crate::command_exit::Exit;
 use crate::command_fault::CommandFault;
 use crate::finishing::{finish, report_fault};
 use envvars::{Env, changes};
 use filetree::Tree;
-use modules::Refusal;
+use modules::{Refusal, STANDARD_LIMITS};
 use processinput::read_input;
 use sessions::check;
 use shelltext::{Shell, print_changes};
@@ -89,7 +88,7 @@ fn answer_of<T: Tree, R: Read>(
 {
     let shell = shell_of(args)?;
     let lines = read_input(alloc, input)?;
-    let found = check(alloc, shell, lines.as_str(), env, tree, STANDARD)?;
+    let found = check(alloc, shell, lines.as_str(), env, tree, STANDARD_LIMITS)?;
     let difference = changes(alloc, env, &found.env)?;
     let text = print_changes(alloc, shell, difference.as_slice())?;
     let report = found.report(alloc)?;

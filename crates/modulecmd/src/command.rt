@@ -13,19 +13,11 @@ use crate::command_fault::CommandFault;
 use crate::finishing::{finish, report_fault};
 use envvars::Env;
 use filetree::Tree;
-use modules::{Refusal, RequestChanges, request, run_changes};
+use modules::{Refusal, RequestChanges, STANDARD_LIMITS, request, run_changes};
 use requests::Request;
 use shelltext::{Shell, print_changes};
 use std::alloc::Global;
 use std::io::Write;
-use tclrules::Limits;
-
-/// How much every command may use: commands in a modulefile, evaluations within one another, bytes in a value.
-pub(crate) const STANDARD: Limits = Limits {
-    commands: 100_000,
-    depth: 200,
-    value_bytes: 1_048_576,
-};
 
 /// What an accepted command has done, and the text that says its changes; nothing is written yet.
 #[derive(Drop)]
@@ -74,7 +66,7 @@ fn answer_of<T: Tree>(
     shelltext::laws::one_effect();
     shelltext::laws::difference_makes();
     let request = command_of(alloc, args)?;
-    let changed = run_changes(alloc, &request, env, tree, STANDARD)?;
+    let changed = run_changes(alloc, &request, env, tree, STANDARD_LIMITS)?;
     let text = print_changes(alloc, request.shell, changed.changes.as_slice())?;
     Ok(PreparedCommand {
         shell: request.shell,

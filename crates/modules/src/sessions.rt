@@ -30,8 +30,11 @@ pub enum Outcome {
     Refused(Refusal),
 }
 
-/// Runs a request and makes its changes: all of them, or none where it is refused.
-fn change<T: Tree>(
+/// Runs a request and makes its changes: all of them, or none where it is refused. It answers what was done besides.
+///
+/// Errors: as `run_changes`. It is refused by 43 only where the device failed in this call, at a path that the request
+/// looks at.
+pub fn make_changes<T: Tree>(
     alloc: Global,
     request: &Request,
     env: &mut Env,
@@ -79,7 +82,7 @@ pub fn respond<T: Tree>(
         (action_view request.now.action) at)) }
 {
     requests::outcomes();
-    match change(alloc, request, env, tree, limits) {
+    match make_changes(alloc, request, env, tree, limits) {
         Ok(done) => Outcome::Accepted(done),
         Err(refusal) => Outcome::Refused(refusal),
     }

@@ -3,6 +3,14 @@
 use shelltext::Shell;
 use tclrules::Limits;
 
+/// How much each modulefile may use, in every command of every program: commands, evaluations within one another, bytes
+/// in a value.
+pub const STANDARD_LIMITS: Limits = Limits {
+    commands: 100_000,
+    depth: 200,
+    value_bytes: 1_048_576,
+};
+
 /// The limits on the evaluation of each file, and the shell that reads what is printed.
 /// (`Setting` of tclrules is a script with all that it depends on.)
 #[derive(Clone, Copy, Debug)]

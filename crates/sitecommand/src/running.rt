@@ -17,18 +17,11 @@ use crate::directories::{judge_directories, judge_modulepath, judged_env};
 use envvars::Env;
 use filetree::Tree;
 use modulecmd::write_bytes;
+use modules::STANDARD_LIMITS;
 use siteaudit::{AuditedModule, SiteAudit, Standing, WalkProgress, audit};
 use sitereport::{json_report, line_report};
 use std::alloc::{AllocError, Global};
 use std::io::Write;
-use tclrules::Limits;
-
-/// How much each modulefile may use, as in every command: commands, evaluations within one another, bytes in a value.
-const STANDARD: Limits = Limits {
-    commands: 100_000,
-    depth: 200,
-    value_bytes: 1_048_576,
-};
 
 /// How the program is called, and what its options do.
 const HELP: &str =
@@ -83,7 +76,7 @@ fn audit_wanted<T: Tree, P: WalkProgress>(
     judge_directories(alloc, tree, wanted.directories.as_slice())?;
     let judged = judged_env(alloc, env, wanted.directories.as_slice())?;
     judge_modulepath(alloc, &judged)?;
-    let found = audit(alloc, &judged, tree, STANDARD, progress)?;
+    let found = audit(alloc, &judged, tree, STANDARD_LIMITS, progress)?;
     let report = report_of(alloc, wanted, &found)?;
     Ok(PreparedAudit {
         is_all_certified: are_all_certified(found.modules.as_slice()),

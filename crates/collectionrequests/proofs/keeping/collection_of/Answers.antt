@@ -31,7 +31,7 @@ returns-in_err-change-clause-kept g c =
     let p = err_from_is_err_and c.from_residual-in_err-change.result c.from_residual-in_err-change.ensures.1 in
     let w : Option Text = option_map (λ w. w.now) c.args.working in
     let e = c.args.env.now in
-    let agrees = g.T.Tree.agrees c.change.new.tree in
+    let agrees = g.T.Tree.agrees c.make_changes.new.tree in
     let step = rw c.in_ok-purged.ensures.ok at c.in_err-change.ensures.over_tree in
     let Refused-so : RequestReason → Type 0 = λ r. InEachPair agrees (λ files listings. RequestStep (request_context_in c.args.limits c.args.shell files listings) e purge (Err r)) in
     let Kept-so : KeepReason → Type 0 = λ k. InEachPair agrees (λ files listings. Keeps (request_context_in c.args.limits c.args.shell files listings) w e (Err k)) in
@@ -46,9 +46,9 @@ returns-in_err-paths-clause-kept g c =
     let p = err_from_is_err_and c.from_residual-in_err-paths.result c.from_residual-in_err-paths.ensures.1 in
     let w : Option Text = option_map (λ w. w.now) c.args.working in
     let e = c.args.env.now in
-    let agrees = g.T.Tree.agrees c.change.new.tree in
+    let agrees = g.T.Tree.agrees c.make_changes.new.tree in
     let names : List Text = texts_in c.in_ok-modules.modules in
-    let purged : Environment = c.change.new.env in
+    let purged : Environment = c.make_changes.new.env in
     let step = rw c.in_ok-purged.ensures.ok at c.in_ok-change.ensures.over_tree in
     let Kept-so : KeepReason → Type 0 = λ k. InEachPair agrees (λ files listings. Keeps (request_context_in c.args.limits c.args.shell files listings) w e (Err k)) in
     rw (p.1, p.2) (path_stands (reason_of c.in_err-paths.field-0.0) _ (λ r. paths_in w purged ≡ Err r) Kept-so
@@ -60,7 +60,7 @@ returns-clause-kept g c =
     let w : Option Text = option_map (λ w. w.now) c.args.working in
     let e = c.args.env.now in
     let names : List Text = texts_in c.in_ok-modules.modules in
-    let purged : Environment = c.change.new.env in
+    let purged : Environment = c.make_changes.new.env in
     let step = rw c.in_ok-purged.ensures.ok at c.in_ok-change.ensures.over_tree in
     λ files listings a.
     keeps_made (request_context_in c.args.limits c.args.shell files listings) w e names (done_view c.in_ok-change.field-0 purged) _ c.in_ok-modules.ensures (step files listings a)

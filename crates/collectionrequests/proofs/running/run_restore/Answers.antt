@@ -21,7 +21,7 @@ returns-in_err-unloads-clause-over_tree g c =
     let e = c.args.env.now in
     let directories : List Text = map (λ (s : String Global). string_bytes s) c.args.directories.now in
     let modules : List Text = map (λ (s : String Global). string_bytes s) c.args.modules.now in
-    let agrees = g.T.Tree.agrees c.change.new.tree in
+    let agrees = g.T.Tree.agrees c.make_changes.new.tree in
     let step = rw c.in_ok-after.ensures.ok at c.in_err-unloads.ensures.over_tree in
     let First : RequestReason → Type 0 = λ r. InEachPair agrees (λ files listings. RequestStep (request_context_in c.args.limits c.args.shell files listings) e purge (Err r)) in
     let Whole : RequestReason → Type 0 = λ r. InEachPair agrees (λ files listings. RestoreStep (request_context_in c.args.limits c.args.shell files listings) e directories modules (Err r)) in
@@ -41,7 +41,7 @@ returns-in_err-loads-clause-over_tree g c =
     let First : RequestReason → Type 0 = λ r. InEachPair agrees (λ files listings. LoadStep (request_context_in c.args.limits c.args.shell files listings) modules before (Err r)) in
     let Whole : RequestReason → Type 0 = λ r. InEachPair agrees (λ files listings. RestoreStep (request_context_in c.args.limits c.args.shell files listings) e directories modules (Err r)) in
     rw (p.1, p.2) (stands_as (cause_of c.in_err-loads.field-0.0) _ _ First Whole (λ q. omega (arith, q, c.in_ok-unloads.ensures.reads.counts_failures))
-    (λ r k files listings a. load_refused (request_context_in c.args.limits c.args.shell files listings) e before directories modules (done_view c.in_ok-unloads.unloads c.change.new.env)
+    (λ r k files listings a. load_refused (request_context_in c.args.limits c.args.shell files listings) e before directories modules (done_view c.in_ok-unloads.unloads c.make_changes.new.env)
     (step files listings (narrows files listings a)) c.in_ok-search_in.ensures.made r (k files listings a)) c.in_err-loads.ensures.over_tree)
 
 pub returns-in_err-loads-clause-failed : goal.returns-in_err-loads-clause-failed
@@ -57,9 +57,9 @@ returns-in_err-loads-clause-failed g c =
     let fails = is_failure c.in_err-loads.field-0.0 in
     let First : Text → Type 0 = λ at. InEachPair agrees (λ files listings. LoadStepLooksAt (request_context_in c.args.limits c.args.shell files listings) modules before at) in
     let Whole : Text → Type 0 = λ at. InEachPair agrees (λ files listings. RestoreLooksAt (request_context_in c.args.limits c.args.shell files listings) e directories modules at) in
-    rw (p.1, p.2) (fails_then fails fails (g.T.Tree.failed c.args.tree.now) (g.T.Tree.failed c.change.new.tree) (g.T.Tree.failed c.load_modules.new.tree)
+    rw (p.1, p.2) (fails_then fails fails (g.T.Tree.failed c.args.tree.now) (g.T.Tree.failed c.make_changes.new.tree) (g.T.Tree.failed c.load_modules.new.tree)
     First Whole c.in_ok-unloads.ensures.failed refl
-    (λ at k files listings a. load_looks (request_context_in c.args.limits c.args.shell files listings) e before directories modules (done_view c.in_ok-unloads.unloads c.change.new.env)
+    (λ at k files listings a. load_looks (request_context_in c.args.limits c.args.shell files listings) e before directories modules (done_view c.in_ok-unloads.unloads c.make_changes.new.env)
     (step files listings (narrows files listings a)) c.in_ok-search_in.ensures.made at (k files listings a)) c.in_err-loads.ensures.failed)
 
 pub returns-clause-over_tree : goal.returns-clause-over_tree
@@ -71,6 +71,6 @@ returns-clause-over_tree g c =
     let step = rw c.in_ok-after.ensures.ok at c.in_ok-unloads.ensures.over_tree in
     let narrows = c.in_ok-loads.ensures.reads.narrows in
     λ files listings a.
-    load_done (request_context_in c.args.limits c.args.shell files listings) e before directories modules (done_view c.in_ok-unloads.unloads c.change.new.env)
+    load_done (request_context_in c.args.limits c.args.shell files listings) e before directories modules (done_view c.in_ok-unloads.unloads c.make_changes.new.env)
     (step files listings (narrows files listings a)) c.in_ok-search_in.ensures.made
     (loading_view c.load_modules.new.env c.in_ok-loads.loads) (c.in_ok-loads.ensures.over_tree files listings a)

@@ -11,14 +11,14 @@ pub returns-in-Ok-clause-answer : goal.returns-in-Ok-clause-answer
 returns-in-Ok-clause-answer g c =
     λ files listings agreed.
     responds c.outcomes.ensures.all_moved (request_context_in c.args.limits c.args.request.now.shell files listings)
-    c.args.env.now c.change.new.env (action_view c.args.request.now.action) c.in-Ok.done
+    c.args.env.now c.make_changes.new.env (action_view c.args.request.now.action) c.in-Ok.done
     (c.in-Ok.ensures.over_tree files listings agreed)
 
 pub returns-in-Ok-clause-end : goal.returns-in-Ok-clause-end
 returns-in-Ok-clause-end g c =
     λ files listings agreed.
     made_by_moves c.outcomes.ensures.all_moved (request_context_in c.args.limits c.args.request.now.shell files
-    listings) c.args.env.now c.change.new.env (action_view c.args.request.now.action) c.in-Ok.done
+    listings) c.args.env.now c.make_changes.new.env (action_view c.args.request.now.action) c.in-Ok.done
     (c.in-Ok.ensures.over_tree files listings agreed)
 
 pub returns-in-Err-clause-failures : goal.returns-in-Err-clause-failures
@@ -30,4 +30,4 @@ returns-in-Err-clause-answer g c =
     files listings) c.args.env.now (action_view c.args.request.now.action) c.in-Err.ensures.over_tree
 
 pub returns-in-Err-clause-end : goal.returns-in-Err-clause-end
-returns-in-Err-clause-end g c = λ files listings agreed. refused_leaves c.in-Err.refusal c.args.env.now c.change.new.env c.in-Err.ensures.unchanged
+returns-in-Err-clause-end g c = λ files listings agreed. refused_leaves c.in-Err.refusal c.args.env.now c.make_changes.new.env c.in-Err.ensures.unchanged
