@@ -46,7 +46,11 @@ fn main(rt: HostRuntime) -> ExitCode {
     let mut missing = MissingDirectories::new(&rt);
     let arguments = given.arguments.as_slice();
     match function_output(rt.alloc(), arguments, &given.env, working, &mut missing) {
-        Ok(output) => print(&rt, &output),
+        Ok(output) => {
+            // A command that is refused says nothing but its reason.
+            missing.tell();
+            print(&rt, &output)
+        }
         Err(fault) => refused(&rt, fault.message()),
     }
 }
