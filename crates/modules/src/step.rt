@@ -236,16 +236,9 @@ fn change_loaded<T: Tree, V: Vars>(
         (map string_bytes names.now) (nothing_done (V.vars env.old))) }
     ensures base { V.base env.new ≡ V.base env.old }
 {
-    if may_lose(name_action, before.as_slice()) {
-        return change_each(
-            alloc,
-            settings,
-            name_action,
-            names,
-            before.as_slice(),
-            env,
-            tree,
-        );
+    let entries = before.as_slice();
+    if may_lose(name_action, entries) {
+        return change_each(alloc, settings, name_action, names, entries, env, tree);
     }
     change_freely(alloc, settings, name_action, names, before, env, tree)
 }

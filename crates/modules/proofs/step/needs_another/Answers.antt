@@ -5,4 +5,5 @@ use Rattle.modules.proofs.step.needs_another.Goals as goal
 
 pub returns : goal.returns
 returns c =
-    ap not (c.is_empty.ensures ∙ ap (λ (n : ℕ). n == 0) (sym (length-map c.args.entry.now.prereqs.items texts_in)))
+    let prereqs = c.args.entry.now.prereqs in
+    ap not (c.is_empty.ensures ∙ ap (λ (n : ℕ). n == 0) (prereqs.ok.0 ∙ sym (length-map prereqs.items texts_in)))
