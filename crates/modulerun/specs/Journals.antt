@@ -1,10 +1,7 @@
 -- What a file has done so far (own).
-use Rattle.std.specs.Prelude.{◌≡◌, ℕ, ◌==◌, List, ◌∷◌, [], ◌++◌, map, string_bytes, String, IfSome, if◌then◌else◌}
+use Rattle.std.specs.Prelude.{◌≡◌, ℕ, ◌==◌, List, ◌∷◌, [], ◌++◌, map, string_bytes, IfSome, if◌then◌else◌}
 use Rattle.std.specs.Prelude.{Result, Ok, Err, refl}
 use Rattle.std.specs.Coded.{Coded, code_by, coded×, coded_ℕ, coded_list}
-use Rattle.std.specs.declared.alloc.Global.{Global}
-use Rattle.std.specs.declared.snapshot.Snapshot.{Snapshot}
-use Rattle.std.specs.declared.vec.Vec.{Vec}
 use Rattle.envvars.specs.Texts.{Text}
 use Rattle.envvars.specs.Environment.{Environment, environment_code}
 use Rattle.modulefile.specs.Records as records
@@ -18,6 +15,8 @@ use Rattle.modulefile.specs.Results.{◌>>=◌}
 use Rattle.modulefile.specs.RecordViews.{mode_view, record_view, fault_reason}
 use Rattle.modulefile.specs.Answers.{records_in, record_outcome, or_before}
 use Rattle.modulerun.specs.declared.accepted.AcceptedCommand.{AcceptedCommand}
+use Rattle.modulerun.specs.declared.accepted.RememberedWords.{RememberedWords}
+use Rattle.modulerun.specs.declared.accepted.RememberedWords.TheVariants as code
 
 -- the mode, the module's name, the environment before the file, and the words of the commands that were accepted
 pub record JournalState : Type 0 where
@@ -67,9 +66,10 @@ abbrev pub environment_so_far : JournalState → Environment
 environment_so_far s = or_before s.before (records_in s.words >>=
     (λ rs. record_outcome (effects (mode_view s.mode) s.module_name rs s.before)))
 
--- the words that a list of snapshots has
-abbrev pub words_in : Vec (Snapshot (String Global)) Global → List Text
-words_in v = map (λ s. string_bytes s.value) v.items
+-- the words that are remembered
+abbrev pub words_in : RememberedWords → List Text
+words_in code.Empty = []
+words_in (code.WithLast' shape before last) = words_in before ++ string_bytes last.value ∷ []
 
 -- the words and the records of entries
 abbrev pub words_of : List AcceptedCommand → List (List Text)

@@ -11,7 +11,7 @@ ghost use Rattle.modulefile.specs.RecordViews.{mode_view, record_view};
 ghost use Rattle.modulerun.specs.RecordAnswers.{IsEdited};
 ghost use Rattle.modulerun.specs.Journals.{environment_so_far, journal_state, words_in, AddsCommand};
 
-use crate::accepted::AcceptedCommand;
+use crate::accepted::{AcceptedCommand, RememberedWords};
 use crate::batched_vars::BatchedVars;
 use envvars::{Change, EnvFault, Vars};
 use modulefile::{Mode, Record, RecordFault};
@@ -62,15 +62,15 @@ pub(crate) struct FinishedFile {
     pub changes: Vec<Change>,
 }
 
-/// Snapshots of the words of a command.
-fn remembered(alloc: Global, words: &[String]) -> Result<Vec<Snapshot<String>>, AllocError>
-    ensures { IfOk result (λ v. words_in v ≡ map string_bytes words.now) }
+/// The words of a command, for contracts alone.
+fn remembered(words: &[String]) -> RememberedWords
+    ensures { words_in result ≡ map string_bytes words.now }
 {
-    let mut remembered = Vec::new(alloc);
+    let mut remembered = RememberedWords::Empty;
     for word in words {
-        remembered.push(Snapshot::of(word))?;
+        remembered = RememberedWords::WithLast(Snapshot::of(&remembered), Snapshot::of(word));
     }
-    Ok(remembered)
+    remembered
 }
 
 /// Adds an entry, where its record has its effect on `working`. Else neither changes.
@@ -153,7 +153,7 @@ impl<'a, V: Vars> Journal<'a, V> {
         requires { call_of (map string_bytes words.now) ≡ Ok (adds_record (record_view recorded)) }
         ensures { AddsCommand result (map string_bytes words.now) (record_view recorded) self.old self.new }
     {
-        let words = remembered(self.alloc, words)?;
+        let words = remembered(words);
         add_entry(
             self.mode,
             self.module_name,

@@ -5,6 +5,7 @@ pub mod VerdictLemmas
 pub mod MemoryNumberLemmas
 pub mod FailureLemmas
 pub mod ListedLemmas
+pub mod NeedLemmas
 pub mod TreeAnswers
 pub mod EachLemmas
 pub mod SwitchLemmas

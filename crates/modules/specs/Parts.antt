@@ -1,5 +1,7 @@
 -- The parts of a step, name by name, for the contracts of this crate's private functions.
-use Rattle.std.specs.Prelude.{◌≡◌, ◌<◌, ℕ, Bool, true, false, List, map, Option, Some, None, Result, Ok, Err}
+use Rattle.std.specs.Prelude.{◌≡◌, ◌<◌, ◌==◌, ℕ, Bool, true, false, not, List, length, map, Option, Some, None, Result, Ok}
+use Rattle.std.specs.Prelude.{Err}
+use Rattle.std.specs.List.{list_any}
 use Rattle.std.specs.Option.{option_map, option_or}
 use Rattle.std.specs.declared.vec.Vec.{Vec}
 use Rattle.std.specs.declared.alloc.Global.{Global}
@@ -47,6 +49,20 @@ AreEntriesOf xs e = Ok xs ≡ entries_of e
 -- that is so of the list of a request in progress
 abbrev pub IsListedIn : RequestProgress → Environment → Type 0
 IsListedIn progress e = AreEntriesOf (entries_view progress.entries) e
+
+-- the module needs another
+abbrev pub needs_another : Entry → Bool
+needs_another x = not (length x.prereqs == 0)
+
+-- one of these modules needs another
+abbrev pub any_needs : List Entry → Bool
+any_needs xs = list_any needs_another xs
+
+-- one of these modules can lose what it needs; an unload adds none that needs another
+abbrev pub may_lose : NameAction → List Entry → Bool
+may_lose Load xs = true
+may_lose Unload xs = any_needs xs
+may_lose (ReportOn report_kind) xs = true
 
 -- What a call over a tree keeps of it, what it answers, and at which paths it may have failed.
 pub record TreeAnswer {T X Y : Type 0} (agrees : T → Files → Listings → Type 0) (failures : T → ℕ)

@@ -28,6 +28,15 @@ pub enum Move {
     Unloads(Module),
 }
 
+/// Moves, which contracts alone can see: snapshots take no memory.
+#[derive(Drop)]
+pub enum RememberedMoves {
+    /// No move.
+    Empty,
+    /// The moves before the last, and the last.
+    WithLast(Snapshot<RememberedMoves>, Snapshot<Move>),
+}
+
 /// What a request has done besides what it made of the variables.
 #[derive(Drop)]
 pub struct RequestResults {
@@ -37,8 +46,8 @@ pub struct RequestResults {
     pub messages: Vec<String>,
     /// Its report.
     pub report: String,
-    /// Its moves, which contracts alone can see: a snapshot takes no memory.
-    pub moves: Vec<Snapshot<Move>>,
+    /// Its moves, for contracts alone.
+    pub moves: RememberedMoves,
     pub ghost named: { texts_in loaded ≡ loaded_names (moves_of moves) },
 }
 
@@ -66,7 +75,7 @@ impl RequestResults {
             loaded: Vec::new(alloc),
             messages: Vec::new(alloc),
             report: String::new(alloc),
-            moves: Vec::new(alloc),
+            moves: RememberedMoves::Empty,
         }
     }
 
@@ -80,11 +89,9 @@ impl RequestResults {
             ≡ with_move (done_view self.old old) (move_view new_move) (texts_in messages) new) }
     {
         self.messages.append(&mut messages)?;
-        self.moves.push(Snapshot::of(&new_move))?;
-        if let Err(refused) = push_loaded(&mut self.loaded, new_move) {
-            self.moves.pop();
-            return Err(refused);
-        }
+        let last = Snapshot::of(&new_move);
+        push_loaded(&mut self.loaded, new_move)?;
+        self.moves = RememberedMoves::WithLast(Snapshot::of(&self.moves), last);
         Ok(())
     }
 

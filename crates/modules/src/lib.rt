@@ -21,7 +21,7 @@ mod step;
 mod verdicts;
 mod words;
 
-pub use done::{Module, Move, RequestResults};
+pub use done::{Module, Move, RememberedMoves, RequestResults};
 pub use envvars::{Change, Env, EnvFault};
 pub use filetree::{Tree, TreeFault};
 pub use judged::{Verdict, are_reversible, is_reversible};

@@ -1,6 +1,6 @@
 //! One name of a request: its module is found, the module's file is evaluated, and the module is loaded, unloaded or
 //! reported on.
-ghost use Rattle.std.specs.Prelude.{◌≡◌, IfOk, OnOk, map, string_bytes};
+ghost use Rattle.std.specs.Prelude.{◌≡◌, false, IfOk, OnOk, map, string_bytes};
 ghost use Rattle.std.specs.Option.{option_map};
 ghost use Rattle.envloaded.specs.LoadedEntries.{entry_view};
 ghost use Rattle.filetree.specs.Agreement.{Files, Listings};
@@ -15,7 +15,7 @@ ghost use Rattle.requests.specs.Looked.{SearchLooksAt, LoadLooksAt, UnloadLooksA
 ghost use Rattle.modules.specs.Views.{request_context_of, done_view};
 ghost use Rattle.modules.specs.Answers.{GivesOrRefuses};
 ghost use Rattle.modules.specs.Parts.{IsListedIn, TreeAnswer, entries_view, file_context, ReadsEntry, FindsLoaded};
-ghost use Rattle.modules.specs.Parts.{LoadedLooksAt, UnloadsFound, ReportsFound, report_mode, report_text};
+ghost use Rattle.modules.specs.Parts.{LoadedLooksAt, UnloadsFound, ReportsFound, report_mode, report_text, any_needs};
 
 use crate::done::{Module, Move};
 use crate::entries::{join_loaded, modulepath, names_of};
@@ -257,6 +257,8 @@ fn unload_found<V: Vars>(
         (UnloadsFound name_request.entry (found_view found) (entries_view progress.old.entries)
         (done_view progress.old.done (V.vars env.old))) }
     ensures listed { OnOk result (IsListedIn progress.new (V.vars env.new)) }
+    ensures free { OnOk result (any_needs (entries_view progress.old.entries) ≡ false
+        → any_needs (entries_view progress.new.entries) ≡ false) }
     ensures base { V.base env.new ≡ V.base env.old }
 {
     let file = ModuleFile::of(&found);
@@ -298,6 +300,8 @@ pub(crate) fn unload_name<T: Tree, V: Vars>(
         name_request.entry.in_switch name_request.entry.typed.now (done_view progress.old.done (V.vars env.old)))
         (λ files listings. UnloadLooksAt name_request.entry.typed.now (done_view progress.old.done (V.vars env.old))) }
     ensures listed { OnOk result (IsListedIn progress.new (V.vars env.new)) }
+    ensures free { OnOk result (any_needs (entries_view progress.old.entries) ≡ false
+        → any_needs (entries_view progress.new.entries) ≡ false) }
     ensures base { V.base env.new ≡ V.base env.old }
 {
     let meant = find_loaded(alloc, name_request.typed, progress.entries.as_slice(), tree)?;

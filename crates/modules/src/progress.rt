@@ -24,14 +24,22 @@ pub(crate) struct RequestProgress {
 
 impl RequestProgress {
     /// Nothing done yet, where these modules are loaded.
+    pub(crate) fn of(alloc: Global, entries: Vec<Loaded>) -> RequestProgress
+        ensures entries { entries_view result.entries ≡ entries_view entries }
+        ensures done { (env : Environment) → done_view result.done env ≡ nothing_done env }
+    {
+        RequestProgress {
+            entries,
+            done: RequestResults::new(alloc),
+        }
+    }
+
+    /// Nothing done yet, where modules as these are loaded.
     pub(crate) fn new(alloc: Global, before: &[Loaded]) -> Result<RequestProgress, AllocError>
         ensures entries { IfOk result (λ progress. entries_view progress.entries ≡ map entry_view before.now) }
         ensures done { IfOk result (λ progress. (env : Environment) → done_view progress.done env ≡ nothing_done env) }
     {
-        Ok(RequestProgress {
-            entries: copy_list(alloc, before)?,
-            done: RequestResults::new(alloc),
-        })
+        Ok(RequestProgress::of(alloc, copy_list(alloc, before)?))
     }
 
     /// What was done, unless a module that was loaded before, and is now, has lost what it needs (53).

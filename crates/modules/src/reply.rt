@@ -4,9 +4,8 @@ ghost use Rattle.envvars.specs.Texts.{texts_in};
 ghost use Rattle.modulefile.specs.Moves.{loaded_names};
 ghost use Rattle.modules.specs.MoveViews.{moves_of};
 
-use crate::done::{Move, RequestResults};
+use crate::done::{RememberedMoves, RequestResults};
 use envvars::{Change, Env};
-use std::snapshot::Snapshot;
 
 /// What an accepted request changes, and what it did besides.
 #[derive(Drop)]
@@ -28,7 +27,7 @@ pub struct Reply {
     pub messages: Vec<String>,
     /// Its report.
     pub report: String,
-    /// Its moves, which contracts alone can see: a snapshot takes no memory.
-    pub moves: Vec<Snapshot<Move>>,
+    /// Its moves, for contracts alone.
+    pub moves: RememberedMoves,
     pub ghost named: { texts_in loaded ≡ loaded_names (moves_of moves) },
 }

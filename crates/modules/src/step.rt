@@ -1,5 +1,5 @@
 //! The subcommands, each over all its names: `load`, `unload`, `switch`, `purge`, `list`, `avail`, `show`, `whatis`.
-ghost use Rattle.std.specs.Prelude.{◌≡◌, ◌<◌, [], ◌∷◌, Some, IfOk, IfErr, OnOk, map, reverse, string_bytes};
+ghost use Rattle.std.specs.Prelude.{◌≡◌, ◌<◌, [], ◌∷◌, Some, IfOk, IfErr, OnOk, false, map, reverse, string_bytes};
 ghost use Rattle.std.specs.Option.{option_map};
 ghost use Rattle.envvars.specs.Environment.{Environment};
 ghost use Rattle.envvars.specs.Texts.{texts_in};
@@ -21,10 +21,11 @@ ghost use Rattle.modules.specs.Views.{request_context_of, done_view};
 ghost use Rattle.modules.specs.Answers.{GivesOrRefuses, StepAnswersOverTree, is_failure};
 ghost use Rattle.modules.specs.Messages.{MemoryNumberAmong, memory_numbers};
 ghost use Rattle.modules.specs.Parts.{AreEntriesOf, IsListedIn, TreeAnswer, report_mode, report_text, NameActionStep};
-ghost use Rattle.modules.specs.Parts.{NameActionLooksAt, EachActionLooksAt};
+ghost use Rattle.modules.specs.Parts.{NameActionLooksAt, EachActionLooksAt, entries_view};
+ghost use Rattle.modules.specs.Parts.{needs_another, any_needs, may_lose};
 ghost use Rattle.modules.specs.declared.step.NameAction.TheVariants.{ReportOn};
 
-use crate::done::RequestResults;
+use crate::done::{RememberedMoves, RequestResults};
 use crate::entries::{entries_of, modulepath, names_of};
 use crate::one_name::{NameRequest, ReportKind, load_name, report_name, unload_name};
 use crate::progress::RequestProgress;
@@ -68,6 +69,8 @@ fn act_on_name<T: Tree, V: Vars>(
         (λ files listings. NameActionLooksAt name_action (request_context_of settings files listings) typed.now
         (done_view progress.old.done (V.vars env.old))) }
     ensures listed { OnOk result (IsListedIn progress.new (V.vars env.new)) }
+    ensures free { OnOk result (may_lose name_action (entries_view progress.old.entries) ≡ false
+        → may_lose name_action (entries_view progress.new.entries) ≡ false) }
     ensures base { V.base env.new ≡ V.base env.old }
 {
     let name_request = NameRequest {
@@ -102,6 +105,8 @@ fn act_on_each<T: Tree, V: Vars>(
         (λ files listings. EachActionLooksAt name_action (request_context_of settings files listings)
         (map string_bytes names.now) (done_view progress.old.done (V.vars env.old))) }
     ensures listed { OnOk result (IsListedIn progress.new (V.vars env.new)) }
+    ensures free { OnOk result (may_lose name_action (entries_view progress.old.entries) ≡ false
+        → may_lose name_action (entries_view progress.new.entries) ≡ false) }
     ensures base { V.base env.new ≡ V.base env.old }
 {
     for name in names {
@@ -151,6 +156,93 @@ fn change_each<T: Tree, V: Vars>(
     progress.end(alloc, before)
 }
 
+/// Whether the module needs another.
+fn needs_another(entry: &Loaded) -> bool
+    ensures { result ≡ needs_another (entry_view entry.now) }
+{
+    !entry.prereqs.is_empty()
+}
+
+/// Whether one of the modules needs another.
+fn any_needs(entries: &[Loaded]) -> bool
+    ensures { result ≡ any_needs (map entry_view entries.now) }
+{
+    entries.iter().any(|entry| needs_another(entry))
+}
+
+/// Whether one of the modules can lose what it needs. An unload adds no module that needs another.
+fn may_lose(name_action: NameAction, entries: &[Loaded]) -> bool
+    ensures { result ≡ may_lose name_action (map entry_view entries.now) }
+{
+    match name_action {
+        NameAction::Unload => any_needs(entries),
+        NameAction::Load | NameAction::ReportOn(_) => true,
+    }
+}
+
+/// Loads or unloads the module of each name in turn, where no module can lose what it needs: that isn't judged then, and
+/// the list from before isn't kept.
+fn change_freely<T: Tree, V: Vars>(
+    alloc: Global,
+    settings: EvaluationSettings,
+    name_action: NameAction,
+    names: &[String],
+    before: Vec<Loaded>,
+    env: &mut V,
+    tree: &mut T,
+) -> Result<RequestResults, Refusal>
+    requires listed { AreEntriesOf (entries_view before) (V.vars env.old) }
+    requires free { may_lose name_action (entries_view before) ≡ false }
+    ensures done { TreeAnswer T.agrees T.failures T.failed tree.old tree.new
+        (λ done. done_view done (V.vars env.new)) result
+        (λ files listings. Then (Each (NameActionStep name_action (request_context_of settings files listings))
+        (map string_bytes names.now)
+        (nothing_done (V.vars env.old))) (EndsRequest (entries_view before)))
+        (λ files listings. EachActionLooksAt name_action (request_context_of settings files listings)
+        (map string_bytes names.now) (nothing_done (V.vars env.old))) }
+    ensures base { V.base env.new ≡ V.base env.old }
+{
+    let mut progress = RequestProgress::of(alloc, before);
+    act_on_each(
+        alloc,
+        settings,
+        name_action,
+        names,
+        env,
+        tree,
+        &mut progress,
+    )?;
+    Ok(progress.done)
+}
+
+/// Loads or unloads the module of each name in turn, and then judges what loaded modules need (53), where one can have
+/// lost it.
+fn change_loaded<T: Tree, V: Vars>(
+    alloc: Global,
+    settings: EvaluationSettings,
+    name_action: NameAction,
+    names: &[String],
+    before: Vec<Loaded>,
+    env: &mut V,
+    tree: &mut T,
+) -> Result<RequestResults, Refusal>
+    requires { AreEntriesOf (entries_view before) (V.vars env.old) }
+    ensures done { TreeAnswer T.agrees T.failures T.failed tree.old tree.new
+        (λ done. done_view done (V.vars env.new)) result
+        (λ files listings. Then (Each (NameActionStep name_action (request_context_of settings files listings))
+        (map string_bytes names.now)
+        (nothing_done (V.vars env.old))) (EndsRequest (entries_view before)))
+        (λ files listings. EachActionLooksAt name_action (request_context_of settings files listings)
+        (map string_bytes names.now) (nothing_done (V.vars env.old))) }
+    ensures base { V.base env.new ≡ V.base env.old }
+{
+    let entries = before.as_slice();
+    if may_lose(name_action, entries) {
+        return change_each(alloc, settings, name_action, names, entries, env, tree);
+    }
+    change_freely(alloc, settings, name_action, names, before, env, tree)
+}
+
 /// Loads or unloads the module of each of at least one name (else 56), as one command.
 fn change_names<T: Tree, V: Vars>(
     alloc: Global,
@@ -173,15 +265,7 @@ fn change_names<T: Tree, V: Vars>(
         return Err(Refusal::BadArguments);
     }
     let before = entries_of(alloc, env)?;
-    change_each(
-        alloc,
-        settings,
-        name_action,
-        names,
-        before.as_slice(),
-        env,
-        tree,
-    )
+    change_loaded(alloc, settings, name_action, names, before, env, tree)
 }
 
 /// The names of the loaded modules, the last loaded first.
@@ -208,12 +292,12 @@ fn purge<T: Tree, V: Vars>(
 {
     let before = entries_of(alloc, env)?;
     let names = names_in_reverse(alloc, before.as_slice())?;
-    change_each(
+    change_loaded(
         alloc,
         settings,
         NameAction::Unload,
         names.as_slice(),
-        before.as_slice(),
+        before,
         env,
         tree,
     )
@@ -342,7 +426,7 @@ fn done_with_report(alloc: Global, text: String) -> RequestResults
         loaded: Vec::new(alloc),
         messages: Vec::new(alloc),
         report: text,
-        moves: Vec::new(alloc),
+        moves: RememberedMoves::Empty,
     }
 }
 

@@ -1,7 +1,8 @@
-use Rattle.std.proofs.Common.{◌≡◌, map, string_bytes, Some, Ok, Err, refl, sym, ap, ◌∙◌}
+use Rattle.std.proofs.Common.{◌≡◌, false, map, not, string_bytes, List, Some, Ok, Err, refl, sym, ap, ◌∙◌, subst}
+use Rattle.std.specs.Prelude.{bytes_eq}
 use Rattle.std.proofs.lemmas.Result.{err_from_is_err_and}
 use Rattle.envvars.specs.Reasons.{EnvReason, reason_of}
-use Rattle.envloaded.specs.Loaded.{dropped_from}
+use Rattle.envloaded.specs.Loaded.{Entry, dropped_from}
 use Rattle.envloaded.specs.LoadedEntries.{entry_view}
 use Rattle.modulefile.specs.Effects as modes
 use Rattle.modulefile.specs.Files.{RunsFile}
@@ -12,9 +13,10 @@ use Rattle.requests.specs.Refusals.{RefusedAs}
 use Rattle.requests.specs.Steps.{module_of}
 use Rattle.modules.specs.Views.{done_view}
 use Rattle.modules.specs.Answers.{cause_of}
-use Rattle.modules.specs.Parts.{AreEntriesOf, file_context, UnloadsFound}
+use Rattle.modules.specs.Parts.{AreEntriesOf, any_needs, file_context, UnloadsFound}
 use Rattle.modules.proofs.StepLemmas.{stands_as, run_made, edit_refused, unloads_so}
 use Rattle.modules.proofs.ListedLemmas.{drop_read, listed_dropped}
+use Rattle.modules.proofs.NeedLemmas.{none_needs}
 use Rattle.modules.proofs.one_name.unload_found.Goals as goal
 
 pub returns-in_err-ran-clause-given : goal.returns-in_err-ran-clause-given
@@ -77,3 +79,10 @@ returns-clause-listed g c =
     let edits = rw c.as_str.ensures.value at c.in_ok-drop_from_list.ensures.edits in
     let left = rw c.as_str.ensures.value at c.in_ok-drop_from_list.ensures.list in
     listed_dropped mid last name xs (map entry_view c.drop_from_list.new.list.items) listed (drop_read mid name xs listed (Ok last) edits) left
+
+pub returns-clause-free : goal.returns-clause-free
+returns-clause-free g c h =
+    let name = string_bytes c.args.found.name in
+    let xs = map entry_view c.args.progress.now.entries.items in
+    let left = rw c.as_str.ensures.value at c.in_ok-drop_from_list.ensures.list in
+    subst (λ (ys : List Entry). any_needs ys ≡ false) (sym left) (none_needs (λ x. not (bytes_eq name x.name)) xs h)

@@ -55,3 +55,9 @@ returns-in-None-clause-listed g c = c.requires
 
 pub returns-in-Some-clause-listed : goal.returns-in-Some-clause-listed
 returns-in-Some-clause-listed g c = c.unload_found.ensures.listed
+
+pub returns-in-None-clause-free : goal.returns-in-None-clause-free
+returns-in-None-clause-free g c h = h
+
+pub returns-in-Some-clause-free : goal.returns-in-Some-clause-free
+returns-in-Some-clause-free g c = c.unload_found.ensures.free

@@ -31,6 +31,7 @@ loop-name-preserved g c =
           (NameActionLooksAt c.args.name_action (request_context_of c.args.settings files listings)) at mid
           (subst (λ (n : Text). D n d (Ok mid)) c.as_str.ensures.value h) k);
       listed = c.in_ok-act_on_name.ensures.listed;
+      free = λ h. c.in_ok-act_on_name.ensures.free (c.loop-name.invariant.free h);
       base = c.act_on_name.ensures.base ∙ c.loop-name.invariant.base;
     }
 
@@ -62,3 +63,6 @@ returns-clause-done g c =
 
 pub returns-clause-listed : goal.returns-clause-listed
 returns-clause-listed g c = c.loop-name.invariant.listed
+
+pub returns-clause-free : goal.returns-clause-free
+returns-clause-free g c = c.loop-name.invariant.free

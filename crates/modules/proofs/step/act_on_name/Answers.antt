@@ -1,7 +1,10 @@
+use Rattle.std.proofs.Common.{◌≡◌, false, OnOk, map, refl, sym, subst}
+use Rattle.envloaded.specs.LoadedEntries.{entry_view}
 use Rattle.modules.specs.declared.step.NameAction.{NameAction}
 use Rattle.modules.specs.declared.step.NameAction.TheVariants.{Load, Unload, ReportOn}
 use Rattle.modules.specs.Views.{request_context_of, done_view}
-use Rattle.modules.specs.Parts.{NameActionStep, NameActionLooksAt}
+use Rattle.modules.specs.Parts.{NameActionStep, NameActionLooksAt, may_lose}
+use Rattle.modules.proofs.NeedLemmas.{loses_otherwise}
 use Rattle.modules.proofs.TreeAnswers.{answers_of}
 use Rattle.modules.proofs.step.act_on_name.Goals as goal
 
@@ -45,3 +48,19 @@ returns-in-Unload-clause-listed g c = c.unload_name.ensures.listed
 
 pub returns-in-ReportOn-clause-listed : goal.returns-in-ReportOn-clause-listed
 returns-in-ReportOn-clause-listed g c = c.report_name.ensures.listed
+
+pub returns-in-Load-clause-free : goal.returns-in-Load-clause-free
+returns-in-Load-clause-free g c =
+    loses_otherwise c.load_name.result c.args.name_action Load (map entry_view c.args.progress.now.entries.items)
+    (map entry_view c.load_name.new.progress.entries.items) c.in-Load.is refl
+
+pub returns-in-Unload-clause-free : goal.returns-in-Unload-clause-free
+returns-in-Unload-clause-free g c =
+    let xs = map entry_view c.args.progress.now.entries.items in
+    let ys = map entry_view c.unload_name.new.progress.entries.items in
+    subst (λ (a : NameAction). OnOk c.unload_name.result (may_lose a xs ≡ false → may_lose a ys ≡ false)) (sym c.in-Unload.is) c.unload_name.ensures.free
+
+pub returns-in-ReportOn-clause-free : goal.returns-in-ReportOn-clause-free
+returns-in-ReportOn-clause-free g c =
+    loses_otherwise c.report_name.result c.args.name_action (ReportOn c.in-ReportOn.report_kind) (map entry_view c.args.progress.now.entries.items)
+    (map entry_view c.report_name.new.progress.entries.items) c.in-ReportOn.is refl

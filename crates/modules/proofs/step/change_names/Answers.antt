@@ -1,20 +1,18 @@
-use Rattle.std.proofs.Common.{◌≡◌, List, map, string_bytes, String, Ok, Err, refl, ap, ◌∙◌}
+use Rattle.std.proofs.Common.{◌≡◌, map, string_bytes, String, Ok, Err, refl}
 use Rattle.std.proofs.lemmas.Result.{err_from_is_err_and}
 use Rattle.std.specs.declared.alloc.Global.{Global}
 use Rattle.envloaded.specs.LoadedEntries.{entry_view}
-use Rattle.envloaded.specs.declared.entry.Loaded.{Loaded}
 use Rattle.filetree.specs.Relations.{Then}
 use Rattle.requests.specs.Steps.{nothing_done, entries_of, Each, EndsRequest, NeedsNames, ChangesLoaded}
 use Rattle.modules.specs.declared.done.RequestResults.{RequestResults}
 use Rattle.modules.specs.Views.{request_context_of, done_view}
 use Rattle.modules.specs.Parts.{NameActionStep, EachActionLooksAt}
 use Rattle.modules.proofs.EachLemmas.{named_none, named_some}
-use Rattle.modules.proofs.ListedLemmas.{listing}
 use Rattle.modules.proofs.TreeAnswers.{same_tree, refused_now, widened}
 use Rattle.modules.proofs.step.change_names.Goals as goal
 
-pub change_each-requires : goal.change_each-requires
-change_each-requires g c = ap (λ (es : List Loaded). listing (map entry_view es)) c.as_slice.ensures.value ∙ c.in_ok-before.ensures.given
+pub change_loaded-requires : goal.change_loaded-requires
+change_loaded-requires g c = c.in_ok-before.ensures.given
 
 pub returns-then-is_empty-clause-done : goal.returns-then-is_empty-clause-done
 returns-then-is_empty-clause-done g c = record {
@@ -38,14 +36,13 @@ pub returns-clause-done : goal.returns-clause-done
 returns-clause-done g c =
     let e = g.V.Vars.vars c.args.env.now in
     let names = map (λ (s : String Global). string_bytes s) c.args.names.now in
-    let xs = map entry_view c.as_slice.result.now in
-    let read : Ok xs ≡ entries_of e = ap (λ (es : List Loaded). listing (map entry_view es)) c.as_slice.ensures.value ∙ c.in_ok-before.ensures.given in
-    widened (λ (x : RequestResults). done_view x (g.V.Vars.vars c.change_each.new.env)) c.change_each.result
+    let xs = map entry_view c.in_ok-before.before.items in
+    widened (λ (x : RequestResults). done_view x (g.V.Vars.vars c.change_loaded.new.env)) c.change_loaded.result
     (λ files listings. Then (Each (NameActionStep c.args.name_action (request_context_of c.args.settings files listings)) names (nothing_done e)) (EndsRequest xs))
     (λ files listings. NeedsNames names (ChangesLoaded e (λ before. Each (NameActionStep c.args.name_action (request_context_of c.args.settings files listings)) names)))
     (λ files listings. EachActionLooksAt c.args.name_action (request_context_of c.args.settings files listings) names (nothing_done e))
-    (λ files listings. EachActionLooksAt c.args.name_action (request_context_of c.args.settings files listings) names (nothing_done e)) c.change_each.ensures.done
+    (λ files listings. EachActionLooksAt c.args.name_action (request_context_of c.args.settings files listings) names (nothing_done e)) c.change_loaded.ensures.done
     (λ files listings o h. named_some c.args.names.now c.is_empty.result c.is_empty.ensures c.if-is_empty.false
     (ChangesLoaded e (λ before. Each (NameActionStep c.args.name_action
-    (request_context_of c.args.settings files listings)) names)) o (Ok xs, read, h))
+    (request_context_of c.args.settings files listings)) names)) o (Ok xs, c.in_ok-before.ensures.given, h))
     (λ files listings at h. h)
